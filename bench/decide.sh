@@ -1,0 +1,46 @@
+#!/usr/bin/env bash
+# Times `cedar_site decide`: seconds and greatest resident memory by the number of policies and of entities.
+#
+#   bench/decide.sh ["POLICIES ENTITIES" ..]      (default: 10, 1,000 and 100,000 policies with 1,000 and 100,000 entities)
+#
+# Policies have scopes alone; one in ten names a group that the principal is in. Entities: users in groups, groups in a tree of groups. PROGRAM names another binary.
+# Needs python3 and GNU time.
+set -euo pipefail
+top=$(cd "$(dirname "${BASH_SOURCE[0]}")/.." && pwd)
+program=${PROGRAM:-$top/crates/cedar_site/out/cedar_site}
+[ -x "$program" ] || "$top/cedar_site" --help >/dev/null
+folder=$(mktemp -d)
+trap 'rm -rf "$folder"' EXIT
+sizes=("$@")
+[ ${#sizes[@]} -gt 0 ] || sizes=("10 1000" "1000 1000" "100000 1000" "10 100000" "1000 100000" "100000 100000")
+
+make_inputs() {
+    python3 - "$folder" "$1" "$2" <<'P'
+import json, sys
+folder, policies, entities = sys.argv[1], int(sys.argv[2]), int(sys.argv[3])
+with open(folder + '/policies.cedar', 'w') as out:
+    for n in range(policies):
+        effect = 'forbid' if n % 7 == 3 else 'permit'
+        part = f'principal in Group::"g{n % 100}"' if n % 10 == 0 else f'principal == User::"u{n}"'
+        out.write(f'{effect}({part}, action == Action::"view", resource);\n')
+groups = max(1, entities // 10)
+def uid(kind, n):
+    return {'type': kind, 'id': f'{"g" if kind == "Group" else "u"}{n}'}
+with open(folder + '/entities.json', 'w') as out:
+    stored = [{'uid': uid('Group', n), 'parents': [uid('Group', n // 2)] if n else []} for n in range(groups)]
+    stored += [{'uid': uid('User', n), 'parents': [uid('Group', n % groups)]} for n in range(entities - groups)]
+    json.dump(stored, out)
+with open(folder + '/request.json', 'w') as out:
+    json.dump({'principal': 'User::"u5"', 'action': 'Action::"view"', 'resource': 'Doc::"d"'}, out)
+P
+}
+
+printf '%9s %9s %10s %10s %9s %9s  %s\n' policies entities MB-pol MB-ent seconds MB-peak answer
+for size in "${sizes[@]}"; do
+    read -r policies entities <<<"$size"
+    make_inputs "$policies" "$entities"
+    /usr/bin/time -o "$folder/time" -f '%e %M' "$program" decide --policies "$folder/policies.cedar" --entities "$folder/entities.json" --request "$folder/request.json" >"$folder/answer" 2>&1 || true
+    read -r seconds memory < <(tail -1 "$folder/time")
+    awk -v p="$policies" -v e="$entities" -v a="$(stat -c %s "$folder/policies.cedar")" -v b="$(stat -c %s "$folder/entities.json")" -v s="$seconds" -v m="$memory" -v l="$(head -c 60 "$folder/answer")" \
+        'BEGIN { printf "%9d %9d %10.2f %10.2f %9s %9.1f  %s\n", p, e, a / 1e6, b / 1e6, s, m / 1024, l }'
+done

@@ -1,0 +1,9 @@
+pub mod Members
+pub mod Steps
+pub mod Sets
+pub mod Cycles
+pub mod Stored
+pub mod Clusters
+pub mod Unions
+pub mod Exploring
+pub mod Listing

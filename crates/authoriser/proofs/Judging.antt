@@ -1,0 +1,131 @@
+-- From what is looked up once to the truth of scopes, and from policy to policy.
+use Rattle.std.specs.Prelude.{◌≡◌, ◌⊎◌, ◌↔◌, ℕ, ◌+◌, ◌<◌, ◌≤◌, List, [], ◌∷◌, ◌++◌, map, length, slice_index_or, Contains, refl}
+use Rattle.std.specs.Borrow.{Bor}
+use Rattle.std.proofs.Common.{inl, inr, sym, ap, subst, ◌∙◌, arith, take}
+use Rattle.std.proofs.lemmas.List.{take_more, take_all}
+use Rattle.std.proofs.lemmas.List.Elements.{Contains-push_cases, Contains-push, Contains-append_left}
+use Rattle.values.specs.declared.entity_uid.EntityUid.{EntityUid}
+use Rattle.values.specs.declared.request.Request.{Request}
+use Rattle.ancestor_closure.specs.Hierarchy.{Parents, Above, AreOnCycles, IsAscending, names}
+use Rattle.policy_grammar.specs.declared.policy.Policy.{Policy}
+use Rattle.policy_grammar.specs.declared.policy.EntityScope.{EntityScope}
+use Rattle.policy_grammar.specs.declared.policy.ActionScope.{ActionScope}
+use Rattle.policy_grammar.specs.declared.policy.EntityScope.TheVariants as entity
+use Rattle.policy_grammar.specs.declared.policy.ActionScope.TheVariants as action
+use Rattle.authoriser.specs.declared.outcome.Outcome.{Outcome}
+use Rattle.authoriser.specs.declared.outcome.Outcome.TheVariants.{Satisfied, NotSatisfied, Errs}
+use Rattle.authoriser.specs.declared.answer.Erring.{Erring}
+use Rattle.authoriser.specs.declared.answer.Decision.TheVariants.{Deny}
+use Rattle.authoriser.specs.declared.placed.Placed.{Placed}
+use Rattle.authoriser.specs.declared.placed.Standing.{Standing}
+use Rattle.authoriser.specs.declared.tally.Tally.{Tally}
+use Rattle.authoriser.specs.Scopes.{IsIn, IsEntityScopeTrue, IsActionScopeTrue, IsScopeTrue}
+use Rattle.authoriser.specs.Answers.{Named, Judged, IsJudged, AreJudged, ComesTo, decided, answer_by, IsAnswer}
+use Rattle.authoriser.specs.Views.{named, IsWithin, IsPlaced, IsStanding, AreAscending, OutcomeIs, ids, faults, Counts}
+use Rattle.authoriser.proofs.Members.{Contains-none}
+
+-- ---- scopes
+entity_scope : (Within Within' : EntityUid → Type 0) (uid uid' : EntityUid) → uid ≡ uid' → ((e : EntityUid) → Within e → Within' e) → (scope : EntityScope) → IsEntityScopeTrue Within scope uid → IsEntityScopeTrue Within' scope uid'
+entity_scope W W' u v same over entity.Any h = tt
+entity_scope W W' u v same over (entity.Equal e) h = sym same ∙ h
+entity_scope W W' u v same over (entity.In e) h = over e h
+entity_scope W W' u v same over (entity.Is t) h = ap (λ (x : EntityUid). x.type_name) (sym same) ∙ h
+entity_scope W W' u v same over (entity.IsIn t e) h = (ap (λ (x : EntityUid). x.type_name) (sym same) ∙ h.0, over e h.1)
+
+action_scope : (Within Within' : EntityUid → Type 0) (uid uid' : EntityUid) → uid ≡ uid' → ((e : EntityUid) → Within e → Within' e) → (scope : ActionScope) → IsActionScopeTrue Within scope uid → IsActionScopeTrue Within' scope uid'
+action_scope W W' u v same over action.Any h = tt
+action_scope W W' u v same over (action.Equal e) h = sym same ∙ h
+action_scope W W' u v same over (action.In e) h = over e h
+action_scope W W' u v same over (action.InList es) h = (h.0, h.1, over h.0 h.2)
+
+-- what was looked up says who is in whom
+module _ {parents : Parents} {uid : EntityUid} {p : Placed} (placed : IsPlaced parents uid p) where
+  within_is_in : (of : EntityUid) → IsWithin p of → IsIn parents uid of
+  within_is_in of (inl e) = inl (sym placed.same ∙ e)
+  within_is_in of (inr h) = inr ((placed.all of).0 h)
+
+  in_is_within : (of : EntityUid) → IsIn parents uid of → IsWithin p of
+  in_is_within of (inl e) = inl (placed.same ∙ e)
+  in_is_within of (inr h) = inr ((placed.all of).1 h)
+
+  entity_there : (scope : EntityScope) → IsEntityScopeTrue (IsWithin p) scope p.uid.now → IsEntityScopeTrue (IsIn parents uid) scope uid
+  entity_there = entity_scope (IsWithin p) (IsIn parents uid) p.uid.now uid placed.same within_is_in
+
+  entity_back : (scope : EntityScope) → IsEntityScopeTrue (IsIn parents uid) scope uid → IsEntityScopeTrue (IsWithin p) scope p.uid.now
+  entity_back = entity_scope (IsIn parents uid) (IsWithin p) uid p.uid.now (sym placed.same) in_is_within
+
+  action_there : (scope : ActionScope) → IsActionScopeTrue (IsWithin p) scope p.uid.now → IsActionScopeTrue (IsIn parents uid) scope uid
+  action_there = action_scope (IsWithin p) (IsIn parents uid) p.uid.now uid placed.same within_is_in
+
+  action_back : (scope : ActionScope) → IsActionScopeTrue (IsIn parents uid) scope uid → IsActionScopeTrue (IsWithin p) scope p.uid.now
+  action_back = action_scope (IsIn parents uid) (IsWithin p) uid p.uid.now (sym placed.same) in_is_within
+
+pub comes_to : (parents : Parents) (q : Request) (s : Standing) (p : Policy) (o : Outcome) → IsStanding parents q s → OutcomeIs p.scope s o → ComesTo parents q p o
+comes_to parents q s p Satisfied standing h =
+    (entity_there standing.principal p.scope.principal h.0, action_there standing.action p.scope.action h.1, entity_there standing.resource p.scope.resource h.2)
+comes_to parents q s p NotSatisfied standing h = λ t.
+    h (entity_back standing.principal p.scope.principal t.0, action_back standing.action p.scope.action t.1, entity_back standing.resource p.scope.resource t.2)
+comes_to parents q s p (Errs error) standing h = h
+
+pub are_ascending : (parents : Parents) (q : Request) (s : Standing) → IsStanding parents q s → AreAscending s
+are_ascending parents q s standing = record { principal = standing.principal.ascending; action = standing.action.ascending; resource = standing.resource.ascending }
+
+-- ---- policy by policy
+judged_push : (parents : Parents) (q : Request) (ps : List Named) (p : Named) (js : List Judged) (j : Judged) → AreJudged parents q ps js → IsJudged parents q p j → AreJudged parents q (ps ++ p ∷ []) (js ++ j ∷ [])
+judged_push parents q [] p [] j h g = (g, tt)
+judged_push parents q [] p (k ∷ js) j h g = absurd h
+judged_push parents q (n ∷ ps) p [] j h g = absurd h
+judged_push parents q (n ∷ ps) p (k ∷ js) j h g = (h.0, judged_push parents q ps p js j h.1 g)
+
+one_named : Bor (List ℕ) × Bor Policy → Named
+one_named p = record { id = p.0.now; policy = p.1.now }
+
+named_push : (ps : List (Bor (List ℕ) × Bor Policy)) (p : Bor (List ℕ) × Bor Policy) → named (ps ++ p ∷ []) ≡ named ps ++ one_named p ∷ []
+unfolding one_named
+named_push [] p = refl
+named_push (n ∷ ps) p = ap (λ r. one_named n ∷ r) (named_push ps p)
+
+pub next_policy : (parents : Parents) (q : Request) (ps : List (Bor (List ℕ) × Bor Policy)) (i : ℕ) (p : Bor (List ℕ) × Bor Policy) (s : Standing) (old new : Tally) (o : Outcome) →
+    IsStanding parents q s → i < length ps → p ≡ slice_index_or ps i p → OutcomeIs p.1.now.scope s o →
+    ((js : List Judged) → Counts old js → Counts new (js ++ record { id = p.0.now; effect = p.1.now.effect; outcome = o } ∷ [])) →
+    ((js : List Judged) × AreJudged parents q (named (take i ps)) js × Counts old js) →
+    (js : List Judged) × AreJudged parents q (named (take (i + 1) ps)) js × Counts new js
+unfolding one_named
+next_policy parents q ps i p s old new o standing within is outcome noted before =
+    let j : Judged = record { id = p.0.now; effect = p.1.now.effect; outcome = o } in
+    let judgement : IsJudged parents q (one_named p) j = record { id = refl; effect = refl; outcome = comes_to parents q s p.1.now o standing outcome } in
+    let taken : take (i + 1) ps ≡ take i ps ++ p ∷ [] = take_more ps i p within ∙ ap (λ x. take i ps ++ x ∷ []) (sym is) in
+    let seen : named (take (i + 1) ps) ≡ named (take i ps) ++ one_named p ∷ [] = ap named taken ∙ named_push (take i ps) p in
+    (before.0 ++ j ∷ [], subst (λ ns. AreJudged parents q ns (before.0 ++ j ∷ [])) (sym seen) (judged_push parents q (named (take i ps)) (one_named p) before.0 j before.1 judgement), noted before.0 before.2)
+
+pub counted : (t : Tally) (js : List Judged) → Counts t js → decided (ids t.permits.items) (ids t.forbids.items) (faults t.errors.items) ≡ answer_by js
+counted t js c i = decided (c.permits i) (c.forbids i) (c.errors i)
+
+pub all_judged : (parents : Parents) (q : Request) (ps : List (Bor (List ℕ) × Bor Policy)) (i : ℕ) (js : List Judged) → length ps ≤ i → AreJudged parents q (named (take i ps)) js → AreJudged parents q (named ps) js
+all_judged parents q ps i js le h = subst (λ xs. AreJudged parents q (named xs) js) (take_all i ps le) h
+
+-- ---- no cycle, or a cycle
+pub acyclic : (parents : Parents) (uids : List (Bor EntityUid)) → AreOnCycles parents (names uids) → uids ≡ [] → (uid : EntityUid) → Above parents uid uid → ⊥
+acyclic parents uids named none uid above = Contains-none uid (subst (λ xs. Contains (names xs) uid) none ((named uid).1 above))
+
+cycle_is_some : (uids : List (Bor EntityUid)) → (uids ≡ [] → ⊥) → names uids ≡ [] → ⊥
+cycle_is_some [] ne e = ne refl
+cycle_is_some (u ∷ uids) ne e = absurd (cc)
+
+pub none_before : (P : EntityUid → Type 0) (xs : List EntityUid) (i : ℕ) (x : EntityUid) → i < length xs → x ≡ slice_index_or xs i x → (P x → ⊥) →
+    ((e : EntityUid) → Contains (take i xs) e → P e → ⊥) → (e : EntityUid) → Contains (take (i + 1) xs) e → P e → ⊥
+none_before P xs i x within is not_here before e h p =
+    elim (Contains-push_cases (take i xs) x e (subst (λ ys. Contains ys e) (take_more xs i x within ∙ ap (λ y. take i xs ++ y ∷ []) (sym is)) h)) [
+      | inl earlier ↦ before e earlier p
+      | inr here ↦ not_here (subst P (sym here) p)
+    ]
+
+pub denial : (parents : Parents) (q : Request) (ps : List Named) (uids : List (Bor EntityUid)) (cycle : List EntityUid) (reason : List (List ℕ)) (errors : List Erring) →
+    cycle ≡ names uids → reason ≡ [] → errors ≡ [] → AreOnCycles parents (names uids) → IsAscending (names uids) → (uids ≡ [] → ⊥) →
+    IsAnswer parents q ps (record { decision = Deny; reason = reason; errors = errors; cycle = cycle })
+denial parents q ps uids cycle reason errors same no_reason no_errors named ascending some = inl (record {
+  named = subst (AreOnCycles parents) (sym same) named;
+  ascending = subst IsAscending (sym same) ascending;
+  some = λ none. cycle_is_some uids some (sym same ∙ none);
+  rest = λ i. record { decision = Deny; reason = no_reason i; errors = no_errors i; cycle = cycle };
+})

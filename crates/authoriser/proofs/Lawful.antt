@@ -1,0 +1,163 @@
+-- The laws of answers.
+use Rattle.std.specs.Prelude.{◌≡◌, ◌≢◌, ◌⊎◌, ◌↔◌, ℕ, List, [], ◌∷◌, ◌++◌, Contains, refl}
+use Rattle.std.specs.List.{flat_map}
+use Rattle.std.proofs.Common.{inl, inr, sym, ap, subst, ◌∙◌}
+use Rattle.std.proofs.lemmas.List.Elements.{Contains-append_left, Contains-append_right, Contains-append_cases}
+use Rattle.values.specs.declared.entity_uid.EntityUid.{EntityUid}
+use Rattle.values.specs.declared.request.Request.{Request}
+use Rattle.values.specs.Names.{uid_cmp, uid_cmp-IsTotalOrder}
+use Rattle.ancestor_closure.specs.Hierarchy.{Parents, Above, AreOnCycles, IsAscending}
+use Rattle.policy_grammar.specs.declared.policy.Effect.{Effect}
+use Rattle.policy_grammar.specs.declared.policy.Effect.TheVariants.{Permit, Forbid}
+use Rattle.policy_grammar.specs.declared.policy.Policy.{Policy}
+use Rattle.authoriser.specs.declared.answer.Answer.{Answer}
+use Rattle.authoriser.specs.declared.answer.Erring.{Erring}
+use Rattle.authoriser.specs.declared.answer.Decision.TheVariants.{Allow, Deny}
+use Rattle.authoriser.specs.declared.outcome.Outcome.{Outcome}
+use Rattle.authoriser.specs.declared.outcome.Outcome.TheVariants.{Satisfied, NotSatisfied, Errs}
+use Rattle.authoriser.specs.Answers.{Named, Judged, IsJudged, ComesTo, AreJudged, if_satisfied, satisfied, if_erring, erring, decided, answer_by, IsCycleDenial, IsPolicyAnswer, IsAnswer}
+use Rattle.authoriser.specs.Laws.{OneAnswer, DefaultDeny, ForbidDecides, IdleChangesNothing, HaveSameMembers, OrderDoesNotMatter}
+use Rattle.authoriser.proofs.Members.{Contains-here, Contains-there, Contains-cases, Contains-none}
+use Rattle.authoriser.proofs.Ascending.{one_list}
+
+-- ---- one answer
+one_outcome : (parents : Parents) (q : Request) (p : Policy) (r s : Outcome) → ComesTo parents q p r → ComesTo parents q p s → r ≡ s
+one_outcome parents q p Satisfied Satisfied h k = refl
+one_outcome parents q p Satisfied NotSatisfied h k = absurd (k h)
+one_outcome parents q p Satisfied (Errs e) h k = absurd k
+one_outcome parents q p NotSatisfied Satisfied h k = absurd (h k)
+one_outcome parents q p NotSatisfied NotSatisfied h k = refl
+one_outcome parents q p NotSatisfied (Errs e) h k = absurd k
+one_outcome parents q p (Errs e) s h k = absurd h
+
+one_judgement : (parents : Parents) (q : Request) (p : Named) (j k : Judged) → IsJudged parents q p j → IsJudged parents q p k → j ≡ k
+one_judgement parents q p j k h g =
+    let id : j.id ≡ k.id = h.id ∙ sym g.id in
+    let effect : j.effect ≡ k.effect = h.effect ∙ sym g.effect in
+    let outcome : j.outcome ≡ k.outcome = one_outcome parents q p.policy j.outcome k.outcome h.outcome g.outcome in
+    λ i. record { id = id i; effect = effect i; outcome = outcome i }
+
+one_list_judged : (parents : Parents) (q : Request) (ps : List Named) (js ks : List Judged) → AreJudged parents q ps js → AreJudged parents q ps ks → js ≡ ks
+one_list_judged parents q [] [] [] h g = refl
+one_list_judged parents q [] [] (k ∷ ks) h g = absurd g
+one_list_judged parents q [] (j ∷ js) ks h g = absurd h
+one_list_judged parents q (p ∷ ps) [] ks h g = absurd h
+one_list_judged parents q (p ∷ ps) (j ∷ js) [] h g = absurd g
+one_list_judged parents q (p ∷ ps) (j ∷ js) (k ∷ ks) h g =
+    let first = one_judgement parents q p j k h.0 g.0 in
+    let rest = one_list_judged parents q ps js ks h.1 g.1 in
+    λ i. first i ∷ rest i
+
+one_cycle : (parents : Parents) (xs ys : List EntityUid) → AreOnCycles parents xs → IsAscending xs → AreOnCycles parents ys → IsAscending ys → xs ≡ ys
+one_cycle parents xs ys h s g t =
+    one_list uid_cmp uid_cmp-IsTotalOrder xs ys s t (λ v c. (g v).1 ((h v).0 c)) (λ v c. (h v).1 ((g v).0 c))
+
+one_denial : (parents : Parents) (a b : Answer) → IsCycleDenial parents a → IsCycleDenial parents b → a ≡ b
+one_denial parents a b d e =
+    let cycle = one_cycle parents a.cycle b.cycle d.named d.ascending e.named e.ascending in
+    d.rest ∙ ap (λ (c : List EntityUid). record { decision = Deny; reason = []; errors = []; cycle = c }) cycle ∙ sym e.rest
+
+some_member : {X : Type 0} (xs : List X) → xs ≢ [] → (x : X) × Contains xs x
+some_member [] ne = absurd (ne refl)
+some_member (x ∷ xs) ne = (x, Contains-here x xs)
+
+not_both : (parents : Parents) (q : Request) (ps : List Named) (a b : Answer) → IsCycleDenial parents a → IsPolicyAnswer parents q ps b → ⊥
+not_both parents q ps a b d p = let m = some_member a.cycle d.some in p.acyclic m.0 ((d.named m.0).0 m.1)
+
+pub one_answer : OneAnswer
+one_answer parents q ps a b (inl d) (inl e) = one_denial parents a b d e
+one_answer parents q ps a b (inl d) (inr p) = absurd (not_both parents q ps a b d p)
+one_answer parents q ps a b (inr p) (inl d) = absurd (not_both parents q ps b a d p)
+one_answer parents q ps a b (inr p) (inr r) = p.answer ∙ ap answer_by (one_list_judged parents q ps p.judged r.judged p.outcomes r.outcomes) ∙ sym r.answer
+
+-- ---- default deny, and forbids decide
+denied : (permits forbids : List (List ℕ)) (errors : List Erring) → permits ≡ [] → (decided permits forbids errors).decision ≡ Deny
+denied permits (f ∷ forbids) errors e = refl
+denied [] [] errors e = refl
+denied (p ∷ permits) [] errors e = absurd (cc)
+
+pub default_deny : DefaultDeny
+default_deny js none = denied (satisfied Permit js) (satisfied Forbid js) (erring js) none
+
+forbidden : (permits forbids : List (List ℕ)) (errors : List Erring) → forbids ≢ [] → ((decided permits forbids errors).decision ≡ Deny) × ((decided permits forbids errors).reason ≡ forbids)
+forbidden permits [] errors ne = absurd (ne refl)
+forbidden permits (f ∷ forbids) errors ne = (refl, refl)
+
+pub forbid_decides : ForbidDecides
+forbid_decides js some = forbidden (satisfied Permit js) (satisfied Forbid js) (erring js) some
+
+-- ---- idle policies
+idle_satisfied : (wanted : Effect) (j : Judged) → j.outcome ≡ NotSatisfied → if_satisfied wanted j ≡ []
+idle_satisfied wanted j e = at wanted j.effect j.outcome e
+  where
+    at : (wanted effect : Effect) (outcome : Outcome) → outcome ≡ NotSatisfied → if_satisfied wanted (record { id = j.id; effect = effect; outcome = outcome }) ≡ []
+    at Permit Permit NotSatisfied h = refl
+    at Permit Forbid NotSatisfied h = refl
+    at Forbid Permit NotSatisfied h = refl
+    at Forbid Forbid NotSatisfied h = refl
+    at wanted effect Satisfied h = absurd (cc)
+    at wanted effect (Errs error) h = absurd (cc)
+
+idle_erring : (j : Judged) → j.outcome ≡ NotSatisfied → if_erring j ≡ []
+idle_erring j e = at j.outcome e
+  where
+    at : (outcome : Outcome) → outcome ≡ NotSatisfied → if_erring (record { id = j.id; effect = j.effect; outcome = outcome }) ≡ []
+    at NotSatisfied h = refl
+    at Satisfied h = absurd (cc)
+    at (Errs error) h = absurd (cc)
+
+-- one that gives nothing may be left out
+left_out : {X : Type 0} (f : Judged → List X) (front back : List Judged) (j : Judged) → f j ≡ [] → flat_map f (front ++ j ∷ back) ≡ flat_map f (front ++ back)
+left_out f [] back j e = ap (λ r. r ++ flat_map f back) e
+left_out f (k ∷ front) back j e = ap (λ rest. f k ++ rest) (left_out f front back j e)
+
+pub idle_changes_nothing : IdleChangesNothing
+idle_changes_nothing front back j e i =
+    decided (left_out (if_satisfied Permit) front back j (idle_satisfied Permit j e) i) (left_out (if_satisfied Forbid) front back j (idle_satisfied Forbid j e) i) (left_out if_erring front back j (idle_erring j e) i)
+
+-- ---- the order does not matter
+module _ {X : Type 0} (f : Judged → List X) where
+  picked : (js : List Judged) (x : X) → Contains (flat_map f js) x → (j : Judged) × Contains js j × Contains (f j) x
+  picked [] x h = Contains-none x h
+  picked (j ∷ js) x h = elim (Contains-append_cases (f j) (flat_map f js) x h) [
+    | inl a ↦ (j, Contains-here j js, a)
+    | inr b ↦ let (k, at, has) = picked js x b in (k, Contains-there j js k at, has)
+  ]
+
+  put_back : (js : List Judged) (j : Judged) (x : X) → Contains js j → Contains (f j) x → Contains (flat_map f js) x
+  put_back [] j x h g = Contains-none j h
+  put_back (k ∷ js) j x h g = elim (Contains-cases k js j h) [
+    | inl e ↦ Contains-append_left (f k) (flat_map f js) x (subst (λ m. Contains (f m) x) (sym e) g)
+    | inr t ↦ Contains-append_right (f k) (flat_map f js) x (put_back js j x t g)
+  ]
+
+  goes_over : (js ks : List Judged) → ((j : Judged) → Contains js j → Contains ks j) → (x : X) → Contains (flat_map f js) x → Contains (flat_map f ks) x
+  goes_over js ks within x h = let (j, at, has) = picked js x h in put_back ks j x (within j at) has
+
+  same_gathered : (js ks : List Judged) → HaveSameMembers js ks → HaveSameMembers (flat_map f js) (flat_map f ks)
+  same_gathered js ks same x = (goes_over js ks (λ j. (same j).0) x, goes_over ks js (λ j. (same j).1) x)
+
+Alike : Answer → Answer → Type 0
+Alike a b = (a.decision ≡ b.decision) × HaveSameMembers a.reason b.reason × HaveSameMembers a.errors b.errors
+
+none_here : {X : Type 0} (x : X) (xs : List X) {G : Type 0} → HaveSameMembers (x ∷ xs) [] → G
+none_here x xs same = Contains-none x ((same x).0 (Contains-here x xs))
+
+none_there : {X : Type 0} (x : X) (xs : List X) {G : Type 0} → HaveSameMembers [] (x ∷ xs) → G
+none_there x xs same = Contains-none x ((same x).1 (Contains-here x xs))
+
+alike : (p p' f f' : List (List ℕ)) (e e' : List Erring) → HaveSameMembers p p' → HaveSameMembers f f' → HaveSameMembers e e' → Alike (decided p f e) (decided p' f' e')
+unfolding Alike
+alike p p' (f ∷ fs) (f' ∷ fs') e e' sp sf se = (refl, sf, se)
+alike p p' (f ∷ fs) [] e e' sp sf se = none_here f fs sf
+alike p p' [] (f' ∷ fs') e e' sp sf se = none_there f' fs' sf
+alike [] [] [] [] e e' sp sf se = (refl, sp, se)
+alike (p ∷ ps) [] [] [] e e' sp sf se = none_here p ps sp
+alike [] (p' ∷ ps') [] [] e e' sp sf se = none_there p' ps' sp
+alike (p ∷ ps) (p' ∷ ps') [] [] e e' sp sf se = (refl, sp, se)
+
+pub order_does_not_matter : OrderDoesNotMatter
+unfolding Alike
+order_does_not_matter js ks same =
+    alike (satisfied Permit js) (satisfied Permit ks) (satisfied Forbid js) (satisfied Forbid ks) (erring js) (erring ks)
+    (same_gathered (if_satisfied Permit) js ks same) (same_gathered (if_satisfied Forbid) js ks same) (same_gathered if_erring js ks same)

@@ -1,0 +1,97 @@
+-- The answer to a request, over the policies at hand.
+-- Source: Cedar reference guide 4.0, "Authorization" (default deny, forbid overrides permit, errors skip a policy);
+-- cedar-spec, Spec/Authorizer. That a hierarchy with a cycle is answered by a denial that names the cycle is a rule of this product.
+use Rattle.std.specs.Prelude.{◌≡◌, ◌≢◌, ◌⊎◌, ℕ, List, [], ◌∷◌}
+use Rattle.std.specs.List.{flat_map}
+use Rattle.values.specs.declared.entity_uid.EntityUid.{EntityUid}
+use Rattle.values.specs.declared.request.Request.{Request}
+use Rattle.ancestor_closure.specs.Hierarchy.{Parents, Above, AreOnCycles, IsAscending}
+use Rattle.policy_grammar.specs.declared.policy.Policy.{Policy}
+use Rattle.policy_grammar.specs.declared.policy.Effect.{Effect}
+use Rattle.policy_grammar.specs.declared.policy.Effect.TheVariants.{Permit, Forbid}
+use Rattle.authoriser.specs.declared.answer.Answer.{Answer}
+use Rattle.authoriser.specs.declared.answer.Decision.{Decision}
+use Rattle.authoriser.specs.declared.answer.Decision.TheVariants.{Allow, Deny}
+use Rattle.authoriser.specs.declared.answer.Erring.{Erring}
+use Rattle.authoriser.specs.declared.outcome.Outcome.{Outcome}
+use Rattle.authoriser.specs.declared.outcome.Outcome.TheVariants.{Satisfied, NotSatisfied, Errs}
+use Rattle.authoriser.specs.Scopes.{IsScopeTrue}
+
+-- a policy and its id
+pub record Named : Type 0 where
+  pub id : List ℕ
+  pub policy : Policy
+
+-- what a policy comes to; its scope alone decides until it has conditions, and a scope does not err
+abbrev pub ComesTo : Parents → Request → Policy → Outcome → Type 0
+ComesTo parents q policy Satisfied = IsScopeTrue parents policy.scope q
+ComesTo parents q policy NotSatisfied = IsScopeTrue parents policy.scope q → ⊥
+ComesTo parents q policy (Errs error) = ⊥
+
+-- a policy's id and effect, and what it comes to
+pub record Judged : Type 0 where
+  pub id : List ℕ
+  pub effect : Effect
+  pub outcome : Outcome
+
+pub record IsJudged (parents : Parents) (q : Request) (p : Named) (j : Judged) : Type 0 where
+  pub id : j.id ≡ p.id
+  pub effect : j.effect ≡ p.policy.effect
+  pub outcome : ComesTo parents q p.policy j.outcome
+
+-- each policy in its order
+abbrev pub AreJudged : Parents → Request → List Named → List Judged → Type 0
+AreJudged parents q [] [] = Unit {0}
+AreJudged parents q [] (j ∷ js) = ⊥
+AreJudged parents q (p ∷ ps) [] = ⊥
+AreJudged parents q (p ∷ ps) (j ∷ js) = IsJudged parents q p j × AreJudged parents q ps js
+
+abbrev id_if : Effect → Effect → Outcome → List ℕ → List (List ℕ)
+id_if Permit Permit Satisfied id = id ∷ []
+id_if Forbid Forbid Satisfied id = id ∷ []
+id_if wanted effect outcome id = []
+
+abbrev error_of : Outcome → List ℕ → List Erring
+error_of (Errs error) id = record { policy = id; error = error } ∷ []
+error_of Satisfied id = []
+error_of NotSatisfied id = []
+
+abbrev pub if_satisfied : Effect → Judged → List (List ℕ)
+if_satisfied wanted j = id_if wanted j.effect j.outcome j.id
+
+-- the ids of the satisfied policies of an effect, in order
+abbrev pub satisfied : Effect → List Judged → List (List ℕ)
+satisfied wanted js = flat_map (if_satisfied wanted) js
+
+abbrev pub if_erring : Judged → List Erring
+if_erring j = error_of j.outcome j.id
+
+-- the erring policies, each with its error, in order
+abbrev pub erring : List Judged → List Erring
+erring js = flat_map if_erring js
+
+-- Allow where some permit is satisfied and no forbid is; the reason is then the satisfied permits, else the satisfied forbids
+abbrev pub decided : List (List ℕ) → List (List ℕ) → List Erring → Answer
+decided permits (f ∷ forbids) errors = record { decision = Deny; reason = f ∷ forbids; errors = errors; cycle = [] }
+decided [] [] errors = record { decision = Deny; reason = []; errors = errors; cycle = [] }
+decided (p ∷ permits) [] errors = record { decision = Allow; reason = p ∷ permits; errors = errors; cycle = [] }
+
+abbrev pub answer_by : List Judged → Answer
+answer_by js = decided (satisfied Permit js) (satisfied Forbid js) (erring js)
+
+-- some entity is on a cycle: a denial that names all that are, ascending, and no policy
+pub record IsCycleDenial (parents : Parents) (a : Answer) : Type 0 where
+  pub named : AreOnCycles parents a.cycle
+  pub ascending : IsAscending a.cycle
+  pub some : a.cycle ≢ []
+  pub rest : a ≡ record { decision = Deny; reason = []; errors = []; cycle = a.cycle }
+
+-- no entity is on a cycle: the answer by what the policies come to
+pub record IsPolicyAnswer (parents : Parents) (q : Request) (ps : List Named) (a : Answer) : Type 0 where
+  pub acyclic : (uid : EntityUid) → Above parents uid uid → ⊥
+  pub judged : List Judged
+  pub outcomes : AreJudged parents q ps judged
+  pub answer : a ≡ answer_by judged
+
+abbrev pub IsAnswer : Parents → Request → List Named → Answer → Type 0
+IsAnswer parents q ps a = IsCycleDenial parents a ⊎ IsPolicyAnswer parents q ps a

@@ -1,0 +1,37 @@
+-- What a reader of policies may rely on, as laws over the definition of answers.
+use Rattle.std.specs.Prelude.{◌≡◌, ◌≢◌, ◌↔◌, ℕ, List, [], ◌∷◌, ◌++◌, Contains}
+use Rattle.values.specs.declared.request.Request.{Request}
+use Rattle.ancestor_closure.specs.Hierarchy.{Parents}
+use Rattle.policy_grammar.specs.declared.policy.Effect.TheVariants.{Permit, Forbid}
+use Rattle.authoriser.specs.declared.answer.Answer.{Answer}
+use Rattle.authoriser.specs.declared.answer.Decision.TheVariants.{Allow, Deny}
+use Rattle.authoriser.specs.declared.answer.Erring.{Erring}
+use Rattle.authoriser.specs.declared.outcome.Outcome.TheVariants.{NotSatisfied}
+use Rattle.authoriser.specs.Answers.{Named, Judged, AreJudged, IsAnswer, satisfied, erring, answer_by}
+
+-- a request has one answer at most
+abbrev pub OneAnswer : Type 0
+OneAnswer = (parents : Parents) (q : Request) (ps : List Named) (a b : Answer) → IsAnswer parents q ps a → IsAnswer parents q ps b → a ≡ b
+
+-- without a satisfied permit it is denied
+abbrev pub DefaultDeny : Type 0
+DefaultDeny = (js : List Judged) → satisfied Permit js ≡ [] → (answer_by js).decision ≡ Deny
+
+-- a satisfied forbid decides, and the satisfied forbids are the reason
+abbrev pub ForbidDecides : Type 0
+ForbidDecides = (js : List Judged) → satisfied Forbid js ≢ [] →
+    ((answer_by js).decision ≡ Deny) × ((answer_by js).reason ≡ satisfied Forbid js)
+
+-- a policy that is neither satisfied nor erring changes no answer, wherever it stands
+abbrev pub IdleChangesNothing : Type 0
+IdleChangesNothing = (front back : List Judged) (j : Judged) → j.outcome ≡ NotSatisfied → answer_by (front ++ j ∷ back) ≡ answer_by (front ++ back)
+
+abbrev pub HaveSameMembers : {A : Type 0} → List A → List A → Type 0
+HaveSameMembers {A} xs ys = (x : A) → Contains xs x ↔ Contains ys x
+
+-- in whatever order policies are tried: the same decision, and the same policies in reason and errors
+abbrev pub OrderDoesNotMatter : Type 0
+OrderDoesNotMatter = (js ks : List Judged) → HaveSameMembers js ks →
+    ((answer_by js).decision ≡ (answer_by ks).decision)
+    × HaveSameMembers (answer_by js).reason (answer_by ks).reason
+    × HaveSameMembers (answer_by js).errors (answer_by ks).errors

@@ -1,0 +1,4 @@
+pub mod Scopes
+pub mod Answers
+pub mod Laws
+pub mod Views

@@ -1,0 +1,66 @@
+-- How the values that the code holds are read by the definitions.
+use Rattle.std.specs.Prelude.{◌≡◌, ◌⊎◌, ℕ, List, map, Contains}
+use Rattle.std.specs.Borrow.{Bor}
+use Rattle.values.specs.declared.entity_uid.EntityUid.{EntityUid}
+use Rattle.values.specs.declared.request.Request.{Request}
+use Rattle.ancestor_closure.specs.Hierarchy.{Parents, IsAllAbove, IsAscending, names}
+use Rattle.policy_grammar.specs.declared.policy.Policy.{Policy}
+use Rattle.policy_grammar.specs.declared.policy.Scope.{Scope}
+use Rattle.policy_grammar.specs.declared.policy.Effect.TheVariants.{Permit, Forbid}
+use Rattle.authoriser.specs.declared.answer.Erring.{Erring}
+use Rattle.authoriser.specs.declared.outcome.Outcome.{Outcome}
+use Rattle.authoriser.specs.declared.outcome.Outcome.TheVariants.{Satisfied, NotSatisfied, Errs}
+use Rattle.authoriser.specs.declared.outcome.PolicyError.{PolicyError}
+use Rattle.authoriser.specs.declared.placed.Placed.{Placed}
+use Rattle.authoriser.specs.declared.placed.Standing.{Standing}
+use Rattle.authoriser.specs.declared.tally.Tally.{Tally}
+use Rattle.authoriser.specs.Scopes.{IsEntityScopeTrue, IsActionScopeTrue}
+use Rattle.authoriser.specs.Answers.{Named, Judged, satisfied, erring}
+
+-- the policies that the caller hands in
+abbrev pub named : List (Bor (List ℕ) × Bor Policy) → List Named
+named ps = map (λ p. record { id = p.0.now; policy = p.1.now }) ps
+
+-- the entity is `of` itself, or `of` is among the ancestors that were looked up
+abbrev pub IsWithin : Placed → EntityUid → Type 0
+IsWithin p of = (p.uid.now ≡ of) ⊎ Contains (names p.ancestors.items) of
+
+-- its ancestors are all that lie above it, ascending
+pub record IsPlaced (parents : Parents) (entity : EntityUid) (p : Placed) : Type 0 where
+  pub same : p.uid.now ≡ entity
+  pub all : IsAllAbove parents entity (names p.ancestors.items)
+  pub ascending : IsAscending (names p.ancestors.items)
+
+pub record IsStanding (parents : Parents) (q : Request) (s : Standing) : Type 0 where
+  pub principal : IsPlaced parents q.principal s.principal
+  pub action : IsPlaced parents q.action s.action
+  pub resource : IsPlaced parents q.resource s.resource
+
+pub record AreAscending (s : Standing) : Type 0 where
+  pub principal : IsAscending (names s.principal.ancestors.items)
+  pub action : IsAscending (names s.action.ancestors.items)
+  pub resource : IsAscending (names s.resource.ancestors.items)
+
+-- the scope is true, by the ancestors that were looked up
+abbrev pub IsTrueOf : Scope → Standing → Type 0
+IsTrueOf scope s =
+    IsEntityScopeTrue (IsWithin s.principal) scope.principal s.principal.uid.now
+    × IsActionScopeTrue (IsWithin s.action) scope.action s.action.uid.now
+    × IsEntityScopeTrue (IsWithin s.resource) scope.resource s.resource.uid.now
+
+abbrev pub OutcomeIs : Scope → Standing → Outcome → Type 0
+OutcomeIs scope s Satisfied = IsTrueOf scope s
+OutcomeIs scope s NotSatisfied = IsTrueOf scope s → ⊥
+OutcomeIs scope s (Errs error) = ⊥
+
+abbrev pub ids : List (Bor (List ℕ)) → List (List ℕ)
+ids xs = map (λ x. x.now) xs
+
+abbrev pub faults : List (Bor (List ℕ) × PolicyError) → List Erring
+faults xs = map (λ x. record { policy = x.0.now; error = x.1 }) xs
+
+-- the tally has the satisfied permits, the satisfied forbids and the erring policies of these
+pub record Counts (t : Tally) (js : List Judged) : Type 0 where
+  pub permits : ids t.permits.items ≡ satisfied Permit js
+  pub forbids : ids t.forbids.items ≡ satisfied Forbid js
+  pub errors : faults t.errors.items ≡ erring js

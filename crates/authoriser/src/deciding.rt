@@ -1,0 +1,74 @@
+ghost use Rattle.std.specs.Prelude.{◌≡◌, ◌↔◌, [], List, map, IsTrue, IfOk};
+ghost use Rattle.authoriser.specs.Answers.{Judged, AreJudged, answer_by, IsAnswer};
+ghost use Rattle.authoriser.specs.Views.{named};
+
+use crate::answer::{Answer, Decision};
+use crate::placed::standing_of;
+use crate::scopes::outcome_of;
+use crate::tally::Tally;
+use ancestor_closure::Ancestry;
+use plain::{Items, NoMemory};
+use policy_grammar::Policy;
+use std::alloc::Global;
+use values::{EntityUid, Request};
+
+fn copy_uids(alloc: Global, uids: &[&EntityUid]) -> Result<Items<EntityUid>, NoMemory>
+    ensures { IfOk result (λ copies. copies ≡ map (λ u. u.now) uids.now) }
+{
+    let mut copies = Vec::with_capacity(alloc, uids.len())?;
+    for uid in uids {
+        copies.push(uid.copy()?)?;
+    }
+    Ok(Items::from_vec(copies))
+}
+
+/// Whether no entity is among these.
+fn is_none(uids: &[&EntityUid]) -> bool
+    ensures { IsTrue result ↔ (uids.now ≡ []) }
+{
+    uids.is_empty()
+}
+
+/// What the policies come to, where the hierarchy has no cycle.
+fn answer_by_policies<A: Ancestry>(
+    alloc: Global,
+    policies: &[(&str, &Policy)],
+    request: &Request,
+    ancestry: &A,
+) -> Result<Answer, NoMemory>
+    ensures { IfOk result (λ a. (js : List Judged) × AreJudged (A.parents ancestry.now) request.now (named policies.now) js × (a ≡ answer_by js)) }
+{
+    let standing = standing_of(ancestry, request)?;
+    let mut tally = Tally::new(alloc);
+    for (id, policy) in policies {
+        tally.note(id, policy.effect, outcome_of(&policy.scope, &standing))?;
+    }
+    tally.into_answer(alloc)
+}
+
+/// The answer to a request over these policies and this hierarchy.
+///
+/// The caller's condition is that the ids ascend strictly; the lists of the answer then ascend by id. One pass over the policies; the
+/// ancestors of the request's three entities are asked for once each.
+///
+/// Source: Cedar reference guide, "Authorization". Errors: `NoMemory` alone.
+pub fn decide<A: Ancestry>(
+    alloc: Global,
+    policies: &[(&str, &Policy)],
+    request: &Request,
+    ancestry: &A,
+) -> Result<Answer, NoMemory>
+    ensures { IfOk result (λ a. IsAnswer (A.parents ancestry.now) request.now (named policies.now) a) }
+{
+    let cyclic = ancestry.cyclic()?;
+    if is_none(&cyclic) {
+        return answer_by_policies(alloc, policies, request, ancestry);
+    }
+    let cycle = copy_uids(alloc, &cyclic)?;
+    Ok(Answer {
+        decision: Decision::Deny,
+        reason: Items::new(alloc),
+        errors: Items::new(alloc),
+        cycle,
+    })
+}

@@ -1,0 +1,25 @@
+/// Why a policy errs. Cedar reference guide, "Errors"; the wants of memory are none of these.
+#[derive(Clone, Copy, Debug, PartialEq, Eq)]
+pub enum PolicyError {
+    /// An attribute of an entity that is not stored was asked for.
+    EntityDoesNotExist,
+    /// An attribute that a record or an entity does not have was asked for.
+    AttrDoesNotExist,
+    /// An operand of another kind.
+    TypeError,
+    /// A number outside signed 64 bits.
+    ArithBoundsError,
+    /// A text that is no decimal or no address.
+    ExtensionError,
+}
+
+/// What a policy comes to on a request.
+#[derive(Clone, Copy, Debug, PartialEq, Eq)]
+pub enum Outcome {
+    /// Its scope and its conditions are true.
+    Satisfied,
+    /// Something of it is false.
+    NotSatisfied,
+    /// Its conditions err. No policy does so before policies have conditions.
+    Errs(PolicyError),
+}

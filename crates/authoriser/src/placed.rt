@@ -1,0 +1,79 @@
+//! Where a request's three entities stand in the hierarchy, looked up once.
+ghost use Rattle.std.specs.Prelude.{◌≡◌, ◌↔◌, IsTrue, IfOk, Contains};
+ghost use Rattle.ancestor_closure.specs.Hierarchy.{IsAscending, names};
+ghost use Rattle.authoriser.specs.Views.{IsWithin, IsPlaced, IsStanding};
+
+use ancestor_closure::Ancestry;
+use plain::NoMemory;
+use values::{EntityUid, Request, TypeName};
+
+/// An entity and its ancestors, ascending.
+#[derive(Drop)]
+pub(crate) struct Placed<'a> {
+    pub(crate) uid: &'a EntityUid,
+    pub(crate) ancestors: Vec<&'a EntityUid>,
+}
+
+/// The three entities of a request.
+#[derive(Drop)]
+pub(crate) struct Standing<'a> {
+    pub(crate) principal: Placed<'a>,
+    pub(crate) action: Placed<'a>,
+    pub(crate) resource: Placed<'a>,
+}
+
+fn place<'a, A: Ancestry>(ancestry: &'a A, uid: &'a EntityUid) -> Result<Placed<'a>, NoMemory>
+    ensures { IfOk result (λ p. IsPlaced (A.parents ancestry.now) uid.now p) }
+{
+    let ancestors = ancestry.ancestors(uid)?;
+    Ok(Placed { uid, ancestors })
+}
+
+/// The request's entities with their ancestors, each asked for once.
+pub(crate) fn standing_of<'a, A: Ancestry>(
+    ancestry: &'a A,
+    request: &'a Request,
+) -> Result<Standing<'a>, NoMemory>
+    ensures { IfOk result (λ s. IsStanding (A.parents ancestry.now) request.now s) }
+{
+    let principal = place(ancestry, &request.principal)?;
+    let action = place(ancestry, &request.action)?;
+    let resource = place(ancestry, &request.resource)?;
+    Ok(Standing {
+        principal,
+        action,
+        resource,
+    })
+}
+
+/// Whether an entity is among these, which ascend.
+fn is_among(uids: &[&EntityUid], uid: &EntityUid) -> bool
+    requires { IsAscending (names uids.now) }
+    ensures { IsTrue result ↔ Contains (names uids.now) uid.now }
+{
+    uids.binary_search(&uid).is_ok()
+}
+
+/// Whether two uids are one.
+pub(crate) fn is_same(a: &EntityUid, b: &EntityUid) -> bool
+    ensures { IsTrue result ↔ (a.now ≡ b.now) }
+{
+    is_same_type(&a.type_name, &b.type_name) && a.id.same(&b.id)
+}
+
+/// Whether two names of types are one.
+pub(crate) fn is_same_type(a: &TypeName, b: &TypeName) -> bool
+    ensures { IsTrue result ↔ (a.now ≡ b.now) }
+{
+    a.as_str() == b.as_str()
+}
+
+impl Placed<'_> {
+    /// Whether this is `of`, or `of` is among its ancestors: O(log n), without memory.
+    pub(crate) fn is_within(&self, of: &EntityUid) -> bool
+        requires { IsAscending (names self.now.ancestors.items) }
+        ensures { IsTrue result ↔ IsWithin self.now of.now }
+    {
+        is_same(self.uid, of) || is_among(&self.ancestors, of)
+    }
+}

@@ -1,0 +1,65 @@
+//! Whether a policy's scope is true.
+ghost use Rattle.std.specs.Prelude.{◌↔◌, IsTrue, Contains};
+ghost use Rattle.values.specs.declared.entity_uid.EntityUid.{EntityUid};
+ghost use Rattle.ancestor_closure.specs.Hierarchy.{IsAscending, names};
+ghost use Rattle.authoriser.specs.Scopes.{IsEntityScopeTrue, IsActionScopeTrue};
+ghost use Rattle.authoriser.specs.Views.{IsWithin, AreAscending, OutcomeIs};
+
+use crate::outcome::Outcome;
+use crate::placed::{Placed, Standing, is_same, is_same_type};
+use policy_grammar::{ActionScope, EntityScope, Scope};
+use values::EntityUid;
+
+fn is_entity_scope_true(scope: &EntityScope, placed: &Placed<'_>) -> bool
+    requires { IsAscending (names placed.now.ancestors.items) }
+    ensures { IsTrue result ↔ IsEntityScopeTrue (IsWithin placed.now) scope.now placed.now.uid.now }
+{
+    match scope {
+        EntityScope::Any => true,
+        EntityScope::Equal(entity) => is_same(placed.uid, entity),
+        EntityScope::In(entity) => placed.is_within(entity),
+        EntityScope::Is(type_name) => is_same_type(&placed.uid.type_name, type_name),
+        EntityScope::IsIn(type_name, entity) => {
+            is_same_type(&placed.uid.type_name, type_name) && placed.is_within(entity)
+        }
+    }
+}
+
+fn is_action_scope_true(scope: &ActionScope, placed: &Placed<'_>) -> bool
+    requires { IsAscending (names placed.now.ancestors.items) }
+    ensures { IsTrue result ↔ IsActionScopeTrue (IsWithin placed.now) scope.now placed.now.uid.now }
+{
+    match scope {
+        ActionScope::Any => true,
+        ActionScope::Equal(action) => is_same(placed.uid, action),
+        ActionScope::In(action) => placed.is_within(action),
+        ActionScope::InList(actions) => is_within_any(actions.as_slice(), placed),
+    }
+}
+
+fn is_within_any(entities: &[EntityUid], placed: &Placed<'_>) -> bool
+    requires { IsAscending (names placed.now.ancestors.items) }
+    ensures { IsTrue result ↔ ((entity : EntityUid) × Contains entities.now entity × IsWithin placed.now entity) }
+{
+    for entity in entities {
+        if placed.is_within(entity) {
+            return true;
+        }
+    }
+    false
+}
+
+/// What a policy of this scope comes to.
+pub(crate) fn outcome_of(scope: &Scope, standing: &Standing<'_>) -> Outcome
+    requires { AreAscending standing.now }
+    ensures { OutcomeIs scope.now standing.now result }
+{
+    if is_entity_scope_true(&scope.principal, &standing.principal)
+        && is_action_scope_true(&scope.action, &standing.action)
+        && is_entity_scope_true(&scope.resource, &standing.resource)
+    {
+        Outcome::Satisfied
+    } else {
+        Outcome::NotSatisfied
+    }
+}

@@ -1,0 +1,101 @@
+//! The policies that decide and those that err, gathered one after another.
+ghost use Rattle.std.specs.Prelude.{◌≡◌, ◌∷◌, [], ◌++◌, List, map, IfOk, OnOk};
+ghost use Rattle.authoriser.specs.Answers.{Judged, decided};
+ghost use Rattle.authoriser.specs.Views.{Counts, ids, faults};
+
+use crate::answer::{Answer, Decision, Erring};
+use crate::outcome::{Outcome, PolicyError};
+use plain::{Items, NoMemory, Text};
+use policy_grammar::Effect;
+use std::alloc::Global;
+
+/// The ids of the satisfied permits and forbids, and the erring policies, each in the order in which they came.
+#[derive(Drop)]
+pub(crate) struct Tally<'a> {
+    pub(crate) permits: Vec<&'a str>,
+    pub(crate) forbids: Vec<&'a str>,
+    pub(crate) errors: Vec<(&'a str, PolicyError)>,
+}
+
+impl<'a> Tally<'a> {
+    pub(crate) fn new(alloc: Global) -> Tally<'a>
+        ensures { Counts result [] }
+    {
+        Tally {
+            permits: Vec::new(alloc),
+            forbids: Vec::new(alloc),
+            errors: Vec::new(alloc),
+        }
+    }
+
+    /// Takes in what one policy came to.
+    pub(crate) fn note(
+        &mut self,
+        id: &'a str,
+        effect: Effect,
+        outcome: Outcome,
+    ) -> Result<(), NoMemory>
+        ensures { OnOk result ((js : List Judged) → Counts self.old js → Counts self.new (js ++ record { id = id.now; effect = effect; outcome = outcome } ∷ [])) }
+    {
+        match (outcome, effect) {
+            (Outcome::Satisfied, Effect::Permit) => self.permits.push(id)?,
+            (Outcome::Satisfied, Effect::Forbid) => self.forbids.push(id)?,
+            (Outcome::NotSatisfied, _) => {}
+            (Outcome::Errs(error), _) => self.errors.push((id, error))?,
+        }
+        Ok(())
+    }
+
+    /// The answer by the policies that were noted. Ids are copied only here, and only those that are listed.
+    pub(crate) fn into_answer(self, alloc: Global) -> Result<Answer, NoMemory>
+        ensures { IfOk result (λ a. a ≡ decided (ids self.entry.permits.items) (ids self.entry.forbids.items) (faults self.entry.errors.items)) }
+    {
+        if !self.permits.is_empty() && self.forbids.is_empty() {
+            listed(alloc, Decision::Allow, &self.permits, &self.errors)
+        } else {
+            listed(alloc, Decision::Deny, &self.forbids, &self.errors)
+        }
+    }
+}
+
+fn listed(
+    alloc: Global,
+    decision: Decision,
+    ids: &[&str],
+    errors: &[(&str, PolicyError)],
+) -> Result<Answer, NoMemory>
+    ensures { IfOk result (λ a. a ≡ record { decision = decision; reason = map (λ x. x.now) ids.now; errors = faults errors.now; cycle = [] }) }
+{
+    let reason = copy_ids(alloc, ids)?;
+    let errors = copy_errors(alloc, errors)?;
+    Ok(Answer {
+        decision,
+        reason,
+        errors,
+        cycle: Items::new(alloc),
+    })
+}
+
+fn copy_ids(alloc: Global, ids: &[&str]) -> Result<Items<Text>, NoMemory>
+    ensures { IfOk result (λ copies. copies ≡ map (λ x. x.now) ids.now) }
+{
+    let mut copies = Vec::with_capacity(alloc, ids.len())?;
+    for id in ids {
+        copies.push(Text::from_str(alloc, id)?)?;
+    }
+    Ok(Items::from_vec(copies))
+}
+
+fn copy_errors(alloc: Global, errors: &[(&str, PolicyError)]) -> Result<Items<Erring>, NoMemory>
+    ensures { IfOk result (λ copies. copies ≡ faults errors.now) }
+{
+    let mut copies = Vec::with_capacity(alloc, errors.len())?;
+    for (id, error) in errors {
+        let policy = Text::from_str(alloc, id)?;
+        copies.push(Erring {
+            policy,
+            error: *error,
+        })?;
+    }
+    Ok(Items::from_vec(copies))
+}

@@ -1,0 +1,86 @@
+-- Reading an array of entities, as a loop does that keeps the uids it has met in a set.
+use Rattle.std.proofs.Common.{◌≡◌, ◌∙◌, ℕ, suc, ◌<◌, ◌≤◌, Bool, true, false, not, cond, List, [], ◌∷◌, ◌++◌, map, take, get_or, length, Option, Some, Result, Ok, Err, refl, sym, ap}
+use Rattle.std.specs.Prelude.{⊤, ◌||◌}
+use Rattle.std.specs.List.{list_any}
+use Rattle.std.proofs.lemmas.List.{take-map}
+use Rattle.std.proofs.lemmas.List.Folds.{list_any-append}
+use Rattle.serde_json.specs.Data.{Data}
+use Rattle.serde_json.specs.View.{view, items_view}
+use Rattle.serde_json.specs.declared.value.Value.{Value}
+use Rattle.json_words.specs.Gives.{◌>>=◌, Fails, demand}
+use Rattle.json_words.specs.Each.{each, list_of}
+use Rattle.json_words.proofs.EachLemmas.{bind_ok, list_of-items_view}
+use Rattle.values.specs.declared.entity_uid.EntityUid.{EntityUid}
+use Rattle.ancestor_closure.specs.Decided.{is_same}
+use Rattle.decision_texts.specs.declared.refusal.Refusal.{Refusal}
+use Rattle.decision_texts.specs.declared.bare.ShapeFault.{ShapeFault}
+use Rattle.decision_texts.specs.declared.bare.BareEntity.{BareEntity}
+use Rattle.decision_texts.specs.Refusals.{bad_shape}
+use Rattle.decision_texts.specs.Bare.{names, placed, entity_of, entity_at}
+
+-- an earlier value states an entity of this uid
+abbrev pub is_before : EntityUid → List Data → Bool
+is_before uid ds = list_any (λ earlier. names uid (entity_of earlier)) ds
+
+-- an entity that was read has this uid
+abbrev pub is_among : EntityUid → List BareEntity → Bool
+is_among uid es = list_any (λ e. is_same e.uid uid) es
+
+placed_ok : {A : Type 0} (place : Option ℕ) (r : Result A ShapeFault) (x : A) → placed place r ≡ Ok x → r ≡ Ok x
+placed_ok place (Ok y) x h = let same : y ≡ x = cc in ap Ok same
+placed_ok place (Err fault) x h = absurd cc
+
+stated : (ds : List Data) (k : ℕ) (d : Data) (y : BareEntity) → entity_at ds k d ≡ Ok y → entity_of d ≡ Ok y
+unfolding entity_at
+stated ds k d y h =
+    let a = bind_ok (placed (Some k) (entity_of d)) (λ (e : BareEntity). demand (bad_shape (Some k)) (not (is_before e.uid (take k ds))) >>= λ (first : ⊤). Ok e) y h in
+    let b = bind_ok (demand (bad_shape (Some k)) (not (is_before a.0.uid (take k ds)))) (λ (first : ⊤). Ok a.0) y a.2 in
+    let same : a.0 ≡ y = cc (b.2) in
+    placed_ok (Some k) (entity_of d) a.0 a.1 ∙ ap Ok same
+
+-- the uids that values state are those of the entities that were read of them
+listed : (ds xs : List Data) (k : ℕ) (es : List BareEntity) (u : EntityUid) → each (entity_at ds) k xs ≡ Ok es → is_before u xs ≡ is_among u es
+unfolding each
+listed ds [] k es u h = let none : [] ≡ es = cc in ap (is_among u) none
+listed ds (x ∷ xs) k es u h =
+    let a = bind_ok (entity_at ds k x) (λ (y : BareEntity). each (entity_at ds) (suc k) xs >>= λ (ys : List BareEntity). Ok (y ∷ ys)) es h in
+    let b = bind_ok (each (entity_at ds) (suc k) xs) (λ (ys : List BareEntity). Ok (a.0 ∷ ys)) es a.2 in
+    let same : a.0 ∷ b.0 ≡ es = cc (b.2) in
+    let here : entity_of x ≡ Ok a.0 = stated ds k x a.0 a.1 in
+    rw (here, listed ds xs (suc k) b.0 u b.1) (ap (is_among u) same)
+
+-- the same, at a step of the loop
+pub before_is : (vs : List Value) (i : ℕ) (es : List BareEntity) (u : EntityUid) → each (entity_at (list_of (items_view vs))) 0 (map view (take i vs)) ≡ Ok es
+    → is_before u (take i (list_of (items_view vs))) ≡ is_among u es
+before_is vs i es u read =
+    ap (λ (ds : List Data). is_before u (take i ds)) (list_of-items_view vs) ∙ ap (is_before u) (take-map view i vs) ∙ listed (list_of (items_view vs)) (map view (take i vs)) 0 es u read
+
+pub at_new : (ds : List Data) (k : ℕ) (d : Data) (y : BareEntity) → placed (Some k) (entity_of d) ≡ Ok y → is_before y.uid (take k ds) ≡ false → entity_at ds k d ≡ Ok y
+unfolding entity_at
+at_new ds k d y is new = rw (is, new) refl
+
+pub at_again : (ds : List Data) (k : ℕ) (d : Data) (y : BareEntity) → placed (Some k) (entity_of d) ≡ Ok y → is_before y.uid (take k ds) ≡ true → entity_at ds k d ≡ Err (bad_shape (Some k))
+unfolding entity_at
+at_again ds k d y is again = rw (is, again) refl
+
+pub at_fault : (ds : List Data) (k : ℕ) (d : Data) (memory e : Refusal) → Fails memory e (placed (Some k) (entity_of d)) → Fails memory e (entity_at ds k d)
+unfolding entity_at
+at_fault ds k d memory e fails other = rw (fails other) refl
+
+either : (b c : Bool) → cond b true c ≡ (c || (b || false))
+either true true = refl
+either true false = refl
+either false true = refl
+either false false = refl
+
+-- one more entity
+pub among_more : (u : EntityUid) (es : List BareEntity) (e : BareEntity) (old new : Bool) → new ≡ cond (is_same e.uid u) true old → old ≡ is_among u es → new ≡ is_among u (es ++ e ∷ [])
+among_more u es e old new is was = is ∙ either (is_same e.uid u) old ∙ ap (λ (b : Bool). b || (is_same e.uid u || false)) was ∙ sym (list_any-append (λ x. is_same x.uid u) es (e ∷ []))
+
+flip : (a b : Bool) → a ≡ not b → not a ≡ b
+flip a true h = rw h refl
+flip a false h = rw h refl
+
+-- whether the set had the uid
+pub had : (uid : EntityUid) (ds : List Data) (es : List BareEntity) (added old : Bool) → added ≡ not old → old ≡ is_among uid es → is_before uid ds ≡ is_among uid es → is_before uid ds ≡ not added
+had uid ds es added old is was same = same ∙ sym was ∙ sym (flip added old is)

@@ -1,0 +1,6 @@
+pub mod BareLemmas
+pub mod EntitiesLemmas
+pub mod LineLemmas
+pub mod OrderLemmas
+pub mod PathLemmas
+pub mod RefusalLemmas

@@ -1,0 +1,11 @@
+use Rattle.std.proofs.Common.{◌≡◌, ◌++◌, List, vec_len}
+use Rattle.ancestor_closure.specs.contracts.searched.SearchedAncestry.TheImpl as searched
+use Rattle.decision_texts.specs.declared.bare.BareEntity.{BareEntity}
+use Rattle.decision_texts.specs.Decisions.{parents_in}
+use Rattle.decision_texts.proofs.deciding.hierarchy_of.Given as goal
+
+abbrev pub decreases-loop-entity : goal.decreases-loop-entity
+decreases-loop-entity l = vec_len l.left
+
+abbrev pub invariant-loop-entity : goal.invariant-loop-entity
+invariant-loop-entity l = (done : List BareEntity) × (l.fn.entities ≡ l.left.items ++ done) × ((searched.parents-value).it l.hierarchy ≡ parents_in done)

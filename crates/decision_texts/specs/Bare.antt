@@ -1,0 +1,102 @@
+-- Entities as JSON where no schema is at hand.
+-- Source: Cedar reference guide 4.0, "Entities and context: JSON format": uid, attrs, parents, tags; a uid is {"type", "id"}, or that under `__entity`.
+-- Rules of this product: without a schema an entity has no attributes and no tags; absent `attrs`, `parents` and `tags` are empty, and null is not absent;
+-- other keys of an entity are ignored, those of a uid are not; an entity stands once in its array.
+use Rattle.std.specs.Prelude.{◌&&◌, Bool, true, false, not, ℕ, List, [], ◌∷◌, take, codes, Option, Some, None, Result, Ok, Err}
+use Rattle.std.specs.List.{list_any}
+use Rattle.serde_json.specs.Data.{Data, Items}
+use Rattle.serde_json.specs.Find.{get, as_array}
+use Rattle.json_words.specs.Json.{json_of, text_at}
+use Rattle.json_words.specs.Keys.{has_only}
+use Rattle.json_words.specs.Each.{each, list_of}
+use Rattle.json_words.specs.Gives.{◌>>=◌, or_fault, demand}
+use Rattle.values.specs.declared.entity_uid.EntityUid.{EntityUid}
+use Rattle.ancestor_closure.specs.Decided.{is_same}
+use Rattle.decision_texts.specs.declared.refusal.Refusal.{Refusal}
+use Rattle.decision_texts.specs.declared.bare.ShapeFault.{ShapeFault}
+use Rattle.decision_texts.specs.declared.bare.ShapeFault.TheVariants.{BadShape}
+use Rattle.decision_texts.specs.declared.bare.BareEntity.{BareEntity}
+use Rattle.decision_texts.specs.Paths.{is_path}
+use Rattle.decision_texts.specs.Refusals.{bad_shape}
+
+-- the type name that a text is: a Path without blanks or comments
+unfoldable pub type_name_of : List ℕ → Result (List ℕ) ShapeFault
+type_name_of text = do
+  path ← demand BadShape (is_path text)
+  Ok text
+
+-- {"type": a type name, "id": any text}, and no other key
+unfoldable pub plain_uid : Data → Result EntityUid ShapeFault
+plain_uid d = do
+  shape ← demand BadShape (has_only (codes "type" ∷ codes "id" ∷ []) d)
+  name ← or_fault BadShape (text_at (codes "type") d)
+  id ← or_fault BadShape (text_at (codes "id") d)
+  type_name ← type_name_of name
+  Ok (record { type_name = type_name; id = id })
+
+-- what stands under `__entity`, with no other key, or the value itself
+abbrev pub under_entity : Data → Option Data → Result Data ShapeFault
+under_entity d None = Ok d
+under_entity d (Some inner) = do
+  alone ← demand BadShape (has_only (codes "__entity" ∷ []) d)
+  Ok inner
+
+unfoldable pub uid_of : Data → Result EntityUid ShapeFault
+uid_of d = do
+  inner ← under_entity d (get (codes "__entity") d)
+  plain_uid inner
+
+-- an object with no members, or nothing
+abbrev pub is_absent_or_empty : Option Data → Bool
+is_absent_or_empty None = true
+is_absent_or_empty (Some d) = has_only [] d
+
+unfoldable pub uids_of : Items → Result (List EntityUid) ShapeFault
+uids_of ds = each (λ i d. uid_of d) 0 (list_of ds)
+
+abbrev pub parents_of : Option Data → Result (List EntityUid) ShapeFault
+parents_of None = Ok []
+parents_of (Some d) = do
+  ds ← or_fault BadShape (as_array d)
+  uids_of ds
+
+-- no attributes and no tags
+abbrev pub is_bare : Data → Bool
+is_bare d = is_absent_or_empty (get (codes "attrs") d) && is_absent_or_empty (get (codes "tags") d)
+
+-- the entity that a value states
+unfoldable pub entity_of : Data → Result BareEntity ShapeFault
+entity_of d = do
+  name ← or_fault BadShape (get (codes "uid") d)
+  uid ← uid_of name
+  bare ← demand BadShape (is_bare d)
+  parents ← parents_of (get (codes "parents") d)
+  Ok (record { uid = uid; parents = parents })
+
+-- whether this states an entity of that uid
+abbrev pub names : EntityUid → Result BareEntity ShapeFault → Bool
+names uid (Ok e) = is_same e.uid uid
+names uid (Err fault) = false
+
+-- a fault, told at a place
+abbrev pub placed : {A : Type 0} → Option ℕ → Result A ShapeFault → Result A Refusal
+placed place (Ok x) = Ok x
+placed place (Err fault) = Err (bad_shape place)
+
+-- the entity at a place of an array, of whose uid there is none before it
+unfoldable pub entity_at : List Data → ℕ → Data → Result BareEntity Refusal
+entity_at ds place d = do
+  entity ← placed (Some place) (entity_of d)
+  first ← demand (bad_shape (Some place)) (not (list_any (λ earlier. names entity.uid (entity_of earlier)) (take place ds)))
+  Ok entity
+
+-- the entities of an array, or the first fault with its place
+unfoldable pub entities_in : Items → Result (List BareEntity) Refusal
+entities_in ds = each (entity_at (list_of ds)) 0 (list_of ds)
+
+-- the entities of a file; a file that is no array has no place
+unfoldable pub entities_of : List ℕ → Result (List BareEntity) Refusal
+entities_of text = do
+  d ← or_fault (bad_shape None) (json_of text)
+  ds ← or_fault (bad_shape None) (as_array d)
+  entities_in ds

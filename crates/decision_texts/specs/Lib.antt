@@ -1,0 +1,6 @@
+pub mod Refusals
+pub mod Paths
+pub mod Bare
+pub mod Requests
+pub mod Lines
+pub mod Decisions

@@ -1,0 +1,42 @@
+-- The line of an answer. A rule of this product: compact JSON, keys ascending, each of the four keys always there.
+use Rattle.std.specs.Prelude.{ℕ, List, map, codes}
+use Rattle.serde_json.specs.Data.{Data, string, object, array, no_members, member}
+use Rattle.serde_json.specs.View.{items_of}
+use Rattle.serde_json.specs.Written.{compact_text}
+use Rattle.values.specs.declared.entity_uid.EntityUid.{EntityUid}
+use Rattle.authoriser.specs.declared.answer.Answer.{Answer}
+use Rattle.authoriser.specs.declared.answer.Decision.{Decision}
+use Rattle.authoriser.specs.declared.answer.Decision.TheVariants.{Allow, Deny}
+use Rattle.authoriser.specs.declared.answer.Erring.{Erring}
+use Rattle.authoriser.specs.declared.outcome.PolicyError.{PolicyError}
+use Rattle.authoriser.specs.declared.outcome.PolicyError.TheVariants.{EntityDoesNotExist, AttrDoesNotExist, TypeError, ArithBoundsError, ExtensionError}
+
+abbrev pub decision_word : Decision → List ℕ
+decision_word Allow = codes "Allow"
+decision_word Deny = codes "Deny"
+
+abbrev pub error_word : PolicyError → List ℕ
+error_word EntityDoesNotExist = codes "entityDoesNotExist"
+error_word AttrDoesNotExist = codes "attrDoesNotExist"
+error_word TypeError = codes "typeError"
+error_word ArithBoundsError = codes "arithBoundsError"
+error_word ExtensionError = codes "extensionError"
+
+abbrev pub uid_json : EntityUid → Data
+uid_json uid = object (member (codes "id") (string uid.id) (member (codes "type") (string uid.type_name) no_members))
+
+abbrev pub erring_json : Erring → Data
+erring_json e = object (member (codes "error") (string (error_word e.error)) (member (codes "policy") (string e.policy) no_members))
+
+abbrev pub each_json : {X : Type 0} → (X → Data) → List X → Data
+each_json f xs = array (items_of (map f xs))
+
+abbrev pub answer_json : Answer → Data
+answer_json a = object (member (codes "cycle") (each_json uid_json a.cycle)
+    (member (codes "decision") (string (decision_word a.decision))
+    (member (codes "errors") (each_json erring_json a.errors)
+    (member (codes "reason") (each_json (λ id. string id) a.reason) no_members))))
+
+-- {"cycle":[],"decision":"Allow","errors":[],"reason":["policy0"]}
+unfoldable pub answer_line : Answer → List ℕ
+answer_line a = compact_text (answer_json a)

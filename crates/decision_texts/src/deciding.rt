@@ -1,0 +1,97 @@
+ghost use Rattle.std.specs.Prelude.{◌≡◌, map, string_bytes, IfOk, IfErr};
+ghost use Rattle.authoriser.specs.Views.{named};
+ghost use Rattle.decision_texts.specs.Refusals.{no_memory};
+ghost use Rattle.decision_texts.specs.Decisions.{parents_in, named_policies, IsInOrder, IsAnswerTo, IsDecided, IsRefused};
+
+use crate::bare::BareEntity;
+use crate::entity_file::{read_entities, refusal_at};
+use crate::lines::answer_line;
+use crate::policies::{read_policies, refusal_by};
+use crate::refusal::Refusal;
+use crate::request::read_request;
+use ancestor_closure::{Ancestry, Hierarchy, Searched};
+use authoriser::{Answer, decide};
+use plain::{Items, NoMemory};
+use policy_grammar::Policy;
+use std::alloc::Global;
+use values::Request;
+
+/// The hierarchy in which each entity has its own parents.
+fn hierarchy_of(alloc: Global, entities: Items<BareEntity>) -> Result<Searched, NoMemory>
+    ensures { IfOk result (λ h. ⟦<Searched as Ancestry>⟧.parents h ≡ parents_in entities) }
+{
+    let mut left = entities.into_vec();
+    let mut hierarchy = Searched::new(alloc);
+    while let Some(entity) = left.pop() {
+        let BareEntity { uid, parents } = entity;
+        hierarchy.set_parents(uid, parents.into_vec())?;
+    }
+    Ok(hierarchy)
+}
+
+/// The policies by reference, in the same order.
+fn referred<'p>(
+    alloc: Global,
+    policies: &'p [(String, Policy)],
+) -> Result<Vec<(&'p str, &'p Policy)>, NoMemory>
+    ensures { IfOk result (λ refs. named refs.items ≡ named_policies (map (λ p. string_bytes p.0) policies.now) (map (λ p. p.1) policies.now)) }
+{
+    let mut refs = Vec::with_capacity(alloc, policies.len())?;
+    for (id, policy) in policies {
+        refs.push((id.as_str(), policy))?;
+    }
+    Ok(refs)
+}
+
+/// The policies by reference, ascending by name.
+fn in_order<'p>(
+    alloc: Global,
+    policies: &'p [(String, Policy)],
+) -> Result<Vec<(&'p str, &'p Policy)>, NoMemory>
+    ensures { IfOk result (λ refs. IsInOrder (named_policies (map (λ p. string_bytes p.0) policies.now) (map (λ p. p.1) policies.now)) (named refs.items)) }
+{
+    let mut refs = referred(alloc, policies)?;
+    refs.sort_unstable_by_key(|p| p.0);
+    Ok(refs)
+}
+
+/// The answer to a request over these policies and entities.
+fn answer_to(
+    alloc: Global,
+    policies: &[(String, Policy)],
+    entities: Items<BareEntity>,
+    request: &Request,
+) -> Result<Answer, NoMemory>
+    ensures { IfOk result (IsAnswerTo (named_policies (map (λ p. string_bytes p.0) policies.now) (map (λ p. p.1) policies.now)) entities request.now) }
+{
+    let ordered = in_order(alloc, policies)?;
+    let hierarchy = hierarchy_of(alloc, entities)?;
+    decide(alloc, &ordered, request, &hierarchy)
+}
+
+/// The line of the answer to a request, over a file of policies and an array of entities, or the first refusal.
+///
+/// No schema is at hand: no type and no action is declared, an entity has no attributes, and the request's context is empty. Refused in this order:
+/// the policies (10 to 19, at a byte), the entities (30, at the place in the array, from 0, or without a place where there is no array), the request
+/// (30, without a place). `NoMemory` (1) may come at any point.
+pub fn decide_texts(
+    alloc: Global,
+    policies: &[u8],
+    entities: &[u8],
+    request: &[u8],
+) -> Result<Vec<u8>, Refusal>
+    ensures decided { IfOk result (λ line. IsDecided policies.now entities.now request.now line.items) }
+    ensures refused { IfErr result (λ refusal. (refusal ≡ no_memory → ⊥) → IsRefused policies.now entities.now request.now refusal) }
+{
+    let policies = match read_policies(alloc, policies) {
+        Ok(policies) => policies,
+        Err(fault) => return Err(refusal_by(fault)),
+    };
+    let entities = read_entities(alloc, entities)?;
+    let request = match read_request(alloc, request) {
+        Ok(request) => request,
+        Err(fault) => return Err(refusal_at(None, fault)),
+    };
+    let answer = answer_to(alloc, &policies, entities, &request)?;
+    Ok(answer_line(alloc, &answer)?)
+}

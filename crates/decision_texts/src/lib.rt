@@ -1,0 +1,17 @@
+//! From the texts of policies, entities and a request to the line of an answer or of a refusal.
+#![tactic(auto)]
+
+mod bare;
+mod deciding;
+mod entity_file;
+mod lines;
+mod policies;
+mod refusal;
+mod request;
+
+pub use deciding::decide_texts;
+pub use lines::answer_line;
+pub use refusal::{Refusal, error_line};
+
+#[cfg(test)]
+mod tests;

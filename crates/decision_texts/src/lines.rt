@@ -1,0 +1,92 @@
+ghost use Rattle.std.specs.Prelude.{◌≡◌, IfOk};
+ghost use Rattle.serde_json.specs.Data.{string};
+ghost use Rattle.serde_json.specs.View.{view};
+ghost use Rattle.decision_texts.specs.Lines.{decision_word, error_word, uid_json, erring_json, each_json, answer_json, answer_line};
+
+use authoriser::{Answer, Decision, Erring, PolicyError};
+use json_words::write_json;
+use plain::{NoMemory, Text};
+use serde_json::{Value, json};
+use std::alloc::Global;
+use values::EntityUid;
+
+fn decision_word(decision: Decision) -> &'static str
+    ensures { result.now ≡ decision_word decision }
+{
+    match decision {
+        Decision::Allow => "Allow",
+        Decision::Deny => "Deny",
+    }
+}
+
+fn error_word(error: PolicyError) -> &'static str
+    ensures { result.now ≡ error_word error }
+{
+    match error {
+        PolicyError::EntityDoesNotExist => "entityDoesNotExist",
+        PolicyError::AttrDoesNotExist => "attrDoesNotExist",
+        PolicyError::TypeError => "typeError",
+        PolicyError::ArithBoundsError => "arithBoundsError",
+        PolicyError::ExtensionError => "extensionError",
+    }
+}
+
+fn uid_value(alloc: Global, uid: &EntityUid) -> Result<Value, NoMemory>
+    ensures { IfOk result (λ v. view v ≡ uid_json uid.now) }
+{
+    json!(in alloc; {"id": uid.id.as_str(), "type": uid.type_name.as_str()})
+}
+
+fn erring_value(alloc: Global, erring: &Erring) -> Result<Value, NoMemory>
+    ensures { IfOk result (λ v. view v ≡ erring_json erring.now) }
+{
+    json!(in alloc; {"error": error_word(erring.error), "policy": erring.policy.as_str()})
+}
+
+fn cycle_value(alloc: Global, uids: &[EntityUid]) -> Result<Value, NoMemory>
+    ensures { IfOk result (λ v. view v ≡ each_json uid_json uids.now) }
+{
+    let mut items = Vec::new(alloc);
+    for uid in uids {
+        items.push(uid_value(alloc, uid)?)?;
+    }
+    Ok(Value::Array(items))
+}
+
+fn errors_value(alloc: Global, errors: &[Erring]) -> Result<Value, NoMemory>
+    ensures { IfOk result (λ v. view v ≡ each_json erring_json errors.now) }
+{
+    let mut items = Vec::new(alloc);
+    for erring in errors {
+        items.push(erring_value(alloc, erring)?)?;
+    }
+    Ok(Value::Array(items))
+}
+
+fn reason_value(alloc: Global, ids: &[Text]) -> Result<Value, NoMemory>
+    ensures { IfOk result (λ v. view v ≡ each_json (λ id. string id) ids.now) }
+{
+    let mut items = Vec::new(alloc);
+    for id in ids {
+        items.push(Value::try_from_str(alloc, id.as_str())?)?;
+    }
+    Ok(Value::Array(items))
+}
+
+fn answer_value(alloc: Global, answer: &Answer) -> Result<Value, NoMemory>
+    ensures { IfOk result (λ v. view v ≡ answer_json answer.now) }
+{
+    let cycle = cycle_value(alloc, answer.cycle.as_slice())?;
+    let errors = errors_value(alloc, answer.errors.as_slice())?;
+    let reason = reason_value(alloc, answer.reason.as_slice())?;
+    let decision = decision_word(answer.decision);
+    json!(in alloc; {"cycle": cycle, "decision": decision, "errors": errors, "reason": reason})
+}
+
+/// The line of an answer, without its line end: `{"cycle":[],"decision":"Allow","errors":[],"reason":["policy0"]}`.
+pub fn answer_line(alloc: Global, answer: &Answer) -> Result<Vec<u8>, NoMemory>
+    ensures { IfOk result (λ b. b.items ≡ answer_line answer.now) }
+{
+    let value = answer_value(alloc, answer)?;
+    write_json(alloc, &value)
+}

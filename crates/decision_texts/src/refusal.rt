@@ -1,0 +1,94 @@
+ghost use Rattle.std.specs.Prelude.{◌≡◌, IfOk};
+ghost use Rattle.serde_json.specs.View.{view};
+ghost use Rattle.decision_texts.specs.Refusals.{no_memory, bad_shape, number_or_null, refusal_json, error_line};
+
+use json_words::write_json;
+use plain::NoMemory;
+use serde_json::{Value, json};
+use std::alloc::{AllocFailed, Global};
+
+/// Why texts are not decided.
+#[derive(Clone, Copy, Debug, PartialEq, Eq)]
+pub struct Refusal {
+    /// The number: 1 for want of memory, 10 to 19 for policies, 30 for entities and requests.
+    pub code: u8,
+    /// Where: a byte of the policies' text, or an entity's place in its array; both from 0. None where there is no such place.
+    pub place: Option<usize>,
+    /// The number of the refusal inside, where one stands in another.
+    pub within: Option<u8>,
+}
+
+impl From<NoMemory> for Refusal {
+    ghost from_gives = { λ _ e. e ≡ no_memory };
+
+    fn from(_error: NoMemory) -> Refusal {
+        Refusal {
+            code: 1,
+            place: None,
+            within: None,
+        }
+    }
+}
+
+impl<T: Drop> From<AllocFailed<T>> for Refusal {
+    ghost from_gives = { λ _ e. e ≡ no_memory };
+
+    fn from(_error: AllocFailed<T>) -> Refusal {
+        Refusal {
+            code: 1,
+            place: None,
+            within: None,
+        }
+    }
+}
+
+impl Refusal {
+    /// A growth was refused.
+    pub(crate) fn no_memory() -> Refusal
+        ensures { result ≡ no_memory }
+    {
+        Refusal {
+            code: 1,
+            place: None,
+            within: None,
+        }
+    }
+
+    /// JSON that is no entity, or no request.
+    pub(crate) fn bad_shape(place: Option<usize>) -> Refusal
+        ensures { result ≡ bad_shape place }
+    {
+        Refusal {
+            code: 30,
+            place,
+            within: None,
+        }
+    }
+}
+
+fn number_or_null(number: Option<u64>) -> Value
+    ensures { view result ≡ number_or_null number }
+{
+    match number {
+        Some(number) => Value::from(number),
+        None => Value::Null,
+    }
+}
+
+#[tactic(auto)]
+fn refusal_value(alloc: Global, refusal: Refusal) -> Result<Value, NoMemory>
+    ensures { IfOk result (λ v. view v ≡ refusal_json refusal) }
+{
+    let place = number_or_null(refusal.place.map(|place| place as u64));
+    let within = number_or_null(refusal.within.map(u64::from));
+    let code = u64::from(refusal.code);
+    json!(in alloc; {"error": {"code": code, "place": place, "within": within}})
+}
+
+/// The line that tells a refusal, without its line end: `{"error":{"code":30,"place":0,"within":null}}`.
+pub fn error_line(alloc: Global, refusal: Refusal) -> Result<Vec<u8>, NoMemory>
+    ensures { IfOk result (λ b. b.items ≡ error_line refusal) }
+{
+    let value = refusal_value(alloc, refusal)?;
+    write_json(alloc, &value)
+}

@@ -1,0 +1,11 @@
+pub mod DecimalTexts
+pub mod SignedTexts
+pub mod Ranges
+pub mod AddressTexts
+pub mod CanonicalDecimals
+pub mod CanonicalNetworks
+pub mod CanonicalGroups
+pub mod OneGroups
+pub mod GroupTexts
+pub mod Lacks
+pub mod ReadTexts

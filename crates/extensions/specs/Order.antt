@@ -1,0 +1,73 @@
+-- The order of addresses with a prefix: by version, IPv4 first, then by the address as it was written, then by the prefix.
+-- That the address is compared unmasked is a rule of this product.
+use Rattle.std.specs.Prelude.{◌≡◌, ℕ, ◌==◌, if◌then◌else◌, refl}
+use Rattle.std.specs.declared.cmp.Ordering.{Ordering}
+use Rattle.std.specs.declared.cmp.Ordering.TheVariants.{Less, Equal, Greater}
+use Rattle.std.specs.Ordering.{ordering_then, nat_cmp, on, then_cmp}
+use Rattle.std.specs.Cmp.{IsTotalOrder}
+use Rattle.std.specs.FinMap.{IsAntisymmetric, nat_cmp-IsAntisymmetric}
+use Rattle.std.specs.Coded.{Coded, code_by, coded×, coded_ℕ}
+use Rattle.std.proofs.Common.{sym, ◌∙◌, ap, subst}
+use Rattle.std.proofs.lemmas.Cmp.{on_total, then_total, nat_cmp_total}
+use Rattle.extensions.specs.declared.ip_net.Version.{Version}
+use Rattle.extensions.specs.declared.ip_net.Version.TheVariants.{V4, V6}
+use Rattle.extensions.specs.Network.{Network}
+
+-- the version's number
+abbrev pub version_number : Version → ℕ
+version_number V4 = 4
+version_number V6 = 6
+
+abbrev pub network_cmp : Network → Network → Ordering
+network_cmp = then_cmp (on (λ n. version_number n.version) nat_cmp) (then_cmp (on (λ n. n.address) nat_cmp) (on (λ n. n.prefix) nat_cmp))
+
+-- it is total,
+pub network_cmp_total : IsTotalOrder network_cmp
+network_cmp_total =
+    then_total (on_total (λ n. version_number n.version) nat_cmp_total)
+    (then_total (on_total (λ n. n.address) nat_cmp_total) (on_total (λ n. n.prefix) nat_cmp_total))
+
+-- the version, by its number
+abbrev pub version_of : ℕ → Version
+version_of k = if k == 4 then V4 else V6
+
+version_back : (v : Version) → version_of (version_number v) ≡ v
+version_back V4 = refl
+version_back V6 = refl
+
+same_version : (v w : Version) → version_number v ≡ version_number w → v ≡ w
+same_version v w e = sym (version_back v) ∙ ap version_of e ∙ version_back w
+
+IsTie : Ordering → Type 0
+IsTie Less = ⊥
+IsTie Equal = Unit {0}
+IsTie Greater = ⊥
+
+both_equal : (o p : Ordering) → ordering_then o p ≡ Equal → (o ≡ Equal) × (p ≡ Equal)
+unfolding IsTie
+both_equal Less p e = absurd (subst IsTie (sym e) tt)
+both_equal Equal p e = (refl, e)
+both_equal Greater p e = absurd (subst IsTie (sym e) tt)
+
+-- and only a network itself ties with it
+pub network_cmp-IsAntisymmetric : IsAntisymmetric network_cmp
+network_cmp-IsAntisymmetric m n e =
+    let first = both_equal (nat_cmp (version_number m.version) (version_number n.version)) _ e in
+    let second = both_equal (nat_cmp m.address n.address) (nat_cmp m.prefix n.prefix) first.1 in
+    let version = same_version m.version n.version (nat_cmp-IsAntisymmetric _ _ first.0) in
+    let address = nat_cmp-IsAntisymmetric m.address n.address second.0 in
+    let prefix = nat_cmp-IsAntisymmetric m.prefix n.prefix second.1 in
+    λ i. record { version = version i; address = address i; prefix = prefix i }
+
+-- A network as three numbers, from which it comes back: a crate above makes the code of its own data of it.
+abbrev pub network_numbers : Network → ℕ × (ℕ × ℕ)
+network_numbers n = (version_number n.version, (n.address, n.prefix))
+
+abbrev pub network_of : ℕ × (ℕ × ℕ) → Network
+network_of k = record { version = version_of k.0; address = k.1.0; prefix = k.1.1 }
+
+pub network_of-network_numbers : (n : Network) → network_of (network_numbers n) ≡ n
+network_of-network_numbers n = λ i. record { version = version_back n.version i; address = n.address; prefix = n.prefix }
+
+abbrev pub network_code : Coded Network
+network_code = code_by (ℕ × (ℕ × ℕ)) (coded× coded_ℕ (coded× coded_ℕ coded_ℕ)) network_numbers network_of network_of-network_numbers

@@ -1,0 +1,211 @@
+//! Decimals with four places.
+ghost use Rattle.std.specs.Prelude.{◌≡◌, ℕ, ℤ, pos, ◌<◌, ◌≤◌, ◌<ℤ◌, ◌≤ℤ◌, ◌↔◌, IsTrue, IsNone, IfSome, SomeIff, ◌^◌, ◌*◌, ◌-◌, ◌+◌, length, FitsSigned, neg_ℤ, OnOk, OnErr, string_bytes, string_len, string_capacity, ◌++◌, List, Some, refl};
+ghost use Rattle.std.specs.Int.{w64};
+ghost use Rattle.std.specs.Ordering.{is_eq, int_cmp};
+ghost use Rattle.std.specs.Cmp.{partial_equiv_from_equiv, partial_order_from_agreeing_total, int_cmp_total};
+ghost use Rattle.std.proofs.lemmas.Cmp.{eq_by_cmp_equiv};
+ghost use Rattle.std.specs.Str.Parse.{IsNumeral, digits_value};
+ghost use Rattle.extensions.specs.DecimalText.{IsDecimalText, IsUnsignedText, decimal_text, size_text};
+
+use crate::NoMemory;
+use crate::pieces::{append, append_digit, append_whole};
+use std::cmp::Ordering;
+use std::marker::Model;
+
+/// How many bytes the longest canonical text has: `-922337203685477.5808`.
+const MOST: usize = 21;
+
+/// A number with four decimal places: a whole number of ten-thousandths, in signed 64 bits. Contracts see it as that number, by which
+/// decimals are compared and ordered.
+#[derive(Clone, Copy, Debug)]
+pub struct Decimal {
+    ten_thousandths: i64,
+}
+
+impl Model for Decimal {
+    ghost use Rattle.std.specs.Prelude.{ℤ, FitsSigned};
+    ghost use Rattle.std.specs.Int.{w64};
+
+    ghost Value = { ℤ };
+
+    ghost view = { λ d. d.ten_thousandths };
+
+    ghost invariant = { λ d. FitsSigned w64 d.ten_thousandths };
+
+    ghost inverse = { λ n. record { ten_thousandths = n } };
+}
+
+impl Decimal {
+    /// The decimal that the text writes: an optional `-`, digits, `.` and one to four digits, with nothing around it. It is
+    /// `None` for every other text, and for a number outside of signed 64 bits of ten-thousandths.
+    pub fn parse(text: &str) -> Option<Decimal>
+        ensures some { IfSome result (IsDecimalText text.now) }
+        ensures none { IsNone result → (n : ℤ) → ¬ (IsDecimalText text.now n) }
+    {
+        let ten_thousandths = match text.strip_prefix('-') {
+            Some(size) => negated(size_of_text(size)?)?,
+            None => positive(size_of_text(text)?)?,
+        };
+        Some(Decimal { ten_thousandths })
+    }
+
+    /// Whether this number is less than the other.
+    pub fn less_than(&self, other: &Decimal) -> bool
+        ensures { IsTrue result ↔ (self.now <ℤ other.now) }
+    {
+        self.ten_thousandths < other.ten_thousandths
+    }
+
+    /// Whether this number is the other or less.
+    pub fn less_or_equal(&self, other: &Decimal) -> bool
+        ensures { IsTrue result ↔ (self.now ≤ℤ other.now) }
+    {
+        self.ten_thousandths <= other.ten_thousandths
+    }
+
+    /// Appends the canonical text: four digits behind the point, no needless leading zeros, and no `-` on zero. The text reads back as
+    /// this number. Where there is no room for the longest text and no more memory, it answers `NoMemory` and appends nothing.
+    pub fn write_to(&self, out: &mut String) -> Result<(), NoMemory>
+        ensures written { OnOk result (string_bytes out.new ≡ string_bytes out.old ++ decimal_text self.now) }
+        ensures unchanged { OnErr result (string_bytes out.new ≡ string_bytes out.old) }
+        ensures refused { OnErr result (string_capacity out.old < string_len out.old + 21) }
+        ensures reads_back { IsDecimalText (decimal_text self.now) self.now }
+    {
+        let ten_thousandths = self.ten_thousandths;
+        out.reserve(MOST)?;
+        if ten_thousandths < 0 {
+            append(out, "-");
+        }
+        append_size(ten_thousandths.unsigned_abs(), out);
+        Ok(())
+    }
+}
+
+impl PartialEq for Decimal {
+    ghost eq = { λ a b. is_eq (int_cmp a b) };
+
+    ghost laws = { partial_equiv_from_equiv (eq_by_cmp_equiv int_cmp_total) };
+
+    fn eq(&self, other: &Decimal) -> bool {
+        self.ten_thousandths == other.ten_thousandths
+    }
+}
+
+impl Eq for Decimal {
+    ghost laws = { eq_by_cmp_equiv int_cmp_total };
+}
+
+impl PartialOrd for Decimal {
+    ghost partial_cmp = { λ a b. Some (int_cmp a b) };
+
+    ghost laws = { partial_order_from_agreeing_total int_cmp int_cmp_total (λ a b. refl) (λ a b. refl) };
+
+    fn partial_cmp(&self, other: &Decimal) -> Option<Ordering> {
+        Some(self.cmp(other))
+    }
+}
+
+impl Ord for Decimal {
+    ghost cmp = { int_cmp };
+
+    ghost total = { int_cmp_total };
+
+    ghost matches_partial_cmp = { λ a b. refl };
+
+    ghost matches_eq = { λ a b. refl };
+
+    fn cmp(&self, other: &Decimal) -> Ordering {
+        self.ten_thousandths.cmp(&other.ten_thousandths)
+    }
+}
+
+/// Appends a number of ten-thousandths, with four digits behind the point.
+fn append_size(size: u64, out: &mut String)
+    requires small { size ≤ 2 ^ 63 }
+    requires room { string_len out.old + 20 ≤ string_capacity out.old }
+    ensures { string_bytes out.new ≡ string_bytes out.old ++ size_text size }
+{
+    append_whole(out, size / 10_000);
+    append(out, ".");
+    append_digit(out, (size / 1_000 % 10) as u32);
+    append_digit(out, (size / 100 % 10) as u32);
+    append_digit(out, (size / 10 % 10) as u32);
+    append_digit(out, (size % 10) as u32)
+}
+
+/// The ten-thousandths of a text without a sign.
+fn size_of_text(text: &str) -> Option<u64>
+    ensures some { IfSome result (IsUnsignedText text.now) }
+    ensures none { IsNone result → (n : ℕ) → IsUnsignedText text.now n → 2 ^ 64 ≤ n }
+{
+    let (whole, fraction) = text.split_once('.')?;
+    let whole = number(whole)?;
+    let fraction = ten_thousandths(fraction)?;
+    joined(whole, fraction)
+}
+
+/// The two parts as one number, where it is below `2^64`.
+fn joined(whole: u64, fraction: u64) -> Option<u64>
+    ensures { SomeIff result (whole * 10000 + fraction < 2 ^ 64) (whole * 10000 + fraction) }
+{
+    u64::try_from(u128::from(whole) * 10_000 + u128::from(fraction)).ok()
+}
+
+/// The number below zero of this size, where it fits.
+fn negated(size: u64) -> Option<i64>
+    ensures { SomeIff result (FitsSigned w64 (neg_ℤ (pos size))) (neg_ℤ (pos size)) }
+{
+    i64::try_from(-i128::from(size)).ok()
+}
+
+/// The number of this size, where it fits.
+fn positive(size: u64) -> Option<i64>
+    ensures { SomeIff result (FitsSigned w64 (pos size)) (pos size) }
+{
+    i64::try_from(size).ok()
+}
+
+/// The ten-thousandths that one to four digits behind the point write.
+fn ten_thousandths(fraction: &str) -> Option<u64>
+    ensures { SomeIff result (IsNumeral 10 fraction.now × (length fraction.now ≤ 4)) (digits_value 10 fraction.now * 10 ^ (4 - length fraction.now)) }
+{
+    let places = fraction.len();
+    if places > 4 {
+        return None;
+    }
+    Some(number(fraction)? * scale(places))
+}
+
+/// The ten-thousandths in one of the last of so many places.
+fn scale(places: usize) -> u64
+    requires { places ≤ 4 }
+    ensures { result ≡ 10 ^ (4 - places) }
+{
+    match places {
+        0 => 10_000,
+        1 => 1_000,
+        2 => 100,
+        3 => 10,
+        _ => 1,
+    }
+}
+
+/// The number that the digits write. It is `None` for a text that isn't digits, and for `2^64` and more.
+fn number(text: &str) -> Option<u64>
+    ensures { SomeIff result (IsNumeral 10 text.now × (digits_value 10 text.now < 2 ^ 64)) (digits_value 10 text.now) }
+{
+    if text.starts_with('+') {
+        return None;
+    }
+    text.parse::<u64>().ok()
+}
+
+/// A text writes one decimal at most.
+pub fn one_decimal_a_text()
+    ensures { (text : List ℕ) (y z : ℤ) → IsDecimalText text y → IsDecimalText text z → y ≡ z }
+{}
+
+/// The canonical text of a decimal is a text of it.
+pub fn canonical_decimal_reads_back()
+    ensures { (z : ℤ) → FitsSigned w64 z → IsDecimalText (decimal_text z) z }
+{}

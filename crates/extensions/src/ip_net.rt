@@ -1,0 +1,408 @@
+//! IP addresses with a prefix.
+ghost use Rattle.std.specs.Prelude.{◌≡◌, ℕ, ◌+◌, ◌-◌, ◌*◌, ◌/◌, ◌^◌, ◌<◌, ◌≤◌, ◌↔◌, ◌++◌, ◌⊎◌, List, length, slice_index, IsTrue, IsNone, IfSome, OnOk, OnErr, string_bytes, string_len, string_capacity, Some, refl};
+ghost use Rattle.std.specs.Fmt.{decimal};
+ghost use Rattle.extensions.specs.declared.ip_net.Version.{Version};
+ghost use Rattle.extensions.specs.declared.ip_net.Version.TheVariants.{V4, V6};
+ghost use Rattle.extensions.specs.Network.{width, Network, IsNetwork, size, least, greatest};
+ghost use Rattle.std.specs.Cmp.{IsTotalOrder};
+ghost use Rattle.std.specs.declared.cmp.Ordering.TheVariants.{Equal};
+ghost use Rattle.extensions.specs.Order.{network_cmp};
+ghost use Rattle.extensions.specs.NetworkText.{IsNetworkText, network_text, IsAddressText, ipv4_text, ipv6_text, groups_text};
+
+use crate::NoMemory;
+use crate::pieces::{append, append_byte, append_group};
+use std::cmp::Ordering;
+use std::marker::Model;
+use std::net::{Ipv4Addr, Ipv6Addr};
+
+/// How many bytes the longest canonical text has: eight groups of four digits, seven colons, `/` and three digits.
+const MOST: usize = 43;
+
+/// The versions of the Internet Protocol.
+#[derive(Clone, Copy, Debug, PartialEq, Eq)]
+pub enum Version {
+    V4,
+    V6,
+}
+
+/// An address as it was written, and how many of its first bits are the prefix. Contracts see it as a `Network`. IPv4 is less
+/// than IPv6; then the address decides, then the prefix.
+#[derive(Clone, Copy, Debug)]
+pub struct IpNet {
+    version: Version,
+    address: u128,
+    prefix: u8,
+}
+
+impl Model for IpNet {
+    ghost use Rattle.extensions.specs.Network.{Network, IsNetwork};
+    ghost use Rattle.extensions.specs.Order.{network_code};
+
+    ghost Value = { Network };
+
+    ghost coded = { network_code };
+
+    ghost view = { λ n. record { version = n.version; address = n.address; prefix = n.prefix } };
+
+    ghost invariant = { λ n. IsNetwork (record { version = n.version; address = n.address; prefix = n.prefix }) };
+
+    ghost inverse = { λ n. record { version = n.version; address = n.address; prefix = n.prefix } };
+}
+
+const LOOPBACK_V4: IpNet = IpNet {
+    version: Version::V4,
+    address: 0x7f00_0000,
+    prefix: 8,
+};
+
+const LOOPBACK_V6: IpNet = IpNet {
+    version: Version::V6,
+    address: 1,
+    prefix: 128,
+};
+
+const MULTICAST_V4: IpNet = IpNet {
+    version: Version::V4,
+    address: 0xe000_0000,
+    prefix: 4,
+};
+
+const MULTICAST_V6: IpNet = IpNet {
+    version: Version::V6,
+    address: 0xff00_0000_0000_0000_0000_0000_0000_0000,
+    prefix: 8,
+};
+
+impl Version {
+    ghost use Rattle.extensions.specs.Network.{width};
+    ghost use Rattle.extensions.specs.Order.{version_number};
+
+    /// The version's number.
+    fn number(self) -> u8
+        ensures { result ≡ version_number self }
+    {
+        match self {
+            Version::V4 => 4,
+            Version::V6 => 6,
+        }
+    }
+
+    /// How many bits an address has.
+    fn width(self) -> u8
+        ensures { result ≡ width self }
+    {
+        match self {
+            Version::V4 => 32,
+            Version::V6 => 128,
+        }
+    }
+}
+
+impl PartialEq for IpNet {
+    ghost use Rattle.std.specs.Ordering.{is_eq};
+    ghost use Rattle.std.specs.Cmp.{partial_equiv_from_equiv};
+    ghost use Rattle.std.proofs.lemmas.Cmp.{eq_by_cmp_equiv};
+    ghost use Rattle.extensions.specs.Order.{network_cmp, network_cmp_total};
+
+    ghost eq = { λ m n. is_eq (network_cmp m n) };
+
+    ghost laws = { partial_equiv_from_equiv (eq_by_cmp_equiv network_cmp_total) };
+
+    fn eq(&self, other: &IpNet) -> bool {
+        self.cmp(other).is_eq()
+    }
+}
+
+impl Eq for IpNet {
+    ghost use Rattle.std.proofs.lemmas.Cmp.{eq_by_cmp_equiv};
+    ghost use Rattle.extensions.specs.Order.{network_cmp_total};
+
+    ghost laws = { eq_by_cmp_equiv network_cmp_total };
+}
+
+impl PartialOrd for IpNet {
+    ghost use Rattle.std.specs.Prelude.{Some, refl};
+    ghost use Rattle.std.specs.Cmp.{partial_order_from_agreeing_total};
+    ghost use Rattle.extensions.specs.Order.{network_cmp, network_cmp_total};
+
+    ghost partial_cmp = { λ m n. Some (network_cmp m n) };
+
+    ghost laws = { partial_order_from_agreeing_total network_cmp network_cmp_total (λ m n. refl) (λ m n. refl) };
+
+    fn partial_cmp(&self, other: &IpNet) -> Option<Ordering> {
+        Some(self.cmp(other))
+    }
+}
+
+impl Ord for IpNet {
+    ghost use Rattle.std.specs.Prelude.{refl};
+    ghost use Rattle.extensions.specs.Order.{network_cmp, network_cmp_total};
+
+    ghost cmp = { network_cmp };
+
+    ghost total = { network_cmp_total };
+
+    ghost matches_partial_cmp = { λ m n. refl };
+
+    ghost matches_eq = { λ m n. refl };
+
+    fn cmp(&self, other: &IpNet) -> Ordering {
+        self.version
+            .number()
+            .cmp(&other.version.number())
+            .then(self.address.cmp(&other.address))
+            .then(self.prefix.cmp(&other.prefix))
+    }
+}
+
+impl IpNet {
+    ghost use Rattle.extensions.specs.Network.{Network, IsNetwork, width, size, least, greatest, IsWithin, loopback_v4, loopback_v6, multicast_v4, multicast_v6};
+    ghost use Rattle.extensions.specs.NetworkText.{IsNetworkText, network_text};
+    ghost use Rattle.extensions.specs.declared.ip_net.Version.TheVariants.{V4, V6};
+
+    /// The network that the text writes: an address, and `/` and a prefix where it isn't all bits, with nothing around it. It
+    /// is `None` for every other text.
+    pub fn parse(text: &str) -> Option<IpNet>
+        ensures some { IfSome result (IsNetworkText text.now) }
+        ensures none { IsNone result → (n : Network) → ¬ (IsNetworkText text.now n) }
+    {
+        match text.split_once('/') {
+            Some((address, prefix)) => {
+                let (version, address) = address_of_text(address)?;
+                let prefix = prefix_of_text(prefix, version.width())?;
+                Some(IpNet {
+                    version,
+                    address,
+                    prefix,
+                })
+            }
+            None => {
+                let (version, address) = address_of_text(text)?;
+                Some(IpNet {
+                    version,
+                    address,
+                    prefix: version.width(),
+                })
+            }
+        }
+    }
+
+    /// Whether this is an IPv4 address.
+    pub fn is_ipv4(&self) -> bool
+        ensures { IsTrue result ↔ (self.now.version ≡ V4) }
+    {
+        self.version == Version::V4
+    }
+
+    /// Whether this is an IPv6 address.
+    pub fn is_ipv6(&self) -> bool
+        ensures { IsTrue result ↔ (self.now.version ≡ V6) }
+    {
+        self.version == Version::V6
+    }
+
+    /// Whether the versions agree and this range lies in the other.
+    pub fn is_in_range(&self, other: &IpNet) -> bool
+        ensures { IsTrue result ↔ IsWithin self.now other.now }
+    {
+        self.version == other.version
+            && other.least() <= self.least()
+            && self.greatest() <= other.greatest()
+    }
+
+    /// Whether the whole range is in 127.0.0.0/8, or is ::1.
+    pub fn is_loopback(&self) -> bool
+        ensures { IsTrue result ↔ (IsWithin self.now loopback_v4 ⊎ IsWithin self.now loopback_v6) }
+    {
+        self.is_in_range(&LOOPBACK_V4) || self.is_in_range(&LOOPBACK_V6)
+    }
+
+    /// Whether the whole range is in 224.0.0.0/4 or in ff00::/8.
+    pub fn is_multicast(&self) -> bool
+        ensures { IsTrue result ↔ (IsWithin self.now multicast_v4 ⊎ IsWithin self.now multicast_v6) }
+    {
+        self.is_in_range(&MULTICAST_V4) || self.is_in_range(&MULTICAST_V6)
+    }
+
+    /// Appends the canonical text: always with the prefix, and IPv6 as eight groups in lower case without leading zeros. The text reads
+    /// back as this network. Where there is no room for the longest text and no more memory, it answers `NoMemory` and appends nothing.
+    pub fn write_to(&self, out: &mut String) -> Result<(), NoMemory>
+        ensures written { OnOk result (string_bytes out.new ≡ string_bytes out.old ++ network_text self.now) }
+        ensures unchanged { OnErr result (string_bytes out.new ≡ string_bytes out.old) }
+        ensures refused { OnErr result (string_capacity out.old < string_len out.old + 43) }
+        ensures reads_back { IsNetworkText (network_text self.now) self.now }
+    {
+        let (address, prefix) = (self.address, self.prefix);
+        out.reserve(MOST)?;
+        match self.version {
+            Version::V4 => append_ipv4(address, out),
+            Version::V6 => append_ipv6(address, out),
+        }
+        append(out, "/");
+        append_byte(out, prefix);
+        Ok(())
+    }
+
+    /// How many addresses the range has besides its least.
+    fn others(&self) -> u128
+        ensures { result + 1 ≡ size self.now }
+    {
+        let free = self.version.width() - self.prefix;
+        if free == 128 {
+            u128::MAX
+        } else {
+            (1 << free) - 1
+        }
+    }
+
+    /// The least address of the range.
+    fn least(&self) -> u128
+        ensures value { result ≡ least self.now }
+        ensures within { result + size self.now ≤ 2 ^ 128 }
+    {
+        self.address - (self.address & self.others())
+    }
+
+    /// The greatest address of the range.
+    fn greatest(&self) -> u128
+        ensures { result ≡ greatest self.now }
+    {
+        self.least() + self.others()
+    }
+}
+
+/// The address that the text writes, without a prefix, and its version.
+fn address_of_text(text: &str) -> Option<(Version, u128)>
+    ensures some { IfSome result (λ a. IsAddressText a.0 text.now a.1) }
+    ensures fits { IfSome result (λ a. a.1 < 2 ^ width a.0) }
+    ensures none { IsNone result → (v : Version) (n : ℕ) → ¬ (IsAddressText v text.now n) }
+{
+    if let Some(address) = ipv4_of_text(text) {
+        return Some((Version::V4, u128::from(address)));
+    }
+    let address = ipv6_of_text(text)?;
+    Some((Version::V6, address))
+}
+
+/// The IPv4 address that the text writes.
+fn ipv4_of_text(text: &str) -> Option<u32>
+    ensures some { IfSome result (IsAddressText V4 text.now) }
+    ensures none { IsNone result → (n : ℕ) → ¬ (IsAddressText V4 text.now n) }
+{
+    match text.parse::<Ipv4Addr>() {
+        Ok(address) => Some(address.to_bits()),
+        Err(_) => None,
+    }
+}
+
+/// The IPv6 address that the text writes, without an embedded IPv4 address.
+fn ipv6_of_text(text: &str) -> Option<u128>
+    ensures some { IfSome result (IsAddressText V6 text.now) }
+    ensures none { IsNone result → (n : ℕ) → ¬ (IsAddressText V6 text.now n) }
+{
+    if text.contains('.') {
+        return None;
+    }
+    match text.parse::<Ipv6Addr>() {
+        Ok(address) => Some(address.to_bits()),
+        Err(_) => None,
+    }
+}
+
+/// The prefix that the text behind the `/` writes, of so many bits at most.
+fn prefix_of_text(text: &str, bits: u8) -> Option<u8>
+    ensures some { IfSome result (λ p. (text.now ≡ decimal p) × (p ≤ bits)) }
+    ensures none { IsNone result → (p : ℕ) → p ≤ bits → ¬ (text.now ≡ decimal p) }
+{
+    let prefix = decimal_of_text(text)?;
+    if prefix <= bits { Some(prefix) } else { None }
+}
+
+/// The number up to 255 that the text writes without leading zeros.
+fn decimal_of_text(text: &str) -> Option<u8>
+    ensures some { IfSome result (λ n. text.now ≡ decimal n) }
+    ensures none { IsNone result → (n : ℕ) → n < 256 → ¬ (text.now ≡ decimal n) }
+{
+    if text.starts_with('+') {
+        return None;
+    }
+    if is_padded(text) {
+        return None;
+    }
+    match text.parse::<u8>() {
+        Ok(n) => Some(n),
+        Err(_) => None,
+    }
+}
+
+/// Whether the text has more behind a leading `0`.
+fn is_padded(text: &str) -> bool
+    ensures { IsTrue result ↔ ((slice_index text.now 0 ≡ 48) × (1 < length text.now)) }
+{
+    text.starts_with('0') && text.len() > 1
+}
+
+/// Appends an IPv4 address.
+fn append_ipv4(address: u128, out: &mut String)
+    requires { string_len out.old + 15 ≤ string_capacity out.old }
+    ensures bytes { string_bytes out.new ≡ string_bytes out.old ++ ipv4_text address }
+    ensures len { string_len out.new ≤ string_len out.old + 15 }
+    ensures capacity { string_capacity out.old ≤ string_capacity out.new }
+{
+    append_byte(out, (address / 0x100_0000 % 256) as u8);
+    append(out, ".");
+    append_byte(out, (address / 0x1_0000 % 256) as u8);
+    append(out, ".");
+    append_byte(out, (address / 0x100 % 256) as u8);
+    append(out, ".");
+    append_byte(out, (address % 256) as u8)
+}
+
+/// Appends an IPv6 address as eight groups.
+fn append_ipv6(address: u128, out: &mut String)
+    requires { string_len out.old + 39 ≤ string_capacity out.old }
+    ensures bytes { string_bytes out.new ≡ string_bytes out.old ++ ipv6_text address }
+    ensures len { string_len out.new ≤ string_len out.old + 39 }
+    ensures capacity { string_capacity out.old ≤ string_capacity out.new }
+{
+    append_groups((address / 0x1_0000_0000_0000_0000) as u64, out);
+    append(out, ":");
+    append_groups((address % 0x1_0000_0000_0000_0000) as u64, out)
+}
+
+/// Appends four groups.
+fn append_groups(groups: u64, out: &mut String)
+    requires { string_len out.old + 19 ≤ string_capacity out.old }
+    ensures bytes { string_bytes out.new ≡ string_bytes out.old ++ groups_text groups }
+    ensures len { string_len out.new ≤ string_len out.old + 19 }
+    ensures capacity { string_capacity out.old ≤ string_capacity out.new }
+{
+    append_group(out, (groups / 0x1_0000_0000_0000) as u32);
+    append(out, ":");
+    append_group(out, (groups / 0x1_0000_0000 % 0x1_0000) as u32);
+    append(out, ":");
+    append_group(out, (groups / 0x1_0000 % 0x1_0000) as u32);
+    append(out, ":");
+    append_group(out, (groups % 0x1_0000) as u32)
+}
+
+/// The range is the addresses that agree with the network's in the bits of the prefix.
+pub fn range_is_agreement()
+    ensures { (n : Network) (x : ℕ) → ((least n ≤ x) × (x ≤ greatest n)) ↔ (x / size n ≡ n.address / size n) }
+{}
+
+/// The canonical text of a network is a text of it.
+pub fn canonical_network_reads_back()
+    ensures { (n : Network) → IsNetwork n → IsNetworkText (network_text n) n }
+{}
+
+/// A text writes one network at most.
+pub fn one_network_a_text()
+    ensures { (text : List ℕ) (m n : Network) → IsNetworkText text m → IsNetworkText text n → m ≡ n }
+{}
+
+/// The order of networks is total, and only a network itself ties with it.
+pub fn network_order_is_exact()
+    ensures total { IsTotalOrder network_cmp }
+    ensures exact { (m n : Network) → network_cmp m n ≡ Equal → m ≡ n }
+{}

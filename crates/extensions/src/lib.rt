@@ -1,0 +1,16 @@
+//! The extension values of the policy language: decimals, and IP addresses with a prefix. They are read from their texts, compared, and
+//! written as their canonical texts.
+//!
+//! Reading and comparing take no memory. Writing asks for the room of the longest text before it appends anything.
+#![tactic(auto)]
+
+pub mod decimal;
+pub mod ip_net;
+mod pieces;
+
+pub use decimal::Decimal;
+pub use ip_net::{IpNet, Version};
+pub use plain::NoMemory;
+
+#[cfg(test)]
+mod tests;

@@ -1,0 +1,4 @@
+pub mod EachLemmas
+pub mod JsonLemmas
+pub mod KeysLemmas
+pub mod CompactLemmas

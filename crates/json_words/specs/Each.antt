@@ -1,0 +1,17 @@
+-- Reading each element of a list, from the left, up to the first fault.
+use Rattle.std.specs.Prelude.{ℕ, suc, List, [], ◌∷◌, Result, Ok}
+use Rattle.serde_json.specs.Data.{Data, Items, no_items, item}
+use Rattle.json_words.specs.Gives.{◌>>=◌}
+
+-- `f i x` reads the element x at the place i; k is the place of the first
+unfoldable pub each : {A B F : Type 0} → (ℕ → A → Result B F) → ℕ → List A → Result (List B) F
+each f k [] = Ok []
+each f k (x ∷ xs) = do
+  y ← f k x
+  ys ← each f (suc k) xs
+  Ok (y ∷ ys)
+
+-- the elements of an array
+abbrev pub list_of : Items → List Data
+list_of no_items = []
+list_of (item d ds) = d ∷ list_of ds

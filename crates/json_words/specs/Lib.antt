@@ -1,0 +1,4 @@
+pub mod Each
+pub mod Gives
+pub mod Json
+pub mod Keys

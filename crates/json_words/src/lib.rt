@@ -1,0 +1,85 @@
+//! Words that all readers and writers of JSON share: the value of bytes, an object's keys, the compact text, and reading as a function
+//! with its first fault.
+//!
+//! The definitions `each`, `Gives`, `demand` and `or_fault` of `specs/` are for the contracts of readers in other crates, and the lemmas
+//! of `proofs/` for their loops.
+#![tactic(auto)]
+
+ghost use Rattle.std.specs.Prelude.{◌≡◌, ◌≤◌, Some, false, option_map, IfOk, IfSome, map, string_bytes};
+ghost use Rattle.std.specs.List.{list_any, list_all};
+ghost use Rattle.std.specs.Str.{bytes_eq};
+ghost use Rattle.std.specs.BTreeMap.{keys};
+ghost use Rattle.serde_json.specs.Data.{depth};
+ghost use Rattle.serde_json.specs.Read.{max_depth};
+ghost use Rattle.serde_json.specs.View.{view};
+ghost use Rattle.serde_json.specs.Written.{has_float, compact_text};
+ghost use Rattle.json_words.specs.Json.{json_of, text_at};
+ghost use Rattle.json_words.specs.Keys.{has_only};
+
+use plain::NoMemory;
+use serde_json::{Map, Value};
+use std::alloc::Global;
+
+/// The JSON value that bytes are, or None where they are no UTF-8 or no JSON, or nest deeper than 127.
+///
+/// Of a key that stands twice in an object the last value counts. Fails for memory alone.
+pub fn read_json(alloc: Global, bytes: &[u8]) -> Result<Option<Value>, NoMemory>
+    ensures value { IfOk result (λ o. option_map view o ≡ json_of bytes.now) }
+    ensures nests { IfOk result (λ o. IfSome o (λ v. depth (view v) ≤ max_depth)) }
+{
+    match Value::from_slice(alloc, bytes) {
+        Ok(value) => Ok(Some(value)),
+        Err(e) => {
+            if e.is_memory() {
+                return Err(NoMemory);
+            }
+            Ok(None)
+        }
+    }
+}
+
+/// The compact text of a value: no blanks, and in each object the keys ascending by bytes. Fails for memory alone.
+///
+/// What is written for a float is not said here, but that it reads back.
+pub fn write_json(alloc: Global, value: &Value) -> Result<Vec<u8>, NoMemory>
+    ensures text { IfOk result (λ b. has_float (view value.now) ≡ false → b.items ≡ compact_text (view value.now)) }
+    ensures reads_back { IfOk result (λ b. depth (view value.now) ≤ max_depth → json_of b.items ≡ Some (view value.now)) }
+{
+    value.to_vec(alloc)
+}
+
+/// The text that an object has at a key, or None where there is no object, no such key, or no text.
+pub fn text_at<'v>(value: &'v Value, key: &str) -> Option<&'v str>
+    ensures { option_map (λ s. s.now) result ≡ text_at key.now (view value.now) }
+{
+    match value.get(key) {
+        Some(found) => found.as_str(),
+        None => None,
+    }
+}
+
+/// Whether a value is an object with no keys but these.
+#[tactic(auto, using(crate::proofs::KeysLemmas::keys_within_view))]
+pub fn only_keys(value: &Value, allowed: &[&str]) -> bool
+    ensures { result ≡ has_only (map (λ k. k.now) allowed.now) (view value.now) }
+{
+    match value.as_object() {
+        Some(object) => all_among(object, allowed),
+        None => false,
+    }
+}
+
+fn all_among(object: &Map<String, Value>, allowed: &[&str]) -> bool
+    ensures { result ≡ list_all (λ k. list_any (λ a. bytes_eq a.now (string_bytes k)) allowed.now) (keys object.now) }
+{
+    object.keys().all(|key| is_among(key.as_str(), allowed))
+}
+
+fn is_among(name: &str, names: &[&str]) -> bool
+    ensures { result ≡ list_any (λ a. bytes_eq a.now name.now) names.now }
+{
+    names.contains(&name)
+}
+
+#[cfg(test)]
+mod tests;

@@ -1,0 +1,101 @@
+ghost use Rattle.std.specs.Prelude.{◌≡◌, IfOk};
+
+use crate::NoMemory;
+use std::alloc::Global;
+use std::cmp::Ordering;
+use std::marker::Model;
+
+/// A value in memory of its own, which contracts see as the value.
+#[derive(Debug, Drop)]
+pub struct Boxed<T> {
+    owner: Box<T>,
+}
+
+impl<T> Model for Boxed<T> {
+    ghost Value = { T };
+
+    ghost coded = { T.code };
+
+    ghost view = { λ b. b.owner.value };
+}
+
+impl<T> Boxed<T> {
+    /// The value of a `Box`; takes no memory.
+    pub fn from_box(owner: Box<T>) -> Boxed<T>
+        ensures { result ≡ owner.value }
+    {
+        Boxed { owner }
+    }
+
+    /// The `Box` again; takes no memory.
+    pub fn into_box(self) -> Box<T>
+        ensures { result.value ≡ self }
+    {
+        let Boxed { owner } = self;
+        owner
+    }
+
+    /// The value; takes no memory.
+    pub fn into_inner(self) -> T
+        ensures { result ≡ self }
+    {
+        let Boxed { owner } = self;
+        Box::into_inner(owner)
+    }
+
+    pub fn get(&self) -> &T
+        ensures { result.now ≡ self.now }
+    {
+        &self.owner
+    }
+}
+
+impl<T: Drop> Boxed<T> {
+    /// The value in memory of its own, or `NoMemory`.
+    pub fn new(alloc: Global, value: T) -> Result<Boxed<T>, NoMemory>
+        ensures { IfOk result (λ b. b ≡ value) }
+    {
+        let owner = Box::new(alloc, value)?;
+        Ok(Boxed { owner })
+    }
+}
+
+/// Two are equal where the values are; no memory.
+impl<T: PartialEq> PartialEq for Boxed<T> {
+    ghost eq = { λ a b. T.eq a b };
+
+    ghost laws = { T.laws };
+
+    fn eq(&self, other: &Boxed<T>) -> bool {
+        self.get() == other.get()
+    }
+}
+
+impl<T: Eq> Eq for Boxed<T> {
+    ghost laws = { T.Eq.laws };
+}
+
+/// Two are compared as the values are; no memory.
+impl<T: PartialOrd> PartialOrd for Boxed<T> {
+    ghost partial_cmp = { λ a b. T.partial_cmp a b };
+
+    ghost laws = { T.PartialOrd.laws };
+
+    fn partial_cmp(&self, other: &Boxed<T>) -> Option<Ordering> {
+        self.get().partial_cmp(other.get())
+    }
+}
+
+impl<T: Ord> Ord for Boxed<T> {
+    ghost cmp = { λ a b. T.cmp a b };
+
+    ghost total = { T.total };
+
+    ghost matches_partial_cmp = { λ a b. T.matches_partial_cmp a b };
+
+    ghost matches_eq = { λ a b. T.matches_eq a b };
+
+    fn cmp(&self, other: &Boxed<T>) -> Ordering {
+        self.get().cmp(other.get())
+    }
+}

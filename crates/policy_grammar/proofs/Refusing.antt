@@ -1,0 +1,38 @@
+-- From the refusal of trees to the refusal of their text.
+use Rattle.std.proofs.Common.{◌≡◌, ◌↔◌, ℕ, Bool, true, false, IsTrue, List, length, Option, Some, None, Result, Ok, Err, IfErr, ◌∙◌, subst, inl, inr}
+use Rattle.std.specs.List.{enumerate_from}
+use Rattle.std.proofs.lemmas.List.FromFn.{length-enumerate_from}
+use Rattle.std.proofs.lemmas.Slice.Zip.{AllZip-long}
+use Rattle.policy_syntax.specs.declared.tree.PolicyTree.{PolicyTree}
+use Rattle.policy_syntax.specs.Grammar as grammar
+use Rattle.policy_grammar.specs.declared.fault.ReadFault.{ReadFault}
+use Rattle.policy_grammar.specs.declared.fault.ReadFault.TheVariants as fault
+use Rattle.policy_grammar.specs.CoreOf.{IsNameOf, AreNamesOf}
+use Rattle.policy_grammar.specs.Limits.{most_file_bytes}
+use Rattle.policy_grammar.specs.PolicyText.{Derives, HaveNoPolicies, IsFileRefused}
+use Rattle.policy_grammar.specs.Repeats.{Nowhere, IsLeast, TellsLeast}
+use Rattle.policy_grammar.specs.Standing.{OrNoMemory}
+
+pub nowhere : (P : ℕ → Type 0) (o : Option ℕ) → TellsLeast P o → o ≡ None → Nowhere P
+nowhere P o tells none = subst (TellsLeast P) none tells
+
+pub somewhere : (P : ℕ → Type 0) (o : Option ℕ) (at : ℕ) → TellsLeast P o → o ≡ Some at → IsLeast P at
+somewhere P o at tells some = subst (TellsLeast P) some tells
+
+pub refuted : (P : Type 0) (b : Bool) → (IsTrue b ↔ P) → b ≡ false → P → ⊥
+refuted P b iff no' p = let yes' : b ≡ true = iff.1 p in absurd (cc)
+
+-- a name for each tree
+pub names-long : (text : List ℕ) (trees : List PolicyTree) (names : List (List ℕ)) → AreNamesOf text trees names → length names ≡ length trees
+names-long text trees names named =
+    AllZip-long (λ (placed : ℕ × PolicyTree). IsNameOf text placed.0 placed.1) (enumerate_from 0 trees) names named ∙ length-enumerate_from 0 trees
+
+file-why : (text : List ℕ) (trees : List PolicyTree) (names : List (List ℕ)) → Derives grammar.policies most_file_bytes text trees → AreNamesOf text trees names →
+    (why : ReadFault) → OrNoMemory (HaveNoPolicies text trees names) why → IsFileRefused text why
+file-why text trees names derives named fault.NoMemory none = inl tt
+file-why text trees names derives named _ none = inr (trees, names, derives, named, none)
+
+pub file-refused : {A : Type 0} (text : List ℕ) (trees : List PolicyTree) (names : List (List ℕ)) → Derives grammar.policies most_file_bytes text trees →
+    AreNamesOf text trees names → (r : Result A ReadFault) → IfErr r (OrNoMemory (HaveNoPolicies text trees names)) → IfErr r (IsFileRefused text)
+file-refused text trees names derives named (Ok x) none = tt
+file-refused text trees names derives named (Err why) none = file-why text trees names derives named why none

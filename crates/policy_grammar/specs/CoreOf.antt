@@ -1,0 +1,93 @@
+-- What a syntax tree stands for, with the text in which its tokens stand: the pass from tree to core.
+-- Source: Cedar reference guide 4.0, "Basic policy construction": effect, scope and annotations; "Grammar specification for Cedar policy
+-- syntax". That a policy is named by its `@id` follows the Cedar command line; the names of the others are a rule of this product.
+use Rattle.std.specs.Prelude.{◌≡◌, ℕ, Bool, List, [], ◌++◌, Option, Some, None, codes, map, find}
+use Rattle.std.specs.List.{AllZip, enumerate_from}
+use Rattle.std.specs.Fmt.{decimal}
+use Rattle.std.specs.Str.{bytes_eq}
+use Rattle.plain.specs.Words.{joined_path}
+use Rattle.values.specs.declared.entity_uid.EntityUid.{EntityUid}
+use Rattle.policy_tokens.specs.declared.token.Kind.{Kind}
+use Rattle.policy_tokens.specs.declared.token.Kind.TheVariants as k
+use Rattle.policy_tokens.specs.declared.token.Token.{Token}
+use Rattle.policy_tokens.specs.Lexing.{spelling_of}
+use Rattle.policy_tokens.specs.Strings.{IsStringOf}
+use Rattle.policy_syntax.specs.declared.tree.PathTree.{PathTree}
+use Rattle.policy_syntax.specs.declared.tree.UidTree.{UidTree}
+use Rattle.policy_syntax.specs.declared.tree.Annotation.{Annotation}
+use Rattle.policy_syntax.specs.declared.tree.PartTree.{PartTree}
+use Rattle.policy_syntax.specs.declared.tree.PartTree.TheVariants as part
+use Rattle.policy_syntax.specs.declared.tree.ActionTree.{ActionTree}
+use Rattle.policy_syntax.specs.declared.tree.ActionTree.TheVariants as action
+use Rattle.policy_syntax.specs.declared.tree.PolicyTree.{PolicyTree}
+use Rattle.policy_grammar.specs.declared.policy.Effect.{Effect}
+use Rattle.policy_grammar.specs.declared.policy.Effect.TheVariants.{Permit, Forbid}
+use Rattle.policy_grammar.specs.declared.policy.EntityScope.{EntityScope}
+use Rattle.policy_grammar.specs.declared.policy.EntityScope.TheVariants as entity
+use Rattle.policy_grammar.specs.declared.policy.ActionScope.{ActionScope}
+use Rattle.policy_grammar.specs.declared.policy.ActionScope.TheVariants as actions
+use Rattle.policy_grammar.specs.declared.policy.Policy.{Policy}
+
+-- the name that a Path is: its words with `::` between each two, without blanks and comments
+abbrev pub path_name : List ℕ → PathTree → List ℕ
+path_name text path = joined_path (spelling_of text path.first) (map (spelling_of text) path.more)
+
+-- A uid is its type's name and its string's value.
+pub record IsUidOf (text : List ℕ) (tree : UidTree) (uid : EntityUid) : Type 0 where
+  pub type_name : uid.type_name ≡ path_name text tree.path
+  pub id : IsStringOf uid.id (spelling_of text tree.id)
+
+abbrev pub AreUidsOf : List ℕ → List UidTree → List EntityUid → Type 0
+AreUidsOf text = AllZip (IsUidOf text)
+
+-- what a scope asks of the principal or of the resource
+abbrev pub IsEntityScopeOf : List ℕ → PartTree → EntityScope → Type 0
+IsEntityScopeOf text part.Any entity.Any = Unit {0}
+IsEntityScopeOf text (part.Equal tree) (entity.Equal uid) = IsUidOf text tree uid
+IsEntityScopeOf text (part.In tree) (entity.In uid) = IsUidOf text tree uid
+IsEntityScopeOf text (part.Is path) (entity.Is name) = name ≡ path_name text path
+IsEntityScopeOf text (part.IsIn path tree) (entity.IsIn name uid) = (name ≡ path_name text path) × IsUidOf text tree uid
+IsEntityScopeOf text _ _ = ⊥
+
+-- what a scope asks of the action
+abbrev pub IsActionScopeOf : List ℕ → ActionTree → ActionScope → Type 0
+IsActionScopeOf text action.Any actions.Any = Unit {0}
+IsActionScopeOf text (action.Equal tree) (actions.Equal uid) = IsUidOf text tree uid
+IsActionScopeOf text (action.In tree) (actions.In uid) = IsUidOf text tree uid
+IsActionScopeOf text (action.InList trees) (actions.InList uids) = AreUidsOf text trees uids
+IsActionScopeOf text _ _ = ⊥
+
+-- the word that says an effect
+abbrev pub effect_word : Effect → Kind
+effect_word Permit = k.Permit
+effect_word Forbid = k.Forbid
+
+-- Annotations take no part in what a policy means.
+pub record IsCoreOf (text : List ℕ) (tree : PolicyTree) (policy : Policy) : Type 0 where
+  pub effect : tree.effect.kind ≡ effect_word policy.effect
+  pub principal : IsEntityScopeOf text tree.principal policy.scope.principal
+  pub action : IsActionScopeOf text tree.action policy.scope.action
+  pub resource : IsEntityScopeOf text tree.resource policy.scope.resource
+
+-- An annotation with no value, without parentheses or with empty ones, has the empty text.
+abbrev pub IsValueOf : List ℕ → Option Token → List ℕ → Type 0
+IsValueOf text None value = value ≡ []
+IsValueOf text (Some token) value = IsStringOf value (spelling_of text token)
+
+abbrev pub is_id : List ℕ → Annotation → Bool
+is_id text annotation = bytes_eq (spelling_of text annotation.key) (codes "id")
+
+-- The first `@id` names a policy; one that has none is called `policy` with its place in the file, counted from 0.
+abbrev pub IsNameBy : List ℕ → ℕ → Option Annotation → List ℕ → Type 0
+IsNameBy text place None name = name ≡ codes "policy" ++ decimal place
+IsNameBy text place (Some annotation) name = IsValueOf text annotation.value name
+
+abbrev pub IsNameOf : List ℕ → ℕ → PolicyTree → List ℕ → Type 0
+IsNameOf text place tree name = IsNameBy text place (find (is_id text) tree.annotations) name
+
+-- the policies of a file, and the names of those
+abbrev pub AreCoresOf : List ℕ → List PolicyTree → List Policy → Type 0
+AreCoresOf text = AllZip (IsCoreOf text)
+
+abbrev pub AreNamesOf : List ℕ → List PolicyTree → List (List ℕ) → Type 0
+AreNamesOf text trees = AllZip (λ placed. IsNameOf text placed.0 placed.1) (enumerate_from 0 trees)

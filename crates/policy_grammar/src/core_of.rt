@@ -1,0 +1,138 @@
+//! The pass from a syntax tree to what it stands for.
+ghost use Rattle.std.specs.Prelude.{◌≡◌, ◌∷◌, true, IfOk, length, map};
+ghost use Rattle.std.specs.Option.{option_copied};
+ghost use Rattle.std.specs.List.{AllByRecursion, find};
+ghost use Rattle.plain.specs.Words.{AreIdents};
+ghost use Rattle.policy_tokens.specs.Lexing.{spelling_of};
+ghost use Rattle.policy_syntax.specs.Grammar.{effects};
+ghost use Rattle.policy_syntax.specs.Stands.{PathStands, UidStands, ValueStands, PartStands, ActionStands, PolicyStands, AnnotationStands};
+ghost use Rattle.policy_grammar.specs.CoreOf.{path_name, IsUidOf, AreUidsOf, IsEntityScopeOf, IsActionScopeOf, effect_word, IsCoreOf, IsValueOf, is_id, IsNameOf, AreNamesOf, AreCoresOf};
+ghost use Rattle.policy_grammar.specs.Standing.{StandsIn};
+
+use crate::policy::{ActionScope, Effect, EntityScope, Policy, Scope};
+use plain::{Items, NoMemory, Text};
+use policy_syntax::{ActionTree, Annotation, PartTree, PathTree, PolicyTree, UidTree};
+use policy_tokens::{Kind, Token, decode_string, spelling};
+use std::alloc::Global;
+use values::{EntityUid, TypeName};
+
+/// The words of a path.
+fn words_of<'a>(alloc: Global, text: &'a str, path: &PathTree) -> Result<Vec<&'a str>, NoMemory>
+    requires { StandsIn text.now (λ tokens. PathStands tokens path.now) }
+    ensures words { IfOk result (λ words. map (λ w. w.now) words.items ≡ spelling_of text.entry.now path.now.first ∷ map (spelling_of text.entry.now) path.now.more) }
+    ensures idents { IfOk result (λ words. AreIdents (map (λ w. w.now) words.items)) }
+{
+    let mut words = Vec::new(alloc);
+    words.push(spelling(text, path.first))?;
+    for word in path.more.as_slice() {
+        words.push(spelling(text, *word))?;
+    }
+    Ok(words)
+}
+
+fn type_name_of(alloc: Global, text: &str, path: &PathTree) -> Result<TypeName, NoMemory>
+    requires { StandsIn text.now (λ tokens. PathStands tokens path.now) }
+    ensures { IfOk result (λ name. name ≡ path_name text.now path.now) }
+{
+    let words = words_of(alloc, text, path)?;
+    TypeName::from_words(alloc, &words)
+}
+
+pub(crate) fn uid_of(alloc: Global, text: &str, tree: &UidTree) -> Result<EntityUid, NoMemory>
+    requires { StandsIn text.now (λ tokens. UidStands tokens tree.now) }
+    ensures { IfOk result (IsUidOf text.now tree.now) }
+{
+    let type_name = type_name_of(alloc, text, &tree.path)?;
+    let id = decode_string(alloc, text, tree.id)?;
+    Ok(EntityUid { type_name, id })
+}
+
+fn uids_of(alloc: Global, text: &str, trees: &Items<UidTree>) -> Result<Items<EntityUid>, NoMemory>
+    requires { StandsIn text.now (λ tokens. AllByRecursion (UidStands tokens) trees.now) }
+    ensures { IfOk result (AreUidsOf text.now trees.now) }
+{
+    let mut uids = Vec::with_capacity(alloc, trees.len())?;
+    for tree in trees.as_slice() {
+        let uid = uid_of(alloc, text, tree)?;
+        uids.push(uid)?;
+    }
+    Ok(Items::from_vec(uids))
+}
+
+fn entity_scope_of(alloc: Global, text: &str, tree: &PartTree) -> Result<EntityScope, NoMemory>
+    requires { StandsIn text.now (λ tokens. PartStands tokens tree.now) }
+    ensures { IfOk result (IsEntityScopeOf text.now tree.now) }
+{
+    match tree {
+        PartTree::Any => Ok(EntityScope::Any),
+        PartTree::Equal(uid) => {
+            let uid = uid_of(alloc, text, uid)?;
+            Ok(EntityScope::Equal(uid))
+        }
+        PartTree::In(uid) => {
+            let uid = uid_of(alloc, text, uid)?;
+            Ok(EntityScope::In(uid))
+        }
+        PartTree::Is(path) => {
+            let name = type_name_of(alloc, text, path)?;
+            Ok(EntityScope::Is(name))
+        }
+        PartTree::IsIn(path, uid) => {
+            let name = type_name_of(alloc, text, path)?;
+            let uid = uid_of(alloc, text, uid)?;
+            Ok(EntityScope::IsIn(name, uid))
+        }
+    }
+}
+
+fn action_scope_of(alloc: Global, text: &str, tree: &ActionTree) -> Result<ActionScope, NoMemory>
+    requires { StandsIn text.now (λ tokens. ActionStands tokens tree.now) }
+    ensures { IfOk result (IsActionScopeOf text.now tree.now) }
+{
+    match tree {
+        ActionTree::Any => Ok(ActionScope::Any),
+        ActionTree::Equal(uid) => {
+            let uid = uid_of(alloc, text, uid)?;
+            Ok(ActionScope::Equal(uid))
+        }
+        ActionTree::In(uid) => {
+            let uid = uid_of(alloc, text, uid)?;
+            Ok(ActionScope::In(uid))
+        }
+        ActionTree::InList(uids) => {
+            let uids = uids_of(alloc, text, uids)?;
+            Ok(ActionScope::InList(uids))
+        }
+    }
+}
+
+/// The effect that a word says.
+fn effect_of(kind: Kind) -> Effect
+    requires { effects kind ≡ true }
+    ensures { kind ≡ effect_word result }
+{
+    match kind {
+        Kind::Permit => Effect::Permit,
+        Kind::Forbid => Effect::Forbid,
+        _ => unreachable!(),
+    }
+}
+
+/// What a tree stands for.
+pub(crate) fn core_of(alloc: Global, text: &str, tree: &PolicyTree) -> Result<Policy, NoMemory>
+    requires { StandsIn text.now (λ tokens. PolicyStands tokens tree.now) }
+    ensures { IfOk result (IsCoreOf text.now tree.now) }
+{
+    let effect = effect_of(tree.effect.kind);
+    let principal = entity_scope_of(alloc, text, &tree.principal)?;
+    let action = action_scope_of(alloc, text, &tree.action)?;
+    let resource = entity_scope_of(alloc, text, &tree.resource)?;
+    Ok(Policy {
+        effect,
+        scope: Scope {
+            principal,
+            action,
+            resource,
+        },
+    })
+}

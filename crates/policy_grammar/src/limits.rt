@@ -1,0 +1,83 @@
+//! How large a policy may be.
+ghost use Rattle.std.specs.Prelude.{◌≡◌, ◌↔◌, ◌+◌, ◌<◌, ◌^◌, IsTrue, All, length};
+ghost use Rattle.policy_grammar.specs.Limits as spec;
+ghost use Rattle.policy_grammar.specs.Limits.{IsSmall, IsId, NineFormsMore, HeadsAreLow};
+
+use plain::Text;
+use policy_syntax::{ActionTree, PartTree, PolicyTree};
+
+/// The most bytes of a policy text, or of one uid.
+pub(crate) const MOST_POLICY_BYTES: usize = 262_144;
+
+/// The most bytes of a file of policies.
+pub(crate) const MOST_FILE_BYTES: usize = 8_388_608;
+
+/// The most forms of a policy's core expression.
+const MOST_FORMS: usize = 1_000_000;
+
+/// The most bytes of a policy's id.
+const MOST_ID_BYTES: usize = 256;
+
+fn part_forms(part: &PartTree) -> usize
+    ensures is { result ≡ spec.forms (spec.part_shape part.now) }
+    ensures few { result < 7 }
+{
+    match part {
+        PartTree::Any => 1,
+        PartTree::Equal(_) | PartTree::In(_) => 3,
+        PartTree::Is(_) => 2,
+        PartTree::IsIn(_, _) => 6,
+    }
+}
+
+fn action_forms(action: &ActionTree) -> usize
+    ensures is { result ≡ spec.forms (spec.action_shape action.now) }
+    ensures fits { result < 2 ^ 63 }
+{
+    match action {
+        ActionTree::Any => 1,
+        ActionTree::Equal(_) | ActionTree::In(_) => 3,
+        ActionTree::InList(uids) => match uids.as_slice() {
+            [] => 1,
+            listed => listed.len() + 3,
+        },
+    }
+}
+
+/// Whether a policy's core expression is low enough and has few enough forms.
+// That no head is too high is a law; conditions are to be measured here.
+pub(crate) fn is_small(tree: &PolicyTree) -> bool
+    ensures { IsTrue result ↔ IsSmall tree.now }
+{
+    let forms = part_forms(&tree.principal)
+        + action_forms(&tree.action)
+        + part_forms(&tree.resource)
+        + 4;
+    forms <= MOST_FORMS
+}
+
+/// Whether a policy may have this name in a file.
+pub(crate) fn is_id(name: &Text) -> bool
+    ensures { IsTrue result ↔ IsId name.now }
+{
+    let len = name.len();
+    1 <= len && len <= MOST_ID_BYTES
+}
+
+pub(crate) fn are_small(trees: &[PolicyTree]) -> bool
+    ensures { IsTrue result ↔ All IsSmall trees.now }
+{
+    trees.iter().all(|tree| is_small(tree))
+}
+
+pub(crate) fn are_ids(names: &[Text]) -> bool
+    ensures { IsTrue result ↔ All IsId names.now }
+{
+    names.iter().all(|name| is_id(name))
+}
+
+/// That sizes are counted as the language's rewriting says: it does nothing, and its clauses are laws of the definitions.
+pub fn heads_are_small()
+    ensures list { NineFormsMore }
+    ensures low { HeadsAreLow }
+{}

@@ -1,0 +1,92 @@
+//! The names of the policies in a file.
+ghost use Rattle.std.specs.Prelude.{◌≡◌, IfOk, IfSome, find, length, map, string_bytes};
+ghost use Rattle.std.specs.Option.{option_copied};
+ghost use Rattle.std.specs.List.{AllByRecursion};
+ghost use Rattle.policy_syntax.specs.Stands.{PolicyStands, AnnotationStands};
+ghost use Rattle.policy_grammar.specs.CoreOf.{IsValueOf, is_id, IsNameOf, AreNamesOf, AreCoresOf};
+ghost use Rattle.policy_grammar.specs.Standing.{StandsIn};
+
+use crate::core_of::core_of;
+use crate::policy::Policy;
+use plain::{NoMemory, Text};
+use policy_syntax::{Annotation, PolicyTree};
+use policy_tokens::{decode_string, spelling};
+use std::alloc::Global;
+use std::collections::VecDeque;
+
+/// The first annotation with the key `id`.
+fn id_of<'a>(text: &str, annotations: &'a [Annotation]) -> Option<&'a Annotation>
+    requires { StandsIn text.now (λ tokens. AllByRecursion (AnnotationStands tokens) annotations.now) }
+    ensures found { option_copied result ≡ find (is_id text.now) annotations.entry.now }
+    ensures stands { IfSome result (λ id. StandsIn text.now (λ tokens. AnnotationStands tokens id.now)) }
+{
+    for annotation in annotations {
+        if spelling(text, annotation.key) == "id" {
+            return Some(annotation);
+        }
+    }
+    None
+}
+
+/// The text that an annotation has.
+fn value_of(alloc: Global, text: &str, annotation: &Annotation) -> Result<Text, NoMemory>
+    requires { StandsIn text.now (λ tokens. AnnotationStands tokens annotation.now) }
+    ensures { IfOk result (IsValueOf text.now annotation.now.value) }
+{
+    match annotation.value {
+        Some(token) => decode_string(alloc, text, token),
+        None => Ok(Text::from_string(String::new(alloc))),
+    }
+}
+
+/// The name of the policy at this place of its file.
+fn name_of(alloc: Global, text: &str, place: usize, tree: &PolicyTree) -> Result<Text, NoMemory>
+    requires { StandsIn text.now (λ tokens. PolicyStands tokens tree.now) }
+    ensures { IfOk result (IsNameOf text.now place tree.now) }
+{
+    match id_of(text, tree.annotations.as_slice()) {
+        Some(id) => value_of(alloc, text, id),
+        None => Ok(Text::from_string(format!(in alloc; "policy{place}")?)),
+    }
+}
+
+/// The names of a file's policies.
+pub(crate) fn names_of(
+    alloc: Global,
+    text: &str,
+    trees: &[PolicyTree],
+) -> Result<Vec<Text>, NoMemory>
+    requires { StandsIn text.now (λ tokens. AllByRecursion (PolicyStands tokens) trees.now) }
+    ensures { IfOk result (λ names. AreNamesOf text.now trees.now names.items) }
+{
+    let mut names = Vec::with_capacity(alloc, trees.len())?;
+    for (place, tree) in trees.iter().enumerate() {
+        let name = name_of(alloc, text, place, tree)?;
+        names.push(name)?;
+    }
+    Ok(names)
+}
+
+/// The policies that a file's trees stand for, each with its name.
+pub(crate) fn named_of(
+    alloc: Global,
+    text: &str,
+    names: Vec<Text>,
+    trees: &[PolicyTree],
+) -> Result<Vec<(String, Policy)>, NoMemory>
+    requires same { length names.items ≡ length trees.now }
+    requires stands { StandsIn text.now (λ tokens. AllByRecursion (PolicyStands tokens) trees.now) }
+    ensures names { IfOk result (λ named. map (λ p. string_bytes p.0) named.items ≡ names.items) }
+    ensures cores { IfOk result (λ named. AreCoresOf text.now trees.now (map (λ p. p.1) named.items)) }
+{
+    let mut named = Vec::with_capacity(alloc, trees.len())?;
+    let mut rest = VecDeque::from_vec(names);
+    for tree in trees {
+        let policy = core_of(alloc, text, tree)?;
+        let Some(name) = rest.pop_front() else {
+            unreachable!();
+        };
+        named.push((name.into_string(), policy))?;
+    }
+    Ok(named)
+}

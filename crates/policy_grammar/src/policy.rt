@@ -1,0 +1,54 @@
+//! Policies, as the layers above see them.
+
+use plain::Items;
+use values::{EntityUid, TypeName};
+
+/// What a policy does for a request that it is satisfied by.
+#[derive(Clone, Copy, Debug, PartialEq, Eq)]
+pub enum Effect {
+    Permit,
+    Forbid,
+}
+
+/// What a policy's head asks of the principal, or of the resource.
+#[derive(Debug, Drop)]
+pub enum EntityScope {
+    /// Nothing.
+    Any,
+    /// To be this entity.
+    Equal(EntityUid),
+    /// To be this entity, or below it.
+    In(EntityUid),
+    /// To be of this type.
+    Is(TypeName),
+    /// To be of this type, and this entity or below it.
+    IsIn(TypeName, EntityUid),
+}
+
+/// What a policy's head asks of the action.
+#[derive(Debug, Drop)]
+pub enum ActionScope {
+    /// Nothing.
+    Any,
+    /// To be this action.
+    Equal(EntityUid),
+    /// To be this action, or below it.
+    In(EntityUid),
+    /// To be one of these actions, or below one of them. No request meets the empty list.
+    InList(Items<EntityUid>),
+}
+
+/// What a policy's head asks of a request: all three.
+#[derive(Debug, Drop)]
+pub struct Scope {
+    pub principal: EntityScope,
+    pub action: ActionScope,
+    pub resource: EntityScope,
+}
+
+/// A policy: what it does, and what it asks of a request.
+#[derive(Debug, Drop)]
+pub struct Policy {
+    pub effect: Effect,
+    pub scope: Scope,
+}

@@ -1,0 +1,113 @@
+//! Which key or name stands a second time, and where first.
+ghost use Rattle.std.specs.Prelude.{◌≡◌, IfOk, length};
+ghost use Rattle.std.specs.List.{AllByRecursion};
+ghost use Rattle.policy_syntax.specs.Stands.{PolicyStands};
+ghost use Rattle.policy_grammar.specs.Repeats.{StandsAgain, RepeatsInFile, annotation_marks, policy_marks, start_of, TellsLeast};
+ghost use Rattle.policy_grammar.specs.Standing.{StandsIn, bare, earlier_of};
+
+use plain::{NoMemory, Text};
+use policy_syntax::PolicyTree;
+use policy_tokens::spelling;
+use std::alloc::Global;
+use std::collections::BTreeSet;
+
+/// A key or a name, and the byte at which it is said to stand.
+#[derive(Clone, Copy)]
+pub(crate) struct Mark<'a> {
+    pub(crate) name: &'a str,
+    pub(crate) at: usize,
+}
+
+/// The lesser place, where there is one.
+fn earlier(a: Option<usize>, b: Option<usize>) -> Option<usize>
+    ensures { result ≡ earlier_of a b }
+{
+    match (a, b) {
+        (Some(first), Some(second)) => Some(first.min(second)),
+        (None, other) => other,
+        (one, None) => one,
+    }
+}
+
+/// The least place at which a name stands again.
+pub(crate) fn least_repeat(alloc: Global, marks: &[Mark<'_>]) -> Result<Option<usize>, NoMemory>
+    ensures { IfOk result (TellsLeast (StandsAgain (bare marks.now))) }
+{
+    let mut seen = BTreeSet::new(alloc);
+    let mut least = None;
+    for mark in marks {
+        if !seen.insert(mark.name)? {
+            least = earlier(least, Some(mark.at));
+        }
+    }
+    Ok(least)
+}
+
+/// The annotations of a policy, each at its `@`.
+pub(crate) fn marks_of_annotations<'a>(
+    alloc: Global,
+    text: &'a str,
+    tree: &PolicyTree,
+) -> Result<Vec<Mark<'a>>, NoMemory>
+    requires { StandsIn text.now (λ tokens. PolicyStands tokens tree.now) }
+    ensures { IfOk result (λ marks. bare marks.items ≡ annotation_marks text.entry.now tree.now) }
+{
+    let mut marks = Vec::new(alloc);
+    for annotation in tree.annotations.as_slice() {
+        marks.push(Mark {
+            name: spelling(text, annotation.key),
+            at: annotation.at.start,
+        })?;
+    }
+    Ok(marks)
+}
+
+/// Where the first token of a policy stands.
+fn start(tree: &PolicyTree) -> usize
+    ensures { result ≡ start_of tree.now }
+{
+    match tree.annotations.as_slice() {
+        [first, ..] => first.at.start,
+        [] => tree.effect.start,
+    }
+}
+
+/// The policies of a file, each by its name at its first token.
+fn marks_of_policies<'a>(
+    alloc: Global,
+    names: &'a [Text],
+    trees: &[PolicyTree],
+) -> Result<Vec<Mark<'a>>, NoMemory>
+    requires { length names.now ≡ length trees.now }
+    ensures { IfOk result (λ marks. bare marks.items ≡ policy_marks names.entry.now trees.now) }
+{
+    let mut marks = Vec::new(alloc);
+    for (i, tree) in trees.iter().enumerate() {
+        marks.push(Mark {
+            name: names[i].as_str(),
+            at: start(tree),
+        })?;
+    }
+    Ok(marks)
+}
+
+/// The least place at which an annotation stands again in its policy, or a policy's name in the file.
+pub(crate) fn least_repeat_in_file(
+    alloc: Global,
+    text: &str,
+    names: &[Text],
+    trees: &[PolicyTree],
+) -> Result<Option<usize>, NoMemory>
+    requires same { length names.now ≡ length trees.now }
+    requires stands { StandsIn text.now (λ tokens. AllByRecursion (PolicyStands tokens) trees.now) }
+    ensures { IfOk result (TellsLeast (RepeatsInFile text.now trees.now names.now)) }
+{
+    let marks = marks_of_policies(alloc, names, trees)?;
+    let mut least = least_repeat(alloc, &marks)?;
+    for tree in trees {
+        let marks = marks_of_annotations(alloc, text, tree)?;
+        let again = least_repeat(alloc, &marks)?;
+        least = earlier(least, again);
+    }
+    Ok(least)
+}

@@ -1,0 +1,167 @@
+//! Whole texts: a uid, a policy, a file of policies.
+ghost use Rattle.std.specs.Prelude.{◌≡◌, IfOk, IfErr, map, string_bytes, slice_get};
+ghost use Rattle.std.specs.List.{AllByRecursion};
+ghost use Rattle.policy_syntax.specs.Grammar as grammar;
+ghost use Rattle.policy_syntax.specs.Stands.{PolicyStands, UidStands};
+ghost use Rattle.policy_grammar.specs.CoreOf.{AreNamesOf};
+ghost use Rattle.policy_grammar.specs.Limits.{most_policy_bytes, most_file_bytes};
+ghost use Rattle.policy_grammar.specs.PolicyText.{Derives, IsUidText, IsPolicyOf, HasNoPolicy, ArePoliciesOf, HaveNoPolicies, IsPolicyText, IsPolicyFile, IsUnread, IsUidRefused, IsPolicyRefused, IsFileRefused, byte_of};
+ghost use Rattle.policy_grammar.specs.Standing.{StandsIn, LexedIn, IsUnlexed, OrNoMemory, refusal_of};
+
+use crate::core_of::{core_of, uid_of};
+use crate::fault::ReadFault;
+use crate::limits::{MOST_FILE_BYTES, MOST_POLICY_BYTES, are_ids, are_small, is_small};
+use crate::names::{named_of, names_of};
+use crate::policy::Policy;
+use crate::repeats::{least_repeat, least_repeat_in_file, marks_of_annotations};
+use plain::{NoMemory, Text};
+use policy_syntax::{PolicyTree, SyntaxFault, UidTree, read_policies, read_policy, read_uid};
+use policy_tokens::{Token, tokens};
+use std::alloc::Global;
+use values::EntityUid;
+
+/// The tokens of a text that is not too long.
+fn tokens_of(alloc: Global, text: &str, most: usize) -> Result<Vec<Token>, ReadFault>
+    ensures ok { IfOk result (λ tokens. LexedIn most text.now tokens.items) }
+    ensures err { IfErr result (IsUnlexed most text.now) }
+{
+    if text.len() > most {
+        return Err(ReadFault::TooLong);
+    }
+    let found = tokens(alloc, text)?;
+    Ok(found)
+}
+
+/// The byte at which the token at an index starts, or the text's length behind the last.
+fn byte(text: &str, tokens: &[Token], place: usize) -> usize
+    ensures { result ≡ byte_of text.now (slice_get tokens.now place) }
+{
+    match tokens.get(place) {
+        Some(token) => token.start,
+        None => text.len(),
+    }
+}
+
+/// The refusal of tokens as one of their text.
+fn refusal(text: &str, tokens: &[Token], fault: SyntaxFault) -> ReadFault
+    ensures { result ≡ refusal_of text.now tokens.now fault }
+{
+    match fault {
+        SyntaxFault::NoMemory => ReadFault::NoMemory,
+        SyntaxFault::Unexpected(place) => ReadFault::Unexpected(byte(text, tokens, place)),
+        SyntaxFault::Slot(place) => ReadFault::Slot(byte(text, tokens, place)),
+    }
+}
+
+fn uid_tree(alloc: Global, text: &str) -> Result<UidTree, ReadFault>
+    ensures derives { IfOk result (Derives grammar.uid most_policy_bytes text.now) }
+    ensures stands { IfOk result (λ tree. StandsIn text.now (λ tokens. UidStands tokens tree)) }
+    ensures err { IfErr result (IsUnread grammar.uid most_policy_bytes text.now) }
+{
+    let tokens = tokens_of(alloc, text, MOST_POLICY_BYTES)?;
+    match read_uid(alloc, &tokens) {
+        Ok(tree) => Ok(tree),
+        Err(fault) => Err(refusal(text, &tokens, fault)),
+    }
+}
+
+fn policy_tree(alloc: Global, text: &str) -> Result<PolicyTree, ReadFault>
+    ensures derives { IfOk result (Derives grammar.policy most_policy_bytes text.now) }
+    ensures stands { IfOk result (λ tree. StandsIn text.now (λ tokens. PolicyStands tokens tree)) }
+    ensures err { IfErr result (IsUnread grammar.policy most_policy_bytes text.now) }
+{
+    let tokens = tokens_of(alloc, text, MOST_POLICY_BYTES)?;
+    match read_policy(alloc, &tokens) {
+        Ok(tree) => Ok(tree),
+        Err(fault) => Err(refusal(text, &tokens, fault)),
+    }
+}
+
+fn policy_trees(alloc: Global, text: &str) -> Result<Vec<PolicyTree>, ReadFault>
+    ensures derives { IfOk result (λ trees. Derives grammar.policies most_file_bytes text.now trees.items) }
+    ensures stands { IfOk result (λ trees. StandsIn text.now (λ tokens. AllByRecursion (PolicyStands tokens) trees.items)) }
+    ensures err { IfErr result (IsUnread grammar.policies most_file_bytes text.now) }
+{
+    let tokens = tokens_of(alloc, text, MOST_FILE_BYTES)?;
+    match read_policies(alloc, &tokens) {
+        Ok(trees) => Ok(trees),
+        Err(fault) => Err(refusal(text, &tokens, fault)),
+    }
+}
+
+/// The uid that a text is, as `User::"alice"`; blanks and comments may stand between its tokens.
+///
+/// A text has at most 262,144 bytes. Refused, as every text here: `TooLong` first; then `BadToken` over the whole text; then `Unexpected` or `Slot`,
+/// the first met from the left.
+pub fn parse_uid(alloc: Global, text: &str) -> Result<EntityUid, ReadFault>
+    ensures read { IfOk result (IsUidText text.now) }
+    ensures refused { IfErr result (IsUidRefused text.now) }
+{
+    let tree = uid_tree(alloc, text)?;
+    Ok(uid_of(alloc, text, &tree)?)
+}
+
+/// The policy that a tree stands for, within the limits.
+fn policy_of(alloc: Global, text: &str, tree: &PolicyTree) -> Result<Policy, ReadFault>
+    requires { StandsIn text.now (λ tokens. PolicyStands tokens tree.now) }
+    ensures read { IfOk result (IsPolicyOf text.now tree.now) }
+    ensures refused { IfErr result (OrNoMemory (HasNoPolicy text.now tree.now)) }
+{
+    let marks = marks_of_annotations(alloc, text, tree)?;
+    if let Some(at) = least_repeat(alloc, &marks)? {
+        return Err(ReadFault::RepeatedKey(at));
+    }
+    if !is_small(tree) {
+        return Err(ReadFault::TooDeep(0));
+    }
+    Ok(core_of(alloc, text, tree)?)
+}
+
+/// The policy that a text is. Its annotations are not kept, and an `@id` is not judged.
+///
+/// A text has at most 262,144 bytes. Refused: `TooLong` first; then `BadToken` over the whole text; then `Unexpected` or `Slot`, the first met
+/// from the left; then `RepeatedKey`, the least place first; then `TooDeep`.
+pub fn parse_policy(alloc: Global, text: &str) -> Result<Policy, ReadFault>
+    ensures read { IfOk result (IsPolicyText text.now) }
+    ensures refused { IfErr result (IsPolicyRefused text.now) }
+{
+    let tree = policy_tree(alloc, text)?;
+    policy_of(alloc, text, &tree)
+}
+
+/// The policies that a file's trees stand for, each with its name, within the limits.
+fn policies_of(
+    alloc: Global,
+    text: &str,
+    trees: &[PolicyTree],
+    names: Vec<Text>,
+) -> Result<Vec<(String, Policy)>, ReadFault>
+    requires named { AreNamesOf text.now trees.now names.items }
+    requires stands { StandsIn text.now (λ tokens. AllByRecursion (PolicyStands tokens) trees.now) }
+    ensures read { IfOk result (λ named. ArePoliciesOf text.now trees.now (map (λ p. string_bytes p.0) named.items) (map (λ p. p.1) named.items)) }
+    ensures refused { IfErr result (OrNoMemory (HaveNoPolicies text.now trees.now names.items)) }
+{
+    if let Some(at) = least_repeat_in_file(alloc, text, &names, trees)? {
+        return Err(ReadFault::RepeatedKey(at));
+    }
+    if !are_small(trees) {
+        return Err(ReadFault::TooDeep(0));
+    }
+    if !are_ids(&names) {
+        return Err(ReadFault::BadId);
+    }
+    Ok(named_of(alloc, text, names, trees)?)
+}
+
+/// The policies of a file, each with its name: the value of its first `@id`, else `policyN` by its place in the file, counted from 0.
+///
+/// A file has at most 8,388,608 bytes. Refused: `TooLong` first; then `BadToken` over the whole text; then `Unexpected` or `Slot`, the first met
+/// from the left; then `RepeatedKey`, the least place first; then `TooDeep`; then `BadId`.
+pub fn parse_policies(alloc: Global, text: &str) -> Result<Vec<(String, Policy)>, ReadFault>
+    ensures read { IfOk result (λ named. IsPolicyFile text.now (map (λ p. string_bytes p.0) named.items) (map (λ p. p.1) named.items)) }
+    ensures refused { IfErr result (IsFileRefused text.now) }
+{
+    let trees = policy_trees(alloc, text)?;
+    let names = names_of(alloc, text, &trees)?;
+    policies_of(alloc, text, &trees, names)
+}

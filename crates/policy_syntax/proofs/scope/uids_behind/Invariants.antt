@@ -1,0 +1,11 @@
+use Rattle.std.proofs.Common.{◌≡◌, ◌-◌}
+use Rattle.policy_syntax.specs.Kinds.{only}
+use Rattle.policy_syntax.specs.Parsing as spec
+use Rattle.policy_tokens.specs.declared.token.Kind.TheVariants as k
+use Rattle.policy_syntax.proofs.Gathered.{gathered, filled}
+use Rattle.policy_syntax.proofs.LoopEnds.{itself}
+use Rattle.policy_syntax.proofs.scope.uids_behind.Given as goal
+
+abbrev pub invariant-loop-turn : goal.invariant-loop-turn
+invariant-loop-turn l = spec.uids_behind l.fn.first l.fn.tokens.rest.now
+    ≡ gathered (only k.Comma) spec.comma_uid (l._turn-end - l._turn) (filled itself l.found) l.tokens.rest.now

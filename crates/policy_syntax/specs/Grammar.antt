@@ -1,0 +1,160 @@
+-- The grammar of policies, over tokens: which trees a list of tokens derives. One definition for each production.
+-- Source: Cedar reference guide 4.0, "Grammar specification for Cedar policy syntax". Rules of this product: `__cedar` is reserved too,
+-- and so is no Ident; an annotation's value may be missing, with its parentheses or between them.
+use Rattle.std.specs.Prelude.{true, false, List, [], ◌∷◌, Option, Some, None}
+use Rattle.policy_tokens.specs.declared.token.Kind.{Kind}
+use Rattle.policy_tokens.specs.declared.token.Kind.TheVariants as k
+use Rattle.policy_tokens.specs.declared.token.Token.{Token}
+use Rattle.policy_syntax.specs.declared.tree.PathTree.{PathTree}
+use Rattle.policy_syntax.specs.declared.tree.UidTree.{UidTree}
+use Rattle.policy_syntax.specs.declared.tree.Annotation.{Annotation}
+use Rattle.policy_syntax.specs.declared.tree.PartTree.{PartTree}
+use Rattle.policy_syntax.specs.declared.tree.PartTree.TheVariants as part
+use Rattle.policy_syntax.specs.declared.tree.ActionTree.{ActionTree}
+use Rattle.policy_syntax.specs.declared.tree.ActionTree.TheVariants as action
+use Rattle.policy_syntax.specs.declared.tree.ScopeTree.{ScopeTree}
+use Rattle.policy_syntax.specs.declared.tree.PolicyTree.{PolicyTree}
+use Rattle.policy_syntax.specs.Kinds.{Kinds}
+use Rattle.policy_syntax.specs.Lang.{Lang, of, one, empty, ◌>>=◌, ◌>>◌, ◌giving◌, ◌or◌, optional, many}
+
+-- Ident: a word that isn't reserved
+abbrev pub identifiers : Kinds
+identifiers k.Ident = true
+identifiers k.Permit = true
+identifiers k.Forbid = true
+identifiers k.When = true
+identifiers k.Unless = true
+identifiers k.Principal = true
+identifiers k.Action = true
+identifiers k.Resource = true
+identifiers k.Context = true
+identifiers _ = false
+
+-- Ident | Reserved
+abbrev pub words : Kinds
+words k.True = true
+words k.False = true
+words k.If = true
+words k.Then = true
+words k.Else = true
+words k.In = true
+words k.Is = true
+words k.Like = true
+words k.Has = true
+words k.Cedar = true
+words kind = identifiers kind
+
+-- Effect = "permit" | "forbid"
+abbrev pub effects : Kinds
+effects k.Permit = true
+effects k.Forbid = true
+effects _ = false
+
+-- Path = Ident { "::" Ident }
+abbrev pub path : Lang PathTree
+path = do
+  first ← of identifiers
+  more ← many (one k.Colons >> of identifiers)
+  empty (record { first = first; more = more })
+
+-- Uid = Path "::" String
+abbrev pub uid : Lang UidTree
+uid = do
+  type_name ← path
+  one k.Colons
+  id ← one k.Text
+  empty (record { path = type_name; id = id })
+
+-- "(" [ String ] ")"
+abbrev pub annotation_value : Lang (Option Token)
+annotation_value = do
+  one k.LParen
+  text ← optional (one k.Text)
+  one k.RParen
+  empty text
+
+-- Annotation = "@" (Ident | Reserved) [ "(" [ String ] ")" ]
+abbrev pub annotation : Lang Annotation
+annotation = do
+  at ← one k.At
+  key ← of words
+  value ← annotation_value or empty None
+  empty (record { at = at; key = key; value = value })
+
+-- "==" Uid
+abbrev pub equal_uid : Lang UidTree
+equal_uid = one k.Equal >> uid
+
+-- "in" Uid
+abbrev pub in_uid : Lang UidTree
+in_uid = one k.In >> uid
+
+-- "is" Path [ "in" Uid ]
+abbrev pub is_in : PathTree → Option UidTree → PartTree
+is_in type_name None = part.Is type_name
+is_in type_name (Some entity) = part.IsIn type_name entity
+
+abbrev pub of_type : Lang PartTree
+of_type = do
+  one k.Is
+  type_name ← path
+  entity ← optional in_uid
+  empty (is_in type_name entity)
+
+-- [ "==" Uid | "in" Uid | "is" Path [ "in" Uid ] ]
+abbrev pub entity_constraint : Lang PartTree
+entity_constraint = (equal_uid giving part.Equal) or (in_uid giving part.In) or of_type or empty part.Any
+
+-- Principal is the word "principal" and a constraint, and Resource the word "resource" and a constraint.
+abbrev pub entity_part : Kind → Lang PartTree
+entity_part variable = one variable >> entity_constraint
+
+-- [ Uid { "," Uid } ]
+abbrev pub uids : Lang (List UidTree)
+uids = (do first ← uid; more ← many (one k.Comma >> uid); empty (first ∷ more)) or empty []
+
+-- "[" [ Uid { "," Uid } ] "]"
+abbrev pub uid_list : Lang ActionTree
+uid_list = do
+  one k.LBracket
+  found ← uids
+  one k.RBracket
+  empty (action.InList found)
+
+-- "in" ( "[" [ Uid { "," Uid } ] "]" | Uid )
+abbrev pub in_actions : Lang ActionTree
+in_actions = one k.In >> (uid_list or (uid giving action.In))
+
+-- [ "==" Uid | "in" Uid | "in" "[" [ Uid { "," Uid } ] "]" ]
+abbrev pub action_constraint : Lang ActionTree
+action_constraint = (equal_uid giving action.Equal) or in_actions or empty action.Any
+
+-- Action = "action" and its constraint
+abbrev pub action_part : Lang ActionTree
+action_part = one k.Action >> action_constraint
+
+-- Scope = Principal "," Action "," Resource
+abbrev pub scope : Lang ScopeTree
+scope = do
+  principal ← entity_part k.Principal
+  one k.Comma
+  action ← action_part
+  one k.Comma
+  resource ← entity_part k.Resource
+  empty (record { principal = principal; action = action; resource = resource })
+
+-- Policy = { Annotation } Effect "(" Scope ")" { Condition } ";"
+-- Conditions, and with them expressions by the levels of nesting that they may still open, come in behind the ")".
+abbrev pub policy : Lang PolicyTree
+policy = do
+  annotations ← many annotation
+  effect ← of effects
+  one k.LParen
+  found ← scope
+  one k.RParen
+  one k.Semicolon
+  empty (record { annotations = annotations; effect = effect; principal = found.principal; action = found.action; resource = found.resource })
+
+-- a file: any number of policies
+abbrev pub policies : Lang (List PolicyTree)
+policies = many policy

@@ -1,0 +1,184 @@
+-- How the grammar is read, from the left, by the next token.
+use Rattle.std.specs.Prelude.{Bool, true, false, List, [], ◌∷◌, Option, None}
+use Rattle.policy_tokens.specs.declared.token.Kind.{Kind}
+use Rattle.policy_tokens.specs.declared.token.Kind.TheVariants as k
+use Rattle.policy_tokens.specs.declared.token.Token.{Token}
+use Rattle.policy_syntax.specs.declared.tree.PathTree.{PathTree}
+use Rattle.policy_syntax.specs.declared.tree.UidTree.{UidTree}
+use Rattle.policy_syntax.specs.declared.tree.Annotation.{Annotation}
+use Rattle.policy_syntax.specs.declared.tree.PartTree.{PartTree}
+use Rattle.policy_syntax.specs.declared.tree.PartTree.TheVariants as part
+use Rattle.policy_syntax.specs.declared.tree.ActionTree.{ActionTree}
+use Rattle.policy_syntax.specs.declared.tree.ActionTree.TheVariants as action
+use Rattle.policy_syntax.specs.declared.tree.ScopeTree.{ScopeTree}
+use Rattle.policy_syntax.specs.declared.tree.PolicyTree.{PolicyTree}
+use Rattle.policy_syntax.specs.Kinds.{Kinds, only, same_kind}
+use Rattle.policy_syntax.specs.Reading.{Parser, take, token, pure, refuse, ◌>>=◌, ◌>>◌, either, optional, many, loop}
+use Rattle.policy_syntax.specs.Grammar.{identifiers, words, effects, is_in}
+
+-- ---- names
+
+unfoldable pub path_word : Parser Token
+path_word = token k.Colons >> take identifiers
+
+unfoldable pub path_behind : Token → Parser PathTree
+path_behind first = many (only k.Colons) path_word >>= (λ more. pure (record { first = first; more = more }))
+
+unfoldable pub path : Parser PathTree
+path = take identifiers >>= path_behind
+
+-- A Path and the String behind it begin alike, so a Uid is read piece by piece, each behind its "::", up to a String.
+abbrev pub pieces : Kinds
+pieces k.Text = true
+pieces kind = identifiers kind
+
+abbrev pub is_text : Token → Bool
+is_text t = same_kind t.kind k.Text
+
+abbrev pub ended_by : Bool → Token → Bool
+ended_by ended t = is_text t
+
+abbrev pub goes_on : Bool → Kinds
+goes_on false = only k.Colons
+goes_on true = λ kind. false
+
+unfoldable pub piece : Parser Token
+piece = token k.Colons >> take pieces
+
+-- whether a list of pieces ends with a String, those before it having done so or not
+abbrev pub ends : Bool → List Token → Bool
+ends ended [] = ended
+ends ended (t ∷ ts) = ends (is_text t) ts
+
+-- all but the last
+abbrev pub beginning : List Token → List Token
+beginning [] = []
+beginning (t ∷ []) = []
+beginning (t ∷ (u ∷ us)) = t ∷ beginning (u ∷ us)
+
+-- the last, or else the one given
+abbrev pub last_of : Token → List Token → Token
+last_of t [] = t
+last_of t (u ∷ us) = last_of u us
+
+abbrev pub uid_of : Token → List Token → UidTree
+uid_of first ts = record { path = record { first = first; more = beginning ts }; id = last_of first ts }
+
+abbrev pub finished : Bool → Token → List Token → Parser UidTree
+finished true first ts = pure (uid_of first ts)
+finished false first ts = refuse
+
+unfoldable pub uid_behind : Token → Parser UidTree
+uid_behind first = loop ended_by goes_on (λ ended. piece) false >>= (λ ts. finished (ends false ts) first ts)
+
+unfoldable pub uid : Parser UidTree
+uid = take identifiers >>= uid_behind
+
+-- ---- annotations
+
+unfoldable pub maybe_text : Parser (Option Token)
+maybe_text = optional (only k.Text) (token k.Text)
+
+unfoldable pub annotation_value : Parser (Option Token)
+annotation_value = do
+  token k.LParen
+  text ← maybe_text
+  token k.RParen
+  pure text
+
+unfoldable pub maybe_value : Parser (Option Token)
+maybe_value = either (only k.LParen) annotation_value (pure None)
+
+unfoldable pub annotation : Parser Annotation
+annotation = do
+  at ← token k.At
+  key ← take words
+  value ← maybe_value
+  pure (record { at = at; key = key; value = value })
+
+unfoldable pub annotations : Parser (List Annotation)
+annotations = many (only k.At) annotation
+
+-- ---- scopes
+
+unfoldable pub equal_uid : Parser UidTree
+equal_uid = token k.Equal >> uid
+
+unfoldable pub in_uid : Parser UidTree
+in_uid = token k.In >> uid
+
+unfoldable pub of_type : Parser PartTree
+of_type = do
+  token k.Is
+  type_name ← path
+  entity ← optional (only k.In) in_uid
+  pure (is_in type_name entity)
+
+unfoldable pub entity_constraint : Parser PartTree
+entity_constraint =
+    either (only k.Equal) (equal_uid >>= (λ entity. pure (part.Equal entity)))
+    (either (only k.In) (in_uid >>= (λ entity. pure (part.In entity)))
+    (either (only k.Is) of_type (pure part.Any)))
+
+unfoldable pub entity_part : Kind → Parser PartTree
+entity_part variable = token variable >> entity_constraint
+
+unfoldable pub comma_uid : Parser UidTree
+comma_uid = token k.Comma >> uid
+
+unfoldable pub uids_behind : UidTree → Parser (List UidTree)
+uids_behind first = many (only k.Comma) comma_uid >>= (λ more. pure (first ∷ more))
+
+unfoldable pub uids : Parser (List UidTree)
+uids = either identifiers (uid >>= uids_behind) (pure [])
+
+unfoldable pub uid_list : Parser ActionTree
+uid_list = do
+  token k.LBracket
+  found ← uids
+  token k.RBracket
+  pure (action.InList found)
+
+unfoldable pub list_or_uid : Parser ActionTree
+list_or_uid = either (only k.LBracket) uid_list (uid >>= (λ entity. pure (action.In entity)))
+
+unfoldable pub in_actions : Parser ActionTree
+in_actions = token k.In >> list_or_uid
+
+unfoldable pub action_constraint : Parser ActionTree
+action_constraint =
+    either (only k.Equal) (equal_uid >>= (λ entity. pure (action.Equal entity)))
+    (either (only k.In) in_actions (pure action.Any))
+
+unfoldable pub action_part : Parser ActionTree
+action_part = token k.Action >> action_constraint
+
+unfoldable pub scope : Parser ScopeTree
+scope = do
+  principal ← entity_part k.Principal
+  token k.Comma
+  action ← action_part
+  token k.Comma
+  resource ← entity_part k.Resource
+  pure (record { principal = principal; action = action; resource = resource })
+
+-- ---- policies
+
+-- what a policy begins with
+abbrev pub policy_firsts : Kinds
+policy_firsts k.At = true
+policy_firsts kind = effects kind
+
+-- Conditions, and with them expressions by the levels of nesting that they may still open, come in behind the ")".
+unfoldable pub policy : Parser PolicyTree
+policy = do
+  found_annotations ← annotations
+  effect ← take effects
+  token k.LParen
+  found ← scope
+  token k.RParen
+  token k.Semicolon
+  pure (record { annotations = found_annotations; effect = effect; principal = found.principal; action = found.action; resource = found.resource })
+
+unfoldable pub policies : Parser (List PolicyTree)
+policies = many policy_firsts policy

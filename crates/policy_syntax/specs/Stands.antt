@@ -1,0 +1,52 @@
+-- What a tree is made of: tokens of the text, each of the kind that its place asks for.
+use Rattle.std.specs.Prelude.{◌≡◌, true, List, Option, Some, None, Contains}
+use Rattle.std.specs.List.{AllByRecursion}
+use Rattle.policy_tokens.specs.declared.token.Kind.TheVariants as k
+use Rattle.policy_tokens.specs.declared.token.Token.{Token}
+use Rattle.policy_syntax.specs.declared.tree.PathTree.{PathTree}
+use Rattle.policy_syntax.specs.declared.tree.UidTree.{UidTree}
+use Rattle.policy_syntax.specs.declared.tree.Annotation.{Annotation}
+use Rattle.policy_syntax.specs.declared.tree.PartTree.{PartTree}
+use Rattle.policy_syntax.specs.declared.tree.PartTree.TheVariants as part
+use Rattle.policy_syntax.specs.declared.tree.ActionTree.{ActionTree}
+use Rattle.policy_syntax.specs.declared.tree.ActionTree.TheVariants as action
+use Rattle.policy_syntax.specs.declared.tree.PolicyTree.{PolicyTree}
+use Rattle.policy_syntax.specs.Kinds.{Kinds, only}
+use Rattle.policy_syntax.specs.Grammar.{identifiers, words, effects}
+
+-- one of the tokens, and of these kinds
+abbrev pub TokenStands : Kinds → List Token → Token → Type 0
+TokenStands ks ts t = Contains ts t × (ks t.kind ≡ true)
+
+abbrev pub PathStands : List Token → PathTree → Type 0
+PathStands ts p = TokenStands identifiers ts p.first × AllByRecursion (TokenStands identifiers ts) p.more
+
+abbrev pub UidStands : List Token → UidTree → Type 0
+UidStands ts u = PathStands ts u.path × TokenStands (only k.Text) ts u.id
+
+abbrev pub ValueStands : List Token → Option Token → Type 0
+ValueStands ts None = Unit {0}
+ValueStands ts (Some t) = TokenStands (only k.Text) ts t
+
+abbrev pub AnnotationStands : List Token → Annotation → Type 0
+AnnotationStands ts a = TokenStands (only k.At) ts a.at × TokenStands words ts a.key × ValueStands ts a.value
+
+abbrev pub PartStands : List Token → PartTree → Type 0
+PartStands ts part.Any = Unit {0}
+PartStands ts (part.Equal u) = UidStands ts u
+PartStands ts (part.In u) = UidStands ts u
+PartStands ts (part.Is p) = PathStands ts p
+PartStands ts (part.IsIn p u) = PathStands ts p × UidStands ts u
+
+abbrev pub ActionStands : List Token → ActionTree → Type 0
+ActionStands ts action.Any = Unit {0}
+ActionStands ts (action.Equal u) = UidStands ts u
+ActionStands ts (action.In u) = UidStands ts u
+ActionStands ts (action.InList us) = AllByRecursion (UidStands ts) us
+
+pub record PolicyStands (ts : List Token) (p : PolicyTree) : Type 0 where
+  pub annotations : AllByRecursion (AnnotationStands ts) p.annotations
+  pub effect : TokenStands effects ts p.effect
+  pub principal : PartStands ts p.principal
+  pub action : ActionStands ts p.action
+  pub resource : PartStands ts p.resource

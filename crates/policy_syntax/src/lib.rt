@@ -1,0 +1,22 @@
+//! The grammar of policies, over their tokens.
+//!
+//! A list of tokens is read exactly where the grammar derives it, and as the one tree that it
+//! derives; else it is refused at the first token with which nothing goes on.
+#![tactic(auto)]
+
+mod cursor;
+mod fault;
+mod laws;
+mod names;
+mod policy;
+mod read;
+mod scope;
+mod tree;
+
+pub use fault::SyntaxFault;
+pub use laws::reading_is_unique;
+pub use read::{read_policies, read_policy, read_uid};
+pub use tree::{ActionTree, Annotation, PartTree, PathTree, PolicyTree, UidTree};
+
+#[cfg(test)]
+mod tests;

@@ -1,0 +1,83 @@
+//! Whole lists of tokens.
+
+ghost use Rattle.std.specs.Prelude.{◌≡◌, ◌≤◌, ◌-◌, length, IfOk};
+ghost use Rattle.std.specs.List.{AllByRecursion};
+ghost use Rattle.policy_syntax.specs.Grammar as grammar;
+ghost use Rattle.policy_syntax.specs.Reads.{Reads, with_items, refusal_at};
+ghost use Rattle.policy_syntax.specs.Stands.{PolicyStands, UidStands};
+
+use crate::cursor::Cursor;
+use crate::fault::{Halt, SyntaxFault};
+use crate::tree::{PolicyTree, UidTree};
+use crate::{names, policy};
+use policy_tokens::Token;
+use std::alloc::Global;
+
+/// The refusal at the first token that is left.
+fn refusal(tokens: &[Token], cursor: &Cursor<'_>) -> SyntaxFault
+    requires { length cursor.now.rest.now ≤ length tokens.now }
+    ensures { result ≡ refusal_at (length tokens.now - length cursor.now.rest.now) cursor.now.rest.now }
+{
+    let place = tokens.len() - cursor.left();
+    if cursor.sees_slot() {
+        SyntaxFault::Slot(place)
+    } else {
+        SyntaxFault::Unexpected(place)
+    }
+}
+
+/// The policy that the tokens are, or the first token with which no policy goes on.
+pub fn read_policy(alloc: Global, tokens: &[Token]) -> Result<PolicyTree, SyntaxFault>
+    ensures reads { Reads grammar.policy tokens.now result }
+    ensures stands { IfOk result (PolicyStands tokens.now) }
+{
+    let mut cursor = Cursor { rest: tokens };
+    match policy::policy(alloc, &mut cursor) {
+        Ok(tree) => {
+            if cursor.left() > 0 {
+                return Err(refusal(tokens, &cursor));
+            }
+            Ok(tree)
+        }
+        Err(Halt::NoMemory) => Err(SyntaxFault::NoMemory),
+        Err(Halt::Unexpected) => Err(refusal(tokens, &cursor)),
+    }
+}
+
+/// The policies that the tokens are, in their order, or the first token with which no list of
+/// policies goes on. Takes time and memory in proportion to the tokens.
+pub fn read_policies(alloc: Global, tokens: &[Token]) -> Result<Vec<PolicyTree>, SyntaxFault>
+    ensures reads { Reads grammar.policies tokens.now (with_items result) }
+    ensures stands { IfOk result (λ found. AllByRecursion (PolicyStands tokens.now) found.items) }
+{
+    let mut cursor = Cursor { rest: tokens };
+    match policy::policies(alloc, &mut cursor) {
+        Ok(trees) => {
+            if cursor.left() > 0 {
+                return Err(refusal(tokens, &cursor));
+            }
+            let found = trees.into_vec();
+            Ok(found)
+        }
+        Err(Halt::NoMemory) => Err(SyntaxFault::NoMemory),
+        Err(Halt::Unexpected) => Err(refusal(tokens, &cursor)),
+    }
+}
+
+/// The uid that the tokens are, or the first token with which no uid goes on.
+pub fn read_uid(alloc: Global, tokens: &[Token]) -> Result<UidTree, SyntaxFault>
+    ensures reads { Reads grammar.uid tokens.now result }
+    ensures stands { IfOk result (UidStands tokens.now) }
+{
+    let mut cursor = Cursor { rest: tokens };
+    match names::uid(alloc, &mut cursor) {
+        Ok(tree) => {
+            if cursor.left() > 0 {
+                return Err(refusal(tokens, &cursor));
+            }
+            Ok(tree)
+        }
+        Err(Halt::NoMemory) => Err(SyntaxFault::NoMemory),
+        Err(Halt::Unexpected) => Err(refusal(tokens, &cursor)),
+    }
+}

@@ -1,0 +1,182 @@
+//! The parts of a scope.
+
+ghost use Rattle.policy_syntax.specs.Gives.{Gives};
+ghost use Rattle.policy_syntax.specs.Parsing as spec;
+
+use crate::cursor::Cursor;
+use crate::fault::Halt;
+use crate::names::{path, uid};
+use crate::tree::{ActionTree, PartTree, ScopeTree, UidTree};
+use plain::Items;
+use policy_tokens::Kind;
+use std::alloc::Global;
+
+/// "==" Uid
+#[tactic(auto, unfolding(crate::specs::Parsing::equal_uid))]
+fn equal_uid(alloc: Global, tokens: &mut Cursor<'_>) -> Result<UidTree, Halt>
+    ensures { Gives (spec.equal_uid tokens.old.rest.now) result tokens.new.rest.now }
+{
+    tokens.take(Kind::Equal)?;
+    uid(alloc, tokens)
+}
+
+/// "in" Uid
+#[tactic(auto, unfolding(crate::specs::Parsing::in_uid))]
+fn in_uid(alloc: Global, tokens: &mut Cursor<'_>) -> Result<UidTree, Halt>
+    ensures { Gives (spec.in_uid tokens.old.rest.now) result tokens.new.rest.now }
+{
+    tokens.take(Kind::In)?;
+    uid(alloc, tokens)
+}
+
+/// "is" Path [ "in" Uid ]
+#[tactic(auto, unfolding(crate::specs::Parsing::of_type))]
+fn of_type(alloc: Global, tokens: &mut Cursor<'_>) -> Result<PartTree, Halt>
+    ensures { Gives (spec.of_type tokens.old.rest.now) result tokens.new.rest.now }
+{
+    tokens.take(Kind::Is)?;
+    let type_name = path(alloc, tokens)?;
+    if !tokens.sees(Kind::In) {
+        return Ok(PartTree::Is(type_name));
+    }
+    let entity = in_uid(alloc, tokens)?;
+    Ok(PartTree::IsIn(type_name, entity))
+}
+
+/// [ "==" Uid | "in" Uid | "is" Path [ "in" Uid ] ]
+#[tactic(auto, unfolding(crate::specs::Parsing::entity_constraint))]
+fn entity_constraint(alloc: Global, tokens: &mut Cursor<'_>) -> Result<PartTree, Halt>
+    ensures { Gives (spec.entity_constraint tokens.old.rest.now) result tokens.new.rest.now }
+{
+    if tokens.sees(Kind::Equal) {
+        let entity = equal_uid(alloc, tokens)?;
+        return Ok(PartTree::Equal(entity));
+    }
+    if tokens.sees(Kind::In) {
+        let entity = in_uid(alloc, tokens)?;
+        return Ok(PartTree::In(entity));
+    }
+    if tokens.sees(Kind::Is) {
+        return of_type(alloc, tokens);
+    }
+    Ok(PartTree::Any)
+}
+
+/// The variable and its constraint: Principal or Resource.
+#[tactic(auto, unfolding(crate::specs::Parsing::entity_part))]
+fn entity_part(alloc: Global, tokens: &mut Cursor<'_>, variable: Kind) -> Result<PartTree, Halt>
+    ensures { Gives (spec.entity_part variable tokens.old.rest.now) result tokens.new.rest.now }
+{
+    tokens.take(variable)?;
+    entity_constraint(alloc, tokens)
+}
+
+#[tactic(auto, unfolding(crate::specs::Parsing::comma_uid))]
+fn comma_uid(alloc: Global, tokens: &mut Cursor<'_>) -> Result<UidTree, Halt>
+    ensures { Gives (spec.comma_uid tokens.old.rest.now) result tokens.new.rest.now }
+{
+    tokens.take(Kind::Comma)?;
+    uid(alloc, tokens)
+}
+
+fn uids_behind(
+    alloc: Global,
+    tokens: &mut Cursor<'_>,
+    first: UidTree,
+) -> Result<Items<UidTree>, Halt>
+    ensures { Gives (spec.uids_behind first tokens.old.rest.now) result tokens.new.rest.now }
+{
+    let mut found = Items::new(alloc);
+    found.push(first)?;
+    for _turn in 0..tokens.left() {
+        if !tokens.sees(Kind::Comma) {
+            return Ok(found);
+        }
+        let next = comma_uid(alloc, tokens)?;
+        found.push(next)?;
+    }
+    Ok(found)
+}
+
+/// [ Uid { "," Uid } ]
+#[tactic(auto, unfolding(crate::specs::Parsing::uids))]
+fn uids(alloc: Global, tokens: &mut Cursor<'_>) -> Result<Items<UidTree>, Halt>
+    ensures { Gives (spec.uids tokens.old.rest.now) result tokens.new.rest.now }
+{
+    if !tokens.sees_identifier() {
+        return Ok(Items::new(alloc));
+    }
+    let first = uid(alloc, tokens)?;
+    uids_behind(alloc, tokens, first)
+}
+
+#[tactic(auto, unfolding(crate::specs::Parsing::uid_list))]
+fn uid_list(alloc: Global, tokens: &mut Cursor<'_>) -> Result<ActionTree, Halt>
+    ensures { Gives (spec.uid_list tokens.old.rest.now) result tokens.new.rest.now }
+{
+    tokens.take(Kind::LBracket)?;
+    let found = uids(alloc, tokens)?;
+    tokens.take(Kind::RBracket)?;
+    Ok(ActionTree::InList(found))
+}
+
+#[tactic(auto, unfolding(crate::specs::Parsing::list_or_uid))]
+fn list_or_uid(alloc: Global, tokens: &mut Cursor<'_>) -> Result<ActionTree, Halt>
+    ensures { Gives (spec.list_or_uid tokens.old.rest.now) result tokens.new.rest.now }
+{
+    if tokens.sees(Kind::LBracket) {
+        return uid_list(alloc, tokens);
+    }
+    let entity = uid(alloc, tokens)?;
+    Ok(ActionTree::In(entity))
+}
+
+/// "in" ( "[" [ Uid { "," Uid } ] "]" | Uid )
+#[tactic(auto, unfolding(crate::specs::Parsing::in_actions))]
+fn in_actions(alloc: Global, tokens: &mut Cursor<'_>) -> Result<ActionTree, Halt>
+    ensures { Gives (spec.in_actions tokens.old.rest.now) result tokens.new.rest.now }
+{
+    tokens.take(Kind::In)?;
+    list_or_uid(alloc, tokens)
+}
+
+/// [ "==" Uid | "in" Uid | "in" "[" [ Uid { "," Uid } ] "]" ]
+#[tactic(auto, unfolding(crate::specs::Parsing::action_constraint))]
+fn action_constraint(alloc: Global, tokens: &mut Cursor<'_>) -> Result<ActionTree, Halt>
+    ensures { Gives (spec.action_constraint tokens.old.rest.now) result tokens.new.rest.now }
+{
+    if tokens.sees(Kind::Equal) {
+        let entity = equal_uid(alloc, tokens)?;
+        return Ok(ActionTree::Equal(entity));
+    }
+    if tokens.sees(Kind::In) {
+        return in_actions(alloc, tokens);
+    }
+    Ok(ActionTree::Any)
+}
+
+/// "action" and its constraint.
+#[tactic(auto, unfolding(crate::specs::Parsing::action_part))]
+fn action_part(alloc: Global, tokens: &mut Cursor<'_>) -> Result<ActionTree, Halt>
+    ensures { Gives (spec.action_part tokens.old.rest.now) result tokens.new.rest.now }
+{
+    tokens.take(Kind::Action)?;
+    action_constraint(alloc, tokens)
+}
+
+/// Scope = Principal "," Action "," Resource
+#[tactic(auto, unfolding(crate::specs::Parsing::scope))]
+pub(crate) fn scope(alloc: Global, tokens: &mut Cursor<'_>) -> Result<ScopeTree, Halt>
+    ensures { Gives (spec.scope tokens.old.rest.now) result tokens.new.rest.now }
+{
+    let principal = entity_part(alloc, tokens, Kind::Principal)?;
+    tokens.take(Kind::Comma)?;
+    let action = action_part(alloc, tokens)?;
+    tokens.take(Kind::Comma)?;
+    let resource = entity_part(alloc, tokens, Kind::Resource)?;
+    Ok(ScopeTree {
+        principal,
+        action,
+        resource,
+    })
+}

@@ -1,0 +1,68 @@
+use plain::Items;
+use policy_tokens::Token;
+
+/// The words of a name: a Path.
+#[derive(Debug, Drop)]
+pub struct PathTree {
+    pub first: Token,
+    /// Those behind each `::`.
+    pub more: Items<Token>,
+}
+
+/// An entity, by its type's name and its quoted id.
+#[derive(Debug, Drop)]
+pub struct UidTree {
+    pub path: PathTree,
+    /// A quoted text without `\*`.
+    pub id: Token,
+}
+
+/// An annotation: `@key("value")`.
+#[derive(Debug, Drop)]
+pub struct Annotation {
+    /// The `@`.
+    pub at: Token,
+    /// An identifier or a reserved word.
+    pub key: Token,
+    /// Quoted; None where there are no parentheses, or empty ones.
+    pub value: Option<Token>,
+}
+
+/// What a scope demands of the principal or of the resource.
+#[derive(Debug, Drop)]
+pub enum PartTree {
+    Any,
+    Equal(UidTree),
+    In(UidTree),
+    Is(PathTree),
+    IsIn(PathTree, UidTree),
+}
+
+/// What a scope demands of the action.
+#[derive(Debug, Drop)]
+pub enum ActionTree {
+    Any,
+    Equal(UidTree),
+    In(UidTree),
+    InList(Items<UidTree>),
+}
+
+/// The three parts of a scope.
+#[derive(Debug, Drop)]
+pub(crate) struct ScopeTree {
+    pub(crate) principal: PartTree,
+    pub(crate) action: ActionTree,
+    pub(crate) resource: PartTree,
+}
+
+/// What a policy is written as.
+#[derive(Debug, Drop)]
+pub struct PolicyTree {
+    pub annotations: Items<Annotation>,
+    /// `permit` or `forbid`.
+    pub effect: Token,
+    pub principal: PartTree,
+    pub action: ActionTree,
+    pub resource: PartTree,
+    // The conditions come here, as a list: each with its word and its expression.
+}

@@ -1,0 +1,232 @@
+-- What the tokens of a policy text are.
+--
+-- Source: Cedar reference guide 4.0, "Grammar specification for Cedar policy syntax" (IDENT, RESERVED, INT, STR, WHITESPC, COMMENT and the marks of
+-- the productions). The escapes in strings are those of string literals in Rust, as the guide says, and `\*` ("Operators: like").
+-- Rules of this product: white space is what Unicode calls White_Space; a comment ends before a line feed or a carriage return; a line
+-- end may stand in a string; the longest token is taken; `__cedar` is reserved.
+--
+-- A text is the list of its bytes in UTF-8, and a place is a number of bytes from the text's start.
+use Rattle.std.specs.Prelude.{◌≡◌, ◌≢◌, ℕ, ◌+◌, ◌-◌, ◌*◌, ◌≤◌, ◌<◌, Bool, true, false, not, ◌==◌, ◌||◌, nat_eq, nat_lt, if◌then◌else◌, List, [], ◌∷◌, ◌++◌, length, take, drop, Option, Some, None, codes, encode_utf8}
+use Rattle.std.specs.Str.{bytes_eq, IsCharBoundary}
+use Rattle.std.specs.Char.{is_whitespace, IsScalar, digit_value}
+use Rattle.plain.specs.Words.{is_digit, AllAre, IsWord}
+use Rattle.policy_tokens.specs.declared.token.Kind.{Kind}
+use Rattle.policy_tokens.specs.declared.token.Kind.TheVariants.{Ident, Number, Text, StarText, True, False, If, Then, Else, In, Is, Like, Has, Cedar, Permit, Forbid, When, Unless, Principal, Action, Resource, Context, PrincipalSlot, ResourceSlot, At, LParen, RParen, LBrace, RBrace, LBracket, RBracket, Comma, Semicolon, Colon, Colons, Dot, Equal, NotEqual, Less, LessEqual, Greater, GreaterEqual, And, Or, Plus, Minus, Star, Not}
+use Rattle.policy_tokens.specs.declared.token.Token.{Token}
+use Rattle.policy_tokens.specs.declared.piece.Piece.{Piece}
+use Rattle.policy_tokens.specs.declared.piece.Piece.TheVariants as piece
+use Rattle.policy_tokens.specs.declared.fault.LexFault.{LexFault}
+use Rattle.policy_tokens.specs.declared.fault.LexFault.TheVariants.{NoMemory, BadToken}
+
+-- ## Tokens with one spelling
+
+-- a spelling and the kind of token that it is
+pub record Entry : Type 0 where
+  pub spelling : List ℕ
+  pub kind : Kind
+
+abbrev entry : List ℕ → Kind → Entry
+entry s k = record { spelling = s; kind = k }
+
+-- the reserved words, which are no identifiers
+abbrev pub reserved : List Entry
+reserved = entry (codes "true") True ∷ entry (codes "false") False ∷ entry (codes "if") If ∷ entry (codes "then") Then ∷ entry (codes "else") Else
+    ∷ entry (codes "in") In ∷ entry (codes "is") Is ∷ entry (codes "like") Like ∷ entry (codes "has") Has ∷ entry (codes "__cedar") Cedar ∷ []
+
+-- identifiers that are words of the grammar too
+abbrev pub named : List Entry
+named = entry (codes "permit") Permit ∷ entry (codes "forbid") Forbid ∷ entry (codes "when") When ∷ entry (codes "unless") Unless
+    ∷ entry (codes "principal") Principal ∷ entry (codes "action") Action ∷ entry (codes "resource") Resource ∷ entry (codes "context") Context ∷ []
+
+-- the marks of one byte
+abbrev pub singles : List Entry
+singles = entry (codes "@") At ∷ entry (codes "(") LParen ∷ entry (codes ")") RParen ∷ entry (codes "{") LBrace ∷ entry (codes "}") RBrace
+    ∷ entry (codes "[") LBracket ∷ entry (codes "]") RBracket ∷ entry (codes ",") Comma ∷ entry (codes ";") Semicolon ∷ entry (codes ":") Colon
+    ∷ entry (codes ".") Dot ∷ entry (codes "<") Less ∷ entry (codes ">") Greater ∷ entry (codes "+") Plus ∷ entry (codes "-") Minus
+    ∷ entry (codes "*") Star ∷ entry (codes "!") Not ∷ []
+
+-- the marks of two bytes
+abbrev pub pairs : List Entry
+pairs = entry (codes "::") Colons ∷ entry (codes "==") Equal ∷ entry (codes "!=") NotEqual ∷ entry (codes "<=") LessEqual
+    ∷ entry (codes ">=") GreaterEqual ∷ entry (codes "&&") And ∷ entry (codes "||") Or ∷ []
+
+-- the slots of templates
+abbrev pub slots : List Entry
+slots = entry (codes "?principal") PrincipalSlot ∷ entry (codes "?resource") ResourceSlot ∷ []
+
+-- the kind that a table gives a spelling
+abbrev pub listed : List Entry → List ℕ → Option Kind
+listed [] w = None
+listed (e ∷ table) w = if bytes_eq e.spelling w then Some e.kind else listed table w
+
+-- ## Words and numbers
+
+-- the first that is there
+abbrev pub or_else : Option Kind → Option Kind → Option Kind
+or_else None other = other
+or_else (Some k) other = Some k
+
+-- of a word that no table has: an identifier
+abbrev pub or_ident : Option Kind → Kind
+or_ident None = Ident
+or_ident (Some k) = k
+
+-- the kind of a word: reserved, a word of the grammar, or another identifier
+unfoldable pub kind_of_word : List ℕ → Kind
+kind_of_word w = or_ident (or_else (listed reserved w) (listed named w))
+
+-- one or more digits
+abbrev pub IsNumber : List ℕ → Type 0
+IsNumber [] = ⊥
+IsNumber (c ∷ cs) = (is_digit c ≡ true) × AllAre is_digit cs
+
+-- ## Strings
+
+abbrev pub quote : ℕ
+quote = 34
+
+abbrev pub backslash : ℕ
+backslash = 92
+
+-- what a letter or mark after a backslash stands for: `\n \r \t \\ \0 \' \"`
+abbrev pub escaped : ℕ → Option ℕ
+escaped c = if nat_eq c 110 then Some 10 else (if nat_eq c 114 then Some 13 else (if nat_eq c 116 then Some 9 else (if nat_eq c 92 then Some 92
+    else (if nat_eq c 48 then Some 0 else (if nat_eq c 39 then Some 39 else (if nat_eq c 34 then Some 34 else None))))))
+
+unfoldable pub is_hex : ℕ → Bool
+is_hex c = nat_lt (digit_value c) 16
+
+-- the number that hexadecimal digits write, after what was read before them
+abbrev pub hex_after : ℕ → List ℕ → ℕ
+hex_after n [] = n
+hex_after n (d ∷ ds) = hex_after (n * 16 + digit_value d) ds
+
+-- The bytes are an escape, and stand for this: a letter or mark; `\*`; `\x` and two hexadecimal digits up to 7F; `\u{` and one to six
+-- hexadecimal digits of a Unicode scalar value and `}`.
+pub data IsEscape : Piece → List ℕ → Type 0 where
+  letter : {p : Piece} {w : List ℕ} (c meant : ℕ) → escaped c ≡ Some meant → w ≡ backslash ∷ c ∷ [] → p ≡ piece.Char meant → IsEscape p w
+  star : {p : Piece} {w : List ℕ} → w ≡ backslash ∷ codes "*" → p ≡ piece.Star → IsEscape p w
+  short : {p : Piece} {w : List ℕ} (high low : ℕ) → digit_value high < 8 → digit_value low < 16 →
+      w ≡ backslash ∷ codes "x" ++ high ∷ low ∷ [] → p ≡ piece.Char (digit_value high * 16 + digit_value low) → IsEscape p w
+  long : {p : Piece} {w : List ℕ} (digits : List ℕ) → 1 ≤ length digits → length digits ≤ 6 → AllAre is_hex digits → IsScalar (hex_after 0 digits) →
+      w ≡ backslash ∷ codes "u{" ++ (digits ++ codes "}") → p ≡ piece.Char (hex_after 0 digits) → IsEscape p w
+
+-- The bytes between two quotes are these pieces: bytes that stand for themselves, and escapes.
+pub data IsBody : List Piece → List ℕ → Type 0 where
+  done : IsBody [] []
+  itself : {b : ℕ} {ps : List Piece} {w : List ℕ} → b ≢ quote → b ≢ backslash → IsBody ps w → IsBody (piece.Byte b ∷ ps) (b ∷ w)
+  escape : {p : Piece} {ps : List Piece} {w : List ℕ} (e rest : List ℕ) → IsEscape p e → w ≡ e ++ rest → IsBody ps rest → IsBody (p ∷ ps) w
+
+abbrev pub is_star : Piece → Bool
+is_star (piece.Byte b) = false
+is_star (piece.Char c) = false
+is_star piece.Star = true
+
+abbrev pub has_star : List Piece → Bool
+has_star [] = false
+has_star (p ∷ ps) = is_star p || has_star ps
+
+-- a string with `\*` can be a pattern alone
+abbrev pub kind_of_pieces : List Piece → Kind
+kind_of_pieces ps = if has_star ps then StarText else Text
+
+-- ## Tokens
+
+-- The bytes spell a token of the kind.
+pub data IsToken : Kind → List ℕ → Type 0 where
+  word : {k : Kind} {w : List ℕ} → IsWord w → k ≡ kind_of_word w → IsToken k w
+  number : {k : Kind} {w : List ℕ} → IsNumber w → k ≡ Number → IsToken k w
+  quoted : {k : Kind} {w : List ℕ} (ps : List Piece) (body : List ℕ) → IsBody ps body → w ≡ quote ∷ body ++ quote ∷ [] → k ≡ kind_of_pieces ps → IsToken k w
+  single : {k : Kind} {w : List ℕ} → listed singles w ≡ Some k → IsToken k w
+  pair : {k : Kind} {w : List ℕ} → listed pairs w ≡ Some k → IsToken k w
+  slot : {k : Kind} {w : List ℕ} → listed slots w ≡ Some k → IsToken k w
+
+-- w is a token before rest, and no longer one begins where it does.
+pub record IsLongest (k : Kind) (w rest : List ℕ) : Type 0 where
+  pub is : IsToken k w
+  pub longest : (j : Kind) (v more : List ℕ) → IsToken j v → w ++ rest ≡ v ++ more → length v ≤ length w
+
+-- No token begins here.
+abbrev pub NoToken : List ℕ → Type 0
+NoToken text = (k : Kind) (w more : List ℕ) → IsToken k w → text ≡ w ++ more → ⊥
+
+-- ## Blanks and comments
+
+-- neither a line feed nor a carriage return
+unfoldable pub in_line : ℕ → Bool
+in_line c = not ((c == 10) || (c == 13))
+
+-- the text's end, or the end of a line
+abbrev pub EndsLine : List ℕ → Type 0
+EndsLine [] = Unit {0}
+EndsLine (c ∷ cs) = in_line c ≡ false
+
+-- What may stand between tokens, and what follows it: a character of white space, or a comment as long as its line.
+pub data IsGap : List ℕ → List ℕ → Type 0 where
+  blank : {w rest : List ℕ} (c : ℕ) → is_whitespace c ≡ true → w ≡ encode_utf8 c → IsGap w rest
+  comment : {w rest : List ℕ} (said : List ℕ) → AllAre in_line said → EndsLine rest → w ≡ codes "//" ++ said → IsGap w rest
+
+-- Neither a blank nor a comment begins here.
+abbrev pub NoGap : List ℕ → Type 0
+NoGap text = (w rest : List ℕ) → IsGap w rest → text ≡ w ++ rest → ⊥
+
+-- ## Texts
+
+-- From the one place and text to the other the text is a joining of blanks, comments and these tokens, each the longest that begins there.
+pub data Lex : ℕ → List ℕ → List Token → ℕ → List ℕ → Type 0 where
+  finish : {at : ℕ} {text : List ℕ} → Lex at text [] at text
+  gap : {at to : ℕ} {text left : List ℕ} {ts : List Token} (w rest : List ℕ) → text ≡ w ++ rest → IsGap w rest →
+      Lex (at + length w) rest ts to left → Lex at text ts to left
+  token : {at to : ℕ} {text left : List ℕ} {ts : List Token} (k : Kind) (w rest : List ℕ) → text ≡ w ++ rest → IsLongest k w rest →
+      Lex (at + length w) rest ts to left → Lex at text (record { kind = k; start = at; end = at + length w } ∷ ts) to left
+
+-- These are the text's tokens.
+abbrev pub IsLexed : List ℕ → List Token → Type 0
+IsLexed text ts = (to : ℕ) × Lex 0 text ts to []
+
+-- Up to this place the text is such a joining; here it goes on, with neither blank nor comment nor token.
+pub record IsBadAt (text : List ℕ) (at : ℕ) : Type 0 where
+  pub tokens : List Token
+  pub here : ℕ
+  pub rest : List ℕ
+  pub before : Lex 0 text tokens at (here ∷ rest)
+  pub no_gap : NoGap (here ∷ rest)
+  pub no_token : NoToken (here ∷ rest)
+
+-- when a text is refused so; want of memory says nothing of the text
+abbrev pub IsFault : LexFault → List ℕ → Type 0
+IsFault NoMemory text = Unit {0}
+IsFault (BadToken at) text = IsBadAt text at
+
+-- ## What is written where a token stands
+
+-- what is written from the token's start up to its end
+abbrev pub spelling_of : List ℕ → Token → List ℕ
+spelling_of text t = take (t.end - t.start) (drop t.start text)
+
+-- That spells the token's kind, and the text may be cut at both places.
+pub record IsSpelledIn (text : List ℕ) (t : Token) : Type 0 where
+  pub nonempty : t.start < t.end
+  pub within : t.end ≤ length text
+  pub is : IsToken t.kind (spelling_of text t)
+  pub start_cut : IsCharBoundary text t.start
+  pub end_cut : IsCharBoundary text t.end
+
+-- The tokens stand at this place or behind it, one behind the other.
+abbrev pub AreInOrder : ℕ → List Token → Type 0
+AreInOrder at [] = Unit {0}
+AreInOrder at (t ∷ ts) = (at ≤ t.start) × AreInOrder t.end ts
+
+-- ## Laws
+
+-- A text has one list of tokens at most.
+abbrev pub OneLexing : Type 0
+OneLexing = (text : List ℕ) (ts us : List Token) → IsLexed text ts → IsLexed text us → ts ≡ us
+
+-- A text that is bad at a place has none,
+abbrev pub BadIsNotLexed : Type 0
+BadIsNotLexed = (text : List ℕ) (at : ℕ) (ts : List Token) → IsBadAt text at → IsLexed text ts → ⊥
+
+-- and is bad at no other place.
+abbrev pub OneBadPlace : Type 0
+OneBadPlace = (text : List ℕ) (at other : ℕ) → IsBadAt text at → IsBadAt text other → at ≡ other

@@ -1,0 +1,4 @@
+pub mod Lexing
+pub mod Idents
+pub mod Strings
+pub mod Reading

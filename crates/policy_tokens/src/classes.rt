@@ -1,0 +1,55 @@
+// The bytes that words and numbers are made of, and how many of them come first.
+ghost use Rattle.std.specs.Prelude.{◌≡◌, ◌≤◌, length};
+ghost use Rattle.plain.specs.Words.{is_letter, is_digit, is_word_byte};
+ghost use Rattle.policy_tokens.specs.Reading.{run};
+
+#[tactic(auto, unfolding(plain::specs::Words::is_letter))]
+pub(crate) fn letter(byte: u8) -> bool
+    ensures { result ≡ is_letter byte }
+{
+    matches!(byte, b'_' | b'a'..=b'z' | b'A'..=b'Z')
+}
+
+#[tactic(auto, unfolding(plain::specs::Words::is_digit))]
+pub(crate) fn digit(byte: u8) -> bool
+    ensures { result ≡ is_digit byte }
+{
+    matches!(byte, b'0'..=b'9')
+}
+
+#[tactic(auto, unfolding(plain::specs::Words::is_word_byte))]
+pub(crate) fn word_byte(byte: u8) -> bool
+    ensures { result ≡ is_word_byte byte }
+{
+    letter(byte) || digit(byte)
+}
+
+/// How many bytes of a word come first.
+pub(crate) fn word_len(text: &[u8]) -> usize
+    ensures is { result ≡ run is_word_byte text.now }
+    ensures within { result ≤ length text.now }
+{
+    let mut len = 0;
+    for byte in text {
+        if !word_byte(*byte) {
+            return len;
+        }
+        len += 1;
+    }
+    len
+}
+
+/// How many digits come first.
+pub(crate) fn digits_len(text: &[u8]) -> usize
+    ensures is { result ≡ run is_digit text.now }
+    ensures within { result ≤ length text.now }
+{
+    let mut len = 0;
+    for byte in text {
+        if !digit(*byte) {
+            return len;
+        }
+        len += 1;
+    }
+    len
+}

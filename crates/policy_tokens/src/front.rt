@@ -1,0 +1,70 @@
+// The token at the front of a text.
+ghost use Rattle.std.specs.Prelude.{◌≡◌, ◌∷◌, ◌<◌, ◌++◌, List, length, codes, ℕ};
+ghost use Rattle.policy_tokens.specs.Reading.{TellsToken, mark_of};
+
+use crate::classes::{digit, digits_len, letter, word_len};
+use crate::quoted::quoted;
+use crate::token::{Found, Kind};
+use crate::words::{pair, single, word_kind};
+
+/// The mark that a text begins with.
+pub(crate) fn mark(text: &[u8]) -> Option<Found>
+    ensures { result ≡ mark_of text.now }
+{
+    let (first, rest) = text.split_first()?;
+    if let Some(second) = rest.first() {
+        if let Some(kind) = pair(*first, *second) {
+            return Some(Found { kind, len: 2 });
+        }
+    }
+    let kind = single(*first)?;
+    Some(Found { kind, len: 1 })
+}
+
+/// The slot that a text begins with.
+pub(crate) fn slot(text: &[u8]) -> Option<Found>
+    requires { (rest : List ℕ) × (text.now ≡ codes "?" ++ rest) }
+    ensures { TellsToken text.now result }
+{
+    if text.starts_with(b"?principal") {
+        Some(Found {
+            kind: Kind::PrincipalSlot,
+            len: 10,
+        })
+    } else if text.starts_with(b"?resource") {
+        Some(Found {
+            kind: Kind::ResourceSlot,
+            len: 9,
+        })
+    } else {
+        None
+    }
+}
+
+/// The token that a text begins with.
+pub(crate) fn front(text: &str) -> Option<Found>
+    ensures { TellsToken text.now result }
+{
+    let bytes = text.as_bytes();
+    let (first, _rest) = bytes.split_first()?;
+    if letter(*first) {
+        let len = word_len(bytes);
+        return Some(Found {
+            kind: word_kind(&text[..len]),
+            len,
+        });
+    }
+    if digit(*first) {
+        return Some(Found {
+            kind: Kind::Number,
+            len: digits_len(bytes),
+        });
+    }
+    if *first == b'"' {
+        return quoted(bytes);
+    }
+    if *first == b'?' {
+        return slot(bytes);
+    }
+    mark(bytes)
+}

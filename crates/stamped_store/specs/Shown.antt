@@ -1,0 +1,22 @@
+-- What the entries of a map of the code show as a store: names without where they lie in memory, and
+-- entries without what their texts were read as.
+use Rattle.std.specs.Prelude.{ℕ, max, List, [], ◌∷◌, map}
+use Rattle.std.specs.FinMap.{FinMap, from_entries}
+use Rattle.std.specs.declared.cmp.Ordering.{Ordering}
+use Rattle.stamped_store.specs.declared.entry.Entry.{Entry}
+use Rattle.stamped_store.specs.EntryOrder.{PlainEntry, plain_entry}
+
+module _ {K N P : Type 0} (name : K → N) where
+  abbrev pub shown_entry : K × Entry P → N × PlainEntry
+  shown_entry e = (name e.0, plain_entry e.1)
+
+  abbrev pub shown_entries : List (K × Entry P) → List (N × PlainEntry)
+  shown_entries es = map shown_entry es
+
+  abbrev pub shown : {R : N → N → Ordering} → List (K × Entry P) → FinMap R PlainEntry
+  shown es = from_entries (shown_entries es)
+
+-- the greatest count of entries, and 0 of none
+abbrev pub greatest_kept : {K P : Type 0} → List (K × Entry P) → ℕ
+greatest_kept [] = 0
+greatest_kept (e ∷ es) = max e.1.stamp.count (greatest_kept es)

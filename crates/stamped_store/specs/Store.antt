@@ -1,0 +1,104 @@
+-- The store of a site: at each name (policies before entities) at most one entry.
+use Rattle.std.specs.Prelude.{◌≡◌, ◌≢◌, ℕ, ◌+◌, ◌-◌, Bool, true, List, ◌++◌, length, take, Option, string_bytes}
+use Rattle.std.specs.FinMap as map
+use Rattle.std.specs.Ordering.{is_le}
+use Rattle.std.specs.String.{string_cmp}
+use Rattle.std.specs.declared.alloc.Global.{Global}
+use Rattle.std.specs.declared.string.String.{String}
+use Rattle.values.specs.declared.name.Name.{Name}
+use Rattle.values.specs.declared.name.Name.TheVariants.{Policy, Entity}
+use Rattle.values.specs.declared.entity_uid.EntityUid.{EntityUid}
+use Rattle.values.specs.Names.{name_cmp, uid_cmp}
+use Rattle.stamped_store.specs.declared.entry.Entry.{Entry}
+use Rattle.stamped_store.specs.declared.entry.Stamp.{Stamp}
+use Rattle.stamped_store.specs.Joins.{IsLeastAbove, option_below}
+use Rattle.stamped_store.specs.EntryOrder.{PlainEntry, entry_cmp, greater}
+use Rattle.stamped_store.specs.Greatest as updates_of
+use Rattle.stamped_store.specs.Stored.{all_taken}
+use Rattle.stamped_store.specs.Shown.{shown_entries}
+
+abbrev pub Store : Type 0
+Store = map.FinMap name_cmp PlainEntry
+
+-- a name, and an entry for it
+abbrev pub Update : Type 0
+Update = Name × PlainEntry
+
+-- a store as the set of its own updates, in the order of the names
+abbrev pub updates : Store → List Update
+updates s = map.entries s
+
+-- the greatest-stamp store of a set of updates
+abbrev pub store_of : List Update → Store
+store_of us = updates_of.store_of name_cmp us
+
+-- the store of the first k names
+abbrev pub first_names : ℕ → Store → Store
+first_names k s = store_of (take k (updates s))
+
+-- a is at most b
+abbrev pub plain_below : PlainEntry → PlainEntry → Bool
+plain_below a b = is_le (entry_cmp a b)
+
+-- each name of s is a name of t, with an entry at least as great
+abbrev pub IsStoreBelow : Store → Store → Type 0
+IsStoreBelow s t = (q : Name) → option_below plain_below (map.get s q) (map.get t q) ≡ true
+
+-- each name apart from this one has the entry that it had
+abbrev pub KeepsOtherNames : Name → Store → Store → Type 0
+KeepsOtherNames name old new = (q : Name) → q ≢ name → map.get new q ≡ map.get old q
+
+-- j is above s and t, and below every store that is above both
+abbrev pub IsStoreJoin : Store → Store → Store → Type 0
+IsStoreJoin = IsLeastAbove IsStoreBelow
+
+-- the join of two stores: the store of the updates of both
+abbrev pub joined_stores : Store → Store → Store
+joined_stores s t = store_of (updates s ++ updates t)
+
+-- one more than the greatest count in the whole store, at the site
+abbrev pub issue : Store → ℕ → Stamp
+issue s n = record { count = updates_of.greatest_count s + 1; site = n }
+
+-- the entry that a local command makes: an issued stamp, and a body
+abbrev pub issued : Stamp → Option (List ℕ) → PlainEntry
+issued stamp body = record { count = stamp.count; site = stamp.site; body = body }
+
+-- what the code keeps: policies by id and entities by uid, each ascending
+pub record Kept (P E : Type 0) : Type 0 where
+  pub policies : List (String Global × Entry P)
+  pub entities : List (EntityUid × Entry E)
+
+abbrev pub kept : {P E : Type 0} → List (String Global × Entry P) → List (EntityUid × Entry E) → Kept P E
+kept ps es = record { policies = ps; entities = es }
+
+-- the names of a policy of these bytes as its id, of one of this id, and of an entity
+abbrev pub policy_name : List ℕ → Name
+policy_name bytes = Policy bytes
+
+abbrev pub id_name : String Global → Name
+id_name id = Policy (string_bytes id)
+
+abbrev pub entity_name : EntityUid → Name
+entity_name uid = Entity uid
+
+-- its updates: policies, then entities
+abbrev pub shown_updates : {P E : Type 0} → Kept P E → List Update
+shown_updates k = shown_entries id_name k.policies ++ shown_entries entity_name k.entities
+
+-- the store that it stands for
+abbrev pub shown_store : {P E : Type 0} → Kept P E → Store
+shown_store k = map.from_entries (shown_updates k)
+
+-- k, with each entry of l joined in turn
+abbrev pub all_kept : {P E : Type 0} → Kept P E → Kept P E → Kept P E
+all_kept k l = kept (all_taken string_cmp greater k.policies l.policies) (all_taken uid_cmp greater k.entities l.entities)
+
+-- the entries of the first n names: policies come first
+abbrev pub first_kept : {P E : Type 0} → ℕ → Kept P E → Kept P E
+first_kept n k = kept (take n k.policies) (take (n - length k.policies) k.entities)
+
+-- what is always true of what the code keeps: the count beside it is the greatest, and its updates are those of the store, in order
+pub record IsCounted {P E : Type 0} (k : Kept P E) (greatest : ℕ) : Type 0 where
+  pub counted : greatest ≡ updates_of.greatest_count (shown_store k)
+  pub in_order : updates (shown_store k) ≡ shown_updates k

@@ -1,0 +1,193 @@
+ghost use Rattle.std.specs.Prelude.{◌≡◌, ◌↔◌, ◌<◌, ◌+◌, ◌++◌, ◌∷◌, [], length, String, string_bytes, IsTrue, OnOk, OnErr, IfErr};
+ghost use Rattle.std.specs.declared.alloc.Global.{Global};
+ghost use Rattle.std.specs.Option.{option_copied, option_map};
+ghost use Rattle.std.specs.FinMap.{get};
+ghost use Rattle.std.specs.Map.{keys_of};
+ghost use Rattle.std.specs.Map.Iter.{ShowsInOrder, deref_pair};
+ghost use Rattle.std.specs.String.{string_cmp};
+ghost use Rattle.std.specs.List.Sorted.{IsStrictlySortedBy};
+ghost use Rattle.values.specs.Names.{uid_cmp};
+ghost use Rattle.stamped_store.specs.EntryOrder.{plain_entry, greater};
+ghost use Rattle.stamped_store.specs.Greatest.{greatest_count};
+ghost use Rattle.stamped_store.specs.Shown.{greatest_kept};
+ghost use Rattle.stamped_store.specs.Stored.{value_at, value_at_text, taken};
+ghost use Rattle.stamped_store.specs.Store.{shown_store, shown_updates, store_of, updates, kept, all_kept, first_kept, policy_name, entity_name, KeepsOtherNames, IsStoreBelow, IsStoreJoin, first_names, issue};
+
+use crate::{Entry, Short, Stamp, Stamped};
+use std::alloc::Global;
+use std::collections::btree_map::Iter;
+use std::marker::Model;
+use values::EntityUid;
+
+/// The greatest count of a stamp: 10^18.
+pub const COUNT_MAX: u64 = 1_000_000_000_000_000_000;
+
+/// The store of a site: the entries of policies by id, with what their texts were read as (a P), and those of entities by uid (an E).
+///
+/// Contracts see the entries, and the store over names that they show: policies come before entities.
+#[derive(Drop)]
+pub struct PolicyStore<P: Drop, E: Drop> {
+    policies: Stamped<String, Entry<P>>,
+    entities: Stamped<EntityUid, Entry<E>>,
+    // The greatest count of all entries, so that a stamp is issued in constant time.
+    greatest: u64,
+}
+
+impl<P: Drop, E: Drop> Model for PolicyStore<P, E> {
+    ghost use Rattle.stamped_store.specs.Store.{Kept, IsCounted, kept};
+
+    ghost Value = { Kept P E };
+
+    ghost view = { λ s. kept s.policies s.entities };
+
+    ghost invariant = { λ s. IsCounted (kept s.policies s.entities) s.greatest };
+}
+
+impl<P: Drop, E: Drop> PolicyStore<P, E> {
+    /// The empty store. Takes no memory.
+    pub fn new(alloc: Global) -> Self
+        ensures kept { result ≡ kept [] [] }
+        ensures empty { shown_store result ≡ store_of [] }
+    {
+        PolicyStore {
+            policies: Stamped::new(alloc),
+            entities: Stamped::new(alloc),
+            greatest: 0,
+        }
+    }
+
+    /// The entry of the policy of this id, if there is one, in logarithmic time and without memory.
+    pub fn get_policy(&self, id: &str) -> Option<&Entry<P>>
+        ensures kept { option_copied result ≡ value_at_text self.now.policies id.now }
+        ensures shown { option_map plain_entry (option_copied result) ≡ get (shown_store self.now) (policy_name id.now) }
+    {
+        self.policies.get_str(id)
+    }
+
+    /// The entry of the entity of this uid, if there is one, in logarithmic time and without memory.
+    pub fn get_entity(&self, uid: &EntityUid) -> Option<&Entry<E>>
+        ensures kept { option_copied result ≡ value_at uid_cmp self.now.entities uid.now }
+        ensures shown { option_map plain_entry (option_copied result) ≡ get (shown_store self.now) (entity_name uid.now) }
+    {
+        self.entities.get(uid)
+    }
+
+    /// The entries of policies, ascending by the bytes of the id.
+    pub fn policies(&self) -> Iter<'_, String, Entry<P>>
+        ensures rest { result ≡ self.now.policies }
+        ensures runs { ShowsInOrder (deref_pair {K = String Global} {X = Entry P}) }
+        ensures ordered { IsStrictlySortedBy string_cmp (keys_of self.now.policies) }
+        ensures in_order { updates (shown_store self.now) ≡ shown_updates self.now }
+    {
+        self.policies.iter()
+    }
+
+    /// The entries of entities, ascending by uid.
+    pub fn entities(&self) -> Iter<'_, EntityUid, Entry<E>>
+        ensures rest { result ≡ self.now.entities }
+        ensures runs { ShowsInOrder (deref_pair {K = EntityUid} {X = Entry E}) }
+        ensures ordered { IsStrictlySortedBy uid_cmp (keys_of self.now.entities) }
+        ensures in_order { updates (shown_store self.now) ≡ shown_updates self.now }
+    {
+        self.entities.iter()
+    }
+
+    /// The greatest count in the whole store, and 0 for the empty one, in constant time.
+    pub fn greatest_count(&self) -> u64
+        ensures { result ≡ greatest_count (shown_store self.now) }
+    {
+        self.greatest
+    }
+
+    /// The stamp of the next local command at a site: one more than the greatest count in the whole store, and the site's number.
+    pub fn issue(&self, site: u16) -> Stamp
+        requires { greatest_count (shown_store self.now) < COUNT_MAX }
+        ensures { result ≡ issue (shown_store self.now) site }
+    {
+        Stamp {
+            count: self.greatest + 1,
+            site,
+        }
+    }
+
+    /// Joins an entry at a policy's id, in logarithmic time. Every other name keeps its entry. Where memory is refused, the id and
+    /// the entry come back and nothing changes.
+    pub fn take_policy(&mut self, id: String, entry: Entry<P>) -> Result<(), (String, Entry<P>)>
+        ensures ok { OnOk result (shown_store self.new ≡ store_of (updates (shown_store self.old) ++ (policy_name (string_bytes id), plain_entry entry) ∷ [])) }
+        ensures others { OnOk result (KeepsOtherNames (policy_name (string_bytes id)) (shown_store self.old) (shown_store self.new)) }
+        ensures kept { OnOk result (self.new ≡ kept (taken string_cmp greater self.old.policies id entry) self.old.entities) }
+        ensures refused { IfErr result (λ pair. pair ≡ (id, entry)) }
+        ensures err { OnErr result (self.new ≡ self.old) }
+    {
+        let count = entry.stamp.count;
+        self.policies.take(id, entry)?;
+        self.greatest = self.greatest.max(count);
+        Ok(())
+    }
+
+    /// Joins an entry at an entity's uid, in logarithmic time. Every other name keeps its entry. Where memory is refused, the uid
+    /// and the entry come back and nothing changes.
+    pub fn take_entity(
+        &mut self,
+        uid: EntityUid,
+        entry: Entry<E>,
+    ) -> Result<(), (EntityUid, Entry<E>)>
+        ensures ok { OnOk result (shown_store self.new ≡ store_of (updates (shown_store self.old) ++ (entity_name uid, plain_entry entry) ∷ [])) }
+        ensures others { OnOk result (KeepsOtherNames (entity_name uid) (shown_store self.old) (shown_store self.new)) }
+        ensures kept { OnOk result (self.new ≡ kept self.old.policies (taken uid_cmp greater self.old.entities uid entry)) }
+        ensures refused { IfErr result (λ pair. pair ≡ (uid, entry)) }
+        ensures err { OnErr result (self.new ≡ self.old) }
+    {
+        let count = entry.stamp.count;
+        self.entities.take(uid, entry)?;
+        self.greatest = self.greatest.max(count);
+        Ok(())
+    }
+
+    /// Leaves the join of both stores. Where memory is refused, the entries of the other store's first names have been joined
+    /// (policies come before entities), and its rest is dropped.
+    pub fn merge(&mut self, other: Self) -> Result<(), Short>
+        ensures ok { OnOk result (IsStoreJoin (shown_store self.old) (shown_store other) (shown_store self.new)) }
+        ensures ok_kept { OnOk result (self.new ≡ all_kept self.old other) }
+        ensures short { IfErr result (λ s. IsStoreJoin (shown_store self.old) (first_names s.taken (shown_store other)) (shown_store self.new)) }
+        ensures short_kept { IfErr result (λ s. self.new ≡ all_kept self.old (first_kept s.taken other)) }
+        ensures cut { IfErr result (λ s. s.taken < length (updates (shown_store other))) }
+    {
+        let PolicyStore {
+            policies,
+            entities,
+            greatest,
+        } = other;
+        let before = policies.len();
+        if let Err(short) = self.policies.merge(policies) {
+            self.greatest = greatest_of(&self.policies).max(greatest_of(&self.entities));
+            return Err(short);
+        }
+        if let Err(short) = self.entities.merge(entities) {
+            self.greatest = greatest_of(&self.policies).max(greatest_of(&self.entities));
+            return Err(Short {
+                taken: before + short.taken,
+            });
+        }
+        self.greatest = self.greatest.max(greatest);
+        Ok(())
+    }
+
+    /// Whether each name of this store is a name of the other, with an entry there that is at least as great. Takes no memory.
+    pub fn below(&self, other: &Self) -> bool
+        ensures { IsTrue result ↔ IsStoreBelow (shown_store self.now) (shown_store other.now) }
+    {
+        self.policies.below(&other.policies) && self.entities.below(&other.entities)
+    }
+}
+
+// The greatest count of these entries, and 0 of none.
+fn greatest_of<K: Ord + Drop, P: Drop>(entries: &Stamped<K, Entry<P>>) -> u64
+    ensures { result ≡ greatest_kept entries.now }
+{
+    let mut greatest: u64 = 0;
+    for (_, entry) in entries.iter() {
+        greatest = greatest.max(entry.stamp.count);
+    }
+    greatest
+}

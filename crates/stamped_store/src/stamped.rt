@@ -1,0 +1,146 @@
+ghost use Rattle.std.specs.Prelude.{◌≡◌, ◌↔◌, ◌<◌, ◌^◌, [], length, take, Some, IfErr, OnOk, OnErr, IsTrue};
+ghost use Rattle.std.specs.Option.{option_copied};
+ghost use Rattle.std.specs.Ordering.{is_eq};
+ghost use Rattle.std.specs.List.Sorted.{IsStrictlySortedBy};
+ghost use Rattle.std.specs.Map.{keys_of};
+ghost use Rattle.std.specs.Map.Iter.{ShowsInOrder, deref_pair};
+ghost use Rattle.stamped_store.specs.Joins.{IsLeastAbove, option_below};
+ghost use Rattle.stamped_store.specs.Stored.{value_at, value_at_text, joined_onto, taken, all_taken, KeepsOthers, IsBelow, IsJoined};
+
+use crate::Join;
+use std::alloc::Global;
+use std::collections::BTreeMap;
+use std::collections::btree_map::Iter;
+use std::marker::Model;
+
+/// Want of memory in a merge: exactly the entries of the first `taken` keys of the other store were joined, and its rest was dropped.
+#[derive(Clone, Copy, Debug, PartialEq, Eq)]
+pub struct Short {
+    pub taken: usize,
+}
+
+/// A map whose values are joined at each key. An entry is never removed.
+///
+/// Contracts see the list of the entries, in the order of the keys.
+#[derive(Drop)]
+pub struct Stamped<K: Ord, V: Join> {
+    map: BTreeMap<K, V>,
+}
+
+impl<K: Ord, V: Join> Model for Stamped<K, V> {
+    ghost use Rattle.std.specs.Prelude.{List};
+
+    ghost Value = { List (K × V) };
+
+    ghost view = { λ s. s.map.entries };
+}
+
+impl<K: Ord + Drop, V: Join + Drop> Stamped<K, V> {
+    /// The empty store. Takes no memory.
+    pub fn new(alloc: Global) -> Self
+        ensures { result ≡ [] }
+    {
+        Stamped {
+            map: BTreeMap::new(alloc),
+        }
+    }
+
+    // How many keys have a value.
+    pub(crate) fn len(&self) -> usize
+        ensures len { result ≡ length self.now }
+        ensures small { result < 2 ^ 63 }
+        ensures ordered { IsStrictlySortedBy K.cmp (keys_of self.now) }
+    {
+        self.map.len()
+    }
+
+    /// The value at the key, if it has one, in logarithmic time and without memory.
+    pub fn get(&self, key: &K) -> Option<&V>
+        ensures { option_copied result ≡ value_at K.cmp self.now key.now }
+    {
+        self.map.get(key)
+    }
+
+    /// The entries, in the ascending order of their keys.
+    pub fn iter(&self) -> Iter<'_, K, V>
+        ensures rest { result ≡ self.now }
+        ensures runs { ShowsInOrder (deref_pair {K = K} {X = V}) }
+        ensures ordered { IsStrictlySortedBy K.cmp (keys_of self.now) }
+        ensures small { length self.now < 2 ^ 63 }
+    {
+        self.map.iter()
+    }
+
+    /// Joins the value at the key, in logarithmic time, and keeps every other key's value. Where memory is refused, the key and
+    /// the value come back and nothing changes.
+    pub fn take(&mut self, key: K, value: V) -> Result<(), (K, V)>
+        ensures ok { OnOk result (self.new ≡ taken K.cmp V.joined self.old key value) }
+        ensures at_key { OnOk result (value_at K.cmp self.new key ≡ Some (joined_onto V.joined (value_at K.cmp self.old key) value)) }
+        ensures others { OnOk result (KeepsOthers K.cmp key self.old self.new) }
+        ensures refused { IfErr result (λ pair. pair ≡ (key, value)) }
+        ensures err { OnErr result (self.new ≡ self.old) }
+    {
+        if let Some(held) = self.map.get_mut(&key) {
+            held.join(value);
+            return Ok(());
+        }
+        match self.map.insert(key, value) {
+            Ok(_) => Ok(()),
+            Err(refused) => Err(refused.value),
+        }
+    }
+
+    /// Leaves the join of both stores: the least store above both. Takes logarithmic time for each key of the other store, whose
+    /// keys and values are moved. Where memory is refused, the entries of its first keys have been joined, and the rest is
+    /// dropped.
+    pub fn merge(&mut self, other: Self) -> Result<(), Short>
+        ensures ok { OnOk result (IsLeastAbove (IsBelow K.cmp V.is_below) self.old other self.new) }
+        ensures ok_values { OnOk result (IsJoined K.cmp V.joined self.old other self.new) }
+        ensures ok_entries { OnOk result (self.new ≡ all_taken K.cmp V.joined self.old other) }
+        ensures short { IfErr result (λ s. IsLeastAbove (IsBelow K.cmp V.is_below) self.old (take s.taken other) self.new) }
+        ensures short_values { IfErr result (λ s. IsJoined K.cmp V.joined self.old (take s.taken other) self.new) }
+        ensures short_entries { IfErr result (λ s. self.new ≡ all_taken K.cmp V.joined self.old (take s.taken other)) }
+        ensures cut { IfErr result (λ s. s.taken < length other) }
+        ensures small { IfErr result (λ s. s.taken < 2 ^ 63) }
+    {
+        let mut taken = 0;
+        for (key, value) in other.map {
+            match self.take(key, value) {
+                Ok(()) => taken += 1,
+                Err(_) => return Err(Short { taken }),
+            }
+        }
+        Ok(())
+    }
+
+    /// Whether each key is a key of the other store, with a value there that is at least as great. Takes no memory.
+    pub fn below(&self, other: &Self) -> bool
+        ensures { IsTrue result ↔ IsBelow K.cmp V.is_below self.now other.now }
+    {
+        for (key, value) in &self.map {
+            if !other.has_above(key, value) {
+                return false;
+            }
+        }
+        true
+    }
+
+    // Whether the key has a value at least as great as this one.
+    fn has_above(&self, key: &K, value: &V) -> bool
+        ensures { result ≡ option_below V.is_below (Some value.now) (value_at K.cmp self.now key.now) }
+    {
+        match self.get(key) {
+            Some(held) => value.below(held),
+            None => false,
+        }
+    }
+}
+
+impl<V: Join + Drop> Stamped<String, V> {
+    /// The value at the key of these characters, if it has one, in logarithmic time and without memory.
+    pub fn get_str(&self, text: &str) -> Option<&V>
+        ensures { option_copied result ≡ value_at_text self.now text.now }
+    {
+        self.map.get(text)
+    }
+}

@@ -1,0 +1,10 @@
+pub mod Agree
+pub mod Compared
+pub mod Depths
+pub mod Found
+pub mod Joining
+pub mod Members
+pub mod Puts
+pub mod Records
+pub mod Scanning
+pub mod Unique

@@ -1,0 +1,63 @@
+use Rattle.std.proofs.Common.{◌≡◌, [], ◌<◌, ◌∷◌, ◌++◌, arith, sym, ap, ◌∙◌, subst, append_assoc, string_bytes, string_cmp}
+use Rattle.std.specs.List.Sorted.{IsStrictlySortedBy}
+use Rattle.std.specs.Map.{keys_of}
+use Rattle.values.specs.Values.{set, record_of, height, heights, field_heights, values_of, fields_of}
+use Rattle.std.proofs.lemmas.List.{append-nil}
+use Rattle.values.specs.ValueView.{of_kind, of_entries}
+use Rattle.values.proofs.Records.{Entry, of_entries-insert_entry, put_last}
+use Rattle.values.proofs.Depths.{member_height, field_height}
+use Rattle.values.proofs.value.+copy.Goals as goal
+
+pub Record::copy-loop-key-init : goal.Record::copy-loop-key-init
+Record::copy-loop-key-init t c =
+    let it : c.into_iter-key-iterator.result ≡ c.self.inside.fields.entries = c.into_iter-key-iterator.ensures.into_iter_gives ∙ c.iter-key-items.ensures.rest in (
+      [],
+      sym c.self.view_is ∙ ap of_entries (sym it),
+      subst (λ es. IsStrictlySortedBy string_cmp (keys_of es)) (sym it) c.iter-key-items.ensures.ordered,
+      ap of_entries c.new-copies.ensures.empty,
+    )
+
+pub Record::copy-copy-requires : goal.Record::copy-copy-requires
+Record::copy-copy-requires t c =
+    let i = c.loop-key.invariant in
+    let e : Entry = (c.in-Some.key.now, c.in-Some.value.now) in
+    let whole : c.args.self.now ≡ of_entries (i.0 ++ e ∷ c.next.new.self) = i.1 ∙ ap (λ es. of_entries (i.0 ++ es)) c.in-Some.ensures.steps in
+    let deep : field_heights (fields_of c.args.self.now) ≡ field_heights (fields_of (of_entries (i.0 ++ e ∷ c.next.new.self))) = ap (λ fs. field_heights (fields_of fs)) whole in
+    (omega (arith, deep, field_height i.0 e c.next.new.self), tt)
+
+pub Record::copy-loop-key-preserved : goal.Record::copy-loop-key-preserved
+Record::copy-loop-key-preserved t c =
+    let i = c.loop-key.invariant in
+    let e : Entry = (c.in-Some.key.now, c.in-Some.value.now) in
+    let left = c.next.new.self in
+    let all : i.0 ++ c.loop-key.key-iterator ≡ i.0 ++ e ∷ left = ap (λ es. i.0 ++ es) c.in-Some.ensures.steps in
+    let sorted = subst (λ es. IsStrictlySortedBy string_cmp (keys_of es)) all i.2 in
+    let named : string_bytes c.in_ok-name.name ≡ string_bytes e.0 = c.in_ok-name.ensures.cases in (
+      i.0 ++ e ∷ [],
+      i.1 ∙ ap of_entries (all ∙ sym (append_assoc i.0 (e ∷ []) left)),
+      subst (λ es. IsStrictlySortedBy string_cmp (keys_of es)) (sym (append_assoc i.0 (e ∷ []) left)) sorted,
+      ap of_entries c.in_ok-insert.ensures.entries ∙ (of_entries-insert_entry c.loop-key.copies.entries c.in_ok-name.name c.in_ok-copy.field-0 ∙ rw (named, c.in_ok-copy.ensures, i.3) (put_last i.0 e left sorted)),
+    )
+
+pub Record::copy-returns : goal.Record::copy-returns
+Record::copy-returns t c =
+    let i = c.loop-key.invariant in
+    let s = c.in-None.ensures.steps in
+    i.3 ∙ sym (i.1 ∙ rw (s.0, append-nil i.0))
+
+pub Value::copy-copy-requires-in-Set : goal.Value::copy-copy-requires-in-Set
+Value::copy-copy-requires-in-Set t c =
+    let e : set (values_of c.in-Set.members) ≡ c.args.self.now = ap of_kind (sym c.in-Set.is) ∙ c.self.view_is in
+    (omega (arith, ap height e), tt)
+
+pub Value::copy-copy-requires-in-Record : goal.Value::copy-copy-requires-in-Record
+Value::copy-copy-requires-in-Record t c =
+    let e : record_of (fields_of c.in-Record.fields) ≡ c.args.self.now = ap of_kind (sym c.in-Record.is) ∙ c.self.view_is in
+    (omega (arith, ap height e), tt)
+
+pub Set::copy-copy-requires : goal.Set::copy-copy-requires
+Set::copy-copy-requires t c =
+    let same : c.deref-member-items.result.now ≡ c.self.inside.members.items = c.deref-member-items.ensures.value in
+    let deep : height c.member-item.result < heights (values_of c.self.inside.members.items) =
+    rw c.member-item.is (rw same (member_height c.self.inside.members.items c.loop-member.member-index c.member-item.result (rw same at c.loop-member-test.true))) in
+    (omega (arith, deep, ap (λ vs. heights (values_of vs)) c.self.view_is), tt)

@@ -1,0 +1,18 @@
+-- The fields of a record: keys ascend strictly, each with its value.
+use Rattle.std.specs.Prelude.{ℕ, List, [], ◌∷◌, Option, Some, None}
+use Rattle.std.specs.Ordering.{match_ordering}
+use Rattle.values.specs.Values.{PlainValue}
+use Rattle.values.specs.Uids.{text_cmp}
+
+abbrev pub Field : Type 0
+Field = List ℕ × PlainValue
+
+-- the fields, with v at k
+abbrev pub put : List ℕ → PlainValue → List Field → List Field
+put k v [] = (k, v) ∷ []
+put k v (f ∷ fs) = match_ordering (text_cmp k f.0) ((k, v) ∷ f ∷ fs) ((f.0, v) ∷ fs) (f ∷ put k v fs)
+
+-- the value at a key
+abbrev pub find_field : List ℕ → List Field → Option PlainValue
+find_field k [] = None
+find_field k (f ∷ fs) = match_ordering (text_cmp k f.0) (find_field k fs) (Some f.1) (find_field k fs)

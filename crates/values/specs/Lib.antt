@@ -1,0 +1,11 @@
+pub mod Fields
+pub mod Names
+pub mod Paths
+pub mod Scan
+pub mod Sets
+pub mod Uids
+pub mod ValueCode
+pub mod ValueFalls
+pub mod ValueOrder
+pub mod ValueView
+pub mod Values

@@ -1,0 +1,19 @@
+-- The set of some values: each once, ascending.
+use Rattle.std.specs.Prelude.{List, [], ◌∷◌, Bool}
+use Rattle.std.specs.List.{list_any}
+use Rattle.std.specs.Ordering.{match_ordering, is_eq}
+use Rattle.values.specs.Values.{PlainValue}
+use Rattle.values.specs.ValueOrder.{value_cmp}
+
+-- the set with one more value
+abbrev pub put_value : PlainValue → List PlainValue → List PlainValue
+put_value v [] = v ∷ []
+put_value v (w ∷ ws) = match_ordering (value_cmp v w) (v ∷ w ∷ ws) (w ∷ ws) (w ∷ put_value v ws)
+
+abbrev pub set_list : List PlainValue → List PlainValue
+set_list [] = []
+set_list (v ∷ vs) = put_value v (set_list vs)
+
+-- whether a value is among these
+abbrev pub has_member : List PlainValue → PlainValue → Bool
+has_member ws v = list_any (λ w. is_eq (value_cmp w v)) ws

@@ -1,0 +1,160 @@
+-- A value as a list of tokens, which gives it back. The tokens also give the order of values.
+use Rattle.std.specs.Prelude.{◌≡◌, ℕ, ℤ, pos, List, [], ◌∷◌, ◌++◌, Bool, true, false, cond, ◌==◌, refl}
+use Rattle.std.specs.Coded.{Coded, code_by, coded×, coded_ℕ, coded_ℤ, coded_list}
+use Rattle.std.proofs.Common.{ap, sym, ◌∙◌, append_assoc}
+use Rattle.std.proofs.lemmas.List.{append-nil}
+use Rattle.extensions.specs.Network.{Network}
+use Rattle.extensions.specs.Order.{version_number, network_of, network_of-network_numbers}
+use Rattle.values.specs.Values.{PlainValue, boolean, long, text, entity, set, record_of, decimal, ipaddr, PlainValues, no_values, value, PlainFields, no_fields, field}
+
+-- a token: what it begins, a number, and two texts
+abbrev pub Token : Type 0
+Token = ℕ × (ℤ × (List ℕ × List ℕ))
+
+abbrev pub as_number : Bool → ℤ
+as_number false = pos 0
+as_number true = pos 1
+
+abbrev pub is_one : ℤ → Bool
+is_one (pos n) = n == 1
+is_one z = false
+
+-- a network as a list of three numbers
+abbrev pub network_list : Network → List ℕ
+network_list n = version_number n.version ∷ n.address ∷ n.prefix ∷ []
+
+abbrev pub list_network : List ℕ → Network
+list_network [] = network_of (0, (0, 0))
+list_network (v ∷ []) = network_of (v, (0, 0))
+list_network (v ∷ a ∷ []) = network_of (v, (a, 0))
+list_network (v ∷ a ∷ p ∷ more) = network_of (v, (a, p))
+
+abbrev mutual
+  pub tokens : PlainValue → List Token
+  tokens (boolean b) = (1, (as_number b, ([], []))) ∷ []
+  tokens (long z) = (2, (z, ([], []))) ∷ []
+  tokens (text s) = (3, (pos 0, (s, []))) ∷ []
+  tokens (entity u) = (4, (pos 0, (u.type_name, u.id))) ∷ []
+  tokens (set vs) = (5, (pos 0, ([], []))) ∷ set_tokens vs
+  tokens (record_of fs) = (6, (pos 0, ([], []))) ∷ record_tokens fs
+  tokens (decimal z) = (7, (z, ([], []))) ∷ []
+  tokens (ipaddr n) = (8, (pos 0, (network_list n, []))) ∷ []
+
+  pub set_tokens : PlainValues → List Token
+  set_tokens no_values = (0, (pos 0, ([], []))) ∷ []
+  set_tokens (value v vs) = tokens v ++ set_tokens vs
+
+  pub record_tokens : PlainFields → List Token
+  record_tokens no_fields = (0, (pos 0, ([], []))) ∷ []
+  record_tokens (field k v fs) = (9, (pos 0, (k, []))) ∷ (tokens v ++ record_tokens fs)
+
+-- what a token that was read stands for
+pub data Item : Type 0 where
+  end : Item
+  key : List ℕ → Item
+  whole : PlainValue → Item
+
+-- the members up to the next end, and what lies behind it
+abbrev pub members : List Item → PlainValues
+members [] = no_values
+members (end ∷ st) = no_values
+members (key k ∷ st) = no_values
+members (whole v ∷ st) = value v (members st)
+
+abbrev pub fields : List Item → PlainFields
+fields [] = no_fields
+fields (end ∷ st) = no_fields
+fields (whole v ∷ st) = no_fields
+fields (key k ∷ []) = no_fields
+fields (key k ∷ end ∷ st) = no_fields
+fields (key k ∷ key l ∷ st) = no_fields
+fields (key k ∷ whole v ∷ st) = field k v (fields st)
+
+abbrev pub behind : List Item → List Item
+behind [] = []
+behind (end ∷ st) = st
+behind (key k ∷ st) = behind st
+behind (whole v ∷ st) = behind st
+
+abbrev pub read_one : ℕ → ℤ → List ℕ → List ℕ → List Item → List Item
+read_one n z s t st =
+    cond (n == 0) (end ∷ st) (cond (n == 1) (whole (boolean (is_one z)) ∷ st) (cond (n == 2) (whole (long z) ∷ st) (cond (n == 3) (whole (text s) ∷ st)
+    (cond (n == 4) (whole (entity (record { type_name = s; id = t })) ∷ st) (cond (n == 5) (whole (set (members st)) ∷ behind st)
+    (cond (n == 6) (whole (record_of (fields st)) ∷ behind st) (cond (n == 7) (whole (decimal z) ∷ st) (cond (n == 8) (whole (ipaddr (list_network s)) ∷ st) (key s ∷ st)))))))))
+
+-- reads tokens, the last one first
+abbrev pub read : List Token → List Item
+read [] = []
+read (t ∷ ts) = read_one t.0 t.1.0 t.1.1.0 t.1.1.1 (read ts)
+
+abbrev items_of : PlainValues → List Item → List Item
+items_of no_values st = end ∷ st
+items_of (value v vs) st = whole v ∷ items_of vs st
+
+abbrev field_items : PlainFields → List Item → List Item
+field_items no_fields st = end ∷ st
+field_items (field k v fs) st = key k ∷ whole v ∷ field_items fs st
+
+members-items_of : (vs : PlainValues) (st : List Item) → members (items_of vs st) ≡ vs
+members-items_of no_values st = refl
+members-items_of (value v vs) st = ap (value v) (members-items_of vs st)
+
+behind-items_of : (vs : PlainValues) (st : List Item) → behind (items_of vs st) ≡ st
+behind-items_of no_values st = refl
+behind-items_of (value v vs) st = behind-items_of vs st
+
+fields-field_items : (fs : PlainFields) (st : List Item) → fields (field_items fs st) ≡ fs
+fields-field_items no_fields st = refl
+fields-field_items (field k v fs) st = ap (field k v) (fields-field_items fs st)
+
+behind-field_items : (fs : PlainFields) (st : List Item) → behind (field_items fs st) ≡ st
+behind-field_items no_fields st = refl
+behind-field_items (field k v fs) st = behind-field_items fs st
+
+is_one-as_number : (b : Bool) → is_one (as_number b) ≡ b
+is_one-as_number false = refl
+is_one-as_number true = refl
+
+mutual
+  pub read-tokens : (v : PlainValue) (ts : List Token) → read (tokens v ++ ts) ≡ whole v ∷ read ts
+  read-tokens (boolean b) ts = ap (λ x. whole (boolean x) ∷ read ts) (is_one-as_number b)
+  read-tokens (long z) ts = refl
+  read-tokens (text s) ts = refl
+  read-tokens (entity u) ts = refl
+  read-tokens (decimal z) ts = refl
+  read-tokens (ipaddr n) ts = ap (λ m. whole (ipaddr m) ∷ read ts) (network_of-network_numbers n)
+  read-tokens (set vs) ts =
+      rw (read-set_tokens vs ts, members-items_of vs (read ts), behind-items_of vs (read ts))
+  read-tokens (record_of fs) ts =
+      rw (read-record_tokens fs ts, fields-field_items fs (read ts), behind-field_items fs (read ts))
+
+  pub read-set_tokens : (vs : PlainValues) (ts : List Token) → read (set_tokens vs ++ ts) ≡ items_of vs (read ts)
+  read-set_tokens no_values ts = refl
+  read-set_tokens (value v vs) ts =
+      ap read (append_assoc (tokens v) (set_tokens vs) ts) ∙ (read-tokens v (set_tokens vs ++ ts) ∙ ap (λ st. whole v ∷ st) (read-set_tokens vs ts))
+
+  pub read-record_tokens : (fs : PlainFields) (ts : List Token) → read (record_tokens fs ++ ts) ≡ field_items fs (read ts)
+  read-record_tokens no_fields ts = refl
+  read-record_tokens (field k v fs) ts =
+      ap (λ w. key k ∷ read w) (append_assoc (tokens v) (record_tokens fs) ts) ∙ ap (λ st. key k ∷ st) (read-tokens v (record_tokens fs ++ ts) ∙ ap (λ st. whole v ∷ st) (read-record_tokens fs ts))
+
+abbrev first_of : List Item → PlainValue
+first_of [] = boolean false
+first_of (end ∷ st) = boolean false
+first_of (key k ∷ st) = boolean false
+first_of (whole v ∷ st) = v
+
+abbrev from_tokens : List Token → PlainValue
+from_tokens ts = first_of (read ts)
+
+pub from_tokens-tokens : (v : PlainValue) → from_tokens (tokens v) ≡ v
+from_tokens-tokens v =
+    ap from_tokens (sym (append-nil (tokens v))) ∙ ap first_of (read-tokens v [])
+
+abbrev pub value_code : Coded PlainValue
+value_code =
+    code_by (List Token) (coded_list (coded× coded_ℕ (coded× coded_ℤ (coded× (coded_list coded_ℕ) (coded_list coded_ℕ))))) tokens from_tokens from_tokens-tokens
+
+-- values with the same tokens are the same
+pub same_from_tokens : (v w : PlainValue) → tokens v ≡ tokens w → v ≡ w
+same_from_tokens v w e = sym (from_tokens-tokens v) ∙ (ap from_tokens e ∙ from_tokens-tokens w)

@@ -1,0 +1,19 @@
+-- What the parts of a value are seen as.
+use Rattle.std.specs.Prelude.{List, map, String, string_bytes, ℕ}
+use Rattle.std.specs.declared.alloc.Global.{Global}
+use Rattle.values.specs.declared.value.Kind.{Kind}
+use Rattle.values.specs.declared.value.Kind.TheVariants.{Boolean, Long, Text, Entity, Set, Record, Decimal, IpAddr}
+use Rattle.values.specs.Values.{PlainValue, boolean, long, text, entity, set, record_of, decimal, ipaddr, values_of, fields_of}
+
+abbrev pub of_kind : Kind → PlainValue
+of_kind (Boolean b) = boolean b
+of_kind (Long z) = long z
+of_kind (Text s) = text s
+of_kind (Entity u) = entity u
+of_kind (Set vs) = set (values_of vs)
+of_kind (Record r) = record_of (fields_of r)
+of_kind (Decimal d) = decimal d
+of_kind (IpAddr n) = ipaddr n
+
+abbrev pub of_entries : List (String Global × PlainValue) → List (List ℕ × PlainValue)
+of_entries es = map (λ e. (string_bytes e.0, e.1)) es

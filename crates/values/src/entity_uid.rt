@@ -1,0 +1,26 @@
+ghost use Rattle.std.specs.Prelude.{◌≡◌, IfOk};
+
+use crate::type_name::TypeName;
+use plain::{NoMemory, Text};
+
+/// The name of an entity: its type's name and its id. Contracts see a record of two lists of bytes.
+///
+/// Uids are ordered by the bytes of the type's name, and then by those of the id.
+#[derive(Debug, PartialEq, Eq, PartialOrd, Ord, Drop)]
+pub struct EntityUid {
+    /// The entity's type.
+    pub type_name: TypeName,
+    /// Any text.
+    pub id: Text,
+}
+
+impl EntityUid {
+    /// The same uid, or `NoMemory`.
+    pub fn copy(&self) -> Result<EntityUid, NoMemory>
+        ensures { IfOk result (λ u. u ≡ self.now) }
+    {
+        let type_name = self.type_name.copy()?;
+        let id = self.id.copy()?;
+        Ok(EntityUid { type_name, id })
+    }
+}

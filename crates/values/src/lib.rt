@@ -1,0 +1,24 @@
+//! Names, requests and values: entity types, entity uids, names of policies and entities, what is asked of a site, and the values that
+//! policies compute with.
+#![tactic(auto)]
+
+mod entity_uid;
+mod name;
+mod orders;
+mod path;
+mod request;
+mod type_name;
+mod value;
+
+pub use entity_uid::EntityUid;
+pub use name::Name;
+pub use orders::{
+    entity_uids_are_ordered, names_are_ordered, records_are_maps, records_are_ordered,
+    requests_are_ordered, sets_are_ordered, type_names_are_ordered, values_are_ordered,
+};
+pub use request::Request;
+pub use type_name::TypeName;
+pub use value::{Kind, Record, Set, Value};
+
+#[cfg(test)]
+mod tests;

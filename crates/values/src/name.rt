@@ -1,0 +1,34 @@
+ghost use Rattle.std.specs.Prelude.{◌≡◌, IfOk};
+
+use crate::entity_uid::EntityUid;
+use plain::{NoMemory, Text};
+
+/// What a site stores something under: a policy's id or an entity's uid.
+///
+/// Policies come before entities; policies are ordered by the bytes of the id, entities as their uids are.
+/// A policy's id is any text here: that it has 1 to 256 bytes is judged where ids come in.
+#[derive(Debug, PartialEq, Eq, PartialOrd, Ord, Drop)]
+pub enum Name {
+    /// A policy, by its id.
+    Policy(Text),
+    /// An entity, by its uid.
+    Entity(EntityUid),
+}
+
+impl Name {
+    /// The same name, or `NoMemory`.
+    pub fn copy(&self) -> Result<Name, NoMemory>
+        ensures { IfOk result (λ n. n ≡ self.now) }
+    {
+        match self {
+            Name::Policy(id) => {
+                let id = id.copy()?;
+                Ok(Name::Policy(id))
+            }
+            Name::Entity(uid) => {
+                let uid = uid.copy()?;
+                Ok(Name::Entity(uid))
+            }
+        }
+    }
+}

@@ -1,0 +1,75 @@
+// The orders of names, as laws.
+ghost use Rattle.std.specs.Prelude.{◌≡◌, ◌≢◌, ◌↔◌, ℕ, List, IsTrue, Contains, Some};
+ghost use Rattle.std.specs.Cmp.Lexicographic.{slice_cmp};
+ghost use Rattle.std.specs.List.Sorted.{IsStrictlySortedBy};
+ghost use Rattle.std.specs.Cmp.{IsTotalOrder};
+ghost use Rattle.std.specs.FinMap.{IsAntisymmetric};
+ghost use Rattle.values.specs.Names.{text_cmp, uid_cmp, name_cmp, request_cmp};
+ghost use Rattle.values.specs.ValueOrder.{value_cmp, set_cmp, record_cmp, field_cmp};
+ghost use Rattle.values.specs.Fields.{find_field, put};
+
+use crate::entity_uid::EntityUid;
+use crate::name::Name;
+use crate::request::Request;
+use crate::type_name::TypeName;
+use crate::value::{Record, Set, Value};
+
+/// Type names are compared by their bytes: `cmp` is that order, which is total, and `Equal` only at equal names; `==` holds exactly at equal values.
+pub fn type_names_are_ordered()
+    ensures by { (a b : TypeName) → ⟦<TypeName as Ord>⟧.cmp a b ≡ text_cmp a b }
+    ensures same { (a b : TypeName) → IsTrue (⟦<TypeName as PartialEq>⟧.eq a b) ↔ (a ≡ b) }
+    ensures total { IsTotalOrder text_cmp }
+    ensures exact { IsAntisymmetric text_cmp }
+{}
+
+/// Entity uids are compared by the type's name, then by the id: `cmp` is that order, which is total, and `Equal` only at equal uids; `==` holds exactly at equal values.
+pub fn entity_uids_are_ordered()
+    ensures by { (a b : EntityUid) → ⟦<EntityUid as Ord>⟧.cmp a b ≡ uid_cmp a b }
+    ensures same { (a b : EntityUid) → IsTrue (⟦<EntityUid as PartialEq>⟧.eq a b) ↔ (a ≡ b) }
+    ensures total { IsTotalOrder uid_cmp }
+    ensures exact { IsAntisymmetric uid_cmp }
+{}
+
+/// Names are compared with policies before entities: `cmp` is that order, which is total, and `Equal` only at equal names; `==` holds exactly at equal values.
+pub fn names_are_ordered()
+    ensures by { (a b : Name) → ⟦<Name as Ord>⟧.cmp a b ≡ name_cmp a b }
+    ensures same { (a b : Name) → IsTrue (⟦<Name as PartialEq>⟧.eq a b) ↔ (a ≡ b) }
+    ensures total { IsTotalOrder name_cmp }
+    ensures exact { IsAntisymmetric name_cmp }
+{}
+
+/// Requests are compared by principal, action and resource: `cmp` is that order, which is total, and `Equal` only at equal requests; `==` holds exactly at equal values.
+pub fn requests_are_ordered()
+    ensures by { (a b : Request) → ⟦<Request as Ord>⟧.cmp a b ≡ request_cmp a b }
+    ensures same { (a b : Request) → IsTrue (⟦<Request as PartialEq>⟧.eq a b) ↔ (a ≡ b) }
+    ensures total { IsTotalOrder request_cmp }
+    ensures exact { IsAntisymmetric request_cmp }
+{}
+
+/// Values are compared by kind, then by what they hold: `cmp` is that order, which is total, and `Equal` only at equal values; `==` holds
+/// exactly at equal values.
+pub fn values_are_ordered()
+    ensures by { (a b : Value) → ⟦<Value as Ord>⟧.cmp a b ≡ value_cmp a b }
+    ensures same { (a b : Value) → IsTrue (⟦<Value as PartialEq>⟧.eq a b) ↔ (a ≡ b) }
+    ensures total { IsTotalOrder value_cmp }
+    ensures exact { IsAntisymmetric value_cmp }
+{}
+
+/// Sets are compared member by member, as ascending lists, a beginning first; two that have the same members are equal.
+pub fn sets_are_ordered()
+    ensures by { (a b : Set) → ⟦<Set as Ord>⟧.cmp a b ≡ slice_cmp value_cmp a b }
+    ensures same { (a b : Set) → IsTrue (⟦<Set as PartialEq>⟧.eq a b) ↔ (a ≡ b) }
+    ensures members { (a b : Set) → IsStrictlySortedBy value_cmp a → IsStrictlySortedBy value_cmp b → ((v : Value) → Contains a v ↔ Contains b v) → a ≡ b }
+{}
+
+/// Records are compared field by field, by the key and then by the value, as lists that ascend by keys, a beginning first.
+pub fn records_are_ordered()
+    ensures by { (a b : Record) → ⟦<Record as Ord>⟧.cmp a b ≡ slice_cmp field_cmp a b }
+    ensures same { (a b : Record) → IsTrue (⟦<Record as PartialEq>⟧.eq a b) ↔ (a ≡ b) }
+{}
+
+/// A record is a finite map: a field that was set has its value, and each other field what it had.
+pub fn records_are_maps()
+    ensures here { (key : List ℕ) (value : Value) (fields : Record) → find_field key (put key value fields) ≡ Some value }
+    ensures others { (key other : List ℕ) (value : Value) (fields : Record) → other ≢ key → find_field other (put key value fields) ≡ find_field other fields }
+{}

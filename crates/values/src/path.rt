@@ -1,0 +1,76 @@
+// Whether a text is a Path of the policy language.
+ghost use Rattle.std.specs.Prelude.{◌≡◌, ◌≤◌, ◌↔◌, IsTrue, length};
+ghost use Rattle.plain.specs.Words.{is_letter, is_digit, is_word_byte, AllAre, IsReserved, IsIdent, IsPath};
+ghost use Rattle.values.specs.Scan.{run};
+
+#[tactic(auto, unfolding(plain::specs::Words::is_letter))]
+fn letter(byte: u8) -> bool
+    ensures { result ≡ is_letter byte }
+{
+    matches!(byte, b'_' | b'a'..=b'z' | b'A'..=b'Z')
+}
+
+#[tactic(auto, unfolding(plain::specs::Words::is_word_byte, plain::specs::Words::is_digit))]
+fn word_byte(byte: u8) -> bool
+    ensures { result ≡ is_word_byte byte }
+{
+    letter(byte) || byte.is_ascii_digit()
+}
+
+/// How many bytes of a word come first.
+fn word_len(text: &[u8]) -> usize
+    ensures is { result ≡ run is_word_byte text.now }
+    ensures within { result ≤ length text.now }
+{
+    let mut len = 0;
+    for byte in text {
+        if !word_byte(*byte) {
+            return len;
+        }
+        len += 1;
+    }
+    len
+}
+
+/// The words that are no identifier.
+const RESERVED: [&[u8]; 10] = [
+    b"true", b"false", b"if", b"then", b"else", b"in", b"is", b"like", b"has", b"__cedar",
+];
+
+/// Whether no identifier may be this word.
+fn is_reserved(word: &[u8]) -> bool
+    ensures { IsTrue result ↔ IsReserved word.now }
+{
+    RESERVED.contains(&word)
+}
+
+/// Whether bytes of words are an identifier.
+fn is_ident(word: &[u8]) -> bool
+    requires { AllAre is_word_byte word.now }
+    ensures { IsTrue result ↔ IsIdent word.now }
+{
+    match word {
+        [first, ..] => letter(*first) && !is_reserved(word),
+        [] => false,
+    }
+}
+
+/// Whether a text is identifiers with `::` between each two.
+pub(crate) fn is_path(text: &[u8]) -> bool
+    ensures { IsTrue result ↔ IsPath text.now }
+{
+    let mut rest = text;
+    loop {
+        let (word, tail) = rest.split_at(word_len(rest));
+        if !is_ident(word) {
+            return false;
+        }
+        if tail.is_empty() {
+            return true;
+        }
+        match tail.strip_prefix(b"::") {
+            Some(more) => rest = more,
+            None => return false,
+        }
+    }
+}

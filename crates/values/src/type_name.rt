@@ -1,0 +1,117 @@
+ghost use Rattle.std.specs.Prelude.{◌≡◌, ◌<◌, Some, IfOk, MatchResult, MatchOption, length, map, refl};
+ghost use Rattle.std.specs.Ordering.{nat_cmp, is_eq};
+ghost use Rattle.std.specs.Cmp.{partial_equiv_from_equiv, partial_order_from_agreeing_total};
+ghost use Rattle.std.specs.Cmp.Lexicographic.{slice_cmp};
+ghost use Rattle.std.proofs.lemmas.Cmp.{eq_by_cmp_equiv, nat_list_cmp_total};
+ghost use Rattle.plain.specs.Words.{IsPath, AreIdents};
+ghost use Rattle.values.specs.Paths.{path_of};
+
+use crate::path::is_path;
+use plain::{NoMemory, Text};
+use std::alloc::Global;
+use std::cmp::Ordering;
+use std::marker::Model;
+
+/// The name of an entity type: identifiers with `::` between them, as `User` or `Photos::Album`. Contracts see it as its bytes.
+///
+/// Each identifier is `_` or an ASCII letter and then `_`, ASCII letters and digits, and no reserved word (Cedar reference guide, grammar: `Path`).
+/// Names are equal where their bytes are, and ordered by bytes.
+#[derive(Debug, Drop)]
+pub struct TypeName {
+    text: Text,
+}
+
+impl Model for TypeName {
+    ghost use Rattle.std.specs.Prelude.{List, ℕ};
+
+    ghost Value = { List ℕ };
+
+    ghost use Rattle.plain.specs.Words.{IsPath};
+
+    ghost view = { λ t. t.text };
+
+    ghost invariant = { λ t. IsPath t.text };
+}
+
+impl TypeName {
+    /// The type name that this text is, or None where it is no Path without blanks and comments.
+    pub fn parse(alloc: Global, text: &str) -> Result<Option<TypeName>, NoMemory>
+        ensures { IfOk result (λ o. MatchOption o (IsPath text.now → ⊥) (λ t. IsPath text.now × (t ≡ text.now))) }
+    {
+        if !is_path(text.as_bytes()) {
+            return Ok(None);
+        }
+        let text = Text::from_str(alloc, text)?;
+        Ok(Some(TypeName { text }))
+    }
+
+    /// The type name that these identifiers make, `::` between each two: that of a Path that was read with blanks or comments between its words.
+    pub fn from_words(alloc: Global, words: &[&str]) -> Result<TypeName, NoMemory>
+        requires some { 0 < length words.now }
+        requires idents { AreIdents (map (λ w. w.now) words.now) }
+        ensures { IfOk result (λ t. t ≡ path_of (map (λ w. w.now) words.now)) }
+    {
+        let mut joined = String::from_str(alloc, words[0])?;
+        let more = &words[1..];
+        for word in more {
+            joined.push_str("::")?;
+            joined.push_str(word)?;
+        }
+        Ok(TypeName {
+            text: Text::from_string(joined),
+        })
+    }
+
+    /// The name as a text.
+    pub fn as_str(&self) -> &str
+        ensures { result.now ≡ self.now }
+    {
+        self.text.as_str()
+    }
+
+    /// The same name, or `NoMemory`.
+    pub fn copy(&self) -> Result<TypeName, NoMemory>
+        ensures { IfOk result (λ t. t ≡ self.now) }
+    {
+        let text = self.text.copy()?;
+        Ok(TypeName { text })
+    }
+}
+
+impl PartialEq for TypeName {
+    ghost eq = { λ s t. is_eq (slice_cmp nat_cmp s t) };
+
+    ghost laws = { partial_equiv_from_equiv (eq_by_cmp_equiv nat_list_cmp_total) };
+
+    fn eq(&self, other: &TypeName) -> bool {
+        self.text == other.text
+    }
+}
+
+impl Eq for TypeName {
+    ghost laws = { eq_by_cmp_equiv nat_list_cmp_total };
+}
+
+impl PartialOrd for TypeName {
+    ghost partial_cmp = { λ s t. Some (slice_cmp nat_cmp s t) };
+
+    ghost laws = { partial_order_from_agreeing_total (slice_cmp nat_cmp) nat_list_cmp_total (λ s t. refl) (λ s t. refl) };
+
+    fn partial_cmp(&self, other: &TypeName) -> Option<Ordering> {
+        Some(self.cmp(other))
+    }
+}
+
+impl Ord for TypeName {
+    ghost cmp = { slice_cmp nat_cmp };
+
+    ghost total = { nat_list_cmp_total };
+
+    ghost matches_partial_cmp = { λ s t. refl };
+
+    ghost matches_eq = { λ s t. refl };
+
+    fn cmp(&self, other: &TypeName) -> Ordering {
+        self.text.cmp(&other.text)
+    }
+}

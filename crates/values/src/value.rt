@@ -1,0 +1,543 @@
+// Values of the policy language, seen as plain data.
+ghost use Rattle.std.specs.Prelude.{◌≡◌, ◌↔◌, IsTrue, Contains, List, [], Some, IfOk, OnOk, OnErr, string_bytes, option_map, refl, map};
+ghost use Rattle.std.specs.Ordering.{is_eq};
+ghost use Rattle.std.specs.Cmp.{partial_equiv_from_equiv, partial_order_from_agreeing_total};
+ghost use Rattle.std.proofs.lemmas.Cmp.{eq_by_cmp_equiv};
+ghost use Rattle.std.specs.List.{list_any, list_all};
+ghost use Rattle.std.specs.List.Sorted.{IsStrictlySortedBy};
+ghost use Rattle.values.specs.Fields.{find_field, put};
+ghost use Rattle.values.specs.Sets.{set_list, has_member};
+ghost use Rattle.values.specs.Values.{PlainValue, boolean, long, text, entity, set, record_of, decimal, ipaddr, values_of, fields_of};
+ghost use Rattle.values.specs.ValueOrder.{value_cmp, set_cmp, record_cmp, kind_rank, value_cmp-IsTotalOrder, set_cmp-IsTotalOrder, record_cmp-IsTotalOrder};
+ghost use Rattle.values.specs.ValueView.{of_kind, of_entries};
+
+use crate::entity_uid::EntityUid;
+use extensions::{Decimal, IpNet};
+use plain::{NoMemory, Text};
+use std::alloc::Global;
+use std::cmp::Ordering;
+use std::collections::BTreeMap;
+use std::marker::Model;
+
+/// A value of the policy language. Contracts see plain data: a value is equal to another exactly where that data is.
+#[cycle(value)]
+#[derive(Drop)]
+pub struct Value {
+    kind: Kind,
+}
+
+/// What a value is, with what it holds.
+#[cycle(value)]
+#[derive(Drop)]
+pub enum Kind {
+    Boolean(bool),
+    Long(i64),
+    Text(Text),
+    Entity(EntityUid),
+    Set(Set),
+    Record(Record),
+    Decimal(Decimal),
+    IpAddr(IpNet),
+}
+
+/// A finite set of values. Contracts see the list of its members, which ascend strictly.
+#[cycle(value)]
+#[derive(Drop)]
+pub struct Set {
+    members: Vec<Value>,
+}
+
+/// A record: values by keys. Contracts see the list of its keys, which ascend strictly by bytes, each with its value.
+#[cycle(value)]
+#[derive(Drop)]
+pub struct Record {
+    fields: BTreeMap<String, Value>,
+}
+
+impl Model for Value {
+    ghost use Rattle.values.specs.Values.{PlainValue, height};
+    ghost use Rattle.values.specs.ValueCode.{value_code};
+
+    ghost Value = { PlainValue };
+
+    ghost coded = { value_code };
+
+    ghost use Rattle.values.specs.ValueView.{of_kind};
+
+    ghost view = { λ a. of_kind a.kind };
+
+    ghost size = { height };
+
+    ghost use Rattle.values.specs.ValueFalls.{deep_le-height};
+
+    ghost size_decreases = { λ a h. deep_le-height a.kind };
+}
+
+impl Model for Set {
+    ghost use Rattle.std.specs.Prelude.{List};
+    ghost use Rattle.std.specs.Coded.{coded_list};
+    ghost use Rattle.std.specs.List.Sorted.{IsStrictlySortedBy};
+    ghost use Rattle.values.specs.Values.{PlainValue, heights, values_of};
+    ghost use Rattle.values.specs.ValueCode.{value_code};
+    ghost use Rattle.values.specs.ValueOrder.{value_cmp};
+
+    ghost Value = { List PlainValue };
+
+    ghost coded = { coded_list value_code };
+
+    ghost view = { λ a. a.members.items };
+
+    ghost invariant = { λ a. IsStrictlySortedBy value_cmp a.members.items };
+
+    ghost size = { λ vs. heights (values_of vs) };
+
+    ghost use Rattle.std.proofs.Common.{arith};
+    ghost use Rattle.values.specs.ValueFalls.{most_le-heights};
+
+    ghost size_decreases = { λ a h. omega (arith, most_le-heights a.members.items) };
+}
+
+impl Model for Record {
+    ghost use Rattle.std.specs.Prelude.{List, ℕ};
+    ghost use Rattle.std.specs.Coded.{coded×, coded_list, coded_ℕ};
+    ghost use Rattle.values.specs.Values.{PlainValue, field_heights, fields_of};
+    ghost use Rattle.values.specs.ValueCode.{value_code};
+
+    ghost Value = { List (List ℕ × PlainValue) };
+
+    ghost coded = { coded_list (coded× (coded_list coded_ℕ) value_code) };
+
+    ghost use Rattle.values.specs.ValueView.{of_entries};
+
+    ghost view = { λ a. of_entries a.fields.entries };
+
+    ghost size = { λ fs. field_heights (fields_of fs) };
+
+    ghost use Rattle.std.proofs.Common.{arith};
+    ghost use Rattle.values.specs.ValueFalls.{most_le-field_heights};
+
+    ghost size_decreases = { λ a h. omega (arith, most_le-field_heights a.fields.entries) };
+}
+
+impl Value {
+    /// A boolean.
+    pub fn boolean(value: bool) -> Value
+        ensures { result ≡ boolean value }
+    {
+        Value {
+            kind: Kind::Boolean(value),
+        }
+    }
+
+    /// A number.
+    pub fn long(number: i64) -> Value
+        ensures { result ≡ long number }
+    {
+        Value {
+            kind: Kind::Long(number),
+        }
+    }
+
+    /// A text.
+    pub fn text(content: Text) -> Value
+        ensures { result ≡ text content }
+    {
+        Value {
+            kind: Kind::Text(content),
+        }
+    }
+
+    /// An entity, by its uid.
+    pub fn entity(uid: EntityUid) -> Value
+        ensures { result ≡ entity uid }
+    {
+        Value {
+            kind: Kind::Entity(uid),
+        }
+    }
+
+    /// The set of these values, in any order and with repeats, or `NoMemory`.
+    pub fn set(members: Vec<Value>) -> Result<Value, NoMemory>
+        ensures { IfOk result (λ v. v ≡ set (values_of (set_list members.items))) }
+    {
+        Ok(Value::from_set(Set::new(members)?))
+    }
+
+    /// A set; takes no memory.
+    pub fn from_set(members: Set) -> Value
+        ensures { result ≡ set (values_of members) }
+    {
+        Value {
+            kind: Kind::Set(members),
+        }
+    }
+
+    /// A record; takes no memory.
+    pub fn from_record(fields: Record) -> Value
+        ensures { result ≡ record_of (fields_of fields) }
+    {
+        Value {
+            kind: Kind::Record(fields),
+        }
+    }
+
+    /// A decimal.
+    pub fn decimal(number: Decimal) -> Value
+        ensures { result ≡ decimal number }
+    {
+        Value {
+            kind: Kind::Decimal(number),
+        }
+    }
+
+    /// An IP address with a prefix.
+    pub fn ipaddr(network: IpNet) -> Value
+        ensures { result ≡ ipaddr network }
+    {
+        Value {
+            kind: Kind::IpAddr(network),
+        }
+    }
+
+    /// What the value is.
+    pub fn kind(&self) -> &Kind
+        ensures { of_kind result.now ≡ self.now }
+    {
+        &self.kind
+    }
+
+    /// What the value is; takes no memory.
+    pub fn into_kind(self) -> Kind
+        ensures { of_kind result ≡ self }
+    {
+        let Value { kind } = self;
+        kind
+    }
+
+    /// The same value, or `NoMemory`.
+    #[cycle(copy)]
+    pub fn copy(&self, alloc: Global) -> Result<Value, NoMemory>
+        ensures { IfOk result (λ v. v ≡ self.now) }
+    {
+        match &self.kind {
+            Kind::Boolean(value) => Ok(Value {
+                kind: Kind::Boolean(*value),
+            }),
+            Kind::Long(number) => Ok(Value {
+                kind: Kind::Long(*number),
+            }),
+            Kind::Text(content) => Ok(Value {
+                kind: Kind::Text(content.copy()?),
+            }),
+            Kind::Entity(uid) => Ok(Value {
+                kind: Kind::Entity(uid.copy()?),
+            }),
+            Kind::Set(members) => Ok(Value {
+                kind: Kind::Set(members.copy(alloc)?),
+            }),
+            Kind::Record(fields) => Ok(Value {
+                kind: Kind::Record(fields.copy(alloc)?),
+            }),
+            Kind::Decimal(number) => Ok(Value {
+                kind: Kind::Decimal(*number),
+            }),
+            Kind::IpAddr(network) => Ok(Value {
+                kind: Kind::IpAddr(*network),
+            }),
+        }
+    }
+}
+
+impl Set {
+    /// The set of these values, in any order and with repeats, or `NoMemory`.
+    pub fn new(values: Vec<Value>) -> Result<Set, NoMemory>
+        ensures is { IfOk result (λ s. s ≡ set_list values.items) }
+        ensures members { IfOk result (λ s. (v : Value) → Contains s v ↔ Contains values.items v) }
+        ensures ascending { IfOk result (λ s. IsStrictlySortedBy value_cmp s) }
+    {
+        let mut members = values;
+        members.sort()?;
+        members.dedup();
+        Ok(Set { members })
+    }
+
+    /// The members, which ascend strictly.
+    pub fn members(&self) -> &[Value]
+        ensures members { result.now ≡ self.now }
+        ensures ascending { IsStrictlySortedBy value_cmp self.now }
+    {
+        &self.members
+    }
+
+    /// The same set, or `NoMemory`.
+    #[cycle(copy)]
+    pub fn copy(&self, alloc: Global) -> Result<Set, NoMemory>
+        ensures { IfOk result (λ s. s ≡ self.now) }
+    {
+        let mut copies = Vec::with_capacity(alloc, self.members.len())?;
+        for member in &self.members {
+            copies.push(member.copy(alloc)?)?;
+        }
+        Ok(Set { members: copies })
+    }
+
+    /// Whether a value is a member; takes no memory, and logarithmic time.
+    pub fn contains(&self, value: &Value) -> bool
+        ensures is { result ≡ has_member self.now value.now }
+        ensures member { IsTrue result ↔ Contains self.now value.now }
+    {
+        self.members.binary_search(value).is_ok()
+    }
+
+    /// Whether each member of the other set is a member of this one; takes no memory.
+    pub fn contains_all(&self, other: &Set) -> bool
+        ensures is { result ≡ list_all (has_member self.now) other.now }
+        ensures members { IsTrue result ↔ ((v : Value) → Contains other.now v → Contains self.now v) }
+    {
+        other.members.iter().all(|value| self.contains(value))
+    }
+
+    /// Whether some member of the other set is a member of this one; takes no memory.
+    pub fn contains_any(&self, other: &Set) -> bool
+        ensures is { result ≡ list_any (has_member self.now) other.now }
+        ensures member { IsTrue result ↔ ((v : Value) × Contains other.now v × Contains self.now v) }
+    {
+        other.members.iter().any(|value| self.contains(value))
+    }
+}
+
+impl Record {
+    /// The record with no fields; takes no memory.
+    pub fn new(alloc: Global) -> Record
+        ensures { result ≡ [] }
+    {
+        Record {
+            fields: BTreeMap::new(alloc),
+        }
+    }
+
+    /// Sets the value of a field, or leaves all as it was at `NoMemory`.
+    pub fn insert(&mut self, key: Text, value: Value) -> Result<(), NoMemory>
+        ensures ok { OnOk result (self.new ≡ put key value self.old) }
+        ensures err { OnErr result (self.new ≡ self.old) }
+    {
+        drop(self.fields.insert(key.into_string(), value)?);
+        Ok(())
+    }
+
+    /// The value of a field, or None where there is none; takes no memory.
+    pub fn field(&self, key: &str) -> Option<&Value>
+        ensures { option_map (λ v. v.now) result ≡ find_field key.now self.now }
+    {
+        self.fields.get(key)
+    }
+
+    /// The fields, whose keys ascend by their bytes.
+    pub fn as_map(&self) -> &BTreeMap<String, Value>
+        ensures { of_entries result.now.entries ≡ self.now }
+    {
+        &self.fields
+    }
+
+    /// The same record, or `NoMemory`.
+    #[cycle(copy)]
+    pub fn copy(&self, alloc: Global) -> Result<Record, NoMemory>
+        ensures { IfOk result (λ r. r ≡ self.now) }
+    {
+        let mut copies = BTreeMap::new(alloc);
+        for (key, value) in self.fields.iter() {
+            let name = key.clone()?;
+            drop(copies.insert(name, value.copy(alloc)?)?);
+        }
+        Ok(Record { fields: copies })
+    }
+}
+
+/// The order of values.
+#[cycle(compare)]
+fn compare(a: &Value, b: &Value) -> Ordering
+    ensures { result ≡ value_cmp a.now b.now }
+{
+    match (&a.kind, &b.kind) {
+        (Kind::Boolean(x), Kind::Boolean(y)) => x.cmp(y),
+        (Kind::Long(x), Kind::Long(y)) => x.cmp(y),
+        (Kind::Text(x), Kind::Text(y)) => x.cmp(y),
+        (Kind::Entity(x), Kind::Entity(y)) => x.cmp(y),
+        (Kind::Set(x), Kind::Set(y)) => compare_members(x, y),
+        (Kind::Record(x), Kind::Record(y)) => compare_fields(x, y),
+        (Kind::Decimal(x), Kind::Decimal(y)) => x.cmp(y),
+        (Kind::IpAddr(x), Kind::IpAddr(y)) => x.cmp(y),
+        (x, y) => place(x).cmp(&place(y)),
+    }
+}
+
+/// The place of a kind in the order of values.
+fn place(kind: &Kind) -> u8
+    ensures { result ≡ kind_rank (of_kind kind.now) }
+{
+    match kind {
+        Kind::Boolean(_) => 1,
+        Kind::Long(_) => 2,
+        Kind::Text(_) => 3,
+        Kind::Entity(_) => 4,
+        Kind::Set(_) => 5,
+        Kind::Record(_) => 6,
+        Kind::Decimal(_) => 7,
+        Kind::IpAddr(_) => 8,
+    }
+}
+
+#[cycle(compare)]
+fn compare_members(a: &Set, b: &Set) -> Ordering
+    ensures { result ≡ set_cmp a.now b.now }
+{
+    let common = a.members.len().min(b.members.len());
+    for i in 0..common {
+        let order = compare(&a.members[i], &b.members[i]);
+        if order.is_ne() {
+            return order;
+        }
+    }
+    a.members.len().cmp(&b.members.len())
+}
+
+#[cycle(compare)]
+fn compare_fields(a: &Record, b: &Record) -> Ordering
+    ensures { result ≡ record_cmp a.now b.now }
+{
+    let mut others = b.fields.iter();
+    for (key, value) in a.fields.iter() {
+        match others.next() {
+            None => return Ordering::Greater,
+            Some((other_key, other_value)) => {
+                let keys = key.cmp(other_key);
+                if keys.is_ne() {
+                    return keys;
+                }
+                let order = compare(value, other_value);
+                if order.is_ne() {
+                    return order;
+                }
+            }
+        }
+    }
+    if others.next().is_none() {
+        Ordering::Equal
+    } else {
+        Ordering::Less
+    }
+}
+
+impl PartialEq for Value {
+    ghost eq = { λ v w. is_eq (value_cmp v w) };
+
+    ghost laws = { partial_equiv_from_equiv (eq_by_cmp_equiv value_cmp-IsTotalOrder) };
+
+    fn eq(&self, other: &Value) -> bool {
+        compare(self, other).is_eq()
+    }
+}
+
+impl Eq for Value {
+    ghost laws = { eq_by_cmp_equiv value_cmp-IsTotalOrder };
+}
+
+impl Ord for Value {
+    ghost cmp = { value_cmp };
+
+    ghost total = { value_cmp-IsTotalOrder };
+
+    ghost matches_partial_cmp = { λ x y. refl };
+
+    ghost matches_eq = { λ x y. refl };
+
+    fn cmp(&self, other: &Value) -> Ordering {
+        compare(self, other)
+    }
+}
+
+impl PartialOrd for Value {
+    ghost partial_cmp = { λ v w. Some (value_cmp v w) };
+
+    ghost laws = { partial_order_from_agreeing_total value_cmp value_cmp-IsTotalOrder (λ x y. refl) (λ x y. refl) };
+
+    fn partial_cmp(&self, other: &Value) -> Option<Ordering> {
+        Some(self.cmp(other))
+    }
+}
+
+impl PartialEq for Set {
+    ghost eq = { λ a b. is_eq (set_cmp a b) };
+
+    ghost laws = { partial_equiv_from_equiv (eq_by_cmp_equiv set_cmp-IsTotalOrder) };
+
+    fn eq(&self, other: &Set) -> bool {
+        self.cmp(other).is_eq()
+    }
+}
+
+impl Eq for Set {
+    ghost laws = { eq_by_cmp_equiv set_cmp-IsTotalOrder };
+}
+
+impl Ord for Set {
+    ghost cmp = { set_cmp };
+
+    ghost total = { set_cmp-IsTotalOrder };
+
+    ghost matches_partial_cmp = { λ x y. refl };
+
+    ghost matches_eq = { λ x y. refl };
+
+    fn cmp(&self, other: &Set) -> Ordering {
+        compare_members(self, other)
+    }
+}
+
+impl PartialOrd for Set {
+    ghost partial_cmp = { λ a b. Some (set_cmp a b) };
+
+    ghost laws = { partial_order_from_agreeing_total set_cmp set_cmp-IsTotalOrder (λ x y. refl) (λ x y. refl) };
+
+    fn partial_cmp(&self, other: &Set) -> Option<Ordering> {
+        Some(self.cmp(other))
+    }
+}
+
+impl PartialEq for Record {
+    ghost eq = { λ a b. is_eq (record_cmp a b) };
+
+    ghost laws = { partial_equiv_from_equiv (eq_by_cmp_equiv record_cmp-IsTotalOrder) };
+
+    fn eq(&self, other: &Record) -> bool {
+        self.cmp(other).is_eq()
+    }
+}
+
+impl Eq for Record {
+    ghost laws = { eq_by_cmp_equiv record_cmp-IsTotalOrder };
+}
+
+impl Ord for Record {
+    ghost cmp = { record_cmp };
+
+    ghost total = { record_cmp-IsTotalOrder };
+
+    ghost matches_partial_cmp = { λ x y. refl };
+
+    ghost matches_eq = { λ x y. refl };
+
+    fn cmp(&self, other: &Record) -> Ordering {
+        compare_fields(self, other)
+    }
+}
+
+impl PartialOrd for Record {
+    ghost partial_cmp = { λ a b. Some (record_cmp a b) };
+
+    ghost laws = { partial_order_from_agreeing_total record_cmp record_cmp-IsTotalOrder (λ x y. refl) (λ x y. refl) };
+
+    fn partial_cmp(&self, other: &Record) -> Option<Ordering> {
+        Some(self.cmp(other))
+    }
+}
