@@ -8,8 +8,7 @@
 use plain::Text;
 use stamped_store::{Entry, PolicyStore, ReadText, Stamp};
 use std::alloc::{AllocError, Global};
-use std::env;
-use std::io;
+use std::{env, io};
 
 type Policies = PolicyStore<usize, usize>;
 
