@@ -1,22 +1,25 @@
 -- The laws of answers.
-use Rattle.std.specs.Prelude.{◌≡◌, ◌≢◌, ◌⊎◌, ◌↔◌, ℕ, List, [], ◌∷◌, ◌++◌, Contains, refl}
-use Rattle.std.specs.List.{flat_map}
+use Rattle.std.specs.Prelude.{◌≡◌, ◌≢◌, ◌⊎◌, ℕ, List, [], ◌∷◌, ◌++◌, map, Contains, refl}
+use Rattle.std.specs.List.{flat_map, AllByRecursion}
+use Rattle.std.specs.List.Sorted.{IsStrictlySortedBy}
+use Rattle.std.specs.declared.cmp.Ordering.TheVariants.{Less}
 use Rattle.std.proofs.Common.{inl, inr, sym, ap, subst, ◌∙◌}
+use Rattle.std.proofs.lemmas.List.{map-append}
 use Rattle.std.proofs.lemmas.List.Elements.{Contains-append_left, Contains-append_right, Contains-append_cases}
 use Rattle.values.specs.declared.entity_uid.EntityUid.{EntityUid}
 use Rattle.values.specs.declared.request.Request.{Request}
-use Rattle.values.specs.Names.{uid_cmp, uid_cmp-IsTotalOrder}
-use Rattle.ancestor_closure.specs.Hierarchy.{Parents, Above, AreOnCycles, IsAscending}
+use Rattle.values.specs.Names.{text_cmp, uid_cmp, uid_cmp-IsTotalOrder}
+use Rattle.ancestor_closure.specs.Hierarchy.{Parents, AreOnCycles, IsAscending}
 use Rattle.policy_grammar.specs.declared.policy.Effect.{Effect}
 use Rattle.policy_grammar.specs.declared.policy.Effect.TheVariants.{Permit, Forbid}
 use Rattle.policy_grammar.specs.declared.policy.Policy.{Policy}
 use Rattle.authoriser.specs.declared.answer.Answer.{Answer}
 use Rattle.authoriser.specs.declared.answer.Erring.{Erring}
-use Rattle.authoriser.specs.declared.answer.Decision.TheVariants.{Allow, Deny}
+use Rattle.authoriser.specs.declared.answer.Decision.TheVariants.{Deny}
 use Rattle.authoriser.specs.declared.outcome.Outcome.{Outcome}
 use Rattle.authoriser.specs.declared.outcome.Outcome.TheVariants.{Satisfied, NotSatisfied, Errs}
-use Rattle.authoriser.specs.Answers.{Named, Judged, IsJudged, ComesTo, AreJudged, if_satisfied, satisfied, if_erring, erring, decided, answer_by, IsCycleDenial, IsPolicyAnswer, IsAnswer}
-use Rattle.authoriser.specs.Laws.{OneAnswer, DefaultDeny, ForbidDecides, IdleChangesNothing, HaveSameMembers, OrderDoesNotMatter}
+use Rattle.authoriser.specs.Answers.{Named, Judged, IsJudged, ComesTo, AreJudged, if_satisfied, satisfied, if_erring, erring, decided, answer_by, IsCycleDenial, IsPolicyAnswer}
+use Rattle.authoriser.specs.Laws.{OneAnswer, DefaultDeny, ForbidDecides, IdleChangesNothing, HaveSameMembers, OrderDoesNotMatter, AreIdsAscending, ListsAscend}
 use Rattle.authoriser.proofs.Members.{Contains-here, Contains-there, Contains-cases, Contains-none}
 use Rattle.authoriser.proofs.Ascending.{one_list}
 
@@ -161,3 +164,87 @@ unfolding Alike
 order_does_not_matter js ks same =
     alike (satisfied Permit js) (satisfied Permit ks) (satisfied Forbid js) (satisfied Forbid ks) (erring js) (erring ks)
     (same_gathered (if_satisfied Permit) js ks same) (same_gathered (if_satisfied Forbid) js ks same) (same_gathered if_erring js ks same)
+
+-- ---- the lists ascend
+-- gives of each policy its id, or none
+abbrev GivesIds : (Judged → List (List ℕ)) → Type 0
+GivesIds f = (j : Judged) → (f j ≡ []) ⊎ (f j ≡ j.id ∷ [])
+
+-- some of ascending ids, in their order, ascend
+module _ (f : Judged → List (List ℕ)) (gives : GivesIds f) where
+  all_kept : (P : List ℕ → Type 0) (js : List Judged) → AllByRecursion P (map (λ j. j.id) js) → AllByRecursion P (flat_map f js)
+  all_kept P [] h = h
+  all_kept P (j ∷ js) h = elim (gives j) [
+    | inl e ↦ subst (λ k. AllByRecursion P (k ++ flat_map f js)) (sym e) (all_kept P js h.1)
+    | inr e ↦ subst (λ k. AllByRecursion P (k ++ flat_map f js)) (sym e) (h.0, all_kept P js h.1)
+  ]
+
+  kept_ascend : (js : List Judged) → AreIdsAscending (map (λ j. j.id) js) → AreIdsAscending (flat_map f js)
+  unfolding IsStrictlySortedBy
+  kept_ascend [] h = h
+  kept_ascend (j ∷ js) h = elim (gives j) [
+    | inl e ↦ subst (λ k. AreIdsAscending (k ++ flat_map f js)) (sym e) (kept_ascend js h.1)
+    | inr e ↦ subst (λ k. AreIdsAscending (k ++ flat_map f js)) (sym e) (all_kept (λ y. text_cmp j.id y ≡ Less) js h.0, kept_ascend js h.1)
+  ]
+
+satisfied_gives : (wanted : Effect) → GivesIds (if_satisfied wanted)
+satisfied_gives wanted j = at wanted j.effect j.outcome
+  where
+    at : (wanted effect : Effect) (outcome : Outcome) →
+        (if_satisfied wanted (record { id = j.id; effect = effect; outcome = outcome }) ≡ []) ⊎ (if_satisfied wanted (record { id = j.id; effect = effect; outcome = outcome }) ≡ j.id ∷ [])
+    at Permit Permit Satisfied = inr refl
+    at Forbid Forbid Satisfied = inr refl
+    at Permit Forbid outcome = inl refl
+    at Forbid Permit outcome = inl refl
+    at Permit Permit NotSatisfied = inl refl
+    at Permit Permit (Errs error) = inl refl
+    at Forbid Forbid NotSatisfied = inl refl
+    at Forbid Forbid (Errs error) = inl refl
+
+abbrev policy_if_erring : Judged → List (List ℕ)
+policy_if_erring j = map (λ e. e.policy) (if_erring j)
+
+erring_gives : GivesIds policy_if_erring
+erring_gives j = at j.outcome
+  where
+    at : (outcome : Outcome) →
+        (policy_if_erring (record { id = j.id; effect = j.effect; outcome = outcome }) ≡ []) ⊎ (policy_if_erring (record { id = j.id; effect = j.effect; outcome = outcome }) ≡ j.id ∷ [])
+    at Satisfied = inl refl
+    at NotSatisfied = inl refl
+    at (Errs error) = inr refl
+
+policies_erring : (js : List Judged) → map (λ e. e.policy) (erring js) ≡ flat_map policy_if_erring js
+policies_erring [] = refl
+policies_erring (j ∷ js) = map-append (λ e. e.policy) (if_erring j) (erring js) ∙ ap (λ rest. policy_if_erring j ++ rest) (policies_erring js)
+
+-- judging keeps the ids
+same_ids : (parents : Parents) (q : Request) (ps : List Named) (js : List Judged) → AreJudged parents q ps js → map (λ p. p.id) ps ≡ map (λ j. j.id) js
+same_ids parents q [] [] h = refl
+same_ids parents q [] (j ∷ js) h = absurd h
+same_ids parents q (p ∷ ps) [] h = absurd h
+same_ids parents q (p ∷ ps) (j ∷ js) h = let rest = same_ids parents q ps js h.1 in λ i. sym h.0.id i ∷ rest i
+
+abbrev Ascends : Answer → Type 0
+Ascends a = AreIdsAscending a.reason × AreIdsAscending (map (λ e. e.policy) a.errors) × IsAscending a.cycle
+
+decided_ascends : (permits forbids : List (List ℕ)) (errors : List Erring) → AreIdsAscending permits → AreIdsAscending forbids → AreIdsAscending (map (λ e. e.policy) errors) →
+    Ascends (decided permits forbids errors)
+unfolding IsStrictlySortedBy
+decided_ascends permits (f ∷ forbids) errors p s e = (s, e, tt)
+decided_ascends [] [] errors p s e = (p, e, tt)
+decided_ascends (x ∷ permits) [] errors p s e = (p, e, tt)
+
+answer_ascends : (js : List Judged) → AreIdsAscending (map (λ j. j.id) js) → Ascends (answer_by js)
+answer_ascends js h =
+    decided_ascends (satisfied Permit js) (satisfied Forbid js) (erring js) (kept_ascend (if_satisfied Permit) (satisfied_gives Permit) js h)
+    (kept_ascend (if_satisfied Forbid) (satisfied_gives Forbid) js h)
+    (subst AreIdsAscending (sym (policies_erring js)) (kept_ascend policy_if_erring erring_gives js h))
+
+denial_ascends : (parents : Parents) (a : Answer) → IsCycleDenial parents a → Ascends a
+unfolding IsStrictlySortedBy
+denial_ascends parents a d = subst Ascends (sym d.rest) (tt, tt, d.ascending)
+
+pub lists_ascend : ListsAscend
+lists_ascend parents q ps a h (inl d) = denial_ascends parents a d
+lists_ascend parents q ps a h (inr p) =
+    subst Ascends (sym p.answer) (answer_ascends p.judged (subst AreIdsAscending (same_ids parents q ps p.judged p.outcomes) h))

@@ -1,5 +1,5 @@
 -- Members of lists.
-use Rattle.std.specs.Prelude.{◌≡◌, ◌⊎◌, ℕ, zero, suc, List, [], ◌∷◌, Contains, refl}
+use Rattle.std.specs.Prelude.{◌≡◌, ◌⊎◌, zero, suc, List, [], ◌∷◌, Contains, refl}
 use Rattle.std.proofs.Common.{inl, inr, arith}
 
 module _ {X : Type 0} where

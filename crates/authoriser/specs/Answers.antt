@@ -10,7 +10,6 @@ use Rattle.policy_grammar.specs.declared.policy.Policy.{Policy}
 use Rattle.policy_grammar.specs.declared.policy.Effect.{Effect}
 use Rattle.policy_grammar.specs.declared.policy.Effect.TheVariants.{Permit, Forbid}
 use Rattle.authoriser.specs.declared.answer.Answer.{Answer}
-use Rattle.authoriser.specs.declared.answer.Decision.{Decision}
 use Rattle.authoriser.specs.declared.answer.Decision.TheVariants.{Allow, Deny}
 use Rattle.authoriser.specs.declared.answer.Erring.{Erring}
 use Rattle.authoriser.specs.declared.outcome.Outcome.{Outcome}

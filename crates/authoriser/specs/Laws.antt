@@ -1,13 +1,14 @@
 -- What a reader of policies may rely on, as laws over the definition of answers.
-use Rattle.std.specs.Prelude.{◌≡◌, ◌≢◌, ◌↔◌, ℕ, List, [], ◌∷◌, ◌++◌, Contains}
+use Rattle.std.specs.Prelude.{◌≡◌, ◌≢◌, ◌↔◌, ℕ, List, [], ◌∷◌, ◌++◌, map, Contains}
+use Rattle.std.specs.List.Sorted.{IsStrictlySortedBy}
 use Rattle.values.specs.declared.request.Request.{Request}
-use Rattle.ancestor_closure.specs.Hierarchy.{Parents}
+use Rattle.values.specs.Uids.{text_cmp}
+use Rattle.ancestor_closure.specs.Hierarchy.{Parents, IsAscending}
 use Rattle.policy_grammar.specs.declared.policy.Effect.TheVariants.{Permit, Forbid}
 use Rattle.authoriser.specs.declared.answer.Answer.{Answer}
-use Rattle.authoriser.specs.declared.answer.Decision.TheVariants.{Allow, Deny}
-use Rattle.authoriser.specs.declared.answer.Erring.{Erring}
+use Rattle.authoriser.specs.declared.answer.Decision.TheVariants.{Deny}
 use Rattle.authoriser.specs.declared.outcome.Outcome.TheVariants.{NotSatisfied}
-use Rattle.authoriser.specs.Answers.{Named, Judged, AreJudged, IsAnswer, satisfied, erring, answer_by}
+use Rattle.authoriser.specs.Answers.{Named, Judged, IsAnswer, satisfied, answer_by}
 
 -- a request has one answer at most
 abbrev pub OneAnswer : Type 0
@@ -35,3 +36,12 @@ OrderDoesNotMatter = (js ks : List Judged) → HaveSameMembers js ks →
     ((answer_by js).decision ≡ (answer_by ks).decision)
     × HaveSameMembers (answer_by js).reason (answer_by ks).reason
     × HaveSameMembers (answer_by js).errors (answer_by ks).errors
+
+-- ids in ascending order of their bytes, each once
+abbrev pub AreIdsAscending : List (List ℕ) → Type 0
+AreIdsAscending ids = IsStrictlySortedBy text_cmp ids
+
+-- where the ids of the policies ascend, each list of the answer ascends: the reason, the errors by their policy, the cycle by the order of uids
+abbrev pub ListsAscend : Type 0
+ListsAscend = (parents : Parents) (q : Request) (ps : List Named) (a : Answer) → AreIdsAscending (map (λ p. p.id) ps) → IsAnswer parents q ps a →
+    AreIdsAscending a.reason × AreIdsAscending (map (λ e. e.policy) a.errors) × IsAscending a.cycle

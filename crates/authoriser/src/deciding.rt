@@ -48,8 +48,8 @@ fn answer_by_policies<A: Ancestry>(
 
 /// The answer to a request over these policies and this hierarchy.
 ///
-/// The caller's condition is that the ids ascend strictly; the lists of the answer then ascend by id. One pass over the policies; the
-/// ancestors of the request's three entities are asked for once each.
+/// The caller's condition is that the ids ascend strictly; the lists of the answer then ascend by id, which is the law `ascending` of
+/// `answers_are_lawful`. One pass over the policies; the ancestors of the request's three entities are asked for once each.
 ///
 /// Source: Cedar reference guide, "Authorization". Errors: `NoMemory` alone.
 pub fn decide<A: Ancestry>(

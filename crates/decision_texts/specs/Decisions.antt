@@ -1,7 +1,7 @@
 -- What three texts come to: the line of an answer, or the first refusal.
 -- Rules of this product: the policies are judged before the entities, the entities before the request; a file that is too long is refused before it is
 -- asked whether it is UTF-8, and bytes that are not UTF-8 are a bad token at place 0.
-use Rattle.std.specs.Prelude.{◌≡◌, ◌≢◌, ◌⊎◌, ◌≤◌, ◌<◌, ℕ, List, [], ◌∷◌, length, None, Ok, Err, IsPermutation}
+use Rattle.std.specs.Prelude.{◌≡◌, ◌⊎◌, ◌≤◌, ◌<◌, ℕ, List, [], ◌∷◌, length, None, Ok, Err, IsPermutation}
 use Rattle.std.specs.List.Sorted.{IsSortedByKey}
 use Rattle.std.specs.Ordering.{nat_cmp}
 use Rattle.std.specs.Cmp.Lexicographic.{slice_cmp}
@@ -9,7 +9,7 @@ use Rattle.std.specs.Str.{IsUtf8}
 use Rattle.values.specs.declared.request.Request.{Request}
 use Rattle.ancestor_closure.specs.Hierarchy.{Parents, no_parents, with_parents}
 use Rattle.policy_grammar.specs.declared.fault.ReadFault.{ReadFault}
-use Rattle.policy_grammar.specs.declared.fault.ReadFault.TheVariants.{NoMemory, TooLong, BadToken}
+use Rattle.policy_grammar.specs.declared.fault.ReadFault.TheVariants.{TooLong, BadToken}
 use Rattle.policy_grammar.specs.declared.policy.Policy.{Policy}
 use Rattle.policy_grammar.specs.Faults.{code_of, place_of}
 use Rattle.policy_grammar.specs.Limits.{most_file_bytes}

@@ -4,3 +4,4 @@ pub mod Bare
 pub mod Requests
 pub mod Lines
 pub mod Decisions
+pub mod Outcomes

@@ -31,11 +31,15 @@ erring_json e = object (member (codes "error") (string (error_word e.error)) (me
 abbrev pub each_json : {X : Type 0} → (X → Data) → List X → Data
 each_json f xs = array (items_of (map f xs))
 
+-- the parts of an answer, each under its key
+abbrev pub under_keys : Data → List ℕ → Data → Data → Data
+under_keys cycle decision errors reason = object (member (codes "cycle") cycle
+    (member (codes "decision") (string decision)
+    (member (codes "errors") errors
+    (member (codes "reason") reason no_members))))
+
 abbrev pub answer_json : Answer → Data
-answer_json a = object (member (codes "cycle") (each_json uid_json a.cycle)
-    (member (codes "decision") (string (decision_word a.decision))
-    (member (codes "errors") (each_json erring_json a.errors)
-    (member (codes "reason") (each_json (λ id. string id) a.reason) no_members))))
+answer_json a = under_keys (each_json uid_json a.cycle) (decision_word a.decision) (each_json erring_json a.errors) (each_json (λ id. string id) a.reason)
 
 -- {"cycle":[],"decision":"Allow","errors":[],"reason":["policy0"]}
 unfoldable pub answer_line : Answer → List ℕ

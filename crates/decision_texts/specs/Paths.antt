@@ -1,9 +1,9 @@
 -- Whether a text is a Path, as a test that computes.
 -- Source: Cedar reference guide 4.0, "Grammar specification for Cedar policy syntax", Path = Ident { "::" Ident }, without blanks or comments.
-use Rattle.std.specs.Prelude.{◌≡◌, ◌↔◌, true, false, ℕ, List, [], ◌∷◌, ◌++◌, Bool, not, ◌==◌, ◌&&◌, if◌then◌else◌}
+use Rattle.std.specs.Prelude.{false, ℕ, List, [], ◌∷◌, ◌++◌, Bool, not, ◌==◌, ◌&&◌, if◌then◌else◌}
 use Rattle.std.specs.List.{list_any, list_all}
 use Rattle.std.specs.Str.{bytes_eq}
-use Rattle.plain.specs.Words.{is_letter, is_word_byte, reserved_words, IsPath}
+use Rattle.plain.specs.Words.{is_letter, is_word_byte, reserved_words}
 
 abbrev pub is_word : List ℕ → Bool
 is_word [] = false

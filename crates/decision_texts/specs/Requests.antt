@@ -2,7 +2,7 @@
 -- Source: Cedar reference guide 4.0, "Authorization request": principal, action, resource, context.
 -- Rules of this product: each of the three is a uid as an entity's is, or the text of one, as "User::\"alice\""; without a schema the context is
 -- absent or the empty object, and null is not absent; other keys are ignored.
-use Rattle.std.specs.Prelude.{◌≡◌, ◌≢◌, ◌⊎◌, ⊤, true, false, ℕ, List, Option, Ok, Err, MatchOption, codes}
+use Rattle.std.specs.Prelude.{◌≡◌, ◌≢◌, ◌⊎◌, ⊤, true, false, ℕ, List, Ok, Err, MatchOption, codes}
 use Rattle.serde_json.specs.Data.{Data}
 use Rattle.serde_json.specs.Find.{get, as_str}
 use Rattle.json_words.specs.Json.{json_of}

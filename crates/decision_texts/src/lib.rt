@@ -4,12 +4,14 @@
 mod bare;
 mod deciding;
 mod entity_file;
+mod laws;
 mod lines;
 mod policies;
 mod refusal;
 mod request;
 
 pub use deciding::decide_texts;
+pub use laws::texts_have_one_outcome;
 pub use lines::answer_line;
 pub use refusal::{Refusal, error_line};
 

@@ -1,7 +1,7 @@
 ghost use Rattle.std.specs.Prelude.{◌≡◌, IfOk};
 ghost use Rattle.serde_json.specs.Data.{string};
 ghost use Rattle.serde_json.specs.View.{view};
-ghost use Rattle.decision_texts.specs.Lines.{decision_word, error_word, uid_json, erring_json, each_json, answer_json, answer_line};
+ghost use Rattle.decision_texts.specs.Lines.{decision_word, error_word, uid_json, erring_json, each_json, under_keys, answer_json, answer_line};
 
 use authoriser::{Answer, Decision, Erring, PolicyError};
 use json_words::write_json;
@@ -73,14 +73,26 @@ fn reason_value(alloc: Global, ids: &[Text]) -> Result<Value, NoMemory>
     Ok(Value::Array(items))
 }
 
+/// The parts of an answer, each under its key.
+fn under_keys(
+    alloc: Global,
+    cycle: Value,
+    decision: &str,
+    errors: Value,
+    reason: Value,
+) -> Result<Value, NoMemory>
+    ensures { IfOk result (λ v. view v ≡ under_keys (view cycle) decision.now (view errors) (view reason)) }
+{
+    json!(in alloc; {"cycle": cycle, "decision": decision, "errors": errors, "reason": reason})
+}
+
 fn answer_value(alloc: Global, answer: &Answer) -> Result<Value, NoMemory>
     ensures { IfOk result (λ v. view v ≡ answer_json answer.now) }
 {
     let cycle = cycle_value(alloc, answer.cycle.as_slice())?;
     let errors = errors_value(alloc, answer.errors.as_slice())?;
     let reason = reason_value(alloc, answer.reason.as_slice())?;
-    let decision = decision_word(answer.decision);
-    json!(in alloc; {"cycle": cycle, "decision": decision, "errors": errors, "reason": reason})
+    under_keys(alloc, cycle, decision_word(answer.decision), errors, reason)
 }
 
 /// The line of an answer, without its line end: `{"cycle":[],"decision":"Allow","errors":[],"reason":["policy0"]}`.

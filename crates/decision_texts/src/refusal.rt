@@ -75,14 +75,26 @@ fn number_or_null(number: Option<u64>) -> Value
     }
 }
 
-#[tactic(auto)]
+/// The JSON of a refusal with these parts.
+fn parts_value(
+    alloc: Global,
+    code: u64,
+    place: Option<u64>,
+    within: Option<u64>,
+) -> Result<Value, NoMemory>
+    ensures { IfOk result (λ v. view v ≡ refusal_json (record { code = code; place = place; within = within })) }
+{
+    let place = number_or_null(place);
+    let within = number_or_null(within);
+    json!(in alloc; {"error": {"code": code, "place": place, "within": within}})
+}
+
 fn refusal_value(alloc: Global, refusal: Refusal) -> Result<Value, NoMemory>
     ensures { IfOk result (λ v. view v ≡ refusal_json refusal) }
 {
-    let place = number_or_null(refusal.place.map(|place| place as u64));
-    let within = number_or_null(refusal.within.map(u64::from));
-    let code = u64::from(refusal.code);
-    json!(in alloc; {"error": {"code": code, "place": place, "within": within}})
+    let place = refusal.place.map(|place| place as u64);
+    let within = refusal.within.map(u64::from);
+    parts_value(alloc, u64::from(refusal.code), place, within)
 }
 
 /// The line that tells a refusal, without its line end: `{"error":{"code":30,"place":0,"within":null}}`.

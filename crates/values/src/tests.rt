@@ -1,7 +1,7 @@
 // The table of texts that are and are no type names, and each call once with ample memory.
 use super::*;
 use extensions::{Decimal, IpNet};
-use plain::Text;
+use plain::{NoMemory, Text};
 use std::alloc::Global;
 use std::cmp::Ordering;
 use std::collections::{BTreeMap, BTreeSet};
@@ -190,5 +190,64 @@ fn finds_fields(rt: HostRuntime) -> Result<(), Fail> {
     let found = outer.field("in").ok_or("the field")?;
     assert!(rt; matches!(found.kind(), Kind::Record(fields) if *fields == inner));
     assert!(rt; matches!(found.copy(rt.alloc())?.into_kind(), Kind::Record(_)));
+    Ok(())
+}
+
+fn named(alloc: Global, id: &str) -> Result<EntityUid, NoMemory> {
+    let type_name = TypeName::from_words(alloc, ["User"].as_slice())?;
+    let id = Text::from_str(alloc, id)?;
+    Ok(EntityUid { type_name, id })
+}
+
+// A record within a set, with a text and an entity.
+fn nested(alloc: Global) -> Result<Value, NoMemory> {
+    let owner = named(alloc, "alice")?;
+    let mut fields = Record::new(alloc);
+    fields.insert(Text::from_str(alloc, "owner")?, Value::entity(owner))?;
+    let mut members = Vec::new(alloc);
+    members.push(Value::from_record(fields))?;
+    members.push(Value::text(Text::from_str(alloc, "a")?))?;
+    Value::set(members)
+}
+
+// A refused growth is asked for once more.
+fn copied(value: &Value, alloc: Global) -> Result<Value, NoMemory> {
+    match value.copy(alloc) {
+        Ok(copy) => Ok(copy),
+        Err(_) => value.copy(alloc),
+    }
+}
+
+// Whichever allocation is refused, once: the value stays as it was, and its copy is had at the second try.
+#[test]
+fn values_are_copied_under_refused_memory(rt: HostRuntime) -> Result<(), Fail> {
+    let value = match nested(rt.alloc()) {
+        Ok(value) => value,
+        Err(_) => nested(rt.alloc())?,
+    };
+    let copy = copied(&value, rt.alloc())?;
+    assert!(rt; copy == value);
+    Ok(())
+}
+
+fn asked(alloc: Global) -> Result<Request, NoMemory> {
+    Ok(Request {
+        principal: named(alloc, "alice")?,
+        action: named(alloc, "view")?,
+        resource: named(alloc, "photo")?,
+    })
+}
+
+#[test]
+fn requests_are_copied_under_refused_memory(rt: HostRuntime) -> Result<(), Fail> {
+    let request = match asked(rt.alloc()) {
+        Ok(request) => request,
+        Err(_) => asked(rt.alloc())?,
+    };
+    let copy = match request.copy() {
+        Ok(copy) => copy,
+        Err(_) => request.copy()?,
+    };
+    assert!(rt; copy == request);
     Ok(())
 }

@@ -1,5 +1,5 @@
 use Rattle.std.specs.Prelude.{[]}
-use Rattle.authoriser.proofs.Judging.{next_policy, all_judged, counted, are_ascending}
+use Rattle.authoriser.proofs.Judging.{next_policy}
 use Rattle.authoriser.proofs.deciding.answer_by_policies.Goals as goal
 
 pub loop-id-init : goal.loop-id-init

@@ -1,4 +1,4 @@
-use Rattle.std.proofs.Common.{rules, refl}
+use Rattle.std.proofs.Common.{rules}
 use Rattle.std.proofs.lemmas.List.Sorted.{IsPermutation-map, answers_always}
 use Rattle.decision_texts.proofs.OrderLemmas.{named_ascend}
 use Rattle.decision_texts.proofs.deciding.in_order.Goals as goal

@@ -1,6 +1,5 @@
 use Rattle.std.proofs.Common.{◌≡◌, map, take, string_bytes}
 use Rattle.authoriser.specs.Views.{named}
-use Rattle.decision_texts.specs.Decisions.{named_policies}
 use Rattle.decision_texts.proofs.deciding.referred.Given as goal
 
 abbrev pub invariant-loop-id : goal.invariant-loop-id

@@ -1,4 +1,4 @@
-use Rattle.std.proofs.Common.{inl, inr, subst, List, ℕ}
+use Rattle.std.proofs.Common.{inr, subst, List, ℕ}
 use Rattle.std.proofs.lemmas.Result.{IfErr-weaker}
 use Rattle.policy_grammar.specs.PolicyText.{IsFileRefused}
 use Rattle.decision_texts.proofs.policies.read_policies.Goals as goal

@@ -1,0 +1,29 @@
+use Rattle.decision_texts.proofs.OutcomeLemmas.{one_line, not_both, one_refusal, lines_ascend}
+use Rattle.decision_texts.proofs.laws.texts_have_one_outcome.Goals as goal
+
+pub returns-clause-one_line : goal.returns-clause-one_line
+returns-clause-one_line c =
+    one_line (record {
+      uids = c.texts_have_one_reading.ensures.uid;
+      files = c.texts_have_one_reading.ensures.file;
+      answers = c.answers_are_lawful.ensures.one;
+    })
+
+pub returns-clause-not_both : goal.returns-clause-not_both
+returns-clause-not_both c =
+    not_both (record {
+      uids = c.texts_have_one_reading.ensures.uid;
+      files = c.texts_have_one_reading.ensures.file;
+      answers = c.answers_are_lawful.ensures.one;
+    })
+
+pub returns-clause-one_refusal : goal.returns-clause-one_refusal
+returns-clause-one_refusal c =
+    one_refusal (record {
+      uids = c.texts_have_one_reading.ensures.uid;
+      files = c.texts_have_one_reading.ensures.file;
+      answers = c.answers_are_lawful.ensures.one;
+    })
+
+pub returns-clause-ascending : goal.returns-clause-ascending
+returns-clause-ascending c = lines_ascend c.answers_are_lawful.ensures.ascending
