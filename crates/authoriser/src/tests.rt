@@ -4,7 +4,7 @@ use plain::Text;
 use policy_grammar::{ActionScope, Effect, EntityScope, Policy, Scope};
 use std::alloc::Global;
 use std::test::Fail;
-use values::{EntityUid, Request, TypeName};
+use values::{EntityUid, Record, Request, TypeName};
 
 fn entity(alloc: Global) -> Result<EntityUid, Fail> {
     let type_name = TypeName::parse(alloc, "User")?.ok_or("no type's name")?;
@@ -20,6 +20,7 @@ fn request(alloc: Global) -> Result<Request, Fail> {
         principal,
         action,
         resource,
+        context: Record::new(alloc),
     })
 }
 

@@ -2,57 +2,20 @@
 #![tactic(auto)]
 
 mod line;
+mod report;
 
 use crate::line::{Line, LineFault, line_of};
-use decision_texts::{Refusal, decide_texts, error_line};
-use std::io::Write;
+use crate::report::{FILE_FAULT, line_status, tell_decided, tell_file};
+use decision_texts::decide_texts;
 use std::process::ExitCode;
 use std::{env, fs, io};
 
-/// The texts are refused.
-const REFUSED: u8 = 1;
-
-/// The words are no command line.
-const LINE_FAULT: u8 = 2;
-
-/// A file could not be read, or nothing could be written.
-const FILE_FAULT: u8 = 3;
-
-/// The line that tells of want of memory; it takes none.
-const NO_MEMORY_LINE: &[u8; 47] = b"{\"error\":{\"code\":1,\"place\":null,\"within\":null}}";
-
 /// Writes what the words came to, in place of a command: help on standard output, a fault on standard error.
-fn tell(rt: &HostRuntime, fault: LineFault) -> io::Result<ExitCode> {
-    match fault {
-        LineFault::Words(error) => {
-            error.print(rt)?;
-            if error.exit_code() == 0 {
-                Ok(ExitCode::SUCCESS)
-            } else {
-                Ok(ExitCode::from(LINE_FAULT))
-            }
-        }
-        LineFault::Incomplete => Ok(ExitCode::from(LINE_FAULT)),
+fn tell_words(rt: &HostRuntime, fault: LineFault) -> io::Result<ExitCode> {
+    if let LineFault::Words(error) = &fault {
+        error.print(rt)?;
     }
-}
-
-/// Writes bytes and a line end.
-fn write_line(mut out: impl Write + Drop, line: &[u8]) -> io::Result<()> {
-    out.write_all(line)?;
-    out.write_all(b"\n")
-}
-
-fn tell_refusal(rt: &HostRuntime, refusal: Refusal) -> io::Result<ExitCode> {
-    match error_line(rt.alloc(), refusal) {
-        Ok(line) => write_line(rt.stderr(), &line)?,
-        Err(_) => write_line(rt.stderr(), NO_MEMORY_LINE)?,
-    }
-    Ok(ExitCode::from(REFUSED))
-}
-
-fn tell_file(rt: &HostRuntime, name: &str) -> io::Result<ExitCode> {
-    eprintln!(rt; "fault: {name}")?;
-    Ok(ExitCode::from(FILE_FAULT))
+    Ok(ExitCode::from(line_status(&fault)))
 }
 
 /// Reads the three files, in this order, and then judges what they hold.
@@ -63,21 +26,16 @@ fn run_decide(
     request: &str,
 ) -> io::Result<ExitCode> {
     let Ok(policies) = fs::read(rt, policies) else {
-        return tell_file(rt, policies);
+        return tell_file(&mut rt.stderr(), policies);
     };
     let Ok(entities) = fs::read(rt, entities) else {
-        return tell_file(rt, entities);
+        return tell_file(&mut rt.stderr(), entities);
     };
     let Ok(request) = fs::read(rt, request) else {
-        return tell_file(rt, request);
+        return tell_file(&mut rt.stderr(), request);
     };
-    match decide_texts(rt.alloc(), &policies, &entities, &request) {
-        Ok(line) => {
-            write_line(rt.stdout(), &line)?;
-            Ok(ExitCode::SUCCESS)
-        }
-        Err(refusal) => tell_refusal(rt, refusal),
-    }
+    let decided = decide_texts(rt.alloc(), &policies, &entities, &request);
+    tell_decided(rt.alloc(), &mut rt.stdout(), &mut rt.stderr(), decided)
 }
 
 fn run(rt: &HostRuntime) -> io::Result<ExitCode> {
@@ -91,7 +49,7 @@ fn run(rt: &HostRuntime) -> io::Result<ExitCode> {
                 request,
             },
         ) => run_decide(rt, policies, entities, request),
-        Err(fault) => tell(rt, fault),
+        Err(fault) => tell_words(rt, fault),
     }
 }
 

@@ -100,7 +100,8 @@ asked_same laws (Some d) q r a b =
     let principal = found_same laws (get (codes "principal") d) q.principal r.principal a.principal b.principal in
     let action = found_same laws (get (codes "action") d) q.action r.action a.action b.action in
     let resource = found_same laws (get (codes "resource") d) q.resource r.resource a.resource b.resource in
-    λ i. record { principal = principal i; action = action i; resource = resource i }
+    let context : q.context ≡ r.context = a.nothing_known ∙ sym b.nothing_known in
+    λ i. record { principal = principal i; action = action i; resource = resource i; context = context i }
 
 states_or_not : Laws → (d : Data) (q : Request) → StatesRequest d q → StatesNoRequest d → ⊥
 states_or_not laws d q states (inl none) = found_or_none laws (get (codes "principal") d) q.principal states.principal none

@@ -1,8 +1,8 @@
 -- Requests as JSON where no schema is at hand.
 -- Source: Cedar reference guide 4.0, "Authorization request": principal, action, resource, context.
 -- Rules of this product: each of the three is a uid as an entity's is, or the text of one, as "User::\"alice\""; without a schema the context is
--- absent or the empty object, and null is not absent; other keys are ignored.
-use Rattle.std.specs.Prelude.{◌≡◌, ◌≢◌, ◌⊎◌, ⊤, true, false, ℕ, List, Ok, Err, MatchOption, codes}
+-- absent or the empty object, and null is not absent, and the request's context is empty; other keys are ignored.
+use Rattle.std.specs.Prelude.{◌≡◌, ◌≢◌, ◌⊎◌, ⊤, true, false, ℕ, List, [], Ok, Err, MatchOption, codes}
 use Rattle.serde_json.specs.Data.{Data}
 use Rattle.serde_json.specs.Find.{get, as_str}
 use Rattle.json_words.specs.Json.{json_of}
@@ -40,6 +40,7 @@ pub record StatesRequest (d : Data) (q : Request) : Type 0 where
   pub action : NamesAt (codes "action") d q.action
   pub resource : NamesAt (codes "resource") d q.resource
   pub context : is_absent_or_empty (get (codes "context") d) ≡ true
+  pub nothing_known : q.context ≡ []
 
 -- the value states no request
 abbrev pub StatesNoRequest : Data → Type 0

@@ -8,7 +8,7 @@ use json_words::read_json;
 use policy_grammar::{ReadFault, parse_uid};
 use serde_json::Value;
 use std::alloc::Global;
-use values::{EntityUid, Request};
+use values::{EntityUid, Record, Request};
 
 /// The entity that a value names: a uid, or the text of one.
 fn read_name(alloc: Global, value: &Value) -> Result<EntityUid, ShapeFault>
@@ -51,6 +51,7 @@ fn request_in(alloc: Global, value: &Value) -> Result<Request, ShapeFault>
         principal,
         action,
         resource,
+        context: Record::new(alloc),
     })
 }
 

@@ -1,5 +1,5 @@
 -- The store that policies and entities show, as they change.
-use Rattle.std.specs.Prelude.{T, ◌&&◌, ◌≡◌, ◌≢◌, ◌↔◌, ℕ, suc, ◌+◌, ◌-◌, ◌<◌, ◌≤◌, List, [], ◌∷◌, ◌++◌, length, Option, Some, None, Bool, true, false, refl, cond, max, take, string_bytes, IsTrue, ◌⊎◌, if◌then◌else◌}
+use Rattle.std.specs.Prelude.{◌≡◌, ◌↔◌, ℕ, suc, ◌+◌, ◌-◌, ◌<◌, ◌≤◌, List, [], ◌∷◌, ◌++◌, length, Option, Some, None, Bool, true, false, refl, cond, max, take, string_bytes, IsTrue, ◌⊎◌, if◌then◌else◌}
 use Rattle.std.specs.List.{Contains}
 use Rattle.std.specs.Cmp.{tied_itself}
 use Rattle.std.proofs.Common.{subst, sym, ◌∙◌, ap, append_assoc, append-nil, arith, ⊎_elim, inl, inr}
@@ -10,12 +10,10 @@ use Prim.Native.Nat.{zero}
 use Rattle.std.specs.Option.{option_map}
 use Rattle.std.specs.Ordering.{is_le, is_eq, eq_by_cmp}
 use Rattle.std.specs.BTreeMap.{insert_entry}
-use Rattle.std.specs.Map.{keys_of}
 use Rattle.std.specs.String.{string_cmp}
 use Rattle.std.specs.Ordering.{nat_cmp}
 use Rattle.std.specs.Cmp.Lexicographic.{slice_cmp}
-use Rattle.std.specs.List.Sorted.{IsStrictlySortedBy}
-use Rattle.std.specs.FinMap.{FinMap, empty, insert, entries-insert, len-entries, len-empty, get, entries, same_map, get-insert, get-entries, get-from_entries}
+use Rattle.std.specs.FinMap.{empty, insert, entries-insert, len-entries, len-empty, get, entries, same_map, get-insert, get-entries, get-from_entries}
 use Rattle.std.specs.FinMap.Entries.{by_order, find, put, find-put, find_tied}
 use Rattle.std.specs.declared.alloc.Global.{Global}
 use Rattle.std.specs.declared.string.String.{String}
@@ -27,13 +25,13 @@ use Rattle.values.specs.declared.entity_uid.EntityUid.{EntityUid}
 use Rattle.values.specs.Names.{name_cmp, uid_cmp, text_cmp-IsAntisymmetric}
 use Rattle.values.specs.Names.{name_cmp-IsTotalOrder, name_cmp-IsAntisymmetric}
 use Rattle.stamped_store.specs.declared.entry.Entry.{Entry}
-use Rattle.stamped_store.specs.Joins.{IsLeastAbove, option_joined, option_below}
+use Rattle.stamped_store.specs.Joins.{option_joined, option_below}
 use Rattle.stamped_store.specs.EntryOrder.{PlainEntry, plain_entry, entry_cmp, entry_below, greater, greater_entry}
 use Rattle.stamped_store.specs.Stored.{value_at, value_at_text, taken, all_taken, joined_onto, IsBelow}
 use Rattle.stamped_store.specs.Greatest.{greatest_count, max_count, greatest_at}
 use Rattle.stamped_store.specs.Shown.{shown_entry, shown_entries, greatest_kept}
 use Rattle.stamped_store.specs.Store.{Store, Update, Kept, kept, all_kept, first_kept, updates, store_of, first_names, plain_below, IsStoreBelow, IsStoreJoin, joined_stores, id_name, entity_name, shown_updates, shown_store, KeepsOtherNames, IsCounted, issue, issued}
-use Rattle.stamped_store.proofs.Greatests.{no_member, in_head, in_tail, by_place, count_le, count_of_find, greater_assoc, greater_commutes, greater_itself, greater_entry_is_join, exact_entries, alike, get-store_of, greatest_at-append, greatest_at-entries, store_of-append, store_of-append_right, store_of-entries, store_of-push, greatest_count-empty, greatest_count-insert, greatest_count-store_of, max_count-append}
+use Rattle.stamped_store.proofs.Greatests.{no_member, in_head, in_tail, by_place, count_le, count_of_find, greater_assoc, greater_commutes, greater_itself, greater_entry_is_join, alike, get-store_of, greatest_at-append, greatest_at-entries, store_of-append, store_of-append_right, store_of-entries, store_of-push, greatest_count-empty, greatest_count-insert, greatest_count-store_of, max_count-append}
 use Rattle.stamped_store.proofs.Lifted.{above_first, above_second, least_above}
 use Rattle.stamped_store.proofs.Showing.{plain_entry-onto, shown-insert_entry, find-shown}
 

@@ -1,4 +1,4 @@
-ghost use Rattle.std.specs.Prelude.{◌≡◌, ◌↔◌, ◌<◌, ◌+◌, ◌++◌, ◌∷◌, [], length, String, string_bytes, IsTrue, OnOk, OnErr, IfErr};
+ghost use Rattle.std.specs.Prelude.{◌≡◌, ◌↔◌, ◌<◌, ◌+◌, ◌^◌, ◌++◌, ◌∷◌, [], length, max, String, string_bytes, IsTrue, OnOk, OnErr, IfOk, IfErr};
 ghost use Rattle.std.specs.declared.alloc.Global.{Global};
 ghost use Rattle.std.specs.Option.{option_copied, option_map};
 ghost use Rattle.std.specs.FinMap.{get};
@@ -7,10 +7,10 @@ ghost use Rattle.std.specs.Map.Iter.{ShowsInOrder, deref_pair};
 ghost use Rattle.std.specs.String.{string_cmp};
 ghost use Rattle.std.specs.List.Sorted.{IsStrictlySortedBy};
 ghost use Rattle.values.specs.Names.{uid_cmp};
-ghost use Rattle.stamped_store.specs.EntryOrder.{plain_entry, greater};
+ghost use Rattle.stamped_store.specs.EntryOrder.{plain_entry, greater, entry_below};
 ghost use Rattle.stamped_store.specs.Greatest.{greatest_count};
 ghost use Rattle.stamped_store.specs.Shown.{greatest_kept};
-ghost use Rattle.stamped_store.specs.Stored.{value_at, value_at_text, taken};
+ghost use Rattle.stamped_store.specs.Stored.{value_at, value_at_text, taken, IsBelow};
 ghost use Rattle.stamped_store.specs.Store.{shown_store, shown_updates, store_of, updates, kept, all_kept, first_kept, policy_name, entity_name, KeepsOtherNames, IsStoreBelow, IsStoreJoin, first_names, issue};
 
 use crate::{Entry, Short, Stamp, Stamped};
@@ -61,7 +61,7 @@ impl<P: Drop, E: Drop> PolicyStore<P, E> {
         ensures kept { option_copied result ≡ value_at_text self.now.policies id.now }
         ensures shown { option_map plain_entry (option_copied result) ≡ get (shown_store self.now) (policy_name id.now) }
     {
-        self.policies.get_str(id)
+        policy_at(&self.policies, id)
     }
 
     /// The entry of the entity of this uid, if there is one, in logarithmic time and without memory.
@@ -69,7 +69,7 @@ impl<P: Drop, E: Drop> PolicyStore<P, E> {
         ensures kept { option_copied result ≡ value_at uid_cmp self.now.entities uid.now }
         ensures shown { option_map plain_entry (option_copied result) ≡ get (shown_store self.now) (entity_name uid.now) }
     {
-        self.entities.get(uid)
+        entity_at(&self.entities, uid)
     }
 
     /// The entries of policies, ascending by the bytes of the id.
@@ -119,9 +119,7 @@ impl<P: Drop, E: Drop> PolicyStore<P, E> {
         ensures refused { IfErr result (λ pair. pair ≡ (id, entry)) }
         ensures err { OnErr result (self.new ≡ self.old) }
     {
-        let count = entry.stamp.count;
-        self.policies.take(id, entry)?;
-        self.greatest = self.greatest.max(count);
+        self.greatest = take_counted(&mut self.policies, id, entry, self.greatest)?;
         Ok(())
     }
 
@@ -138,9 +136,7 @@ impl<P: Drop, E: Drop> PolicyStore<P, E> {
         ensures refused { IfErr result (λ pair. pair ≡ (uid, entry)) }
         ensures err { OnErr result (self.new ≡ self.old) }
     {
-        let count = entry.stamp.count;
-        self.entities.take(uid, entry)?;
-        self.greatest = self.greatest.max(count);
+        self.greatest = take_counted(&mut self.entities, uid, entry, self.greatest)?;
         Ok(())
     }
 
@@ -160,16 +156,14 @@ impl<P: Drop, E: Drop> PolicyStore<P, E> {
         } = other;
         let before = policies.len();
         if let Err(short) = self.policies.merge(policies) {
-            self.greatest = greatest_of(&self.policies).max(greatest_of(&self.entities));
+            self.greatest = greatest_of_both(&self.policies, &self.entities);
             return Err(short);
         }
         if let Err(short) = self.entities.merge(entities) {
-            self.greatest = greatest_of(&self.policies).max(greatest_of(&self.entities));
-            return Err(Short {
-                taken: before + short.taken,
-            });
+            self.greatest = greatest_of_both(&self.policies, &self.entities);
+            return Err(short_behind(before, short));
         }
-        self.greatest = self.greatest.max(greatest);
+        self.greatest = greater_count(self.greatest, greatest);
         Ok(())
     }
 
@@ -177,8 +171,79 @@ impl<P: Drop, E: Drop> PolicyStore<P, E> {
     pub fn below(&self, other: &Self) -> bool
         ensures { IsTrue result ↔ IsStoreBelow (shown_store self.now) (shown_store other.now) }
     {
-        self.policies.below(&other.policies) && self.entities.below(&other.entities)
+        all_below(&self.policies, &other.policies) && all_below(&self.entities, &other.entities)
     }
+}
+
+// The store's calls are these on its two maps.
+
+// The entry of the policy of this id.
+fn policy_at<'s, P: Drop>(policies: &'s Stamped<String, Entry<P>>, id: &str) -> Option<&'s Entry<P>>
+    ensures { option_copied result ≡ value_at_text policies.now id.now }
+{
+    policies.get_str(id)
+}
+
+// The entry of the entity of this uid.
+fn entity_at<'s, E: Drop>(
+    entities: &'s Stamped<EntityUid, Entry<E>>,
+    uid: &EntityUid,
+) -> Option<&'s Entry<E>>
+    ensures { option_copied result ≡ value_at uid_cmp entities.now uid.now }
+{
+    entities.get(uid)
+}
+
+// Joins an entry at a key, and answers the greatest count from then on.
+fn take_counted<K: Ord + Drop, P: Drop>(
+    entries: &mut Stamped<K, Entry<P>>,
+    key: K,
+    entry: Entry<P>,
+    greatest: u64,
+) -> Result<u64, (K, Entry<P>)>
+    ensures ok { OnOk result (entries.new ≡ taken K.cmp greater entries.old key entry) }
+    ensures count { IfOk result (λ count. count ≡ max greatest entry.stamp.count) }
+    ensures refused { IfErr result (λ pair. pair ≡ (key, entry)) }
+    ensures err { OnErr result (entries.new ≡ entries.old) }
+{
+    let count = entry.stamp.count;
+    entries.take(key, entry)?;
+    Ok(greater_count(greatest, count))
+}
+
+// Whether each key of the first is a key of the second, with an entry there that is at least as great.
+fn all_below<K: Ord + Drop, P: Drop>(
+    first: &Stamped<K, Entry<P>>,
+    second: &Stamped<K, Entry<P>>,
+) -> bool
+    ensures { IsTrue result ↔ IsBelow K.cmp entry_below first.now second.now }
+{
+    first.below(second)
+}
+
+// Want of memory after this many names of policies.
+fn short_behind(before: usize, short: Short) -> Short
+    requires { before + short.taken < 2 ^ 64 }
+    ensures { result.taken ≡ before + short.taken }
+{
+    Short {
+        taken: before + short.taken,
+    }
+}
+
+fn greater_count(a: u64, b: u64) -> u64
+    ensures { result ≡ max a b }
+{
+    a.max(b)
+}
+
+fn greatest_of_both<P: Drop, E: Drop>(
+    policies: &Stamped<String, Entry<P>>,
+    entities: &Stamped<EntityUid, Entry<E>>,
+) -> u64
+    ensures { result ≡ max (greatest_kept policies.now) (greatest_kept entities.now) }
+{
+    greatest_of(policies).max(greatest_of(entities))
 }
 
 // The greatest count of these entries, and 0 of none.

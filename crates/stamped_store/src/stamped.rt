@@ -1,7 +1,8 @@
-ghost use Rattle.std.specs.Prelude.{◌≡◌, ◌↔◌, ◌<◌, ◌^◌, [], length, take, Some, IfErr, OnOk, OnErr, IsTrue};
+ghost use Rattle.std.specs.Prelude.{◌≡◌, ◌↔◌, ◌<◌, ◌+◌, ◌^◌, [], length, take, Some, IfErr, IfOk, OnOk, OnErr, IsTrue};
 ghost use Rattle.std.specs.Option.{option_copied};
 ghost use Rattle.std.specs.Ordering.{is_eq};
 ghost use Rattle.std.specs.List.Sorted.{IsStrictlySortedBy};
+ghost use Rattle.std.specs.BTreeMap.{insert_entry};
 ghost use Rattle.std.specs.Map.{keys_of};
 ghost use Rattle.std.specs.Map.Iter.{ShowsInOrder, deref_pair};
 ghost use Rattle.stamped_store.specs.Joins.{IsLeastAbove, option_below};
@@ -84,10 +85,8 @@ impl<K: Ord + Drop, V: Join + Drop> Stamped<K, V> {
             held.join(value);
             return Ok(());
         }
-        match self.map.insert(key, value) {
-            Ok(_) => Ok(()),
-            Err(refused) => Err(refused.value),
-        }
+        put_new(&mut self.map, key, value)?;
+        Ok(())
     }
 
     /// Leaves the join of both stores: the least store above both. Takes logarithmic time for each key of the other store, whose
@@ -105,12 +104,26 @@ impl<K: Ord + Drop, V: Join + Drop> Stamped<K, V> {
     {
         let mut taken = 0;
         for (key, value) in other.map {
-            match self.take(key, value) {
-                Ok(()) => taken += 1,
-                Err(_) => return Err(Short { taken }),
+            match self.take_next(taken, key, value) {
+                Ok(next) => taken = next,
+                Err(short) => return Err(short),
             }
         }
         Ok(())
+    }
+
+    // Joins one more value of another store, after this many, and answers how many there are then.
+    fn take_next(&mut self, count: usize, key: K, value: V) -> Result<usize, Short>
+        requires { count < 2 ^ 63 }
+        ensures count { IfOk result (λ n. n ≡ count + 1) }
+        ensures ok { OnOk result (self.new ≡ taken K.cmp V.joined self.old key value) }
+        ensures short { IfErr result (λ s. s.taken ≡ count) }
+        ensures err { OnErr result (self.new ≡ self.old) }
+    {
+        match self.take(key, value) {
+            Ok(()) => Ok(count + 1),
+            Err(_) => Err(Short { taken: count }),
+        }
     }
 
     /// Whether each key is a key of the other store, with a value there that is at least as great. Takes no memory.
@@ -142,5 +155,17 @@ impl<V: Join + Drop> Stamped<String, V> {
         ensures { option_copied result ≡ value_at_text self.now text.now }
     {
         self.map.get(text)
+    }
+}
+
+// Gives a key its value, whether it had one or not. Where memory is refused, both come back.
+fn put_new<K: Ord + Drop, V: Drop>(map: &mut BTreeMap<K, V>, key: K, value: V) -> Result<(), (K, V)>
+    ensures ok { OnOk result (map.new.entries ≡ insert_entry K.cmp map.old.entries key value) }
+    ensures refused { IfErr result (λ pair. pair ≡ (key, value)) }
+    ensures err { OnErr result (map.new.entries ≡ map.old.entries) }
+{
+    match map.insert(key, value) {
+        Ok(_) => Ok(()),
+        Err(refused) => Err(refused.value),
     }
 }

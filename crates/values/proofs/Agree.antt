@@ -11,6 +11,8 @@ use Rattle.values.specs.contracts.entity_uid.EntityUidPartialEq.TheImpl as uid_e
 use Rattle.values.specs.contracts.name.NamePartialEq.TheImpl as name_eq
 use Rattle.values.specs.contracts.request.RequestPartialEq.TheImpl as request_eq
 use Rattle.values.specs.declared.request.Request.{Request}
+use Rattle.values.specs.Values.{PlainValue}
+use Rattle.values.specs.ValueOrder.{record_cmp, record_cmp-IsTotalOrder, record_cmp-IsAntisymmetric}
 use Rattle.values.specs.Uids.{equal-is}
 use Rattle.values.specs.Names.{text_cmp, uid_cmp, name_cmp, text_cmp-IsTotalOrder, text_cmp-IsAntisymmetric}
 
@@ -49,15 +51,23 @@ name_eq-is (Policy a) (Entity b) = ((λ h. absurd (cc)), (λ e. absurd (cc)))
 name_eq-is (Entity a) (Policy b) = ((λ h. absurd (cc)), (λ e. absurd (cc)))
 name_eq-is (Entity a) (Entity b) = ((λ h. ap Entity ((uid_eq-is a b).0 h)), (λ e. (uid_eq-is a b).1 (cc)))
 
+-- of records
+pub record_eq-is : (a b : List (List ℕ × PlainValue)) → IsTrue (is_eq (record_cmp a b)) ↔ (a ≡ b)
+record_eq-is = equal-is record_cmp-IsTotalOrder record_cmp-IsAntisymmetric
+
 pub request_eq-is : (a b : Request) → IsTrue ((request_eq.eq-value).it a b) ↔ (a ≡ b)
 request_eq-is a b = (
   (λ h.
-      let outer = both_true ((uid_eq.eq-value).it a.principal b.principal) ((uid_eq.eq-value).it a.action b.action && (uid_eq.eq-value).it a.resource b.resource) h in
-      let inner = both_true ((uid_eq.eq-value).it a.action b.action) ((uid_eq.eq-value).it a.resource b.resource) outer.1 in
+      let last = (uid_eq.eq-value).it a.resource b.resource && is_eq (record_cmp a.context b.context) in
+      let outer = both_true ((uid_eq.eq-value).it a.principal b.principal) ((uid_eq.eq-value).it a.action b.action && last) h in
+      let inner = both_true ((uid_eq.eq-value).it a.action b.action) last outer.1 in
+      let least = both_true ((uid_eq.eq-value).it a.resource b.resource) (is_eq (record_cmp a.context b.context)) inner.1 in
       let principals = (uid_eq-is a.principal b.principal).0 outer.0 in
       let actions = (uid_eq-is a.action b.action).0 inner.0 in
-      let resources = (uid_eq-is a.resource b.resource).0 inner.1 in
-      λ i. record { principal = principals i; action = actions i; resource = resources i }),
+      let resources = (uid_eq-is a.resource b.resource).0 least.0 in
+      let contexts = (record_eq-is a.context b.context).0 least.1 in
+      λ i. record { principal = principals i; action = actions i; resource = resources i; context = contexts i }),
   (λ e. λ i. (uid_eq-is a.principal b.principal).1 (λ j. (e j).principal) i
-      && ((uid_eq-is a.action b.action).1 (λ j. (e j).action) i && (uid_eq-is a.resource b.resource).1 (λ j. (e j).resource) i)),
+      && ((uid_eq-is a.action b.action).1 (λ j. (e j).action) i
+      && ((uid_eq-is a.resource b.resource).1 (λ j. (e j).resource) i && (record_eq-is a.context b.context).1 (λ j. (e j).context) i))),
 )

@@ -14,6 +14,7 @@ use Rattle.values.specs.Uids.{both_equal}
 use Rattle.values.specs.declared.name.Name.{Name}
 use Rattle.values.specs.declared.name.Name.TheVariants.{Policy, Entity}
 use Rattle.values.specs.declared.request.Request.{Request}
+use Rattle.values.specs.ValueOrder.{record_cmp, record_cmp-IsTotalOrder, record_cmp-IsAntisymmetric}
 
 -- policies before entities
 abbrev pub name_cmp : Name → Name → Ordering
@@ -22,11 +23,11 @@ name_cmp (Policy a) (Entity b) = Less
 name_cmp (Entity a) (Policy b) = Greater
 name_cmp (Entity a) (Entity b) = uid_cmp a b
 
--- by the principal, then by the action, then by the resource
+-- by the principal, then by the action, then by the resource, then by the context
 abbrev pub request_cmp : Request → Request → Ordering
 request_cmp a b =
     ordering_then (uid_cmp a.principal b.principal)
-    (ordering_then (uid_cmp a.action b.action) (uid_cmp a.resource b.resource))
+    (ordering_then (uid_cmp a.action b.action) (ordering_then (uid_cmp a.resource b.resource) (record_cmp a.context b.context)))
 
 -- The three orders are total, and compare as equal only what is equal.
 
@@ -65,13 +66,17 @@ name_cmp-IsAntisymmetric (Entity a) (Entity b) h = ap Entity (uid_cmp-IsAntisymm
 pub request_cmp-IsTotalOrder : IsTotalOrder request_cmp
 request_cmp-IsTotalOrder =
     then_total (on_total (λ q. q.principal) uid_cmp-IsTotalOrder)
-    (then_total (on_total (λ q. q.action) uid_cmp-IsTotalOrder) (on_total (λ q. q.resource) uid_cmp-IsTotalOrder))
+    (then_total (on_total (λ q. q.action) uid_cmp-IsTotalOrder)
+    (then_total (on_total (λ q. q.resource) uid_cmp-IsTotalOrder) (on_total (λ q. q.context) record_cmp-IsTotalOrder)))
 
 pub request_cmp-IsAntisymmetric : IsAntisymmetric request_cmp
 request_cmp-IsAntisymmetric a b h =
-    let outer = both_equal (uid_cmp a.principal b.principal) (ordering_then (uid_cmp a.action b.action) (uid_cmp a.resource b.resource)) h in
-    let inner = both_equal (uid_cmp a.action b.action) (uid_cmp a.resource b.resource) outer.1 in
+    let behind = ordering_then (uid_cmp a.resource b.resource) (record_cmp a.context b.context) in
+    let outer = both_equal (uid_cmp a.principal b.principal) (ordering_then (uid_cmp a.action b.action) behind) h in
+    let inner = both_equal (uid_cmp a.action b.action) behind outer.1 in
+    let last = both_equal (uid_cmp a.resource b.resource) (record_cmp a.context b.context) inner.1 in
     let principals = uid_cmp-IsAntisymmetric a.principal b.principal outer.0 in
     let actions = uid_cmp-IsAntisymmetric a.action b.action inner.0 in
-    let resources = uid_cmp-IsAntisymmetric a.resource b.resource inner.1 in
-    λ i. record { principal = principals i; action = actions i; resource = resources i }
+    let resources = uid_cmp-IsAntisymmetric a.resource b.resource last.0 in
+    let contexts = record_cmp-IsAntisymmetric a.context b.context last.1 in
+    λ i. record { principal = principals i; action = actions i; resource = resources i; context = contexts i }

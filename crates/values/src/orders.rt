@@ -38,7 +38,7 @@ pub fn names_are_ordered()
     ensures exact { IsAntisymmetric name_cmp }
 {}
 
-/// Requests are compared by principal, action and resource: `cmp` is that order, which is total, and `Equal` only at equal requests; `==` holds exactly at equal values.
+/// Requests are compared by principal, action, resource and context: `cmp` is that order, which is total, and `Equal` only at equal requests; `==` holds exactly at equal values.
 pub fn requests_are_ordered()
     ensures by { (a b : Request) → ⟦<Request as Ord>⟧.cmp a b ≡ request_cmp a b }
     ensures same { (a b : Request) → IsTrue (⟦<Request as PartialEq>⟧.eq a b) ↔ (a ≡ b) }

@@ -1,13 +1,14 @@
 ghost use Rattle.std.specs.Prelude.{◌≡◌, IfOk};
 
 use crate::entity_uid::EntityUid;
+use crate::value::Record;
 use plain::NoMemory;
+use std::alloc::Global;
 
-/// What is asked: may this principal do this action on this resource?
+/// What is asked: may this principal do this action on this resource, in this context?
 ///
-/// Ordered by principal, then action, then resource.
-// A request's context, a record of values, is a further field, behind these.
-#[derive(Debug, PartialEq, Eq, PartialOrd, Ord, Drop)]
+/// Ordered by principal, then action, then resource, then context.
+#[derive(PartialEq, Eq, PartialOrd, Ord, Drop)]
 pub struct Request {
     /// Who asks.
     pub principal: EntityUid,
@@ -15,20 +16,24 @@ pub struct Request {
     pub action: EntityUid,
     /// To what it is to be done.
     pub resource: EntityUid,
+    /// What else is known of the request.
+    pub context: Record,
 }
 
 impl Request {
     /// The same request, or `NoMemory`.
-    pub fn copy(&self) -> Result<Request, NoMemory>
+    pub fn copy(&self, alloc: Global) -> Result<Request, NoMemory>
         ensures { IfOk result (λ q. q ≡ self.now) }
     {
         let principal = self.principal.copy()?;
         let action = self.action.copy()?;
         let resource = self.resource.copy()?;
+        let context = self.context.copy(alloc)?;
         Ok(Request {
             principal,
             action,
             resource,
+            context,
         })
     }
 }

@@ -76,8 +76,9 @@ fn copies_and_compares(rt: HostRuntime) -> Result<(), Fail> {
         principal: alice.copy()?,
         action: bob.copy()?,
         resource: alice.copy()?,
+        context: Record::new(rt.alloc()),
     };
-    assert!(rt; request.copy()? == request);
+    assert!(rt; request.copy(rt.alloc())? == request);
     let entity = Name::Entity(alice);
     let policy = Name::Policy(Text::from_str(rt.alloc(), "zebra")?);
     assert!(rt; entity.copy()? == entity);
@@ -235,6 +236,7 @@ fn asked(alloc: Global) -> Result<Request, NoMemory> {
         principal: named(alloc, "alice")?,
         action: named(alloc, "view")?,
         resource: named(alloc, "photo")?,
+        context: Record::new(alloc),
     })
 }
 
@@ -244,9 +246,9 @@ fn requests_are_copied_under_refused_memory(rt: HostRuntime) -> Result<(), Fail>
         Ok(request) => request,
         Err(_) => asked(rt.alloc())?,
     };
-    let copy = match request.copy() {
+    let copy = match request.copy(rt.alloc()) {
         Ok(copy) => copy,
-        Err(_) => request.copy()?,
+        Err(_) => request.copy(rt.alloc())?,
     };
     assert!(rt; copy == request);
     Ok(())

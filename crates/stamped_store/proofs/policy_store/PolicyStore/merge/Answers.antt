@@ -1,8 +1,7 @@
-use Rattle.std.proofs.Common.{◌≡◌, ◌∙◌, ap, sym, subst, refl, arith, max, take, ◌+◌, []}
+use Rattle.std.proofs.Common.{◌≡◌, ◌∙◌, ap, subst, refl, take, ◌+◌, []}
 use Rattle.std.specs.String.{string_cmp}
 use Rattle.stamped_store.specs.EntryOrder.{greater}
 use Rattle.stamped_store.specs.Stored.{all_taken}
-use Rattle.stamped_store.specs.Shown.{greatest_kept}
 use Rattle.stamped_store.specs.Store.{kept, all_kept, first_kept, shown_store, shown_updates, updates}
 use Rattle.stamped_store.proofs.Stores.{counted_all, counted_anew, joined_whole, joined_first, kept_first_policies, kept_first_entities}
 use Rattle.stamped_store.proofs.policy_store.PolicyStore.merge.Goals as goal
@@ -11,8 +10,7 @@ use Rattle.stamped_store.proofs.policy_store.PolicyStore.merge.Goals as goal
 pub invariant_of-self : goal.invariant_of-self
 invariant_of-self g c =
     let es = c.self.inside.entities in
-    let count : c.max-self-inside.result ≡ max (greatest_kept c.merge.new.self) (greatest_kept es) = let a = c.greatest_of.ensures in let b = c.greatest_of-in-Err.ensures in let m = c.max-self-inside.ensures in cc in
-    counted_anew c.self.inside.policies (take c.in-Err.short.taken c.other.inside.policies) c.merge.new.self es [] es c.self.inside.greatest _ c.in-Err.ensures.short_entries refl count c.self.invariant
+    counted_anew c.self.inside.policies (take c.in-Err.short.taken c.other.inside.policies) c.merge.new.self es [] es c.self.inside.greatest _ c.in-Err.ensures.short_entries refl c.greatest_of_both-self-inside.ensures c.self.invariant
 
 pub returns-in-Err-clause-short_kept : goal.returns-in-Err-clause-short_kept
 returns-in-Err-clause-short_kept g c =
@@ -28,33 +26,29 @@ returns-in-Err-clause-short g c =
     joined_first c.args.self.now c.args.other _ c.in-Err.short.taken in_order (returns-in-Err-clause-short_kept g c)
 
 -- ---- memory was refused among the entities
-pub overflow_add-result : goal.overflow_add-result
-overflow_add-result g c = omega (arith, c.in-Err-merge.ensures.small, c.len-before.ensures.small)
-
 pub invariant_of-self-in-Err-merge : goal.invariant_of-self-in-Err-merge
 invariant_of-self-in-Err-merge g c =
-    let count : c.max-self-inside-in-Err-merge.result ≡ max (greatest_kept c.merge.new.self) (greatest_kept c.merge-2.new.self) = let a = c.greatest_of-in-Err-merge.ensures in let b = c.greatest_of-in-Err-merge-2.ensures in let m = c.max-self-inside-in-Err-merge.ensures in cc in
-    counted_anew c.self.inside.policies c.other.inside.policies c.merge.new.self c.self.inside.entities (take c.in-Err-merge.short.taken c.other.inside.entities) c.merge-2.new.self c.self.inside.greatest _ c.in_default.ensures.ok_entries c.in-Err-merge.ensures.short_entries count c.self.invariant
+    counted_anew c.self.inside.policies c.other.inside.policies c.merge.new.self c.self.inside.entities (take c.in-Err-merge.short.taken c.other.inside.entities) c.merge-2.new.self c.self.inside.greatest _ c.in_default.ensures.ok_entries c.in-Err-merge.ensures.short_entries c.greatest_of_both-self-inside-in-Err-merge.ensures c.self.invariant
 
 pub returns-in-Err-merge-clause-short_kept : goal.returns-in-Err-merge-clause-short_kept
 returns-in-Err-merge-clause-short_kept g c =
     let self = kept c.self.inside.policies c.self.inside.entities in
     let other = kept c.other.inside.policies c.other.inside.entities in
-    let k = c.len-before.result + c.in-Err-merge.short.taken in
-    kept_first_entities self other c.merge.new.self c.merge-2.new.self c.in-Err-merge.short.taken k c.in_default.ensures.ok_entries c.in-Err-merge.ensures.short_entries (ap (λ n. n + c.in-Err-merge.short.taken) c.len-before.ensures.len)
+    let k = c.short_behind.result.taken in
+    kept_first_entities self other c.merge.new.self c.merge-2.new.self c.in-Err-merge.short.taken k c.in_default.ensures.ok_entries c.in-Err-merge.ensures.short_entries (c.short_behind.ensures ∙ ap (λ n. n + c.in-Err-merge.short.taken) c.len-before.ensures.len)
     ∙ ap (λ s. all_kept s (first_kept k other)) c.self.view_is
     ∙ ap (λ o. all_kept c.args.self.now (first_kept k o)) c.other.view_is
 
 pub returns-in-Err-merge-clause-short : goal.returns-in-Err-merge-clause-short
 returns-in-Err-merge-clause-short g c =
     let in_order : updates (shown_store c.args.other) ≡ shown_updates c.args.other = subst (λ x. updates (shown_store x) ≡ shown_updates x) c.other.view_is c.other.invariant.in_order in
-    joined_first c.args.self.now c.args.other _ (c.len-before.result + c.in-Err-merge.short.taken) in_order (returns-in-Err-merge-clause-short_kept g c)
+    joined_first c.args.self.now c.args.other _ c.short_behind.result.taken in_order (returns-in-Err-merge-clause-short_kept g c)
 
 -- ---- all of the other store was taken
 pub invariant_of-self-2 : goal.invariant_of-self-2
 invariant_of-self-2 g c =
     counted_all c.self.inside.policies c.other.inside.policies c.merge.new.self c.self.inside.entities c.other.inside.entities c.merge-2.new.self c.self.inside.greatest c.other.inside.greatest _
-    c.in_default.ensures.ok_entries c.in_default-merge.ensures.ok_entries c.max-self-inside-2.ensures c.self.invariant c.other.invariant
+    c.in_default.ensures.ok_entries c.in_default-merge.ensures.ok_entries c.greater_count-self-inside.ensures c.self.invariant c.other.invariant
 
 pub returns-clause-ok_kept : goal.returns-clause-ok_kept
 returns-clause-ok_kept g c =

@@ -8,11 +8,11 @@ use Rattle.stamped_store.proofs.policy_store.PolicyStore.take_entity.Goals as go
 
 pub invariant_of-self-2 : goal.invariant_of-self-2
 invariant_of-self-2 g c =
-    counted_entity c.self.inside.policies c.self.inside.entities c.take.new.self c.args.uid c.args.entry c.self.inside.greatest _ c.in_ok-take.ensures.ok c.max-self-inside.ensures c.self.invariant
+    counted_entity c.self.inside.policies c.self.inside.entities c.take_counted.new.entries c.args.uid c.args.entry c.self.inside.greatest _ c.in_ok-self-inside.ensures.ok c.in_ok-self-inside.ensures.count c.self.invariant
 
 pub returns-clause-kept : goal.returns-clause-kept
 returns-clause-kept g c =
-    ap (kept c.self.inside.policies) c.in_ok-take.ensures.ok
+    ap (kept c.self.inside.policies) c.in_ok-self-inside.ensures.ok
     ∙ ap (λ s. kept s.policies (taken uid_cmp greater s.entities c.args.uid c.args.entry)) c.self.view_is
 
 pub returns-clause-ok : goal.returns-clause-ok

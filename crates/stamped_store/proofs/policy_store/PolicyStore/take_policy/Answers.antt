@@ -8,11 +8,11 @@ use Rattle.stamped_store.proofs.policy_store.PolicyStore.take_policy.Goals as go
 
 pub invariant_of-self-2 : goal.invariant_of-self-2
 invariant_of-self-2 g c =
-    counted_policy c.self.inside.policies c.take.new.self c.self.inside.entities c.args.id c.args.entry c.self.inside.greatest _ c.in_ok-take.ensures.ok c.max-self-inside.ensures c.self.invariant
+    counted_policy c.self.inside.policies c.take_counted.new.entries c.self.inside.entities c.args.id c.args.entry c.self.inside.greatest _ c.in_ok-self-inside.ensures.ok c.in_ok-self-inside.ensures.count c.self.invariant
 
 pub returns-clause-kept : goal.returns-clause-kept
 returns-clause-kept g c =
-    ap (λ ps. kept ps c.self.inside.entities) c.in_ok-take.ensures.ok
+    ap (λ ps. kept ps c.self.inside.entities) c.in_ok-self-inside.ensures.ok
     ∙ ap (λ s. kept (taken string_cmp greater s.policies c.args.id c.args.entry) s.entities) c.self.view_is
 
 pub returns-clause-ok : goal.returns-clause-ok

@@ -14,7 +14,7 @@ returns-in-Err-clause-short_values g c =
     let other = c.args.other in
     let yielded = c.loop-key.yielded in
     let sorted : IsStrictlySortedBy cmp (keys_of other) = subst (λ es. IsStrictlySortedBy cmp (keys_of es)) c.other.view_is c.into_iter-key-iterator.ensures.into_iter_gives.5 in
-    subst (λ n. IsJoined cmp join old (take n other) c.take.new.self) (sym c.loop-key.invariant.count)
+    subst (λ n. IsJoined cmp join old (take n other) c.take_next.new.self) (sym (c.in-Err.ensures.short ∙ c.loop-key.invariant.count))
     (subst (λ s. IsJoined cmp join old (take (length yielded) other) s) (sym (c.in-Err.ensures.err ∙ c.loop-key.invariant.joined))
     (is_joined-prefix g.met.K.Ord.total join old yielded c.loop-key.key-iterator other c.loop-key.invariant.rest sorted))
 
@@ -28,7 +28,7 @@ loop-key-preserved g c =
       can_next = tt;
       is_finite = tt;
       rest = append_assoc yielded (item ∷ []) c.next.new.self ∙ ap (λ es. yielded ++ es) (sym c.in-Some.ensures.steps) ∙ c.loop-key.invariant.rest;
-      count = omega (arith, length-append yielded (item ∷ []));
+      count = omega (arith, length-append yielded (item ∷ []), c.in-Ok.ensures.count);
       joined = c.in-Ok.ensures.ok ∙ ap (λ s. taken cmp join s c.in-Some.key c.in-Some.value) c.loop-key.invariant.joined ∙ sym (all_taken-push cmp join c.args.self.now yielded item);
     }
 

@@ -18,13 +18,13 @@ returns-in-Some-clause-ok g c =
     ∙ ap (insert_entry cmp es c.args.key) (c.join.ensures ∙ sym (ap (λ o. joined_onto join o c.args.value) found))
     ∙ ap (λ s. taken cmp join s c.args.key c.args.value) c.self.view_is
 
-pub returns-in-Ok-clause-ok : goal.returns-in-Ok-clause-ok
-returns-in-Ok-clause-ok g c =
+pub returns-clause-ok : goal.returns-clause-ok
+returns-clause-ok g c =
     let cmp = g.K.Ord.cmp in
     let join = g.V.Join.joined in
     let es = c.self.inside.map.entries in
     let absent : value_at cmp es c.args.key ≡ None = sym c.get_mut.ensures.value ∙ ap option_copied_mut c.in_default.is in
-    c.in-Ok.ensures.entries
+    c.in_ok-put_new.ensures.ok
     ∙ ap (λ m. insert_entry cmp m.entries c.args.key c.args.value) c.get_mut.follows.holds-at-none
     ∙ ap (λ o. insert_entry cmp es c.args.key (joined_onto join o c.args.value)) (sym absent)
     ∙ ap (λ s. taken cmp join s c.args.key c.args.value) c.self.view_is
@@ -35,8 +35,8 @@ returns-in-Some-clause-at_key g c = joined_here g.met.K.Ord.total g.V.Join.joine
 pub returns-in-Some-clause-others : goal.returns-in-Some-clause-others
 returns-in-Some-clause-others g c = others_kept g.met.K.Ord.total g.V.Join.joined _ _ c.args.key c.args.value (returns-in-Some-clause-ok g c)
 
-pub returns-in-Ok-clause-at_key : goal.returns-in-Ok-clause-at_key
-returns-in-Ok-clause-at_key g c = joined_here g.met.K.Ord.total g.V.Join.joined _ _ c.args.key c.args.value (returns-in-Ok-clause-ok g c)
+pub returns-clause-at_key : goal.returns-clause-at_key
+returns-clause-at_key g c = joined_here g.met.K.Ord.total g.V.Join.joined _ _ c.args.key c.args.value (returns-clause-ok g c)
 
-pub returns-in-Ok-clause-others : goal.returns-in-Ok-clause-others
-returns-in-Ok-clause-others g c = others_kept g.met.K.Ord.total g.V.Join.joined _ _ c.args.key c.args.value (returns-in-Ok-clause-ok g c)
+pub returns-clause-others : goal.returns-clause-others
+returns-clause-others g c = others_kept g.met.K.Ord.total g.V.Join.joined _ _ c.args.key c.args.value (returns-clause-ok g c)
