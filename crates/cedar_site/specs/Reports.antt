@@ -40,3 +40,7 @@ abbrev pub IsLineStatus : LineFault → ℕ → Type 0
 IsLineStatus (Words error) status = ((kind_of error ≡ DisplayHelp) ⊎ (kind_of error ≡ DisplayVersion) → status ≡ 0)
     × (kind_of error ≢ DisplayHelp → kind_of error ≢ DisplayVersion → status ≡ 2)
 IsLineStatus Incomplete status = status ≡ 2
+
+-- a command that was taken ends with 0, 1 (refused) or 3 (a file)
+abbrev pub IsRunStatus : ℕ → Type 0
+IsRunStatus status = (status ≡ 0) ⊎ (status ≡ 1) ⊎ (status ≡ 3)

@@ -1,6 +1,10 @@
 //! The program: one request, decided over a file of policies and a file of entities.
 #![tactic(auto)]
 
+ghost use Rattle.std.specs.Prelude.{IfOk};
+ghost use Rattle.std.specs.Process.{exit_status};
+ghost use Rattle.cedar_site.specs.Reports.{IsLineStatus, IsRunStatus};
+
 mod line;
 mod report;
 
@@ -11,7 +15,9 @@ use std::process::ExitCode;
 use std::{env, fs, io};
 
 /// Writes what the words came to, in place of a command: help on standard output, a fault on standard error.
-fn tell_words(rt: &HostRuntime, fault: LineFault) -> io::Result<ExitCode> {
+fn tell_words(rt: &HostRuntime, fault: LineFault) -> io::Result<ExitCode>
+    ensures { IfOk result (λ code. IsLineStatus fault (exit_status code)) }
+{
     if let LineFault::Words(error) = &fault {
         error.print(rt)?;
     }
@@ -24,7 +30,9 @@ fn run_decide(
     policies: &str,
     entities: &str,
     request: &str,
-) -> io::Result<ExitCode> {
+) -> io::Result<ExitCode>
+    ensures { IfOk result (λ code. IsRunStatus (exit_status code)) }
+{
     let Ok(policies) = fs::read(rt, policies) else {
         return tell_file(&mut rt.stderr(), policies);
     };
