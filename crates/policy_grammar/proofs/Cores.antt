@@ -5,7 +5,7 @@ use Rattle.values.specs.declared.entity_uid.EntityUid.{EntityUid}
 use Rattle.policy_tokens.specs.declared.token.Token.{Token}
 use Rattle.policy_tokens.specs.Lexing.{spelling_of}
 use Rattle.policy_tokens.specs.Strings.{OneValue}
-use Rattle.policy_syntax.specs.declared.tree.UidTree.{UidTree}
+use Rattle.expression_syntax.specs.declared.tree.UidTree.{UidTree}
 use Rattle.policy_syntax.specs.declared.tree.Annotation.{Annotation}
 use Rattle.policy_syntax.specs.declared.tree.PartTree.{PartTree}
 use Rattle.policy_syntax.specs.declared.tree.PartTree.TheVariants as part

@@ -9,7 +9,7 @@ use Rattle.policy_tokens.specs.declared.token.Token.{Token}
 use Rattle.policy_tokens.specs.Idents.{is_ident}
 use Rattle.policy_tokens.specs.Lexing.{spelling_of}
 use Rattle.policy_syntax.specs.Grammar.{identifiers}
-use Rattle.policy_syntax.specs.Kinds.{only, same_kind}
+use Rattle.expression_syntax.specs.Kinds.{only, same_kind}
 use Rattle.policy_grammar.proofs.Lists.{idents-more}
 
 pub ident-kind : (kind : Kind) → identifiers kind ≡ true → is_ident kind ≡ true

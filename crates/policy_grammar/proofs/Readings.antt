@@ -4,11 +4,11 @@ use Rattle.policy_tokens.specs.declared.token.Token.{Token}
 use Rattle.policy_tokens.specs.Lexing.{IsLexed, IsBadAt, OneLexing, BadIsNotLexed, OneBadPlace}
 use Rattle.policy_tokens.specs.Strings.{OneValue}
 use Rattle.policy_syntax.specs.declared.tree.PolicyTree.{PolicyTree}
-use Rattle.policy_syntax.specs.declared.fault.SyntaxFault.{SyntaxFault}
-use Rattle.policy_syntax.specs.declared.fault.SyntaxFault.TheVariants as syntax
-use Rattle.policy_syntax.specs.Lang.{Lang}
+use Rattle.expression_syntax.specs.declared.fault.SyntaxFault.{SyntaxFault}
+use Rattle.expression_syntax.specs.declared.fault.SyntaxFault.TheVariants as syntax
+use Rattle.expression_syntax.specs.Lang.{Lang}
 use Rattle.policy_syntax.specs.Grammar as grammar
-use Rattle.policy_syntax.specs.Reads.{IsRefused, HasOneTree, HasOneAnswer}
+use Rattle.expression_syntax.specs.Reads.{IsRefused, HasOneTree, HasOneAnswer}
 use Rattle.policy_grammar.specs.declared.policy.Policy.{Policy}
 use Rattle.policy_grammar.specs.declared.fault.ReadFault.{ReadFault}
 use Rattle.policy_grammar.specs.declared.fault.ReadFault.TheVariants as fault
@@ -73,6 +73,15 @@ view L most text (fault.Slot at) unread told = inr (inr (record {
   told = λ e. absurd (cc);
   same = ap fault.Slot unread.byte;
 }))
+view L most text (fault.TooDeep at) unread told = inr (inr (record {
+  short = unread.short;
+  tokens = unread.tokens;
+  lexed = unread.lexed;
+  reason = syntax.TooDeep unread.place;
+  refused = unread.refused;
+  told = λ e. absurd (cc);
+  same = ap fault.TooDeep unread.byte;
+}))
 view L most text _ unread told = absurd unread
 
 err-same : (A : Type 0) (e f : SyntaxFault) → ◌≡◌ {A = Result A SyntaxFault} (Err e) (Err f) → e ≡ f
@@ -121,6 +130,7 @@ module _ {A : Type 0} (L : Lang A) (most : ℕ) (text : List ℕ) (laws : Laws) 
   read-unread x (fault.BadToken at) a unread = absurd (not_unread x _ a (view L most text (fault.BadToken at) unread (λ e. absurd (cc))))
   read-unread x (fault.Unexpected at) a unread = absurd (not_unread x _ a (view L most text (fault.Unexpected at) unread (λ e. absurd (cc))))
   read-unread x (fault.Slot at) a unread = absurd (not_unread x _ a (view L most text (fault.Slot at) unread (λ e. absurd (cc))))
+  read-unread x (fault.TooDeep at) a unread = absurd (not_unread x _ a (view L most text (fault.TooDeep at) unread (λ e. absurd (cc))))
   read-unread x fault.TooLong a unread = absurd (not_unread x _ a (view L most text fault.TooLong unread (λ e. absurd (cc))))
   read-unread x _ a unread = absurd unread
 

@@ -1,17 +1,22 @@
 -- From the refusal of trees to the refusal of their text.
-use Rattle.std.proofs.Common.{◌≡◌, ◌↔◌, ℕ, Bool, true, false, IsTrue, List, length, Option, Some, None, Result, Ok, Err, IfErr, ◌∙◌, subst, inl, inr}
+use Rattle.std.proofs.Common.{◌≡◌, ◌↔◌, ℕ, Bool, true, false, IsTrue, List, length, Option, Some, None, Result, Ok, Err, IfErr, ◌∙◌, refl, subst, inl, inr}
 use Rattle.std.specs.List.{enumerate_from}
 use Rattle.std.proofs.lemmas.List.FromFn.{length-enumerate_from}
 use Rattle.std.proofs.lemmas.Slice.Zip.{AllZip-long}
+use Rattle.policy_tokens.specs.declared.token.Token.{Token}
+use Rattle.expression_syntax.specs.declared.fault.SyntaxFault.{SyntaxFault}
+use Rattle.expression_syntax.specs.declared.fault.SyntaxFault.TheVariants as syntax
+use Rattle.expression_syntax.specs.Lang.{Lang}
+use Rattle.expression_syntax.specs.Reads.{IsRefused}
 use Rattle.policy_syntax.specs.declared.tree.PolicyTree.{PolicyTree}
 use Rattle.policy_syntax.specs.Grammar as grammar
 use Rattle.policy_grammar.specs.declared.fault.ReadFault.{ReadFault}
 use Rattle.policy_grammar.specs.declared.fault.ReadFault.TheVariants as fault
 use Rattle.policy_grammar.specs.CoreOf.{IsNameOf, AreNamesOf}
 use Rattle.policy_grammar.specs.Limits.{most_file_bytes}
-use Rattle.policy_grammar.specs.PolicyText.{Derives, HaveNoPolicies, IsFileRefused}
+use Rattle.policy_grammar.specs.PolicyText.{Derives, IsUnread, HaveNoPolicies, IsFileRefused}
 use Rattle.policy_grammar.specs.Repeats.{Nowhere, IsLeast, TellsLeast}
-use Rattle.policy_grammar.specs.Standing.{OrNoMemory}
+use Rattle.policy_grammar.specs.Standing.{LexedIn, refusal_of, OrNoMemory}
 
 pub nowhere : (P : ℕ → Type 0) (o : Option ℕ) → TellsLeast P o → o ≡ None → Nowhere P
 nowhere P o tells none = subst (TellsLeast P) none tells
@@ -36,3 +41,10 @@ pub file-refused : {A : Type 0} (text : List ℕ) (trees : List PolicyTree) (nam
     AreNamesOf text trees names → (r : Result A ReadFault) → IfErr r (OrNoMemory (HaveNoPolicies text trees names)) → IfErr r (IsFileRefused text)
 file-refused text trees names derives named (Ok x) none = tt
 file-refused text trees names derives named (Err why) none = file-why text trees names derives named why none
+
+-- from the refusal of tokens to the refusal of their text
+pub unread : {A : Type 0} (L : Lang A) (most : ℕ) (text : List ℕ) (tokens : List Token) → LexedIn most text tokens → (e : SyntaxFault) → IsRefused L tokens e → IsUnread L most text (refusal_of text tokens e)
+unread L most text tokens l syntax.NoMemory r = tt
+unread L most text tokens l (syntax.Unexpected place) r = record { short = l.short; tokens = tokens; lexed = l.lexed; place = place; refused = r; byte = refl }
+unread L most text tokens l (syntax.Slot place) r = record { short = l.short; tokens = tokens; lexed = l.lexed; place = place; refused = r; byte = refl }
+unread L most text tokens l (syntax.TooDeep place) r = record { short = l.short; tokens = tokens; lexed = l.lexed; place = place; refused = r; byte = refl }

@@ -12,8 +12,8 @@ use Rattle.policy_tokens.specs.declared.token.Kind.TheVariants as k
 use Rattle.policy_tokens.specs.declared.token.Token.{Token}
 use Rattle.policy_tokens.specs.Lexing.{spelling_of}
 use Rattle.policy_tokens.specs.Strings.{IsStringOf}
-use Rattle.policy_syntax.specs.declared.tree.PathTree.{PathTree}
-use Rattle.policy_syntax.specs.declared.tree.UidTree.{UidTree}
+use Rattle.expression_syntax.specs.declared.tree.PathTree.{PathTree}
+use Rattle.expression_syntax.specs.declared.tree.UidTree.{UidTree}
 use Rattle.policy_syntax.specs.declared.tree.Annotation.{Annotation}
 use Rattle.policy_syntax.specs.declared.tree.PartTree.{PartTree}
 use Rattle.policy_syntax.specs.declared.tree.PartTree.TheVariants as part

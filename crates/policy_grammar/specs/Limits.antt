@@ -2,7 +2,7 @@
 -- Rules of this product: the core expression of a policy is at most 1,000 high and has at most 1,000,000 forms, a policy's id has 1 to 256 bytes,
 -- a policy text at most 262,144 bytes, a file 8,388,608.
 use Rattle.std.specs.Prelude.{◌≡◌, ℕ, suc, ◌+◌, ◌≤◌, max, List, [], ◌∷◌, length}
-use Rattle.policy_syntax.specs.declared.tree.UidTree.{UidTree}
+use Rattle.expression_syntax.specs.declared.tree.UidTree.{UidTree}
 use Rattle.policy_syntax.specs.declared.tree.PartTree.{PartTree}
 use Rattle.policy_syntax.specs.declared.tree.PartTree.TheVariants as part
 use Rattle.policy_syntax.specs.declared.tree.ActionTree.{ActionTree}

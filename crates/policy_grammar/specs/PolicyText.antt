@@ -4,13 +4,13 @@ use Rattle.std.specs.Prelude.{◌≡◌, ◌⊎◌, ℕ, ◌≤◌, ◌<◌, Lis
 use Rattle.values.specs.declared.entity_uid.EntityUid.{EntityUid}
 use Rattle.policy_tokens.specs.declared.token.Token.{Token}
 use Rattle.policy_tokens.specs.Lexing.{IsLexed, IsBadAt}
-use Rattle.policy_syntax.specs.declared.tree.UidTree.{UidTree}
+use Rattle.expression_syntax.specs.declared.tree.UidTree.{UidTree}
 use Rattle.policy_syntax.specs.declared.tree.PolicyTree.{PolicyTree}
-use Rattle.policy_syntax.specs.declared.fault.SyntaxFault.{SyntaxFault}
-use Rattle.policy_syntax.specs.declared.fault.SyntaxFault.TheVariants as syntax
-use Rattle.policy_syntax.specs.Lang.{Lang}
+use Rattle.expression_syntax.specs.declared.fault.SyntaxFault.{SyntaxFault}
+use Rattle.expression_syntax.specs.declared.fault.SyntaxFault.TheVariants as syntax
+use Rattle.expression_syntax.specs.Lang.{Lang}
 use Rattle.policy_syntax.specs.Grammar as grammar
-use Rattle.policy_syntax.specs.Reads.{IsRefused}
+use Rattle.expression_syntax.specs.Reads.{IsRefused}
 use Rattle.policy_grammar.specs.declared.policy.Policy.{Policy}
 use Rattle.policy_grammar.specs.declared.fault.ReadFault.{ReadFault}
 use Rattle.policy_grammar.specs.declared.fault.ReadFault.TheVariants as fault
@@ -80,6 +80,7 @@ IsUnread L most text fault.TooLong = most < length text
 IsUnread L most text (fault.BadToken at) = (length text ≤ most) × IsBadAt text at
 IsUnread L most text (fault.Unexpected at) = StopsAt L most text syntax.Unexpected at
 IsUnread L most text (fault.Slot at) = StopsAt L most text syntax.Slot at
+IsUnread L most text (fault.TooDeep at) = StopsAt L most text syntax.TooDeep at
 IsUnread L most text _ = ⊥
 
 -- A tree has no policy. An annotation stands again, and this is the least place; else the core expression is too large.

@@ -3,8 +3,8 @@ use Rattle.std.specs.Prelude.{ℕ, ◌≤◌, ◌<◌, List, length, slice_get, 
 use Rattle.std.specs.List.{AllByRecursion}
 use Rattle.policy_tokens.specs.declared.token.Token.{Token}
 use Rattle.policy_tokens.specs.Lexing.{IsLexed, IsSpelledIn, IsBadAt}
-use Rattle.policy_syntax.specs.declared.fault.SyntaxFault.{SyntaxFault}
-use Rattle.policy_syntax.specs.declared.fault.SyntaxFault.TheVariants as syntax
+use Rattle.expression_syntax.specs.declared.fault.SyntaxFault.{SyntaxFault}
+use Rattle.expression_syntax.specs.declared.fault.SyntaxFault.TheVariants as syntax
 use Rattle.policy_grammar.specs.declared.repeats.Mark as code
 use Rattle.policy_grammar.specs.declared.fault.ReadFault.{ReadFault}
 use Rattle.policy_grammar.specs.declared.fault.ReadFault.TheVariants as fault
@@ -35,6 +35,7 @@ abbrev pub refusal_of : List ℕ → List Token → SyntaxFault → ReadFault
 refusal_of text tokens syntax.NoMemory = fault.NoMemory
 refusal_of text tokens (syntax.Unexpected place) = fault.Unexpected (byte_of text (slice_get tokens place))
 refusal_of text tokens (syntax.Slot place) = fault.Slot (byte_of text (slice_get tokens place))
+refusal_of text tokens (syntax.TooDeep place) = fault.TooDeep (byte_of text (slice_get tokens place))
 
 -- the marks that code holds, with what their names point to
 abbrev pub bare : List code.Mark → List Mark

@@ -18,7 +18,8 @@ pub enum ReadFault {
     RepeatedKey(usize),
     /// In place of `Unexpected` where that token is `?principal` or `?resource`.
     Slot(usize),
-    /// At place 0: a policy's core expression is higher than 1,000, or has over 1,000,000 forms.
+    /// The token that would open a level of nesting too many; or, at place 0, a policy's core
+    /// expression is higher than 1,000, or has over 1,000,000 forms.
     TooDeep(usize),
     /// Over 262,144 bytes; a file over 8,388,608.
     TooLong,

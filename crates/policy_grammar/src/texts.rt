@@ -50,6 +50,7 @@ fn refusal(text: &str, tokens: &[Token], fault: SyntaxFault) -> ReadFault
         SyntaxFault::NoMemory => ReadFault::NoMemory,
         SyntaxFault::Unexpected(place) => ReadFault::Unexpected(byte(text, tokens, place)),
         SyntaxFault::Slot(place) => ReadFault::Slot(byte(text, tokens, place)),
+        SyntaxFault::TooDeep(place) => ReadFault::TooDeep(byte(text, tokens, place)),
     }
 }
 

@@ -1,15 +1,3 @@
-pub mod Sets
-pub mod Rules
-pub mod Forms
-pub mod More
-pub mod Many
-pub mod Gathered
-pub mod Steps
-pub mod NameRules
 pub mod ScopeRules
-pub mod Whole
 pub mod Exact
-pub mod KindLemmas
-pub mod LoopEnds
-pub mod UidLoop
 pub mod StandsLemmas

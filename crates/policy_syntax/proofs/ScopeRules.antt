@@ -3,8 +3,8 @@ use Rattle.std.proofs.Common.{◌≡◌, true, false, List, [], ◌∷◌, ◌++
 use Rattle.policy_tokens.specs.declared.token.Token.{Token}
 use Rattle.policy_tokens.specs.declared.token.Kind.{Kind}
 use Rattle.policy_tokens.specs.declared.token.Kind.TheVariants as k
-use Rattle.policy_syntax.specs.declared.tree.PathTree.{PathTree}
-use Rattle.policy_syntax.specs.declared.tree.UidTree.{UidTree}
+use Rattle.expression_syntax.specs.declared.tree.PathTree.{PathTree}
+use Rattle.expression_syntax.specs.declared.tree.UidTree.{UidTree}
 use Rattle.policy_syntax.specs.declared.tree.Annotation.{Annotation}
 use Rattle.policy_syntax.specs.declared.tree.PartTree.{PartTree}
 use Rattle.policy_syntax.specs.declared.tree.PartTree.TheVariants as part
@@ -12,22 +12,22 @@ use Rattle.policy_syntax.specs.declared.tree.ActionTree.{ActionTree}
 use Rattle.policy_syntax.specs.declared.tree.ActionTree.TheVariants as action
 use Rattle.policy_syntax.specs.declared.tree.ScopeTree.{ScopeTree}
 use Rattle.policy_syntax.specs.declared.tree.PolicyTree.{PolicyTree}
-use Rattle.policy_syntax.specs.Kinds.{Kinds, only, same_kind}
-use Rattle.policy_syntax.specs.Lang.{Lang}
-use Rattle.policy_syntax.specs.Lang as lang
+use Rattle.expression_syntax.specs.Kinds.{Kinds, only, same_kind}
+use Rattle.expression_syntax.specs.Lang.{Lang}
+use Rattle.expression_syntax.specs.Lang as lang
 use Rattle.policy_syntax.specs.Grammar as g
 use Rattle.policy_syntax.specs.Grammar.{identifiers, words, effects, is_in}
-use Rattle.policy_syntax.specs.Reads.{Begins, sees}
-use Rattle.policy_syntax.specs.Reading.{Parser, pure, either, token, ◌>>=◌, ◌>>◌}
+use Rattle.expression_syntax.specs.Reads.{Begins, sees}
+use Rattle.expression_syntax.specs.Reading.{Parser, pure, either, token, ◌>>=◌, ◌>>◌}
 use Rattle.policy_syntax.specs.Parsing as r
 use Rattle.policy_syntax.specs.Parsing.{policy_firsts}
-use Rattle.policy_syntax.proofs.Sets.{apart, within, wide_sees, sees-append}
-use Rattle.policy_syntax.proofs.Rules.{Rule, Levels}
-use Rattle.policy_syntax.proofs.Forms.{Starts, Leads, of, one, nothing, or, starts_of, starts_both, leads_empty, leads_or, leads_both, leads_many, leads_maybe, alive_empty, alive_right, begin_of}
-use Rattle.policy_syntax.proofs.More.{maybe}
-use Rattle.policy_syntax.proofs.Many.{each, alive_many}
-use Rattle.policy_syntax.proofs.Steps.{none, seq, free, behind, go, go_one, alive_maybe, leads_first, leads_one, starts_one}
-use Rattle.policy_syntax.proofs.NameRules.{after_name, path_rule, alive_path, uid_rule, starts_uid, alive_uid}
+use Rattle.expression_syntax.proofs.Sets.{apart, within, wide_sees, sees-append}
+use Rattle.expression_syntax.proofs.Rules.{Rule, Levels}
+use Rattle.expression_syntax.proofs.Forms.{Starts, Leads, of, one, nothing, or, starts_of, starts_both, leads_empty, leads_or, leads_both, leads_many, leads_maybe, alive_empty, alive_right, begin_of}
+use Rattle.expression_syntax.proofs.More.{maybe}
+use Rattle.expression_syntax.proofs.Many.{each, alive_many}
+use Rattle.expression_syntax.proofs.Steps.{none, seq, free, behind, go, go_one, alive_maybe, leads_first, leads_one, starts_one}
+use Rattle.expression_syntax.proofs.NameRules.{after_name, path_rule, alive_path, uid_rule, starts_uid, alive_uid}
 
 -- ---- principal and resource
 

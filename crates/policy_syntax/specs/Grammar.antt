@@ -5,8 +5,8 @@ use Rattle.std.specs.Prelude.{true, false, List, [], ◌∷◌, Option, Some, No
 use Rattle.policy_tokens.specs.declared.token.Kind.{Kind}
 use Rattle.policy_tokens.specs.declared.token.Kind.TheVariants as k
 use Rattle.policy_tokens.specs.declared.token.Token.{Token}
-use Rattle.policy_syntax.specs.declared.tree.PathTree.{PathTree}
-use Rattle.policy_syntax.specs.declared.tree.UidTree.{UidTree}
+use Rattle.expression_syntax.specs.declared.tree.PathTree.{PathTree}
+use Rattle.expression_syntax.specs.declared.tree.UidTree.{UidTree}
 use Rattle.policy_syntax.specs.declared.tree.Annotation.{Annotation}
 use Rattle.policy_syntax.specs.declared.tree.PartTree.{PartTree}
 use Rattle.policy_syntax.specs.declared.tree.PartTree.TheVariants as part
@@ -14,21 +14,9 @@ use Rattle.policy_syntax.specs.declared.tree.ActionTree.{ActionTree}
 use Rattle.policy_syntax.specs.declared.tree.ActionTree.TheVariants as action
 use Rattle.policy_syntax.specs.declared.tree.ScopeTree.{ScopeTree}
 use Rattle.policy_syntax.specs.declared.tree.PolicyTree.{PolicyTree}
-use Rattle.policy_syntax.specs.Kinds.{Kinds}
-use Rattle.policy_syntax.specs.Lang.{Lang, of, one, empty, ◌>>=◌, ◌>>◌, ◌giving◌, ◌or◌, optional, many}
-
--- Ident: a word that isn't reserved
-abbrev pub identifiers : Kinds
-identifiers k.Ident = true
-identifiers k.Permit = true
-identifiers k.Forbid = true
-identifiers k.When = true
-identifiers k.Unless = true
-identifiers k.Principal = true
-identifiers k.Action = true
-identifiers k.Resource = true
-identifiers k.Context = true
-identifiers _ = false
+use Rattle.expression_syntax.specs.Kinds.{Kinds}
+pub use Rattle.expression_syntax.specs.Grammar.{identifiers, path, uid}
+use Rattle.expression_syntax.specs.Lang.{Lang, of, one, empty, ◌>>=◌, ◌>>◌, ◌giving◌, ◌or◌, optional, many}
 
 -- Ident | Reserved
 abbrev pub words : Kinds
@@ -49,21 +37,6 @@ abbrev pub effects : Kinds
 effects k.Permit = true
 effects k.Forbid = true
 effects _ = false
-
--- Path = Ident { "::" Ident }
-abbrev pub path : Lang PathTree
-path = do
-  first ← of identifiers
-  more ← many (one k.Colons >> of identifiers)
-  empty (record { first = first; more = more })
-
--- Uid = Path "::" String
-abbrev pub uid : Lang UidTree
-uid = do
-  type_name ← path
-  one k.Colons
-  id ← one k.Text
-  empty (record { path = type_name; id = id })
 
 -- "(" [ String ] ")"
 abbrev pub annotation_value : Lang (Option Token)

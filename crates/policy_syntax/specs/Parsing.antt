@@ -1,10 +1,9 @@
 -- How the grammar is read, from the left, by the next token.
-use Rattle.std.specs.Prelude.{Bool, true, false, List, [], ◌∷◌, Option, None}
+use Rattle.std.specs.Prelude.{true, List, [], ◌∷◌, Option, None}
 use Rattle.policy_tokens.specs.declared.token.Kind.{Kind}
 use Rattle.policy_tokens.specs.declared.token.Kind.TheVariants as k
 use Rattle.policy_tokens.specs.declared.token.Token.{Token}
-use Rattle.policy_syntax.specs.declared.tree.PathTree.{PathTree}
-use Rattle.policy_syntax.specs.declared.tree.UidTree.{UidTree}
+use Rattle.expression_syntax.specs.declared.tree.UidTree.{UidTree}
 use Rattle.policy_syntax.specs.declared.tree.Annotation.{Annotation}
 use Rattle.policy_syntax.specs.declared.tree.PartTree.{PartTree}
 use Rattle.policy_syntax.specs.declared.tree.PartTree.TheVariants as part
@@ -12,67 +11,10 @@ use Rattle.policy_syntax.specs.declared.tree.ActionTree.{ActionTree}
 use Rattle.policy_syntax.specs.declared.tree.ActionTree.TheVariants as action
 use Rattle.policy_syntax.specs.declared.tree.ScopeTree.{ScopeTree}
 use Rattle.policy_syntax.specs.declared.tree.PolicyTree.{PolicyTree}
-use Rattle.policy_syntax.specs.Kinds.{Kinds, only, same_kind}
-use Rattle.policy_syntax.specs.Reading.{Parser, take, token, pure, refuse, ◌>>=◌, ◌>>◌, either, optional, many, loop}
+use Rattle.expression_syntax.specs.Kinds.{Kinds, only}
+use Rattle.expression_syntax.specs.Reading.{Parser, take, token, pure, ◌>>=◌, ◌>>◌, either, optional, many}
+pub use Rattle.expression_syntax.specs.Parsing.{path, uid}
 use Rattle.policy_syntax.specs.Grammar.{identifiers, words, effects, is_in}
-
--- ---- names
-
-unfoldable pub path_word : Parser Token
-path_word = token k.Colons >> take identifiers
-
-unfoldable pub path_behind : Token → Parser PathTree
-path_behind first = many (only k.Colons) path_word >>= (λ more. pure (record { first = first; more = more }))
-
-unfoldable pub path : Parser PathTree
-path = take identifiers >>= path_behind
-
--- A Path and the String behind it begin alike, so a Uid is read piece by piece, each behind its "::", up to a String.
-abbrev pub pieces : Kinds
-pieces k.Text = true
-pieces kind = identifiers kind
-
-abbrev pub is_text : Token → Bool
-is_text t = same_kind t.kind k.Text
-
-abbrev pub ended_by : Bool → Token → Bool
-ended_by ended t = is_text t
-
-abbrev pub goes_on : Bool → Kinds
-goes_on false = only k.Colons
-goes_on true = λ kind. false
-
-unfoldable pub piece : Parser Token
-piece = token k.Colons >> take pieces
-
--- whether a list of pieces ends with a String, those before it having done so or not
-abbrev pub ends : Bool → List Token → Bool
-ends ended [] = ended
-ends ended (t ∷ ts) = ends (is_text t) ts
-
--- all but the last
-abbrev pub beginning : List Token → List Token
-beginning [] = []
-beginning (t ∷ []) = []
-beginning (t ∷ (u ∷ us)) = t ∷ beginning (u ∷ us)
-
--- the last, or else the one given
-abbrev pub last_of : Token → List Token → Token
-last_of t [] = t
-last_of t (u ∷ us) = last_of u us
-
-abbrev pub uid_of : Token → List Token → UidTree
-uid_of first ts = record { path = record { first = first; more = beginning ts }; id = last_of first ts }
-
-abbrev pub finished : Bool → Token → List Token → Parser UidTree
-finished true first ts = pure (uid_of first ts)
-finished false first ts = refuse
-
-unfoldable pub uid_behind : Token → Parser UidTree
-uid_behind first = loop ended_by goes_on (λ ended. piece) false >>= (λ ts. finished (ends false ts) first ts)
-
-unfoldable pub uid : Parser UidTree
-uid = take identifiers >>= uid_behind
 
 -- ---- annotations
 

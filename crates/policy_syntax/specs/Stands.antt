@@ -1,28 +1,17 @@
 -- What a tree is made of: tokens of the text, each of the kind that its place asks for.
-use Rattle.std.specs.Prelude.{◌≡◌, true, List, Option, Some, None, Contains}
+use Rattle.std.specs.Prelude.{List, Option, Some, None}
 use Rattle.std.specs.List.{AllByRecursion}
 use Rattle.policy_tokens.specs.declared.token.Kind.TheVariants as k
 use Rattle.policy_tokens.specs.declared.token.Token.{Token}
-use Rattle.policy_syntax.specs.declared.tree.PathTree.{PathTree}
-use Rattle.policy_syntax.specs.declared.tree.UidTree.{UidTree}
 use Rattle.policy_syntax.specs.declared.tree.Annotation.{Annotation}
 use Rattle.policy_syntax.specs.declared.tree.PartTree.{PartTree}
 use Rattle.policy_syntax.specs.declared.tree.PartTree.TheVariants as part
 use Rattle.policy_syntax.specs.declared.tree.ActionTree.{ActionTree}
 use Rattle.policy_syntax.specs.declared.tree.ActionTree.TheVariants as action
 use Rattle.policy_syntax.specs.declared.tree.PolicyTree.{PolicyTree}
-use Rattle.policy_syntax.specs.Kinds.{Kinds, only}
-use Rattle.policy_syntax.specs.Grammar.{identifiers, words, effects}
-
--- one of the tokens, and of these kinds
-abbrev pub TokenStands : Kinds → List Token → Token → Type 0
-TokenStands ks ts t = Contains ts t × (ks t.kind ≡ true)
-
-abbrev pub PathStands : List Token → PathTree → Type 0
-PathStands ts p = TokenStands identifiers ts p.first × AllByRecursion (TokenStands identifiers ts) p.more
-
-abbrev pub UidStands : List Token → UidTree → Type 0
-UidStands ts u = PathStands ts u.path × TokenStands (only k.Text) ts u.id
+use Rattle.expression_syntax.specs.Kinds.{only}
+pub use Rattle.expression_syntax.specs.Stands.{TokenStands, PathStands, UidStands}
+use Rattle.policy_syntax.specs.Grammar.{words, effects}
 
 abbrev pub ValueStands : List Token → Option Token → Type 0
 ValueStands ts None = Unit {0}

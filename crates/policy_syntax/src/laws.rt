@@ -1,6 +1,6 @@
 // Laws of the definitions.
 ghost use Rattle.policy_syntax.specs.Grammar.{policy, policies, uid};
-ghost use Rattle.policy_syntax.specs.Reads.{HasOneTree, HasOneAnswer};
+ghost use Rattle.expression_syntax.specs.Reads.{HasOneTree, HasOneAnswer};
 
 /// That a list of tokens is read in one way: it does nothing, and its clauses are laws of the
 /// definitions.

@@ -5,18 +5,16 @@
 #![tactic(auto)]
 
 mod cursor;
-mod fault;
 mod laws;
-mod names;
 mod policy;
 mod read;
 mod scope;
 mod tree;
 
-pub use fault::SyntaxFault;
+pub use expression_syntax::{PathTree, SyntaxFault, UidTree};
 pub use laws::reading_is_unique;
 pub use read::{read_policies, read_policy, read_uid};
-pub use tree::{ActionTree, Annotation, PartTree, PathTree, PolicyTree, UidTree};
+pub use tree::{ActionTree, Annotation, PartTree, PolicyTree};
 
 #[cfg(test)]
 mod tests;

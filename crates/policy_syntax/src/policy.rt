@@ -1,12 +1,12 @@
 //! Annotations and policies.
 
-ghost use Rattle.policy_syntax.specs.Gives.{Gives};
+ghost use Rattle.expression_syntax.specs.Gives.{Gives};
 ghost use Rattle.policy_syntax.specs.Parsing as spec;
 
-use crate::cursor::Cursor;
-use crate::fault::Halt;
+use crate::cursor::{sees_policy, take_effect, take_word};
 use crate::scope::scope;
 use crate::tree::{Annotation, PolicyTree};
+use expression_syntax::{Cursor, Halt};
 use plain::Items;
 use policy_tokens::{Kind, Token};
 use std::alloc::Global;
@@ -49,7 +49,7 @@ fn annotation(tokens: &mut Cursor<'_>) -> Result<Annotation, Halt>
     ensures { Gives (spec.annotation tokens.old.rest.now) result tokens.new.rest.now }
 {
     let at = tokens.take(Kind::At)?;
-    let key = tokens.take_word()?;
+    let key = take_word(tokens)?;
     let value = maybe_value(tokens)?;
     Ok(Annotation { at, key, value })
 }
@@ -75,7 +75,7 @@ pub(crate) fn policy(alloc: Global, tokens: &mut Cursor<'_>) -> Result<PolicyTre
     ensures { Gives (spec.policy tokens.old.rest.now) result tokens.new.rest.now }
 {
     let annotations = annotations(alloc, tokens)?;
-    let effect = tokens.take_effect()?;
+    let effect = take_effect(tokens)?;
     tokens.take(Kind::LParen)?;
     let found = scope(alloc, tokens)?;
     tokens.take(Kind::RParen)?;
@@ -95,7 +95,7 @@ pub(crate) fn policies(alloc: Global, tokens: &mut Cursor<'_>) -> Result<Items<P
 {
     let mut found = Items::new(alloc);
     for _turn in 0..tokens.left() {
-        if !tokens.sees_policy() {
+        if !sees_policy(tokens) {
             return Ok(found);
         }
         let next = policy(alloc, tokens)?;

@@ -1,30 +1,16 @@
 //! Whole lists of tokens.
 
-ghost use Rattle.std.specs.Prelude.{◌≡◌, ◌≤◌, ◌-◌, length, IfOk};
+ghost use Rattle.std.specs.Prelude.{IfOk};
 ghost use Rattle.std.specs.List.{AllByRecursion};
+ghost use Rattle.expression_syntax.specs.Reads.{Reads, with_items};
 ghost use Rattle.policy_syntax.specs.Grammar as grammar;
-ghost use Rattle.policy_syntax.specs.Reads.{Reads, with_items, refusal_at};
 ghost use Rattle.policy_syntax.specs.Stands.{PolicyStands, UidStands};
 
-use crate::cursor::Cursor;
-use crate::fault::{Halt, SyntaxFault};
-use crate::tree::{PolicyTree, UidTree};
-use crate::{names, policy};
+use crate::policy;
+use crate::tree::PolicyTree;
+use expression_syntax::{Cursor, Halt, SyntaxFault, UidTree, refusal, uid};
 use policy_tokens::Token;
 use std::alloc::Global;
-
-/// The refusal at the first token that is left.
-fn refusal(tokens: &[Token], cursor: &Cursor<'_>) -> SyntaxFault
-    requires { length cursor.now.rest.now ≤ length tokens.now }
-    ensures { result ≡ refusal_at (length tokens.now - length cursor.now.rest.now) cursor.now.rest.now }
-{
-    let place = tokens.len() - cursor.left();
-    if cursor.sees_slot() {
-        SyntaxFault::Slot(place)
-    } else {
-        SyntaxFault::Unexpected(place)
-    }
-}
 
 /// The policy that the tokens are, or the first token with which no policy goes on.
 pub fn read_policy(alloc: Global, tokens: &[Token]) -> Result<PolicyTree, SyntaxFault>
@@ -35,12 +21,11 @@ pub fn read_policy(alloc: Global, tokens: &[Token]) -> Result<PolicyTree, Syntax
     match policy::policy(alloc, &mut cursor) {
         Ok(tree) => {
             if cursor.left() > 0 {
-                return Err(refusal(tokens, &cursor));
+                return Err(refusal(tokens, &cursor, Halt::Unexpected));
             }
             Ok(tree)
         }
-        Err(Halt::NoMemory) => Err(SyntaxFault::NoMemory),
-        Err(Halt::Unexpected) => Err(refusal(tokens, &cursor)),
+        Err(halt) => Err(refusal(tokens, &cursor, halt)),
     }
 }
 
@@ -54,13 +39,12 @@ pub fn read_policies(alloc: Global, tokens: &[Token]) -> Result<Vec<PolicyTree>,
     match policy::policies(alloc, &mut cursor) {
         Ok(trees) => {
             if cursor.left() > 0 {
-                return Err(refusal(tokens, &cursor));
+                return Err(refusal(tokens, &cursor, Halt::Unexpected));
             }
             let found = trees.into_vec();
             Ok(found)
         }
-        Err(Halt::NoMemory) => Err(SyntaxFault::NoMemory),
-        Err(Halt::Unexpected) => Err(refusal(tokens, &cursor)),
+        Err(halt) => Err(refusal(tokens, &cursor, halt)),
     }
 }
 
@@ -70,14 +54,13 @@ pub fn read_uid(alloc: Global, tokens: &[Token]) -> Result<UidTree, SyntaxFault>
     ensures stands { IfOk result (UidStands tokens.now) }
 {
     let mut cursor = Cursor { rest: tokens };
-    match names::uid(alloc, &mut cursor) {
+    match uid(alloc, &mut cursor) {
         Ok(tree) => {
             if cursor.left() > 0 {
-                return Err(refusal(tokens, &cursor));
+                return Err(refusal(tokens, &cursor, Halt::Unexpected));
             }
             Ok(tree)
         }
-        Err(Halt::NoMemory) => Err(SyntaxFault::NoMemory),
-        Err(Halt::Unexpected) => Err(refusal(tokens, &cursor)),
+        Err(halt) => Err(refusal(tokens, &cursor, halt)),
     }
 }

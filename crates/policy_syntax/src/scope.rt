@@ -1,12 +1,10 @@
 //! The parts of a scope.
 
-ghost use Rattle.policy_syntax.specs.Gives.{Gives};
+ghost use Rattle.expression_syntax.specs.Gives.{Gives};
 ghost use Rattle.policy_syntax.specs.Parsing as spec;
 
-use crate::cursor::Cursor;
-use crate::fault::Halt;
-use crate::names::{path, uid};
-use crate::tree::{ActionTree, PartTree, ScopeTree, UidTree};
+use crate::tree::{ActionTree, PartTree, ScopeTree};
+use expression_syntax::{Cursor, Halt, UidTree, path, uid};
 use plain::Items;
 use policy_tokens::Kind;
 use std::alloc::Global;

@@ -1,21 +1,6 @@
+use expression_syntax::{PathTree, UidTree};
 use plain::Items;
 use policy_tokens::Token;
-
-/// The words of a name: a Path.
-#[derive(Debug, Drop)]
-pub struct PathTree {
-    pub first: Token,
-    /// Those behind each `::`.
-    pub more: Items<Token>,
-}
-
-/// An entity, by its type's name and its quoted id.
-#[derive(Debug, Drop)]
-pub struct UidTree {
-    pub path: PathTree,
-    /// A quoted text without `\*`.
-    pub id: Token,
-}
 
 /// An annotation: `@key("value")`.
 #[derive(Debug, Drop)]

@@ -1,7 +1,7 @@
 use Rattle.std.proofs.Common.{◌≡◌, ◌-◌}
 use Rattle.policy_syntax.specs.Parsing as spec
-use Rattle.policy_syntax.proofs.Gathered.{gathered, filled}
-use Rattle.policy_syntax.proofs.LoopEnds.{itself}
+use Rattle.expression_syntax.proofs.Gathered.{gathered, filled}
+use Rattle.expression_syntax.proofs.LoopEnds.{itself}
 use Rattle.policy_syntax.proofs.policy.policies.Given as goal
 
 abbrev pub invariant-loop-turn : goal.invariant-loop-turn

@@ -1,29 +1,17 @@
-use Rattle.std.proofs.Common.{◌≡◌, ◌<◌, ◌≤◌, length, subst, sym, arith}
+use Rattle.std.proofs.Common.{◌<◌, ◌≤◌, length, subst, sym, arith}
+use Rattle.expression_syntax.specs.Reads.{IsRefused}
 use Rattle.policy_syntax.specs.Grammar as grammar
-use Rattle.policy_syntax.specs.Parsing as spec
-use Rattle.policy_syntax.specs.Reading.{Stop, Unexpected}
-use Rattle.policy_syntax.specs.Reads.{IsRefused}
-use Rattle.policy_syntax.proofs.Exact.{uid_whole, uid_part, uid_stopped, uid_left, uid_stop_left}
+use Rattle.policy_syntax.proofs.Exact.{uid_whole, uid_part, uid_halted}
 use Rattle.policy_syntax.proofs.StandsLemmas.{uid_stands}
 use Rattle.policy_syntax.proofs.read.read_uid.Goals as goal
-
-pub refusal-requires : goal.refusal-requires
-refusal-requires c = uid_left c.args.tokens.now c.uid.new.tokens.rest.now c.in-Ok.tree c.in-Ok.ensures
-
-pub refusal-requires-in-Err-Unexpected : goal.refusal-requires-in-Err-Unexpected
-refusal-requires-in-Err-Unexpected c =
-    let stopped : spec.uid c.args.tokens.now ≡ Stop Unexpected c.uid.new.tokens.rest.now = rw c.in-Err-Unexpected.field-0-is at c.in-Err-Unexpected.ensures in
-    uid_stop_left Unexpected c.args.tokens.now c.uid.new.tokens.rest.now stopped
 
 pub returns-then-left-gt0-clause-reads : goal.returns-then-left-gt0-clause-reads
 returns-then-left-gt0-clause-reads c =
     let some : 0 < length c.uid.new.tokens.rest.now = omega (arith, c.left.ensures) in
     subst (IsRefused grammar.uid c.args.tokens.now) (sym c.refusal.ensures) (uid_part c.args.tokens.now c.uid.new.tokens.rest.now c.in-Ok.tree c.in-Ok.ensures some)
 
-pub returns-in-Err-Unexpected-clause-reads : goal.returns-in-Err-Unexpected-clause-reads
-returns-in-Err-Unexpected-clause-reads c =
-    let stopped : spec.uid c.args.tokens.now ≡ Stop Unexpected c.uid.new.tokens.rest.now = rw c.in-Err-Unexpected.field-0-is at c.in-Err-Unexpected.ensures in
-    subst (IsRefused grammar.uid c.args.tokens.now) (sym c.refusal-in-Err-Unexpected.ensures) (uid_stopped Unexpected c.args.tokens.now c.uid.new.tokens.rest.now stopped)
+pub returns-in-Err-clause-reads : goal.returns-in-Err-clause-reads
+returns-in-Err-clause-reads c = subst (IsRefused grammar.uid c.args.tokens.now) (sym c.refusal-in-Err.ensures) (uid_halted c.args.tokens.now c.uid.new.tokens.rest.now c.in-Err.halt c.in-Err.ensures)
 
 pub returns-else-left-gt0-clause-reads : goal.returns-else-left-gt0-clause-reads
 returns-else-left-gt0-clause-reads c =

@@ -1,0 +1,313 @@
+-- What an expression computes is what its rules give, where a test decides who is above whom; so each expression has exactly one outcome.
+use Rattle.std.specs.Prelude.{◌≡◌, ℕ, List, [], ◌∷◌, map, Bool, true, false, None, Result, Ok, Err, if◌then◌else◌, refl}
+use Rattle.std.proofs.Common.{sym, ap, ◌∙◌, subst}
+use Rattle.values.specs.declared.entity_uid.EntityUid.{EntityUid}
+use Rattle.values.specs.declared.request.Request.{Request}
+use Rattle.values.specs.Fields.{Field, put}
+use Rattle.values.specs.Sets.{set_list}
+use Rattle.values.specs.Values.{PlainValue, boolean, long, text, entity, set, record_of, decimal, ipaddr, values_of, fields_of}
+use Rattle.values.proofs.Unique.{In-from_Contains, Contains-from_In, sorted_set, into_set, from_set, set_is}
+use Rattle.ancestor_closure.specs.Decided.{Decides}
+use Rattle.expressions.specs.Forms.{Every, Cases, by_forms, fold_literal, fold_variable, fold_if, fold_and, fold_or, fold_unary, fold_binary, fold_field, fold_has, fold_set, fold_record, fold_unary_call, fold_binary_call}
+use Rattle.expressions.specs.declared.leaf.Literal.{Literal}
+use Rattle.expressions.specs.declared.leaf.Variable.{Variable}
+use Rattle.expressions.specs.declared.operator.Unary.{Unary}
+use Rattle.expressions.specs.declared.operator.Binary.{Binary}
+use Rattle.expressions.specs.declared.operator.UnaryCall.{UnaryCall}
+use Rattle.expressions.specs.declared.operator.BinaryCall.{BinaryCall}
+use Rattle.expressions.specs.declared.expr.Named.{Named}
+use Rattle.expressions.specs.declared.expr.Expr.{Expr}
+use Rattle.expressions.specs.declared.expr.Expr.TheVariants as form
+use Rattle.evaluator.specs.declared.fault.EvalFault.{EvalFault}
+use Rattle.evaluator.specs.declared.fault.EvalFault.TheVariants.{TypeError}
+use Rattle.evaluator.specs.Outcomes.{Outcome, boolean_in}
+use Rattle.evaluator.specs.Operators.{World}
+use Rattle.evaluator.specs.Evaluation as rule
+use Rattle.evaluator.specs.Evaluation.{literal_value, variable_value, IsSetOf, Gives, TestFails, GivesEach, GivesFields, AnswersWhatIsGiven, AnswersAllThatIsGiven}
+use Rattle.evaluator.specs.Laws.{HasOneOutcome}
+use Rattle.evaluator.specs.Computing.{Entities, entities_of, and_then, demanded, truth, as_test, apply_unary, apply_binary, field_of, has_field, apply_unary_call, apply_binary_call, each, each_field, meaning, meaning_step, named_meaning, Answers}
+use Rattle.evaluator.proofs.Applied.{unary_exists, unary_is, unary_call_exists, unary_call_is, binary_call_exists, binary_call_is, binary_exists, binary_is, field_exists, field_is, has_exists, has_is}
+
+-- the values as a set
+to_set : List PlainValue → Outcome
+to_set vs = Ok (set (values_of (set_list vs)))
+
+to_record : List Field → Outcome
+to_record fs = Ok (record_of (fields_of fs))
+
+set_of : (vs : List PlainValue) → IsSetOf vs (set_list vs)
+set_of vs = record {
+  ascending = sorted_set vs;
+  members = λ v. (
+    (λ h. Contains-from_In vs v (from_set vs v (In-from_Contains (set_list vs) v h.0 h.1 h.2))),
+    (λ h. Contains-from_In (set_list vs) v (into_set vs v (In-from_Contains vs v h.0 h.1 h.2))),
+  );
+}
+
+set_of_is : (vs s : List PlainValue) → IsSetOf vs s → s ≡ set_list vs
+set_of_is vs s h = set_is s vs h.ascending (λ v. (h.members v).0) (λ v. (h.members v).1)
+
+module _ (W : World) (above : EntityUid → EntityUid → Bool) (D : Decides W.parents above) (q : Request) where
+  abbrev E : Entities
+  E = entities_of W.stored above
+
+  abbrev gives : Expr → Outcome
+  gives = meaning q E
+
+  at_literal : (l : Literal) → gives (form.Literal l) ≡ Ok (literal_value l)
+  at_literal = fold_literal Outcome (meaning_step q E)
+
+  at_variable : (x : Variable) → gives (form.Variable x) ≡ Ok (variable_value x q)
+  at_variable = fold_variable Outcome (meaning_step q E)
+
+  at_if : (a b c : Expr) → gives (form.If a b c) ≡ and_then (as_test (gives a)) (λ t. if t then gives b else gives c)
+  at_if = fold_if Outcome (meaning_step q E)
+
+  at_and : (a b : Expr) → gives (form.And a b) ≡ and_then (as_test (gives a)) (λ t. if t then and_then (as_test (gives b)) truth else truth false)
+  at_and = fold_and Outcome (meaning_step q E)
+
+  at_or : (a b : Expr) → gives (form.Or a b) ≡ and_then (as_test (gives a)) (λ t. if t then truth true else and_then (as_test (gives b)) truth)
+  at_or = fold_or Outcome (meaning_step q E)
+
+  at_unary : (op : Unary) (a : Expr) → gives (form.Unary op a) ≡ and_then (gives a) (apply_unary op)
+  at_unary = fold_unary Outcome (meaning_step q E)
+
+  at_binary : (op : Binary) (a b : Expr) → gives (form.Binary op a b) ≡ and_then (gives a) (λ v. and_then (gives b) (apply_binary E op v))
+  at_binary = fold_binary Outcome (meaning_step q E)
+
+  at_field : (a : Expr) (name : List ℕ) → gives (form.Field a name) ≡ and_then (gives a) (field_of E name)
+  at_field = fold_field Outcome (meaning_step q E)
+
+  at_has : (a : Expr) (name : List ℕ) → gives (form.Has a name) ≡ and_then (gives a) (has_field E name)
+  at_has = fold_has Outcome (meaning_step q E)
+
+  at_set : (xs : List Expr) → gives (form.Set xs) ≡ and_then (each (map gives xs)) to_set
+  unfolding to_set
+  at_set = fold_set Outcome (meaning_step q E)
+
+  at_record : (xs : List (Named Expr)) → gives (form.Record xs) ≡ and_then (each_field (map (named_meaning q E) xs) []) to_record
+  unfolding to_record
+  at_record = fold_record Outcome (meaning_step q E)
+
+  at_unary_call : (called : UnaryCall) (a : Expr) → gives (form.UnaryCall called a) ≡ and_then (gives a) (apply_unary_call called)
+  at_unary_call = fold_unary_call Outcome (meaning_step q E)
+
+  at_binary_call : (called : BinaryCall) (a b : Expr) → gives (form.BinaryCall called a b) ≡ and_then (gives a) (λ v. and_then (gives b) (apply_binary_call called v))
+  at_binary_call = fold_binary_call Outcome (meaning_step q E)
+
+  -- ---- what the relation gives, the function computes
+
+  no_boolean_is : (v : PlainValue) → boolean_in v ≡ None → demanded (boolean_in v) ≡ Err TypeError
+  no_boolean_is v e = ap demanded e
+
+  mutual
+    unfolding to_set to_record
+
+    computes : (x : Expr) (r : Outcome) → Gives W q x r → gives x ≡ r
+    computes _ _ (rule.gives_literal l) = at_literal l
+    computes _ _ (rule.gives_variable x) = at_variable x
+    computes _ _ (rule.if_true a b c {r} g h) = at_if a b c ∙ (ap (λ m. and_then (as_test m) (λ t. if t then gives b else gives c)) (computes a _ g) ∙ computes b r h)
+    computes _ _ (rule.if_false a b c {r} g h) = at_if a b c ∙ (ap (λ m. and_then (as_test m) (λ t. if t then gives b else gives c)) (computes a _ g) ∙ computes c r h)
+    computes _ _ (rule.if_fails a b c {e} g) = at_if a b c ∙ ap (λ m. and_then m (λ t. if t then gives b else gives c)) (test_computes a e g)
+    computes _ _ (rule.and_false a b g) = at_and a b ∙ ap (λ m. and_then (as_test m) (λ t. if t then and_then (as_test (gives b)) truth else truth false)) (computes a _ g)
+    computes _ _ (rule.and_true a b {t} g h) = at_and a b ∙ (ap (λ m. and_then (as_test m) (λ t. if t then and_then (as_test (gives b)) truth else truth false)) (computes a _ g) ∙ ap (λ m. and_then (as_test m) truth) (computes b _ h))
+    computes _ _ (rule.and_left_fails a b {e} g) = at_and a b ∙ ap (λ m. and_then m (λ t. if t then and_then (as_test (gives b)) truth else truth false)) (test_computes a e g)
+    computes _ _ (rule.and_right_fails a b {e} g h) = at_and a b ∙ (ap (λ m. and_then (as_test m) (λ t. if t then and_then (as_test (gives b)) truth else truth false)) (computes a _ g) ∙ ap (λ m. and_then m truth) (test_computes b e h))
+    computes _ _ (rule.or_true a b g) = at_or a b ∙ ap (λ m. and_then (as_test m) (λ t. if t then truth true else and_then (as_test (gives b)) truth)) (computes a _ g)
+    computes _ _ (rule.or_false a b {t} g h) = at_or a b ∙ (ap (λ m. and_then (as_test m) (λ t. if t then truth true else and_then (as_test (gives b)) truth)) (computes a _ g) ∙ ap (λ m. and_then (as_test m) truth) (computes b _ h))
+    computes _ _ (rule.or_left_fails a b {e} g) = at_or a b ∙ ap (λ m. and_then m (λ t. if t then truth true else and_then (as_test (gives b)) truth)) (test_computes a e g)
+    computes _ _ (rule.or_right_fails a b {e} g h) = at_or a b ∙ (ap (λ m. and_then (as_test m) (λ t. if t then truth true else and_then (as_test (gives b)) truth)) (computes a _ g) ∙ ap (λ m. and_then m truth) (test_computes b e h))
+    computes _ _ (rule.gives_unary op a {v} {r} g u) = at_unary op a ∙ (ap (λ m. and_then m (apply_unary op)) (computes a _ g) ∙ unary_is op v r u)
+    computes _ _ (rule.unary_fails op a {e} g) = at_unary op a ∙ ap (λ m. and_then m (apply_unary op)) (computes a _ g)
+    computes _ _ (rule.gives_binary op a b {v} {w} {r} g h u) = at_binary op a b ∙ (ap (λ m. and_then m (λ v. and_then (gives b) (apply_binary E op v))) (computes a _ g) ∙ (ap (λ m. and_then m (apply_binary E op v)) (computes b _ h) ∙ binary_is W above D op v w r u))
+    computes _ _ (rule.binary_left_fails op a b {e} g) = at_binary op a b ∙ ap (λ m. and_then m (λ v. and_then (gives b) (apply_binary E op v))) (computes a _ g)
+    computes _ _ (rule.binary_right_fails op a b {v} {e} g h) = at_binary op a b ∙ (ap (λ m. and_then m (λ v. and_then (gives b) (apply_binary E op v))) (computes a _ g) ∙ ap (λ m. and_then m (apply_binary E op v)) (computes b _ h))
+    computes _ _ (rule.gives_field a name {v} {r} g u) = at_field a name ∙ (ap (λ m. and_then m (field_of E name)) (computes a _ g) ∙ field_is W above D name v r u)
+    computes _ _ (rule.field_fails a name {e} g) = at_field a name ∙ ap (λ m. and_then m (field_of E name)) (computes a _ g)
+    computes _ _ (rule.gives_has a name {v} {r} g u) = at_has a name ∙ (ap (λ m. and_then m (has_field E name)) (computes a _ g) ∙ has_is W above D name v r u)
+    computes _ _ (rule.has_fails a name {e} g) = at_has a name ∙ ap (λ m. and_then m (has_field E name)) (computes a _ g)
+    computes _ _ (rule.gives_set xs {vs} {s} g h) = at_set xs ∙ (ap (λ m. and_then m to_set) (each_computes xs _ g) ∙ sym (ap (λ ws. Ok (set (values_of ws))) (set_of_is vs s h)))
+    computes _ _ (rule.set_fails xs {e} g) = at_set xs ∙ ap (λ m. and_then m to_set) (each_computes xs _ g)
+    computes _ _ (rule.gives_record xs {fs} g) = at_record xs ∙ ap (λ m. and_then m to_record) (fields_compute xs [] _ g)
+    computes _ _ (rule.record_fails xs {e} g) = at_record xs ∙ ap (λ m. and_then m to_record) (fields_compute xs [] _ g)
+    computes _ _ (rule.gives_unary_call called a {v} {r} g u) = at_unary_call called a ∙ (ap (λ m. and_then m (apply_unary_call called)) (computes a _ g) ∙ unary_call_is called v r u)
+    computes _ _ (rule.unary_call_fails called a {e} g) = at_unary_call called a ∙ ap (λ m. and_then m (apply_unary_call called)) (computes a _ g)
+    computes _ _ (rule.gives_binary_call called a b {v} {w} {r} g h u) = at_binary_call called a b ∙ (ap (λ m. and_then m (λ v. and_then (gives b) (apply_binary_call called v))) (computes a _ g) ∙ (ap (λ m. and_then m (apply_binary_call called v)) (computes b _ h) ∙ binary_call_is called v w r u))
+    computes _ _ (rule.call_left_fails called a b {e} g) = at_binary_call called a b ∙ ap (λ m. and_then m (λ v. and_then (gives b) (apply_binary_call called v))) (computes a _ g)
+    computes _ _ (rule.call_right_fails called a b {v} {e} g h) = at_binary_call called a b ∙ (ap (λ m. and_then m (λ v. and_then (gives b) (apply_binary_call called v))) (computes a _ g) ∙ ap (λ m. and_then m (apply_binary_call called v)) (computes b _ h))
+
+    test_computes : (x : Expr) (e : EvalFault) → TestFails W q x e → as_test (gives x) ≡ Err e
+    test_computes _ _ (rule.test_errs {a} {e} g) = ap as_test (computes a _ g)
+    test_computes _ _ (rule.no_boolean {a} {v} g n) = ap as_test (computes a _ g) ∙ no_boolean_is v n
+
+    each_computes : (xs : List Expr) (r : Result (List PlainValue) EvalFault) → GivesEach W q xs r → each (map gives xs) ≡ r
+    each_computes _ _ rule.each_none = refl
+    each_computes _ _ (rule.each_more {x} {xs} {v} {vs} g h) = ap (λ m. and_then m (λ v. and_then (each (map gives xs)) (λ vs. Ok (v ∷ vs)))) (computes x _ g) ∙ ap (λ m. and_then m (λ vs. Ok (v ∷ vs))) (each_computes xs _ h)
+    each_computes _ _ (rule.each_fails {x} {xs} {e} g) = ap (λ m. and_then m (λ v. and_then (each (map gives xs)) (λ vs. Ok (v ∷ vs)))) (computes x _ g)
+    each_computes _ _ (rule.each_fails_later {x} {xs} {v} {e} g h) = ap (λ m. and_then m (λ v. and_then (each (map gives xs)) (λ vs. Ok (v ∷ vs)))) (computes x _ g) ∙ ap (λ m. and_then m (λ vs. Ok (v ∷ vs))) (each_computes xs _ h)
+
+    fields_compute : (xs : List (Named Expr)) (done : List Field) (r : Result (List Field) EvalFault) → GivesFields W q xs done r → each_field (map (named_meaning q E) xs) done ≡ r
+    fields_compute _ _ _ rule.fields_none = refl
+    fields_compute _ _ _ (rule.fields_more {x} {xs} {done} {v} {r} g h) = ap (λ m. and_then m (λ v. each_field (map (named_meaning q E) xs) (put x.name v done))) (computes x.value _ g) ∙ fields_compute xs (put x.name v done) r h
+    fields_compute _ _ _ (rule.fields_fail {x} {xs} {done} {e} g) = ap (λ m. and_then m (λ v. each_field (map (named_meaning q E) xs) (put x.name v done))) (computes x.value _ g)
+
+  -- ---- what the function computes, the relation gives
+
+  if_case : (a b c : Expr) (m r s : Outcome) → Gives W q a m → Gives W q b r → Gives W q c s → Gives W q (form.If a b c) (and_then (as_test m) (λ t. if t then r else s))
+  if_case a b c (Ok (boolean true)) r s g h k = rule.if_true a b c g h
+  if_case a b c (Ok (boolean false)) r s g h k = rule.if_false a b c g k
+  if_case a b c (Ok (long z)) r s g h k = rule.if_fails a b c (rule.no_boolean g refl)
+  if_case a b c (Ok (text z)) r s g h k = rule.if_fails a b c (rule.no_boolean g refl)
+  if_case a b c (Ok (entity z)) r s g h k = rule.if_fails a b c (rule.no_boolean g refl)
+  if_case a b c (Ok (set z)) r s g h k = rule.if_fails a b c (rule.no_boolean g refl)
+  if_case a b c (Ok (record_of z)) r s g h k = rule.if_fails a b c (rule.no_boolean g refl)
+  if_case a b c (Ok (decimal z)) r s g h k = rule.if_fails a b c (rule.no_boolean g refl)
+  if_case a b c (Ok (ipaddr z)) r s g h k = rule.if_fails a b c (rule.no_boolean g refl)
+  if_case a b c (Err e) r s g h k = rule.if_fails a b c (rule.test_errs g)
+
+  and_right_case : (a b : Expr) (m : Outcome) → Gives W q a (Ok (boolean true)) → Gives W q b m → Gives W q (form.And a b) (and_then (as_test m) truth)
+  and_right_case a b (Ok (boolean t)) g h = rule.and_true a b g h
+  and_right_case a b (Ok (long z)) g h = rule.and_right_fails a b g (rule.no_boolean h refl)
+  and_right_case a b (Ok (text z)) g h = rule.and_right_fails a b g (rule.no_boolean h refl)
+  and_right_case a b (Ok (entity z)) g h = rule.and_right_fails a b g (rule.no_boolean h refl)
+  and_right_case a b (Ok (set z)) g h = rule.and_right_fails a b g (rule.no_boolean h refl)
+  and_right_case a b (Ok (record_of z)) g h = rule.and_right_fails a b g (rule.no_boolean h refl)
+  and_right_case a b (Ok (decimal z)) g h = rule.and_right_fails a b g (rule.no_boolean h refl)
+  and_right_case a b (Ok (ipaddr z)) g h = rule.and_right_fails a b g (rule.no_boolean h refl)
+  and_right_case a b (Err e) g h = rule.and_right_fails a b g (rule.test_errs h)
+
+  and_case : (a b : Expr) (m n : Outcome) → Gives W q a m → Gives W q b n → Gives W q (form.And a b) (and_then (as_test m) (λ t. if t then and_then (as_test n) truth else truth false))
+  and_case a b (Ok (boolean true)) n g h = and_right_case a b n g h
+  and_case a b (Ok (boolean false)) n g h = rule.and_false a b g
+  and_case a b (Ok (long z)) n g h = rule.and_left_fails a b (rule.no_boolean g refl)
+  and_case a b (Ok (text z)) n g h = rule.and_left_fails a b (rule.no_boolean g refl)
+  and_case a b (Ok (entity z)) n g h = rule.and_left_fails a b (rule.no_boolean g refl)
+  and_case a b (Ok (set z)) n g h = rule.and_left_fails a b (rule.no_boolean g refl)
+  and_case a b (Ok (record_of z)) n g h = rule.and_left_fails a b (rule.no_boolean g refl)
+  and_case a b (Ok (decimal z)) n g h = rule.and_left_fails a b (rule.no_boolean g refl)
+  and_case a b (Ok (ipaddr z)) n g h = rule.and_left_fails a b (rule.no_boolean g refl)
+  and_case a b (Err e) n g h = rule.and_left_fails a b (rule.test_errs g)
+
+  or_right_case : (a b : Expr) (m : Outcome) → Gives W q a (Ok (boolean false)) → Gives W q b m → Gives W q (form.Or a b) (and_then (as_test m) truth)
+  or_right_case a b (Ok (boolean t)) g h = rule.or_false a b g h
+  or_right_case a b (Ok (long z)) g h = rule.or_right_fails a b g (rule.no_boolean h refl)
+  or_right_case a b (Ok (text z)) g h = rule.or_right_fails a b g (rule.no_boolean h refl)
+  or_right_case a b (Ok (entity z)) g h = rule.or_right_fails a b g (rule.no_boolean h refl)
+  or_right_case a b (Ok (set z)) g h = rule.or_right_fails a b g (rule.no_boolean h refl)
+  or_right_case a b (Ok (record_of z)) g h = rule.or_right_fails a b g (rule.no_boolean h refl)
+  or_right_case a b (Ok (decimal z)) g h = rule.or_right_fails a b g (rule.no_boolean h refl)
+  or_right_case a b (Ok (ipaddr z)) g h = rule.or_right_fails a b g (rule.no_boolean h refl)
+  or_right_case a b (Err e) g h = rule.or_right_fails a b g (rule.test_errs h)
+
+  or_case : (a b : Expr) (m n : Outcome) → Gives W q a m → Gives W q b n → Gives W q (form.Or a b) (and_then (as_test m) (λ t. if t then truth true else and_then (as_test n) truth))
+  or_case a b (Ok (boolean true)) n g h = rule.or_true a b g
+  or_case a b (Ok (boolean false)) n g h = or_right_case a b n g h
+  or_case a b (Ok (long z)) n g h = rule.or_left_fails a b (rule.no_boolean g refl)
+  or_case a b (Ok (text z)) n g h = rule.or_left_fails a b (rule.no_boolean g refl)
+  or_case a b (Ok (entity z)) n g h = rule.or_left_fails a b (rule.no_boolean g refl)
+  or_case a b (Ok (set z)) n g h = rule.or_left_fails a b (rule.no_boolean g refl)
+  or_case a b (Ok (record_of z)) n g h = rule.or_left_fails a b (rule.no_boolean g refl)
+  or_case a b (Ok (decimal z)) n g h = rule.or_left_fails a b (rule.no_boolean g refl)
+  or_case a b (Ok (ipaddr z)) n g h = rule.or_left_fails a b (rule.no_boolean g refl)
+  or_case a b (Err e) n g h = rule.or_left_fails a b (rule.test_errs g)
+
+  unary_case : (op : Unary) (a : Expr) (m : Outcome) → Gives W q a m → Gives W q (form.Unary op a) (and_then m (apply_unary op))
+  unary_case op a (Ok v) g = rule.gives_unary op a g (unary_exists op v)
+  unary_case op a (Err e) g = rule.unary_fails op a g
+
+  binary_case : (op : Binary) (a b : Expr) (m n : Outcome) → Gives W q a m → Gives W q b n → Gives W q (form.Binary op a b) (and_then m (λ v. and_then n (apply_binary E op v)))
+  binary_case op a b (Ok v) (Ok w) g h = rule.gives_binary op a b g h (binary_exists W above D op v w)
+  binary_case op a b (Ok v) (Err e) g h = rule.binary_right_fails op a b g h
+  binary_case op a b (Err e) n g h = rule.binary_left_fails op a b g
+
+  field_case : (a : Expr) (name : List ℕ) (m : Outcome) → Gives W q a m → Gives W q (form.Field a name) (and_then m (field_of E name))
+  field_case a name (Ok v) g = rule.gives_field a name g (field_exists W above D name v)
+  field_case a name (Err e) g = rule.field_fails a name g
+
+  has_case : (a : Expr) (name : List ℕ) (m : Outcome) → Gives W q a m → Gives W q (form.Has a name) (and_then m (has_field E name))
+  has_case a name (Ok v) g = rule.gives_has a name g (has_exists W above D name v)
+  has_case a name (Err e) g = rule.has_fails a name g
+
+  set_case : (xs : List Expr) (m : Result (List PlainValue) EvalFault) → GivesEach W q xs m → Gives W q (form.Set xs) (and_then m to_set)
+  unfolding to_set
+  set_case xs (Ok vs) g = rule.gives_set xs g (set_of vs)
+  set_case xs (Err e) g = rule.set_fails xs g
+
+  record_case : (xs : List (Named Expr)) (m : Result (List Field) EvalFault) → GivesFields W q xs [] m → Gives W q (form.Record xs) (and_then m to_record)
+  unfolding to_record
+  record_case xs (Ok fs) g = rule.gives_record xs g
+  record_case xs (Err e) g = rule.record_fails xs g
+
+  unary_call_case : (called : UnaryCall) (a : Expr) (m : Outcome) → Gives W q a m → Gives W q (form.UnaryCall called a) (and_then m (apply_unary_call called))
+  unary_call_case called a (Ok v) g = rule.gives_unary_call called a g (unary_call_exists called v)
+  unary_call_case called a (Err e) g = rule.unary_call_fails called a g
+
+  binary_call_case : (called : BinaryCall) (a b : Expr) (m n : Outcome) → Gives W q a m → Gives W q b n → Gives W q (form.BinaryCall called a b) (and_then m (λ v. and_then n (apply_binary_call called v)))
+  binary_call_case called a b (Ok v) (Ok w) g h = rule.gives_binary_call called a b g h (binary_call_exists called v w)
+  binary_call_case called a b (Ok v) (Err e) g h = rule.call_right_fails called a b g h
+  binary_call_case called a b (Err e) n g h = rule.call_left_fails called a b g
+
+  each_case : (x : Expr) (xs : List Expr) (m : Outcome) (n : Result (List PlainValue) EvalFault) → Gives W q x m → GivesEach W q xs n → GivesEach W q (x ∷ xs) (and_then m (λ v. and_then n (λ vs. Ok (v ∷ vs))))
+  each_case x xs (Ok v) (Ok vs) g h = rule.each_more g h
+  each_case x xs (Ok v) (Err e) g h = rule.each_fails_later g h
+  each_case x xs (Err e) n g h = rule.each_fails g
+
+  fields_case : (x : Named Expr) (xs : List (Named Expr)) (done : List Field) (m : Outcome) (n : List Field → Result (List Field) EvalFault) → Gives W q x.value m →
+      ((more : List Field) → GivesFields W q xs more (n more)) → GivesFields W q (x ∷ xs) done (and_then m (λ v. n (put x.name v done)))
+  fields_case x xs done (Ok v) n g h = rule.fields_more g (h (put x.name v done))
+  fields_case x xs done (Err e) n g h = rule.fields_fail g
+
+  Found : Expr → Type 0
+  Found x = Gives W q x (gives x)
+
+  found_each : (xs : List Expr) → Every Found xs → GivesEach W q xs (each (map gives xs))
+  unfolding Found
+  found_each [] h = rule.each_none
+  found_each (x ∷ xs) h = each_case x xs (gives x) (each (map gives xs)) h.0 (found_each xs h.1)
+
+  found_fields : (xs : List (Named Expr)) (done : List Field) → Every (λ x. Found x.value) xs → GivesFields W q xs done (each_field (map (named_meaning q E) xs) done)
+  unfolding Found
+  found_fields [] done h = rule.fields_none
+  found_fields (x ∷ xs) done h = fields_case x xs done (gives x.value) (λ more. each_field (map (named_meaning q E) xs) more) h.0 (λ more. found_fields xs more h.1)
+
+  by_equation : {x : Expr} {m : Outcome} → gives x ≡ m → Gives W q x m → Found x
+  unfolding Found
+  by_equation {x} e g = subst (λ m. Gives W q x m) (sym e) g
+
+  found : Cases Found
+  unfolding Found
+  found = record {
+    literal = λ l. by_equation (at_literal l) (rule.gives_literal l);
+    variable = λ x. by_equation (at_variable x) (rule.gives_variable x);
+    if_form = λ a b c g h k. by_equation (at_if a b c) (if_case a b c _ _ _ g h k);
+    and_form = λ a b g h. by_equation (at_and a b) (and_case a b _ _ g h);
+    or_form = λ a b g h. by_equation (at_or a b) (or_case a b _ _ g h);
+    unary = λ op a g. by_equation (at_unary op a) (unary_case op a _ g);
+    binary = λ op a b g h. by_equation (at_binary op a b) (binary_case op a b _ _ g h);
+    field = λ a name g. by_equation (at_field a name) (field_case a name _ g);
+    has = λ a name g. by_equation (at_has a name) (has_case a name _ g);
+    set = λ xs h. by_equation (at_set xs) (set_case xs _ (found_each xs h));
+    record_form = λ xs h. by_equation (at_record xs) (record_case xs _ (found_fields xs [] h));
+    unary_call = λ called a g. by_equation (at_unary_call called a) (unary_call_case called a _ g);
+    binary_call = λ called a b g h. by_equation (at_binary_call called a b) (binary_call_case called a b _ _ g h);
+  }
+
+  -- each expression gives what it computes
+  pub given : (x : Expr) → Gives W q x (gives x)
+  unfolding Found
+  given x = by_forms Found found x
+
+  -- and nothing else
+  pub only_given : (x : Expr) (r : Outcome) → Gives W q x r → r ≡ gives x
+  only_given x r g = sym (computes x r g)
+
+  pub answers_what_is_given : (x : Expr) (r : Outcome) → Answers r (gives x) → AnswersWhatIsGiven W q x r
+  answers_what_is_given x (Ok v) h = subst (λ m. Gives W q x m) h (given x)
+  answers_what_is_given x (Err e) h = λ n. subst (λ m. Gives W q x m) (h n) (given x)
+
+  pub answers_all_that_is_given : (x : Expr) (r : Outcome) → Answers r (gives x) → AnswersAllThatIsGiven W q x r
+  answers_all_that_is_given x (Ok v) h s g n = sym h ∙ computes x s g
+  answers_all_that_is_given x (Err e) h s g n = sym (h (λ same. n (ap (λ f. Err f) same))) ∙ computes x s g
+
+  pub one_outcome : (x : Expr) → HasOneOutcome W q x
+  one_outcome x = (gives x, given x, only_given x)

@@ -1,0 +1,5 @@
+pub mod Agreeing
+pub mod Applied
+pub mod ByKind
+pub mod Conversions
+pub mod Telling

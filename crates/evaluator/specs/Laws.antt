@@ -1,0 +1,21 @@
+-- What is true of the definitions.
+use Rattle.std.specs.Prelude.{◌≡◌, List, Bool}
+use Rattle.values.specs.declared.entity_uid.EntityUid.{EntityUid}
+use Rattle.values.specs.declared.request.Request.{Request}
+use Rattle.ancestor_closure.specs.Decided.{Decides, HaveAllParents}
+use Rattle.expressions.specs.declared.expr.Expr.{Expr}
+use Rattle.evaluator.specs.Outcomes.{Outcome}
+use Rattle.evaluator.specs.Operators.{World}
+use Rattle.evaluator.specs.Evaluation.{Gives}
+
+-- the expression gives exactly one outcome
+abbrev pub HasOneOutcome : World → Request → Expr → Type 0
+HasOneOutcome W q x = (r : Outcome) × Gives W q x r × ((s : Outcome) → Gives W q x s → s ≡ r)
+
+-- so does each, where a test decides who is above whom,
+abbrev pub HaveOneOutcome : Type 0
+HaveOneOutcome = (W : World) (above : EntityUid → EntityUid → Bool) → Decides W.parents above → (q : Request) (x : Expr) → HasOneOutcome W q x
+
+-- and where finitely many entities have parents
+abbrev pub HaveOneOutcomeInFiniteHierarchies : Type 0
+HaveOneOutcomeInFiniteHierarchies = (W : World) (stored : List EntityUid) → HaveAllParents W.parents stored → (q : Request) (x : Expr) → HasOneOutcome W q x

@@ -1,0 +1,7 @@
+pub mod Computing
+pub mod Decided
+pub mod Evaluation
+pub mod Laws
+pub mod Operators
+pub mod Outcomes
+pub mod TextsDecided

@@ -1,0 +1,58 @@
+-- What evaluating comes to, and what of values it speaks of.
+use Rattle.std.specs.Prelude.{ℕ, ℤ, List, Bool, true, false, Option, Some, None, Result, Ok, Err, FitsSigned}
+use Rattle.std.specs.Int.{w64}
+use Rattle.extensions.specs.Network.{Network}
+use Rattle.values.specs.declared.entity_uid.EntityUid.{EntityUid}
+use Rattle.values.specs.Fields.{Field}
+use Rattle.values.specs.Values.{PlainValue, boolean, long, text, entity, set, record_of, decimal, ipaddr, list_of, pairs_of}
+use Rattle.evaluator.specs.declared.fault.EvalFault.{EvalFault}
+use Rattle.evaluator.specs.declared.fault.EvalFault.TheVariants.{ArithBoundsError}
+
+-- a value, or an error
+abbrev pub Outcome : Type 0
+Outcome = Result PlainValue EvalFault
+
+-- What a value holds if it is of that kind: a boolean, a number, a text, an entity, the members of a set, the fields of a record, a decimal,
+-- an address.
+
+abbrev pub boolean_in : PlainValue → Option Bool
+boolean_in (boolean b) = Some b
+boolean_in v = None
+
+abbrev pub long_in : PlainValue → Option ℤ
+long_in (long z) = Some z
+long_in v = None
+
+abbrev pub text_in : PlainValue → Option (List ℕ)
+text_in (text t) = Some t
+text_in v = None
+
+abbrev pub entity_in : PlainValue → Option EntityUid
+entity_in (entity u) = Some u
+entity_in v = None
+
+abbrev pub members_in : PlainValue → Option (List PlainValue)
+members_in (set vs) = Some (list_of vs)
+members_in v = None
+
+abbrev pub fields_in : PlainValue → Option (List Field)
+fields_in (record_of fs) = Some (pairs_of fs)
+fields_in v = None
+
+abbrev pub decimal_in : PlainValue → Option ℤ
+decimal_in (decimal z) = Some z
+decimal_in v = None
+
+abbrev pub network_in : PlainValue → Option Network
+network_in (ipaddr n) = Some n
+network_in v = None
+
+-- the boolean that tells whether P holds
+pub data Tells (P : Type 0) : Outcome → Type 0 where
+  holds : P → Tells P (Ok (boolean true))
+  fails : ¬ P → Tells P (Ok (boolean false))
+
+-- a number, if signed 64 bits hold it
+pub data Comes : ℤ → Outcome → Type 0 where
+  fits : {z : ℤ} → FitsSigned w64 z → Comes z (Ok (long z))
+  overflows : {z : ℤ} → ¬ FitsSigned w64 z → Comes z (Err ArithBoundsError)

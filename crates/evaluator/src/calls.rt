@@ -1,0 +1,109 @@
+// What the functions and methods of extensions give on values.
+ghost use Rattle.std.specs.Prelude.{◌≡◌, not, int_lt, int_le};
+ghost use Rattle.extensions.specs.Network.{loopback_v4, loopback_v6, multicast_v4, multicast_v6};
+ghost use Rattle.evaluator.specs.Decided.{told};
+ghost use Rattle.evaluator.specs.TextsDecided.{decimal_text_decided, network_text_decided, in_either_decided, within_decided};
+ghost use Rattle.evaluator.specs.Computing.{decimal_read, network_read, is_v4, apply_unary_call, apply_binary_call};
+
+use crate::fault::EvalFault;
+use crate::operands::{decimal_of, network_of, text_of};
+use expressions::{BinaryCall, UnaryCall};
+use extensions::{Decimal, IpNet};
+use values::Value;
+
+/// The decimal of a text.
+fn read_decimal(text: &str) -> Result<Value, EvalFault>
+    ensures { result ≡ decimal_read (decimal_text_decided text.now) }
+{
+    match Decimal::parse(text) {
+        Some(number) => Ok(Value::decimal(number)),
+        None => Err(EvalFault::ExtensionError),
+    }
+}
+
+/// The address of a text.
+fn read_network(text: &str) -> Result<Value, EvalFault>
+    ensures { result ≡ network_read (network_text_decided text.now) }
+{
+    match IpNet::parse(text) {
+        Some(network) => Ok(Value::ipaddr(network)),
+        None => Err(EvalFault::ExtensionError),
+    }
+}
+
+fn is_ipv4(network: IpNet) -> bool
+    ensures { result ≡ is_v4 network.version }
+{
+    network.is_ipv4()
+}
+
+fn is_ipv6(network: IpNet) -> bool
+    ensures { result ≡ not (is_v4 network.version) }
+{
+    network.is_ipv6()
+}
+
+fn is_loopback(network: IpNet) -> bool
+    ensures { result ≡ told (in_either_decided network loopback_v4 loopback_v6) }
+{
+    network.is_loopback()
+}
+
+fn is_multicast(network: IpNet) -> bool
+    ensures { result ≡ told (in_either_decided network multicast_v4 multicast_v6) }
+{
+    network.is_multicast()
+}
+
+fn is_within(a: IpNet, b: IpNet) -> bool
+    ensures { result ≡ told (within_decided a b) }
+{
+    a.is_in_range(&b)
+}
+
+fn is_less(a: Decimal, b: Decimal) -> bool
+    ensures { result ≡ int_lt a b }
+{
+    a.less_than(&b)
+}
+
+fn is_less_or_equal(a: Decimal, b: Decimal) -> bool
+    ensures { result ≡ int_le a b }
+{
+    a.less_or_equal(&b)
+}
+
+/// What a call with one operand gives on a value.
+pub(crate) fn unary_call(called: UnaryCall, value: &Value) -> Result<Value, EvalFault>
+    ensures { result ≡ apply_unary_call called value.now }
+{
+    match called {
+        UnaryCall::Decimal => read_decimal(text_of(value)?.as_str()),
+        UnaryCall::Ip => read_network(text_of(value)?.as_str()),
+        UnaryCall::IsIpv4 => Ok(Value::boolean(is_ipv4(network_of(value)?))),
+        UnaryCall::IsIpv6 => Ok(Value::boolean(is_ipv6(network_of(value)?))),
+        UnaryCall::IsLoopback => Ok(Value::boolean(is_loopback(network_of(value)?))),
+        UnaryCall::IsMulticast => Ok(Value::boolean(is_multicast(network_of(value)?))),
+    }
+}
+
+/// What a call with two operands gives on values.
+pub(crate) fn binary_call(called: BinaryCall, a: &Value, b: &Value) -> Result<Value, EvalFault>
+    ensures { result ≡ apply_binary_call called a.now b.now }
+{
+    match called {
+        BinaryCall::LessThan => Ok(Value::boolean(is_less(decimal_of(a)?, decimal_of(b)?))),
+        BinaryCall::LessThanOrEqual => {
+            Ok(Value::boolean(is_less_or_equal(decimal_of(a)?, decimal_of(b)?)))
+        }
+        BinaryCall::GreaterThan => {
+            let a = decimal_of(a)?;
+            Ok(Value::boolean(is_less(decimal_of(b)?, a)))
+        }
+        BinaryCall::GreaterThanOrEqual => {
+            let a = decimal_of(a)?;
+            Ok(Value::boolean(is_less_or_equal(decimal_of(b)?, a)))
+        }
+        BinaryCall::IsInRange => Ok(Value::boolean(is_within(network_of(a)?, network_of(b)?))),
+    }
+}

@@ -1,0 +1,267 @@
+//! The evaluator.
+ghost use Rattle.std.specs.Prelude.{◌≡◌, ◌≢◌, [], map, MatchResult, Ok, Err};
+ghost use Rattle.values.specs.Values.{set, record_of, values_of, fields_of};
+ghost use Rattle.values.specs.Sets.{set_list};
+ghost use Rattle.evaluator.specs.Operators.{world_of};
+ghost use Rattle.evaluator.specs.Evaluation.{AnswersWhatIsGiven, AnswersAllThatIsGiven};
+ghost use Rattle.evaluator.specs.Computing.{entities_of, Answers, meaning, named_meaning, each, each_field, and_then, as_test, apply_unary, apply_binary, apply_unary_call, apply_binary_call, field_of, has_field};
+
+use crate::calls::{binary_call, unary_call};
+use crate::fault::EvalFault;
+use crate::fields::{field, has};
+use crate::leaves::{literal_of, variable_of};
+use crate::lookup::Lookup;
+use crate::operands::boolean_of;
+use crate::operators::{binary, unary};
+use expressions::{Binary, BinaryCall, Expr, Named, Unary, UnaryCall};
+use plain::{Boxed, Items, Text};
+use std::alloc::Global;
+use values::{Record, Request, Value};
+
+/// What an expression gives under a request, over the stored entities: its value, or the first error.
+///
+/// Operands are evaluated from the left to the right, the fields of a record in the order in which they are written; `&&`, `||` and `if`
+/// evaluate only what decides. `NoMemory` where an allocation was refused, and only then.
+/// It recurses: its stack grows with the height of the expression, by less than two kilobytes a level.
+///
+/// Source: Cedar reference guide, "Operators and functions".
+pub fn evaluate<L: Lookup>(
+    alloc: Global,
+    expr: &Expr,
+    request: &Request,
+    store: &L,
+) -> Result<Value, EvalFault>
+    ensures given { AnswersWhatIsGiven (world_of (L.stored store.now) (L.parents store.now)) request.now expr.now result }
+    ensures all { AnswersAllThatIsGiven (world_of (L.stored store.now) (L.parents store.now)) request.now expr.now result }
+{
+    outcome_of(alloc, expr, request, store)
+}
+
+// The arms that hold a value are functions of their own, so that a level of the recursion takes little stack.
+#[cycle(evaluate)]
+fn outcome_of<L: Lookup>(
+    alloc: Global,
+    expr: &Expr,
+    request: &Request,
+    store: &L,
+) -> Result<Value, EvalFault>
+    ensures { Answers result (meaning request.now (entities_of (L.stored store.now) (L.above store.now)) expr.now) }
+{
+    match expr {
+        Expr::Literal(literal) => Ok(literal_of(literal)?),
+        Expr::Variable(variable) => Ok(variable_of(alloc, *variable, request)?),
+        Expr::If(test, consequent, alternative) => {
+            if test_of(alloc, test, request, store)? {
+                outcome_of(alloc, consequent.get(), request, store)
+            } else {
+                outcome_of(alloc, alternative.get(), request, store)
+            }
+        }
+        Expr::And(left, right) => {
+            let holds = test_of(alloc, left, request, store)?
+                && test_of(alloc, right, request, store)?;
+            Ok(Value::boolean(holds))
+        }
+        Expr::Or(left, right) => {
+            let holds = test_of(alloc, left, request, store)?
+                || test_of(alloc, right, request, store)?;
+            Ok(Value::boolean(holds))
+        }
+        Expr::Unary(operator, operand) => one_operand(alloc, operator, operand, request, store),
+        Expr::Binary(operator, left, right) => {
+            let left = outcome_of(alloc, left.get(), request, store)?;
+            second_operand(alloc, right, *operator, &left, request, store)
+        }
+        Expr::Field(owner, name) => field_of(alloc, owner, name, request, store),
+        Expr::Has(owner, name) => has_of(alloc, owner, name, request, store),
+        Expr::Set(members) => set_of(alloc, members, request, store),
+        Expr::Record(fields) => record_of(alloc, fields, request, store),
+        Expr::UnaryCall(called, operand) => one_called(alloc, *called, operand, request, store),
+        Expr::BinaryCall(called, left, right) => {
+            let left = outcome_of(alloc, left.get(), request, store)?;
+            second_called(alloc, right, *called, &left, request, store)
+        }
+    }
+}
+
+/// What an expression gives as a test.
+#[cycle(evaluate)]
+#[inline(never)]
+fn test_of<L: Lookup>(
+    alloc: Global,
+    test: &Boxed<Expr>,
+    request: &Request,
+    store: &L,
+) -> Result<bool, EvalFault>
+    ensures { Answers result (as_test (meaning request.now (entities_of (L.stored store.now) (L.above store.now)) test.now)) }
+{
+    let value = outcome_of(alloc, test.get(), request, store)?;
+    boolean_of(&value)
+}
+
+/// What an operator gives on an expression's value.
+#[cycle(evaluate)]
+#[inline(never)]
+fn one_operand<L: Lookup>(
+    alloc: Global,
+    operator: &Unary,
+    operand: &Boxed<Expr>,
+    request: &Request,
+    store: &L,
+) -> Result<Value, EvalFault>
+    ensures { Answers result (and_then (meaning request.now (entities_of (L.stored store.now) (L.above store.now)) operand.now) (apply_unary operator.now)) }
+{
+    let value = outcome_of(alloc, operand.get(), request, store)?;
+    unary(operator, &value)
+}
+
+/// What an operator gives on a value and an expression's value.
+#[cycle(evaluate)]
+#[inline(never)]
+fn second_operand<L: Lookup>(
+    alloc: Global,
+    right: &Boxed<Expr>,
+    operator: Binary,
+    left: &Value,
+    request: &Request,
+    store: &L,
+) -> Result<Value, EvalFault>
+    ensures { Answers result (and_then (meaning request.now (entities_of (L.stored store.now) (L.above store.now)) right.now) (apply_binary (entities_of (L.stored store.now) (L.above store.now)) operator left.now)) }
+{
+    let right = outcome_of(alloc, right.get(), request, store)?;
+    binary(store, operator, left, &right)
+}
+
+/// What a call gives on an expression's value.
+#[cycle(evaluate)]
+#[inline(never)]
+fn one_called<L: Lookup>(
+    alloc: Global,
+    called: UnaryCall,
+    operand: &Boxed<Expr>,
+    request: &Request,
+    store: &L,
+) -> Result<Value, EvalFault>
+    ensures { Answers result (and_then (meaning request.now (entities_of (L.stored store.now) (L.above store.now)) operand.now) (apply_unary_call called)) }
+{
+    let value = outcome_of(alloc, operand.get(), request, store)?;
+    unary_call(called, &value)
+}
+
+/// What a call gives on a value and an expression's value.
+#[cycle(evaluate)]
+#[inline(never)]
+fn second_called<L: Lookup>(
+    alloc: Global,
+    right: &Boxed<Expr>,
+    called: BinaryCall,
+    left: &Value,
+    request: &Request,
+    store: &L,
+) -> Result<Value, EvalFault>
+    ensures { Answers result (and_then (meaning request.now (entities_of (L.stored store.now) (L.above store.now)) right.now) (apply_binary_call called left.now)) }
+{
+    let right = outcome_of(alloc, right.get(), request, store)?;
+    binary_call(called, left, &right)
+}
+
+/// A field or an attribute of an expression's value.
+#[cycle(evaluate)]
+#[inline(never)]
+fn field_of<L: Lookup>(
+    alloc: Global,
+    owner: &Boxed<Expr>,
+    name: &Text,
+    request: &Request,
+    store: &L,
+) -> Result<Value, EvalFault>
+    ensures { Answers result (and_then (meaning request.now (entities_of (L.stored store.now) (L.above store.now)) owner.now) (field_of (entities_of (L.stored store.now) (L.above store.now)) name.now)) }
+{
+    let value = outcome_of(alloc, owner.get(), request, store)?;
+    field(alloc, store, &value, name.as_str())
+}
+
+/// Whether an expression's value has a field or an attribute.
+#[cycle(evaluate)]
+#[inline(never)]
+fn has_of<L: Lookup>(
+    alloc: Global,
+    owner: &Boxed<Expr>,
+    name: &Text,
+    request: &Request,
+    store: &L,
+) -> Result<Value, EvalFault>
+    ensures { Answers result (and_then (meaning request.now (entities_of (L.stored store.now) (L.above store.now)) owner.now) (has_field (entities_of (L.stored store.now) (L.above store.now)) name.now)) }
+{
+    let value = outcome_of(alloc, owner.get(), request, store)?;
+    has(store, &value, name.as_str())
+}
+
+/// The set of what expressions give.
+#[cycle(evaluate)]
+#[inline(never)]
+fn set_of<L: Lookup>(
+    alloc: Global,
+    members: &Items<Expr>,
+    request: &Request,
+    store: &L,
+) -> Result<Value, EvalFault>
+    ensures { Answers result (and_then (each (map (meaning request.now (entities_of (L.stored store.now) (L.above store.now))) members.now)) (λ vs. Ok (set (values_of (set_list vs))))) }
+{
+    let members = evaluate_each(alloc, members, request, store)?;
+    Ok(Value::set(members)?)
+}
+
+/// The record of what the expressions under names give.
+#[cycle(evaluate)]
+#[inline(never)]
+fn record_of<L: Lookup>(
+    alloc: Global,
+    fields: &Items<Named<Expr>>,
+    request: &Request,
+    store: &L,
+) -> Result<Value, EvalFault>
+    ensures { Answers result (and_then (each_field (map (named_meaning request.now (entities_of (L.stored store.now) (L.above store.now))) fields.now) []) (λ done. Ok (record_of (fields_of done)))) }
+{
+    let fields = evaluate_fields(alloc, fields, request, store)?;
+    Ok(Value::from_record(fields))
+}
+
+/// What expressions give, in order.
+#[cycle(evaluate)]
+#[inline(never)]
+fn evaluate_each<L: Lookup>(
+    alloc: Global,
+    exprs: &Items<Expr>,
+    request: &Request,
+    store: &L,
+) -> Result<Vec<Value>, EvalFault>
+    ensures { let m = each (map (meaning request.now (entities_of (L.stored store.now) (L.above store.now))) exprs.now) in
+        MatchResult result (λ vs. m ≡ Ok vs.items) (λ e. e ≢ EvalFault.NoMemory → m ≡ Err e) }
+{
+    let mut values = Vec::with_capacity(alloc, exprs.len())?;
+    for expr in exprs.as_slice() {
+        values.push(outcome_of(alloc, expr, request, store)?)?;
+    }
+    Ok(values)
+}
+
+/// The fields that the expressions under names give, in the order in which they are written.
+#[cycle(evaluate)]
+#[inline(never)]
+fn evaluate_fields<L: Lookup>(
+    alloc: Global,
+    fields: &Items<Named<Expr>>,
+    request: &Request,
+    store: &L,
+) -> Result<Record, EvalFault>
+    ensures { Answers result (each_field (map (named_meaning request.now (entities_of (L.stored store.now) (L.above store.now))) fields.now) []) }
+{
+    let mut record = Record::new(alloc);
+    for field in fields.as_slice() {
+        let name = field.name.copy()?;
+        let value = outcome_of(alloc, &field.value, request, store)?;
+        record.insert(name, value)?;
+    }
+    Ok(record)
+}

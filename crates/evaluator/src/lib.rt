@@ -1,0 +1,21 @@
+//! What expressions evaluate to, under a request and over the stored entities.
+#![tactic(auto)]
+
+mod calls;
+mod evaluating;
+mod fault;
+mod fields;
+mod laws;
+mod leaves;
+mod lookup;
+mod operands;
+mod operators;
+
+pub use evaluating::evaluate;
+pub use fault::EvalFault;
+pub use laws::expressions_have_one_outcome;
+pub use lookup::Lookup;
+pub use plain::NoMemory;
+
+#[cfg(test)]
+mod tests;

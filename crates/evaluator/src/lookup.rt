@@ -1,0 +1,17 @@
+// What is asked of the stored entities.
+ghost use Rattle.std.specs.Prelude.{◌≡◌, Option, List, option_map};
+ghost use Rattle.values.specs.declared.entity_uid.EntityUid.{EntityUid};
+ghost use Rattle.values.specs.Fields.{Field};
+
+use ancestor_closure::Ancestry;
+use values::{EntityUid, Record};
+
+/// The stored entities: who is above whom, and the attributes of each.
+pub trait Lookup: Ancestry {
+    /// The attributes of each stored entity, as keys with values; None of one that is not stored.
+    ghost stored: { Self → EntityUid → Option (List Field) };
+
+    /// The attributes of an entity, or None exactly where it is not stored; takes no memory.
+    fn attrs_of(&self, uid: &EntityUid) -> Option<&Record>
+        ensures { option_map (λ r. r.now) result ≡ stored self.now uid.now };
+}

@@ -1,0 +1,93 @@
+// What operators give on values.
+ghost use Rattle.std.specs.Prelude.{◌≡◌, IfOk};
+ghost use Rattle.evaluator.specs.Computing.{entities_of, Answers, number_or_fault, apply_unary, apply_binary, is_in, in_members, in_value};
+
+use crate::fault::EvalFault;
+use crate::lookup::Lookup;
+use crate::operands::{boolean_of, entity_of, long_of, set_of, text_of};
+use expressions::{Binary, Unary};
+use plain::NoMemory;
+use values::{EntityUid, Kind, Value};
+
+/// What an operator gives on a value.
+pub(crate) fn unary(operator: &Unary, value: &Value) -> Result<Value, EvalFault>
+    ensures { result ≡ apply_unary operator.now value.now }
+{
+    match operator {
+        Unary::Not => Ok(Value::boolean(!boolean_of(value)?)),
+        Unary::Negate => number(long_of(value)?.checked_neg()),
+        Unary::Like(pattern) => Ok(Value::boolean(pattern.matches(text_of(value)?.as_str()))),
+        Unary::Is(name) => Ok(Value::boolean(
+            entity_of(value)?.type_name.as_str() == name.as_str(),
+        )),
+    }
+}
+
+/// What checked arithmetic comes to.
+fn number(found: Option<i64>) -> Result<Value, EvalFault>
+    ensures { result ≡ number_or_fault found }
+{
+    match found {
+        Some(number) => Ok(Value::long(number)),
+        None => Err(EvalFault::ArithBoundsError),
+    }
+}
+
+/// Whether `a` is `b` or below it.
+fn is_in<L: Lookup>(store: &L, a: &EntityUid, b: &EntityUid) -> Result<bool, NoMemory>
+    ensures { IfOk result (λ r. r ≡ is_in (entities_of (L.stored store.now) (L.above store.now)) a.now b.now) }
+{
+    if a.cmp(b).is_eq() {
+        return Ok(true);
+    }
+    store.is_ancestor(b, a)
+}
+
+/// Whether `a` is in some member, all of which have to be entities.
+fn in_members<L: Lookup>(store: &L, a: &EntityUid, members: &[Value]) -> Result<bool, EvalFault>
+    ensures { Answers result (in_members (entities_of (L.stored store.now) (L.above store.now)) a.now members.now) }
+{
+    let mut found = false;
+    for member in members {
+        let b = entity_of(member)?;
+        if !found {
+            found = is_in(store, a, b)?;
+        }
+    }
+    Ok(found)
+}
+
+/// Whether `a` is in an entity, or in some member of a set.
+#[tactic(auto, using(crate::proofs::Conversions::conversions))]
+fn in_value<L: Lookup>(store: &L, a: &EntityUid, value: &Value) -> Result<Value, EvalFault>
+    ensures { Answers result (in_value (entities_of (L.stored store.now) (L.above store.now)) a.now value.now) }
+{
+    match value.kind() {
+        Kind::Entity(b) => Ok(Value::boolean(is_in(store, a, b)?)),
+        Kind::Set(members) => Ok(Value::boolean(in_members(store, a, members.members())?)),
+        _ => Err(EvalFault::TypeError),
+    }
+}
+
+/// What an operator gives on two values.
+pub(crate) fn binary<L: Lookup>(
+    store: &L,
+    operator: Binary,
+    a: &Value,
+    b: &Value,
+) -> Result<Value, EvalFault>
+    ensures { Answers result (apply_binary (entities_of (L.stored store.now) (L.above store.now)) operator a.now b.now) }
+{
+    match operator {
+        Binary::Equal => Ok(Value::boolean(a == b)),
+        Binary::In => in_value(store, entity_of(a)?, b),
+        Binary::Less => Ok(Value::boolean(long_of(a)? < long_of(b)?)),
+        Binary::LessOrEqual => Ok(Value::boolean(long_of(a)? <= long_of(b)?)),
+        Binary::Add => number(long_of(a)?.checked_add(long_of(b)?)),
+        Binary::Subtract => number(long_of(a)?.checked_sub(long_of(b)?)),
+        Binary::Multiply => number(long_of(a)?.checked_mul(long_of(b)?)),
+        Binary::Contains => Ok(Value::boolean(set_of(a)?.contains(b))),
+        Binary::ContainsAll => Ok(Value::boolean(set_of(a)?.contains_all(set_of(b)?))),
+        Binary::ContainsAny => Ok(Value::boolean(set_of(a)?.contains_any(set_of(b)?))),
+    }
+}

@@ -1,0 +1,456 @@
+-- Each production derives something, and what it begins with.
+use Rattle.std.proofs.Common.{◌≡◌, ◌⊎◌, inl, inr, ℕ, zero, suc, Bool, true, false, List, [], ◌∷◌, Option, Some, None, refl}
+use Rattle.policy_tokens.specs.declared.token.Token.{Token}
+use Rattle.policy_tokens.specs.declared.token.Kind.{Kind}
+use Rattle.policy_tokens.specs.declared.token.Kind.TheVariants as k
+use Rattle.expression_syntax.specs.declared.tree.PathTree.{PathTree}
+use Rattle.expression_syntax.specs.declared.tree.Access.{Access}
+use Rattle.expression_syntax.specs.declared.tree.Entry.{Entry}
+use Rattle.expression_syntax.specs.declared.tree.Term.{Term}
+use Rattle.expression_syntax.specs.declared.tree.ExprTree.{ExprTree}
+use Rattle.expression_syntax.specs.declared.tree.ExprTree.TheVariants as tree
+use Rattle.expression_syntax.specs.Kinds.{Kinds, only, same_kind}
+use Rattle.expression_syntax.specs.Lang.{Lang}
+use Rattle.expression_syntax.specs.Lang as lang
+use Rattle.expression_syntax.specs.Grammar.{identifiers, path, uid}
+use Rattle.expression_syntax.specs.Expressions as g
+use Rattle.expression_syntax.specs.Expressions.{booleans, variables, keys, patterns, signs, comparisons, joined, accessed, is_in}
+use Rattle.expression_syntax.specs.ExpressionReading.{openers, access_firsts, firsts}
+use Rattle.expression_syntax.specs.Reads.{Begins}
+use Rattle.expression_syntax.proofs.Forms.{Starts, starts_of, starts_both, starts_or, alive_empty, alive_left, alive_right, begin_of}
+use Rattle.expression_syntax.proofs.Many.{alive_many}
+use Rattle.expression_syntax.proofs.Steps.{go, go_one, alive_maybe, starts_one, wide_starts}
+use Rattle.expression_syntax.proofs.NameRules.{starts_path, starts_uid}
+use Rattle.expression_syntax.proofs.Openings.{Opening, opening_one, opening_then, starts_gate}
+use Rattle.expression_syntax.proofs.NamedRules.{call_behind}
+
+-- ---- first tokens
+
+abbrev pub literal_firsts : Kinds
+literal_firsts k.True = true
+literal_firsts k.False = true
+literal_firsts k.Number = true
+literal_firsts k.Text = true
+literal_firsts _ = false
+
+abbrev pub other_firsts : Kinds
+other_firsts k.LParen = true
+other_firsts k.LBracket = true
+other_firsts k.LBrace = true
+other_firsts kind = literal_firsts kind
+
+abbrev pub primary_firsts : Kinds
+primary_firsts k.LParen = true
+primary_firsts k.LBracket = true
+primary_firsts k.LBrace = true
+primary_firsts k.True = true
+primary_firsts k.False = true
+primary_firsts k.Number = true
+primary_firsts k.Text = true
+primary_firsts kind = identifiers kind
+
+abbrev pub minus_firsts : Kinds
+minus_firsts k.Minus = true
+minus_firsts kind = primary_firsts kind
+
+abbrev pub unary_firsts : Kinds
+unary_firsts k.Not = true
+unary_firsts kind = minus_firsts kind
+
+abbrev pub chain_tail : {A : Type 0} → Lang A → (ExprTree → List A → ExprTree) → ExprTree → Lang ExprTree
+chain_tail piece make x = lang.◌>>=◌ (lang.many piece) (λ more. lang.empty (joined make x more))
+
+pub alive_tail : {A : Type 0} (piece : Lang A) (make : ExprTree → List A → ExprTree) (x : ExprTree) → Begins (chain_tail piece make x) []
+alive_tail piece make x = go (alive_many piece) (λ more. alive_empty (joined make x more))
+
+pub alive_chain : {A : Type 0} (L : Lang ExprTree) (piece : Lang A) (make : ExprTree → List A → ExprTree) → Begins L [] → Begins (g.chain L piece make) []
+alive_chain L piece make b = go b (alive_tail piece make)
+
+pub starts_chain : {A : Type 0} (L : Lang ExprTree) (piece : Lang A) (make : ExprTree → List A → ExprTree) (ks : Kinds) → Starts L ks → Starts (g.chain L piece make) ks
+starts_chain L piece make ks s = starts_both L (chain_tail piece make) ks s
+
+-- ---- literals
+
+abbrev pub boolean : Lang ExprTree
+boolean = lang.◌giving◌ (lang.of booleans) tree.Boolean
+
+abbrev pub number : Lang ExprTree
+number = lang.◌giving◌ (lang.one k.Number) tree.Number
+
+abbrev pub text : Lang ExprTree
+text = lang.◌giving◌ (lang.one k.Text) tree.Text
+
+abbrev pub number_or_text : Lang ExprTree
+number_or_text = lang.◌or◌ number text
+
+pub alive_literal : Begins g.literal []
+alive_literal = alive_left boolean number_or_text [] (go (begin_of booleans k.True refl) (λ t. alive_empty (tree.Boolean t)))
+
+starts_giving : {A B : Type 0} (L : Lang A) (f : A → B) (ks : Kinds) → Starts L ks → Starts (lang.◌giving◌ L f) ks
+starts_giving L f ks s = starts_both L (λ x. lang.empty (f x)) ks s
+
+pub starts_boolean : Starts boolean booleans
+starts_boolean = starts_giving (lang.of booleans) tree.Boolean booleans (starts_of booleans)
+
+pub starts_number : Starts number (only k.Number)
+starts_number = starts_giving (lang.one k.Number) tree.Number (only k.Number) (starts_of (only k.Number))
+
+pub starts_text : Starts text (only k.Text)
+starts_text = starts_giving (lang.one k.Text) tree.Text (only k.Text) (starts_of (only k.Text))
+
+pub starts_literal : Starts g.literal literal_firsts
+unfolding same_kind
+starts_literal =
+    starts_or boolean number_or_text literal_firsts (wide_starts boolean booleans literal_firsts refl starts_boolean)
+    (starts_or number text literal_firsts (wide_starts number (only k.Number) literal_firsts refl starts_number) (wide_starts text (only k.Text) literal_firsts refl starts_text))
+
+-- ---- what nests
+
+abbrev pub entry_of : Token → ExprTree → Entry ExprTree
+entry_of key x = record { key = key; value = x }
+
+abbrev pub term_of : Token → ExprTree → Term ExprTree
+term_of sign x = record { sign = sign; operand = x }
+
+module _ (o : Bool) (E : Lang ExprTree) where
+  abbrev pub next_argument : Lang ExprTree
+  next_argument = lang.◌>>◌ (lang.one k.Comma) E
+
+  abbrev pub listed : ExprTree → Lang (List ExprTree)
+  listed first = lang.◌>>=◌ (lang.many next_argument) (λ more. lang.empty (first ∷ more))
+
+  pub alive_listed : (first : ExprTree) → Begins (listed first) []
+  alive_listed first = go (alive_many next_argument) (λ more. alive_empty (first ∷ more))
+
+  pub alive_arguments : Begins (g.arguments o E) []
+  alive_arguments = alive_right (lang.◌>>=◌ E listed) (lang.empty []) [] (alive_empty [])
+
+  abbrev pub in_call : Lang (List ExprTree)
+  in_call = lang.◌>>=◌ (g.arguments o E) (λ found. lang.◌>>◌ (lang.one k.RParen) (lang.empty found))
+
+  pub alive_in_call : Begins in_call []
+  alive_in_call = go alive_arguments (λ found. go_one k.RParen (λ _. alive_empty found))
+
+  pub opening_called : Opening (g.called o E) (only k.LParen)
+  opening_called = opening_one k.LParen (λ _. in_call) (λ _. alive_in_call)
+
+  pub starts_called : Starts (g.called o E) (only k.LParen)
+  starts_called = starts_one k.LParen (λ _. in_call)
+
+  pub opening_call : (name : PathTree) → Opening (call_behind o E name) (only k.LParen)
+  opening_call name = opening_then (g.called o E) (λ found. lang.empty (tree.Call name found)) (only k.LParen) opening_called (λ found. alive_empty (tree.Call name found))
+
+  pub starts_call : (name : PathTree) → Starts (call_behind o E name) (only k.LParen)
+  starts_call name = starts_both (g.called o E) (λ found. lang.empty (tree.Call name found)) (only k.LParen) starts_called
+
+  abbrev pub some_called : Lang (Option (List ExprTree))
+  some_called = lang.◌giving◌ (g.called o E) Some
+
+  pub opening_some : Opening some_called (only k.LParen)
+  opening_some = opening_then (g.called o E) (λ found. lang.empty (Some found)) (only k.LParen) opening_called (λ found. alive_empty (Some found))
+
+  pub starts_some : Starts some_called (only k.LParen)
+  starts_some = starts_both (g.called o E) (λ found. lang.empty (Some found)) (only k.LParen) starts_called
+
+  -- ---- entries
+
+  abbrev pub entry_end : Token → Lang (Entry ExprTree)
+  entry_end key = lang.◌>>◌ (lang.one k.Colon) (lang.◌>>=◌ E (λ x. lang.empty (entry_of key x)))
+
+  pub starts_entry : Starts (g.entry o E) keys
+  starts_entry = starts_both (lang.of keys) entry_end keys (starts_of keys)
+
+  abbrev pub next_entry : Lang (Entry ExprTree)
+  next_entry = lang.◌>>◌ (lang.one k.Comma) (g.entry o E)
+
+  abbrev pub entered : Entry ExprTree → Lang (List (Entry ExprTree))
+  entered first = lang.◌>>=◌ (lang.many next_entry) (λ more. lang.empty (first ∷ more))
+
+  pub alive_entered : (first : Entry ExprTree) → Begins (entered first) []
+  alive_entered first = go (alive_many next_entry) (λ more. alive_empty (first ∷ more))
+
+  pub alive_entries : Begins (g.entries o E) []
+  alive_entries = alive_right (lang.◌>>=◌ (g.entry o E) entered) (lang.empty []) [] (alive_empty [])
+
+  -- ---- brackets
+
+  abbrev pub in_parens : Lang ExprTree
+  in_parens = lang.◌>>=◌ E (λ x. lang.◌>>◌ (lang.one k.RParen) (lang.empty (tree.Parentheses x)))
+
+  abbrev pub in_brackets : Lang ExprTree
+  in_brackets = lang.◌>>=◌ (g.arguments o E) (λ found. lang.◌>>◌ (lang.one k.RBracket) (lang.empty (tree.Set found)))
+
+  abbrev pub in_braces : Lang ExprTree
+  in_braces = lang.◌>>=◌ (g.entries o E) (λ found. lang.◌>>◌ (lang.one k.RBrace) (lang.empty (tree.Record found)))
+
+  pub alive_in_brackets : Begins in_brackets []
+  alive_in_brackets = go alive_arguments (λ found. go_one k.RBracket (λ _. alive_empty (tree.Set found)))
+
+  pub alive_in_braces : Begins in_braces []
+  alive_in_braces = go alive_entries (λ found. go_one k.RBrace (λ _. alive_empty (tree.Record found)))
+
+  abbrev pub set_or_record : Lang ExprTree
+  set_or_record = lang.◌or◌ (g.set o E) (g.braced o E)
+
+  pub starts_set : Starts (g.set o E) (only k.LBracket)
+  starts_set = starts_one k.LBracket (λ _. in_brackets)
+
+  pub starts_braced : Starts (g.braced o E) (only k.LBrace)
+  starts_braced = starts_one k.LBrace (λ _. in_braces)
+
+  pub starts_parens : Starts (g.parenthesized o E) (only k.LParen)
+  starts_parens = starts_one k.LParen (λ _. in_parens)
+
+  pub starts_nested : Starts (g.nested o E) openers
+  unfolding same_kind
+  starts_nested =
+      starts_or (g.parenthesized o E) set_or_record openers (wide_starts (g.parenthesized o E) (only k.LParen) openers refl starts_parens)
+      (starts_or (g.set o E) (g.braced o E) openers (wide_starts (g.set o E) (only k.LBracket) openers refl starts_set) (wide_starts (g.braced o E) (only k.LBrace) openers refl starts_braced))
+
+  -- ---- names, Primary and Member
+
+  pub starts_named : Starts (g.named o E) identifiers
+  starts_named =
+      starts_or (lang.◌giving◌ (lang.of variables) tree.Variable) (lang.◌or◌ (lang.◌giving◌ uid tree.Uid) (lang.gate o (g.call o E))) identifiers
+      (wide_starts (lang.◌giving◌ (lang.of variables) tree.Variable) variables identifiers refl (starts_giving (lang.of variables) tree.Variable variables (starts_of variables)))
+      (starts_or (lang.◌giving◌ uid tree.Uid) (lang.gate o (g.call o E)) identifiers (starts_giving uid tree.Uid identifiers starts_uid)
+      (starts_gate o (g.call o E) identifiers (starts_both path (call_behind o E) identifiers starts_path)))
+
+  abbrev pub other : Lang ExprTree
+  other = lang.◌or◌ (lang.gate o (g.nested o E)) g.literal
+
+  pub alive_primary : Begins (g.primary o E) []
+  alive_primary = alive_right (g.named o E) other [] (alive_right (lang.gate o (g.nested o E)) g.literal [] alive_literal)
+
+  pub starts_other : Starts other other_firsts
+  starts_other =
+      starts_or (lang.gate o (g.nested o E)) g.literal other_firsts
+      (starts_gate o (g.nested o E) other_firsts (wide_starts (g.nested o E) openers other_firsts refl starts_nested))
+      (wide_starts g.literal literal_firsts other_firsts refl starts_literal)
+
+  starts_primary : Starts (g.primary o E) primary_firsts
+  starts_primary =
+      starts_or (g.named o E) other primary_firsts (wide_starts (g.named o E) identifiers primary_firsts refl starts_named)
+      (wide_starts other other_firsts primary_firsts refl starts_other)
+
+  abbrev pub accessing : Lang (Access (List ExprTree))
+  accessing = lang.◌or◌ (g.dotted o E) g.indexed
+
+  pub alive_maybe_called : Begins (g.maybe_called o E) []
+  alive_maybe_called = alive_right (lang.gate o some_called) (lang.empty None) [] (alive_empty None)
+
+  abbrev pub behind_dot : Lang (Access (List ExprTree))
+  behind_dot = lang.◌>>=◌ (lang.of identifiers) (λ name. lang.◌>>=◌ (g.maybe_called o E) (λ found. lang.empty (accessed name found)))
+
+  pub alive_behind_name : (name : Token) → Begins (lang.◌>>=◌ (g.maybe_called o E) (λ found. lang.empty (accessed name found))) []
+  alive_behind_name name = go alive_maybe_called (λ found. alive_empty (accessed name found))
+
+  pub alive_behind_dot : Begins behind_dot []
+  alive_behind_dot = go (begin_of identifiers k.Ident refl) alive_behind_name
+
+  pub starts_dotted : Starts (g.dotted o E) (only k.Dot)
+  starts_dotted = starts_one k.Dot (λ _. behind_dot)
+
+  pub starts_indexed : Starts g.indexed (only k.LBracket)
+  starts_indexed = starts_one k.LBracket _
+
+  pub starts_accessing : Starts accessing access_firsts
+  unfolding same_kind
+  starts_accessing =
+      starts_or (g.dotted o E) g.indexed access_firsts (wide_starts (g.dotted o E) (only k.Dot) access_firsts refl starts_dotted)
+      (wide_starts g.indexed (only k.LBracket) access_firsts refl starts_indexed)
+
+  pub alive_member : Begins (g.member o E) []
+  alive_member = alive_chain (g.primary o E) accessing tree.Member alive_primary
+
+  pub starts_member : Starts (g.member o E) primary_firsts
+  starts_member = starts_chain (g.primary o E) accessing tree.Member primary_firsts starts_primary
+
+  -- ---- operators
+
+  abbrev pub behind_sign : Kind → (ExprTree → ExprTree) → ℕ → Lang ExprTree
+  behind_sign sign make n = lang.◌>>=◌ (g.signed o E sign make n) (λ x. lang.empty (make x))
+
+  pub alive_signed : (sign : Kind) (make : ExprTree → ExprTree) (n : ℕ) → Begins (g.signed o E sign make n) []
+  alive_signed sign make zero = alive_member
+  alive_signed sign make (suc n) = alive_right (lang.◌>>◌ (lang.one sign) (behind_sign sign make n)) (g.member o E) [] alive_member
+
+  pub alive_behind_sign : (sign : Kind) (make : ExprTree → ExprTree) (n : ℕ) → Begins (behind_sign sign make n) []
+  alive_behind_sign sign make n = go (alive_signed sign make n) (λ x. alive_empty (make x))
+
+  abbrev pub minuses : Lang ExprTree
+  minuses = g.signed o E k.Minus tree.Minus 4
+
+  pub alive_unary : Begins (g.unary o E) []
+  alive_unary = alive_right (g.signed o E k.Not tree.Not 4) minuses [] (alive_signed k.Minus tree.Minus 4)
+
+  starts_signed : (sign : Kind) (make : ExprTree → ExprTree) (ks : Kinds) → Starts (lang.one sign) ks → Starts (g.member o E) ks → (n : ℕ) → Starts (g.signed o E sign make n) ks
+  starts_signed sign make ks one member zero = member
+  starts_signed sign make ks one member (suc n) =
+      starts_or (lang.◌>>◌ (lang.one sign) (behind_sign sign make n)) (g.member o E) ks (starts_both (lang.one sign) (λ _. behind_sign sign make n) ks one) member
+
+  pub starts_minuses : Starts minuses minus_firsts
+  unfolding same_kind
+  starts_minuses = starts_signed k.Minus tree.Minus minus_firsts (wide_starts (lang.one k.Minus) (only k.Minus) minus_firsts refl (starts_of (only k.Minus))) (wide_starts (g.member o E) primary_firsts minus_firsts refl starts_member) 4
+
+  starts_nots : Starts (g.signed o E k.Not tree.Not 4) unary_firsts
+  unfolding same_kind
+  starts_nots = starts_signed k.Not tree.Not unary_firsts (wide_starts (lang.one k.Not) (only k.Not) unary_firsts refl (starts_of (only k.Not))) (wide_starts (g.member o E) primary_firsts unary_firsts refl starts_member) 4
+
+  starts_unary : Starts (g.unary o E) unary_firsts
+  starts_unary = starts_or (g.signed o E k.Not tree.Not 4) minuses unary_firsts starts_nots (wide_starts minuses minus_firsts unary_firsts refl starts_minuses)
+
+  abbrev pub factor : Lang ExprTree
+  factor = lang.◌>>◌ (lang.one k.Star) (g.unary o E)
+
+  pub alive_product : Begins (g.product o E) []
+  alive_product = alive_chain (g.unary o E) factor tree.Product alive_unary
+
+  starts_product : Starts (g.product o E) unary_firsts
+  starts_product = starts_chain (g.unary o E) factor tree.Product unary_firsts starts_unary
+
+  abbrev pub behind_term : Token → Lang (Term ExprTree)
+  behind_term sign = lang.◌>>=◌ (g.product o E) (λ x. lang.empty (term_of sign x))
+
+  pub alive_behind_term : (sign : Token) → Begins (behind_term sign) []
+  alive_behind_term sign = go alive_product (λ x. alive_empty (term_of sign x))
+
+  pub starts_term : Starts (g.term o E) signs
+  starts_term = starts_both (lang.of signs) behind_term signs (starts_of signs)
+
+  pub alive_sum : Begins (g.sum o E) []
+  alive_sum = alive_chain (g.product o E) (g.term o E) tree.Sum alive_product
+
+  starts_sum : Starts (g.sum o E) unary_firsts
+  starts_sum = starts_chain (g.product o E) (g.term o E) tree.Sum unary_firsts starts_product
+
+  -- ---- relations
+
+  abbrev pub behind_comparison : ExprTree → Token → Lang ExprTree
+  behind_comparison x operator = lang.◌>>=◌ (g.sum o E) (λ y. lang.empty (tree.Compare x operator y))
+
+  pub alive_behind_comparison : (x : ExprTree) (operator : Token) → Begins (behind_comparison x operator) []
+  alive_behind_comparison x operator = go alive_sum (λ y. alive_empty (tree.Compare x operator y))
+
+  pub starts_compared : (x : ExprTree) → Starts (g.compared o E x) comparisons
+  starts_compared x = starts_both (lang.of comparisons) (behind_comparison x) comparisons (starts_of comparisons)
+
+  pub starts_inside : Starts (g.inside o E) (only k.In)
+  starts_inside = starts_one k.In (λ _. g.sum o E)
+
+  abbrev pub behind_type : ExprTree → PathTree → Lang ExprTree
+  behind_type x name = lang.◌>>=◌ (lang.optional (g.inside o E)) (λ y. lang.empty (is_in x name y))
+
+  pub alive_behind_type : (x : ExprTree) (name : PathTree) → Begins (behind_type x name) []
+  alive_behind_type x name = go (alive_maybe (g.inside o E)) (λ y. alive_empty (is_in x name y))
+
+  abbrev pub typed_or_alone : ExprTree → Lang ExprTree
+  typed_or_alone x = lang.◌or◌ (g.typed o E x) (lang.empty x)
+
+  abbrev pub like_or : ExprTree → Lang ExprTree
+  like_or x = lang.◌or◌ (g.like o E x) (typed_or_alone x)
+
+  abbrev pub tested : ExprTree → Lang ExprTree
+  tested x = lang.◌or◌ (g.has o E x) (like_or x)
+
+  abbrev pub related : ExprTree → Lang ExprTree
+  related x = lang.◌or◌ (g.compared o E x) (tested x)
+
+  pub alive_related : (x : ExprTree) → Begins (related x) []
+  alive_related x =
+      alive_right (g.compared o E x) (tested x) [] (alive_right (g.has o E x) (like_or x) []
+      (alive_right (g.like o E x) (typed_or_alone x) [] (alive_right (g.typed o E x) (lang.empty x) [] (alive_empty x))))
+
+  pub alive_relation : Begins (g.relation o E) []
+  alive_relation = go alive_sum alive_related
+
+  starts_relation : Starts (g.relation o E) unary_firsts
+  starts_relation = starts_both (g.sum o E) related unary_firsts starts_sum
+
+  abbrev pub next_and : Lang ExprTree
+  next_and = lang.◌>>◌ (lang.one k.And) (g.relation o E)
+
+  pub alive_conjunction : Begins (g.conjunction o E) []
+  alive_conjunction = alive_chain (g.relation o E) next_and tree.And alive_relation
+
+  abbrev pub next_or : Lang ExprTree
+  next_or = lang.◌>>◌ (lang.one k.Or) (g.conjunction o E)
+
+  alive_disjunction : Begins (g.disjunction o E) []
+  alive_disjunction = alive_chain (g.conjunction o E) next_or tree.Or alive_conjunction
+
+  pub starts_disjunction : Starts (g.disjunction o E) unary_firsts
+  starts_disjunction = starts_chain (g.conjunction o E) next_or tree.Or unary_firsts (starts_chain (g.relation o E) next_and tree.And unary_firsts starts_relation)
+
+  -- ---- a level
+
+  abbrev pub then_expr : Lang ExprTree
+  then_expr = lang.◌>>◌ (lang.one k.Then) E
+
+  abbrev pub else_expr : Lang ExprTree
+  else_expr = lang.◌>>◌ (lang.one k.Else) E
+
+  abbrev pub decided : ExprTree → ExprTree → Lang ExprTree
+  decided test consequent = lang.◌>>=◌ else_expr (λ alternative. lang.empty (tree.If test consequent alternative))
+
+  abbrev pub tried : ExprTree → Lang ExprTree
+  tried test = lang.◌>>=◌ then_expr (decided test)
+
+  abbrev pub behind_if : Lang ExprTree
+  behind_if = lang.◌>>=◌ E tried
+
+  pub alive_level : Begins (g.level o E) []
+  alive_level = alive_right (lang.gate o (g.conditional o E)) (g.disjunction o E) [] alive_disjunction
+
+  pub starts_conditional : Starts (g.conditional o E) (only k.If)
+  starts_conditional = starts_one k.If (λ _. behind_if)
+
+  pub starts_level : Starts (g.level o E) firsts
+  unfolding same_kind
+  starts_level =
+      starts_or (lang.gate o (g.conditional o E)) (g.disjunction o E) firsts
+      (starts_gate o (g.conditional o E) firsts (wide_starts (g.conditional o E) (only k.If) firsts refl starts_conditional))
+      (wide_starts (g.disjunction o E) unary_firsts firsts refl starts_disjunction)
+
+  -- ---- where the inner language derives something
+
+  module _ (alive : Begins E []) where
+    pub alive_behind_key : (key : Token) → Begins (lang.◌>>=◌ E (λ x. lang.empty (entry_of key x))) []
+    alive_behind_key key = go alive (λ x. alive_empty (entry_of key x))
+
+    pub alive_entry_end : (key : Token) → Begins (entry_end key) []
+    alive_entry_end key = go_one k.Colon (λ _. alive_behind_key key)
+
+    pub alive_entry : Begins (g.entry o E) []
+    alive_entry = go (begin_of keys k.Ident refl) alive_entry_end
+
+    pub alive_in_parens : Begins in_parens []
+    alive_in_parens = go alive (λ x. go_one k.RParen (λ _. alive_empty (tree.Parentheses x)))
+
+    pub alive_decided : (test consequent : ExprTree) → Begins (decided test consequent) []
+    alive_decided test consequent = go (go_one k.Else (λ _. alive)) (λ alternative. alive_empty (tree.If test consequent alternative))
+
+    pub alive_tried : (test : ExprTree) → Begins (tried test) []
+    alive_tried test = go (go_one k.Then (λ _. alive)) (alive_decided test)
+
+    pub alive_behind_if : Begins behind_if []
+    alive_behind_if = go alive alive_tried
+
+    pub opening_conditional : Opening (g.conditional o E) (only k.If)
+    opening_conditional = opening_one k.If (λ _. behind_if) (λ _. alive_behind_if)
+
+    opener_is : (kind : Kind) → openers kind ≡ true → (only k.LParen kind ≡ true) ⊎ ((only k.LBracket kind ≡ true) ⊎ (only k.LBrace kind ≡ true))
+    unfolding same_kind
+    opener_is k.LParen h = inl refl
+    opener_is k.LBracket h = inr (inl refl)
+    opener_is k.LBrace h = inr (inr refl)
+    opener_is _ h = absurd (cc)
+
+    pub opening_nested : Opening (g.nested o E) openers
+    opening_nested t h = elim (opener_is t.kind h) [
+      | inl e ↦ alive_left (g.parenthesized o E) set_or_record (t ∷ []) (opening_one k.LParen (λ _. in_parens) (λ _. alive_in_parens) t e)
+      | inr more ↦ alive_right (g.parenthesized o E) set_or_record (t ∷ []) (elim more [
+        | inl e ↦ alive_left (g.set o E) (g.braced o E) (t ∷ []) (opening_one k.LBracket (λ _. in_brackets) (λ _. alive_in_brackets) t e)
+        | inr e ↦ alive_right (g.set o E) (g.braced o E) (t ∷ []) (opening_one k.LBrace (λ _. in_braces) (λ _. alive_in_braces) t e)
+      ])
+    ]

@@ -1,0 +1,41 @@
+-- An expression as a whole list of tokens.
+use Rattle.std.proofs.Common.{◌≡◌, ℕ, suc, ◌-◌, ◌≤◌, ◌<◌, List, [], Err, length, refl, arith}
+use Rattle.policy_tokens.specs.declared.token.Token.{Token}
+use Rattle.expression_syntax.specs.declared.fault.Halt.{Halt}
+use Rattle.expression_syntax.specs.declared.fault.Halt.TheVariants as halt
+use Rattle.expression_syntax.specs.declared.tree.ExprTree.{ExprTree}
+use Rattle.expression_syntax.specs.Expressions as g
+use Rattle.expression_syntax.specs.Expressions.{nesting_limit, any_expr}
+use Rattle.expression_syntax.specs.ExpressionReading as r
+use Rattle.expression_syntax.specs.Gives.{Gives}
+use Rattle.expression_syntax.specs.Reading.{Read}
+use Rattle.expression_syntax.specs.Reads.{Begins, HasOneTree, HasOneAnswerWithin, IsRefusedWithin, refusal_of}
+use Rattle.expression_syntax.proofs.Rules.{Rule}
+use Rattle.expression_syntax.proofs.Follows.{after_expr}
+use Rattle.expression_syntax.proofs.ExpressionRules.{expr_rule, alive_expr}
+use Rattle.expression_syntax.proofs.Depths as depths
+use Rattle.expression_syntax.proofs.Depths.{levels}
+
+rule : (n m : ℕ) → n ≤ m → Rule (g.expr (suc n)) (g.expr (suc m)) (r.expr (suc n)) (r.expr (suc m)) after_expr (levels (suc n) (suc m))
+rule n m le = expr_rule (suc n) (suc m) (omega (arith, le)) refl
+
+alive : (n : ℕ) → Begins (g.expr (suc n)) []
+alive n = alive_expr (suc n) refl
+
+pub one_expression : HasOneTree (g.expr nesting_limit)
+one_expression = depths.one_tree g.expr r.expr after_expr rule alive 63
+
+pub one_at_any : HasOneTree any_expr
+one_at_any = depths.one_tree_at_any g.expr r.expr after_expr rule alive
+
+pub expression_answer : HasOneAnswerWithin (g.expr nesting_limit) any_expr
+expression_answer = depths.one_answer g.expr r.expr after_expr rule alive 63
+
+pub expression_whole : (ts rest : List Token) (x : ExprTree) → r.expr nesting_limit ts ≡ Read x rest → length rest ≤ 0 → g.expr nesting_limit ts x
+expression_whole = depths.whole_read g.expr r.expr after_expr rule alive 63
+
+pub expression_part : (ts rest : List Token) (x : ExprTree) → r.expr nesting_limit ts ≡ Read x rest → 0 < length rest → IsRefusedWithin (g.expr nesting_limit) any_expr ts (refusal_of halt.Unexpected (length ts - length rest) rest)
+expression_part = depths.part_read g.expr r.expr after_expr rule alive 63
+
+pub expression_halted : (ts rest : List Token) (e : Halt) → Gives (r.expr nesting_limit ts) (Err e) rest → IsRefusedWithin (g.expr nesting_limit) any_expr ts (refusal_of e (length ts - length rest) rest)
+expression_halted = depths.halted_read g.expr r.expr after_expr rule alive 63

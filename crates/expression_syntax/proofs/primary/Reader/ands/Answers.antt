@@ -1,0 +1,30 @@
+use Rattle.std.proofs.Common.{[], ◌∙◌}
+use Rattle.std.proofs.lemmas.Result.{err_from_is_err_and}
+use Rattle.expression_syntax.specs.Kinds.{only}
+use Rattle.policy_tokens.specs.declared.token.Kind.TheVariants as k
+use Rattle.expression_syntax.specs.Expressions.{is_positive}
+use Rattle.expression_syntax.specs.ExpressionReading as spec
+use Rattle.expression_syntax.proofs.Gathered.{filled, filling, as_read, pushed, filled_up, filled_out, stopped}
+use Rattle.expression_syntax.proofs.LoopEnds.{itself}
+use Rattle.expression_syntax.proofs.primary.Reader.ands.Goals as goal
+
+pub loop-turn-init : goal.loop-turn-init
+unfolding spec.ands
+loop-turn-init g c = as_read _ ∙ filling (only k.And) (spec.next_and (is_positive c.args.self.now.levels) (spec.expr c.args.self.now.levels)) itself c.left-turn-end.result [] _ c.args.tokens.now.rest.now c.left-turn-end.ensures c.new-found.ensures
+
+pub loop-turn-preserved : goal.loop-turn-preserved
+loop-turn-preserved g c =
+    pushed (only k.And) (spec.next_and (is_positive c.args.self.now.levels) (spec.expr c.args.self.now.levels)) itself _ c.left-turn-end.result c.loop-turn._turn c.loop-turn.found c.loop-turn.tokens.rest.now
+    c.push.new.self c.in_ok-next.next c.next_and.new.tokens.rest.now c.loop-turn.invariant c.loop-turn-test.true c.if-not-sees.ensures c.in_ok-next.ensures c.in_ok-push.ensures.ok
+
+pub returns-then-not-sees : goal.returns-then-not-sees
+returns-then-not-sees g c = filled_up (only k.And) (spec.next_and (is_positive c.args.self.now.levels) (spec.expr c.args.self.now.levels)) itself _ c.left-turn-end.result c.loop-turn._turn c.loop-turn.found c.loop-turn.tokens.rest.now c.loop-turn.invariant c.if-not-sees.ensures
+
+pub returns-in_err-next : goal.returns-in_err-next
+returns-in_err-next g c =
+    let exit = err_from_is_err_and c.from_residual.result c.from_residual.ensures.1 in
+    rw (exit.1, exit.2) (stopped (only k.And) (spec.next_and (is_positive c.args.self.now.levels) (spec.expr c.args.self.now.levels)) (filled itself) _ c.left-turn-end.result c.loop-turn._turn c.loop-turn.found c.loop-turn.tokens.rest.now
+    c.in_err-next.field-0.0 c.next_and.new.tokens.rest.now c.loop-turn.invariant c.loop-turn-test.true c.if-not-sees.ensures c.in_err-next.ensures)
+
+pub returns : goal.returns
+returns g c = filled_out (only k.And) (spec.next_and (is_positive c.args.self.now.levels) (spec.expr c.args.self.now.levels)) itself _ c.left-turn-end.result c.loop-turn._turn c.loop-turn.found c.loop-turn.tokens.rest.now c.loop-turn.invariant c.loop-turn-test.false

@@ -1,0 +1,323 @@
+-- How expressions are read, from the left, by the next token.
+use Rattle.std.specs.Prelude.{ℕ, zero, suc, Bool, true, false, List, [], ◌∷◌, Option, Some, None}
+use Rattle.policy_tokens.specs.declared.token.Kind.{Kind}
+use Rattle.policy_tokens.specs.declared.token.Kind.TheVariants as k
+use Rattle.policy_tokens.specs.declared.token.Token.{Token}
+use Rattle.expression_syntax.specs.declared.tree.PathTree.{PathTree}
+use Rattle.expression_syntax.specs.declared.tree.Name.{Name}
+use Rattle.expression_syntax.specs.declared.tree.Name.TheVariants as name
+use Rattle.expression_syntax.specs.declared.tree.Access.{Access}
+use Rattle.expression_syntax.specs.declared.tree.Access.TheVariants as access
+use Rattle.expression_syntax.specs.declared.tree.Entry.{Entry}
+use Rattle.expression_syntax.specs.declared.tree.Term.{Term}
+use Rattle.expression_syntax.specs.declared.tree.ExprTree.{ExprTree}
+use Rattle.expression_syntax.specs.declared.tree.ExprTree.TheVariants as tree
+use Rattle.expression_syntax.specs.Kinds.{Kinds, only}
+use Rattle.expression_syntax.specs.Reading.{Parser, take, token, pure, refuse, ◌>>=◌, ◌>>◌, either, optional, many, loop, gate, too_deep}
+use Rattle.expression_syntax.specs.Grammar.{identifiers}
+use Rattle.expression_syntax.specs.Parsing.{path, piece, ended_by, goes_on, ends, uid_of}
+use Rattle.expression_syntax.specs.Expressions.{booleans, variables, keys, patterns, signs, comparisons, joined, accessed, is_in, is_positive}
+
+-- ---- what comes next
+
+abbrev pub openers : Kinds
+openers k.LParen = true
+openers k.LBracket = true
+openers k.LBrace = true
+openers _ = false
+
+abbrev pub access_firsts : Kinds
+access_firsts k.Dot = true
+access_firsts k.LBracket = true
+access_firsts _ = false
+
+-- what an expression begins with
+abbrev pub firsts : Kinds
+firsts k.Number = true
+firsts k.Text = true
+firsts k.True = true
+firsts k.False = true
+firsts k.LParen = true
+firsts k.LBracket = true
+firsts k.LBrace = true
+firsts k.Not = true
+firsts k.Minus = true
+firsts k.If = true
+firsts kind = identifiers kind
+
+-- ---- pieces that nest nothing
+
+unfoldable pub literal : Parser ExprTree
+literal =
+    either booleans (take booleans >>= (λ t. pure (tree.Boolean t)))
+    (either (only k.Number) (token k.Number >>= (λ t. pure (tree.Number t)))
+    (token k.Text >>= (λ t. pure (tree.Text t))))
+
+unfoldable pub indexed : Parser (Access (List ExprTree))
+indexed = do
+  token k.LBracket
+  word ← token k.Text
+  token k.RBracket
+  pure (access.Field word)
+
+-- A variable, a Uid and a call begin alike, so they are read from their common front: an identifier and pieces behind it, which make a Uid
+-- where the last one is a String.
+abbrev pub path_of : Token → List Token → PathTree
+path_of first more = record { first = first; more = more }
+
+abbrev pub name_by : Bool → Token → List Token → Name
+name_by true first ts = name.Uid (uid_of first ts)
+name_by false first ts = name.Path (path_of first ts)
+
+unfoldable pub name_behind : Token → Parser Name
+name_behind first = loop ended_by goes_on (λ ended. piece) false >>= (λ ts. pure (name_by (ends false ts) first ts))
+
+abbrev pub is_variable : Token → List Token → Bool
+is_variable first [] = variables first.kind
+is_variable first (t ∷ ts) = false
+
+abbrev pub variable_by : Bool → Token → Parser ExprTree
+variable_by true first = pure (tree.Variable first)
+variable_by false first = refuse
+
+unfoldable pub alone : PathTree → Parser ExprTree
+alone p = variable_by (is_variable p.first p.more) p.first
+
+-- what a sign makes
+abbrev pub under : Kind → ExprTree → ExprTree
+under k.Not = tree.Not
+under _ = tree.Minus
+
+module _ (may : Bool) (inner : Parser ExprTree) where
+  -- ---- lists
+
+  unfoldable pub next_argument : Parser ExprTree
+  next_argument = token k.Comma >> inner
+
+  unfoldable pub arguments_behind : ExprTree → Parser (List ExprTree)
+  arguments_behind first = many (only k.Comma) next_argument >>= (λ more. pure (first ∷ more))
+
+  unfoldable pub arguments : Parser (List ExprTree)
+  arguments = either firsts (inner >>= arguments_behind) (pure [])
+
+  unfoldable pub called : Parser (List ExprTree)
+  called = do
+    token k.LParen
+    found ← arguments
+    token k.RParen
+    pure found
+
+  unfoldable pub entry : Parser (Entry ExprTree)
+  entry = do
+    key ← take keys
+    token k.Colon
+    x ← inner
+    pure (record { key = key; value = x })
+
+  unfoldable pub next_entry : Parser (Entry ExprTree)
+  next_entry = token k.Comma >> entry
+
+  unfoldable pub entries_behind : Entry ExprTree → Parser (List (Entry ExprTree))
+  entries_behind first = many (only k.Comma) next_entry >>= (λ more. pure (first ∷ more))
+
+  unfoldable pub entries : Parser (List (Entry ExprTree))
+  entries = either keys (entry >>= entries_behind) (pure [])
+
+  -- ---- names
+
+  unfoldable pub call_of : PathTree → Parser ExprTree
+  call_of p = called >>= (λ found. pure (tree.Call p found))
+
+  unfoldable pub call_or_variable : PathTree → Parser ExprTree
+  call_or_variable p = either (only k.LParen) (gate may (call_of p)) (alone p)
+
+  abbrev pub named_as : Name → Parser ExprTree
+  named_as (name.Uid u) = pure (tree.Uid u)
+  named_as (name.Path p) = call_or_variable p
+
+  unfoldable pub named_behind : Token → Parser ExprTree
+  named_behind first = name_behind first >>= named_as
+
+  unfoldable pub named : Parser ExprTree
+  named = take identifiers >>= named_behind
+
+  -- ---- brackets
+
+  unfoldable pub parenthesized : Parser ExprTree
+  parenthesized = do
+    token k.LParen
+    x ← inner
+    token k.RParen
+    pure (tree.Parentheses x)
+
+  unfoldable pub set : Parser ExprTree
+  set = do
+    token k.LBracket
+    found ← arguments
+    token k.RBracket
+    pure (tree.Set found)
+
+  unfoldable pub braced : Parser ExprTree
+  braced = do
+    token k.LBrace
+    found ← entries
+    token k.RBrace
+    pure (tree.Record found)
+
+  unfoldable pub nested : Parser ExprTree
+  nested = either (only k.LParen) parenthesized (either (only k.LBracket) set braced)
+
+  unfoldable pub primary : Parser ExprTree
+  primary = either identifiers named (either openers (gate may nested) literal)
+
+  -- ---- accesses
+
+  unfoldable pub some_called : Parser (Option (List ExprTree))
+  some_called = called >>= (λ found. pure (Some found))
+
+  unfoldable pub maybe_called : Parser (Option (List ExprTree))
+  maybe_called = either (only k.LParen) (gate may some_called) (pure None)
+
+  unfoldable pub dotted : Parser (Access (List ExprTree))
+  dotted = do
+    token k.Dot
+    word ← take identifiers
+    found ← maybe_called
+    pure (accessed word found)
+
+  unfoldable pub accessing : Parser (Access (List ExprTree))
+  accessing = either (only k.Dot) dotted indexed
+
+  unfoldable pub accesses : Parser (List (Access (List ExprTree)))
+  accesses = many access_firsts accessing
+
+  unfoldable pub member : Parser ExprTree
+  member = do
+    x ← primary
+    more ← accesses
+    pure (joined tree.Member x more)
+
+  -- ---- operators
+
+  unfoldable pub signed : Kind → (ExprTree → ExprTree) → ℕ → Parser ExprTree
+  signed sign make zero = member
+  signed sign make (suc n) = either (only sign) (do token sign; x ← signed sign make n; pure (make x)) member
+
+  unfoldable pub unary : Parser ExprTree
+  unary = either (only k.Not) (do token k.Not; x ← signed k.Not tree.Not 3; pure (tree.Not x)) (signed k.Minus tree.Minus 4)
+
+  unfoldable pub factor : Parser ExprTree
+  factor = token k.Star >> unary
+
+  unfoldable pub factors : Parser (List ExprTree)
+  factors = many (only k.Star) factor
+
+  unfoldable pub product : Parser ExprTree
+  product = do
+    x ← unary
+    more ← factors
+    pure (joined tree.Product x more)
+
+  unfoldable pub term : Parser (Term ExprTree)
+  term = do
+    sign ← take signs
+    x ← product
+    pure (record { sign = sign; operand = x })
+
+  unfoldable pub terms : Parser (List (Term ExprTree))
+  terms = many signs term
+
+  unfoldable pub sum : Parser ExprTree
+  sum = do
+    x ← product
+    more ← terms
+    pure (joined tree.Sum x more)
+
+  unfoldable pub compared : ExprTree → Parser ExprTree
+  compared x = do
+    operator ← take comparisons
+    y ← sum
+    pure (tree.Compare x operator y)
+
+  unfoldable pub has : ExprTree → Parser ExprTree
+  has x = do
+    token k.Has
+    word ← take keys
+    pure (tree.Has x word)
+
+  unfoldable pub like : ExprTree → Parser ExprTree
+  like x = do
+    token k.Like
+    pattern_text ← take patterns
+    pure (tree.Like x pattern_text)
+
+  unfoldable pub inside : Parser ExprTree
+  inside = token k.In >> sum
+
+  unfoldable pub maybe_inside : Parser (Option ExprTree)
+  maybe_inside = optional (only k.In) inside
+
+  unfoldable pub typed : ExprTree → Parser ExprTree
+  typed x = do
+    token k.Is
+    type_name ← path
+    y ← maybe_inside
+    pure (is_in x type_name y)
+
+  unfoldable pub tested : ExprTree → Parser ExprTree
+  tested x = either (only k.Has) (has x) (either (only k.Like) (like x) (either (only k.Is) (typed x) (pure x)))
+
+  unfoldable pub related : ExprTree → Parser ExprTree
+  related x = either comparisons (compared x) (tested x)
+
+  unfoldable pub relation : Parser ExprTree
+  relation = sum >>= related
+
+  unfoldable pub next_and : Parser ExprTree
+  next_and = token k.And >> relation
+
+  unfoldable pub ands : Parser (List ExprTree)
+  ands = many (only k.And) next_and
+
+  unfoldable pub conjunction : Parser ExprTree
+  conjunction = do
+    x ← relation
+    more ← ands
+    pure (joined tree.And x more)
+
+  unfoldable pub next_or : Parser ExprTree
+  next_or = token k.Or >> conjunction
+
+  unfoldable pub ors : Parser (List ExprTree)
+  ors = many (only k.Or) next_or
+
+  unfoldable pub disjunction : Parser ExprTree
+  disjunction = do
+    x ← conjunction
+    more ← ors
+    pure (joined tree.Or x more)
+
+  unfoldable pub alternative : Parser ExprTree
+  alternative = token k.Else >> inner
+
+  unfoldable pub consequent : Parser ExprTree
+  consequent = token k.Then >> inner
+
+  unfoldable pub decided : ExprTree → ExprTree → Parser ExprTree
+  decided test then_tree = alternative >>= (λ else_tree. pure (tree.If test then_tree else_tree))
+
+  unfoldable pub tried : ExprTree → Parser ExprTree
+  tried test = consequent >>= decided test
+
+  unfoldable pub conditional : Parser ExprTree
+  conditional = do
+    token k.If
+    test ← inner
+    tried test
+
+  unfoldable pub level : Parser ExprTree
+  level = either (only k.If) (gate may conditional) disjunction
+
+unfoldable pub expr : ℕ → Parser ExprTree
+expr zero = too_deep
+expr (suc levels) = level (is_positive levels) (expr levels)

@@ -1,0 +1,277 @@
+-- The grammar of expressions, over tokens: which trees a list of tokens derives. One definition for each production.
+-- Source: Cedar reference guide 4.0, "Grammar specification for Cedar policy syntax". Rules of this product: a variable's word with `::` or
+-- `(` behind it is a Path, and expressions nest at most so deep.
+use Rattle.std.specs.Prelude.{ℕ, zero, suc, Bool, true, false, List, [], ◌∷◌, Option, Some, None}
+use Rattle.policy_tokens.specs.declared.token.Kind.{Kind}
+use Rattle.policy_tokens.specs.declared.token.Kind.TheVariants as k
+use Rattle.policy_tokens.specs.declared.token.Token.{Token}
+use Rattle.expression_syntax.specs.declared.tree.PathTree.{PathTree}
+use Rattle.expression_syntax.specs.declared.tree.Access.{Access}
+use Rattle.expression_syntax.specs.declared.tree.Access.TheVariants as access
+use Rattle.expression_syntax.specs.declared.tree.Entry.{Entry}
+use Rattle.expression_syntax.specs.declared.tree.Term.{Term}
+use Rattle.expression_syntax.specs.declared.tree.ExprTree.{ExprTree}
+use Rattle.expression_syntax.specs.declared.tree.ExprTree.TheVariants as tree
+use Rattle.expression_syntax.specs.Kinds.{Kinds}
+use Rattle.expression_syntax.specs.Lang.{Lang, of, one, empty, ◌>>=◌, ◌>>◌, ◌giving◌, ◌or◌, optional, many, never, at_any, gate}
+use Rattle.expression_syntax.specs.Grammar.{identifiers, path, uid}
+
+-- "true" | "false"
+abbrev pub booleans : Kinds
+booleans k.True = true
+booleans k.False = true
+booleans _ = false
+
+-- Variable = "principal" | "action" | "resource" | "context"
+abbrev pub variables : Kinds
+variables k.Principal = true
+variables k.Action = true
+variables k.Resource = true
+variables k.Context = true
+variables _ = false
+
+-- Key = Ident | String
+abbrev pub keys : Kinds
+keys k.Text = true
+keys kind = identifiers kind
+
+-- Pattern: a String, in which `\*` may stand
+abbrev pub patterns : Kinds
+patterns k.Text = true
+patterns k.StarText = true
+patterns _ = false
+
+-- "+" | "-"
+abbrev pub signs : Kinds
+signs k.Plus = true
+signs k.Minus = true
+signs _ = false
+
+-- "<" | "<=" | ">" | ">=" | "==" | "!=" | "in"
+abbrev pub comparisons : Kinds
+comparisons k.Less = true
+comparisons k.LessEqual = true
+comparisons k.Greater = true
+comparisons k.GreaterEqual = true
+comparisons k.Equal = true
+comparisons k.NotEqual = true
+comparisons k.In = true
+comparisons _ = false
+
+-- an expression with what stands behind it, or alone where nothing does
+abbrev pub joined : {A : Type 0} → (ExprTree → List A → ExprTree) → ExprTree → List A → ExprTree
+joined make x [] = x
+joined make x (next ∷ more) = make x (next ∷ more)
+
+abbrev pub accessed : Token → Option (List ExprTree) → Access (List ExprTree)
+accessed name None = access.Field name
+accessed name (Some arguments) = access.Method name arguments
+
+abbrev pub is_in : ExprTree → PathTree → Option ExprTree → ExprTree
+is_in x type_name None = tree.Is x type_name
+is_in x type_name (Some y) = tree.IsIn x type_name y
+
+-- First { Piece }
+abbrev pub chain : {A : Type 0} → Lang ExprTree → Lang A → (ExprTree → List A → ExprTree) → Lang ExprTree
+chain first piece make = do
+  x ← first
+  more ← many piece
+  empty (joined make x more)
+
+-- Literal = "true" | "false" | Number | String
+abbrev pub literal : Lang ExprTree
+literal = (of booleans giving tree.Boolean) or (one k.Number giving tree.Number) or (one k.Text giving tree.Text)
+
+-- "[" String "]"
+abbrev pub indexed : Lang (Access (List ExprTree))
+indexed = do
+  one k.LBracket
+  name ← one k.Text
+  one k.RBracket
+  empty (access.Field name)
+
+-- whether one more level of nesting may be opened, and the expressions of that level
+module _ (may : Bool) (inner : Lang ExprTree) where
+  -- Arguments = [ Expr { "," Expr } ]
+  abbrev pub arguments : Lang (List ExprTree)
+  arguments = (do first ← inner; more ← many (one k.Comma >> inner); empty (first ∷ more)) or empty []
+
+  -- "(" Arguments ")"
+  abbrev pub called : Lang (List ExprTree)
+  called = do
+    one k.LParen
+    found ← arguments
+    one k.RParen
+    empty found
+
+  -- Call = Path "(" Arguments ")"
+  abbrev pub call : Lang ExprTree
+  call = do
+    name ← path
+    found ← called
+    empty (tree.Call name found)
+
+  -- Named = Variable | Uid | Call
+  abbrev pub named : Lang ExprTree
+  named = (of variables giving tree.Variable) or (uid giving tree.Uid) or gate may call
+
+  -- "(" Expr ")"
+  abbrev pub parenthesized : Lang ExprTree
+  parenthesized = do
+    one k.LParen
+    x ← inner
+    one k.RParen
+    empty (tree.Parentheses x)
+
+  -- "[" Arguments "]"
+  abbrev pub set : Lang ExprTree
+  set = do
+    one k.LBracket
+    found ← arguments
+    one k.RBracket
+    empty (tree.Set found)
+
+  -- Key ":" Expr
+  abbrev pub entry : Lang (Entry ExprTree)
+  entry = do
+    key ← of keys
+    one k.Colon
+    x ← inner
+    empty (record { key = key; value = x })
+
+  -- [ Key ":" Expr { "," Key ":" Expr } ]
+  abbrev pub entries : Lang (List (Entry ExprTree))
+  entries = (do first ← entry; more ← many (one k.Comma >> entry); empty (first ∷ more)) or empty []
+
+  -- "{" [ Key ":" Expr { "," Key ":" Expr } ] "}"
+  abbrev pub braced : Lang ExprTree
+  braced = do
+    one k.LBrace
+    found ← entries
+    one k.RBrace
+    empty (tree.Record found)
+
+  abbrev pub nested : Lang ExprTree
+  nested = parenthesized or set or braced
+
+  -- Primary = Variable | Uid | Call | "(" Expr ")" | "[" Arguments "]" | "{" [ Key ":" Expr { "," Key ":" Expr } ] "}" | Literal
+  abbrev pub primary : Lang ExprTree
+  primary = named or gate may nested or literal
+
+  -- [ "(" Arguments ")" ]
+  abbrev pub maybe_called : Lang (Option (List ExprTree))
+  maybe_called = gate may (called giving Some) or empty None
+
+  -- "." Ident [ "(" Arguments ")" ]
+  abbrev pub dotted : Lang (Access (List ExprTree))
+  dotted = do
+    one k.Dot
+    name ← of identifiers
+    found ← maybe_called
+    empty (accessed name found)
+
+  -- Member = Primary { "." Ident [ "(" Arguments ")" ] | "[" String "]" }
+  abbrev pub member : Lang ExprTree
+  member = chain primary (dotted or indexed) tree.Member
+
+  -- so many of a sign at most, and a Member
+  abbrev pub signed : Kind → (ExprTree → ExprTree) → ℕ → Lang ExprTree
+  signed sign make zero = member
+  signed sign make (suc n) = (do one sign; x ← signed sign make n; empty (make x)) or member
+
+  -- Unary = up to four "!" Member | up to four "-" Member
+  abbrev pub unary : Lang ExprTree
+  unary = signed k.Not tree.Not 4 or signed k.Minus tree.Minus 4
+
+  -- Product = Unary { "*" Unary }
+  abbrev pub product : Lang ExprTree
+  product = chain unary (one k.Star >> unary) tree.Product
+
+  -- ("+" | "-") Product
+  abbrev pub term : Lang (Term ExprTree)
+  term = do
+    sign ← of signs
+    x ← product
+    empty (record { sign = sign; operand = x })
+
+  -- Sum = Product { ("+" | "-") Product }
+  abbrev pub sum : Lang ExprTree
+  sum = chain product term tree.Sum
+
+  -- ("<" | "<=" | ">" | ">=" | "==" | "!=" | "in") Sum
+  abbrev pub compared : ExprTree → Lang ExprTree
+  compared x = do
+    operator ← of comparisons
+    y ← sum
+    empty (tree.Compare x operator y)
+
+  -- "has" (Ident | String)
+  abbrev pub has : ExprTree → Lang ExprTree
+  has x = do
+    one k.Has
+    name ← of keys
+    empty (tree.Has x name)
+
+  -- "like" Pattern
+  abbrev pub like : ExprTree → Lang ExprTree
+  like x = do
+    one k.Like
+    pattern_text ← of patterns
+    empty (tree.Like x pattern_text)
+
+  -- "in" Sum
+  abbrev pub inside : Lang ExprTree
+  inside = one k.In >> sum
+
+  -- "is" Path [ "in" Sum ]
+  abbrev pub typed : ExprTree → Lang ExprTree
+  typed x = do
+    one k.Is
+    type_name ← path
+    y ← optional inside
+    empty (is_in x type_name y)
+
+  -- Relation = Sum [ ("<" | "<=" | ">" | ">=" | "==" | "!=" | "in") Sum | "has" (Ident | String) | "like" Pattern | "is" Path [ "in" Sum ] ]
+  abbrev pub relation : Lang ExprTree
+  relation = do
+    x ← sum
+    compared x or has x or like x or typed x or empty x
+
+  -- And = Relation { "&&" Relation }
+  abbrev pub conjunction : Lang ExprTree
+  conjunction = chain relation (one k.And >> relation) tree.And
+
+  -- Or = And { "||" And }
+  abbrev pub disjunction : Lang ExprTree
+  disjunction = chain conjunction (one k.Or >> conjunction) tree.Or
+
+  -- "if" Expr "then" Expr "else" Expr
+  abbrev pub conditional : Lang ExprTree
+  conditional = do
+    one k.If
+    test ← inner
+    consequent ← one k.Then >> inner
+    alternative ← one k.Else >> inner
+    empty (tree.If test consequent alternative)
+
+  -- Expr = "if" Expr "then" Expr "else" Expr | Or
+  abbrev pub level : Lang ExprTree
+  level = gate may conditional or disjunction
+
+abbrev pub is_positive : ℕ → Bool
+is_positive zero = false
+is_positive (suc n) = true
+
+-- Expr, with so many levels of nesting at most: its own, and one more for what stands in parentheses, brackets, braces or call arguments, and
+-- for each part of an `if`.
+unfoldable pub expr : ℕ → Lang ExprTree
+expr zero = never
+expr (suc levels) = level (is_positive levels) (expr levels)
+
+-- the most levels
+abbrev pub nesting_limit : ℕ
+nesting_limit = 64
+
+-- Expr, however deep it nests
+abbrev pub any_expr : Lang ExprTree
+any_expr = at_any expr

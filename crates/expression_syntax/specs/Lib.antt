@@ -1,0 +1,11 @@
+pub mod Kinds
+pub mod Lang
+pub mod Grammar
+pub mod Reads
+pub mod Stands
+pub mod Reading
+pub mod Parsing
+pub mod Gives
+pub mod Expressions
+pub mod ExpressionReading
+pub mod Nests

@@ -1,0 +1,118 @@
+//! Expressions.
+
+ghost use Rattle.std.specs.Prelude.{◌≡◌, IfOk};
+ghost use Rattle.expression_syntax.specs.ExpressionReading as spec;
+ghost use Rattle.expression_syntax.specs.Expressions.{is_positive};
+ghost use Rattle.expression_syntax.specs.Gives.{Gives};
+ghost use Rattle.expression_syntax.specs.Nests.{Nests};
+ghost use Rattle.expression_syntax.specs.declared.tree.ExprTree.TheVariants as tree;
+
+use crate::cursor::Cursor;
+use crate::fault::Halt;
+use crate::primary::Reader;
+use crate::tree::ExprTree;
+use plain::Boxed;
+use policy_tokens::Kind;
+use std::alloc::{AllocError, Global};
+
+fn if_of(
+    alloc: Global,
+    test: ExprTree,
+    consequent: ExprTree,
+    alternative: ExprTree,
+) -> Result<ExprTree, AllocError>
+    ensures { IfOk result (λ e. e ≡ tree.If test consequent alternative) }
+{
+    Ok(ExprTree::If(
+        Boxed::new(alloc, test)?,
+        Boxed::new(alloc, consequent)?,
+        Boxed::new(alloc, alternative)?,
+    ))
+}
+
+impl<F: Fn(Global, &mut Cursor<'_>, usize) -> Result<ExprTree, Halt>> Reader<F> {
+    /// "else" Expr
+    #[tactic(auto, unfolding(crate::specs::ExpressionReading::alternative))]
+    fn alternative(&self, tokens: &mut Cursor<'_>) -> Result<ExprTree, Halt>
+        requires { Nests self.now.levels (F.pre self.now.expr) (F.post self.now.expr) }
+        ensures { Gives (spec.alternative (is_positive self.now.levels) (spec.expr self.now.levels) tokens.old.rest.now) result tokens.new.rest.now }
+    {
+        tokens.take(Kind::Else)?;
+        self.inner(tokens)
+    }
+
+    /// "then" Expr
+    #[tactic(auto, unfolding(crate::specs::ExpressionReading::consequent))]
+    fn consequent(&self, tokens: &mut Cursor<'_>) -> Result<ExprTree, Halt>
+        requires { Nests self.now.levels (F.pre self.now.expr) (F.post self.now.expr) }
+        ensures { Gives (spec.consequent (is_positive self.now.levels) (spec.expr self.now.levels) tokens.old.rest.now) result tokens.new.rest.now }
+    {
+        tokens.take(Kind::Then)?;
+        self.inner(tokens)
+    }
+
+    #[tactic(auto, unfolding(crate::specs::ExpressionReading::decided))]
+    fn decided(
+        &self,
+        tokens: &mut Cursor<'_>,
+        test: ExprTree,
+        consequent: ExprTree,
+    ) -> Result<ExprTree, Halt>
+        requires { Nests self.now.levels (F.pre self.now.expr) (F.post self.now.expr) }
+        ensures { Gives (spec.decided (is_positive self.now.levels) (spec.expr self.now.levels) test consequent tokens.old.rest.now) result tokens.new.rest.now }
+    {
+        let alternative = self.alternative(tokens)?;
+        Ok(if_of(self.alloc, test, consequent, alternative)?)
+    }
+
+    #[tactic(auto, unfolding(crate::specs::ExpressionReading::tried))]
+    fn tried(&self, tokens: &mut Cursor<'_>, test: ExprTree) -> Result<ExprTree, Halt>
+        requires { Nests self.now.levels (F.pre self.now.expr) (F.post self.now.expr) }
+        ensures { Gives (spec.tried (is_positive self.now.levels) (spec.expr self.now.levels) test tokens.old.rest.now) result tokens.new.rest.now }
+    {
+        let consequent = self.consequent(tokens)?;
+        self.decided(tokens, test, consequent)
+    }
+
+    /// "if" Expr "then" Expr "else" Expr
+    #[tactic(auto, unfolding(crate::specs::ExpressionReading::conditional))]
+    fn conditional(&self, tokens: &mut Cursor<'_>) -> Result<ExprTree, Halt>
+        requires { Nests self.now.levels (F.pre self.now.expr) (F.post self.now.expr) }
+        ensures { Gives (spec.conditional (is_positive self.now.levels) (spec.expr self.now.levels) tokens.old.rest.now) result tokens.new.rest.now }
+    {
+        tokens.take(Kind::If)?;
+        let test = self.inner(tokens)?;
+        self.tried(tokens, test)
+    }
+
+    /// "if" Expr "then" Expr "else" Expr | Or
+    #[tactic(auto, unfolding(crate::specs::ExpressionReading::level))]
+    fn level(&self, tokens: &mut Cursor<'_>) -> Result<ExprTree, Halt>
+        requires { Nests self.now.levels (F.pre self.now.expr) (F.post self.now.expr) }
+        ensures { Gives (spec.level (is_positive self.now.levels) (spec.expr self.now.levels) tokens.old.rest.now) result tokens.new.rest.now }
+    {
+        if !tokens.sees(Kind::If) {
+            return self.disjunction(tokens);
+        }
+        if self.levels == 0 {
+            return Err(Halt::TooDeep);
+        }
+        self.conditional(tokens)
+    }
+}
+
+/// An expression with so many levels of nesting at most, its own being one. The tokens that are
+/// left afterwards begin behind it, or with the one at which reading halts.
+pub fn expr(alloc: Global, tokens: &mut Cursor<'_>, levels: usize) -> Result<ExprTree, Halt>
+    ensures { Gives (spec.expr levels tokens.old.rest.now) result tokens.new.rest.now }
+{
+    if levels == 0 {
+        return Err(Halt::TooDeep);
+    }
+    Reader {
+        alloc,
+        levels: levels - 1,
+        expr,
+    }
+    .level(tokens)
+}

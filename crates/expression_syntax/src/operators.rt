@@ -1,0 +1,474 @@
+//! Accesses and operators, from the one that binds most.
+
+ghost use Rattle.std.specs.Prelude.{◌≡◌, IfOk};
+ghost use Rattle.expression_syntax.specs.ExpressionReading as spec;
+ghost use Rattle.expression_syntax.specs.Expressions.{is_positive, joined, accessed, is_in};
+ghost use Rattle.expression_syntax.specs.Gives.{Gives};
+ghost use Rattle.expression_syntax.specs.Nests.{Nests};
+ghost use Rattle.expression_syntax.specs.declared.tree.ExprTree.TheVariants as tree;
+
+use crate::cursor::Cursor;
+use crate::fault::Halt;
+use crate::names::path;
+use crate::primary::{Reader, indexed};
+use crate::tree::{Access, ExprTree, PathTree, Term};
+use plain::{Boxed, Items};
+use policy_tokens::{Kind, Token};
+use std::alloc::{AllocError, Global};
+
+fn member_of(
+    alloc: Global,
+    first: ExprTree,
+    more: Items<Access<Items<ExprTree>>>,
+) -> Result<ExprTree, AllocError>
+    ensures { IfOk result (λ e. e ≡ joined tree.Member first more) }
+{
+    match more.as_slice() {
+        [] => Ok(first),
+        _ => Ok(ExprTree::Member(Boxed::new(alloc, first)?, more)),
+    }
+}
+
+fn product_of(alloc: Global, first: ExprTree, more: Items<ExprTree>) -> Result<ExprTree, AllocError>
+    ensures { IfOk result (λ e. e ≡ joined tree.Product first more) }
+{
+    match more.as_slice() {
+        [] => Ok(first),
+        _ => Ok(ExprTree::Product(Boxed::new(alloc, first)?, more)),
+    }
+}
+
+fn sum_of(
+    alloc: Global,
+    first: ExprTree,
+    more: Items<Term<ExprTree>>,
+) -> Result<ExprTree, AllocError>
+    ensures { IfOk result (λ e. e ≡ joined tree.Sum first more) }
+{
+    match more.as_slice() {
+        [] => Ok(first),
+        _ => Ok(ExprTree::Sum(Boxed::new(alloc, first)?, more)),
+    }
+}
+
+fn and_of(alloc: Global, first: ExprTree, more: Items<ExprTree>) -> Result<ExprTree, AllocError>
+    ensures { IfOk result (λ e. e ≡ joined tree.And first more) }
+{
+    match more.as_slice() {
+        [] => Ok(first),
+        _ => Ok(ExprTree::And(Boxed::new(alloc, first)?, more)),
+    }
+}
+
+fn or_of(alloc: Global, first: ExprTree, more: Items<ExprTree>) -> Result<ExprTree, AllocError>
+    ensures { IfOk result (λ e. e ≡ joined tree.Or first more) }
+{
+    match more.as_slice() {
+        [] => Ok(first),
+        _ => Ok(ExprTree::Or(Boxed::new(alloc, first)?, more)),
+    }
+}
+
+fn under(alloc: Global, sign: Kind, x: ExprTree) -> Result<ExprTree, AllocError>
+    ensures { IfOk result (λ e. e ≡ spec.under sign x) }
+{
+    let x = Boxed::new(alloc, x)?;
+    match sign {
+        Kind::Not => Ok(ExprTree::Not(x)),
+        _ => Ok(ExprTree::Minus(x)),
+    }
+}
+
+fn compare(alloc: Global, x: ExprTree, operator: Token, y: ExprTree) -> Result<ExprTree, AllocError>
+    ensures { IfOk result (λ e. e ≡ tree.Compare x operator y) }
+{
+    Ok(ExprTree::Compare(Boxed::new(alloc, x)?, operator, Boxed::new(alloc, y)?))
+}
+
+fn has_of(alloc: Global, x: ExprTree, name: Token) -> Result<ExprTree, AllocError>
+    ensures { IfOk result (λ e. e ≡ tree.Has x name) }
+{
+    Ok(ExprTree::Has(Boxed::new(alloc, x)?, name))
+}
+
+fn like_of(alloc: Global, x: ExprTree, text: Token) -> Result<ExprTree, AllocError>
+    ensures { IfOk result (λ e. e ≡ tree.Like x text) }
+{
+    Ok(ExprTree::Like(Boxed::new(alloc, x)?, text))
+}
+
+fn is_of(
+    alloc: Global,
+    x: ExprTree,
+    type_name: PathTree,
+    entity: Option<ExprTree>,
+) -> Result<ExprTree, AllocError>
+    ensures { IfOk result (λ e. e ≡ is_in x type_name entity) }
+{
+    let x = Boxed::new(alloc, x)?;
+    match entity {
+        None => Ok(ExprTree::Is(x, type_name)),
+        Some(entity) => Ok(ExprTree::IsIn(x, type_name, Boxed::new(alloc, entity)?)),
+    }
+}
+
+fn access(name: Token, found: Option<Items<ExprTree>>) -> Access<Items<ExprTree>>
+    ensures { result ≡ accessed name found }
+{
+    match found {
+        None => Access::Field(name),
+        Some(found) => Access::Method(name, found),
+    }
+}
+
+impl<F: Fn(Global, &mut Cursor<'_>, usize) -> Result<ExprTree, Halt>> Reader<F> {
+    #[tactic(auto, unfolding(crate::specs::ExpressionReading::some_called))]
+    fn some_called(&self, tokens: &mut Cursor<'_>) -> Result<Option<Items<ExprTree>>, Halt>
+        requires { Nests self.now.levels (F.pre self.now.expr) (F.post self.now.expr) }
+        ensures { Gives (spec.some_called (is_positive self.now.levels) (spec.expr self.now.levels) tokens.old.rest.now) result tokens.new.rest.now }
+    {
+        let found = self.called(tokens)?;
+        Ok(Some(found))
+    }
+
+    /// [ "(" Arguments ")" ]
+    #[tactic(auto, unfolding(crate::specs::ExpressionReading::maybe_called))]
+    fn maybe_called(&self, tokens: &mut Cursor<'_>) -> Result<Option<Items<ExprTree>>, Halt>
+        requires { Nests self.now.levels (F.pre self.now.expr) (F.post self.now.expr) }
+        ensures { Gives (spec.maybe_called (is_positive self.now.levels) (spec.expr self.now.levels) tokens.old.rest.now) result tokens.new.rest.now }
+    {
+        if !tokens.sees(Kind::LParen) {
+            return Ok(None);
+        }
+        if self.levels == 0 {
+            return Err(Halt::TooDeep);
+        }
+        self.some_called(tokens)
+    }
+
+    /// "." Ident [ "(" Arguments ")" ]
+    #[tactic(auto, unfolding(crate::specs::ExpressionReading::dotted))]
+    fn dotted(&self, tokens: &mut Cursor<'_>) -> Result<Access<Items<ExprTree>>, Halt>
+        requires { Nests self.now.levels (F.pre self.now.expr) (F.post self.now.expr) }
+        ensures { Gives (spec.dotted (is_positive self.now.levels) (spec.expr self.now.levels) tokens.old.rest.now) result tokens.new.rest.now }
+    {
+        tokens.take(Kind::Dot)?;
+        let name = tokens.take_identifier()?;
+        let found = self.maybe_called(tokens)?;
+        Ok(access(name, found))
+    }
+
+    #[tactic(auto, unfolding(crate::specs::ExpressionReading::accessing))]
+    fn accessing(&self, tokens: &mut Cursor<'_>) -> Result<Access<Items<ExprTree>>, Halt>
+        requires { Nests self.now.levels (F.pre self.now.expr) (F.post self.now.expr) }
+        ensures { Gives (spec.accessing (is_positive self.now.levels) (spec.expr self.now.levels) tokens.old.rest.now) result tokens.new.rest.now }
+    {
+        if tokens.sees(Kind::Dot) {
+            return self.dotted(tokens);
+        }
+        indexed(tokens)
+    }
+
+    fn accesses(&self, tokens: &mut Cursor<'_>) -> Result<Items<Access<Items<ExprTree>>>, Halt>
+        requires { Nests self.now.levels (F.pre self.now.expr) (F.post self.now.expr) }
+        ensures { Gives (spec.accesses (is_positive self.now.levels) (spec.expr self.now.levels) tokens.old.rest.now) result tokens.new.rest.now }
+    {
+        let mut found = Items::new(self.alloc);
+        for _turn in 0..tokens.left() {
+            if !tokens.sees_access() {
+                return Ok(found);
+            }
+            let next = self.accessing(tokens)?;
+            found.push(next)?;
+        }
+        Ok(found)
+    }
+
+    /// Primary { "." Ident [ "(" Arguments ")" ] | "[" String "]" }
+    #[tactic(auto, unfolding(crate::specs::ExpressionReading::member))]
+    fn member(&self, tokens: &mut Cursor<'_>) -> Result<ExprTree, Halt>
+        requires { Nests self.now.levels (F.pre self.now.expr) (F.post self.now.expr) }
+        ensures { Gives (spec.member (is_positive self.now.levels) (spec.expr self.now.levels) tokens.old.rest.now) result tokens.new.rest.now }
+    {
+        let first = self.primary(tokens)?;
+        let more = self.accesses(tokens)?;
+        Ok(member_of(self.alloc, first, more)?)
+    }
+
+    /// So many of a sign at most, and a Member.
+    fn signed(&self, tokens: &mut Cursor<'_>, sign: Kind, most: u8) -> Result<ExprTree, Halt>
+        requires { Nests self.now.levels (F.pre self.now.expr) (F.post self.now.expr) }
+        ensures { Gives (spec.signed (is_positive self.now.levels) (spec.expr self.now.levels) sign (spec.under sign) most tokens.old.rest.now) result tokens.new.rest.now }
+    {
+        if most == 0 {
+            return self.member(tokens);
+        }
+        if !tokens.sees(sign) {
+            return self.member(tokens);
+        }
+        tokens.take(sign)?;
+        let x = self.signed(tokens, sign, most - 1)?;
+        Ok(under(self.alloc, sign, x)?)
+    }
+
+    /// Up to four "!" Member | up to four "-" Member
+    #[tactic(auto, unfolding(crate::specs::ExpressionReading::unary))]
+    fn unary(&self, tokens: &mut Cursor<'_>) -> Result<ExprTree, Halt>
+        requires { Nests self.now.levels (F.pre self.now.expr) (F.post self.now.expr) }
+        ensures { Gives (spec.unary (is_positive self.now.levels) (spec.expr self.now.levels) tokens.old.rest.now) result tokens.new.rest.now }
+    {
+        if !tokens.sees(Kind::Not) {
+            return self.signed(tokens, Kind::Minus, 4);
+        }
+        tokens.take(Kind::Not)?;
+        let x = self.signed(tokens, Kind::Not, 3)?;
+        Ok(under(self.alloc, Kind::Not, x)?)
+    }
+
+    #[tactic(auto, unfolding(crate::specs::ExpressionReading::factor))]
+    fn factor(&self, tokens: &mut Cursor<'_>) -> Result<ExprTree, Halt>
+        requires { Nests self.now.levels (F.pre self.now.expr) (F.post self.now.expr) }
+        ensures { Gives (spec.factor (is_positive self.now.levels) (spec.expr self.now.levels) tokens.old.rest.now) result tokens.new.rest.now }
+    {
+        tokens.take(Kind::Star)?;
+        self.unary(tokens)
+    }
+
+    fn factors(&self, tokens: &mut Cursor<'_>) -> Result<Items<ExprTree>, Halt>
+        requires { Nests self.now.levels (F.pre self.now.expr) (F.post self.now.expr) }
+        ensures { Gives (spec.factors (is_positive self.now.levels) (spec.expr self.now.levels) tokens.old.rest.now) result tokens.new.rest.now }
+    {
+        let mut found = Items::new(self.alloc);
+        for _turn in 0..tokens.left() {
+            if !tokens.sees(Kind::Star) {
+                return Ok(found);
+            }
+            let next = self.factor(tokens)?;
+            found.push(next)?;
+        }
+        Ok(found)
+    }
+
+    /// Unary { "*" Unary }
+    #[tactic(auto, unfolding(crate::specs::ExpressionReading::product))]
+    fn product(&self, tokens: &mut Cursor<'_>) -> Result<ExprTree, Halt>
+        requires { Nests self.now.levels (F.pre self.now.expr) (F.post self.now.expr) }
+        ensures { Gives (spec.product (is_positive self.now.levels) (spec.expr self.now.levels) tokens.old.rest.now) result tokens.new.rest.now }
+    {
+        let first = self.unary(tokens)?;
+        let more = self.factors(tokens)?;
+        Ok(product_of(self.alloc, first, more)?)
+    }
+
+    /// ("+" | "-") Product
+    #[tactic(auto, unfolding(crate::specs::ExpressionReading::term))]
+    fn term(&self, tokens: &mut Cursor<'_>) -> Result<Term<ExprTree>, Halt>
+        requires { Nests self.now.levels (F.pre self.now.expr) (F.post self.now.expr) }
+        ensures { Gives (spec.term (is_positive self.now.levels) (spec.expr self.now.levels) tokens.old.rest.now) result tokens.new.rest.now }
+    {
+        let sign = tokens.take_sign()?;
+        let operand = self.product(tokens)?;
+        Ok(Term { sign, operand })
+    }
+
+    fn terms(&self, tokens: &mut Cursor<'_>) -> Result<Items<Term<ExprTree>>, Halt>
+        requires { Nests self.now.levels (F.pre self.now.expr) (F.post self.now.expr) }
+        ensures { Gives (spec.terms (is_positive self.now.levels) (spec.expr self.now.levels) tokens.old.rest.now) result tokens.new.rest.now }
+    {
+        let mut found = Items::new(self.alloc);
+        for _turn in 0..tokens.left() {
+            if !tokens.sees_sign() {
+                return Ok(found);
+            }
+            let next = self.term(tokens)?;
+            found.push(next)?;
+        }
+        Ok(found)
+    }
+
+    /// Product { ("+" | "-") Product }
+    #[tactic(auto, unfolding(crate::specs::ExpressionReading::sum))]
+    fn sum(&self, tokens: &mut Cursor<'_>) -> Result<ExprTree, Halt>
+        requires { Nests self.now.levels (F.pre self.now.expr) (F.post self.now.expr) }
+        ensures { Gives (spec.sum (is_positive self.now.levels) (spec.expr self.now.levels) tokens.old.rest.now) result tokens.new.rest.now }
+    {
+        let first = self.product(tokens)?;
+        let more = self.terms(tokens)?;
+        Ok(sum_of(self.alloc, first, more)?)
+    }
+
+    /// ("<" | "<=" | ">" | ">=" | "==" | "!=" | "in") Sum
+    #[tactic(auto, unfolding(crate::specs::ExpressionReading::compared))]
+    fn compared(&self, tokens: &mut Cursor<'_>, x: ExprTree) -> Result<ExprTree, Halt>
+        requires { Nests self.now.levels (F.pre self.now.expr) (F.post self.now.expr) }
+        ensures { Gives (spec.compared (is_positive self.now.levels) (spec.expr self.now.levels) x tokens.old.rest.now) result tokens.new.rest.now }
+    {
+        let operator = tokens.take_comparison()?;
+        let y = self.sum(tokens)?;
+        Ok(compare(self.alloc, x, operator, y)?)
+    }
+
+    /// "has" (Ident | String)
+    #[tactic(auto, unfolding(crate::specs::ExpressionReading::has))]
+    fn has(&self, tokens: &mut Cursor<'_>, x: ExprTree) -> Result<ExprTree, Halt>
+        requires { Nests self.now.levels (F.pre self.now.expr) (F.post self.now.expr) }
+        ensures { Gives (spec.has (is_positive self.now.levels) (spec.expr self.now.levels) x tokens.old.rest.now) result tokens.new.rest.now }
+    {
+        tokens.take(Kind::Has)?;
+        let name = tokens.take_key()?;
+        Ok(has_of(self.alloc, x, name)?)
+    }
+
+    /// "like" Pattern
+    #[tactic(auto, unfolding(crate::specs::ExpressionReading::like))]
+    fn like(&self, tokens: &mut Cursor<'_>, x: ExprTree) -> Result<ExprTree, Halt>
+        requires { Nests self.now.levels (F.pre self.now.expr) (F.post self.now.expr) }
+        ensures { Gives (spec.like (is_positive self.now.levels) (spec.expr self.now.levels) x tokens.old.rest.now) result tokens.new.rest.now }
+    {
+        tokens.take(Kind::Like)?;
+        let text = tokens.take_pattern()?;
+        Ok(like_of(self.alloc, x, text)?)
+    }
+
+    #[tactic(auto, unfolding(crate::specs::ExpressionReading::inside))]
+    fn inside(&self, tokens: &mut Cursor<'_>) -> Result<ExprTree, Halt>
+        requires { Nests self.now.levels (F.pre self.now.expr) (F.post self.now.expr) }
+        ensures { Gives (spec.inside (is_positive self.now.levels) (spec.expr self.now.levels) tokens.old.rest.now) result tokens.new.rest.now }
+    {
+        tokens.take(Kind::In)?;
+        self.sum(tokens)
+    }
+
+    /// [ "in" Sum ]
+    #[tactic(auto, unfolding(crate::specs::ExpressionReading::maybe_inside))]
+    fn maybe_inside(&self, tokens: &mut Cursor<'_>) -> Result<Option<ExprTree>, Halt>
+        requires { Nests self.now.levels (F.pre self.now.expr) (F.post self.now.expr) }
+        ensures { Gives (spec.maybe_inside (is_positive self.now.levels) (spec.expr self.now.levels) tokens.old.rest.now) result tokens.new.rest.now }
+    {
+        if !tokens.sees(Kind::In) {
+            return Ok(None);
+        }
+        let entity = self.inside(tokens)?;
+        Ok(Some(entity))
+    }
+
+    /// "is" Path [ "in" Sum ]
+    #[tactic(auto, unfolding(crate::specs::ExpressionReading::typed))]
+    fn typed(&self, tokens: &mut Cursor<'_>, x: ExprTree) -> Result<ExprTree, Halt>
+        requires { Nests self.now.levels (F.pre self.now.expr) (F.post self.now.expr) }
+        ensures { Gives (spec.typed (is_positive self.now.levels) (spec.expr self.now.levels) x tokens.old.rest.now) result tokens.new.rest.now }
+    {
+        tokens.take(Kind::Is)?;
+        let type_name = path(self.alloc, tokens)?;
+        let entity = self.maybe_inside(tokens)?;
+        Ok(is_of(self.alloc, x, type_name, entity)?)
+    }
+
+    #[tactic(auto, unfolding(crate::specs::ExpressionReading::tested))]
+    fn tested(&self, tokens: &mut Cursor<'_>, x: ExprTree) -> Result<ExprTree, Halt>
+        requires { Nests self.now.levels (F.pre self.now.expr) (F.post self.now.expr) }
+        ensures { Gives (spec.tested (is_positive self.now.levels) (spec.expr self.now.levels) x tokens.old.rest.now) result tokens.new.rest.now }
+    {
+        if tokens.sees(Kind::Has) {
+            return self.has(tokens, x);
+        }
+        if tokens.sees(Kind::Like) {
+            return self.like(tokens, x);
+        }
+        if tokens.sees(Kind::Is) {
+            return self.typed(tokens, x);
+        }
+        Ok(x)
+    }
+
+    #[tactic(auto, unfolding(crate::specs::ExpressionReading::related))]
+    fn related(&self, tokens: &mut Cursor<'_>, x: ExprTree) -> Result<ExprTree, Halt>
+        requires { Nests self.now.levels (F.pre self.now.expr) (F.post self.now.expr) }
+        ensures { Gives (spec.related (is_positive self.now.levels) (spec.expr self.now.levels) x tokens.old.rest.now) result tokens.new.rest.now }
+    {
+        if tokens.sees_comparison() {
+            return self.compared(tokens, x);
+        }
+        self.tested(tokens, x)
+    }
+
+    /// Sum [ comparison Sum | "has" (Ident | String) | "like" Pattern | "is" Path [ "in" Sum ] ]
+    #[tactic(auto, unfolding(crate::specs::ExpressionReading::relation))]
+    fn relation(&self, tokens: &mut Cursor<'_>) -> Result<ExprTree, Halt>
+        requires { Nests self.now.levels (F.pre self.now.expr) (F.post self.now.expr) }
+        ensures { Gives (spec.relation (is_positive self.now.levels) (spec.expr self.now.levels) tokens.old.rest.now) result tokens.new.rest.now }
+    {
+        let x = self.sum(tokens)?;
+        self.related(tokens, x)
+    }
+
+    #[tactic(auto, unfolding(crate::specs::ExpressionReading::next_and))]
+    fn next_and(&self, tokens: &mut Cursor<'_>) -> Result<ExprTree, Halt>
+        requires { Nests self.now.levels (F.pre self.now.expr) (F.post self.now.expr) }
+        ensures { Gives (spec.next_and (is_positive self.now.levels) (spec.expr self.now.levels) tokens.old.rest.now) result tokens.new.rest.now }
+    {
+        tokens.take(Kind::And)?;
+        self.relation(tokens)
+    }
+
+    fn ands(&self, tokens: &mut Cursor<'_>) -> Result<Items<ExprTree>, Halt>
+        requires { Nests self.now.levels (F.pre self.now.expr) (F.post self.now.expr) }
+        ensures { Gives (spec.ands (is_positive self.now.levels) (spec.expr self.now.levels) tokens.old.rest.now) result tokens.new.rest.now }
+    {
+        let mut found = Items::new(self.alloc);
+        for _turn in 0..tokens.left() {
+            if !tokens.sees(Kind::And) {
+                return Ok(found);
+            }
+            let next = self.next_and(tokens)?;
+            found.push(next)?;
+        }
+        Ok(found)
+    }
+
+    /// Relation { "&&" Relation }
+    #[tactic(auto, unfolding(crate::specs::ExpressionReading::conjunction))]
+    fn conjunction(&self, tokens: &mut Cursor<'_>) -> Result<ExprTree, Halt>
+        requires { Nests self.now.levels (F.pre self.now.expr) (F.post self.now.expr) }
+        ensures { Gives (spec.conjunction (is_positive self.now.levels) (spec.expr self.now.levels) tokens.old.rest.now) result tokens.new.rest.now }
+    {
+        let first = self.relation(tokens)?;
+        let more = self.ands(tokens)?;
+        Ok(and_of(self.alloc, first, more)?)
+    }
+
+    #[tactic(auto, unfolding(crate::specs::ExpressionReading::next_or))]
+    fn next_or(&self, tokens: &mut Cursor<'_>) -> Result<ExprTree, Halt>
+        requires { Nests self.now.levels (F.pre self.now.expr) (F.post self.now.expr) }
+        ensures { Gives (spec.next_or (is_positive self.now.levels) (spec.expr self.now.levels) tokens.old.rest.now) result tokens.new.rest.now }
+    {
+        tokens.take(Kind::Or)?;
+        self.conjunction(tokens)
+    }
+
+    fn ors(&self, tokens: &mut Cursor<'_>) -> Result<Items<ExprTree>, Halt>
+        requires { Nests self.now.levels (F.pre self.now.expr) (F.post self.now.expr) }
+        ensures { Gives (spec.ors (is_positive self.now.levels) (spec.expr self.now.levels) tokens.old.rest.now) result tokens.new.rest.now }
+    {
+        let mut found = Items::new(self.alloc);
+        for _turn in 0..tokens.left() {
+            if !tokens.sees(Kind::Or) {
+                return Ok(found);
+            }
+            let next = self.next_or(tokens)?;
+            found.push(next)?;
+        }
+        Ok(found)
+    }
+
+    /// And { "||" And }
+    #[tactic(auto, unfolding(crate::specs::ExpressionReading::disjunction))]
+    pub(crate) fn disjunction(&self, tokens: &mut Cursor<'_>) -> Result<ExprTree, Halt>
+        requires { Nests self.now.levels (F.pre self.now.expr) (F.post self.now.expr) }
+        ensures { Gives (spec.disjunction (is_positive self.now.levels) (spec.expr self.now.levels) tokens.old.rest.now) result tokens.new.rest.now }
+    {
+        let first = self.conjunction(tokens)?;
+        let more = self.ors(tokens)?;
+        Ok(or_of(self.alloc, first, more)?)
+    }
+}

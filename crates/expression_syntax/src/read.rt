@@ -1,0 +1,53 @@
+//! Whole lists of tokens.
+
+ghost use Rattle.std.specs.Prelude.{◌≡◌, ◌-◌, length};
+ghost use Rattle.expression_syntax.specs.Expressions as grammar;
+ghost use Rattle.expression_syntax.specs.Reads.{ReadsWithin, refusal_of};
+
+use crate::cursor::Cursor;
+use crate::expression::expr;
+use crate::fault::{Halt, SyntaxFault};
+use crate::tree::ExprTree;
+use policy_tokens::Token;
+use std::alloc::Global;
+
+/// The most levels that expressions nest: an expression's own, and one more for what stands in
+/// parentheses, brackets, braces or call arguments, and for each part of an `if`.
+pub const NESTING_LIMIT: usize = 64;
+
+/// The refusal of the tokens where reading halted: its place is that of the first token that is
+/// left, or their count where none is.
+pub fn refusal(tokens: &[Token], cursor: &Cursor<'_>, halt: Halt) -> SyntaxFault
+    ensures { result ≡ refusal_of halt (length tokens.now - length cursor.now.rest.now) cursor.now.rest.now }
+{
+    let place = tokens.len().saturating_sub(cursor.left());
+    match halt {
+        Halt::NoMemory => SyntaxFault::NoMemory,
+        Halt::TooDeep => SyntaxFault::TooDeep(place),
+        Halt::Unexpected => {
+            if cursor.sees_slot() {
+                SyntaxFault::Slot(place)
+            } else {
+                SyntaxFault::Unexpected(place)
+            }
+        }
+    }
+}
+
+/// The expression that the tokens are, or the first token with which no expression goes on. Where
+/// one would go on but for the limit on nesting, the token is too deep. Takes time and memory in
+/// proportion to the tokens.
+pub fn read_expression(alloc: Global, tokens: &[Token]) -> Result<ExprTree, SyntaxFault>
+    ensures { ReadsWithin (grammar.expr grammar.nesting_limit) grammar.any_expr tokens.now result }
+{
+    let mut cursor = Cursor { rest: tokens };
+    match expr(alloc, &mut cursor, NESTING_LIMIT) {
+        Ok(tree) => {
+            if cursor.left() > 0 {
+                return Err(refusal(tokens, &cursor, Halt::Unexpected));
+            }
+            Ok(tree)
+        }
+        Err(halt) => Err(refusal(tokens, &cursor, halt)),
+    }
+}

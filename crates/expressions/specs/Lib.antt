@@ -1,0 +1,4 @@
+pub mod Forms
+pub mod Like
+pub mod LikeTest
+pub mod Size

@@ -1,0 +1,140 @@
+// Expressions from their parts. Each takes its parts whatever it answers.
+ghost use Rattle.std.specs.Prelude.{◌≡◌, IfOk};
+
+use crate::expr::Expr;
+use crate::operator::{Binary, BinaryCall, Unary, UnaryCall};
+use plain::{Boxed, NoMemory, Text};
+use std::alloc::Global;
+use values::TypeName;
+
+impl Expr {
+    /// `if test then consequent else alternative`, or `NoMemory`.
+    pub fn if_then_else(
+        alloc: Global,
+        test: Expr,
+        consequent: Expr,
+        alternative: Expr,
+    ) -> Result<Expr, NoMemory>
+        ensures { IfOk result (λ expr. expr ≡ Expr.If test consequent alternative) }
+    {
+        let test = Boxed::new(alloc, test)?;
+        let consequent = Boxed::new(alloc, consequent)?;
+        Ok(Expr::If(test, consequent, Boxed::new(alloc, alternative)?))
+    }
+
+    /// `left && right`, or `NoMemory`.
+    pub fn and(alloc: Global, left: Expr, right: Expr) -> Result<Expr, NoMemory>
+        ensures { IfOk result (λ expr. expr ≡ Expr.And left right) }
+    {
+        let left = Boxed::new(alloc, left)?;
+        Ok(Expr::And(left, Boxed::new(alloc, right)?))
+    }
+
+    /// `left || right`, or `NoMemory`.
+    pub fn or(alloc: Global, left: Expr, right: Expr) -> Result<Expr, NoMemory>
+        ensures { IfOk result (λ expr. expr ≡ Expr.Or left right) }
+    {
+        let left = Boxed::new(alloc, left)?;
+        Ok(Expr::Or(left, Boxed::new(alloc, right)?))
+    }
+
+    /// An operator with its operand, or `NoMemory`.
+    pub fn unary(alloc: Global, operator: Unary, operand: Expr) -> Result<Expr, NoMemory>
+        ensures { IfOk result (λ expr. expr ≡ Expr.Unary operator operand) }
+    {
+        Ok(Expr::Unary(operator, Boxed::new(alloc, operand)?))
+    }
+
+    /// An operator with its operands, or `NoMemory`.
+    pub fn binary(
+        alloc: Global,
+        operator: Binary,
+        left: Expr,
+        right: Expr,
+    ) -> Result<Expr, NoMemory>
+        ensures { IfOk result (λ expr. expr ≡ Expr.Binary operator left right) }
+    {
+        let left = Boxed::new(alloc, left)?;
+        Ok(Expr::Binary(operator, left, Boxed::new(alloc, right)?))
+    }
+
+    /// `owner.name`, or `NoMemory`.
+    pub fn field(alloc: Global, owner: Expr, name: Text) -> Result<Expr, NoMemory>
+        ensures { IfOk result (λ expr. expr ≡ Expr.Field owner name) }
+    {
+        Ok(Expr::Field(Boxed::new(alloc, owner)?, name))
+    }
+
+    /// `owner has name`, or `NoMemory`.
+    pub fn has(alloc: Global, owner: Expr, name: Text) -> Result<Expr, NoMemory>
+        ensures { IfOk result (λ expr. expr ≡ Expr.Has owner name) }
+    {
+        Ok(Expr::Has(Boxed::new(alloc, owner)?, name))
+    }
+
+    /// A call with one operand, or `NoMemory`.
+    pub fn unary_call(alloc: Global, called: UnaryCall, operand: Expr) -> Result<Expr, NoMemory>
+        ensures { IfOk result (λ expr. expr ≡ Expr.UnaryCall called operand) }
+    {
+        Ok(Expr::UnaryCall(called, Boxed::new(alloc, operand)?))
+    }
+
+    /// A call with two operands, a method's receiver first, or `NoMemory`.
+    pub fn binary_call(
+        alloc: Global,
+        called: BinaryCall,
+        left: Expr,
+        right: Expr,
+    ) -> Result<Expr, NoMemory>
+        ensures { IfOk result (λ expr. expr ≡ Expr.BinaryCall called left right) }
+    {
+        let left = Boxed::new(alloc, left)?;
+        Ok(Expr::BinaryCall(called, left, Boxed::new(alloc, right)?))
+    }
+
+    /// `left != right`, which is `!(left == right)`, or `NoMemory`.
+    pub fn not_equal(alloc: Global, left: Expr, right: Expr) -> Result<Expr, NoMemory>
+        ensures { IfOk result (λ expr. expr ≡ Expr.Unary Unary.Not (Expr.Binary Binary.Equal left right)) }
+    {
+        let equal = Expr::binary(alloc, Binary::Equal, left, right)?;
+        Expr::unary(alloc, Unary::Not, equal)
+    }
+
+    /// `left > right`, which is `!(left <= right)`, or `NoMemory`.
+    pub fn greater(alloc: Global, left: Expr, right: Expr) -> Result<Expr, NoMemory>
+        ensures { IfOk result (λ expr. expr ≡ Expr.Unary Unary.Not (Expr.Binary Binary.LessOrEqual left right)) }
+    {
+        let less_or_equal = Expr::binary(alloc, Binary::LessOrEqual, left, right)?;
+        Expr::unary(alloc, Unary::Not, less_or_equal)
+    }
+
+    /// `left >= right`, which is `!(left < right)`, or `NoMemory`.
+    pub fn greater_or_equal(alloc: Global, left: Expr, right: Expr) -> Result<Expr, NoMemory>
+        ensures { IfOk result (λ expr. expr ≡ Expr.Unary Unary.Not (Expr.Binary Binary.Less left right)) }
+    {
+        let less = Expr::binary(alloc, Binary::Less, left, right)?;
+        Expr::unary(alloc, Unary::Not, less)
+    }
+
+    /// `operand is type_name in ancestor`, which is `operand is type_name && operand in ancestor`, or `NoMemory`.
+    pub fn is_in(
+        alloc: Global,
+        operand: Expr,
+        type_name: TypeName,
+        ancestor: Expr,
+    ) -> Result<Expr, NoMemory>
+        ensures { IfOk result (λ expr. expr ≡ Expr.And (Expr.Unary (Unary.Is type_name) operand) (Expr.Binary Binary.In operand ancestor)) }
+    {
+        let is = copy_is(alloc, &operand, type_name)?;
+        let within = Expr::binary(alloc, Binary::In, operand, ancestor)?;
+        Expr::and(alloc, is, within)
+    }
+}
+
+/// `operand is type_name`, of a copy of the operand.
+fn copy_is(alloc: Global, operand: &Expr, type_name: TypeName) -> Result<Expr, NoMemory>
+    ensures { IfOk result (λ expr. expr ≡ Expr.Unary (Unary.Is type_name) operand.now) }
+{
+    let tested = operand.copy(alloc)?;
+    Expr::unary(alloc, Unary::Is(type_name), tested)
+}

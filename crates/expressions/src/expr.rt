@@ -1,0 +1,49 @@
+// Core expressions.
+use crate::leaf::{Literal, Variable};
+use crate::operator::{Binary, BinaryCall, Unary, UnaryCall};
+use plain::{Boxed, Items, Text};
+
+/// Something under a name, as a field of a record.
+#[derive(Debug, Drop)]
+pub struct Named<T> {
+    /// The name.
+    pub name: Text,
+    /// What stands under it.
+    pub value: T,
+}
+
+/// A core expression: the forms that are left once the others are rewritten (`a != b` is `!(a == b)`, `a > b` is `!(a <= b)`, `a >= b` is
+/// `!(a < b)`, `a is T in b` is `a is T && a in b`, `a["f"]` is `a.f`).
+///
+/// A call is one form in two variants, so that each call has the count of operands that its function or method wants.
+///
+/// Source: Cedar reference guide, "Grammar" and "Operators and functions".
+#[derive(Debug, Drop)]
+pub enum Expr {
+    /// A value that is written out.
+    Literal(Literal),
+    /// A part of the request.
+    Variable(Variable),
+    /// `if`, its test, and what stands behind `then` and `else`.
+    If(Boxed<Expr>, Boxed<Expr>, Boxed<Expr>),
+    /// `&&`.
+    And(Boxed<Expr>, Boxed<Expr>),
+    /// `||`.
+    Or(Boxed<Expr>, Boxed<Expr>),
+    /// An operator with its operand.
+    Unary(Unary, Boxed<Expr>),
+    /// An operator with its operands.
+    Binary(Binary, Boxed<Expr>, Boxed<Expr>),
+    /// `.`: the field of a record, or the attribute of an entity, of this name.
+    Field(Boxed<Expr>, Text),
+    /// `has`: whether there is a field or an attribute of this name.
+    Has(Boxed<Expr>, Text),
+    /// A set of what these give.
+    Set(Items<Expr>),
+    /// A record of what these give, in the order that they are written in.
+    Record(Items<Named<Expr>>),
+    /// A call of a function or a method with one operand.
+    UnaryCall(UnaryCall, Boxed<Expr>),
+    /// A call of a method with two operands.
+    BinaryCall(BinaryCall, Boxed<Expr>, Boxed<Expr>),
+}

@@ -1,0 +1,45 @@
+//! Expressions without operands: literals and variables.
+ghost use Rattle.std.specs.Prelude.{◌≡◌, IfOk};
+
+use plain::{NoMemory, Text};
+use values::EntityUid;
+
+/// A value that is written out in a policy (Cedar reference guide, "Supported data types").
+#[derive(Debug, Drop)]
+pub enum Literal {
+    /// `true` or `false`.
+    Boolean(bool),
+    /// A whole number of signed 64 bits.
+    Long(i64),
+    /// The value of a string.
+    Text(Text),
+    /// The entity of this name.
+    Entity(EntityUid),
+}
+
+/// A part of the request (Cedar reference guide, "Grammar": `VAR`).
+#[derive(Clone, Copy, Debug, PartialEq, Eq)]
+pub enum Variable {
+    /// Who asks.
+    Principal,
+    /// What is to be done.
+    Action,
+    /// What it is to be done on.
+    Resource,
+    /// The record that the request brings along.
+    Context,
+}
+
+impl Literal {
+    /// The same literal, or `NoMemory`.
+    pub fn copy(&self) -> Result<Literal, NoMemory>
+        ensures { IfOk result (λ literal. literal ≡ self.now) }
+    {
+        match self {
+            Literal::Boolean(truth) => Ok(Literal::Boolean(*truth)),
+            Literal::Long(number) => Ok(Literal::Long(*number)),
+            Literal::Text(text) => Ok(Literal::Text(text.copy()?)),
+            Literal::Entity(uid) => Ok(Literal::Entity(uid.copy()?)),
+        }
+    }
+}

@@ -1,0 +1,91 @@
+//! What is done with operands (Cedar reference guide, "Operators and functions").
+ghost use Rattle.std.specs.Prelude.{◌≡◌, IfOk};
+
+use crate::pattern::Pattern;
+use plain::NoMemory;
+use std::alloc::Global;
+use values::TypeName;
+
+/// An operator with one operand.
+#[derive(Debug, Drop)]
+pub enum Unary {
+    /// `!`.
+    Not,
+    /// `-`.
+    Negate,
+    /// `like`: whether a text matches the pattern.
+    Like(Pattern),
+    /// `is`: whether an entity is of the type.
+    Is(TypeName),
+}
+
+/// An operator with two operands.
+#[derive(Clone, Copy, Debug, PartialEq, Eq)]
+pub enum Binary {
+    /// `==`.
+    Equal,
+    /// `in`: whether an entity is another one or below it, or is so for some member of a set.
+    In,
+    /// `<`.
+    Less,
+    /// `<=`.
+    LessOrEqual,
+    /// `+`.
+    Add,
+    /// `-`.
+    Subtract,
+    /// `*`.
+    Multiply,
+    /// `contains`: whether a value is a member of the set.
+    Contains,
+    /// `containsAll`: whether all members of another set are members of the set.
+    ContainsAll,
+    /// `containsAny`: whether some member of another set is a member of the set.
+    ContainsAny,
+}
+
+/// A function or a method of an extension that has one operand. A method's receiver is its operand.
+#[derive(Clone, Copy, Debug, PartialEq, Eq)]
+pub enum UnaryCall {
+    /// `ip`: the address that a text stands for.
+    Ip,
+    /// `decimal`: the decimal that a text stands for.
+    Decimal,
+    /// `isIpv4`.
+    IsIpv4,
+    /// `isIpv6`.
+    IsIpv6,
+    /// `isLoopback`.
+    IsLoopback,
+    /// `isMulticast`.
+    IsMulticast,
+}
+
+/// A method of an extension that has two operands: its receiver and its argument.
+#[derive(Clone, Copy, Debug, PartialEq, Eq)]
+pub enum BinaryCall {
+    /// `lessThan`, of decimals.
+    LessThan,
+    /// `lessThanOrEqual`, of decimals.
+    LessThanOrEqual,
+    /// `greaterThan`, of decimals.
+    GreaterThan,
+    /// `greaterThanOrEqual`, of decimals.
+    GreaterThanOrEqual,
+    /// `isInRange`, of addresses.
+    IsInRange,
+}
+
+impl Unary {
+    /// The same operator, or `NoMemory`.
+    pub fn copy(&self, alloc: Global) -> Result<Unary, NoMemory>
+        ensures { IfOk result (λ operator. operator ≡ self.now) }
+    {
+        match self {
+            Unary::Not => Ok(Unary::Not),
+            Unary::Negate => Ok(Unary::Negate),
+            Unary::Like(pattern) => Ok(Unary::Like(pattern.copy(alloc)?)),
+            Unary::Is(name) => Ok(Unary::Is(name.copy()?)),
+        }
+    }
+}

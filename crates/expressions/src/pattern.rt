@@ -1,0 +1,125 @@
+// Patterns of `like`.
+ghost use Rattle.std.specs.Prelude.{◌≡◌, ◌↔◌, ◌<◌, ◌++◌, [], ◌∷◌, IsTrue, IfOk, length};
+ghost use Rattle.expressions.specs.Like.{Matches, literal, behind_stars};
+ghost use Rattle.expressions.specs.LikeTest.{Joins, is_match};
+
+use plain::{Items, NoMemory, Text};
+use std::alloc::Global;
+use std::marker::Model;
+
+/// A pattern of `like`: literal texts with a wildcard between each two. Contracts see the list of the literal texts, one more than there
+/// are wildcards; so each pattern has one form.
+///
+/// Source: Cedar reference guide, "Operators: like".
+#[derive(Debug, Drop)]
+pub struct Pattern {
+    /// The texts that a wildcard follows.
+    before: Items<Text>,
+    /// The text behind the last wildcard, or the only one.
+    last: Text,
+}
+
+impl Model for Pattern {
+    ghost use Rattle.std.specs.Prelude.{List, ℕ, ◌++◌, [], ◌∷◌};
+
+    ghost Value = { List (List ℕ) };
+
+    ghost view = { λ p. p.before ++ p.last ∷ [] };
+}
+
+impl Pattern {
+    /// The pattern with these literal texts, a wildcard between each two; takes no memory.
+    pub fn from_literals(literals: Vec<Text>) -> Pattern
+        requires { 0 < length literals.items }
+        ensures { result ≡ literals.items }
+    {
+        let mut before = literals;
+        let last = before.pop().unwrap();
+        Pattern {
+            before: Items::from_vec(before),
+            last,
+        }
+    }
+
+    /// The same pattern, or `NoMemory`.
+    pub fn copy(&self, alloc: Global) -> Result<Pattern, NoMemory>
+        ensures { IfOk result (λ pattern. pattern ≡ self.now) }
+    {
+        let before = copy_texts(alloc, &self.before)?;
+        let last = self.last.copy()?;
+        Ok(Pattern { before, last })
+    }
+
+    /// Whether two patterns are the same; takes no memory.
+    pub fn same(&self, other: &Pattern) -> bool
+        ensures { IsTrue result ↔ (self.now ≡ other.now) }
+    {
+        same_texts(&self.before, &other.before) && self.last.same(&other.last)
+    }
+
+    /// Whether the text is a joining of pieces, one for each element of the pattern in order: a literal text's piece equals it, a wildcard's is
+    /// any text. Takes no memory, and time of at most the length of the pattern by that of the text.
+    pub fn matches(&self, text: &str) -> bool
+        ensures like { IsTrue result ↔ Matches self.now text.now }
+        ensures test { result ≡ is_match self.now text.now }
+    {
+        match self.before.as_slice().split_first() {
+            Some((first, middle)) => first_matches(first, middle, &self.last, text),
+            None => text == self.last.as_str(),
+        }
+    }
+}
+
+/// Whether the text begins with the first literal, and what is behind it matches a wildcard before each of the others.
+fn first_matches(first: &Text, middle: &[Text], last: &Text, text: &str) -> bool
+    ensures { IsTrue result ↔ Joins (literal first.now ∷ behind_stars (middle.now ++ last.now ∷ [])) text.now }
+{
+    match text.strip_prefix(first.as_str()) {
+        Some(rest) => others_match(middle, last.as_str(), rest),
+        None => false,
+    }
+}
+
+/// Whether the text matches a wildcard before each of the literals, the last of which ends it.
+///
+/// Each literal but the last is taken where it stands first: what is left is then longest, and the next wildcard may take what an earlier
+/// place would have left over. So no choice is ever taken back.
+fn others_match(middle: &[Text], last: &str, text: &str) -> bool
+    ensures { IsTrue result ↔ Joins (behind_stars (middle.now ++ last.now ∷ [])) text.now }
+{
+    let mut rest = text;
+    for literal in middle {
+        let Some((_, after)) = rest.split_once(literal.as_str()) else {
+            return false;
+        };
+        rest = after;
+    }
+    rest.ends_with(last)
+}
+
+/// The same texts.
+fn copy_texts(alloc: Global, texts: &Items<Text>) -> Result<Items<Text>, NoMemory>
+    ensures { IfOk result (λ copies. copies ≡ texts.now) }
+{
+    let mut copies = Vec::with_capacity(alloc, texts.len())?;
+    for text in texts.as_slice() {
+        copies.push(text.copy()?)?;
+    }
+    Ok(Items::from_vec(copies))
+}
+
+/// Whether two lists have the same texts.
+fn same_texts(ones: &Items<Text>, twos: &Items<Text>) -> bool
+    ensures { IsTrue result ↔ (ones.now ≡ twos.now) }
+{
+    if ones.len() != twos.len() {
+        return false;
+    }
+    let others = twos.as_slice();
+    for (at, one) in ones.as_slice().iter().enumerate() {
+        if !one.same(&others[at]) {
+            return false;
+        }
+    }
+    true
+}
