@@ -26,14 +26,18 @@ broken=$(mktemp -d)
 trap 'rm -rf "$broken"' EXIT
 printf '[{"uid":' >"$broken/entities.json"
 printf 'permit(principal, action);' >"$broken/policies.cedar"
+printf 'permit(principal, action, resource); permit(principal, action, resource) when { principal.age > 17 };' >"$broken/erring.cedar"
 decide=(decide --policies policies.cedar --entities entities.json)
 
 wants "bob views" 0 "$(cat answer.txt)" 1 "${decide[@]}" --request request.json
 wants "a guest comments" 0 "$(cat guest_answer.txt)" 1 "${decide[@]}" --request guest.json
+wants "bob downloads" 0 "$(cat download_answer.txt)" 1 "${decide[@]}" --request download.json
+wants "a guest downloads" 0 "$(cat guest_download_answer.txt)" 1 "${decide[@]}" --request guest_download.json
 wants "help" 0 "" 1 --help
 wants "a wrong option" 2 "" 2 "${decide[@]}" --request request.json --schema s
 wants "a missing file" 3 "fault: nowhere.json" 2 "${decide[@]}" --request nowhere.json
 wants "broken JSON" 1 '{"error":{"code":30,"place":null,"within":null}}' 2 decide --policies policies.cedar --entities "$broken/entities.json" --request request.json
 wants "a broken policy" 1 '{"error":{"code":11,"place":24,"within":null}}' 2 decide --policies "$broken/policies.cedar" --entities entities.json --request request.json
+wants "a policy errs" 0 '{"cycle":[],"decision":"Allow","errors":[{"error":"attrDoesNotExist","policy":"policy1"}],"reason":["policy0"]}' 1 decide --policies "$broken/erring.cedar" --entities entities.json --request request.json
 [ $failed = 0 ] && echo "examples: as they should be"
 exit $failed

@@ -13,3 +13,8 @@ permit(principal == User::"alice", action, resource in Album::"summer");
 // Guests never comment.
 @id("guests-are-quiet")
 forbid(principal in Group::"guests", action == Action::"comment", resource is Photo);
+
+// The family may download photos of the album too, but no one who is also a guest.
+@id("family-downloads")
+permit(principal in Group::"family", action == Action::"download", resource is Photo in Album::"summer")
+unless { principal in Group::"guests" };

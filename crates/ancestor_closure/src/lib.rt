@@ -9,6 +9,3 @@ pub mod searched;
 
 pub use hierarchy::{Ancestry, Hierarchy};
 pub use searched::Searched;
-
-#[cfg(test)]
-mod tests;

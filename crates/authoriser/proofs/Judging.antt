@@ -1,17 +1,27 @@
 -- From what is looked up once to the truth of scopes, and from policy to policy.
-use Rattle.std.specs.Prelude.{◌≡◌, ℕ, ◌+◌, ◌<◌, ◌≤◌, List, [], ◌∷◌, ◌++◌, length, slice_index_or, Contains, refl}
+use Rattle.std.specs.Prelude.{◌≡◌, ◌≢◌, ◌↔◌, ℕ, ◌+◌, ◌<◌, ◌≤◌, List, [], ◌∷◌, ◌++◌, length, slice_index_or, Bool, true, false, IsTrue, Contains, Ok, Err, refl}
 use Rattle.std.specs.Borrow.{Bor}
 use Rattle.std.proofs.Common.{inl, inr, sym, ap, subst, ◌∙◌, take}
 use Rattle.std.proofs.lemmas.List.{take_more, take_all}
 use Rattle.std.proofs.lemmas.List.Elements.{Contains-push_cases}
 use Rattle.values.specs.declared.entity_uid.EntityUid.{EntityUid}
 use Rattle.values.specs.declared.request.Request.{Request}
+use Rattle.values.specs.Values.{PlainValue, boolean, long, text, entity, set, record_of, decimal, ipaddr}
 use Rattle.ancestor_closure.specs.Hierarchy.{Parents, Above, AreOnCycles, IsAscending, names}
+use Rattle.ancestor_closure.specs.Decided.{Decides}
+use Rattle.expressions.specs.declared.expr.Expr.{Expr}
 use Rattle.policy_grammar.specs.declared.policy.Policy.{Policy}
 use Rattle.policy_grammar.specs.declared.policy.EntityScope.{EntityScope}
 use Rattle.policy_grammar.specs.declared.policy.ActionScope.{ActionScope}
 use Rattle.policy_grammar.specs.declared.policy.EntityScope.TheVariants as entity
 use Rattle.policy_grammar.specs.declared.policy.ActionScope.TheVariants as action
+use Rattle.policy_grammar.specs.declared.policy.Scope.{Scope}
+use Rattle.evaluator.specs.declared.fault.EvalFault.{EvalFault}
+use Rattle.evaluator.specs.declared.fault.EvalFault.TheVariants as fault
+use Rattle.evaluator.specs.Operators.{World}
+use Rattle.evaluator.specs.Evaluation.{Gives, TestFails, test_errs, no_boolean}
+use Rattle.authoriser.specs.declared.outcome.PolicyError.{PolicyError}
+use Rattle.authoriser.specs.declared.outcome.PolicyError.TheVariants.{EntityDoesNotExist, AttrDoesNotExist, TypeError, ArithBoundsError, ExtensionError}
 use Rattle.authoriser.specs.declared.outcome.Outcome.{Outcome}
 use Rattle.authoriser.specs.declared.outcome.Outcome.TheVariants.{Satisfied, NotSatisfied, Errs}
 use Rattle.authoriser.specs.declared.answer.Erring.{Erring}
@@ -19,10 +29,11 @@ use Rattle.authoriser.specs.declared.answer.Decision.TheVariants.{Deny}
 use Rattle.authoriser.specs.declared.placed.Placed.{Placed}
 use Rattle.authoriser.specs.declared.placed.Standing.{Standing}
 use Rattle.authoriser.specs.declared.tally.Tally.{Tally}
-use Rattle.authoriser.specs.Scopes.{IsIn, IsEntityScopeTrue, IsActionScopeTrue}
-use Rattle.authoriser.specs.Answers.{Named, Judged, IsJudged, AreJudged, ComesTo, decided, answer_by, IsAnswer}
-use Rattle.authoriser.specs.Views.{named, IsWithin, IsPlaced, IsStanding, AreAscending, OutcomeIs, ids, faults, Counts}
+use Rattle.authoriser.specs.Scopes.{IsIn, IsEntityScopeTrue, IsActionScopeTrue, IsScopeTrue}
+use Rattle.authoriser.specs.Answers.{Named, Judged, IsJudged, AreJudged, fault_of, ComesTo, decided, answer_by, IsAnswer}
+use Rattle.authoriser.specs.Views.{named, IsWithin, IsPlaced, IsStanding, AreAscending, IsTrueOf, ConditionComesTo, outcome_by, ids, faults, Counts}
 use Rattle.authoriser.proofs.Members.{Contains-none}
+use Rattle.authoriser.proofs.PartsTold.{condition_decides, scope_fails}
 
 -- ---- scopes
 entity_scope : (Within Within' : EntityUid → Type 0) (uid uid' : EntityUid) → uid ≡ uid' → ((e : EntityUid) → Within e → Within' e) → (scope : EntityScope) → IsEntityScopeTrue Within scope uid → IsEntityScopeTrue Within' scope uid'
@@ -60,22 +71,55 @@ module _ {parents : Parents} {uid : EntityUid} {p : Placed} (placed : IsPlaced p
   action_back : (scope : ActionScope) → IsActionScopeTrue (IsIn parents uid) scope uid → IsActionScopeTrue (IsWithin p) scope p.uid.now
   action_back = action_scope (IsIn parents uid) (IsWithin p) uid p.uid.now (sym placed.same) in_is_within
 
-pub comes_to : (parents : Parents) (q : Request) (s : Standing) (p : Policy) (o : Outcome) → IsStanding parents q s → OutcomeIs p.scope s o → ComesTo parents q p o
-comes_to parents q s p Satisfied standing h =
-    (entity_there standing.principal p.scope.principal h.0, action_there standing.action p.scope.action h.1, entity_there standing.resource p.scope.resource h.2)
-comes_to parents q s p NotSatisfied standing h = λ t.
-    h (entity_back standing.principal p.scope.principal t.0, action_back standing.action p.scope.action t.1, entity_back standing.resource p.scope.resource t.2)
-comes_to parents q s p (Errs error) standing h = h
+scope_there : (parents : Parents) (q : Request) (s : Standing) (scope : Scope) → IsStanding parents q s → IsTrueOf scope s → IsScopeTrue parents scope q
+scope_there parents q s scope standing h =
+    (entity_there standing.principal scope.principal h.0, action_there standing.action scope.action h.1, entity_there standing.resource scope.resource h.2)
+
+scope_back : (parents : Parents) (q : Request) (s : Standing) (scope : Scope) → IsStanding parents q s → IsScopeTrue parents scope q → IsTrueOf scope s
+scope_back parents q s scope standing h =
+    (entity_back standing.principal scope.principal h.0, action_back standing.action scope.action h.1, entity_back standing.resource scope.resource h.2)
+
+-- ---- conditions
+pub value_comes_to : (W : World) (q : Request) (x : Expr) (v : PlainValue) → Gives W q x (Ok v) → ConditionComesTo W q x (outcome_by v)
+value_comes_to W q x (boolean true) g = g
+value_comes_to W q x (boolean false) g = g
+value_comes_to W q x (long z) g = no_boolean g refl
+value_comes_to W q x (text t) g = no_boolean g refl
+value_comes_to W q x (entity u) g = no_boolean g refl
+value_comes_to W q x (set vs) g = no_boolean g refl
+value_comes_to W q x (record_of fs) g = no_boolean g refl
+value_comes_to W q x (decimal z) g = no_boolean g refl
+value_comes_to W q x (ipaddr n) g = no_boolean g refl
+
+no_refused_memory : (error : PolicyError) → fault_of error ≡ fault.NoMemory → ⊥
+no_refused_memory EntityDoesNotExist e = absurd (cc)
+no_refused_memory AttrDoesNotExist e = absurd (cc)
+no_refused_memory TypeError e = absurd (cc)
+no_refused_memory ArithBoundsError e = absurd (cc)
+no_refused_memory ExtensionError e = absurd (cc)
+
+pub fault_comes_to : (W : World) (q : Request) (x : Expr) (f : EvalFault) (error : PolicyError) → f ≡ fault_of error → (f ≢ fault.NoMemory → Gives W q x (Err f)) → ConditionComesTo W q x (Errs error)
+fault_comes_to W q x f error is g =
+    test_errs (subst (λ e. Gives W q x (Err e)) is (g (λ refused. no_refused_memory error (sym is ∙ refused))))
+
+-- ---- policies
+pub true_scope : (W : World) (q : Request) (s : Standing) (p : Policy) (o : Outcome) → IsStanding W.parents q s → IsTrueOf p.scope s → ConditionComesTo W q p.condition o → ComesTo W q p o
+true_scope W q s p Satisfied standing h c = (condition_decides W q p (scope_there W.parents q s p.scope standing h)).gives true c
+true_scope W q s p NotSatisfied standing h c = (condition_decides W q p (scope_there W.parents q s p.scope standing h)).gives false c
+true_scope W q s p (Errs error) standing h c = (condition_decides W q p (scope_there W.parents q s p.scope standing h)).errs (fault_of error) c
+
+pub other_scope : (W : World) (above : EntityUid → EntityUid → Bool) → Decides W.parents above → (q : Request) (s : Standing) (p : Policy) → IsStanding W.parents q s → (IsTrueOf p.scope s → ⊥) → ComesTo W q p NotSatisfied
+other_scope W above D q s p standing n = scope_fails W above D q p (λ h. n (scope_back W.parents q s p.scope standing h))
 
 pub are_ascending : (parents : Parents) (q : Request) (s : Standing) → IsStanding parents q s → AreAscending s
 are_ascending parents q s standing = record { principal = standing.principal.ascending; action = standing.action.ascending; resource = standing.resource.ascending }
 
 -- ---- policy by policy
-judged_push : (parents : Parents) (q : Request) (ps : List Named) (p : Named) (js : List Judged) (j : Judged) → AreJudged parents q ps js → IsJudged parents q p j → AreJudged parents q (ps ++ p ∷ []) (js ++ j ∷ [])
-judged_push parents q [] p [] j h g = (g, tt)
-judged_push parents q [] p (k ∷ js) j h g = absurd h
-judged_push parents q (n ∷ ps) p [] j h g = absurd h
-judged_push parents q (n ∷ ps) p (k ∷ js) j h g = (h.0, judged_push parents q ps p js j h.1 g)
+judged_push : (W : World) (q : Request) (ps : List Named) (p : Named) (js : List Judged) (j : Judged) → AreJudged W q ps js → IsJudged W q p j → AreJudged W q (ps ++ p ∷ []) (js ++ j ∷ [])
+judged_push W q [] p [] j h g = (g, tt)
+judged_push W q [] p (k ∷ js) j h g = absurd h
+judged_push W q (n ∷ ps) p [] j h g = absurd h
+judged_push W q (n ∷ ps) p (k ∷ js) j h g = (h.0, judged_push W q ps p js j h.1 g)
 
 one_named : Bor (List ℕ) × Bor Policy → Named
 one_named p = record { id = p.0.now; policy = p.1.now }
@@ -85,24 +129,24 @@ unfolding one_named
 named_push [] p = refl
 named_push (n ∷ ps) p = ap (λ r. one_named n ∷ r) (named_push ps p)
 
-pub next_policy : (parents : Parents) (q : Request) (ps : List (Bor (List ℕ) × Bor Policy)) (i : ℕ) (p : Bor (List ℕ) × Bor Policy) (s : Standing) (old new : Tally) (o : Outcome) →
-    IsStanding parents q s → i < length ps → p ≡ slice_index_or ps i p → OutcomeIs p.1.now.scope s o →
+pub next_policy : (W : World) (q : Request) (ps : List (Bor (List ℕ) × Bor Policy)) (i : ℕ) (p : Bor (List ℕ) × Bor Policy) (old new : Tally) (o : Outcome) →
+    i < length ps → p ≡ slice_index_or ps i p → ComesTo W q p.1.now o →
     ((js : List Judged) → Counts old js → Counts new (js ++ record { id = p.0.now; effect = p.1.now.effect; outcome = o } ∷ [])) →
-    ((js : List Judged) × AreJudged parents q (named (take i ps)) js × Counts old js) →
-    (js : List Judged) × AreJudged parents q (named (take (i + 1) ps)) js × Counts new js
+    ((js : List Judged) × AreJudged W q (named (take i ps)) js × Counts old js) →
+    (js : List Judged) × AreJudged W q (named (take (i + 1) ps)) js × Counts new js
 unfolding one_named
-next_policy parents q ps i p s old new o standing within is outcome noted before =
+next_policy W q ps i p old new o within is outcome noted before =
     let j : Judged = record { id = p.0.now; effect = p.1.now.effect; outcome = o } in
-    let judgement : IsJudged parents q (one_named p) j = record { id = refl; effect = refl; outcome = comes_to parents q s p.1.now o standing outcome } in
+    let judgement : IsJudged W q (one_named p) j = record { id = refl; effect = refl; outcome = outcome } in
     let taken : take (i + 1) ps ≡ take i ps ++ p ∷ [] = take_more ps i p within ∙ ap (λ x. take i ps ++ x ∷ []) (sym is) in
     let seen : named (take (i + 1) ps) ≡ named (take i ps) ++ one_named p ∷ [] = ap named taken ∙ named_push (take i ps) p in
-    (before.0 ++ j ∷ [], subst (λ ns. AreJudged parents q ns (before.0 ++ j ∷ [])) (sym seen) (judged_push parents q (named (take i ps)) (one_named p) before.0 j before.1 judgement), noted before.0 before.2)
+    (before.0 ++ j ∷ [], subst (λ ns. AreJudged W q ns (before.0 ++ j ∷ [])) (sym seen) (judged_push W q (named (take i ps)) (one_named p) before.0 j before.1 judgement), noted before.0 before.2)
 
 pub counted : (t : Tally) (js : List Judged) → Counts t js → decided (ids t.permits.items) (ids t.forbids.items) (faults t.errors.items) ≡ answer_by js
 counted t js c i = decided (c.permits i) (c.forbids i) (c.errors i)
 
-pub all_judged : (parents : Parents) (q : Request) (ps : List (Bor (List ℕ) × Bor Policy)) (i : ℕ) (js : List Judged) → length ps ≤ i → AreJudged parents q (named (take i ps)) js → AreJudged parents q (named ps) js
-all_judged parents q ps i js le h = subst (λ xs. AreJudged parents q (named xs) js) (take_all i ps le) h
+pub all_judged : (W : World) (q : Request) (ps : List (Bor (List ℕ) × Bor Policy)) (i : ℕ) (js : List Judged) → length ps ≤ i → AreJudged W q (named (take i ps)) js → AreJudged W q (named ps) js
+all_judged W q ps i js le h = subst (λ xs. AreJudged W q (named xs) js) (take_all i ps le) h
 
 -- ---- no cycle, or a cycle
 pub acyclic : (parents : Parents) (uids : List (Bor EntityUid)) → AreOnCycles parents (names uids) → uids ≡ [] → (uid : EntityUid) → Above parents uid uid → ⊥
@@ -120,11 +164,11 @@ none_before P xs i x within is not_here before e h p =
       | inr here ↦ not_here (subst P (sym here) p)
     ]
 
-pub denial : (parents : Parents) (q : Request) (ps : List Named) (uids : List (Bor EntityUid)) (cycle : List EntityUid) (reason : List (List ℕ)) (errors : List Erring) →
-    cycle ≡ names uids → reason ≡ [] → errors ≡ [] → AreOnCycles parents (names uids) → IsAscending (names uids) → (uids ≡ [] → ⊥) →
-    IsAnswer parents q ps (record { decision = Deny; reason = reason; errors = errors; cycle = cycle })
-denial parents q ps uids cycle reason errors same no_reason no_errors named ascending some = inl (record {
-  named = subst (AreOnCycles parents) (sym same) named;
+pub denial : (W : World) (q : Request) (ps : List Named) (uids : List (Bor EntityUid)) (cycle : List EntityUid) (reason : List (List ℕ)) (errors : List Erring) →
+    cycle ≡ names uids → reason ≡ [] → errors ≡ [] → AreOnCycles W.parents (names uids) → IsAscending (names uids) → (uids ≡ [] → ⊥) →
+    IsAnswer W q ps (record { decision = Deny; reason = reason; errors = errors; cycle = cycle })
+denial W q ps uids cycle reason errors same no_reason no_errors named ascending some = inl (record {
+  named = subst (AreOnCycles W.parents) (sym same) named;
   ascending = subst IsAscending (sym same) ascending;
   some = λ none. cycle_is_some uids some (sym same ∙ none);
   rest = λ i. record { decision = Deny; reason = no_reason i; errors = no_errors i; cycle = cycle };

@@ -1,5 +1,5 @@
 -- The laws of answers.
-use Rattle.std.specs.Prelude.{◌≡◌, ◌≢◌, ◌⊎◌, ℕ, List, [], ◌∷◌, ◌++◌, map, Contains, refl}
+use Rattle.std.specs.Prelude.{◌≡◌, ◌≢◌, ◌⊎◌, ℕ, List, [], ◌∷◌, ◌++◌, map, true, false, Contains, Ok, Err, refl}
 use Rattle.std.specs.List.{flat_map, AllByRecursion}
 use Rattle.std.specs.List.Sorted.{IsStrictlySortedBy}
 use Rattle.std.specs.declared.cmp.Ordering.TheVariants.{Less}
@@ -8,47 +8,89 @@ use Rattle.std.proofs.lemmas.List.{map-append}
 use Rattle.std.proofs.lemmas.List.Elements.{Contains-append_left, Contains-append_right, Contains-append_cases}
 use Rattle.values.specs.declared.entity_uid.EntityUid.{EntityUid}
 use Rattle.values.specs.declared.request.Request.{Request}
+use Rattle.values.specs.Values.{boolean}
 use Rattle.values.specs.Names.{text_cmp, uid_cmp, uid_cmp-IsTotalOrder}
 use Rattle.ancestor_closure.specs.Hierarchy.{Parents, AreOnCycles, IsAscending}
+use Rattle.expressions.specs.declared.expr.Expr.{Expr}
 use Rattle.policy_grammar.specs.declared.policy.Effect.{Effect}
 use Rattle.policy_grammar.specs.declared.policy.Effect.TheVariants.{Permit, Forbid}
 use Rattle.policy_grammar.specs.declared.policy.Policy.{Policy}
+use Rattle.policy_grammar.specs.Whole.{expression_of}
+use Rattle.evaluator.specs.Outcomes.{Outcome as Given}
+use Rattle.evaluator.specs.Operators.{World}
+use Rattle.evaluator.specs.Evaluation.{Gives}
+use Rattle.evaluator.specs.Laws.{HasOneOutcome, HaveOneOutcome, HaveOneOutcomeInFiniteHierarchies}
 use Rattle.authoriser.specs.declared.answer.Answer.{Answer}
 use Rattle.authoriser.specs.declared.answer.Erring.{Erring}
 use Rattle.authoriser.specs.declared.answer.Decision.TheVariants.{Deny}
 use Rattle.authoriser.specs.declared.outcome.Outcome.{Outcome}
 use Rattle.authoriser.specs.declared.outcome.Outcome.TheVariants.{Satisfied, NotSatisfied, Errs}
-use Rattle.authoriser.specs.Answers.{Named, Judged, IsJudged, ComesTo, AreJudged, if_satisfied, satisfied, if_erring, erring, decided, answer_by, IsCycleDenial, IsPolicyAnswer}
-use Rattle.authoriser.specs.Laws.{OneAnswer, DefaultDeny, ForbidDecides, IdleChangesNothing, HaveSameMembers, OrderDoesNotMatter, AreIdsAscending, ListsAscend}
+use Rattle.authoriser.specs.declared.outcome.PolicyError.{PolicyError}
+use Rattle.authoriser.specs.declared.outcome.PolicyError.TheVariants.{EntityDoesNotExist, AttrDoesNotExist, TypeError, ArithBoundsError, ExtensionError}
+use Rattle.authoriser.specs.Answers.{Named, Judged, IsJudged, fault_of, ComesTo, AreJudged, if_satisfied, satisfied, if_erring, erring, decided, answer_by, IsCycleDenial, IsPolicyAnswer}
+use Rattle.authoriser.specs.Laws.{HasOneAnswer, OneAnswer, OneAnswerInFiniteHierarchies, DefaultDeny, ForbidDecides, IdleChangesNothing, HaveSameMembers, OrderDoesNotMatter, AreIdsAscending, ListsAscend}
 use Rattle.authoriser.proofs.Members.{Contains-here, Contains-there, Contains-cases, Contains-none}
 use Rattle.authoriser.proofs.Ascending.{one_list}
 
 -- ---- one answer
-one_outcome : (parents : Parents) (q : Request) (p : Policy) (r s : Outcome) → ComesTo parents q p r → ComesTo parents q p s → r ≡ s
-one_outcome parents q p Satisfied Satisfied h k = refl
-one_outcome parents q p Satisfied NotSatisfied h k = absurd (k h)
-one_outcome parents q p Satisfied (Errs e) h k = absurd k
-one_outcome parents q p NotSatisfied Satisfied h k = absurd (h k)
-one_outcome parents q p NotSatisfied NotSatisfied h k = refl
-one_outcome parents q p NotSatisfied (Errs e) h k = absurd k
-one_outcome parents q p (Errs e) s h k = absurd h
+errors_apart : (e f : PolicyError) → fault_of e ≡ fault_of f → e ≡ f
+errors_apart EntityDoesNotExist EntityDoesNotExist h = refl
+errors_apart AttrDoesNotExist AttrDoesNotExist h = refl
+errors_apart TypeError TypeError h = refl
+errors_apart ArithBoundsError ArithBoundsError h = refl
+errors_apart ExtensionError ExtensionError h = refl
+errors_apart EntityDoesNotExist f h = absurd (cc)
+errors_apart AttrDoesNotExist f h = absurd (cc)
+errors_apart TypeError f h = absurd (cc)
+errors_apart ArithBoundsError f h = absurd (cc)
+errors_apart ExtensionError f h = absurd (cc)
 
-one_judgement : (parents : Parents) (q : Request) (p : Named) (j k : Judged) → IsJudged parents q p j → IsJudged parents q p k → j ≡ k
-one_judgement parents q p j k h g =
+-- a policy comes to one thing, where its expression gives one outcome
+module _ (W : World) (q : Request) (p : Policy) (given : HasOneOutcome W q (expression_of p)) where
+  abbrev outcome_given : Outcome → Given
+  outcome_given Satisfied = Ok (boolean true)
+  outcome_given NotSatisfied = Ok (boolean false)
+  outcome_given (Errs e) = Err (fault_of e)
+
+  gives_it : (r : Outcome) → ComesTo W q p r → Gives W q (expression_of p) (outcome_given r)
+  gives_it Satisfied h = h
+  gives_it NotSatisfied h = h
+  gives_it (Errs e) h = h
+
+  same_given : (r s : Outcome) → outcome_given r ≡ outcome_given s → r ≡ s
+  same_given Satisfied Satisfied e = refl
+  same_given Satisfied NotSatisfied e = absurd (cc)
+  same_given Satisfied (Errs f) e = absurd (cc)
+  same_given NotSatisfied Satisfied e = absurd (cc)
+  same_given NotSatisfied NotSatisfied e = refl
+  same_given NotSatisfied (Errs f) e = absurd (cc)
+  same_given (Errs d) Satisfied e = absurd (cc)
+  same_given (Errs d) NotSatisfied e = absurd (cc)
+  same_given (Errs d) (Errs f) e = let same : fault_of d ≡ fault_of f = cc in ap Errs (errors_apart d f same)
+
+  one_outcome : (r s : Outcome) → ComesTo W q p r → ComesTo W q p s → r ≡ s
+  one_outcome r s h k = same_given r s (given.2 (outcome_given r) (gives_it r h) ∙ sym (given.2 (outcome_given s) (gives_it s k)))
+
+-- each expression gives one outcome
+abbrev Determined : World → Request → Type 0
+Determined W q = (x : Expr) → HasOneOutcome W q x
+
+one_judgement : (W : World) (q : Request) → Determined W q → (p : Named) (j k : Judged) → IsJudged W q p j → IsJudged W q p k → j ≡ k
+one_judgement W q given p j k h g =
     let id : j.id ≡ k.id = h.id ∙ sym g.id in
     let effect : j.effect ≡ k.effect = h.effect ∙ sym g.effect in
-    let outcome : j.outcome ≡ k.outcome = one_outcome parents q p.policy j.outcome k.outcome h.outcome g.outcome in
+    let outcome : j.outcome ≡ k.outcome = one_outcome W q p.policy (given (expression_of p.policy)) j.outcome k.outcome h.outcome g.outcome in
     λ i. record { id = id i; effect = effect i; outcome = outcome i }
 
-one_list_judged : (parents : Parents) (q : Request) (ps : List Named) (js ks : List Judged) → AreJudged parents q ps js → AreJudged parents q ps ks → js ≡ ks
-one_list_judged parents q [] [] [] h g = refl
-one_list_judged parents q [] [] (k ∷ ks) h g = absurd g
-one_list_judged parents q [] (j ∷ js) ks h g = absurd h
-one_list_judged parents q (p ∷ ps) [] ks h g = absurd h
-one_list_judged parents q (p ∷ ps) (j ∷ js) [] h g = absurd g
-one_list_judged parents q (p ∷ ps) (j ∷ js) (k ∷ ks) h g =
-    let first = one_judgement parents q p j k h.0 g.0 in
-    let rest = one_list_judged parents q ps js ks h.1 g.1 in
+one_list_judged : (W : World) (q : Request) → Determined W q → (ps : List Named) (js ks : List Judged) → AreJudged W q ps js → AreJudged W q ps ks → js ≡ ks
+one_list_judged W q given [] [] [] h g = refl
+one_list_judged W q given [] [] (k ∷ ks) h g = absurd g
+one_list_judged W q given [] (j ∷ js) ks h g = absurd h
+one_list_judged W q given (p ∷ ps) [] ks h g = absurd h
+one_list_judged W q given (p ∷ ps) (j ∷ js) [] h g = absurd g
+one_list_judged W q given (p ∷ ps) (j ∷ js) (k ∷ ks) h g =
+    let first = one_judgement W q given p j k h.0 g.0 in
+    let rest = one_list_judged W q given ps js ks h.1 g.1 in
     λ i. first i ∷ rest i
 
 one_cycle : (parents : Parents) (xs ys : List EntityUid) → AreOnCycles parents xs → IsAscending xs → AreOnCycles parents ys → IsAscending ys → xs ≡ ys
@@ -64,14 +106,21 @@ some_member : {X : Type 0} (xs : List X) → xs ≢ [] → (x : X) × Contains x
 some_member [] ne = absurd (ne refl)
 some_member (x ∷ xs) ne = (x, Contains-here x xs)
 
-not_both : (parents : Parents) (q : Request) (ps : List Named) (a b : Answer) → IsCycleDenial parents a → IsPolicyAnswer parents q ps b → ⊥
-not_both parents q ps a b d p = let m = some_member a.cycle d.some in p.acyclic m.0 ((d.named m.0).0 m.1)
+not_both : (W : World) (q : Request) (ps : List Named) (a b : Answer) → IsCycleDenial W.parents a → IsPolicyAnswer W q ps b → ⊥
+not_both W q ps a b d p = let m = some_member a.cycle d.some in p.acyclic m.0 ((d.named m.0).0 m.1)
 
-pub one_answer : OneAnswer
-one_answer parents q ps a b (inl d) (inl e) = one_denial parents a b d e
-one_answer parents q ps a b (inl d) (inr p) = absurd (not_both parents q ps a b d p)
-one_answer parents q ps a b (inr p) (inl d) = absurd (not_both parents q ps b a d p)
-one_answer parents q ps a b (inr p) (inr r) = p.answer ∙ ap answer_by (one_list_judged parents q ps p.judged r.judged p.outcomes r.outcomes) ∙ sym r.answer
+has_one_answer : (W : World) → ((q : Request) → Determined W q) → HasOneAnswer W
+has_one_answer W given q ps a b (inl d) (inl e) = one_denial W.parents a b d e
+has_one_answer W given q ps a b (inl d) (inr p) = absurd (not_both W q ps a b d p)
+has_one_answer W given q ps a b (inr p) (inl d) = absurd (not_both W q ps b a d p)
+has_one_answer W given q ps a b (inr p) (inr r) =
+    p.answer ∙ ap answer_by (one_list_judged W q (given q) ps p.judged r.judged p.outcomes r.outcomes) ∙ sym r.answer
+
+pub one_answer : HaveOneOutcome → OneAnswer
+one_answer law W above D = has_one_answer W (law W above D)
+
+pub one_answer_in_finite : HaveOneOutcomeInFiniteHierarchies → OneAnswerInFiniteHierarchies
+one_answer_in_finite law W stored all = has_one_answer W (law W stored all)
 
 -- ---- default deny, and forbids decide
 denied : (permits forbids : List (List ℕ)) (errors : List Erring) → permits ≡ [] → (decided permits forbids errors).decision ≡ Deny
@@ -218,11 +267,11 @@ policies_erring [] = refl
 policies_erring (j ∷ js) = map-append (λ e. e.policy) (if_erring j) (erring js) ∙ ap (λ rest. policy_if_erring j ++ rest) (policies_erring js)
 
 -- judging keeps the ids
-same_ids : (parents : Parents) (q : Request) (ps : List Named) (js : List Judged) → AreJudged parents q ps js → map (λ p. p.id) ps ≡ map (λ j. j.id) js
-same_ids parents q [] [] h = refl
-same_ids parents q [] (j ∷ js) h = absurd h
-same_ids parents q (p ∷ ps) [] h = absurd h
-same_ids parents q (p ∷ ps) (j ∷ js) h = let rest = same_ids parents q ps js h.1 in λ i. sym h.0.id i ∷ rest i
+same_ids : (W : World) (q : Request) (ps : List Named) (js : List Judged) → AreJudged W q ps js → map (λ p. p.id) ps ≡ map (λ j. j.id) js
+same_ids W q [] [] h = refl
+same_ids W q [] (j ∷ js) h = absurd h
+same_ids W q (p ∷ ps) [] h = absurd h
+same_ids W q (p ∷ ps) (j ∷ js) h = let rest = same_ids W q ps js h.1 in λ i. sym h.0.id i ∷ rest i
 
 abbrev Ascends : Answer → Type 0
 Ascends a = AreIdsAscending a.reason × AreIdsAscending (map (λ e. e.policy) a.errors) × IsAscending a.cycle
@@ -245,6 +294,6 @@ unfolding IsStrictlySortedBy
 denial_ascends parents a d = subst Ascends (sym d.rest) (tt, tt, d.ascending)
 
 pub lists_ascend : ListsAscend
-lists_ascend parents q ps a h (inl d) = denial_ascends parents a d
-lists_ascend parents q ps a h (inr p) =
-    subst Ascends (sym p.answer) (answer_ascends p.judged (subst AreIdsAscending (same_ids parents q ps p.judged p.outcomes) h))
+lists_ascend W q ps a h (inl d) = denial_ascends W.parents a d
+lists_ascend W q ps a h (inr p) =
+    subst Ascends (sym p.answer) (answer_ascends p.judged (subst AreIdsAscending (same_ids W q ps p.judged p.outcomes) h))

@@ -1,31 +1,46 @@
--- The answer to a request, over the policies at hand.
+-- The answer to a request, over the policies and the stored entities at hand.
 -- Source: Cedar reference guide 4.0, "Authorization" (default deny, forbid overrides permit, errors skip a policy);
 -- cedar-spec, Spec/Authorizer. That a hierarchy with a cycle is answered by a denial that names the cycle is a rule of this product.
-use Rattle.std.specs.Prelude.{◌≡◌, ◌≢◌, ◌⊎◌, ℕ, List, [], ◌∷◌}
+use Rattle.std.specs.Prelude.{◌≡◌, ◌≢◌, ◌⊎◌, ℕ, List, [], ◌∷◌, true, false, Ok, Err}
 use Rattle.std.specs.List.{flat_map}
 use Rattle.values.specs.declared.entity_uid.EntityUid.{EntityUid}
 use Rattle.values.specs.declared.request.Request.{Request}
+use Rattle.values.specs.Values.{boolean}
 use Rattle.ancestor_closure.specs.Hierarchy.{Parents, Above, AreOnCycles, IsAscending}
 use Rattle.policy_grammar.specs.declared.policy.Policy.{Policy}
 use Rattle.policy_grammar.specs.declared.policy.Effect.{Effect}
 use Rattle.policy_grammar.specs.declared.policy.Effect.TheVariants.{Permit, Forbid}
+use Rattle.policy_grammar.specs.Whole.{expression_of}
+use Rattle.evaluator.specs.declared.fault.EvalFault.{EvalFault}
+use Rattle.evaluator.specs.declared.fault.EvalFault.TheVariants as fault
+use Rattle.evaluator.specs.Operators.{World}
+use Rattle.evaluator.specs.Evaluation.{Gives}
 use Rattle.authoriser.specs.declared.answer.Answer.{Answer}
 use Rattle.authoriser.specs.declared.answer.Decision.TheVariants.{Allow, Deny}
 use Rattle.authoriser.specs.declared.answer.Erring.{Erring}
 use Rattle.authoriser.specs.declared.outcome.Outcome.{Outcome}
 use Rattle.authoriser.specs.declared.outcome.Outcome.TheVariants.{Satisfied, NotSatisfied, Errs}
-use Rattle.authoriser.specs.Scopes.{IsScopeTrue}
+use Rattle.authoriser.specs.declared.outcome.PolicyError.{PolicyError}
+use Rattle.authoriser.specs.declared.outcome.PolicyError.TheVariants.{EntityDoesNotExist, AttrDoesNotExist, TypeError, ArithBoundsError, ExtensionError}
 
 -- a policy and its id
 pub record Named : Type 0 where
   pub id : List ℕ
   pub policy : Policy
 
--- what a policy comes to; its scope alone decides until it has conditions, and a scope does not err
-abbrev pub ComesTo : Parents → Request → Policy → Outcome → Type 0
-ComesTo parents q policy Satisfied = IsScopeTrue parents policy.scope q
-ComesTo parents q policy NotSatisfied = IsScopeTrue parents policy.scope q → ⊥
-ComesTo parents q policy (Errs error) = ⊥
+-- the error of a policy, as evaluating tells it
+abbrev pub fault_of : PolicyError → EvalFault
+fault_of EntityDoesNotExist = fault.EntityDoesNotExist
+fault_of AttrDoesNotExist = fault.AttrDoesNotExist
+fault_of TypeError = fault.TypeError
+fault_of ArithBoundsError = fault.ArithBoundsError
+fault_of ExtensionError = fault.ExtensionError
+
+-- what a policy comes to: what its whole expression gives
+abbrev pub ComesTo : World → Request → Policy → Outcome → Type 0
+ComesTo W q policy Satisfied = Gives W q (expression_of policy) (Ok (boolean true))
+ComesTo W q policy NotSatisfied = Gives W q (expression_of policy) (Ok (boolean false))
+ComesTo W q policy (Errs error) = Gives W q (expression_of policy) (Err (fault_of error))
 
 -- a policy's id and effect, and what it comes to
 pub record Judged : Type 0 where
@@ -33,17 +48,17 @@ pub record Judged : Type 0 where
   pub effect : Effect
   pub outcome : Outcome
 
-pub record IsJudged (parents : Parents) (q : Request) (p : Named) (j : Judged) : Type 0 where
+pub record IsJudged (W : World) (q : Request) (p : Named) (j : Judged) : Type 0 where
   pub id : j.id ≡ p.id
   pub effect : j.effect ≡ p.policy.effect
-  pub outcome : ComesTo parents q p.policy j.outcome
+  pub outcome : ComesTo W q p.policy j.outcome
 
 -- each policy in its order
-abbrev pub AreJudged : Parents → Request → List Named → List Judged → Type 0
-AreJudged parents q [] [] = Unit {0}
-AreJudged parents q [] (j ∷ js) = ⊥
-AreJudged parents q (p ∷ ps) [] = ⊥
-AreJudged parents q (p ∷ ps) (j ∷ js) = IsJudged parents q p j × AreJudged parents q ps js
+abbrev pub AreJudged : World → Request → List Named → List Judged → Type 0
+AreJudged W q [] [] = Unit {0}
+AreJudged W q [] (j ∷ js) = ⊥
+AreJudged W q (p ∷ ps) [] = ⊥
+AreJudged W q (p ∷ ps) (j ∷ js) = IsJudged W q p j × AreJudged W q ps js
 
 abbrev id_if : Effect → Effect → Outcome → List ℕ → List (List ℕ)
 id_if Permit Permit Satisfied id = id ∷ []
@@ -86,11 +101,11 @@ pub record IsCycleDenial (parents : Parents) (a : Answer) : Type 0 where
   pub rest : a ≡ record { decision = Deny; reason = []; errors = []; cycle = a.cycle }
 
 -- no entity is on a cycle: the answer by what the policies come to
-pub record IsPolicyAnswer (parents : Parents) (q : Request) (ps : List Named) (a : Answer) : Type 0 where
-  pub acyclic : (uid : EntityUid) → Above parents uid uid → ⊥
+pub record IsPolicyAnswer (W : World) (q : Request) (ps : List Named) (a : Answer) : Type 0 where
+  pub acyclic : (uid : EntityUid) → Above W.parents uid uid → ⊥
   pub judged : List Judged
-  pub outcomes : AreJudged parents q ps judged
+  pub outcomes : AreJudged W q ps judged
   pub answer : a ≡ answer_by judged
 
-abbrev pub IsAnswer : Parents → Request → List Named → Answer → Type 0
-IsAnswer parents q ps a = IsCycleDenial parents a ⊎ IsPolicyAnswer parents q ps a
+abbrev pub IsAnswer : World → Request → List Named → Answer → Type 0
+IsAnswer W q ps a = IsCycleDenial W.parents a ⊎ IsPolicyAnswer W q ps a

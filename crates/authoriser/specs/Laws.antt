@@ -1,18 +1,29 @@
 -- What a reader of policies may rely on, as laws over the definition of answers.
-use Rattle.std.specs.Prelude.{◌≡◌, ◌≢◌, ◌↔◌, ℕ, List, [], ◌∷◌, ◌++◌, map, Contains}
+use Rattle.std.specs.Prelude.{◌≡◌, ◌≢◌, ◌↔◌, ℕ, List, [], ◌∷◌, ◌++◌, map, Contains, Bool}
 use Rattle.std.specs.List.Sorted.{IsStrictlySortedBy}
+use Rattle.values.specs.declared.entity_uid.EntityUid.{EntityUid}
 use Rattle.values.specs.declared.request.Request.{Request}
 use Rattle.values.specs.Uids.{text_cmp}
-use Rattle.ancestor_closure.specs.Hierarchy.{Parents, IsAscending}
+use Rattle.ancestor_closure.specs.Hierarchy.{IsAscending}
+use Rattle.ancestor_closure.specs.Decided.{Decides, HaveAllParents}
 use Rattle.policy_grammar.specs.declared.policy.Effect.TheVariants.{Permit, Forbid}
+use Rattle.evaluator.specs.Operators.{World}
 use Rattle.authoriser.specs.declared.answer.Answer.{Answer}
 use Rattle.authoriser.specs.declared.answer.Decision.TheVariants.{Deny}
 use Rattle.authoriser.specs.declared.outcome.Outcome.TheVariants.{NotSatisfied}
 use Rattle.authoriser.specs.Answers.{Named, Judged, IsAnswer, satisfied, answer_by}
 
 -- a request has one answer at most
+abbrev pub HasOneAnswer : World → Type 0
+HasOneAnswer W = (q : Request) (ps : List Named) (a b : Answer) → IsAnswer W q ps a → IsAnswer W q ps b → a ≡ b
+
+-- so it is wherever a test decides who is above whom,
 abbrev pub OneAnswer : Type 0
-OneAnswer = (parents : Parents) (q : Request) (ps : List Named) (a b : Answer) → IsAnswer parents q ps a → IsAnswer parents q ps b → a ≡ b
+OneAnswer = (W : World) (above : EntityUid → EntityUid → Bool) → Decides W.parents above → HasOneAnswer W
+
+-- and wherever finitely many entities have parents
+abbrev pub OneAnswerInFiniteHierarchies : Type 0
+OneAnswerInFiniteHierarchies = (W : World) (stored : List EntityUid) → HaveAllParents W.parents stored → HasOneAnswer W
 
 -- without a satisfied permit it is denied
 abbrev pub DefaultDeny : Type 0
@@ -43,5 +54,5 @@ AreIdsAscending ids = IsStrictlySortedBy text_cmp ids
 
 -- where the ids of the policies ascend, each list of the answer ascends: the reason, the errors by their policy, the cycle by the order of uids
 abbrev pub ListsAscend : Type 0
-ListsAscend = (parents : Parents) (q : Request) (ps : List Named) (a : Answer) → AreIdsAscending (map (λ p. p.id) ps) → IsAnswer parents q ps a →
+ListsAscend = (W : World) (q : Request) (ps : List Named) (a : Answer) → AreIdsAscending (map (λ p. p.id) ps) → IsAnswer W q ps a →
     AreIdsAscending a.reason × AreIdsAscending (map (λ e. e.policy) a.errors) × IsAscending a.cycle

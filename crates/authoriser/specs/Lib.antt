@@ -1,4 +1,5 @@
 pub mod Scopes
 pub mod Answers
+pub mod Parts
 pub mod Laws
 pub mod Views

@@ -1,21 +1,26 @@
 -- How the values that the code holds are read by the definitions.
-use Rattle.std.specs.Prelude.{◌≡◌, ◌⊎◌, ℕ, List, map, Contains}
+use Rattle.std.specs.Prelude.{◌≡◌, ◌⊎◌, ℕ, List, map, Contains, true, false, Ok}
 use Rattle.std.specs.Borrow.{Bor}
 use Rattle.values.specs.declared.entity_uid.EntityUid.{EntityUid}
 use Rattle.values.specs.declared.request.Request.{Request}
+use Rattle.values.specs.Values.{PlainValue, boolean}
 use Rattle.ancestor_closure.specs.Hierarchy.{Parents, IsAllAbove, IsAscending, names}
+use Rattle.expressions.specs.declared.expr.Expr.{Expr}
 use Rattle.policy_grammar.specs.declared.policy.Policy.{Policy}
 use Rattle.policy_grammar.specs.declared.policy.Scope.{Scope}
 use Rattle.policy_grammar.specs.declared.policy.Effect.TheVariants.{Permit, Forbid}
+use Rattle.evaluator.specs.Operators.{World}
+use Rattle.evaluator.specs.Evaluation.{Gives, TestFails}
 use Rattle.authoriser.specs.declared.answer.Erring.{Erring}
 use Rattle.authoriser.specs.declared.outcome.Outcome.{Outcome}
 use Rattle.authoriser.specs.declared.outcome.Outcome.TheVariants.{Satisfied, NotSatisfied, Errs}
 use Rattle.authoriser.specs.declared.outcome.PolicyError.{PolicyError}
+use Rattle.authoriser.specs.declared.outcome.PolicyError.TheVariants.{TypeError}
 use Rattle.authoriser.specs.declared.placed.Placed.{Placed}
 use Rattle.authoriser.specs.declared.placed.Standing.{Standing}
 use Rattle.authoriser.specs.declared.tally.Tally.{Tally}
 use Rattle.authoriser.specs.Scopes.{IsEntityScopeTrue, IsActionScopeTrue}
-use Rattle.authoriser.specs.Answers.{Named, Judged, satisfied, erring}
+use Rattle.authoriser.specs.Answers.{Named, Judged, fault_of, satisfied, erring}
 
 -- the policies that the caller hands in
 abbrev pub named : List (Bor (List ℕ) × Bor Policy) → List Named
@@ -48,10 +53,17 @@ IsTrueOf scope s =
     × IsActionScopeTrue (IsWithin s.action) scope.action s.action.uid.now
     × IsEntityScopeTrue (IsWithin s.resource) scope.resource s.resource.uid.now
 
-abbrev pub OutcomeIs : Scope → Standing → Outcome → Type 0
-OutcomeIs scope s Satisfied = IsTrueOf scope s
-OutcomeIs scope s NotSatisfied = IsTrueOf scope s → ⊥
-OutcomeIs scope s (Errs error) = ⊥
+-- what a condition as a test comes to
+abbrev pub ConditionComesTo : World → Request → Expr → Outcome → Type 0
+ConditionComesTo W q x Satisfied = Gives W q x (Ok (boolean true))
+ConditionComesTo W q x NotSatisfied = Gives W q x (Ok (boolean false))
+ConditionComesTo W q x (Errs error) = TestFails W q x (fault_of error)
+
+-- a condition has to give a boolean
+abbrev pub outcome_by : PlainValue → Outcome
+outcome_by (boolean true) = Satisfied
+outcome_by (boolean false) = NotSatisfied
+outcome_by v = Errs TypeError
 
 abbrev pub ids : List (Bor (List ℕ)) → List (List ℕ)
 ids xs = map (λ x. x.now) xs

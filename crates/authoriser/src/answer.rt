@@ -10,7 +10,7 @@ pub enum Decision {
 }
 
 /// A policy that errs, and how.
-#[derive(Debug, Drop)]
+#[derive(Drop)]
 pub struct Erring {
     /// The policy's id.
     pub policy: Text,
@@ -18,7 +18,7 @@ pub struct Erring {
 }
 
 /// The answer to a request; it owns its parts.
-#[derive(Debug, Drop)]
+#[derive(Drop)]
 pub struct Answer {
     pub decision: Decision,
     /// The ids of the determining policies, ascending: the satisfied permits where it is allowed, else the satisfied forbids.

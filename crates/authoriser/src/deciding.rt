@@ -1,12 +1,14 @@
 ghost use Rattle.std.specs.Prelude.{◌≡◌, ◌↔◌, [], List, map, IsTrue, IfOk};
+ghost use Rattle.evaluator.specs.Operators.{world_of};
 ghost use Rattle.authoriser.specs.Answers.{Judged, AreJudged, answer_by, IsAnswer};
 ghost use Rattle.authoriser.specs.Views.{named};
 
 use crate::answer::{Answer, Decision};
+use crate::conditions::outcome_of;
 use crate::placed::standing_of;
-use crate::scopes::outcome_of;
 use crate::tally::Tally;
 use ancestor_closure::Ancestry;
+use evaluator::Lookup;
 use plain::{Items, NoMemory};
 use policy_grammar::Policy;
 use std::alloc::Global;
@@ -29,40 +31,42 @@ fn is_none(uids: &[&EntityUid]) -> bool
     uids.is_empty()
 }
 
-/// What the policies come to, where the hierarchy has no cycle.
-fn answer_by_policies<A: Ancestry>(
+/// The answer by what the policies come to, where the hierarchy has no cycle.
+fn answer_by_policies<L: Lookup>(
     alloc: Global,
     policies: &[(&str, &Policy)],
     request: &Request,
-    ancestry: &A,
+    store: &L,
 ) -> Result<Answer, NoMemory>
-    ensures { IfOk result (λ a. (js : List Judged) × AreJudged (A.parents ancestry.now) request.now (named policies.now) js × (a ≡ answer_by js)) }
+    ensures { IfOk result (λ a. (js : List Judged) × AreJudged (world_of (L.stored store.now) (L.parents store.now)) request.now (named policies.now) js × (a ≡ answer_by js)) }
 {
-    let standing = standing_of(ancestry, request)?;
+    let standing = standing_of(store, request)?;
     let mut tally = Tally::new(alloc);
     for (id, policy) in policies {
-        tally.note(id, policy.effect, outcome_of(&policy.scope, &standing))?;
+        let outcome = outcome_of(alloc, policy, &standing, request, store)?;
+        tally.note(id, policy.effect, outcome)?;
     }
     tally.into_answer(alloc)
 }
 
-/// The answer to a request over these policies and this hierarchy.
+/// The answer to a request over these policies and these stored entities.
 ///
 /// The caller's condition is that the ids ascend strictly; the lists of the answer then ascend by id, which is the law `ascending` of
-/// `answers_are_lawful`. One pass over the policies; the ancestors of the request's three entities are asked for once each.
+/// `answers_are_lawful`. One pass over the policies; the ancestors of the request's three entities are asked for once each, and a
+/// condition is evaluated only where the scope before it is true.
 ///
 /// Source: Cedar reference guide, "Authorization". Errors: `NoMemory` alone.
-pub fn decide<A: Ancestry>(
+pub fn decide<L: Lookup>(
     alloc: Global,
     policies: &[(&str, &Policy)],
     request: &Request,
-    ancestry: &A,
+    store: &L,
 ) -> Result<Answer, NoMemory>
-    ensures { IfOk result (λ a. IsAnswer (A.parents ancestry.now) request.now (named policies.now) a) }
+    ensures { IfOk result (λ a. IsAnswer (world_of (L.stored store.now) (L.parents store.now)) request.now (named policies.now) a) }
 {
-    let cyclic = ancestry.cyclic()?;
+    let cyclic = store.cyclic()?;
     if is_none(&cyclic) {
-        return answer_by_policies(alloc, policies, request, ancestry);
+        return answer_by_policies(alloc, policies, request, store);
     }
     let cycle = copy_uids(alloc, &cyclic)?;
     Ok(Answer {

@@ -18,8 +18,8 @@ pub enum PolicyError {
 pub enum Outcome {
     /// Its scope and its conditions are true.
     Satisfied,
-    /// Something of it is false.
+    /// Its scope is not true, or its conditions are false.
     NotSatisfied,
-    /// Its conditions err. No policy does so before policies have conditions.
+    /// Its scope is true and its conditions err.
     Errs(PolicyError),
 }

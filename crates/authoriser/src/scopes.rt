@@ -3,9 +3,8 @@ ghost use Rattle.std.specs.Prelude.{◌↔◌, IsTrue, Contains};
 ghost use Rattle.values.specs.declared.entity_uid.EntityUid.{EntityUid};
 ghost use Rattle.ancestor_closure.specs.Hierarchy.{IsAscending, names};
 ghost use Rattle.authoriser.specs.Scopes.{IsEntityScopeTrue, IsActionScopeTrue};
-ghost use Rattle.authoriser.specs.Views.{IsWithin, AreAscending, OutcomeIs};
+ghost use Rattle.authoriser.specs.Views.{IsWithin, AreAscending, IsTrueOf};
 
-use crate::outcome::Outcome;
 use crate::placed::{Placed, Standing, is_same, is_same_type};
 use policy_grammar::{ActionScope, EntityScope, Scope};
 use values::EntityUid;
@@ -49,17 +48,12 @@ fn is_within_any(entities: &[EntityUid], placed: &Placed<'_>) -> bool
     false
 }
 
-/// What a policy of this scope comes to.
-pub(crate) fn outcome_of(scope: &Scope, standing: &Standing<'_>) -> Outcome
+/// Whether all three parts of a scope are true.
+pub(crate) fn is_scope_true(scope: &Scope, standing: &Standing<'_>) -> bool
     requires { AreAscending standing.now }
-    ensures { OutcomeIs scope.now standing.now result }
+    ensures { IsTrue result ↔ IsTrueOf scope.now standing.now }
 {
-    if is_entity_scope_true(&scope.principal, &standing.principal)
+    is_entity_scope_true(&scope.principal, &standing.principal)
         && is_action_scope_true(&scope.action, &standing.action)
         && is_entity_scope_true(&scope.resource, &standing.resource)
-    {
-        Outcome::Satisfied
-    } else {
-        Outcome::NotSatisfied
-    }
 }

@@ -1,15 +1,21 @@
-//! What a run writes, and the status that it ends with.
-ghost use Rattle.std.specs.Prelude.{◌≡◌, IfOk, OnOk, MatchResult};
+//! What a run writes at its end, and the status that it ends with.
+ghost use Rattle.std.specs.Prelude.{◌≡◌, ◌⊎◌, ◌++◌, is_ok};
 ghost use Rattle.std.specs.Process.{exit_status};
-ghost use Rattle.decision_texts.specs.Refusals.{error_line};
-ghost use Rattle.cedar_site.specs.Reports.{WroteLine, EndsWith, WroteRefusal, file_line, IsLineStatus};
+ghost use Rattle.clap.specs.Words.{kind_of};
+ghost use Rattle.decision_texts.specs.Refusals.{error_line, no_memory};
+ghost use Rattle.cedar_site.specs.Events.{Runs};
+ghost use Rattle.cedar_site.specs.Reports.{IsTold, IsAnswerTold, IsRefusalTold, IsMemoryTold, IsFileTold, IsErrorTold, IsFaultTold, is_help, status_after};
 
+use crate::host::Host;
 use crate::line::LineFault;
+use crate::stream::{Stream, StreamFailed};
+use clap::error::ErrorKind;
 use decision_texts::{Refusal, error_line};
 use std::alloc::Global;
-use std::io;
-use std::io::Write;
 use std::process::ExitCode;
+
+/// An answer was given, or help.
+const ANSWERED: u8 = 0;
 
 /// The texts are refused.
 const REFUSED: u8 = 1;
@@ -17,86 +23,91 @@ const REFUSED: u8 = 1;
 /// The words are no command line.
 const LINE_FAULT: u8 = 2;
 
-/// A file could not be read, or nothing could be written.
-pub const FILE_FAULT: u8 = 3;
+/// A file could not be read, or a stream failed.
+pub const FAILED: u8 = 3;
 
 /// The line that tells of want of memory; it takes none.
 const NO_MEMORY_LINE: &[u8; 47] = b"{\"error\":{\"code\":1,\"place\":null,\"within\":null}}";
 
-/// The status that words end with which are no command: 0 where they ask for help, else 2.
-pub fn line_status(fault: &LineFault) -> u8
-    ensures { IsLineStatus fault.now result }
+/// The status of a run whose last writing came to this.
+fn status_of(written: Result<(), StreamFailed>, status: u8) -> ExitCode
+    ensures { exit_status result ≡ status_after (is_ok written) status }
 {
-    match fault {
-        LineFault::Words(error) if error.exit_code() == 0 => 0,
-        LineFault::Words(_) => LINE_FAULT,
-        LineFault::Incomplete => LINE_FAULT,
+    match written {
+        Ok(()) => ExitCode::from(status),
+        Err(StreamFailed) => ExitCode::from(FAILED),
     }
 }
 
-/// Writes a line and its end.
-fn write_line<W: Write>(out: &mut W, line: &[u8]) -> io::Result<()>
-    ensures { OnOk result (WroteLine line.now (W.contents out.old) (W.contents out.new)) }
+/// Writes the last line of a run.
+fn tell<H: Host>(host: &mut H, stream: Stream, label: &str, line: &[u8], status: u8) -> ExitCode
+    ensures { Runs H.does host.old host.new (λ events. IsTold stream (label.now ++ line.now) status events (exit_status result)) }
 {
-    out.write_all(line)?;
-    out.write_all(b"\n")
+    let written = host.write_line(stream, label, line);
+    status_of(written, status)
 }
 
 /// Writes the line of an answer.
-fn tell_answer<W: Write>(out: &mut W, line: &[u8]) -> io::Result<ExitCode>
-    ensures written { OnOk result (WroteLine line.now (W.contents out.old) (W.contents out.new)) }
-    ensures status { EndsWith 0 result }
+pub fn tell_answer<H: Host>(host: &mut H, line: &[u8]) -> ExitCode
+    ensures { Runs H.does host.old host.new (λ events. IsAnswerTold line.now events (exit_status result)) }
 {
-    write_line(out, line)?;
-    Ok(ExitCode::SUCCESS)
+    tell(host, Stream::Answers, "", line, ANSWERED)
+}
+
+/// Writes that memory was refused.
+fn tell_memory<H: Host>(host: &mut H) -> ExitCode
+    ensures { Runs H.does host.old host.new (λ events. IsMemoryTold events (exit_status result)) }
+{
+    tell(host, Stream::Faults, "", NO_MEMORY_LINE, REFUSED)
 }
 
 /// Writes the line of a refusal, or where memory for it is refused, the line that tells of that.
-fn write_refusal<W: Write>(alloc: Global, err: &mut W, refusal: Refusal) -> io::Result<()>
-    ensures { OnOk result (WroteRefusal refusal (W.contents err.old) (W.contents err.new)) }
+pub fn tell_refusal<H: Host>(alloc: Global, host: &mut H, refusal: Refusal) -> ExitCode
+    ensures { Runs H.does host.old host.new (λ events. IsRefusalTold refusal events (exit_status result) ⊎ IsMemoryTold events (exit_status result)) }
 {
     match error_line(alloc, refusal) {
-        Ok(line) => write_line(err, &line),
-        Err(_) => write_line(err, NO_MEMORY_LINE),
-    }
-}
-
-/// Writes that texts are refused.
-fn tell_refusal<W: Write>(alloc: Global, err: &mut W, refusal: Refusal) -> io::Result<ExitCode>
-    ensures written { OnOk result (WroteRefusal refusal (W.contents err.old) (W.contents err.new)) }
-    ensures status { EndsWith 1 result }
-{
-    write_refusal(alloc, err, refusal)?;
-    Ok(ExitCode::from(REFUSED))
-}
-
-/// Writes what texts came to: an answer on `out`, with status 0, or a refusal on `err`, with status 1.
-pub fn tell_decided<O: Write, E: Write>(
-    alloc: Global,
-    out: &mut O,
-    err: &mut E,
-    decided: Result<Vec<u8>, Refusal>,
-) -> io::Result<ExitCode>
-    ensures written { MatchResult decided
-        (λ line. OnOk result (WroteLine line.items (O.contents out.old) (O.contents out.new)))
-        (λ refusal. OnOk result (WroteRefusal refusal (E.contents err.old) (E.contents err.new))) }
-    ensures status { MatchResult decided (λ _. EndsWith 0 result) (λ _. EndsWith 1 result) }
-    ensures alone { MatchResult decided (λ _. err.new ≡ err.old) (λ _. out.new ≡ out.old) }
-{
-    match decided {
-        Ok(line) => tell_answer(out, &line),
-        Err(refusal) => tell_refusal(alloc, err, refusal),
+        Ok(line) => tell(host, Stream::Faults, "", &line, REFUSED),
+        Err(_) => tell_memory(host),
     }
 }
 
 /// Writes that a file could not be read.
-pub fn tell_file<W: Write>(err: &mut W, name: &str) -> io::Result<ExitCode>
-    ensures written { OnOk result (WroteLine (file_line name.now) (W.contents err.old) (W.contents err.new)) }
-    ensures status { EndsWith 3 result }
+pub fn tell_file<H: Host>(host: &mut H, name: &str) -> ExitCode
+    ensures { Runs H.does host.old host.new (λ events. IsFileTold name.now events (exit_status result)) }
 {
-    err.write_all(b"fault: ")?;
-    write_line(err, name.as_bytes())?;
-    Ok(ExitCode::from(FILE_FAULT))
+    tell(host, Stream::Faults, "fault: ", name.as_bytes(), FAILED)
+}
+
+/// Whether the words ask for help.
+fn asks_for_help(error: &clap::Error) -> bool
+    ensures { result ≡ is_help (kind_of error.now) }
+{
+    matches!(
+        error.kind(),
+        ErrorKind::DisplayHelp | ErrorKind::DisplayVersion
+    )
+}
+
+/// Writes the help that was asked for, or what is wrong with the words.
+fn tell_error<H: Host>(host: &mut H, error: &clap::Error) -> ExitCode
+    ensures { Runs H.does host.old host.new (λ events. IsErrorTold error.now events (exit_status result)) }
+{
+    if asks_for_help(error) {
+        let written = host.print(Stream::Answers, error);
+        return status_of(written, ANSWERED);
+    }
+    let written = host.print(Stream::Faults, error);
+    status_of(written, LINE_FAULT)
+}
+
+/// Writes what words came to that are no command.
+pub fn tell_words<H: Host>(host: &mut H, fault: &LineFault) -> ExitCode
+    ensures { Runs H.does host.old host.new (λ events. IsFaultTold fault.now events (exit_status result)) }
+{
+    match fault {
+        LineFault::Words(error) => tell_error(host, error),
+        LineFault::Incomplete => ExitCode::from(LINE_FAULT),
+    }
 }
 
 #[cfg(test)]

@@ -6,3 +6,4 @@ pub mod OrderLemmas
 pub mod OutcomeLemmas
 pub mod PathLemmas
 pub mod RefusalLemmas
+pub mod StoreLemmas

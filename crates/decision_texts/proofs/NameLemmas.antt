@@ -94,7 +94,7 @@ own_names text names policies file =
     let cores : length policies ≡ length file.trees = AllZip-long (IsCoreOf text) file.trees policies file.are.cores in
     let marks = policy_marks names file.trees in
     subst (IsDistinct bytes_eq) (marked_names start_of names file.trees named ∙ sym (ids_named names policies (named ∙ sym cores)))
-    (differ [] marks (λ at stands. file.are.distinct at (inl stands)) no_names)
+    (differ [] marks (λ at stands. file.are.faultless.distinct at (inl stands)) no_names)
 
 -- ---- one order
 

@@ -1,5 +1,5 @@
 -- Three texts have one outcome.
-use Rattle.std.proofs.Common.{◌≡◌, ◌∙◌, ℕ, List, Option, Some, None, Result, Ok, Err, MatchOption, inl, inr, sym, ap, subst, arith, codes}
+use Rattle.std.proofs.Common.{◌≡◌, ◌∙◌, ℕ, List, map, Option, Some, None, Result, Ok, Err, MatchOption, inl, inr, sym, ap, subst, arith, codes}
 use Rattle.std.specs.Prelude.{◌≢◌, ⊤}
 use Rattle.serde_json.specs.Data.{Data}
 use Rattle.serde_json.specs.Find.{get, as_str}
@@ -13,7 +13,7 @@ use Rattle.policy_grammar.specs.PolicyText.{IsUidText, IsUidRefused, IsFileRefus
 use Rattle.policy_grammar.specs.Unique.{HasOneReading, IsFileOf}
 use Rattle.authoriser.specs.declared.answer.Answer.{Answer}
 use Rattle.authoriser.specs.Answers.{Named, IsAnswer}
-use Rattle.authoriser.specs.Laws.{OneAnswer, ListsAscend}
+use Rattle.authoriser.specs.Laws.{OneAnswerInFiniteHierarchies, ListsAscend}
 use Rattle.decision_texts.specs.declared.refusal.Refusal.{Refusal}
 use Rattle.decision_texts.specs.declared.bare.ShapeFault.TheVariants.{BadShape}
 use Rattle.decision_texts.specs.declared.bare.BareEntity.{BareEntity}
@@ -21,15 +21,16 @@ use Rattle.decision_texts.specs.Bare.{uid_of, entities_of}
 use Rattle.decision_texts.specs.Requests.{Names, NamesNone, StatesRequest, StatesNoRequest, IsNoUidText}
 use Rattle.decision_texts.specs.Lines.{answer_line}
 use Rattle.decision_texts.specs.Refusals.{no_memory}
-use Rattle.decision_texts.specs.Decisions.{ArePoliciesOf, IsFileFault, refusal_by, parents_in, named_policies, IsAnswerTo, ArePoliciesRefused}
+use Rattle.decision_texts.specs.Decisions.{ArePoliciesOf, IsFileFault, refusal_by, world_in, named_policies, IsAnswerTo, ArePoliciesRefused}
 use Rattle.decision_texts.specs.Outcomes.{OneLine, NotBoth, OneRefusal, ListsOfLinesAscend}
+use Rattle.decision_texts.proofs.StoreLemmas.{all_parents}
 use Rattle.decision_texts.proofs.NameLemmas.{HaveOwnNames, own_names, one_order, ids_ascend}
 
 -- the laws of what the texts are made of
 pub record Laws : Type 0 where
   pub uids : HasOneReading IsUidText IsUidRefused
   pub files : HasOneReading IsFileOf IsFileRefused
-  pub answers : OneAnswer
+  pub answers : OneAnswerInFiniteHierarchies
 
 ok_same : {A E : Type 0} (r : Result A E) (x y : A) → r ≡ Ok x → r ≡ Ok y → x ≡ y
 ok_same r x y h g = cc
@@ -119,7 +120,7 @@ answer_same : Laws → (policies : List Named) (stored : List BareEntity) (asked
     IsAnswerTo policies stored asked a → IsAnswerTo policies stored asked b → a ≡ b
 answer_same laws policies stored asked a b own x y =
     let order : x.ordered ≡ y.ordered = one_order policies x.ordered y.ordered own x.order y.order in
-    laws.answers (parents_in stored) asked y.ordered a b (subst (λ ps. IsAnswer (parents_in stored) asked ps a) order x.is) y.is
+    laws.answers (world_in stored) (map (λ e. e.uid) stored) (all_parents stored) asked y.ordered a b (subst (λ ps. IsAnswer (world_in stored) asked ps a) order x.is) y.is
 
 -- ---- outcomes
 
@@ -154,5 +155,5 @@ one_refusal laws policies entities request refusal other (inr (inr a)) (inr (inr
 pub lines_ascend : ListsAscend → ListsOfLinesAscend
 lines_ascend law policies entities request line x =
     let named = named_policies x.names x.cores in
-    law (parents_in x.stored) x.asked x.answers.ordered x.answer (ids_ascend named x.answers.ordered (own_names policies x.names x.cores x.file.file) x.answers.order)
+    law (world_in x.stored) x.asked x.answers.ordered x.answer (ids_ascend named x.answers.ordered (own_names policies x.names x.cores x.file.file) x.answers.order)
     x.answers.is

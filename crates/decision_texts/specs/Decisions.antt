@@ -1,19 +1,24 @@
 -- What three texts come to: the line of an answer, or the first refusal.
 -- Rules of this product: the policies are judged before the entities, the entities before the request; a file that is too long is refused before it is
 -- asked whether it is UTF-8, and bytes that are not UTF-8 are a bad token at place 0.
-use Rattle.std.specs.Prelude.{◌≡◌, ◌⊎◌, ◌≤◌, ◌<◌, ℕ, List, [], ◌∷◌, length, None, Ok, Err, IsPermutation}
+use Rattle.std.specs.Prelude.{◌≡◌, ◌⊎◌, ◌≤◌, ◌<◌, ℕ, List, [], ◌∷◌, length, if◌then◌else◌, Option, Some, None, Ok, Err, IsPermutation}
+use Rattle.std.specs.List.{list_any}
 use Rattle.std.specs.List.Sorted.{IsSortedByKey}
 use Rattle.std.specs.Ordering.{nat_cmp}
 use Rattle.std.specs.Cmp.Lexicographic.{slice_cmp}
 use Rattle.std.specs.Str.{IsUtf8}
+use Rattle.values.specs.declared.entity_uid.EntityUid.{EntityUid}
 use Rattle.values.specs.declared.request.Request.{Request}
+use Rattle.values.specs.Fields.{Field}
 use Rattle.ancestor_closure.specs.Hierarchy.{Parents, no_parents, with_parents}
+use Rattle.ancestor_closure.specs.Decided.{is_same}
 use Rattle.policy_grammar.specs.declared.fault.ReadFault.{ReadFault}
 use Rattle.policy_grammar.specs.declared.fault.ReadFault.TheVariants.{TooLong, BadToken}
 use Rattle.policy_grammar.specs.declared.policy.Policy.{Policy}
 use Rattle.policy_grammar.specs.Faults.{code_of, place_of}
 use Rattle.policy_grammar.specs.Limits.{most_file_bytes}
 use Rattle.policy_grammar.specs.PolicyText.{IsPolicyFile, IsFileRefused}
+use Rattle.evaluator.specs.Operators.{World, world_of}
 use Rattle.authoriser.specs.declared.answer.Answer.{Answer}
 use Rattle.authoriser.specs.Answers.{Named, IsAnswer}
 use Rattle.decision_texts.specs.declared.refusal.Refusal.{Refusal}
@@ -45,11 +50,17 @@ pub record ArePoliciesRefused (bytes : List ℕ) (refusal : Refusal) : Type 0 wh
   pub due : IsFileFault bytes fault
   pub is : refusal ≡ refusal_by fault
 
--- ---- the hierarchy of the entities: each has the parents that it states, and no other entity has any
+-- ---- the entities: each is stored without attributes and has the parents that it states; no other entity is stored, and none has parents
 
 abbrev pub parents_in : List BareEntity → Parents
 parents_in [] = no_parents
 parents_in (e ∷ es) = with_parents (parents_in es) e.uid e.parents
+
+abbrev pub stored_in : List BareEntity → EntityUid → Option (List Field)
+stored_in es uid = if list_any (λ e. is_same e.uid uid) es then Some [] else None
+
+abbrev pub world_in : List BareEntity → World
+world_in es = world_of (stored_in es) (parents_in es)
 
 -- ---- the policies by their names
 
@@ -67,7 +78,7 @@ pub record IsInOrder (policies ordered : List Named) : Type 0 where
 pub record IsAnswerTo (policies : List Named) (stored : List BareEntity) (asked : Request) (answer : Answer) : Type 0 where
   pub ordered : List Named
   pub order : IsInOrder policies ordered
-  pub is : IsAnswer (parents_in stored) asked ordered answer
+  pub is : IsAnswer (world_in stored) asked ordered answer
 
 -- ---- the three texts
 

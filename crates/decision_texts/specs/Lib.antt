@@ -4,4 +4,5 @@ pub mod Bare
 pub mod Requests
 pub mod Lines
 pub mod Decisions
+pub mod Stores
 pub mod Outcomes

@@ -1,7 +1,7 @@
 ghost use Rattle.std.specs.Prelude.{◌≡◌, map, string_bytes, IfOk, IfErr};
 ghost use Rattle.authoriser.specs.Views.{named};
 ghost use Rattle.decision_texts.specs.Refusals.{no_memory};
-ghost use Rattle.decision_texts.specs.Decisions.{parents_in, named_policies, IsInOrder, IsAnswerTo, IsDecided, IsRefused};
+ghost use Rattle.decision_texts.specs.Decisions.{named_policies, IsInOrder, IsAnswerTo, IsDecided, IsRefused};
 
 use crate::bare::BareEntity;
 use crate::entity_file::{read_entities, refusal_at};
@@ -9,25 +9,12 @@ use crate::lines::answer_line;
 use crate::policies::{read_policies, refusal_by};
 use crate::refusal::Refusal;
 use crate::request::read_request;
-use ancestor_closure::{Ancestry, Hierarchy, Searched};
+use crate::store::BareStore;
 use authoriser::{Answer, decide};
 use plain::{Items, NoMemory};
 use policy_grammar::Policy;
 use std::alloc::Global;
 use values::Request;
-
-/// The hierarchy in which each entity has its own parents.
-fn hierarchy_of(alloc: Global, entities: Items<BareEntity>) -> Result<Searched, NoMemory>
-    ensures { IfOk result (λ h. ⟦<Searched as Ancestry>⟧.parents h ≡ parents_in entities) }
-{
-    let mut left = entities.into_vec();
-    let mut hierarchy = Searched::new(alloc);
-    while let Some(entity) = left.pop() {
-        let BareEntity { uid, parents } = entity;
-        hierarchy.set_parents(uid, parents.into_vec())?;
-    }
-    Ok(hierarchy)
-}
 
 /// The policies by reference, in the same order.
 fn referred<'p>(
@@ -65,8 +52,8 @@ fn answer_to(
     ensures { IfOk result (IsAnswerTo (named_policies (map (λ p. string_bytes p.0) policies.now) (map (λ p. p.1) policies.now)) entities request.now) }
 {
     let ordered = in_order(alloc, policies)?;
-    let hierarchy = hierarchy_of(alloc, entities)?;
-    decide(alloc, &ordered, request, &hierarchy)
+    let store = BareStore::of(alloc, entities)?;
+    decide(alloc, &ordered, request, &store)
 }
 
 /// The line of the answer to a request, over a file of policies and an array of entities, or the first refusal.

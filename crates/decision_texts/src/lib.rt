@@ -9,11 +9,9 @@ mod lines;
 mod policies;
 mod refusal;
 mod request;
+mod store;
 
 pub use deciding::decide_texts;
 pub use laws::texts_have_one_outcome;
 pub use lines::answer_line;
 pub use refusal::{Refusal, error_line};
-
-#[cfg(test)]
-mod tests;

@@ -35,7 +35,7 @@ to_set vs = Ok (set (values_of (set_list vs)))
 to_record : List Field → Outcome
 to_record fs = Ok (record_of (fields_of fs))
 
-set_of : (vs : List PlainValue) → IsSetOf vs (set_list vs)
+pub set_of : (vs : List PlainValue) → IsSetOf vs (set_list vs)
 set_of vs = record {
   ascending = sorted_set vs;
   members = λ v. (

@@ -181,7 +181,7 @@ binary_call_is _ _ _ _ (rule.no_addresses {v} {w} h) = others_are (λ x y. truth
 
 -- ---- lists of entities
 
-all_entities : (vs : List PlainValue) → ((us : List EntityUid) × (vs ≡ map entity us)) ⊎ ((v : PlainValue) × Contains vs v × (entity_in v ≡ None))
+pub all_entities : (vs : List PlainValue) → ((us : List EntityUid) × (vs ≡ map entity us)) ⊎ ((v : PlainValue) × Contains vs v × (entity_in v ≡ None))
 all_entities [] = inl ([], refl)
 all_entities (v ∷ vs) = entity_cases (λ v. ((us : List EntityUid) × (v ∷ vs ≡ map entity us)) ⊎ ((w : PlainValue) × Contains (v ∷ vs) w × (entity_in w ≡ None)))
     (λ u. elim (all_entities vs) [

@@ -1,4 +1,5 @@
 pub mod Agreeing
+pub mod Alone
 pub mod Applied
 pub mod ByKind
 pub mod Conversions

@@ -16,6 +16,3 @@ pub use fault::EvalFault;
 pub use laws::expressions_have_one_outcome;
 pub use lookup::Lookup;
 pub use plain::NoMemory;
-
-#[cfg(test)]
-mod tests;

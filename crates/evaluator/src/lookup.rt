@@ -1,5 +1,5 @@
 // What is asked of the stored entities.
-ghost use Rattle.std.specs.Prelude.{◌≡◌, Option, List, option_map};
+ghost use Rattle.std.specs.Prelude.{◌≡◌, ⊤, Option, List, [], MatchOption, option_map};
 ghost use Rattle.values.specs.declared.entity_uid.EntityUid.{EntityUid};
 ghost use Rattle.values.specs.Fields.{Field};
 
@@ -11,7 +11,8 @@ pub trait Lookup: Ancestry {
     /// The attributes of each stored entity, as keys with values; None of one that is not stored.
     ghost stored: { Self → EntityUid → Option (List Field) };
 
-    /// The attributes of an entity, or None exactly where it is not stored; takes no memory.
+    /// The attributes of an entity, or None exactly where it is not stored; takes no memory. An entity that is not stored has no parents.
     fn attrs_of(&self, uid: &EntityUid) -> Option<&Record>
-        ensures { option_map (λ r. r.now) result ≡ stored self.now uid.now };
+        ensures attributes { option_map (λ r. r.now) result ≡ stored self.now uid.now }
+        ensures alone { MatchOption result (Self.parents self.now uid.now ≡ []) (λ _. ⊤) };
 }

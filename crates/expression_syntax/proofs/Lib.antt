@@ -19,3 +19,7 @@ pub mod ExpressionRules
 pub mod NameLoop
 pub mod Depths
 pub mod ExpressionExact
+pub mod Flat
+pub mod PartsOf
+pub mod TreeStands
+pub mod ExpressionStands

@@ -9,3 +9,4 @@ pub mod Gives
 pub mod Expressions
 pub mod ExpressionReading
 pub mod Nests
+pub mod Parts

@@ -22,6 +22,3 @@ pub use laws::expression_is_unique;
 pub use names::{path, uid};
 pub use read::{NESTING_LIMIT, read_expression, refusal};
 pub use tree::{Access, Entry, ExprTree, PathTree, Term, UidTree};
-
-#[cfg(test)]
-mod tests;

@@ -1,8 +1,9 @@
 //! Whole lists of tokens.
 
-ghost use Rattle.std.specs.Prelude.{◌≡◌, ◌-◌, length};
+ghost use Rattle.std.specs.Prelude.{◌≡◌, ◌-◌, IfOk, length};
 ghost use Rattle.expression_syntax.specs.Expressions as grammar;
 ghost use Rattle.expression_syntax.specs.Reads.{ReadsWithin, refusal_of};
+ghost use Rattle.expression_syntax.specs.Stands.{ExprStands};
 
 use crate::cursor::Cursor;
 use crate::expression::expr;
@@ -35,10 +36,11 @@ pub fn refusal(tokens: &[Token], cursor: &Cursor<'_>, halt: Halt) -> SyntaxFault
 }
 
 /// The expression that the tokens are, or the first token with which no expression goes on. Where
-/// one would go on but for the limit on nesting, the token is too deep. Takes time and memory in
-/// proportion to the tokens.
+/// one would go on but for the limit on nesting, the token is too deep. The tree is made of the
+/// tokens, each of a kind that its place asks for. Takes time and memory in proportion to the tokens.
 pub fn read_expression(alloc: Global, tokens: &[Token]) -> Result<ExprTree, SyntaxFault>
-    ensures { ReadsWithin (grammar.expr grammar.nesting_limit) grammar.any_expr tokens.now result }
+    ensures reads { ReadsWithin (grammar.expr grammar.nesting_limit) grammar.any_expr tokens.now result }
+    ensures stands { IfOk result (ExprStands tokens.now) }
 {
     let mut cursor = Cursor { rest: tokens };
     match expr(alloc, &mut cursor, NESTING_LIMIT) {

@@ -2,7 +2,7 @@ use plain::{Boxed, Items};
 use policy_tokens::Token;
 
 /// The words of a name: a Path.
-#[derive(Debug, Drop)]
+#[derive(Drop)]
 pub struct PathTree {
     pub first: Token,
     /// Those behind each `::`.
@@ -10,7 +10,7 @@ pub struct PathTree {
 }
 
 /// An entity, by its type's name and its quoted id.
-#[derive(Debug, Drop)]
+#[derive(Drop)]
 pub struct UidTree {
     pub path: PathTree,
     /// A quoted text without `\*`.
@@ -18,14 +18,14 @@ pub struct UidTree {
 }
 
 /// A Path or a Uid, which begin alike.
-#[derive(Debug, Drop)]
+#[derive(Drop)]
 pub(crate) enum Name {
     Path(PathTree),
     Uid(UidTree),
 }
 
 /// What is asked of the expression before it. `A` is a call's list of arguments.
-#[derive(Debug, Drop)]
+#[derive(Drop)]
 pub enum Access<A> {
     /// `.name` or `["name"]`: an identifier or a quoted text.
     Field(Token),
@@ -34,7 +34,7 @@ pub enum Access<A> {
 }
 
 /// A further term of a sum.
-#[derive(Debug, Drop)]
+#[derive(Drop)]
 pub struct Term<T> {
     /// `+` or `-`.
     pub sign: Token,
@@ -42,7 +42,7 @@ pub struct Term<T> {
 }
 
 /// `key: value` in a record.
-#[derive(Debug, Drop)]
+#[derive(Drop)]
 pub struct Entry<T> {
     /// An identifier or a quoted text.
     pub key: Token,
@@ -52,7 +52,7 @@ pub struct Entry<T> {
 /// What an expression is written as. Operands of one level, and accesses, stand side by side in a
 /// list, so that only parentheses, brackets, braces, arguments and `if` make a tree much higher,
 /// and these are limited to 64 levels.
-#[derive(Debug, Drop)]
+#[derive(Drop)]
 pub enum ExprTree {
     /// `true` or `false`.
     Boolean(Token),

@@ -1,3 +1,2 @@
-pub mod Fields
 pub mod FirstPlaces
 pub mod Whole

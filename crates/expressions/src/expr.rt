@@ -4,7 +4,7 @@ use crate::operator::{Binary, BinaryCall, Unary, UnaryCall};
 use plain::{Boxed, Items, Text};
 
 /// Something under a name, as a field of a record.
-#[derive(Debug, Drop)]
+#[derive(Drop)]
 pub struct Named<T> {
     /// The name.
     pub name: Text,
@@ -18,7 +18,7 @@ pub struct Named<T> {
 /// A call is one form in two variants, so that each call has the count of operands that its function or method wants.
 ///
 /// Source: Cedar reference guide, "Grammar" and "Operators and functions".
-#[derive(Debug, Drop)]
+#[derive(Drop)]
 pub enum Expr {
     /// A value that is written out.
     Literal(Literal),

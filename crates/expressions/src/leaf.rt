@@ -5,7 +5,7 @@ use plain::{NoMemory, Text};
 use values::EntityUid;
 
 /// A value that is written out in a policy (Cedar reference guide, "Supported data types").
-#[derive(Debug, Drop)]
+#[derive(Drop)]
 pub enum Literal {
     /// `true` or `false`.
     Boolean(bool),
@@ -18,7 +18,7 @@ pub enum Literal {
 }
 
 /// A part of the request (Cedar reference guide, "Grammar": `VAR`).
-#[derive(Clone, Copy, Debug, PartialEq, Eq)]
+#[derive(Clone, Copy)]
 pub enum Variable {
     /// Who asks.
     Principal,

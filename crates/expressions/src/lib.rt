@@ -10,7 +10,6 @@ mod laws;
 mod leaf;
 mod operator;
 mod pattern;
-mod same;
 mod size;
 
 pub use expr::{Expr, Named};
@@ -19,6 +18,3 @@ pub use leaf::{Literal, Variable};
 pub use operator::{Binary, BinaryCall, Unary, UnaryCall};
 pub use pattern::Pattern;
 pub use size::{FORMS_MAX, HEIGHT_MAX};
-
-#[cfg(test)]
-mod tests;

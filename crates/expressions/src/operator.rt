@@ -7,7 +7,7 @@ use std::alloc::Global;
 use values::TypeName;
 
 /// An operator with one operand.
-#[derive(Debug, Drop)]
+#[derive(Drop)]
 pub enum Unary {
     /// `!`.
     Not,
@@ -20,7 +20,7 @@ pub enum Unary {
 }
 
 /// An operator with two operands.
-#[derive(Clone, Copy, Debug, PartialEq, Eq)]
+#[derive(Clone, Copy)]
 pub enum Binary {
     /// `==`.
     Equal,
@@ -45,7 +45,7 @@ pub enum Binary {
 }
 
 /// A function or a method of an extension that has one operand. A method's receiver is its operand.
-#[derive(Clone, Copy, Debug, PartialEq, Eq)]
+#[derive(Clone, Copy)]
 pub enum UnaryCall {
     /// `ip`: the address that a text stands for.
     Ip,
@@ -62,7 +62,7 @@ pub enum UnaryCall {
 }
 
 /// A method of an extension that has two operands: its receiver and its argument.
-#[derive(Clone, Copy, Debug, PartialEq, Eq)]
+#[derive(Clone, Copy)]
 pub enum BinaryCall {
     /// `lessThan`, of decimals.
     LessThan,

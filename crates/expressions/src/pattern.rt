@@ -11,7 +11,7 @@ use std::marker::Model;
 /// are wildcards; so each pattern has one form.
 ///
 /// Source: Cedar reference guide, "Operators: like".
-#[derive(Debug, Drop)]
+#[derive(Drop)]
 pub struct Pattern {
     /// The texts that a wildcard follows.
     before: Items<Text>,
@@ -48,13 +48,6 @@ impl Pattern {
         let before = copy_texts(alloc, &self.before)?;
         let last = self.last.copy()?;
         Ok(Pattern { before, last })
-    }
-
-    /// Whether two patterns are the same; takes no memory.
-    pub fn same(&self, other: &Pattern) -> bool
-        ensures { IsTrue result ↔ (self.now ≡ other.now) }
-    {
-        same_texts(&self.before, &other.before) && self.last.same(&other.last)
     }
 
     /// Whether the text is a joining of pieces, one for each element of the pattern in order: a literal text's piece equals it, a wildcard's is
@@ -106,20 +99,4 @@ fn copy_texts(alloc: Global, texts: &Items<Text>) -> Result<Items<Text>, NoMemor
         copies.push(text.copy()?)?;
     }
     Ok(Items::from_vec(copies))
-}
-
-/// Whether two lists have the same texts.
-fn same_texts(ones: &Items<Text>, twos: &Items<Text>) -> bool
-    ensures { IsTrue result ↔ (ones.now ≡ twos.now) }
-{
-    if ones.len() != twos.len() {
-        return false;
-    }
-    let others = twos.as_slice();
-    for (at, one) in ones.as_slice().iter().enumerate() {
-        if !one.same(&others[at]) {
-            return false;
-        }
-    }
-    true
 }

@@ -11,6 +11,3 @@ mod pieces;
 pub use decimal::Decimal;
 pub use ip_net::{IpNet, Version};
 pub use plain::NoMemory;
-
-#[cfg(test)]
-mod tests;

@@ -80,6 +80,3 @@ fn is_among(name: &str, names: &[&str]) -> bool
 {
     names.contains(&name)
 }
-
-#[cfg(test)]
-mod tests;

@@ -2,6 +2,7 @@
 use Rattle.std.proofs.Common.{◌≡◌, ℕ, List, [], ◌∷◌, Option, Some, None, find, refl, sym, ◌∙◌, ap}
 use Rattle.std.specs.List.{AllZip, enumerate_from}
 use Rattle.values.specs.declared.entity_uid.EntityUid.{EntityUid}
+use Rattle.expressions.specs.declared.expr.Expr.{Expr}
 use Rattle.policy_tokens.specs.declared.token.Token.{Token}
 use Rattle.policy_tokens.specs.Lexing.{spelling_of}
 use Rattle.policy_tokens.specs.Strings.{OneValue}
@@ -80,16 +81,17 @@ effect-same Forbid Forbid same = refl
 abbrev scope : EntityScope → ActionScope → EntityScope → Scope
 scope principal action resource = record { principal = principal; action = action; resource = resource }
 
-abbrev policy : Effect → Scope → Policy
-policy effect scope = record { effect = effect; scope = scope }
+abbrev policy : Effect → Scope → Expr → Policy
+policy effect scope condition = record { effect = effect; scope = scope; condition = condition }
 
 pub core-same : OneValue → (text : List ℕ) (tree : PolicyTree) (p q : Policy) → IsCoreOf text tree p → IsCoreOf text tree q → p ≡ q
 core-same values text tree p q a b =
-    ap (λ e. policy e p.scope) (effect-same p.effect q.effect (sym a.effect ∙ b.effect))
-    ∙ ap (policy q.effect)
+    ap (λ e. policy e p.scope p.condition) (effect-same p.effect q.effect (sym a.effect ∙ b.effect))
+    ∙ ap (λ s. policy q.effect s p.condition)
     (ap (λ s. scope s p.scope.action p.scope.resource) (part-same values text tree.principal p.scope.principal q.scope.principal a.principal b.principal)
     ∙ ap (λ s. scope q.scope.principal s p.scope.resource) (action-same values text tree.action p.scope.action q.scope.action a.action b.action)
     ∙ ap (scope q.scope.principal q.scope.action) (part-same values text tree.resource p.scope.resource q.scope.resource a.resource b.resource))
+    ∙ ap (policy q.effect q.scope) (a.condition ∙ sym b.condition)
 
 value-same : OneValue → (text : List ℕ) (o : Option Token) (v w : List ℕ) → IsValueOf text o v → IsValueOf text o w → v ≡ w
 value-same values text None v w a b = a ∙ sym b

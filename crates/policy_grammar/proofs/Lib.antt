@@ -3,6 +3,9 @@ pub mod Lists
 pub mod Idents
 pub mod Marking
 pub mod Naming
+pub mod Joining
+pub mod Sizes
+pub mod Telling
 pub mod Refusing
 pub mod Cores
 pub mod Readings

@@ -1,5 +1,5 @@
 -- What a syntax tree stands for, with the text in which its tokens stand: the pass from tree to core.
--- Source: Cedar reference guide 4.0, "Basic policy construction": effect, scope and annotations; "Grammar specification for Cedar policy
+-- Source: Cedar reference guide 4.0, "Basic policy construction": effect, scope, conditions and annotations; "Grammar specification for Cedar policy
 -- syntax". That a policy is named by its `@id` follows the Cedar command line; the names of the others are a rule of this product.
 use Rattle.std.specs.Prelude.{◌≡◌, ℕ, Bool, List, [], ◌++◌, Option, Some, None, codes, map, find}
 use Rattle.std.specs.List.{AllZip, enumerate_from}
@@ -27,6 +27,7 @@ use Rattle.policy_grammar.specs.declared.policy.EntityScope.TheVariants as entit
 use Rattle.policy_grammar.specs.declared.policy.ActionScope.{ActionScope}
 use Rattle.policy_grammar.specs.declared.policy.ActionScope.TheVariants as actions
 use Rattle.policy_grammar.specs.declared.policy.Policy.{Policy}
+use Rattle.policy_grammar.specs.Conditions.{conditions_of}
 
 -- the name that a Path is: its words with `::` between each two, without blanks and comments
 abbrev pub path_name : List ℕ → PathTree → List ℕ
@@ -68,6 +69,7 @@ pub record IsCoreOf (text : List ℕ) (tree : PolicyTree) (policy : Policy) : Ty
   pub principal : IsEntityScopeOf text tree.principal policy.scope.principal
   pub action : IsActionScopeOf text tree.action policy.scope.action
   pub resource : IsEntityScopeOf text tree.resource policy.scope.resource
+  pub condition : policy.condition ≡ conditions_of text tree.conditions
 
 -- An annotation with no value, without parentheses or with empty ones, has the empty text.
 abbrev pub IsValueOf : List ℕ → Option Token → List ℕ → Type 0

@@ -2,13 +2,18 @@
 use Rattle.std.specs.Prelude.{ℕ, Option, Some, None}
 use Rattle.policy_tokens.specs.declared.fault.LexFault.{LexFault}
 use Rattle.policy_tokens.specs.declared.fault.LexFault.TheVariants as lex
+use Rattle.desugaring.specs.declared.fault.DesugarFault.{DesugarFault}
+use Rattle.desugaring.specs.declared.fault.DesugarFault.TheVariants as desugar
 use Rattle.policy_grammar.specs.declared.fault.ReadFault.{ReadFault}
-use Rattle.policy_grammar.specs.declared.fault.ReadFault.TheVariants.{NoMemory, BadToken, Unexpected, RepeatedKey, Slot, TooDeep, TooLong, BadId}
+use Rattle.policy_grammar.specs.declared.fault.ReadFault.TheVariants.{NoMemory, BadToken, Unexpected, NumberRange, UnknownCall, Arity, RepeatedKey, Slot, TooDeep, TooLong, BadId}
 
 abbrev pub code_of : ReadFault → ℕ
 code_of NoMemory = 1
 code_of (BadToken at) = 10
 code_of (Unexpected at) = 11
+code_of (NumberRange at) = 12
+code_of (UnknownCall at) = 13
+code_of (Arity at) = 14
 code_of (RepeatedKey at) = 15
 code_of (Slot at) = 16
 code_of (TooDeep at) = 17
@@ -20,6 +25,9 @@ abbrev pub place_of : ReadFault → Option ℕ
 place_of NoMemory = None
 place_of (BadToken at) = Some at
 place_of (Unexpected at) = Some at
+place_of (NumberRange at) = Some at
+place_of (UnknownCall at) = Some at
+place_of (Arity at) = Some at
 place_of (RepeatedKey at) = Some at
 place_of (Slot at) = Some at
 place_of (TooDeep at) = Some at
@@ -29,3 +37,12 @@ place_of BadId = Some 0
 abbrev pub of_lexing : LexFault → ReadFault
 of_lexing lex.NoMemory = NoMemory
 of_lexing (lex.BadToken at) = BadToken at
+
+-- a fault of a condition
+abbrev pub of_desugaring : DesugarFault → ReadFault
+of_desugaring desugar.NoMemory = NoMemory
+of_desugaring (desugar.NumberRange at) = NumberRange at
+of_desugaring (desugar.UnknownCall at) = UnknownCall at
+of_desugaring (desugar.Arity at) = Arity at
+of_desugaring (desugar.RepeatedKey at) = RepeatedKey at
+of_desugaring desugar.TooDeep = TooDeep 0

@@ -1,4 +1,6 @@
 pub mod Faults
+pub mod Whole
+pub mod Conditions
 pub mod CoreOf
 pub mod Limits
 pub mod Repeats

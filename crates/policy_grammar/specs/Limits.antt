@@ -8,14 +8,20 @@ use Rattle.policy_syntax.specs.declared.tree.PartTree.TheVariants as part
 use Rattle.policy_syntax.specs.declared.tree.ActionTree.{ActionTree}
 use Rattle.policy_syntax.specs.declared.tree.ActionTree.TheVariants as action
 use Rattle.policy_syntax.specs.declared.tree.PolicyTree.{PolicyTree}
+use Rattle.expressions.specs.Size as size
+use Rattle.policy_grammar.specs.declared.policy.Policy.{Policy}
+use Rattle.policy_grammar.specs.Whole.{expression_of}
+use Rattle.policy_grammar.specs.Conditions.{conditions_of}
+use Rattle.policy_grammar.specs.CoreOf.{IsCoreOf}
 
--- A core expression, with all but its forms left out: a literal or a variable, a form over one or over two operands, and a set of
--- so many literals.
+-- A core expression, with all but its forms left out: a literal or a variable, a form over one or over two operands, a set of
+-- so many literals, and any expression by its height and its count of forms.
 pub data Shape : Type 0 where
   leaf : Shape
   over : Shape → Shape
   both : Shape → Shape → Shape
   literals : ℕ → Shape
+  sized : ℕ → ℕ → Shape
 
 -- each form counts as often as it stands
 abbrev pub forms : Shape → ℕ
@@ -23,6 +29,7 @@ forms leaf = 1
 forms (over a) = forms a + 1
 forms (both a b) = forms a + forms b + 1
 forms (literals n) = n + 1
+forms (sized high many) = many
 
 -- a leaf has height 1
 abbrev pub height : Shape → ℕ
@@ -30,6 +37,7 @@ height leaf = 1
 height (over a) = height a + 1
 height (both a b) = max (height a) (height b) + 1
 height (literals n) = 2
+height (sized high many) = high
 
 -- `principal` alone is `true`; `e is T in f` is `(e is T) && (e in f)`
 abbrev pub part_shape : PartTree → Shape
@@ -47,9 +55,13 @@ action_shape (action.In uid) = both leaf leaf
 action_shape (action.InList []) = leaf
 action_shape (action.InList (uid ∷ uids)) = both leaf (literals (suc (length uids)))
 
--- principal && (action && (resource && conditions)), and no condition is `true`
-abbrev pub shape_of : PolicyTree → Shape
-shape_of tree = both (part_shape tree.principal) (both (action_shape tree.action) (both (part_shape tree.resource) leaf))
+-- principal && (action && (resource && conditions))
+abbrev pub shape_over : PolicyTree → Shape → Shape
+shape_over tree conditions = both (part_shape tree.principal) (both (action_shape tree.action) (both (part_shape tree.resource) conditions))
+
+-- the whole policy's, which is told without making its expression
+abbrev pub shape_of : List ℕ → PolicyTree → Shape
+shape_of text tree = let e = conditions_of text tree.conditions in shape_over tree (sized (size.height e) (size.forms e))
 
 -- the greatest height and count of forms, and the greatest lengths, in bytes, of an id, a policy text and a file
 abbrev pub most_height : ℕ
@@ -67,18 +79,36 @@ most_policy_bytes = 262144
 abbrev pub most_file_bytes : ℕ
 most_file_bytes = 8388608
 
-abbrev pub IsSmall : PolicyTree → Type 0
-IsSmall tree = (height (shape_of tree) ≤ most_height) × (forms (shape_of tree) ≤ most_forms)
+abbrev pub IsSmallShape : Shape → Type 0
+IsSmallShape shape = (height shape ≤ most_height) × (forms shape ≤ most_forms)
+
+-- with conditions of this height and so many forms
+abbrev pub IsSmallOver : PolicyTree → ℕ → ℕ → Type 0
+IsSmallOver tree high many = IsSmallShape (shape_over tree (sized high many))
+
+-- what a policy's expression has to be
+abbrev pub IsSmallTree : List ℕ → PolicyTree → Type 0
+IsSmallTree text tree = IsSmallShape (shape_of text tree)
+
+abbrev pub IsSmallPolicy : Policy → Type 0
+IsSmallPolicy policy = size.IsSmall (expression_of policy)
 
 -- a policy's id in a file
 abbrev pub IsId : List ℕ → Type 0
 IsId name = (1 ≤ length name) × (length name ≤ most_id_bytes)
 
--- A policy whose head lists some actions, and asks nothing else, has nine forms more than it lists actions.
-abbrev pub NineFormsMore : Type 0
-NineFormsMore = (tree : PolicyTree) (uid : UidTree) (uids : List UidTree) → tree.principal ≡ part.Any → tree.action ≡ action.InList (uid ∷ uids) →
-    tree.resource ≡ part.Any → forms (shape_of tree) ≡ length (uid ∷ uids) + 9
+-- ## Laws
 
--- No head alone is too high.
+-- The shape of a policy is as high as the expression of the policy that the tree stands for, and has as many forms.
+abbrev pub ShapesAreSizes : Type 0
+ShapesAreSizes = (text : List ℕ) (tree : PolicyTree) (policy : Policy) → IsCoreOf text tree policy →
+    (height (shape_of text tree) ≡ size.height (expression_of policy)) × (forms (shape_of text tree) ≡ size.forms (expression_of policy))
+
+-- A policy without conditions whose head lists some actions, and asks nothing else, has nine forms more than it lists actions.
+abbrev pub NineFormsMore : Type 0
+NineFormsMore = (text : List ℕ) (tree : PolicyTree) (uid : UidTree) (uids : List UidTree) → tree.principal ≡ part.Any → tree.action ≡ action.InList (uid ∷ uids) →
+    tree.resource ≡ part.Any → tree.conditions ≡ [] → forms (shape_of text tree) ≡ length (uid ∷ uids) + 9
+
+-- No head alone is too high: where a policy is, it is three higher than its conditions.
 abbrev pub HeadsAreLow : Type 0
-HeadsAreLow = (tree : PolicyTree) → height (shape_of tree) ≤ 6
+HeadsAreLow = (tree : PolicyTree) (conditions : Shape) → height (shape_over tree conditions) ≤ max 6 (height conditions + 3)

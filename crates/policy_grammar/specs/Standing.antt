@@ -1,11 +1,22 @@
 -- What the parts of the reader tell one another.
-use Rattle.std.specs.Prelude.{ℕ, ◌≤◌, ◌<◌, List, length, slice_get, map, min, Option, Some, None}
+use Rattle.std.specs.Prelude.{◌≡◌, ◌↔◌, IsTrue, ℕ, ◌≤◌, ◌<◌, List, [], length, slice_get, map, min, Option, Some, None}
 use Rattle.std.specs.List.{AllByRecursion}
+use Rattle.policy_tokens.specs.declared.token.Kind.{Kind}
+use Rattle.policy_tokens.specs.declared.token.Kind.TheVariants as k
 use Rattle.policy_tokens.specs.declared.token.Token.{Token}
 use Rattle.policy_tokens.specs.Lexing.{IsLexed, IsSpelledIn, IsBadAt}
 use Rattle.expression_syntax.specs.declared.fault.SyntaxFault.{SyntaxFault}
 use Rattle.expression_syntax.specs.declared.fault.SyntaxFault.TheVariants as syntax
+use Rattle.policy_syntax.specs.declared.tree.Condition.{Condition}
+use Rattle.policy_syntax.specs.declared.tree.PolicyTree.{PolicyTree}
+use Rattle.desugaring.specs.Faults.{faults_of}
+use Rattle.desugaring.specs.Refused.{least}
+use Rattle.desugaring.specs.declared.judgement.Judgement.{Judgement}
+use Rattle.desugaring.specs.Sums.{above}
 use Rattle.policy_grammar.specs.declared.repeats.Mark as code
+use Rattle.policy_grammar.specs.declared.verdict.Verdict.{Verdict}
+use Rattle.policy_grammar.specs.Conditions.{condition_faults, file_faults}
+use Rattle.policy_grammar.specs.Limits.{IsSmallTree}
 use Rattle.policy_grammar.specs.declared.fault.ReadFault.{ReadFault}
 use Rattle.policy_grammar.specs.declared.fault.ReadFault.TheVariants as fault
 use Rattle.policy_grammar.specs.PolicyText.{byte_of}
@@ -51,3 +62,22 @@ earlier_of (Some a) (Some b) = Some (min a b)
 abbrev pub OrNoMemory : (ReadFault → Type 0) → ReadFault → Type 0
 OrNoMemory Refused fault.NoMemory = Unit {0}
 OrNoMemory Refused why = Refused why
+
+-- what is told of an expression behind `when` or `unless`
+abbrev pub judged_by : Kind → Judgement → Judgement
+judged_by k.Unless j = above j
+judged_by _ j = j
+
+-- No condition has a fault.
+abbrev pub AreSound : List ℕ → List Condition → Type 0
+AreSound text = AllByRecursion (λ c. faults_of text c.expression ≡ [])
+
+-- what is told of a policy before its expression is made: the first fault of its conditions, and whether it is small
+pub record TellsPolicy (text : List ℕ) (tree : PolicyTree) (verdict : Verdict) : Type 0 where
+  pub fault : verdict.fault ≡ least (condition_faults text tree.conditions)
+  pub small : IsTrue verdict.small ↔ IsSmallTree text tree
+
+-- and of a file's policies
+pub record TellsFile (text : List ℕ) (trees : List PolicyTree) (verdict : Verdict) : Type 0 where
+  pub fault : verdict.fault ≡ least (file_faults text trees)
+  pub small : IsTrue verdict.small ↔ AllByRecursion (IsSmallTree text) trees

@@ -1,14 +1,16 @@
 //! The pass from a syntax tree to what it stands for.
-ghost use Rattle.std.specs.Prelude.{◌≡◌, ◌∷◌, true, IfOk, length, map};
+ghost use Rattle.std.specs.Prelude.{◌≡◌, [], ◌∷◌, true, IfOk, length, map};
 ghost use Rattle.std.specs.Option.{option_copied};
 ghost use Rattle.std.specs.List.{AllByRecursion, find};
 ghost use Rattle.plain.specs.Words.{AreIdents};
 ghost use Rattle.policy_tokens.specs.Lexing.{spelling_of};
 ghost use Rattle.policy_syntax.specs.Grammar.{effects};
-ghost use Rattle.policy_syntax.specs.Stands.{PathStands, UidStands, ValueStands, PartStands, ActionStands, PolicyStands, AnnotationStands};
+ghost use Rattle.policy_syntax.specs.Stands.{PathStands, UidStands, ValueStands, PartStands, ActionStands, AnnotationStands, PolicyStands};
+ghost use Rattle.policy_grammar.specs.Conditions.{condition_faults};
 ghost use Rattle.policy_grammar.specs.CoreOf.{path_name, IsUidOf, AreUidsOf, IsEntityScopeOf, IsActionScopeOf, effect_word, IsCoreOf, IsValueOf, is_id, IsNameOf, AreNamesOf, AreCoresOf};
 ghost use Rattle.policy_grammar.specs.Standing.{StandsIn};
 
+use crate::conditions::build_conditions;
 use crate::policy::{ActionScope, Effect, EntityScope, Policy, Scope};
 use plain::{Items, NoMemory, Text};
 use policy_syntax::{ActionTree, Annotation, PartTree, PathTree, PolicyTree, UidTree};
@@ -118,21 +120,34 @@ fn effect_of(kind: Kind) -> Effect
     }
 }
 
-/// What a tree stands for.
-pub(crate) fn core_of(alloc: Global, text: &str, tree: &PolicyTree) -> Result<Policy, NoMemory>
+fn scope_of(alloc: Global, text: &str, tree: &PolicyTree) -> Result<Scope, NoMemory>
     requires { StandsIn text.now (λ tokens. PolicyStands tokens tree.now) }
-    ensures { IfOk result (IsCoreOf text.now tree.now) }
+    ensures principal { IfOk result (λ scope. IsEntityScopeOf text.now tree.now.principal scope.principal) }
+    ensures action { IfOk result (λ scope. IsActionScopeOf text.now tree.now.action scope.action) }
+    ensures resource { IfOk result (λ scope. IsEntityScopeOf text.now tree.now.resource scope.resource) }
 {
-    let effect = effect_of(tree.effect.kind);
     let principal = entity_scope_of(alloc, text, &tree.principal)?;
     let action = action_scope_of(alloc, text, &tree.action)?;
     let resource = entity_scope_of(alloc, text, &tree.resource)?;
+    Ok(Scope {
+        principal,
+        action,
+        resource,
+    })
+}
+
+/// What a tree stands for.
+pub(crate) fn core_of(alloc: Global, text: &str, tree: &PolicyTree) -> Result<Policy, NoMemory>
+    requires stands { StandsIn text.now (λ tokens. PolicyStands tokens tree.now) }
+    requires sound { condition_faults text.now tree.now.conditions ≡ [] }
+    ensures { IfOk result (IsCoreOf text.now tree.now) }
+{
+    let effect = effect_of(tree.effect.kind);
+    let scope = scope_of(alloc, text, tree)?;
+    let condition = build_conditions(alloc, text, tree.conditions.as_slice())?;
     Ok(Policy {
         effect,
-        scope: Scope {
-            principal,
-            action,
-            resource,
-        },
+        scope,
+        condition,
     })
 }

@@ -1,7 +1,8 @@
 ghost use Rattle.std.specs.Prelude.{◌≡◌};
 ghost use Rattle.policy_grammar.specs.declared.fault.ReadFault.TheVariants.{NoMemory};
-ghost use Rattle.policy_grammar.specs.Faults.{code_of, place_of, of_lexing};
+ghost use Rattle.policy_grammar.specs.Faults.{code_of, place_of, of_lexing, of_desugaring};
 
+use desugaring::DesugarFault;
 use policy_tokens::LexFault;
 use std::alloc::{AllocError, AllocFailed};
 
@@ -14,7 +15,13 @@ pub enum ReadFault {
     BadToken(usize),
     /// The first token with which nothing goes on, or the text's length where it ends too early.
     Unexpected(usize),
-    /// An annotation (its `@`) or a policy's name in a file (the policy's first token) that stands a second time.
+    /// A number outside signed 64 bits. A minus before it joins it.
+    NumberRange(usize),
+    /// The name of a call that no function, or no method, has.
+    UnknownCall(usize),
+    /// The name of a known call with another count of arguments.
+    Arity(usize),
+    /// A key of a record, an annotation (its `@`) or a policy's name in a file (the policy's first token) that stands a second time.
     RepeatedKey(usize),
     /// In place of `Unexpected` where that token is `?principal` or `?resource`.
     Slot(usize),
@@ -36,6 +43,9 @@ impl ReadFault {
             ReadFault::NoMemory => 1,
             ReadFault::BadToken(_) => 10,
             ReadFault::Unexpected(_) => 11,
+            ReadFault::NumberRange(_) => 12,
+            ReadFault::UnknownCall(_) => 13,
+            ReadFault::Arity(_) => 14,
             ReadFault::RepeatedKey(_) => 15,
             ReadFault::Slot(_) => 16,
             ReadFault::TooDeep(_) => 17,
@@ -52,6 +62,9 @@ impl ReadFault {
             ReadFault::NoMemory => None,
             ReadFault::BadToken(at)
             | ReadFault::Unexpected(at)
+            | ReadFault::NumberRange(at)
+            | ReadFault::UnknownCall(at)
+            | ReadFault::Arity(at)
             | ReadFault::RepeatedKey(at)
             | ReadFault::Slot(at)
             | ReadFault::TooDeep(at) => Some(at),
@@ -83,6 +96,21 @@ impl From<LexFault> for ReadFault {
         match error {
             LexFault::NoMemory => ReadFault::NoMemory,
             LexFault::BadToken(at) => ReadFault::BadToken(at),
+        }
+    }
+}
+
+impl From<DesugarFault> for ReadFault {
+    ghost from_gives = { λ fault e. e ≡ of_desugaring fault };
+
+    fn from(fault: DesugarFault) -> ReadFault {
+        match fault {
+            DesugarFault::NoMemory => ReadFault::NoMemory,
+            DesugarFault::NumberRange(at) => ReadFault::NumberRange(at),
+            DesugarFault::UnknownCall(at) => ReadFault::UnknownCall(at),
+            DesugarFault::Arity(at) => ReadFault::Arity(at),
+            DesugarFault::RepeatedKey(at) => ReadFault::RepeatedKey(at),
+            DesugarFault::TooDeep => ReadFault::TooDeep(0),
         }
     }
 }

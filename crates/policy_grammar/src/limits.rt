@@ -1,7 +1,7 @@
 //! How large a policy may be.
-ghost use Rattle.std.specs.Prelude.{◌≡◌, ◌↔◌, ◌+◌, ◌<◌, ◌^◌, IsTrue, All, length};
+ghost use Rattle.std.specs.Prelude.{◌≡◌, ◌↔◌, ◌<◌, ◌^◌, IsTrue, All};
 ghost use Rattle.policy_grammar.specs.Limits as spec;
-ghost use Rattle.policy_grammar.specs.Limits.{IsSmall, IsId, NineFormsMore, HeadsAreLow};
+ghost use Rattle.policy_grammar.specs.Limits.{IsSmallOver, IsId, ShapesAreSizes, NineFormsMore, HeadsAreLow};
 
 use plain::Text;
 use policy_syntax::{ActionTree, PartTree, PolicyTree};
@@ -11,6 +11,9 @@ pub(crate) const MOST_POLICY_BYTES: usize = 262_144;
 
 /// The most bytes of a file of policies.
 pub(crate) const MOST_FILE_BYTES: usize = 8_388_608;
+
+/// The greatest height of the conditions' core expression: three `&&` stand above it, and no head is too high.
+const MOST_CONDITION_HEIGHT: u32 = 997;
 
 /// The most forms of a policy's core expression.
 const MOST_FORMS: usize = 1_000_000;
@@ -44,16 +47,15 @@ fn action_forms(action: &ActionTree) -> usize
     }
 }
 
-/// Whether a policy's core expression is low enough and has few enough forms.
-// That no head is too high is a law; conditions are to be measured here.
-pub(crate) fn is_small(tree: &PolicyTree) -> bool
-    ensures { IsTrue result ↔ IsSmall tree.now }
+/// Whether a policy's core expression is low enough and has few enough forms, by the height and the forms of its conditions.
+pub(crate) fn is_small(tree: &PolicyTree, height: u32, forms: u32) -> bool
+    ensures { IsTrue result ↔ IsSmallOver tree.now height forms }
 {
-    let forms = part_forms(&tree.principal)
+    let head = part_forms(&tree.principal)
         + action_forms(&tree.action)
         + part_forms(&tree.resource)
-        + 4;
-    forms <= MOST_FORMS
+        + 3;
+    height <= MOST_CONDITION_HEIGHT && head + forms as usize <= MOST_FORMS
 }
 
 /// Whether a policy may have this name in a file.
@@ -64,20 +66,16 @@ pub(crate) fn is_id(name: &Text) -> bool
     1 <= len && len <= MOST_ID_BYTES
 }
 
-pub(crate) fn are_small(trees: &[PolicyTree]) -> bool
-    ensures { IsTrue result ↔ All IsSmall trees.now }
-{
-    trees.iter().all(|tree| is_small(tree))
-}
-
 pub(crate) fn are_ids(names: &[Text]) -> bool
     ensures { IsTrue result ↔ All IsId names.now }
 {
     names.iter().all(|name| is_id(name))
 }
 
-/// That sizes are counted as the language's rewriting says: it does nothing, and its clauses are laws of the definitions.
+/// That a policy's size is told as that of its core expression, and that sizes are counted as the language's rewriting says: it does nothing, and its
+/// clauses are laws of the definitions.
 pub fn heads_are_small()
+    ensures sizes { ShapesAreSizes }
     ensures list { NineFormsMore }
     ensures low { HeadsAreLow }
 {}

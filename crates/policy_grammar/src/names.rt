@@ -1,8 +1,9 @@
 //! The names of the policies in a file.
-ghost use Rattle.std.specs.Prelude.{◌≡◌, IfOk, IfSome, find, length, map, string_bytes};
+ghost use Rattle.std.specs.Prelude.{◌≡◌, [], IfOk, IfSome, find, length, map, string_bytes};
 ghost use Rattle.std.specs.Option.{option_copied};
 ghost use Rattle.std.specs.List.{AllByRecursion};
-ghost use Rattle.policy_syntax.specs.Stands.{PolicyStands, AnnotationStands};
+ghost use Rattle.policy_syntax.specs.Stands.{AnnotationStands, PolicyStands};
+ghost use Rattle.policy_grammar.specs.Conditions.{condition_faults};
 ghost use Rattle.policy_grammar.specs.CoreOf.{IsValueOf, is_id, IsNameOf, AreNamesOf, AreCoresOf};
 ghost use Rattle.policy_grammar.specs.Standing.{StandsIn};
 
@@ -76,6 +77,7 @@ pub(crate) fn named_of(
 ) -> Result<Vec<(String, Policy)>, NoMemory>
     requires same { length names.items ≡ length trees.now }
     requires stands { StandsIn text.now (λ tokens. AllByRecursion (PolicyStands tokens) trees.now) }
+    requires sound { AllByRecursion (λ tree. condition_faults text.now tree.conditions ≡ []) trees.now }
     ensures names { IfOk result (λ named. map (λ p. string_bytes p.0) named.items ≡ names.items) }
     ensures cores { IfOk result (λ named. AreCoresOf text.now trees.now (map (λ p. p.1) named.items)) }
 {

@@ -1,5 +1,6 @@
 //! Policies, as the layers above see them.
 
+use expressions::Expr;
 use plain::Items;
 use values::{EntityUid, TypeName};
 
@@ -11,7 +12,7 @@ pub enum Effect {
 }
 
 /// What a policy's head asks of the principal, or of the resource.
-#[derive(Debug, Drop)]
+#[derive(Drop)]
 pub enum EntityScope {
     /// Nothing.
     Any,
@@ -26,7 +27,7 @@ pub enum EntityScope {
 }
 
 /// What a policy's head asks of the action.
-#[derive(Debug, Drop)]
+#[derive(Drop)]
 pub enum ActionScope {
     /// Nothing.
     Any,
@@ -39,7 +40,7 @@ pub enum ActionScope {
 }
 
 /// What a policy's head asks of a request: all three.
-#[derive(Debug, Drop)]
+#[derive(Drop)]
 pub struct Scope {
     pub principal: EntityScope,
     pub action: ActionScope,
@@ -47,8 +48,10 @@ pub struct Scope {
 }
 
 /// A policy: what it does, and what it asks of a request.
-#[derive(Debug, Drop)]
+#[derive(Drop)]
 pub struct Policy {
     pub effect: Effect,
     pub scope: Scope,
+    /// What its conditions ask, joined to the right: `unless { e }` asks `!e`, and no condition asks `true`.
+    pub condition: Expr,
 }

@@ -1,8 +1,10 @@
 //! Whole texts: a uid, a policy, a file of policies.
 ghost use Rattle.std.specs.Prelude.{◌≡◌, IfOk, IfErr, map, string_bytes, slice_get};
 ghost use Rattle.std.specs.List.{AllByRecursion};
+ghost use Rattle.expression_syntax.specs.Expressions.{nesting_limit};
+ghost use Rattle.expression_syntax.specs.Lang.{at_any};
 ghost use Rattle.policy_syntax.specs.Grammar as grammar;
-ghost use Rattle.policy_syntax.specs.Stands.{PolicyStands, UidStands};
+ghost use Rattle.policy_syntax.specs.Stands.{UidStands, PolicyStands};
 ghost use Rattle.policy_grammar.specs.CoreOf.{AreNamesOf};
 ghost use Rattle.policy_grammar.specs.Limits.{most_policy_bytes, most_file_bytes};
 ghost use Rattle.policy_grammar.specs.PolicyText.{Derives, IsUidText, IsPolicyOf, HasNoPolicy, ArePoliciesOf, HaveNoPolicies, IsPolicyText, IsPolicyFile, IsUnread, IsUidRefused, IsPolicyRefused, IsFileRefused, byte_of};
@@ -10,10 +12,11 @@ ghost use Rattle.policy_grammar.specs.Standing.{StandsIn, LexedIn, IsUnlexed, Or
 
 use crate::core_of::{core_of, uid_of};
 use crate::fault::ReadFault;
-use crate::limits::{MOST_FILE_BYTES, MOST_POLICY_BYTES, are_ids, are_small, is_small};
+use crate::limits::{MOST_FILE_BYTES, MOST_POLICY_BYTES, are_ids};
 use crate::names::{named_of, names_of};
 use crate::policy::Policy;
 use crate::repeats::{least_repeat, least_repeat_in_file, marks_of_annotations};
+use crate::verdict::{first_fault, judge_policies, judge_policy};
 use plain::{NoMemory, Text};
 use policy_syntax::{PolicyTree, SyntaxFault, UidTree, read_policies, read_policy, read_uid};
 use policy_tokens::{Token, tokens};
@@ -57,7 +60,7 @@ fn refusal(text: &str, tokens: &[Token], fault: SyntaxFault) -> ReadFault
 fn uid_tree(alloc: Global, text: &str) -> Result<UidTree, ReadFault>
     ensures derives { IfOk result (Derives grammar.uid most_policy_bytes text.now) }
     ensures stands { IfOk result (λ tree. StandsIn text.now (λ tokens. UidStands tokens tree)) }
-    ensures err { IfErr result (IsUnread grammar.uid most_policy_bytes text.now) }
+    ensures err { IfErr result (IsUnread grammar.uid grammar.uid most_policy_bytes text.now) }
 {
     let tokens = tokens_of(alloc, text, MOST_POLICY_BYTES)?;
     match read_uid(alloc, &tokens) {
@@ -67,9 +70,9 @@ fn uid_tree(alloc: Global, text: &str) -> Result<UidTree, ReadFault>
 }
 
 fn policy_tree(alloc: Global, text: &str) -> Result<PolicyTree, ReadFault>
-    ensures derives { IfOk result (Derives grammar.policy most_policy_bytes text.now) }
+    ensures derives { IfOk result (Derives (grammar.policy nesting_limit) most_policy_bytes text.now) }
     ensures stands { IfOk result (λ tree. StandsIn text.now (λ tokens. PolicyStands tokens tree)) }
-    ensures err { IfErr result (IsUnread grammar.policy most_policy_bytes text.now) }
+    ensures err { IfErr result (IsUnread (grammar.policy nesting_limit) (at_any grammar.policy) most_policy_bytes text.now) }
 {
     let tokens = tokens_of(alloc, text, MOST_POLICY_BYTES)?;
     match read_policy(alloc, &tokens) {
@@ -79,9 +82,9 @@ fn policy_tree(alloc: Global, text: &str) -> Result<PolicyTree, ReadFault>
 }
 
 fn policy_trees(alloc: Global, text: &str) -> Result<Vec<PolicyTree>, ReadFault>
-    ensures derives { IfOk result (λ trees. Derives grammar.policies most_file_bytes text.now trees.items) }
+    ensures derives { IfOk result (λ trees. Derives (grammar.policies nesting_limit) most_file_bytes text.now trees.items) }
     ensures stands { IfOk result (λ trees. StandsIn text.now (λ tokens. AllByRecursion (PolicyStands tokens) trees.items)) }
-    ensures err { IfErr result (IsUnread grammar.policies most_file_bytes text.now) }
+    ensures err { IfErr result (IsUnread (grammar.policies nesting_limit) (at_any grammar.policies) most_file_bytes text.now) }
 {
     let tokens = tokens_of(alloc, text, MOST_FILE_BYTES)?;
     match read_policies(alloc, &tokens) {
@@ -109,10 +112,12 @@ fn policy_of(alloc: Global, text: &str, tree: &PolicyTree) -> Result<Policy, Rea
     ensures refused { IfErr result (OrNoMemory (HasNoPolicy text.now tree.now)) }
 {
     let marks = marks_of_annotations(alloc, text, tree)?;
-    if let Some(at) = least_repeat(alloc, &marks)? {
-        return Err(ReadFault::RepeatedKey(at));
+    let repeat = least_repeat(alloc, &marks)?;
+    let verdict = judge_policy(alloc, text, tree)?;
+    if let Some(fault) = first_fault(repeat, verdict.fault) {
+        return Err(ReadFault::from(fault));
     }
-    if !is_small(tree) {
+    if !verdict.small {
         return Err(ReadFault::TooDeep(0));
     }
     Ok(core_of(alloc, text, tree)?)
@@ -120,8 +125,13 @@ fn policy_of(alloc: Global, text: &str, tree: &PolicyTree) -> Result<Policy, Rea
 
 /// The policy that a text is. Its annotations are not kept, and an `@id` is not judged.
 ///
-/// A text has at most 262,144 bytes. Refused: `TooLong` first; then `BadToken` over the whole text; then `Unexpected` or `Slot`, the first met
-/// from the left; then `RepeatedKey`, the least place first; then `TooDeep`.
+/// A text has at most 262,144 bytes. Refused: `TooLong` first; then `BadToken` over the whole text; then `Unexpected`, `Slot`, or `TooDeep` at a token
+/// that would open level 65 of an expression, the first met from the left; then `RepeatedKey` of an annotation or of a record, `NumberRange`,
+/// `UnknownCall` and `Arity`, the least place first; then `TooDeep` at 0, where the core expression is higher than 1,000 or has over 1,000,000 forms. All
+/// this is judged before any part of the core expression is made.
+///
+/// Source: Cedar reference guide 4.0, "Grammar specification for Cedar policy syntax" and "Basic policy construction".
+#[tactic(auto, using(crate::proofs::Refusing::policy_refused))]
 pub fn parse_policy(alloc: Global, text: &str) -> Result<Policy, ReadFault>
     ensures read { IfOk result (IsPolicyText text.now) }
     ensures refused { IfErr result (IsPolicyRefused text.now) }
@@ -142,10 +152,12 @@ fn policies_of(
     ensures read { IfOk result (λ named. ArePoliciesOf text.now trees.now (map (λ p. string_bytes p.0) named.items) (map (λ p. p.1) named.items)) }
     ensures refused { IfErr result (OrNoMemory (HaveNoPolicies text.now trees.now names.items)) }
 {
-    if let Some(at) = least_repeat_in_file(alloc, text, &names, trees)? {
-        return Err(ReadFault::RepeatedKey(at));
+    let repeat = least_repeat_in_file(alloc, text, &names, trees)?;
+    let verdict = judge_policies(alloc, text, trees)?;
+    if let Some(fault) = first_fault(repeat, verdict.fault) {
+        return Err(ReadFault::from(fault));
     }
-    if !are_small(trees) {
+    if !verdict.small {
         return Err(ReadFault::TooDeep(0));
     }
     if !are_ids(&names) {
@@ -156,8 +168,10 @@ fn policies_of(
 
 /// The policies of a file, each with its name: the value of its first `@id`, else `policyN` by its place in the file, counted from 0.
 ///
-/// A file has at most 8,388,608 bytes. Refused: `TooLong` first; then `BadToken` over the whole text; then `Unexpected` or `Slot`, the first met
-/// from the left; then `RepeatedKey`, the least place first; then `TooDeep`; then `BadId`.
+/// A file has at most 8,388,608 bytes. Refused: `TooLong` first; then `BadToken` over the whole text; then `Unexpected`, `Slot`, or `TooDeep` at a token
+/// that would open level 65 of an expression, the first met from the left; then `RepeatedKey` of an annotation, of a record or of a policy's name,
+/// `NumberRange`, `UnknownCall` and `Arity`, the least place of the whole file first; then `TooDeep` at 0, where the core expression of some policy is
+/// higher than 1,000 or has over 1,000,000 forms; then `BadId`. All this is judged before any part of a core expression is made.
 pub fn parse_policies(alloc: Global, text: &str) -> Result<Vec<(String, Policy)>, ReadFault>
     ensures read { IfOk result (λ named. IsPolicyFile text.now (map (λ p. string_bytes p.0) named.items) (map (λ p. p.1) named.items)) }
     ensures refused { IfErr result (IsFileRefused text.now) }

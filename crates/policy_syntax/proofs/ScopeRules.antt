@@ -1,5 +1,5 @@
 -- The parts of a scope, annotations and policies are read exactly.
-use Rattle.std.proofs.Common.{◌≡◌, true, false, List, [], ◌∷◌, ◌++◌, Option, None, refl, ap, ◌∙◌, append_assoc}
+use Rattle.std.proofs.Common.{◌≡◌, ℕ, suc, ◌≤◌, true, false, List, [], ◌∷◌, ◌++◌, Option, None, refl, ap, ◌∙◌, append_assoc, arith}
 use Rattle.policy_tokens.specs.declared.token.Token.{Token}
 use Rattle.policy_tokens.specs.declared.token.Kind.{Kind}
 use Rattle.policy_tokens.specs.declared.token.Kind.TheVariants as k
@@ -11,12 +11,19 @@ use Rattle.policy_syntax.specs.declared.tree.PartTree.TheVariants as part
 use Rattle.policy_syntax.specs.declared.tree.ActionTree.{ActionTree}
 use Rattle.policy_syntax.specs.declared.tree.ActionTree.TheVariants as action
 use Rattle.policy_syntax.specs.declared.tree.ScopeTree.{ScopeTree}
+use Rattle.expression_syntax.specs.declared.tree.ExprTree.{ExprTree}
+use Rattle.policy_syntax.specs.declared.tree.Condition.{Condition}
 use Rattle.policy_syntax.specs.declared.tree.PolicyTree.{PolicyTree}
 use Rattle.expression_syntax.specs.Kinds.{Kinds, only, same_kind}
 use Rattle.expression_syntax.specs.Lang.{Lang}
 use Rattle.expression_syntax.specs.Lang as lang
 use Rattle.policy_syntax.specs.Grammar as g
-use Rattle.policy_syntax.specs.Grammar.{identifiers, words, effects, is_in}
+use Rattle.policy_syntax.specs.Grammar.{identifiers, words, effects, condition_words, is_in}
+use Rattle.expression_syntax.specs.Expressions.{expr}
+use Rattle.expression_syntax.specs.ExpressionReading as expressions
+use Rattle.expression_syntax.proofs.Follows.{after_expr}
+use Rattle.expression_syntax.proofs.ExpressionRules.{expr_rule, alive_expr}
+use Rattle.expression_syntax.proofs.Depths.{levels}
 use Rattle.expression_syntax.specs.Reads.{Begins, sees}
 use Rattle.expression_syntax.specs.Reading.{Parser, pure, either, token, ◌>>=◌, ◌>>◌}
 use Rattle.policy_syntax.specs.Parsing as r
@@ -308,69 +315,108 @@ after_annotations k.At = true
 after_annotations k.LParen = true
 after_annotations _ = false
 
-abbrev policy_made : List Annotation → Token → ScopeTree → PolicyTree
-policy_made notes effect s = record { annotations = notes; effect = effect; principal = s.principal; action = s.action; resource = s.resource }
+abbrev condition_made : Token → ExprTree → Condition
+condition_made word x = record { word = word; expression = x }
 
-abbrev policy_end : List Annotation → Token → ScopeTree → Lang PolicyTree
-policy_end notes effect s = lang.◌>>◌ (lang.one k.RParen) (lang.◌>>◌ (lang.one k.Semicolon) (lang.empty (policy_made notes effect s)))
+abbrev policy_made : List Annotation → Token → ScopeTree → List Condition → PolicyTree
+policy_made notes effect s cs = record { annotations = notes; effect = effect; principal = s.principal; action = s.action; resource = s.resource; conditions = cs }
 
-abbrev policy_head : List Annotation → Token → Lang PolicyTree
-policy_head notes effect = lang.◌>>◌ (lang.one k.LParen) (lang.◌>>=◌ g.scope (policy_end notes effect))
+-- with n levels of nesting
+module _ (n : ℕ) where
+  abbrev braced : Token → Lang Condition
+  braced word = lang.◌>>◌ (lang.one k.LBrace) (lang.◌>>=◌ (expr n) (λ x. lang.◌>>◌ (lang.one k.RBrace) (lang.empty (condition_made word x))))
 
-abbrev policy_tail : List Annotation → Lang PolicyTree
-policy_tail notes = lang.◌>>=◌ (lang.of effects) (policy_head notes)
+  starts_condition : Starts (g.condition n) condition_words
+  starts_condition = starts_both (lang.of condition_words) braced condition_words (starts_of condition_words)
 
-alive_end : (notes : List Annotation) (effect : Token) (s : ScopeTree) → Begins (policy_end notes effect s) []
-alive_end notes effect s = go_one k.RParen (λ _. go_one k.Semicolon (λ _. alive_empty (policy_made notes effect s)))
+  abbrev policy_end : List Annotation → Token → ScopeTree → Lang PolicyTree
+  policy_end notes effect s = lang.◌>>◌ (lang.one k.RParen) (lang.◌>>=◌ (lang.many (g.condition n)) (λ cs. lang.◌>>◌ (lang.one k.Semicolon) (lang.empty (policy_made notes effect s cs))))
 
-alive_head : (notes : List Annotation) (effect : Token) → Begins (policy_head notes effect) []
-alive_head notes effect = go_one k.LParen (λ _. go alive_scope (alive_end notes effect))
+  abbrev policy_head : List Annotation → Token → Lang PolicyTree
+  policy_head notes effect = lang.◌>>◌ (lang.one k.LParen) (lang.◌>>=◌ g.scope (policy_end notes effect))
 
-alive_effect : (notes : List Annotation) → Begins (policy_tail notes) []
-alive_effect notes = go (begin_of effects k.Permit refl) (alive_head notes)
+  abbrev policy_tail : List Annotation → Lang PolicyTree
+  policy_tail notes = lang.◌>>=◌ (lang.of effects) (policy_head notes)
 
-pub alive_policy : Begins g.policy []
-alive_policy = go (alive_many g.annotation) alive_effect
+  alive_conditions : (notes : List Annotation) (effect : Token) (s : ScopeTree) → Begins (lang.◌>>=◌ (lang.many (g.condition n)) (λ cs. lang.◌>>◌ (lang.one k.Semicolon) (lang.empty (policy_made notes effect s cs)))) []
+  alive_conditions notes effect s = go (alive_many (g.condition n)) (λ cs. go_one k.Semicolon (λ _. alive_empty (policy_made notes effect s cs)))
 
-abbrev read_end : List Annotation → Token → ScopeTree → Parser PolicyTree
-read_end notes effect s = token k.RParen >> (token k.Semicolon >> pure (policy_made notes effect s))
+  alive_end : (notes : List Annotation) (effect : Token) (s : ScopeTree) → Begins (policy_end notes effect s) []
+  alive_end notes effect s = go_one k.RParen (λ _. alive_conditions notes effect s)
 
-abbrev read_head : List Annotation → Token → Parser PolicyTree
-read_head notes effect = token k.LParen >> (r.scope >>= read_end notes effect)
+  alive_head : (notes : List Annotation) (effect : Token) → Begins (policy_head notes effect) []
+  alive_head notes effect = go_one k.LParen (λ _. go alive_scope (alive_end notes effect))
 
-module _ (D : Levels) where
-  end_rule : (notes : List Annotation) (effect : Token) (s : ScopeTree) → Rule (policy_end notes effect s) (policy_end notes effect s) (read_end notes effect s) (read_end notes effect s) none D
-  end_rule notes effect s = behind k.RParen none D (behind k.Semicolon none D (nothing (policy_made notes effect s) none D) (alive_empty (policy_made notes effect s))) (go_one k.Semicolon (λ _. alive_empty (policy_made notes effect s)))
+  alive_effect : (notes : List Annotation) → Begins (policy_tail notes) []
+  alive_effect notes = go (begin_of effects k.Permit refl) (alive_head notes)
 
-  head_rule : (notes : List Annotation) (effect : Token) → Rule (policy_head notes effect) (policy_head notes effect) (read_head notes effect) (read_head notes effect) none D
+  pub alive_policy : Begins (g.policy n) []
+  alive_policy = go (alive_many g.annotation) alive_effect
+
+  pub alive_policies : Begins (g.policies n) []
+  alive_policies = alive_many (g.policy n)
+
+  starts_policy : Starts (g.policy n) policy_firsts
   unfolding same_kind
-  head_rule notes effect =
-      behind k.LParen none D
-      (seq (scope_rule D) (end_rule notes effect) (λ s. leads_one k.RParen after_part none refl) (alive_end notes effect))
-      (go alive_scope (alive_end notes effect))
+  starts_policy ts p j = ap (sees policy_firsts) j.whole ∙ starts_behind j.front j.back j.value j.first (starts_both (lang.of effects) (policy_head j.value) effects (starts_of effects) j.back p j.second)
+    where
+      starts_behind : (front back : List Token) (notes : List Annotation) → lang.many g.annotation front notes → sees effects back ≡ true → sees policy_firsts (front ++ back) ≡ true
+      starts_behind front back [] d h = ap (λ z. sees policy_firsts (z ++ back)) d ∙ wide_sees effects policy_firsts back refl h
+      starts_behind front back (x ∷ xs) d h =
+          ap (λ z. sees policy_firsts (z ++ back)) d.2 ∙ ap (sees policy_firsts) (append_assoc d.0 d.1 back)
+          ∙ sees-append policy_firsts d.0 (d.1 ++ back) (wide_sees (only k.At) policy_firsts d.0 refl (starts_annotation d.0 x d.3))
 
-  annotations_rule : Rule (lang.many g.annotation) (lang.many g.annotation) r.annotations r.annotations after_annotations D
-  unfolding r.annotations same_kind
-  annotations_rule = each g.annotation g.annotation _ _ (only k.At) after_annotation after_annotations D (annotation_rule D) starts_annotation refl refl refl
+annotations_rule : (D : Levels) → Rule (lang.many g.annotation) (lang.many g.annotation) r.annotations r.annotations after_annotations D
+unfolding r.annotations same_kind
+annotations_rule D = each g.annotation g.annotation _ _ (only k.At) after_annotation after_annotations D (annotation_rule D) starts_annotation refl refl refl
 
-  pub policy_rule : Rule g.policy g.policy r.policy r.policy none D
+-- with n + 1 levels of nesting, and with m + 1
+module _ (n m : ℕ) (le : n ≤ m) where
+  abbrev here : Levels
+  here = levels (suc n) (suc m)
+
+  inner : Rule (expr (suc n)) (expr (suc m)) (expressions.expr (suc n)) (expressions.expr (suc m)) after_expr here
+  inner = expr_rule (suc n) (suc m) (omega (arith, le)) refl
+
+  alive_behind_brace : (word : Token) → Begins (lang.◌>>=◌ (expr (suc n)) (λ x. lang.◌>>◌ (lang.one k.RBrace) (lang.empty (condition_made word x)))) []
+  alive_behind_brace word = go (alive_expr (suc n) refl) (λ x. go_one k.RBrace (λ _. alive_empty (condition_made word x)))
+
+  condition_rule : Rule (g.condition (suc n)) (g.condition (suc m)) (r.condition (suc n)) (r.condition (suc m)) none here
+  unfolding r.condition same_kind
+  condition_rule =
+      seq (of condition_words none here)
+      (λ word. behind k.LBrace none here
+      (seq inner (λ x. behind k.RBrace none here (nothing (condition_made word x) none here) (alive_empty (condition_made word x)))
+      (λ x. leads_one k.RBrace after_expr none refl) (λ x. go_one k.RBrace (λ _. alive_empty (condition_made word x))))
+      (alive_behind_brace word))
+      (λ word. free _ none)
+      (λ word. go_one k.LBrace (λ _. alive_behind_brace word))
+
+  conditions_rule : Rule (lang.many (g.condition (suc n))) (lang.many (g.condition (suc m))) (r.conditions (suc n)) (r.conditions (suc m)) condition_words here
+  unfolding r.conditions same_kind
+  conditions_rule = each (g.condition (suc n)) (g.condition (suc m)) _ _ condition_words none condition_words here condition_rule (starts_condition (suc n)) refl refl refl
+
+  end_rule : (notes : List Annotation) (effect : Token) (s : ScopeTree) → Rule (policy_end (suc n) notes effect s) (policy_end (suc m) notes effect s) (r.policy_of (suc n) notes effect s) (r.policy_of (suc m) notes effect s) none here
+  unfolding r.policy_of same_kind
+  end_rule notes effect s =
+      behind k.RParen none here
+      (seq conditions_rule (λ cs. behind k.Semicolon none here (nothing (policy_made notes effect s cs) none here) (alive_empty (policy_made notes effect s cs)))
+      (λ cs. leads_one k.Semicolon condition_words none refl) (λ cs. go_one k.Semicolon (λ _. alive_empty (policy_made notes effect s cs))))
+      (alive_conditions (suc n) notes effect s)
+
+  pub policy_rule : Rule (g.policy (suc n)) (g.policy (suc m)) (r.policy (suc n)) (r.policy (suc m)) none here
   unfolding r.policy same_kind
   policy_rule =
-      seq annotations_rule
-      (λ notes. seq (of effects none D) (head_rule notes) (λ effect. free (policy_head notes effect) none) (alive_head notes))
+      seq (annotations_rule here)
+      (λ notes. seq (of effects none here)
+      (λ effect. behind k.LParen none here
+      (seq (scope_rule here) (end_rule notes effect) (λ s. leads_one k.RParen after_part none refl) (alive_end (suc n) notes effect))
+      (go alive_scope (alive_end (suc n) notes effect)))
+      (λ effect. free (policy_head (suc n) notes effect) none)
+      (alive_head (suc n) notes))
       (λ notes. leads_first effects after_annotations none (starts_of effects) refl)
-      alive_effect
+      (alive_effect (suc n))
 
-starts_policy : Starts g.policy policy_firsts
-unfolding same_kind
-starts_policy ts p j = ap (sees policy_firsts) j.whole ∙ starts_behind j.front j.back j.value j.first (starts_both (lang.of effects) (policy_head j.value) effects (starts_of effects) j.back p j.second)
-  where
-    starts_behind : (front back : List Token) (notes : List Annotation) → lang.many g.annotation front notes → sees effects back ≡ true → sees policy_firsts (front ++ back) ≡ true
-    starts_behind front back [] d h = ap (λ z. sees policy_firsts (z ++ back)) d ∙ wide_sees effects policy_firsts back refl h
-    starts_behind front back (x ∷ xs) d h =
-        ap (λ z. sees policy_firsts (z ++ back)) d.2 ∙ ap (sees policy_firsts) (append_assoc d.0 d.1 back)
-        ∙ sees-append policy_firsts d.0 (d.1 ++ back) (wide_sees (only k.At) policy_firsts d.0 refl (starts_annotation d.0 x d.3))
-
-pub policies_rule : (D : Levels) → Rule g.policies g.policies r.policies r.policies policy_firsts D
-unfolding r.policies same_kind
-policies_rule D = each g.policy g.policy _ _ policy_firsts none policy_firsts D (policy_rule D) starts_policy refl refl refl
+  pub policies_rule : Rule (g.policies (suc n)) (g.policies (suc m)) (r.policies (suc n)) (r.policies (suc m)) policy_firsts here
+  unfolding r.policies same_kind
+  policies_rule = each (g.policy (suc n)) (g.policy (suc m)) _ _ policy_firsts none policy_firsts here policy_rule (starts_policy (suc n)) refl refl refl

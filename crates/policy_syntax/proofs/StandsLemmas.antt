@@ -1,125 +1,124 @@
--- A tree is made of the tokens that derive it.
-use Rattle.std.proofs.Common.{inl, inr, List, Option, Some, None, sym, subst}
+-- A policy's tree is made of the tokens that derive it: one rule a production.
+use Rattle.std.proofs.Common.{ℕ, List, ◌∷◌, [], Option, Some, None}
 use Rattle.std.specs.List.{AllByRecursion}
-use Rattle.policy_tokens.specs.declared.token.Token.{Token}
+use Rattle.policy_tokens.specs.declared.token.Kind.{Kind}
 use Rattle.policy_tokens.specs.declared.token.Kind.TheVariants as k
+use Rattle.policy_tokens.specs.declared.token.Token.{Token}
 use Rattle.expression_syntax.specs.declared.tree.PathTree.{PathTree}
 use Rattle.expression_syntax.specs.declared.tree.UidTree.{UidTree}
-use Rattle.policy_syntax.specs.declared.tree.Annotation.{Annotation}
 use Rattle.policy_syntax.specs.declared.tree.PartTree.{PartTree}
-use Rattle.policy_syntax.specs.declared.tree.ActionTree.{ActionTree}
+use Rattle.policy_syntax.specs.declared.tree.PartTree.TheVariants as part
 use Rattle.policy_syntax.specs.declared.tree.ActionTree.TheVariants as action
 use Rattle.policy_syntax.specs.declared.tree.ScopeTree.{ScopeTree}
 use Rattle.policy_syntax.specs.declared.tree.PolicyTree.{PolicyTree}
+use Rattle.expression_syntax.specs.Expressions.{expr}
 use Rattle.expression_syntax.specs.Kinds.{only}
-use Rattle.expression_syntax.specs.Lang.{Lang, Joined}
 use Rattle.expression_syntax.specs.Lang as lang
 use Rattle.policy_syntax.specs.Grammar as g
-use Rattle.policy_syntax.specs.Grammar.{identifiers, words, effects, is_in}
-use Rattle.policy_syntax.specs.Stands.{PathStands, UidStands, ValueStands, AnnotationStands, PartStands, ActionStands, PolicyStands}
-use Rattle.expression_syntax.proofs.StandsLemmas.{Inside, front_in, back_in, token_in, many_in, behind_in, path_in, uid_in}
+use Rattle.policy_syntax.specs.Grammar.{identifiers, words, effects, condition_words, is_in}
+use Rattle.policy_syntax.specs.Stands.{TokenStands, PathStands, UidStands, ValueStands, AnnotationStands, PartStands, ActionStands, ConditionStands, PolicyStands}
+use Rattle.expression_syntax.proofs.StandsLemmas.{Makes, token_in, nothing_in, both_in, past_in, giving_in, or_in, maybe_in, many_in, path_in, uid_in}
+use Rattle.expression_syntax.proofs.ExpressionStands.{expr_in}
 
 module _ (all : List Token) where
-  text_in : (ts : List Token) (text : Option Token) → lang.optional (lang.one k.Text) ts text → Inside ts all → ValueStands all text
-  text_in ts None d i = tt
-  text_in ts (Some t) d i = token_in all (only k.Text) ts t d i
+  text_in : Makes all (lang.optional (lang.one k.Text)) (ValueStands all)
+  text_in = maybe_in all (lang.one k.Text) (ValueStands all) (token_in all (only k.Text)) tt (λ token t. t)
 
-  value_in : (ts : List Token) (value : Option Token) → g.annotation_value ts value → Inside ts all → ValueStands all value
-  value_in ts value j i =
-      let c = j.second in
-      subst (ValueStands all) (sym c.second.second.1) (text_in c.front c.value c.first (front_in all c (back_in all j i)))
+  value_in : Makes all g.annotation_value (ValueStands all)
+  value_in = past_in all (both_in all text_in (λ text t. past_in all (nothing_in all _ text t)))
 
-  maybe_value_in : (ts : List Token) (value : Option Token) → lang.◌or◌ g.annotation_value (lang.empty None) ts value → Inside ts all → ValueStands all value
-  maybe_value_in ts value (inl d) i = value_in ts value d i
-  maybe_value_in ts value (inr d) i = subst (ValueStands all) (sym d.1) tt
+  maybe_value_in : Makes all (lang.◌or◌ g.annotation_value (lang.empty None)) (ValueStands all)
+  maybe_value_in = or_in all value_in (nothing_in all _ None tt)
 
-  annotation_in : (ts : List Token) (a : Annotation) → g.annotation ts a → Inside ts all → AnnotationStands all a
-  annotation_in ts a j i =
-      let c = j.second in
-      let d = c.second in
-      subst (AnnotationStands all) (sym d.second.1) (
-        token_in all (only k.At) j.front j.value j.first (front_in all j i),
-        token_in all words c.front c.value c.first (front_in all c (back_in all j i)),
-        maybe_value_in d.front d.value d.first (front_in all d (back_in all c (back_in all j i))),
-      )
+  annotation_in : Makes all g.annotation (AnnotationStands all)
+  annotation_in =
+      both_in all (token_in all (only k.At))
+      (λ at a. both_in all (token_in all words)
+      (λ key t. both_in all maybe_value_in
+      (λ value v. nothing_in all _ (record { at = at; key = key; value = value }) (a, t, v))))
 
-  is_in_stands : (p : PathTree) (entity : Option UidTree) (ts : List Token) → PathStands all p → lang.optional g.in_uid ts entity → Inside ts all → PartStands all (is_in p entity)
-  is_in_stands p None ts h d i = h
-  is_in_stands p (Some u) ts h d i = (h, behind_in all k.In g.uid (UidStands all) (uid_in all) ts u d i)
+  equal_in : Makes all g.equal_uid (UidStands all)
+  equal_in = past_in all (uid_in all)
 
-  typed_in : (ts : List Token) (p : PartTree) → g.of_type ts p → Inside ts all → PartStands all p
-  typed_in ts p j i =
-      let c = j.second in
-      let d = c.second in
-      subst (PartStands all) (sym d.second.1)
-      (is_in_stands c.value d.value d.front (path_in all c.front c.value c.first (front_in all c (back_in all j i))) d.first (front_in all d (back_in all c (back_in all j i))))
+  in_in : Makes all g.in_uid (UidStands all)
+  in_in = past_in all (uid_in all)
 
-  constraint_in : (ts : List Token) (p : PartTree) → g.entity_constraint ts p → Inside ts all → PartStands all p
-  constraint_in ts p (inl j) i = subst (PartStands all) (sym j.second.1) (behind_in all k.Equal g.uid (UidStands all) (uid_in all) j.front j.value j.first (front_in all j i))
-  constraint_in ts p (inr (inl j)) i = subst (PartStands all) (sym j.second.1) (behind_in all k.In g.uid (UidStands all) (uid_in all) j.front j.value j.first (front_in all j i))
-  constraint_in ts p (inr (inr (inl j))) i = typed_in ts p j i
-  constraint_in ts p (inr (inr (inr d))) i = subst (PartStands all) (sym d.1) tt
+  is_in_stands : (path : PathTree) → PathStands all path → (entity : UidTree) → UidStands all entity → PartStands all (is_in path (Some entity))
+  is_in_stands path p entity u = (p, u)
 
-  uids_in : (ts : List Token) (us : List UidTree) → g.uids ts us → Inside ts all → AllByRecursion (UidStands all) us
-  uids_in ts us (inl j) i =
-      let c = j.second in
-      subst (AllByRecursion (UidStands all)) (sym c.second.1) (
-        uid_in all j.front j.value j.first (front_in all j i),
-        many_in all (lang.◌>>◌ (lang.one k.Comma) g.uid) (UidStands all) (behind_in all k.Comma g.uid (UidStands all) (uid_in all)) c.front c.value c.first (front_in all c (back_in all j i)),
-      )
-  uids_in ts us (inr d) i = subst (AllByRecursion (UidStands all)) (sym d.1) tt
+  typed_in : Makes all g.of_type (PartStands all)
+  typed_in =
+      past_in all
+      (both_in all (path_in all)
+      (λ path p. both_in all (maybe_in all g.in_uid (λ entity. PartStands all (is_in path entity)) in_in p (is_in_stands path p))
+      (λ entity s. nothing_in all _ (is_in path entity) s)))
 
-  list_in : (ts : List Token) (a : ActionTree) → g.uid_list ts a → Inside ts all → ActionStands all a
-  list_in ts a j i =
-      let c = j.second in
-      subst (ActionStands all) (sym c.second.second.1) (uids_in c.front c.value c.first (front_in all c (back_in all j i)))
+  constraint_in : Makes all g.entity_constraint (PartStands all)
+  constraint_in =
+      or_in all (giving_in all _ part.Equal equal_in (λ entity u. u))
+      (or_in all (giving_in all _ part.In in_in (λ entity u. u))
+      (or_in all typed_in (nothing_in all _ part.Any tt)))
 
-  list_or_uid_in : (ts : List Token) (a : ActionTree) → lang.◌or◌ g.uid_list (lang.◌giving◌ g.uid action.In) ts a → Inside ts all → ActionStands all a
-  list_or_uid_in ts a (inl j) i = list_in ts a j i
-  list_or_uid_in ts a (inr j) i = subst (ActionStands all) (sym j.second.1) (uid_in all j.front j.value j.first (front_in all j i))
+  entity_part_in : (variable : Kind) → Makes all (g.entity_part variable) (PartStands all)
+  entity_part_in variable = past_in all constraint_in
 
-  action_constraint_in : (ts : List Token) (a : ActionTree) → g.action_constraint ts a → Inside ts all → ActionStands all a
-  action_constraint_in ts a (inl j) i = subst (ActionStands all) (sym j.second.1) (behind_in all k.Equal g.uid (UidStands all) (uid_in all) j.front j.value j.first (front_in all j i))
-  action_constraint_in ts a (inr (inl j)) i = behind_in all k.In (lang.◌or◌ g.uid_list (lang.◌giving◌ g.uid action.In)) (ActionStands all) list_or_uid_in ts a j i
-  action_constraint_in ts a (inr (inr d)) i = subst (ActionStands all) (sym d.1) tt
+  uids_in : Makes all g.uids (AllByRecursion (UidStands all))
+  uids_in =
+      or_in all
+      (both_in all (uid_in all) (λ first f. both_in all (many_in all (lang.◌>>◌ (lang.one k.Comma) g.uid) (UidStands all) (past_in all (uid_in all))) (λ more m. nothing_in all _ (first ∷ more) (f, m))))
+      (nothing_in all _ [] tt)
+
+  list_in : Makes all g.uid_list (ActionStands all)
+  list_in = past_in all (both_in all uids_in (λ found f. past_in all (nothing_in all _ (action.InList found) f)))
+
+  in_actions_in : Makes all g.in_actions (ActionStands all)
+  in_actions_in = past_in all (or_in all list_in (giving_in all _ action.In (uid_in all) (λ entity u. u)))
+
+  action_constraint_in : Makes all g.action_constraint (ActionStands all)
+  action_constraint_in = or_in all (giving_in all _ action.Equal equal_in (λ entity u. u)) (or_in all in_actions_in (nothing_in all _ action.Any tt))
+
+  action_part_in : Makes all g.action_part (ActionStands all)
+  action_part_in = past_in all action_constraint_in
 
   record ScopeStands (s : ScopeTree) : Type 0 where
     principal : PartStands all s.principal
     action : ActionStands all s.action
     resource : PartStands all s.resource
 
-  scope_in : (ts : List Token) (s : ScopeTree) → g.scope ts s → Inside ts all → ScopeStands s
-  scope_in ts s j i =
-      let c = j.second in
-      let a = c.second in
-      let d = a.second in
-      let e = d.second in
-      subst ScopeStands (sym e.second.1) (record {
-        principal = behind_in all k.Principal g.entity_constraint (PartStands all) constraint_in j.front j.value j.first (front_in all j i);
-        action = behind_in all k.Action g.action_constraint (ActionStands all) action_constraint_in a.front a.value a.first (front_in all a (back_in all c (back_in all j i)));
-        resource = behind_in all k.Resource g.entity_constraint (PartStands all) constraint_in e.front e.value e.first (front_in all e (back_in all d (back_in all a (back_in all c (back_in all j i)))));
-      })
+  scope_in : Makes all g.scope ScopeStands
+  scope_in =
+      both_in all (entity_part_in k.Principal)
+      (λ principal p. past_in all
+      (both_in all action_part_in
+      (λ action a. past_in all
+      (both_in all (entity_part_in k.Resource)
+      (λ resource r. nothing_in all _ (record { principal = principal; action = action; resource = resource }) (record { principal = p; action = a; resource = r }))))))
 
-  policy_in : (ts : List Token) (p : PolicyTree) → g.policy ts p → Inside ts all → PolicyStands all p
-  policy_in ts p j i =
-      let c = j.second in
-      let d = c.second in
-      let e = d.second in
-      let f = e.second in
-      let s = scope_in e.front e.value e.first (front_in all e (back_in all d (back_in all c (back_in all j i)))) in
-      subst (PolicyStands all) (sym f.second.second.1) (record {
-        annotations = many_in all g.annotation (AnnotationStands all) annotation_in j.front j.value j.first (front_in all j i);
-        effect = token_in all effects c.front c.value c.first (front_in all c (back_in all j i));
-        principal = s.principal;
-        action = s.action;
-        resource = s.resource;
-      })
+  condition_in : (n : ℕ) → Makes all (g.condition n) (ConditionStands all)
+  condition_in n =
+      both_in all (token_in all condition_words)
+      (λ word w. past_in all
+      (both_in all (expr_in all n)
+      (λ x h. past_in all (nothing_in all _ (record { word = word; expression = x }) (w, h)))))
 
-pub policy_stands : (ts : List Token) (p : PolicyTree) → g.policy ts p → PolicyStands ts p
-policy_stands ts p d = policy_in ts ts p d (λ t h. h)
+  policy_in : (n : ℕ) → Makes all (g.policy n) (PolicyStands all)
+  policy_in n =
+      both_in all (many_in all g.annotation (AnnotationStands all) annotation_in)
+      (λ notes a. both_in all (token_in all effects)
+      (λ effect e. past_in all
+      (both_in all scope_in
+      (λ found s. past_in all
+      (both_in all (many_in all (g.condition n) (ConditionStands all) (condition_in n))
+      (λ conditions c. past_in all
+      (nothing_in all _
+      (record { annotations = notes; effect = effect; principal = found.principal; action = found.action; resource = found.resource; conditions = conditions })
+      (record { annotations = a; effect = e; principal = s.principal; action = s.action; resource = s.resource; conditions = c }))))))))
 
-pub policies_stand : (ts : List Token) (ps : List PolicyTree) → g.policies ts ps → AllByRecursion (PolicyStands ts) ps
-policies_stand ts ps d = many_in ts g.policy (PolicyStands ts) (policy_in ts) ts ps d (λ t h. h)
+pub policy_stands : (n : ℕ) (ts : List Token) (p : PolicyTree) → g.policy n ts p → PolicyStands ts p
+policy_stands n ts p d = policy_in ts n ts p d (λ t h. h)
+
+pub policies_stand : (n : ℕ) (ts : List Token) (ps : List PolicyTree) → g.policies n ts ps → AllByRecursion (PolicyStands ts) ps
+policies_stand n ts ps d = many_in ts (g.policy n) (PolicyStands ts) (policy_in ts n) ts ps d (λ t h. h)
 
 pub uid_stands : (ts : List Token) (u : UidTree) → g.uid ts u → UidStands ts u
 uid_stands ts u d = uid_in ts ts u d (λ t h. h)

@@ -1,7 +1,7 @@
 -- The grammar of policies, over tokens: which trees a list of tokens derives. One definition for each production.
 -- Source: Cedar reference guide 4.0, "Grammar specification for Cedar policy syntax". Rules of this product: `__cedar` is reserved too,
 -- and so is no Ident; an annotation's value may be missing, with its parentheses or between them.
-use Rattle.std.specs.Prelude.{true, false, List, [], ◌∷◌, Option, Some, None}
+use Rattle.std.specs.Prelude.{ℕ, true, false, List, [], ◌∷◌, Option, Some, None}
 use Rattle.policy_tokens.specs.declared.token.Kind.{Kind}
 use Rattle.policy_tokens.specs.declared.token.Kind.TheVariants as k
 use Rattle.policy_tokens.specs.declared.token.Token.{Token}
@@ -13,9 +13,11 @@ use Rattle.policy_syntax.specs.declared.tree.PartTree.TheVariants as part
 use Rattle.policy_syntax.specs.declared.tree.ActionTree.{ActionTree}
 use Rattle.policy_syntax.specs.declared.tree.ActionTree.TheVariants as action
 use Rattle.policy_syntax.specs.declared.tree.ScopeTree.{ScopeTree}
+use Rattle.policy_syntax.specs.declared.tree.Condition.{Condition}
 use Rattle.policy_syntax.specs.declared.tree.PolicyTree.{PolicyTree}
 use Rattle.expression_syntax.specs.Kinds.{Kinds}
 pub use Rattle.expression_syntax.specs.Grammar.{identifiers, path, uid}
+use Rattle.expression_syntax.specs.Expressions.{expr}
 use Rattle.expression_syntax.specs.Lang.{Lang, of, one, empty, ◌>>=◌, ◌>>◌, ◌giving◌, ◌or◌, optional, many}
 
 -- Ident | Reserved
@@ -116,18 +118,35 @@ scope = do
   resource ← entity_part k.Resource
   empty (record { principal = principal; action = action; resource = resource })
 
--- Policy = { Annotation } Effect "(" Scope ")" { Condition } ";"
--- Conditions, and with them expressions by the levels of nesting that they may still open, come in behind the ")".
-abbrev pub policy : Lang PolicyTree
-policy = do
-  annotations ← many annotation
-  effect ← of effects
-  one k.LParen
-  found ← scope
-  one k.RParen
-  one k.Semicolon
-  empty (record { annotations = annotations; effect = effect; principal = found.principal; action = found.action; resource = found.resource })
+-- "when" | "unless"
+abbrev pub condition_words : Kinds
+condition_words k.When = true
+condition_words k.Unless = true
+condition_words _ = false
 
--- a file: any number of policies
-abbrev pub policies : Lang (List PolicyTree)
-policies = many policy
+-- by the levels of nesting that an expression may have
+module _ (levels : ℕ) where
+  -- Condition = ("when" | "unless") "{" Expr "}"
+  abbrev pub condition : Lang Condition
+  condition = do
+    word ← of condition_words
+    one k.LBrace
+    x ← expr levels
+    one k.RBrace
+    empty (record { word = word; expression = x })
+
+  -- Policy = { Annotation } Effect "(" Scope ")" { Condition } ";"
+  abbrev pub policy : Lang PolicyTree
+  policy = do
+    annotations ← many annotation
+    effect ← of effects
+    one k.LParen
+    found ← scope
+    one k.RParen
+    conditions ← many condition
+    one k.Semicolon
+    empty (record { annotations = annotations; effect = effect; principal = found.principal; action = found.action; resource = found.resource; conditions = conditions })
+
+  -- a file: any number of policies
+  abbrev pub policies : Lang (List PolicyTree)
+  policies = many policy

@@ -1,5 +1,5 @@
 -- How the grammar is read, from the left, by the next token.
-use Rattle.std.specs.Prelude.{true, List, [], ◌∷◌, Option, None}
+use Rattle.std.specs.Prelude.{ℕ, true, List, [], ◌∷◌, Option, None}
 use Rattle.policy_tokens.specs.declared.token.Kind.{Kind}
 use Rattle.policy_tokens.specs.declared.token.Kind.TheVariants as k
 use Rattle.policy_tokens.specs.declared.token.Token.{Token}
@@ -10,11 +10,13 @@ use Rattle.policy_syntax.specs.declared.tree.PartTree.TheVariants as part
 use Rattle.policy_syntax.specs.declared.tree.ActionTree.{ActionTree}
 use Rattle.policy_syntax.specs.declared.tree.ActionTree.TheVariants as action
 use Rattle.policy_syntax.specs.declared.tree.ScopeTree.{ScopeTree}
+use Rattle.policy_syntax.specs.declared.tree.Condition.{Condition}
 use Rattle.policy_syntax.specs.declared.tree.PolicyTree.{PolicyTree}
 use Rattle.expression_syntax.specs.Kinds.{Kinds, only}
 use Rattle.expression_syntax.specs.Reading.{Parser, take, token, pure, ◌>>=◌, ◌>>◌, either, optional, many}
 pub use Rattle.expression_syntax.specs.Parsing.{path, uid}
-use Rattle.policy_syntax.specs.Grammar.{identifiers, words, effects, is_in}
+use Rattle.expression_syntax.specs.ExpressionReading.{expr}
+use Rattle.policy_syntax.specs.Grammar.{identifiers, words, effects, is_in, condition_words}
 
 -- ---- annotations
 
@@ -111,16 +113,33 @@ abbrev pub policy_firsts : Kinds
 policy_firsts k.At = true
 policy_firsts kind = effects kind
 
--- Conditions, and with them expressions by the levels of nesting that they may still open, come in behind the ")".
-unfoldable pub policy : Parser PolicyTree
-policy = do
-  found_annotations ← annotations
-  effect ← take effects
-  token k.LParen
-  found ← scope
-  token k.RParen
-  token k.Semicolon
-  pure (record { annotations = found_annotations; effect = effect; principal = found.principal; action = found.action; resource = found.resource })
+module _ (levels : ℕ) where
+  unfoldable pub condition : Parser Condition
+  condition = do
+    word ← take condition_words
+    token k.LBrace
+    x ← expr levels
+    token k.RBrace
+    pure (record { word = word; expression = x })
 
-unfoldable pub policies : Parser (List PolicyTree)
-policies = many policy_firsts policy
+  unfoldable pub conditions : Parser (List Condition)
+  conditions = many condition_words condition
+
+  -- what stands behind the scope
+  unfoldable pub policy_of : List Annotation → Token → ScopeTree → Parser PolicyTree
+  policy_of notes effect found = do
+    token k.RParen
+    cs ← conditions
+    token k.Semicolon
+    pure (record { annotations = notes; effect = effect; principal = found.principal; action = found.action; resource = found.resource; conditions = cs })
+
+  unfoldable pub policy : Parser PolicyTree
+  policy = do
+    found_annotations ← annotations
+    effect ← take effects
+    token k.LParen
+    found ← scope
+    policy_of found_annotations effect found
+
+  unfoldable pub policies : Parser (List PolicyTree)
+  policies = many policy_firsts policy

@@ -8,10 +8,11 @@ use Rattle.policy_syntax.specs.declared.tree.PartTree.{PartTree}
 use Rattle.policy_syntax.specs.declared.tree.PartTree.TheVariants as part
 use Rattle.policy_syntax.specs.declared.tree.ActionTree.{ActionTree}
 use Rattle.policy_syntax.specs.declared.tree.ActionTree.TheVariants as action
+use Rattle.policy_syntax.specs.declared.tree.Condition.{Condition}
 use Rattle.policy_syntax.specs.declared.tree.PolicyTree.{PolicyTree}
 use Rattle.expression_syntax.specs.Kinds.{only}
-pub use Rattle.expression_syntax.specs.Stands.{TokenStands, PathStands, UidStands}
-use Rattle.policy_syntax.specs.Grammar.{words, effects}
+pub use Rattle.expression_syntax.specs.Stands.{TokenStands, PathStands, UidStands, ExprStands}
+use Rattle.policy_syntax.specs.Grammar.{words, effects, condition_words}
 
 abbrev pub ValueStands : List Token → Option Token → Type 0
 ValueStands ts None = Unit {0}
@@ -33,9 +34,13 @@ ActionStands ts (action.Equal u) = UidStands ts u
 ActionStands ts (action.In u) = UidStands ts u
 ActionStands ts (action.InList us) = AllByRecursion (UidStands ts) us
 
+abbrev pub ConditionStands : List Token → Condition → Type 0
+ConditionStands ts c = TokenStands condition_words ts c.word × ExprStands ts c.expression
+
 pub record PolicyStands (ts : List Token) (p : PolicyTree) : Type 0 where
   pub annotations : AllByRecursion (AnnotationStands ts) p.annotations
   pub effect : TokenStands effects ts p.effect
   pub principal : PartStands ts p.principal
   pub action : ActionStands ts p.action
   pub resource : PartStands ts p.resource
+  pub conditions : AllByRecursion (ConditionStands ts) p.conditions

@@ -83,3 +83,36 @@ pub(crate) fn take_effect(tokens: &mut Cursor<'_>) -> Result<Token, Halt>
         _ => Err(Halt::Unexpected),
     }
 }
+
+fn is_condition_word(kind: Kind) -> bool
+    ensures { result ≡ grammar.condition_words kind }
+{
+    match kind {
+        Kind::When | Kind::Unless => true,
+        _ => false,
+    }
+}
+
+/// Whether a condition comes next.
+pub(crate) fn sees_condition(tokens: &Cursor<'_>) -> bool
+    ensures { result ≡ reads.sees grammar.condition_words tokens.now.rest.now }
+{
+    match tokens.rest {
+        [token, ..] => is_condition_word(token.kind),
+        [] => false,
+    }
+}
+
+/// The next token, which has to be `when` or `unless`; else none is taken.
+#[tactic(auto, unfolding(expression_syntax::specs::Reading::take))]
+pub(crate) fn take_condition_word(tokens: &mut Cursor<'_>) -> Result<Token, Halt>
+    ensures { Gives (reading.take grammar.condition_words tokens.old.rest.now) result tokens.new.rest.now }
+{
+    match tokens.rest {
+        [token, rest @ ..] if is_condition_word(token.kind) => {
+            tokens.rest = rest;
+            Ok(*token)
+        }
+        _ => Err(Halt::Unexpected),
+    }
+}

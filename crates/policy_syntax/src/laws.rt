@@ -1,14 +1,16 @@
 // Laws of the definitions.
 ghost use Rattle.policy_syntax.specs.Grammar.{policy, policies, uid};
-ghost use Rattle.expression_syntax.specs.Reads.{HasOneTree, HasOneAnswer};
+ghost use Rattle.expression_syntax.specs.Expressions.{nesting_limit};
+ghost use Rattle.expression_syntax.specs.Lang.{at_any};
+ghost use Rattle.expression_syntax.specs.Reads.{HasOneTree, HasOneAnswer, HasOneAnswerWithin};
 
 /// That a list of tokens is read in one way: it does nothing, and its clauses are laws of the
 /// definitions.
 pub fn reading_is_unique()
-    ensures one_policy { HasOneTree policy }
-    ensures one_list { HasOneTree policies }
+    ensures one_policy { HasOneTree (policy nesting_limit) }
+    ensures one_list { HasOneTree (policies nesting_limit) }
     ensures one_uid { HasOneTree uid }
-    ensures policy_answer { HasOneAnswer policy }
-    ensures list_answer { HasOneAnswer policies }
+    ensures policy_answer { HasOneAnswerWithin (policy nesting_limit) (at_any policy) }
+    ensures list_answer { HasOneAnswerWithin (policies nesting_limit) (at_any policies) }
     ensures uid_answer { HasOneAnswer uid }
 {}

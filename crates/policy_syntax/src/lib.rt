@@ -11,10 +11,7 @@ mod read;
 mod scope;
 mod tree;
 
-pub use expression_syntax::{PathTree, SyntaxFault, UidTree};
+pub use expression_syntax::{ExprTree, PathTree, SyntaxFault, UidTree};
 pub use laws::reading_is_unique;
 pub use read::{read_policies, read_policy, read_uid};
-pub use tree::{ActionTree, Annotation, PartTree, PolicyTree};
-
-#[cfg(test)]
-mod tests;
+pub use tree::{ActionTree, Annotation, Condition, PartTree, PolicyTree};

@@ -1,12 +1,13 @@
 //! Annotations and policies.
 
 ghost use Rattle.expression_syntax.specs.Gives.{Gives};
+ghost use Rattle.expression_syntax.specs.Expressions.{nesting_limit};
 ghost use Rattle.policy_syntax.specs.Parsing as spec;
 
-use crate::cursor::{sees_policy, take_effect, take_word};
+use crate::cursor::{sees_condition, sees_policy, take_condition_word, take_effect, take_word};
 use crate::scope::scope;
-use crate::tree::{Annotation, PolicyTree};
-use expression_syntax::{Cursor, Halt};
+use crate::tree::{Annotation, Condition, PolicyTree, ScopeTree};
+use expression_syntax::{Cursor, Halt, NESTING_LIMIT, expr};
 use plain::Items;
 use policy_tokens::{Kind, Token};
 use std::alloc::Global;
@@ -68,17 +69,45 @@ fn annotations(alloc: Global, tokens: &mut Cursor<'_>) -> Result<Items<Annotatio
     Ok(found)
 }
 
-/// Policy = { Annotation } Effect "(" Scope ")" { Condition } ";"
-// Conditions come in behind the ")", each read with the levels of nesting that it may open.
-#[tactic(auto, unfolding(crate::specs::Parsing::policy))]
-pub(crate) fn policy(alloc: Global, tokens: &mut Cursor<'_>) -> Result<PolicyTree, Halt>
-    ensures { Gives (spec.policy tokens.old.rest.now) result tokens.new.rest.now }
+/// ("when" | "unless") "{" Expr "}"
+#[tactic(auto, unfolding(crate::specs::Parsing::condition))]
+fn condition(alloc: Global, tokens: &mut Cursor<'_>) -> Result<Condition, Halt>
+    ensures { Gives (spec.condition nesting_limit tokens.old.rest.now) result tokens.new.rest.now }
 {
-    let annotations = annotations(alloc, tokens)?;
-    let effect = take_effect(tokens)?;
-    tokens.take(Kind::LParen)?;
-    let found = scope(alloc, tokens)?;
+    let word = take_condition_word(tokens)?;
+    tokens.take(Kind::LBrace)?;
+    let expression = expr(alloc, tokens, NESTING_LIMIT)?;
+    tokens.take(Kind::RBrace)?;
+    Ok(Condition { word, expression })
+}
+
+fn conditions(alloc: Global, tokens: &mut Cursor<'_>) -> Result<Items<Condition>, Halt>
+    ensures { Gives (spec.conditions nesting_limit tokens.old.rest.now) result tokens.new.rest.now }
+{
+    let mut found = Items::new(alloc);
+    for _turn in 0..tokens.left() {
+        if !sees_condition(tokens) {
+            return Ok(found);
+        }
+        let next = condition(alloc, tokens)?;
+        found.push(next)?;
+    }
+    Ok(found)
+}
+
+/// What stands behind a policy's scope.
+#[tactic(auto, unfolding(crate::specs::Parsing::policy_of))]
+fn policy_of(
+    alloc: Global,
+    tokens: &mut Cursor<'_>,
+    annotations: Items<Annotation>,
+    effect: Token,
+    found: ScopeTree,
+) -> Result<PolicyTree, Halt>
+    ensures { Gives (spec.policy_of nesting_limit annotations effect found tokens.old.rest.now) result tokens.new.rest.now }
+{
     tokens.take(Kind::RParen)?;
+    let conditions = conditions(alloc, tokens)?;
     tokens.take(Kind::Semicolon)?;
     Ok(PolicyTree {
         annotations,
@@ -86,12 +115,25 @@ pub(crate) fn policy(alloc: Global, tokens: &mut Cursor<'_>) -> Result<PolicyTre
         principal: found.principal,
         action: found.action,
         resource: found.resource,
+        conditions,
     })
+}
+
+/// Policy = { Annotation } Effect "(" Scope ")" { Condition } ";"
+#[tactic(auto, unfolding(crate::specs::Parsing::policy))]
+pub(crate) fn policy(alloc: Global, tokens: &mut Cursor<'_>) -> Result<PolicyTree, Halt>
+    ensures { Gives (spec.policy nesting_limit tokens.old.rest.now) result tokens.new.rest.now }
+{
+    let annotations = annotations(alloc, tokens)?;
+    let effect = take_effect(tokens)?;
+    tokens.take(Kind::LParen)?;
+    let found = scope(alloc, tokens)?;
+    policy_of(alloc, tokens, annotations, effect, found)
 }
 
 /// A file: any number of policies.
 pub(crate) fn policies(alloc: Global, tokens: &mut Cursor<'_>) -> Result<Items<PolicyTree>, Halt>
-    ensures { Gives (spec.policies tokens.old.rest.now) result tokens.new.rest.now }
+    ensures { Gives (spec.policies nesting_limit tokens.old.rest.now) result tokens.new.rest.now }
 {
     let mut found = Items::new(alloc);
     for _turn in 0..tokens.left() {

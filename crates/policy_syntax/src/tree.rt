@@ -1,9 +1,9 @@
-use expression_syntax::{PathTree, UidTree};
+use expression_syntax::{ExprTree, PathTree, UidTree};
 use plain::Items;
 use policy_tokens::Token;
 
 /// An annotation: `@key("value")`.
-#[derive(Debug, Drop)]
+#[derive(Drop)]
 pub struct Annotation {
     /// The `@`.
     pub at: Token,
@@ -14,7 +14,7 @@ pub struct Annotation {
 }
 
 /// What a scope demands of the principal or of the resource.
-#[derive(Debug, Drop)]
+#[derive(Drop)]
 pub enum PartTree {
     Any,
     Equal(UidTree),
@@ -24,7 +24,7 @@ pub enum PartTree {
 }
 
 /// What a scope demands of the action.
-#[derive(Debug, Drop)]
+#[derive(Drop)]
 pub enum ActionTree {
     Any,
     Equal(UidTree),
@@ -33,15 +33,23 @@ pub enum ActionTree {
 }
 
 /// The three parts of a scope.
-#[derive(Debug, Drop)]
+#[derive(Drop)]
 pub(crate) struct ScopeTree {
     pub(crate) principal: PartTree,
     pub(crate) action: ActionTree,
     pub(crate) resource: PartTree,
 }
 
+/// `when {..}` or `unless {..}`.
+#[derive(Drop)]
+pub struct Condition {
+    /// `when` or `unless`.
+    pub word: Token,
+    pub expression: ExprTree,
+}
+
 /// What a policy is written as.
-#[derive(Debug, Drop)]
+#[derive(Drop)]
 pub struct PolicyTree {
     pub annotations: Items<Annotation>,
     /// `permit` or `forbid`.
@@ -49,5 +57,6 @@ pub struct PolicyTree {
     pub principal: PartTree,
     pub action: ActionTree,
     pub resource: PartTree,
-    // The conditions come here, as a list: each with its word and its expression.
+    /// In their order.
+    pub conditions: Items<Condition>,
 }

@@ -20,6 +20,3 @@ pub use lexer::tokens;
 pub use strings::{decode_pattern, decode_string};
 pub use token::{Kind, Token};
 pub use written::{body, spelling};
-
-#[cfg(test)]
-mod tests;

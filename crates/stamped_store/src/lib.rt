@@ -14,6 +14,3 @@ pub use entry::{Entry, ReadText, Stamp};
 pub use join::Join;
 pub use policy_store::{COUNT_MAX, PolicyStore};
 pub use stamped::{Short, Stamped};
-
-#[cfg(test)]
-mod tests;

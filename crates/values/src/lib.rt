@@ -19,6 +19,3 @@ pub use orders::{
 pub use request::Request;
 pub use type_name::TypeName;
 pub use value::{Kind, Record, Set, Value};
-
-#[cfg(test)]
-mod tests;

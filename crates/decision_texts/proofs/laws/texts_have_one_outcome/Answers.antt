@@ -6,7 +6,7 @@ returns-clause-one_line c =
     one_line (record {
       uids = c.texts_have_one_reading.ensures.uid;
       files = c.texts_have_one_reading.ensures.file;
-      answers = c.answers_are_lawful.ensures.one;
+      answers = c.answers_are_lawful.ensures.finite;
     })
 
 pub returns-clause-not_both : goal.returns-clause-not_both
@@ -14,7 +14,7 @@ returns-clause-not_both c =
     not_both (record {
       uids = c.texts_have_one_reading.ensures.uid;
       files = c.texts_have_one_reading.ensures.file;
-      answers = c.answers_are_lawful.ensures.one;
+      answers = c.answers_are_lawful.ensures.finite;
     })
 
 pub returns-clause-one_refusal : goal.returns-clause-one_refusal
@@ -22,7 +22,7 @@ returns-clause-one_refusal c =
     one_refusal (record {
       uids = c.texts_have_one_reading.ensures.uid;
       files = c.texts_have_one_reading.ensures.file;
-      answers = c.answers_are_lawful.ensures.one;
+      answers = c.answers_are_lawful.ensures.finite;
     })
 
 pub returns-clause-ascending : goal.returns-clause-ascending

@@ -1,5 +1,5 @@
 use Rattle.std.proofs.Common.{ap, sym, subst, ◌∙◌}
-use Rattle.expression_syntax.specs.Reads.{IsRefused}
+use Rattle.expression_syntax.specs.Reads.{IsRefusedWithin}
 use Rattle.policy_syntax.specs.Grammar as grammar
 use Rattle.policy_grammar.specs.Limits.{most_policy_bytes}
 use Rattle.policy_grammar.specs.PolicyText.{IsUnread}
@@ -9,7 +9,7 @@ use Rattle.policy_grammar.proofs.texts.uid_tree.Goals as goal
 
 pub returns-clause-err : goal.returns-clause-err
 returns-clause-err c =
-    subst (IsUnread grammar.uid most_policy_bytes c.args.text.now)
+    subst (IsUnread grammar.uid grammar.uid most_policy_bytes c.args.text.now)
     (sym (c.refusal.ensures ∙ ap (λ ts. refusal_of c.args.text.now ts c.in-Err.fault) c.deref-in-Err.ensures.value))
-    (unread grammar.uid most_policy_bytes c.args.text.now c.in_ok-tokens.tokens.items c.in_ok-tokens.ensures.ok c.in-Err.fault
-    (subst (λ ts. IsRefused grammar.uid ts c.in-Err.fault) c.deref.ensures.value c.in-Err.ensures.reads))
+    (unread grammar.uid grammar.uid most_policy_bytes c.args.text.now c.in_ok-tokens.tokens.items c.in_ok-tokens.ensures.ok c.in-Err.fault
+    (subst (λ ts. IsRefusedWithin grammar.uid grammar.uid ts c.in-Err.fault) c.deref.ensures.value c.in-Err.ensures.reads))

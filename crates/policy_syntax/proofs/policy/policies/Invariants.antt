@@ -1,9 +1,10 @@
 use Rattle.std.proofs.Common.{◌≡◌, ◌-◌}
+use Rattle.expression_syntax.specs.Expressions.{nesting_limit}
 use Rattle.policy_syntax.specs.Parsing as spec
 use Rattle.expression_syntax.proofs.Gathered.{gathered, filled}
 use Rattle.expression_syntax.proofs.LoopEnds.{itself}
 use Rattle.policy_syntax.proofs.policy.policies.Given as goal
 
 abbrev pub invariant-loop-turn : goal.invariant-loop-turn
-invariant-loop-turn l = spec.policies l.fn.tokens.rest.now
-    ≡ gathered spec.policy_firsts spec.policy (l._turn-end - l._turn) (filled itself l.found) l.tokens.rest.now
+invariant-loop-turn l = (spec.policies nesting_limit) l.fn.tokens.rest.now
+    ≡ gathered spec.policy_firsts (spec.policy nesting_limit) (l._turn-end - l._turn) (filled itself l.found) l.tokens.rest.now

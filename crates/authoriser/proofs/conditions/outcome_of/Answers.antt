@@ -1,0 +1,25 @@
+use Rattle.std.proofs.lemmas.Result.{IfOk-weaker}
+use Rattle.std.specs.Prelude.{refl}
+use Rattle.std.proofs.Common.{sym, ◌∙◌}
+use Rattle.evaluator.specs.Operators.{world_of}
+use Rattle.authoriser.specs.Answers.{ComesTo}
+use Rattle.authoriser.specs.Views.{ConditionComesTo}
+use Rattle.authoriser.proofs.Judging.{true_scope, other_scope}
+use Rattle.authoriser.proofs.conditions.outcome_of.Goals as goal
+
+pub returns-then-is_scope_true : goal.returns-then-is_scope_true
+returns-then-is_scope_true g c =
+    let store = c.args.store.now in
+    let W = world_of (g.L.Lookup.stored store) (g.L.Ancestry.parents store) in
+    let q = c.args.request.now in
+    let policy = c.args.policy.now in
+    IfOk-weaker c.outcome_of_condition.result (ConditionComesTo W q policy.condition) (ComesTo W q policy)
+    (λ o comes. true_scope W q c.args.standing.now policy o c.requires (c.if-is_scope_true.ensures.0 refl) comes)
+    c.outcome_of_condition.ensures
+
+pub returns-else-is_scope_true : goal.returns-else-is_scope_true
+returns-else-is_scope_true g c =
+    let store = c.args.store.now in
+    let W = world_of (g.L.Lookup.stored store) (g.L.Ancestry.parents store) in
+    other_scope W (g.L.Ancestry.above store) (g.met.L.Ancestry.above_is store) c.args.request.now c.args.standing.now c.args.policy.now c.requires
+    (λ h. let t = c.if-is_scope_true.ensures.1 h in cc t)

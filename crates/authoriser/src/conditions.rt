@@ -1,0 +1,75 @@
+//! What a policy comes to on a request.
+ghost use Rattle.std.specs.Prelude.{◌≡◌, IfOk, MatchResult};
+ghost use Rattle.evaluator.specs.declared.fault.EvalFault.TheVariants as evaluating;
+ghost use Rattle.evaluator.specs.Operators.{world_of};
+ghost use Rattle.authoriser.specs.Answers.{fault_of, ComesTo};
+ghost use Rattle.authoriser.specs.Views.{IsStanding, ConditionComesTo, outcome_by};
+
+use crate::outcome::{Outcome, PolicyError};
+use crate::placed::Standing;
+use crate::scopes::is_scope_true;
+use evaluator::{EvalFault, Lookup, evaluate};
+use expressions::Expr;
+use plain::NoMemory;
+use policy_grammar::Policy;
+use std::alloc::Global;
+use values::{Kind, Request, Value};
+
+/// The error that a fault of evaluating is, where it is not want of memory.
+fn error_by(fault: EvalFault) -> Result<PolicyError, NoMemory>
+    ensures { MatchResult result (λ error. fault ≡ fault_of error) (λ _. fault ≡ evaluating.NoMemory) }
+{
+    match fault {
+        EvalFault::EntityDoesNotExist => Ok(PolicyError::EntityDoesNotExist),
+        EvalFault::AttrDoesNotExist => Ok(PolicyError::AttrDoesNotExist),
+        EvalFault::TypeError => Ok(PolicyError::TypeError),
+        EvalFault::ArithBoundsError => Ok(PolicyError::ArithBoundsError),
+        EvalFault::ExtensionError => Ok(PolicyError::ExtensionError),
+        EvalFault::NoMemory => Err(NoMemory),
+    }
+}
+
+/// What a condition that gives this comes to: it has to give a boolean.
+fn outcome_by(value: &Value) -> Outcome
+    ensures { result ≡ outcome_by value.now }
+{
+    match value.kind() {
+        Kind::Boolean(true) => Outcome::Satisfied,
+        Kind::Boolean(false) => Outcome::NotSatisfied,
+        _ => Outcome::Errs(PolicyError::TypeError),
+    }
+}
+
+/// What a condition comes to.
+fn outcome_of_condition<L: Lookup>(
+    alloc: Global,
+    condition: &Expr,
+    request: &Request,
+    store: &L,
+) -> Result<Outcome, NoMemory>
+    ensures { IfOk result (ConditionComesTo (world_of (L.stored store.now) (L.parents store.now)) request.now condition.now) }
+{
+    match evaluate(alloc, condition, request, store) {
+        Ok(value) => Ok(outcome_by(&value)),
+        Err(fault) => Ok(Outcome::Errs(error_by(fault)?)),
+    }
+}
+
+/// What a policy comes to. Its condition is evaluated only where its scope is true: a scope never errs, and where it is not true the policy is not
+/// satisfied, whatever its condition is (`scopes_do_not_err`).
+pub(crate) fn outcome_of<L: Lookup>(
+    alloc: Global,
+    policy: &Policy,
+    standing: &Standing<'_>,
+    request: &Request,
+    store: &L,
+) -> Result<Outcome, NoMemory>
+    requires { IsStanding (L.parents store.now) request.now standing.now }
+    ensures { IfOk result (ComesTo (world_of (L.stored store.now) (L.parents store.now)) request.now policy.now) }
+{
+    if is_scope_true(&policy.scope, standing) {
+        outcome_of_condition(alloc, &policy.condition, request, store)
+    } else {
+        Ok(Outcome::NotSatisfied)
+    }
+}

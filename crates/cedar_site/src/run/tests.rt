@@ -1,0 +1,149 @@
+use super::*;
+use crate::host::SystemHost;
+use crate::host::memory::MemoryHost;
+use std::test::Fail;
+
+const FILES: [(&str, &[u8]); 4] = [
+    ("none.cedar", b""),
+    ("broken.cedar", b"permit(principal, action);"),
+    ("none.json", b"[]"),
+    (
+        "asked.json",
+        b"{\"principal\":\"U::\\\"a\\\"\",\"action\":\"Action::\\\"v\\\"\",\"resource\":\"D::\\\"d\\\"\"}",
+    ),
+];
+
+/// Whether a run over these words, on streams that take so many bytes, is as recorded and ends with this status.
+fn runs(
+    alloc: Global,
+    texts: &[&str],
+    room: usize,
+    record: &str,
+    status: u8,
+) -> Result<bool, Fail> {
+    let mut words = Vec::new(alloc);
+    words.push(String::from_str(alloc, "cedar_site")?)?;
+    for text in texts {
+        words.push(String::from_str(alloc, text)?)?;
+    }
+    let mut host = MemoryHost {
+        alloc,
+        files: &FILES,
+        room,
+        record: Vec::new(alloc),
+    };
+    let end = run(alloc, &mut host, words.as_slice());
+    Ok(host.record.as_slice() == record.as_bytes() && end == ExitCode::from(status))
+}
+
+/// The same of the command that decides over files of these names.
+fn decides(
+    alloc: Global,
+    names: (&str, &str, &str),
+    room: usize,
+    record: &str,
+    status: u8,
+) -> Result<bool, Fail> {
+    let texts = [
+        "decide",
+        "--request",
+        names.2,
+        "--entities",
+        names.1,
+        "--policies",
+        names.0,
+    ];
+    runs(alloc, &texts, room, record, status)
+}
+
+#[test]
+fn reads_three_files_and_writes_one_line(rt: HostRuntime) -> Result<(), Fail> {
+    let rows = [
+        (
+            ("none.cedar", "none.json", "asked.json"),
+            100,
+            "read none.cedar\nread none.json\nread asked.json\nAnswers: {\"cycle\":[],\"decision\":\"Deny\",\"errors\":[],\"reason\":[]}\n",
+            0,
+        ),
+        (
+            ("broken.cedar", "none.json", "asked.json"),
+            100,
+            "read broken.cedar\nread none.json\nread asked.json\nFaults: {\"error\":{\"code\":11,\"place\":24,\"within\":null}}\n",
+            1,
+        ),
+        (
+            ("nowhere.cedar", "none.json", "asked.json"),
+            100,
+            "read nowhere.cedar\nFaults: fault: nowhere.cedar\n",
+            3,
+        ),
+        (
+            ("broken.cedar", "nowhere.json", "nor_here.json"),
+            100,
+            "read broken.cedar\nread nowhere.json\nFaults: fault: nowhere.json\n",
+            3,
+        ),
+        (
+            ("none.cedar", "none.json", "nowhere.json"),
+            100,
+            "read none.cedar\nread none.json\nread nowhere.json\nFaults: fault: nowhere.json\n",
+            3,
+        ),
+        (
+            ("none.cedar", "none.json", "asked.json"),
+            10,
+            "read none.cedar\nread none.json\nread asked.json\nAnswers: {\"cycle\":[",
+            3,
+        ),
+    ];
+    for (names, room, record, status) in rows {
+        assert!(rt;
+            decides(rt.alloc(), names, room, record, status)?,
+            "{record}"
+        );
+    }
+    Ok(())
+}
+
+#[test]
+fn writes_help_and_what_is_wrong_with_words(rt: HostRuntime) -> Result<(), Fail> {
+    let rows: [(&[&str], usize, &str, u8); 4] = [
+        (
+            &["--help"],
+            1_000,
+            "Answers: Answers requests by Cedar policies\n\nUsage: cedar_site <COMMAND>\n\nCommands:\n  decide  Answers one request over a file of policies and a file of entities\n  help    Print this message or the help of the given subcommand(s)\n\nOptions:\n  -h, --help  Print help\n",
+            0,
+        ),
+        (
+            &["decide", "--help"],
+            1_000,
+            "Answers: Answers one request over a file of policies and a file of entities\n\nUsage: cedar_site decide --policies <FILE> --entities <FILE> --request <FILE>\n\nOptions:\n      --policies <FILE>  The policies, as text\n      --entities <FILE>  The entities, a JSON array\n      --request <FILE>   The request, a JSON object\n  -h, --help             Print help\n",
+            0,
+        ),
+        (
+            &["judge"],
+            1_000,
+            "Faults: error: unrecognized subcommand 'judge'\n\nUsage: cedar_site <COMMAND>\n\nFor more information, try '--help'.\n",
+            2,
+        ),
+        (&["judge"], 5, "Faults: error", 3),
+    ];
+    for (words, room, record, status) in rows {
+        assert!(rt; runs(rt.alloc(), words, room, record, status)?, "{record}");
+    }
+    Ok(())
+}
+
+/// A stream of the system that has room for a part of the line alone.
+#[test]
+fn a_full_stream_ends_the_run(rt: HostRuntime) -> Result<(), Fail> {
+    let mut room = [0u8; 10];
+    let mut host = SystemHost {
+        files: &rt,
+        answers: Vec::new(rt.alloc()),
+        faults: room.as_mut_slice(),
+    };
+    let end = run_decide(rt.alloc(), &mut host, "nowhere.cedar", "e", "r");
+    assert!(rt; end == ExitCode::from(3));
+    Ok(())
+}

@@ -1,0 +1,14 @@
+//! The streams that a run writes on.
+
+/// One of the two standard streams.
+#[derive(Clone, Copy, Debug, PartialEq, Eq)]
+pub enum Stream {
+    /// Standard output, for answers and for help.
+    Answers,
+    /// Standard error, for refusals and faults.
+    Faults,
+}
+
+/// A stream did not take all that was written.
+#[derive(Clone, Copy, Debug, PartialEq, Eq)]
+pub struct StreamFailed;

@@ -1,0 +1,14 @@
+pub mod Digits
+pub mod Lists
+pub mod Idents
+pub mod Decoding
+pub mod Least
+pub mod Repeating
+pub mod Cores
+pub mod FaultsOf
+pub mod Sizing
+pub mod Judging
+pub mod PartsOf
+pub mod Gaving
+pub mod Telling
+pub mod Standing

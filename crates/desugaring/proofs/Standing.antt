@@ -1,0 +1,34 @@
+-- A tree that is made of tokens of the text stands in it.
+use Rattle.std.proofs.Common.{ℕ, zero, suc, ◌<◌, List, [], ◌∷◌, length, subst, arith}
+use Rattle.std.specs.Prelude.{Contains}
+use Rattle.std.specs.List.{AllByRecursion}
+use Rattle.policy_tokens.specs.declared.token.Token.{Token}
+use Rattle.policy_tokens.specs.Lexing.{IsSpelledIn}
+use Rattle.expression_syntax.specs.declared.tree.ExprTree.{ExprTree}
+use Rattle.expression_syntax.specs.Kinds.{Kinds}
+use Rattle.expression_syntax.specs.Parts.{Part, parts_of}
+use Rattle.expression_syntax.specs.Stands.{TokenStands, ExprStands}
+use Rattle.expression_syntax.proofs.Flat.{all_as}
+use Rattle.desugaring.specs.Standing.{TokenIn, Stands}
+
+-- an item of a list of which each is so
+pub item_is : {A : Type 0} (P : A → Type 0) (xs : List A) (x : A) → AllByRecursion P xs → Contains xs x → P x
+item_is P [] x all (i, below, e) = absurd (omega (arith, below))
+item_is P (y ∷ ys) x all (zero, below, e) = subst P e all.0
+item_is P (y ∷ ys) x all (suc i, below, e) = item_is P ys x all.1 (i, omega (arith, below), e)
+
+module _ (text : List ℕ) (ts : List Token) (spelled : AllByRecursion (IsSpelledIn text) ts) where
+  pub token_in : (kinds : Kinds) (token : Token) → TokenStands kinds ts token → TokenIn text kinds token
+  token_in kinds token h = record { spelled = item_is (IsSpelledIn text) ts token spelled h.0; kind = h.1 }
+
+  abbrev Is : Part → Type 0
+  Is p = TokenStands p.kinds ts p.token
+
+  abbrev In : Part → Type 0
+  In p = TokenIn text p.kinds p.token
+
+  pub tree_in : (x : ExprTree) → ExprStands ts x → Stands text x
+  tree_in x h = record { parts = all_as Is In (λ p. token_in p.kinds p.token) (parts_of x) h.parts }
+
+pub stands_in : (text : List ℕ) (ts : List Token) (x : ExprTree) → AllByRecursion (IsSpelledIn text) ts → ExprStands ts x → Stands text x
+stands_in text ts x spelled h = tree_in text ts spelled x h

@@ -1,0 +1,196 @@
+use Rattle.std.proofs.Common.{rules, refl, ◌≡◌, ◌∙◌, ap, sym, subst, List, map, IfOk}
+use Rattle.std.specs.List.{AllByRecursion, fold}
+use Rattle.expression_syntax.specs.declared.tree.Entry.{Entry}
+use Rattle.expression_syntax.specs.declared.tree.ExprTree.{ExprTree, the_lemmas}
+use Rattle.expressions.specs.declared.operator.Unary.TheVariants as unary
+use Rattle.expressions.specs.declared.operator.Binary.TheVariants as binary
+use Rattle.expressions.specs.declared.expr.Expr.TheVariants as core
+use Rattle.desugaring.specs.Strings.{pattern_of}
+use Rattle.desugaring.specs.Meaning.{path_name, name_of}
+use Rattle.desugaring.specs.Core.{core_of, negated, field, in_entry, in_term, in_access, added, accessed, joined_by, compared, called, function}
+use Rattle.desugaring.specs.declared.leaves.Chain.TheVariants as chain
+use Rattle.policy_tokens.specs.Lexing.{spelling_of}
+use Rattle.desugaring.specs.Standing.{Stands, AllStand, EntryStands, TermStands, AccessStands}
+use Rattle.desugaring.specs.Giving.{Gave}
+use Rattle.desugaring.proofs.Lists.{all-at}
+use Rattle.desugaring.proofs.Gaving.{one, two}
+use Rattle.desugaring.proofs.PartsOf.{of-Uid, of-Call, of-Set, of-Record, of-Member, of-Product, of-Sum, of-Compare, of-Has, of-Like, of-Is, of-IsIn, of-And, of-Or, of-If}
+use Rattle.desugaring.proofs.Cores.{core-Boolean, core-Number, core-Text, core-Variable, core-Uid, core-Call, core-Set, core-Record, core-Member, core-Not, core-Product, core-Sum, core-Compare, core-Has, core-Like, core-Is, core-IsIn, core-And, core-Or, core-If, negated-Number, negated-other}
+use Rattle.desugaring.proofs.build.+build.Goals as goal
+
+pub build_tree-build_all-requires : goal.build_tree-build_all-requires
+build_tree-build_all-requires t c = (search (rules, the_lemmas), subst (AllStand c.args.text.now) (sym c.as_slice.ensures) (of-Call c.args.text.now c.args.tree.now c.in-Call.path c.in-Call.arguments c.in-Call.is c.requires.1.1).1)
+
+pub build_tree-function_at-requires : goal.build_tree-function_at-requires
+build_tree-function_at-requires t c = (of-Call c.args.text.now c.args.tree.now c.in-Call.path c.in-Call.arguments c.in-Call.is c.requires.1.1).0
+
+pub build_tree-build_all-requires-in-Set : goal.build_tree-build_all-requires-in-Set
+build_tree-build_all-requires-in-Set t c = (search (rules, the_lemmas), subst (AllStand c.args.text.now) (sym c.as_slice-in-Set.ensures) (of-Set c.args.text.now c.args.tree.now c.in-Set.members c.in-Set.is c.requires.1.1))
+
+pub build_tree-build_entries-requires : goal.build_tree-build_entries-requires
+build_tree-build_entries-requires t c = (search (rules, the_lemmas), subst (AllByRecursion (EntryStands c.args.text.now)) (sym c.as_slice-in-Record.ensures) (of-Record c.args.text.now c.args.tree.now c.in-Record.entries c.in-Record.is c.requires.1.1))
+
+pub build_tree-build_tree-first-requires : goal.build_tree-build_tree-first-requires
+build_tree-build_tree-first-requires t c = (search (rules, the_lemmas), subst (Stands c.args.text.now) (sym c.get-in-Member.ensures) (of-Member c.args.text.now c.args.tree.now c.in-Member.inner c.in-Member.accesses c.in-Member.is c.requires.1.1).0)
+
+pub build_tree-build_accesses-requires : goal.build_tree-build_accesses-requires
+build_tree-build_accesses-requires t c = (search (rules, the_lemmas), subst (AllByRecursion (AccessStands c.args.text.now)) (sym c.as_slice-in-Member.ensures) (of-Member c.args.text.now c.args.tree.now c.in-Member.inner c.in-Member.accesses c.in-Member.is c.requires.1.1).1)
+
+pub build_tree-build_tree-first-requires-in-Product : goal.build_tree-build_tree-first-requires-in-Product
+build_tree-build_tree-first-requires-in-Product t c = (search (rules, the_lemmas), subst (Stands c.args.text.now) (sym c.get-in-Product.ensures) (of-Product c.args.text.now c.args.tree.now c.in-Product.inner c.in-Product.more c.in-Product.is c.requires.1.1).0)
+
+pub build_tree-build_chain-requires : goal.build_tree-build_chain-requires
+build_tree-build_chain-requires t c = (search (rules, the_lemmas), subst (AllStand c.args.text.now) (sym c.as_slice-in-Product.ensures) (of-Product c.args.text.now c.args.tree.now c.in-Product.inner c.in-Product.more c.in-Product.is c.requires.1.1).1)
+
+pub build_tree-build_tree-first-requires-in-Sum : goal.build_tree-build_tree-first-requires-in-Sum
+build_tree-build_tree-first-requires-in-Sum t c = (search (rules, the_lemmas), subst (Stands c.args.text.now) (sym c.get-in-Sum.ensures) (of-Sum c.args.text.now c.args.tree.now c.in-Sum.inner c.in-Sum.terms c.in-Sum.is c.requires.1.1).0)
+
+pub build_tree-build_terms-requires : goal.build_tree-build_terms-requires
+build_tree-build_terms-requires t c = (search (rules, the_lemmas), subst (AllByRecursion (TermStands c.args.text.now)) (sym c.as_slice-in-Sum.ensures) (of-Sum c.args.text.now c.args.tree.now c.in-Sum.inner c.in-Sum.terms c.in-Sum.is c.requires.1.1).1)
+
+pub build_tree-build_tree-requires-in-Compare : goal.build_tree-build_tree-requires-in-Compare
+build_tree-build_tree-requires-in-Compare t c = (search (rules, the_lemmas), subst (Stands c.args.text.now) (sym c.get-in-Compare.ensures) (of-Compare c.args.text.now c.args.tree.now c.in-Compare.left c.in-Compare.operator c.in-Compare.right c.in-Compare.is c.requires.1.1).0)
+
+pub build_tree-build_tree-requires-in-Compare-2 : goal.build_tree-build_tree-requires-in-Compare-2
+build_tree-build_tree-requires-in-Compare-2 t c = (search (rules, the_lemmas), subst (Stands c.args.text.now) (sym c.get-in-Compare-2.ensures) (of-Compare c.args.text.now c.args.tree.now c.in-Compare.left c.in-Compare.operator c.in-Compare.right c.in-Compare.is c.requires.1.1).1)
+
+pub build_tree-build_tree-requires-in-Has : goal.build_tree-build_tree-requires-in-Has
+build_tree-build_tree-requires-in-Has t c = (search (rules, the_lemmas), subst (Stands c.args.text.now) (sym c.get-in-Has.ensures) (of-Has c.args.text.now c.args.tree.now c.in-Has.inner c.in-Has.token c.in-Has.is c.requires.1.1).0)
+
+pub build_tree-build_tree-requires-in-Like : goal.build_tree-build_tree-requires-in-Like
+build_tree-build_tree-requires-in-Like t c = (search (rules, the_lemmas), subst (Stands c.args.text.now) (sym c.get-in-Like.ensures) (of-Like c.args.text.now c.args.tree.now c.in-Like.inner c.in-Like.token c.in-Like.is c.requires.1.1).0)
+
+pub build_tree-build_tree-requires-in-Is : goal.build_tree-build_tree-requires-in-Is
+build_tree-build_tree-requires-in-Is t c = (search (rules, the_lemmas), subst (Stands c.args.text.now) (sym c.get-in-Is.ensures) (of-Is c.args.text.now c.args.tree.now c.in-Is.inner c.in-Is.path c.in-Is.is c.requires.1.1).0)
+
+pub build_tree-uid_literal-requires : goal.build_tree-uid_literal-requires
+build_tree-uid_literal-requires t c = (of-Uid c.args.text.now c.args.tree.now c.in-Uid.uid c.in-Uid.is c.requires.1.1)
+
+pub build_tree-has-requires : goal.build_tree-has-requires
+build_tree-has-requires t c = (of-Has c.args.text.now c.args.tree.now c.in-Has.inner c.in-Has.token c.in-Has.is c.requires.1.1).1
+
+pub build_tree-like-requires : goal.build_tree-like-requires
+build_tree-like-requires t c = (of-Like c.args.text.now c.args.tree.now c.in-Like.inner c.in-Like.token c.in-Like.is c.requires.1.1).1
+
+pub build_tree-is-requires : goal.build_tree-is-requires
+build_tree-is-requires t c = (of-Is c.args.text.now c.args.tree.now c.in-Is.inner c.in-Is.path c.in-Is.is c.requires.1.1).1
+
+pub build_tree-build_tree-operand-requires : goal.build_tree-build_tree-operand-requires
+build_tree-build_tree-operand-requires t c = (search (rules, the_lemmas), subst (Stands c.args.text.now) (sym c.get-in-IsIn.ensures) (of-IsIn c.args.text.now c.args.tree.now c.in-IsIn.inner c.in-IsIn.path c.in-IsIn.outer c.in-IsIn.is c.requires.1.1).0)
+
+pub build_tree-build_tree-ancestor-requires : goal.build_tree-build_tree-ancestor-requires
+build_tree-build_tree-ancestor-requires t c = (search (rules, the_lemmas), subst (Stands c.args.text.now) (sym c.get-in-IsIn-2.ensures) (of-IsIn c.args.text.now c.args.tree.now c.in-IsIn.inner c.in-IsIn.path c.in-IsIn.outer c.in-IsIn.is c.requires.1.1).1.1)
+
+pub build_tree-is_in-requires : goal.build_tree-is_in-requires
+build_tree-is_in-requires t c = (of-IsIn c.args.text.now c.args.tree.now c.in-IsIn.inner c.in-IsIn.path c.in-IsIn.outer c.in-IsIn.is c.requires.1.1).1.0
+
+pub build_tree-build_tree-first-requires-in-And : goal.build_tree-build_tree-first-requires-in-And
+build_tree-build_tree-first-requires-in-And t c = (search (rules, the_lemmas), subst (Stands c.args.text.now) (sym c.get-in-And.ensures) (of-And c.args.text.now c.args.tree.now c.in-And.inner c.in-And.more c.in-And.is c.requires.1.1).0)
+
+pub build_tree-build_chain-requires-in-And : goal.build_tree-build_chain-requires-in-And
+build_tree-build_chain-requires-in-And t c = (search (rules, the_lemmas), subst (AllStand c.args.text.now) (sym c.as_slice-in-And.ensures) (of-And c.args.text.now c.args.tree.now c.in-And.inner c.in-And.more c.in-And.is c.requires.1.1).1)
+
+pub build_tree-build_tree-first-requires-in-Or : goal.build_tree-build_tree-first-requires-in-Or
+build_tree-build_tree-first-requires-in-Or t c = (search (rules, the_lemmas), subst (Stands c.args.text.now) (sym c.get-in-Or.ensures) (of-Or c.args.text.now c.args.tree.now c.in-Or.inner c.in-Or.more c.in-Or.is c.requires.1.1).0)
+
+pub build_tree-build_chain-requires-in-Or : goal.build_tree-build_chain-requires-in-Or
+build_tree-build_chain-requires-in-Or t c = (search (rules, the_lemmas), subst (AllStand c.args.text.now) (sym c.as_slice-in-Or.ensures) (of-Or c.args.text.now c.args.tree.now c.in-Or.inner c.in-Or.more c.in-Or.is c.requires.1.1).1)
+
+pub build_tree-build_tree-first-requires-in-If : goal.build_tree-build_tree-first-requires-in-If
+build_tree-build_tree-first-requires-in-If t c = (search (rules, the_lemmas), subst (Stands c.args.text.now) (sym c.get-in-If.ensures) (of-If c.args.text.now c.args.tree.now c.in-If.test c.in-If.consequent c.in-If.alternative c.in-If.is c.requires.1.1).0)
+
+pub build_tree-build_tree-second-requires : goal.build_tree-build_tree-second-requires
+build_tree-build_tree-second-requires t c = (search (rules, the_lemmas), subst (Stands c.args.text.now) (sym c.get-in-If-2.ensures) (of-If c.args.text.now c.args.tree.now c.in-If.test c.in-If.consequent c.in-If.alternative c.in-If.is c.requires.1.1).1.0)
+
+pub build_tree-build_tree-third-requires : goal.build_tree-build_tree-third-requires
+build_tree-build_tree-third-requires t c = (search (rules, the_lemmas), subst (Stands c.args.text.now) (sym c.get-in-If-3.ensures) (of-If c.args.text.now c.args.tree.now c.in-If.test c.in-If.consequent c.in-If.alternative c.in-If.is c.requires.1.1).1.1)
+
+pub build_access-build_all-requires : goal.build_access-build_all-requires
+build_access-build_all-requires t c = (search (rules, the_lemmas), subst (AllStand c.args.text.now) (sym c.as_slice.ensures) (subst (AccessStands c.args.text.now) c.in-Method.is c.requires.1.1).1)
+
+pub build_accesses-build_access-requires : goal.build_accesses-build_access-requires
+build_accesses-build_access-requires t c = (search (rules, the_lemmas), subst (AccessStands c.args.text.now) (sym c.access-item.is) (all-at (AccessStands c.args.text.now) c.args.accesses.now c.loop-access.access-index c.access-item.result c.requires.1.1 c.loop-access-test.true))
+
+pub build_tree-returns-in-Boolean : goal.build_tree-returns-in-Boolean
+build_tree-returns-in-Boolean t c = c.boolean_literal.ensures ∙ (sym (core-Boolean c.args.text.now c.in-Boolean.token) ∙ ap (core_of c.args.text.now) (sym c.in-Boolean.is))
+
+pub build_tree-returns-in-Number : goal.build_tree-returns-in-Number
+build_tree-returns-in-Number t c = c.number_literal.ensures ∙ (sym (core-Number c.args.text.now c.in-Number.token) ∙ ap (core_of c.args.text.now) (sym c.in-Number.is))
+
+pub build_tree-returns-in-Variable : goal.build_tree-returns-in-Variable
+build_tree-returns-in-Variable t c = c.variable_of.ensures ∙ (sym (core-Variable c.args.text.now c.in-Variable.token) ∙ ap (core_of c.args.text.now) (sym c.in-Variable.is))
+
+pub build_tree-returns-in-Text : goal.build_tree-returns-in-Text
+build_tree-returns-in-Text t c = subst (λ y. IfOk c.text_literal.result (λ e. e ≡ y)) (sym (core-Text c.args.text.now c.in-Text.token) ∙ ap (core_of c.args.text.now) (sym c.in-Text.is)) c.text_literal.ensures
+
+pub build_tree-returns-in-Uid : goal.build_tree-returns-in-Uid
+build_tree-returns-in-Uid t c = subst (λ y. IfOk c.uid_literal.result (λ e. e ≡ y)) (sym (core-Uid c.args.text.now c.in-Uid.uid) ∙ ap (core_of c.args.text.now) (sym c.in-Uid.is)) c.uid_literal.ensures
+
+pub build_tree-returns-in-Call : goal.build_tree-returns-in-Call
+build_tree-returns-in-Call t c =
+    one (called (function c.args.text.now c.in-Call.path)) (map (core_of c.args.text.now) c.in-Call.arguments) (core_of c.args.text.now c.args.tree.now) c.build_all.result c.call.result (subst (λ ys. IfOk c.build_all.result (λ e. e ≡ map (core_of c.args.text.now) ys)) c.as_slice.ensures c.build_all.ensures)
+    (subst (λ f. IfOk c.call.result (λ e. Gave c.build_all.result (λ es. e ≡ called f es))) c.function_at.ensures c.call.ensures) (sym (core-Call c.args.text.now c.in-Call.path c.in-Call.arguments) ∙ ap (core_of c.args.text.now) (sym c.in-Call.is))
+
+pub build_tree-returns-in-Set : goal.build_tree-returns-in-Set
+build_tree-returns-in-Set t c = one core.Set (map (core_of c.args.text.now) c.in-Set.members) (core_of c.args.text.now c.args.tree.now) c.build_all-in-Set.result c.set.result (subst (λ ys. IfOk c.build_all-in-Set.result (λ e. e ≡ map (core_of c.args.text.now) ys)) c.as_slice-in-Set.ensures c.build_all-in-Set.ensures) c.set.ensures (sym (core-Set c.args.text.now c.in-Set.members) ∙ ap (core_of c.args.text.now) (sym c.in-Set.is))
+
+pub build_tree-returns-in-Record : goal.build_tree-returns-in-Record
+build_tree-returns-in-Record t c = one core.Record ((λ (es : List (Entry ExprTree)). map (field c.args.text.now) (map (in_entry (core_of c.args.text.now)) es)) c.in-Record.entries) (core_of c.args.text.now c.args.tree.now) c.build_entries.result c.record.result (subst (λ ys. IfOk c.build_entries.result (λ e. e ≡ (λ (es : List (Entry ExprTree)). map (field c.args.text.now) (map (in_entry (core_of c.args.text.now)) es)) ys)) c.as_slice-in-Record.ensures c.build_entries.ensures) c.record.ensures (sym (core-Record c.args.text.now c.in-Record.entries) ∙ ap (core_of c.args.text.now) (sym c.in-Record.is))
+
+pub build_tree-returns-in-Not : goal.build_tree-returns-in-Not
+build_tree-returns-in-Not t c = one (core.Unary unary.Not) (core_of c.args.text.now c.in-Not.inner) (core_of c.args.text.now c.args.tree.now) c.build_tree-in-Not.result c.not.result (subst (λ y. IfOk c.build_tree-in-Not.result (λ e. e ≡ core_of c.args.text.now y)) c.get-in-Not.ensures c.build_tree-in-Not.ensures) c.not.ensures (sym (core-Not c.args.text.now c.in-Not.inner) ∙ ap (core_of c.args.text.now) (sym c.in-Not.is))
+
+pub build_tree-returns-in-Has : goal.build_tree-returns-in-Has
+build_tree-returns-in-Has t c = one (λ e. core.Has e (name_of c.args.text.now c.in-Has.token)) (core_of c.args.text.now c.in-Has.inner) (core_of c.args.text.now c.args.tree.now) c.build_tree-in-Has.result c.has.result (subst (λ y. IfOk c.build_tree-in-Has.result (λ e. e ≡ core_of c.args.text.now y)) c.get-in-Has.ensures c.build_tree-in-Has.ensures) c.has.ensures (sym (core-Has c.args.text.now c.in-Has.inner c.in-Has.token) ∙ ap (core_of c.args.text.now) (sym c.in-Has.is))
+
+pub build_tree-returns-in-Like : goal.build_tree-returns-in-Like
+build_tree-returns-in-Like t c = one (core.Unary (unary.Like (pattern_of (spelling_of c.args.text.now c.in-Like.token)))) (core_of c.args.text.now c.in-Like.inner) (core_of c.args.text.now c.args.tree.now) c.build_tree-in-Like.result c.like.result (subst (λ y. IfOk c.build_tree-in-Like.result (λ e. e ≡ core_of c.args.text.now y)) c.get-in-Like.ensures c.build_tree-in-Like.ensures) c.like.ensures (sym (core-Like c.args.text.now c.in-Like.inner c.in-Like.token) ∙ ap (core_of c.args.text.now) (sym c.in-Like.is))
+
+pub build_tree-returns-in-Is : goal.build_tree-returns-in-Is
+build_tree-returns-in-Is t c = one (core.Unary (unary.Is (path_name c.args.text.now c.in-Is.path))) (core_of c.args.text.now c.in-Is.inner) (core_of c.args.text.now c.args.tree.now) c.build_tree-in-Is.result c.is.result (subst (λ y. IfOk c.build_tree-in-Is.result (λ e. e ≡ core_of c.args.text.now y)) c.get-in-Is.ensures c.build_tree-in-Is.ensures) c.is.ensures (sym (core-Is c.args.text.now c.in-Is.inner c.in-Is.path) ∙ ap (core_of c.args.text.now) (sym c.in-Is.is))
+
+pub build_tree-returns-in-Member : goal.build_tree-returns-in-Member
+build_tree-returns-in-Member t c =
+    one (λ e. fold (accessed c.args.text.now) e (map (in_access (core_of c.args.text.now)) c.in-Member.accesses)) (core_of c.args.text.now c.in-Member.inner) (core_of c.args.text.now c.args.tree.now) c.build_tree-first.result c.build_accesses.result (subst (λ y. IfOk c.build_tree-first.result (λ e. e ≡ core_of c.args.text.now y)) c.get-in-Member.ensures c.build_tree-first.ensures)
+    (subst (λ xs. IfOk c.build_accesses.result (λ e. Gave c.build_tree-first.result (λ a. e ≡ fold (accessed c.args.text.now) a (map (in_access (core_of c.args.text.now)) xs)))) c.as_slice-in-Member.ensures c.build_accesses.ensures) (sym (core-Member c.args.text.now c.in-Member.inner c.in-Member.accesses) ∙ ap (core_of c.args.text.now) (sym c.in-Member.is))
+
+pub build_tree-returns-in-Product : goal.build_tree-returns-in-Product
+build_tree-returns-in-Product t c =
+    one (λ e. fold (joined_by chain.Product) e (map (core_of c.args.text.now) c.in-Product.more)) (core_of c.args.text.now c.in-Product.inner) (core_of c.args.text.now c.args.tree.now) c.build_tree-first-in-Product.result c.build_chain.result (subst (λ y. IfOk c.build_tree-first-in-Product.result (λ e. e ≡ core_of c.args.text.now y)) c.get-in-Product.ensures c.build_tree-first-in-Product.ensures)
+    (subst (λ xs. IfOk c.build_chain.result (λ e. Gave c.build_tree-first-in-Product.result (λ a. e ≡ fold (joined_by chain.Product) a (map (core_of c.args.text.now) xs)))) c.as_slice-in-Product.ensures c.build_chain.ensures) (sym (core-Product c.args.text.now c.in-Product.inner c.in-Product.more) ∙ ap (core_of c.args.text.now) (sym c.in-Product.is))
+
+pub build_tree-returns-in-Sum : goal.build_tree-returns-in-Sum
+build_tree-returns-in-Sum t c =
+    one (λ e. fold added e (map (in_term (core_of c.args.text.now)) c.in-Sum.terms)) (core_of c.args.text.now c.in-Sum.inner) (core_of c.args.text.now c.args.tree.now) c.build_tree-first-in-Sum.result c.build_terms.result (subst (λ y. IfOk c.build_tree-first-in-Sum.result (λ e. e ≡ core_of c.args.text.now y)) c.get-in-Sum.ensures c.build_tree-first-in-Sum.ensures)
+    (subst (λ xs. IfOk c.build_terms.result (λ e. Gave c.build_tree-first-in-Sum.result (λ a. e ≡ fold added a (map (in_term (core_of c.args.text.now)) xs)))) c.as_slice-in-Sum.ensures c.build_terms.ensures) (sym (core-Sum c.args.text.now c.in-Sum.inner c.in-Sum.terms) ∙ ap (core_of c.args.text.now) (sym c.in-Sum.is))
+
+pub build_tree-returns-in-And : goal.build_tree-returns-in-And
+build_tree-returns-in-And t c =
+    one (λ e. fold (joined_by chain.And) e (map (core_of c.args.text.now) c.in-And.more)) (core_of c.args.text.now c.in-And.inner) (core_of c.args.text.now c.args.tree.now) c.build_tree-first-in-And.result c.build_chain-in-And.result (subst (λ y. IfOk c.build_tree-first-in-And.result (λ e. e ≡ core_of c.args.text.now y)) c.get-in-And.ensures c.build_tree-first-in-And.ensures)
+    (subst (λ xs. IfOk c.build_chain-in-And.result (λ e. Gave c.build_tree-first-in-And.result (λ a. e ≡ fold (joined_by chain.And) a (map (core_of c.args.text.now) xs)))) c.as_slice-in-And.ensures c.build_chain-in-And.ensures) (sym (core-And c.args.text.now c.in-And.inner c.in-And.more) ∙ ap (core_of c.args.text.now) (sym c.in-And.is))
+
+pub build_tree-returns-in-Or : goal.build_tree-returns-in-Or
+build_tree-returns-in-Or t c =
+    one (λ e. fold (joined_by chain.Or) e (map (core_of c.args.text.now) c.in-Or.more)) (core_of c.args.text.now c.in-Or.inner) (core_of c.args.text.now c.args.tree.now) c.build_tree-first-in-Or.result c.build_chain-in-Or.result (subst (λ y. IfOk c.build_tree-first-in-Or.result (λ e. e ≡ core_of c.args.text.now y)) c.get-in-Or.ensures c.build_tree-first-in-Or.ensures)
+    (subst (λ xs. IfOk c.build_chain-in-Or.result (λ e. Gave c.build_tree-first-in-Or.result (λ a. e ≡ fold (joined_by chain.Or) a (map (core_of c.args.text.now) xs)))) c.as_slice-in-Or.ensures c.build_chain-in-Or.ensures) (sym (core-Or c.args.text.now c.in-Or.inner c.in-Or.more) ∙ ap (core_of c.args.text.now) (sym c.in-Or.is))
+
+pub build_tree-returns-in-Compare : goal.build_tree-returns-in-Compare
+build_tree-returns-in-Compare t c =
+    two (compared c.in-Compare.operator.kind) (core_of c.args.text.now c.in-Compare.left) (core_of c.args.text.now c.in-Compare.right) (core_of c.args.text.now c.args.tree.now) c.build_tree-in-Compare.result c.build_tree-in-Compare-2.result c.compare.result
+    (subst (λ y. IfOk c.build_tree-in-Compare.result (λ e. e ≡ core_of c.args.text.now y)) c.get-in-Compare.ensures c.build_tree-in-Compare.ensures) (subst (λ y. IfOk c.build_tree-in-Compare-2.result (λ e. e ≡ core_of c.args.text.now y)) c.get-in-Compare-2.ensures c.build_tree-in-Compare-2.ensures) c.compare.ensures (sym (core-Compare c.args.text.now c.in-Compare.left c.in-Compare.operator c.in-Compare.right) ∙ ap (core_of c.args.text.now) (sym c.in-Compare.is))
+
+pub build_tree-returns-in-IsIn : goal.build_tree-returns-in-IsIn
+build_tree-returns-in-IsIn t c =
+    one (λ p. core.And (core.Unary (unary.Is (path_name c.args.text.now c.in-IsIn.path)) p.0) (core.Binary binary.In p.0 p.1)) ((core_of c.args.text.now c.in-IsIn.inner), (core_of c.args.text.now c.in-IsIn.outer)) (core_of c.args.text.now c.args.tree.now) c.both.result c.is_in.result
+    (two (λ x y. (x, y)) (core_of c.args.text.now c.in-IsIn.inner) (core_of c.args.text.now c.in-IsIn.outer) ((core_of c.args.text.now c.in-IsIn.inner), (core_of c.args.text.now c.in-IsIn.outer)) c.build_tree-operand.result c.build_tree-ancestor.result c.both.result (subst (λ y. IfOk c.build_tree-operand.result (λ e. e ≡ core_of c.args.text.now y)) c.get-in-IsIn.ensures c.build_tree-operand.ensures) (subst (λ y. IfOk c.build_tree-ancestor.result (λ e. e ≡ core_of c.args.text.now y)) c.get-in-IsIn-2.ensures c.build_tree-ancestor.ensures) c.both.ensures refl) c.is_in.ensures (sym (core-IsIn c.args.text.now c.in-IsIn.inner c.in-IsIn.path c.in-IsIn.outer) ∙ ap (core_of c.args.text.now) (sym c.in-IsIn.is))
+
+pub build_tree-returns-in-If : goal.build_tree-returns-in-If
+build_tree-returns-in-If t c =
+    two (λ a p. core.If a p.0 p.1) (core_of c.args.text.now c.in-If.test) ((core_of c.args.text.now c.in-If.consequent), (core_of c.args.text.now c.in-If.alternative)) (core_of c.args.text.now c.args.tree.now) c.build_tree-first-in-If.result c.both-in-If.result c.if_then_else.result
+    (subst (λ y. IfOk c.build_tree-first-in-If.result (λ e. e ≡ core_of c.args.text.now y)) c.get-in-If.ensures c.build_tree-first-in-If.ensures) (two (λ x y. (x, y)) (core_of c.args.text.now c.in-If.consequent) (core_of c.args.text.now c.in-If.alternative) ((core_of c.args.text.now c.in-If.consequent), (core_of c.args.text.now c.in-If.alternative)) c.build_tree-second.result c.build_tree-third.result c.both-in-If.result (subst (λ y. IfOk c.build_tree-second.result (λ e. e ≡ core_of c.args.text.now y)) c.get-in-If-2.ensures c.build_tree-second.ensures) (subst (λ y. IfOk c.build_tree-third.result (λ e. e ≡ core_of c.args.text.now y)) c.get-in-If-3.ensures c.build_tree-third.ensures) c.both-in-If.ensures refl) c.if_then_else.ensures (sym (core-If c.args.text.now c.in-If.test c.in-If.consequent c.in-If.alternative) ∙ ap (core_of c.args.text.now) (sym c.in-If.is))
+
+pub build_behind_minus-returns-in-Number : goal.build_behind_minus-returns-in-Number
+build_behind_minus-returns-in-Number t c = c.negated_literal.ensures ∙ sym (negated-Number c.args.text.now c.in-Number.token) ∙ ap (negated c.args.text.now) (sym c.in-Number.is)
+
+pub build_behind_minus-returns-in_default : goal.build_behind_minus-returns-in_default
+build_behind_minus-returns-in_default t c = one (core.Unary unary.Negate) (core_of c.args.text.now c.args.tree.now) (negated c.args.text.now c.args.tree.now) c.build_tree.result c.negate.result c.build_tree.ensures c.negate.ensures (sym (negated-other c.args.text.now c.args.tree.now c.in_default.not-Number))

@@ -1,0 +1,29 @@
+-- What is told of a tree before anything is built: how large its core expression is, and its fault at the least place.
+use Rattle.std.specs.Prelude.{ℕ, List, map, Option}
+use Rattle.expressions.specs.declared.expr.Expr.{Expr}
+use Rattle.expressions.specs.Size.{height, forms, capped, greatest, total}
+use Rattle.expression_syntax.specs.declared.tree.ExprTree.{ExprTree}
+use Rattle.desugaring.specs.declared.fault.DesugarFault.{DesugarFault}
+use Rattle.desugaring.specs.declared.judgement.Judgement.{Judgement}
+use Rattle.desugaring.specs.Refused.{least}
+use Rattle.desugaring.specs.Core.{core_of, negated}
+use Rattle.desugaring.specs.Faults.{faults_of, negated_faults}
+
+abbrev pub judgement : ℕ → ℕ → Option DesugarFault → Judgement
+judgement h f fault = record { height = capped h; forms = capped f; fault = fault }
+
+-- of an expression and the faults of what it came from
+abbrev pub of : Expr → List DesugarFault → Judgement
+of e faults = judgement (height e) (forms e) (least faults)
+
+-- of expressions side by side
+abbrev pub of_row : List Expr → List DesugarFault → Judgement
+of_row es faults = judgement (greatest (map height es)) (total (map forms es)) (least faults)
+
+-- of a tree
+abbrev pub judged : List ℕ → ExprTree → Judgement
+judged text x = of (core_of text x) (faults_of text x)
+
+-- of a tree behind a minus
+abbrev pub judged_negated : List ℕ → ExprTree → Judgement
+judged_negated text x = of (negated text x) (negated_faults text x)

@@ -1,0 +1,13 @@
+pub mod Core
+pub mod Faults
+pub mod Giving
+pub mod Judged
+pub mod Meaning
+pub mod Names
+pub mod Numbers
+pub mod Repeats
+pub mod Standing
+pub mod Strings
+pub mod Sums
+pub mod Refused
+pub mod Whole

@@ -1,0 +1,81 @@
+-- Judgements put together.
+use Rattle.std.specs.Prelude.{ℕ, ◌+◌, max, List, length, Option, Some, None}
+use Rattle.std.specs.List.{fold}
+use Rattle.policy_tokens.specs.declared.token.Kind.{Kind}
+use Rattle.policy_tokens.specs.declared.token.Kind.TheVariants as k
+use Rattle.policy_tokens.specs.Lexing.{spelling_of}
+use Rattle.expression_syntax.specs.declared.tree.PathTree.{PathTree}
+use Rattle.expression_syntax.specs.declared.tree.Access.{Access}
+use Rattle.expression_syntax.specs.declared.tree.Access.TheVariants as access
+use Rattle.expression_syntax.specs.declared.tree.Entry.{Entry}
+use Rattle.expression_syntax.specs.declared.tree.Term.{Term}
+use Rattle.expression_syntax.specs.declared.tree.ExprTree.{ExprTree}
+use Rattle.desugaring.specs.declared.fault.DesugarFault.{DesugarFault}
+use Rattle.desugaring.specs.declared.judgement.Judgement.{Judgement}
+use Rattle.desugaring.specs.Refused.{earlier_of, least}
+use Rattle.desugaring.specs.Names.{method_of, method_takes}
+use Rattle.desugaring.specs.Faults.{call_faults, function_faults}
+use Rattle.desugaring.specs.Judged.{judgement, judged}
+
+-- of nothing, and of a form without operands
+abbrev pub nothing : Judgement
+nothing = judgement 0 0 None
+
+abbrev pub leaf : Option DesugarFault → Judgement
+leaf fault = judgement 1 1 fault
+
+-- of a form over these
+abbrev pub above : Judgement → Judgement
+above j = judgement (j.height + 1) (j.forms + 1) j.fault
+
+-- of two side by side
+abbrev pub beside : Judgement → Judgement → Judgement
+beside i j = judgement (max i.height j.height) (i.forms + j.forms) (earlier_of i.fault j.fault)
+
+abbrev pub paired : Judgement → Judgement → Judgement
+paired i j = above (beside i j)
+
+-- of a call with these operands that may have a fault of its own
+abbrev pub called : Option DesugarFault → Judgement → Judgement
+called None operands = above operands
+called (Some fault) operands = leaf operands.fault
+
+abbrev pub with_fault : Option DesugarFault → Judgement → Judgement
+with_fault fault j = record { height = j.height; forms = j.forms; fault = earlier_of fault j.fault }
+
+-- ## Of lists of trees
+
+-- of trees side by side
+abbrev pub judged_all : List ℕ → List ExprTree → Judgement
+judged_all text xs = fold (λ j x. beside j (judged text x)) nothing xs
+
+-- of a chain of operands, the first of which is judged
+abbrev pub judged_chain : List ℕ → Judgement → List ExprTree → Judgement
+judged_chain text = fold (λ j x. paired j (judged text x))
+
+-- of one term more
+abbrev pub judged_term : List ℕ → Judgement → Term ExprTree → Judgement
+judged_term text j term = paired j (judged text term.operand)
+
+-- of one entry more
+abbrev pub judged_entry : List ℕ → Judgement → Entry ExprTree → Judgement
+judged_entry text j entry = beside j (judged text entry.value)
+
+-- of a comparison
+abbrev pub judged_compared : Kind → Judgement → Judgement → Judgement
+judged_compared k.Greater i j = above (paired i j)
+judged_compared k.GreaterEqual i j = above (paired i j)
+judged_compared k.NotEqual i j = above (paired i j)
+judged_compared _ i j = paired i j
+
+-- of a function's call
+abbrev pub judged_call : List ℕ → PathTree → List ExprTree → Judgement
+judged_call text path arguments =
+    let fault = least (function_faults text path (length arguments)) in called fault (with_fault fault (judged_all text arguments))
+
+-- of an access to what is judged
+abbrev pub judged_access : List ℕ → Judgement → Access (List ExprTree) → Judgement
+judged_access text j (access.Field name) = above j
+judged_access text j (access.Method name arguments) =
+    let fault = least (call_faults name.start (method_takes (method_of (spelling_of text name))) (length arguments)) in
+    called fault (beside j (with_fault fault (judged_all text arguments)))

@@ -1,0 +1,207 @@
+//! The core expression that a tree stands for.
+ghost use Rattle.std.specs.Prelude.{◌≡◌, IfOk, map};
+ghost use Rattle.std.specs.List.{AllByRecursion, fold};
+ghost use Rattle.desugaring.specs.Core as spec;
+ghost use Rattle.desugaring.specs.Core.{core_of, negated};
+ghost use Rattle.desugaring.specs.Giving.{Gave};
+ghost use Rattle.desugaring.specs.Standing.{Stands, AllStand, EntryStands, TermStands, AccessStands};
+
+use crate::judge::function_at;
+use crate::leaves::{
+    Chain, boolean_literal, both, call, call_method, compare, field, has, if_then_else, is, is_in,
+    join, like, negate, negated_literal, not, number_literal, record, set, text_literal,
+    uid_literal, variable_of,
+};
+use crate::names::method_named;
+use crate::words::{name, sign};
+use expression_syntax::{Access, Entry, ExprTree, Term};
+use expressions::{Expr, Named};
+use plain::{Items, NoMemory};
+use policy_tokens::spelling;
+use std::alloc::Global;
+
+/// The core expression of a tree; of one that has faults some expression.
+#[cycle(build)]
+pub(crate) fn build_tree(alloc: Global, text: &str, tree: &ExprTree) -> Result<Expr, NoMemory>
+    requires { Stands text.now tree.now }
+    ensures { IfOk result (λ e. e ≡ core_of text.now tree.now) }
+{
+    match tree {
+        ExprTree::Boolean(token) => Ok(boolean_literal(token.kind)),
+        ExprTree::Number(token) => Ok(number_literal(text, *token)),
+        ExprTree::Text(token) => text_literal(alloc, text, *token),
+        ExprTree::Variable(token) => Ok(variable_of(token.kind)),
+        ExprTree::Uid(uid) => uid_literal(alloc, text, uid),
+        ExprTree::Call(path, arguments) => call(
+            alloc,
+            function_at(text, path),
+            build_all(alloc, text, arguments.as_slice()),
+        ),
+        ExprTree::Parentheses(inner) => build_tree(alloc, text, inner.get()),
+        ExprTree::Set(members) => set(build_all(alloc, text, members.as_slice())),
+        ExprTree::Record(entries) => record(build_entries(alloc, text, entries.as_slice())),
+        ExprTree::Member(inner, accesses) => {
+            let first = build_tree(alloc, text, inner.get());
+            build_accesses(alloc, text, accesses.as_slice(), first)
+        }
+        ExprTree::Not(inner) => not(alloc, build_tree(alloc, text, inner.get())),
+        ExprTree::Minus(inner) => build_behind_minus(alloc, text, inner.get()),
+        ExprTree::Product(inner, more) => {
+            let first = build_tree(alloc, text, inner.get());
+            build_chain(alloc, text, more.as_slice(), first, Chain::Product)
+        }
+        ExprTree::Sum(inner, terms) => {
+            let first = build_tree(alloc, text, inner.get());
+            build_terms(alloc, text, terms.as_slice(), first)
+        }
+        ExprTree::Compare(left, operator, right) => compare(
+            alloc,
+            operator.kind,
+            build_tree(alloc, text, left.get()),
+            build_tree(alloc, text, right.get()),
+        ),
+        ExprTree::Has(inner, token) => {
+            has(alloc, text, build_tree(alloc, text, inner.get()), *token)
+        }
+        ExprTree::Like(inner, token) => {
+            like(alloc, text, build_tree(alloc, text, inner.get()), *token)
+        }
+        ExprTree::Is(inner, path) => is(alloc, text, build_tree(alloc, text, inner.get()), path),
+        ExprTree::IsIn(inner, path, outer) => {
+            let operand = build_tree(alloc, text, inner.get());
+            let ancestor = build_tree(alloc, text, outer.get());
+            is_in(alloc, text, both(operand, ancestor), path)
+        }
+        ExprTree::And(inner, more) => {
+            let first = build_tree(alloc, text, inner.get());
+            build_chain(alloc, text, more.as_slice(), first, Chain::And)
+        }
+        ExprTree::Or(inner, more) => {
+            let first = build_tree(alloc, text, inner.get());
+            build_chain(alloc, text, more.as_slice(), first, Chain::Or)
+        }
+        ExprTree::If(test, consequent, alternative) => {
+            let first = build_tree(alloc, text, test.get());
+            let second = build_tree(alloc, text, consequent.get());
+            let third = build_tree(alloc, text, alternative.get());
+            if_then_else(alloc, first, both(second, third))
+        }
+    }
+}
+
+/// A tree behind a minus, which joins a number.
+#[cycle(build)]
+fn build_behind_minus(alloc: Global, text: &str, tree: &ExprTree) -> Result<Expr, NoMemory>
+    requires { Stands text.now tree.now }
+    ensures { IfOk result (λ e. e ≡ negated text.now tree.now) }
+{
+    match tree {
+        ExprTree::Number(token) => Ok(negated_literal(text, *token)),
+        _ => negate(alloc, build_tree(alloc, text, tree)),
+    }
+}
+
+#[cycle(build)]
+fn build_all(alloc: Global, text: &str, trees: &[ExprTree]) -> Result<Items<Expr>, NoMemory>
+    requires { AllStand text.now trees.now }
+    ensures { IfOk result (λ es. es ≡ map (core_of text.now) trees.now) }
+{
+    let mut row = Vec::with_capacity(alloc, trees.len())?;
+    for tree in trees {
+        let built = build_tree(alloc, text, tree)?;
+        row.push(built)?;
+    }
+    Ok(Items::from_vec(row))
+}
+
+#[cycle(build)]
+fn build_entries(
+    alloc: Global,
+    text: &str,
+    entries: &[Entry<ExprTree>],
+) -> Result<Items<Named<Expr>>, NoMemory>
+    requires { AllByRecursion (EntryStands text.now) entries.now }
+    ensures { IfOk result (λ fs. fs ≡ map (spec.field text.now) (map (spec.in_entry (core_of text.now)) entries.now)) }
+{
+    let mut row = Vec::with_capacity(alloc, entries.len())?;
+    for entry in entries {
+        let name = name(alloc, text, entry.key)?;
+        let value = build_tree(alloc, text, &entry.value)?;
+        row.push(Named { name, value })?;
+    }
+    Ok(Items::from_vec(row))
+}
+
+#[cycle(build)]
+fn build_chain(
+    alloc: Global,
+    text: &str,
+    more: &[ExprTree],
+    first: Result<Expr, NoMemory>,
+    chain: Chain,
+) -> Result<Expr, NoMemory>
+    requires { AllStand text.now more.now }
+    ensures { IfOk result (λ e. Gave first (λ a. e ≡ fold (spec.joined_by chain) a (map (core_of text.now) more.now))) }
+{
+    let mut left = first?;
+    for tree in more {
+        let right = build_tree(alloc, text, tree)?;
+        left = join(alloc, chain, left, right)?;
+    }
+    Ok(left)
+}
+
+#[cycle(build)]
+fn build_terms(
+    alloc: Global,
+    text: &str,
+    terms: &[Term<ExprTree>],
+    first: Result<Expr, NoMemory>,
+) -> Result<Expr, NoMemory>
+    requires { AllByRecursion (TermStands text.now) terms.now }
+    ensures { IfOk result (λ e. Gave first (λ a. e ≡ fold spec.added a (map (spec.in_term (core_of text.now)) terms.now))) }
+{
+    let mut left = first?;
+    for term in terms {
+        let right = build_tree(alloc, text, &term.operand)?;
+        left = Expr::binary(alloc, sign(term.sign.kind), left, right)?;
+    }
+    Ok(left)
+}
+
+#[cycle(build)]
+fn build_accesses(
+    alloc: Global,
+    text: &str,
+    accesses: &[Access<Items<ExprTree>>],
+    receiver: Result<Expr, NoMemory>,
+) -> Result<Expr, NoMemory>
+    requires { AllByRecursion (AccessStands text.now) accesses.now }
+    ensures { IfOk result (λ e. Gave receiver (λ a. e ≡ fold (spec.accessed text.now) a (map (spec.in_access (core_of text.now)) accesses.now))) }
+{
+    let mut left = receiver?;
+    for access in accesses {
+        left = build_access(alloc, text, access, left)?;
+    }
+    Ok(left)
+}
+
+#[cycle(build)]
+fn build_access(
+    alloc: Global,
+    text: &str,
+    access: &Access<Items<ExprTree>>,
+    receiver: Expr,
+) -> Result<Expr, NoMemory>
+    requires { AccessStands text.now access.now }
+    ensures { IfOk result (λ e. e ≡ spec.accessed text.now receiver (spec.in_access (core_of text.now) access.now)) }
+{
+    match access {
+        Access::Field(token) => field(alloc, text, receiver, *token),
+        Access::Method(token, arguments) => {
+            let row = build_all(alloc, text, arguments.as_slice())?;
+            let method = method_named(spelling(text, *token));
+            call_method(alloc, method, receiver, row)
+        }
+    }
+}

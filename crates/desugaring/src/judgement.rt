@@ -1,0 +1,99 @@
+//! How large a core expression is, and its fault, told before it is built.
+ghost use Rattle.std.specs.Prelude.{◌≡◌, ◌↔◌, ◌+◌, ◌≤◌, IsTrue, None};
+ghost use Rattle.expressions.specs.Size.{capped};
+ghost use Rattle.desugaring.specs.Sums as spec;
+
+use crate::fault::{DesugarFault, earlier_of};
+use expressions::{FORMS_MAX, HEIGHT_MAX};
+
+/// The size of a core expression, and the fault at the least place of what it comes from. The greatest `u32` stands for all greater numbers.
+#[derive(Clone, Copy)]
+pub struct Judgement {
+    /// The longest way down, which is 1 for a leaf.
+    pub height: u32,
+    /// The number of forms.
+    pub forms: u32,
+    /// The fault at the least place; without one there is a core expression.
+    pub fault: Option<DesugarFault>,
+}
+
+impl Judgement {
+    /// Whether the core expression keeps to the limits of a policy's: no higher than 1,000, and of no more than 1,000,000 forms.
+    pub fn is_small(self) -> bool
+        ensures { IsTrue result ↔ ((self.height ≤ 1000) × (self.forms ≤ 1000000)) }
+    {
+        self.height <= HEIGHT_MAX && self.forms <= FORMS_MAX
+    }
+
+    /// Of no expression.
+    pub(crate) fn nothing() -> Judgement
+        ensures { result ≡ spec.nothing }
+    {
+        Judgement {
+            height: 0,
+            forms: 0,
+            fault: None,
+        }
+    }
+
+    /// Of an expression without operands.
+    pub fn leaf(fault: Option<DesugarFault>) -> Judgement
+        ensures { result ≡ spec.leaf fault }
+    {
+        Judgement {
+            height: 1,
+            forms: 1,
+            fault,
+        }
+    }
+
+    /// Of a form over what is judged.
+    pub fn above(self) -> Judgement
+        ensures { result ≡ spec.above self }
+    {
+        Judgement {
+            height: self.height.saturating_add(1),
+            forms: self.forms.saturating_add(1),
+            fault: self.fault,
+        }
+    }
+
+    /// Of two side by side.
+    pub(crate) fn beside(self, other: Judgement) -> Judgement
+        ensures { result ≡ spec.beside self other }
+    {
+        Judgement {
+            height: self.height.max(other.height),
+            forms: self.forms.saturating_add(other.forms),
+            fault: earlier_of(self.fault, other.fault),
+        }
+    }
+
+    /// Of a form over two. Of two faults at one place the first one's is told.
+    pub fn paired(self, other: Judgement) -> Judgement
+        ensures { result ≡ spec.paired self other }
+    {
+        self.beside(other).above()
+    }
+
+    /// Of a call with these operands that may have a fault of its own.
+    pub(crate) fn called(self, fault: Option<DesugarFault>) -> Judgement
+        ensures { result ≡ spec.called fault self }
+    {
+        match fault {
+            None => self.above(),
+            Some(_) => Judgement::leaf(self.fault),
+        }
+    }
+
+    /// With one more fault.
+    pub(crate) fn with_fault(self, fault: Option<DesugarFault>) -> Judgement
+        ensures { result ≡ spec.with_fault fault self }
+    {
+        Judgement {
+            height: self.height,
+            forms: self.forms,
+            fault: earlier_of(fault, self.fault),
+        }
+    }
+}

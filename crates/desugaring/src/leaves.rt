@@ -1,0 +1,333 @@
+//! Core expressions from their parts, and those that a single token makes.
+ghost use Rattle.std.specs.Prelude.{◌≡◌, IfOk};
+ghost use Rattle.policy_tokens.specs.declared.token.Kind.TheVariants as k;
+ghost use Rattle.policy_tokens.specs.Lexing.{spelling_of};
+ghost use Rattle.expressions.specs.declared.leaf.Literal.TheVariants as literal;
+ghost use Rattle.expressions.specs.declared.operator.Unary.TheVariants as unary;
+ghost use Rattle.expressions.specs.declared.operator.Binary.TheVariants as binary;
+ghost use Rattle.expressions.specs.declared.expr.Expr.TheVariants as core;
+ghost use Rattle.expression_syntax.specs.Kinds.{only};
+ghost use Rattle.expression_syntax.specs.Expressions.{keys, patterns};
+ghost use Rattle.desugaring.specs.Strings.{value_of, pattern_of};
+ghost use Rattle.desugaring.specs.Numbers.{positive, negative};
+ghost use Rattle.desugaring.specs.Meaning.{boolean_of, variable_of, path_name, uid_of, name_of};
+ghost use Rattle.desugaring.specs.Core as spec;
+ghost use Rattle.desugaring.specs.Giving.{Gave};
+ghost use Rattle.desugaring.specs.Standing.{TokenIn, PathIn, UidIn};
+
+use crate::names::Method;
+use crate::numbers;
+use crate::words::{self, boolean, name, pattern, string, type_name, variable};
+use expression_syntax::{PathTree, UidTree};
+use expressions::{Binary, Expr, Literal, Named, Unary, UnaryCall};
+use plain::{Items, NoMemory};
+use policy_tokens::{Kind, Token, spelling};
+use std::alloc::Global;
+
+/// How the operands of a chain are joined.
+#[derive(Clone, Copy)]
+pub(crate) enum Chain {
+    Product,
+    And,
+    Or,
+}
+
+pub(crate) fn boolean_literal(kind: Kind) -> Expr
+    ensures { result ≡ core.Literal (literal.Boolean (boolean_of kind)) }
+{
+    Expr::Literal(Literal::Boolean(boolean(kind)))
+}
+
+pub(crate) fn variable_of(kind: Kind) -> Expr
+    ensures { result ≡ core.Variable (variable_of kind) }
+{
+    Expr::Variable(variable(kind))
+}
+
+/// A number by itself.
+pub(crate) fn number_literal(text: &str, token: Token) -> Expr
+    requires { TokenIn text.now (only k.Number) token }
+    ensures { result ≡ spec.long (positive (spelling_of text.now token)) }
+{
+    Expr::Literal(Literal::Long(numbers::positive(spelling(text, token).as_bytes())))
+}
+
+/// A number that a minus joins.
+pub(crate) fn negated_literal(text: &str, token: Token) -> Expr
+    requires { TokenIn text.now (only k.Number) token }
+    ensures { result ≡ spec.long (negative (spelling_of text.now token)) }
+{
+    Expr::Literal(Literal::Long(numbers::negative(spelling(text, token).as_bytes())))
+}
+
+pub(crate) fn text_literal(alloc: Global, text: &str, token: Token) -> Result<Expr, NoMemory>
+    requires { TokenIn text.now (only k.Text) token }
+    ensures { IfOk result (λ e. e ≡ core.Literal (literal.Text (value_of (spelling_of text.now token)))) }
+{
+    let value = string(alloc, text, token)?;
+    Ok(Expr::Literal(Literal::Text(value)))
+}
+
+pub(crate) fn uid_literal(alloc: Global, text: &str, tree: &UidTree) -> Result<Expr, NoMemory>
+    requires { UidIn text.now tree.now }
+    ensures { IfOk result (λ e. e ≡ core.Literal (literal.Entity (uid_of text.now tree.now))) }
+{
+    let uid = words::uid(alloc, text, tree)?;
+    Ok(Expr::Literal(Literal::Entity(uid)))
+}
+
+/// `owner.name`
+pub(crate) fn field(alloc: Global, text: &str, owner: Expr, token: Token) -> Result<Expr, NoMemory>
+    requires { TokenIn text.now keys token }
+    ensures { IfOk result (λ e. e ≡ core.Field owner (name_of text.entry.now token)) }
+{
+    let name = name(alloc, text, token)?;
+    Expr::field(alloc, owner, name)
+}
+
+/// `owner has name`
+pub(crate) fn has(
+    alloc: Global,
+    text: &str,
+    owner: Result<Expr, NoMemory>,
+    token: Token,
+) -> Result<Expr, NoMemory>
+    requires { TokenIn text.now keys token }
+    ensures { IfOk result (λ e. Gave owner (λ a. e ≡ core.Has a (name_of text.now token))) }
+{
+    let owner = owner?;
+    let name = name(alloc, text, token)?;
+    Expr::has(alloc, owner, name)
+}
+
+/// `operand like pattern`
+pub(crate) fn like(
+    alloc: Global,
+    text: &str,
+    operand: Result<Expr, NoMemory>,
+    token: Token,
+) -> Result<Expr, NoMemory>
+    requires { TokenIn text.now patterns token }
+    ensures { IfOk result (λ e. Gave operand (λ a. e ≡ core.Unary (unary.Like (pattern_of (spelling_of text.now token))) a)) }
+{
+    let operand = operand?;
+    let pattern = pattern(alloc, text, token)?;
+    Expr::unary(alloc, Unary::Like(pattern), operand)
+}
+
+/// `operand is path`
+pub(crate) fn is(
+    alloc: Global,
+    text: &str,
+    operand: Result<Expr, NoMemory>,
+    path: &PathTree,
+) -> Result<Expr, NoMemory>
+    requires { PathIn text.now path.now }
+    ensures { IfOk result (λ e. Gave operand (λ a. e ≡ core.Unary (unary.Is (path_name text.now path.now)) a)) }
+{
+    let operand = operand?;
+    let type_name = type_name(alloc, text, path)?;
+    Expr::unary(alloc, Unary::Is(type_name), operand)
+}
+
+/// Both of two.
+pub(crate) fn both(
+    left: Result<Expr, NoMemory>,
+    right: Result<Expr, NoMemory>,
+) -> Result<(Expr, Expr), NoMemory>
+    ensures { IfOk result (λ pair. Gave left (λ a. Gave right (λ b. pair ≡ (a, b)))) }
+{
+    let left = left?;
+    let right = right?;
+    Ok((left, right))
+}
+
+/// `operand is path in ancestor`
+fn is_within(
+    alloc: Global,
+    text: &str,
+    operand: Expr,
+    path: &PathTree,
+    ancestor: Expr,
+) -> Result<Expr, NoMemory>
+    requires { PathIn text.now path.now }
+    ensures { IfOk result (λ e. e ≡ core.And (core.Unary (unary.Is (path_name text.entry.now path.entry.now)) operand) (core.Binary binary.In operand ancestor)) }
+{
+    let type_name = type_name(alloc, text, path)?;
+    Expr::is_in(alloc, operand, type_name, ancestor)
+}
+
+/// `operand is path in ancestor`, of the operand and the ancestor.
+pub(crate) fn is_in(
+    alloc: Global,
+    text: &str,
+    pair: Result<(Expr, Expr), NoMemory>,
+    path: &PathTree,
+) -> Result<Expr, NoMemory>
+    requires { PathIn text.now path.now }
+    ensures { IfOk result (λ e. Gave pair (λ p. e ≡ core.And (core.Unary (unary.Is (path_name text.now path.now)) p.0) (core.Binary binary.In p.0 p.1))) }
+{
+    let (operand, ancestor) = pair?;
+    is_within(alloc, text, operand, path, ancestor)
+}
+
+/// `!operand`
+pub(crate) fn not(alloc: Global, operand: Result<Expr, NoMemory>) -> Result<Expr, NoMemory>
+    ensures { IfOk result (λ e. Gave operand (λ a. e ≡ core.Unary unary.Not a)) }
+{
+    Expr::unary(alloc, Unary::Not, operand?)
+}
+
+/// `-operand`
+pub(crate) fn negate(alloc: Global, operand: Result<Expr, NoMemory>) -> Result<Expr, NoMemory>
+    ensures { IfOk result (λ e. Gave operand (λ a. e ≡ core.Unary unary.Negate a)) }
+{
+    Expr::unary(alloc, Unary::Negate, operand?)
+}
+
+/// `if test then consequent else alternative`, of the test and the two others.
+fn conditional(
+    alloc: Global,
+    test: Expr,
+    pair: Result<(Expr, Expr), NoMemory>,
+) -> Result<Expr, NoMemory>
+    ensures { IfOk result (λ e. Gave pair (λ p. e ≡ core.If test p.0 p.1)) }
+{
+    let (consequent, alternative) = pair?;
+    Expr::if_then_else(alloc, test, consequent, alternative)
+}
+
+/// The same, of a test that was built.
+pub(crate) fn if_then_else(
+    alloc: Global,
+    test: Result<Expr, NoMemory>,
+    pair: Result<(Expr, Expr), NoMemory>,
+) -> Result<Expr, NoMemory>
+    ensures { IfOk result (λ e. Gave test (λ a. Gave pair (λ p. e ≡ core.If a p.0 p.1))) }
+{
+    conditional(alloc, test?, pair)
+}
+
+/// `[members]`
+pub(crate) fn set(members: Result<Items<Expr>, NoMemory>) -> Result<Expr, NoMemory>
+    ensures { IfOk result (λ e. Gave members (λ es. e ≡ core.Set es)) }
+{
+    Ok(Expr::Set(members?))
+}
+
+/// `{fields}`
+pub(crate) fn record(fields: Result<Items<Named<Expr>>, NoMemory>) -> Result<Expr, NoMemory>
+    ensures { IfOk result (λ e. Gave fields (λ fs. e ≡ core.Record fs)) }
+{
+    Ok(Expr::Record(fields?))
+}
+
+/// A comparison of what was built.
+pub(crate) fn compare(
+    alloc: Global,
+    kind: Kind,
+    left: Result<Expr, NoMemory>,
+    right: Result<Expr, NoMemory>,
+) -> Result<Expr, NoMemory>
+    ensures { IfOk result (λ e. Gave left (λ a. Gave right (λ b. e ≡ spec.compared kind a b))) }
+{
+    let left = left?;
+    let right = right?;
+    comparison(alloc, kind, left, right)
+}
+
+/// A comparison: `!=`, `>` and `>=` are the negations of `==`, `<=` and `<`.
+fn comparison(alloc: Global, kind: Kind, left: Expr, right: Expr) -> Result<Expr, NoMemory>
+    ensures { IfOk result (λ e. e ≡ spec.compared kind left right) }
+{
+    match kind {
+        Kind::Less => Expr::binary(alloc, Binary::Less, left, right),
+        Kind::LessEqual => Expr::binary(alloc, Binary::LessOrEqual, left, right),
+        Kind::Greater => Expr::greater(alloc, left, right),
+        Kind::GreaterEqual => Expr::greater_or_equal(alloc, left, right),
+        Kind::Equal => Expr::binary(alloc, Binary::Equal, left, right),
+        Kind::NotEqual => Expr::not_equal(alloc, left, right),
+        _ => Expr::binary(alloc, Binary::In, left, right),
+    }
+}
+
+/// Two operands of a chain.
+pub(crate) fn join(alloc: Global, chain: Chain, left: Expr, right: Expr) -> Result<Expr, NoMemory>
+    ensures { IfOk result (λ e. e ≡ spec.joined_by chain left right) }
+{
+    match chain {
+        Chain::Product => Expr::binary(alloc, Binary::Multiply, left, right),
+        Chain::And => Expr::and(alloc, left, right),
+        Chain::Or => Expr::or(alloc, left, right),
+    }
+}
+
+/// What stands in place of a call that is refused.
+fn no_call() -> Expr
+    ensures { result ≡ spec.no_call }
+{
+    Expr::Literal(Literal::Boolean(false))
+}
+
+/// The only argument.
+fn single(arguments: Items<Expr>) -> Option<Expr>
+    ensures { result ≡ spec.single_of arguments }
+{
+    let mut rest = arguments.into_vec();
+    if rest.len() == 1 { rest.pop() } else { None }
+}
+
+/// A call of a function.
+pub(crate) fn call(
+    alloc: Global,
+    function: Option<UnaryCall>,
+    arguments: Result<Items<Expr>, NoMemory>,
+) -> Result<Expr, NoMemory>
+    ensures { IfOk result (λ e. Gave arguments (λ es. e ≡ spec.called function es)) }
+{
+    match (function, single(arguments?)) {
+        (Some(called), Some(argument)) => Expr::unary_call(alloc, called, argument),
+        _ => Ok(no_call()),
+    }
+}
+
+/// A call of a method with one argument.
+fn call_with(
+    alloc: Global,
+    method: Method,
+    receiver: Expr,
+    argument: Expr,
+) -> Result<Expr, NoMemory>
+    ensures { IfOk result (λ e. e ≡ spec.called_with method receiver argument) }
+{
+    match method {
+        Method::Alone(_) => Ok(no_call()),
+        Method::Operator(operator) => Expr::binary(alloc, operator, receiver, argument),
+        Method::WithArgument(called) => Expr::binary_call(alloc, called, receiver, argument),
+    }
+}
+
+/// A call of a method.
+pub(crate) fn call_method(
+    alloc: Global,
+    method: Option<Method>,
+    receiver: Expr,
+    arguments: Items<Expr>,
+) -> Result<Expr, NoMemory>
+    ensures { IfOk result (λ e. e ≡ spec.method_called method receiver arguments) }
+{
+    match method {
+        None => Ok(no_call()),
+        Some(Method::Alone(called)) => {
+            if arguments.is_empty() {
+                Expr::unary_call(alloc, called, receiver)
+            } else {
+                Ok(no_call())
+            }
+        }
+        Some(other) => match single(arguments) {
+            Some(argument) => call_with(alloc, other, receiver, argument),
+            None => Ok(no_call()),
+        },
+    }
+}

@@ -1,0 +1,20 @@
+//! From the syntax tree of an expression to its core expression: numbers in range, known calls with their count of arguments, keys that differ,
+//! and core operators alone.
+#![tactic(auto)]
+
+mod build;
+mod fault;
+mod judge;
+mod judgement;
+mod laws;
+mod leaves;
+mod names;
+mod numbers;
+mod repeats;
+mod whole;
+mod words;
+
+pub use fault::{DesugarFault, earlier_of};
+pub use judgement::Judgement;
+pub use laws::{least_fault_is_told, strings_are_read, trees_have_one_answer};
+pub use whole::{build_expr, desugar, judge_expr};

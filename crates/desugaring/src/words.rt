@@ -1,0 +1,103 @@
+//! What the tokens of a tree stand for.
+ghost use Rattle.std.specs.Prelude.{◌≡◌, ◌∷◌, IfOk, length, map};
+ghost use Rattle.plain.specs.Words.{AreIdents};
+ghost use Rattle.policy_tokens.specs.Lexing.{spelling_of};
+ghost use Rattle.policy_tokens.specs.declared.token.Kind.TheVariants as k;
+ghost use Rattle.expression_syntax.specs.Kinds.{only};
+ghost use Rattle.expression_syntax.specs.Expressions.{keys, patterns};
+ghost use Rattle.desugaring.specs.Standing.{TokenIn, PathIn, UidIn};
+ghost use Rattle.desugaring.specs.Strings.{value_of, pattern_of};
+ghost use Rattle.desugaring.specs.Meaning.{boolean_of, variable_of, sign_of, path_name, uid_of, name_of};
+
+use expression_syntax::{PathTree, UidTree};
+use expressions::{Binary, Pattern, Variable};
+use plain::{NoMemory, Text};
+use policy_tokens::{Kind, Token, decode_pattern, decode_string, spelling};
+use std::alloc::Global;
+use values::{EntityUid, TypeName};
+
+pub(crate) fn boolean(kind: Kind) -> bool
+    ensures { result ≡ boolean_of kind }
+{
+    matches!(kind, Kind::True)
+}
+
+pub(crate) fn variable(kind: Kind) -> Variable
+    ensures { result ≡ variable_of kind }
+{
+    match kind {
+        Kind::Action => Variable::Action,
+        Kind::Resource => Variable::Resource,
+        Kind::Context => Variable::Context,
+        _ => Variable::Principal,
+    }
+}
+
+/// The operator before a further term of a sum.
+pub(crate) fn sign(kind: Kind) -> Binary
+    ensures { result ≡ sign_of kind }
+{
+    match kind {
+        Kind::Minus => Binary::Subtract,
+        _ => Binary::Add,
+    }
+}
+
+/// The value of a string.
+pub(crate) fn string(alloc: Global, text: &str, token: Token) -> Result<Text, NoMemory>
+    requires { TokenIn text.now (only k.Text) token }
+    ensures { IfOk result (λ value. value ≡ value_of (spelling_of text.now token)) }
+{
+    decode_string(alloc, text, token)
+}
+
+/// A string as a pattern.
+pub(crate) fn pattern(alloc: Global, text: &str, token: Token) -> Result<Pattern, NoMemory>
+    requires { TokenIn text.now patterns token }
+    ensures { IfOk result (λ pattern. pattern ≡ pattern_of (spelling_of text.now token)) }
+{
+    let literals = decode_pattern(alloc, text, token)?;
+    Ok(Pattern::from_literals(literals))
+}
+
+/// A key or a field's name: a word, or the value of a string.
+pub(crate) fn name(alloc: Global, text: &str, token: Token) -> Result<Text, NoMemory>
+    requires { TokenIn text.now keys token }
+    ensures { IfOk result (λ name. name ≡ name_of text.now token) }
+{
+    match token.kind {
+        Kind::Text => decode_string(alloc, text, token),
+        _ => Text::from_str(alloc, spelling(text, token)),
+    }
+}
+
+/// The words of a Path.
+fn words_of<'a>(alloc: Global, text: &'a str, path: &PathTree) -> Result<Vec<&'a str>, NoMemory>
+    requires { PathIn text.now path.now }
+    ensures words { IfOk result (λ words. map (λ w. w.now) words.items ≡ spelling_of text.entry.now path.now.first ∷ map (spelling_of text.entry.now) path.now.more) }
+    ensures idents { IfOk result (λ words. AreIdents (map (λ w. w.now) words.items)) }
+{
+    let mut words = Vec::new(alloc);
+    words.push(spelling(text, path.first))?;
+    for word in path.more.as_slice() {
+        words.push(spelling(text, *word))?;
+    }
+    Ok(words)
+}
+
+pub(crate) fn type_name(alloc: Global, text: &str, path: &PathTree) -> Result<TypeName, NoMemory>
+    requires { PathIn text.now path.now }
+    ensures { IfOk result (λ name. name ≡ path_name text.now path.now) }
+{
+    let words = words_of(alloc, text, path)?;
+    TypeName::from_words(alloc, &words)
+}
+
+pub(crate) fn uid(alloc: Global, text: &str, tree: &UidTree) -> Result<EntityUid, NoMemory>
+    requires { UidIn text.now tree.now }
+    ensures { IfOk result (λ uid. uid ≡ uid_of text.now tree.now) }
+{
+    let type_name = type_name(alloc, text, &tree.path)?;
+    let id = string(alloc, text, tree.id)?;
+    Ok(EntityUid { type_name, id })
+}

@@ -1,0 +1,116 @@
+-- Conditions joined from the last to the first.
+use Rattle.std.proofs.Common.{◌≡◌, ℕ, suc, ◌+◌, ◌<◌, ◌≤◌, List, [], ◌∷◌, ◌++◌, length, drop, get_or, map, None, refl, sym, ◌∙◌, ap, subst, arith}
+use Rattle.std.proofs.lemmas.List.{append-nil, length-drop}
+use Rattle.std.specs.List.{AllByRecursion, flat_map}
+use Rattle.policy_tokens.specs.declared.token.Kind.{Kind}
+use Rattle.policy_tokens.specs.declared.token.Kind.TheVariants as k
+use Rattle.expressions.specs.declared.leaf.Literal.TheVariants as literal
+use Rattle.expressions.specs.declared.operator.Unary.TheVariants.{Not}
+use Rattle.expressions.specs.declared.expr.Expr.{Expr}
+use Rattle.expressions.specs.declared.expr.Expr.TheVariants as core
+use Rattle.policy_syntax.specs.declared.tree.Condition.{Condition}
+use Rattle.policy_syntax.specs.declared.tree.PolicyTree.{PolicyTree}
+use Rattle.policy_syntax.specs.Stands.{ConditionStands}
+use Rattle.desugaring.specs.declared.fault.DesugarFault.{DesugarFault}
+use Rattle.desugaring.specs.declared.judgement.Judgement.{Judgement}
+use Rattle.desugaring.specs.Core.{core_of}
+use Rattle.desugaring.specs.Faults.{faults_of}
+use Rattle.desugaring.specs.Judged.{of}
+use Rattle.desugaring.specs.Sums.{leaf, above, paired}
+use Rattle.desugaring.proofs.Lists.{next}
+use Rattle.policy_grammar.proofs.Lists.{all-at}
+use Rattle.desugaring.proofs.Sizing.{of-Literal, of-Unary, of-And}
+use Rattle.policy_grammar.specs.Whole.{truth}
+use Rattle.policy_grammar.specs.Conditions.{asked_by, condition_of, joined, conditions_of, condition_faults, file_faults}
+use Rattle.policy_grammar.specs.Standing.{judged_by, AreSound, StandsIn}
+
+-- what is told of an expression behind a word
+pub judged_behind : (kind : Kind) (e : Expr) (fs : List DesugarFault) → of (asked_by kind e) fs ≡ judged_by kind (of e fs)
+judged_behind k.Unless e fs = of-Unary Not e fs
+judged_behind _ e fs = refl
+
+-- what is told of conditions
+abbrev pub judged_from : List ℕ → List Condition → Judgement
+judged_from text cs = of (conditions_of text cs) (condition_faults text cs)
+
+abbrev pub judged_one : List ℕ → Condition → Judgement
+judged_one text c = of (condition_of text c) (faults_of text c.expression)
+
+-- of none
+pub judged-none : (text : List ℕ) (cs : List Condition) → length cs ≡ 0 → judged_from text cs ≡ leaf None
+judged-none text [] none = of-Literal (literal.Boolean _) []
+judged-none text (c ∷ cs) none = absurd (omega arith)
+
+pub asks-none : (text : List ℕ) (cs : List Condition) → length cs ≡ 0 → conditions_of text cs ≡ truth
+asks-none text [] none = refl
+asks-none text (c ∷ cs) none = absurd (omega arith)
+
+-- the last one, and one before others
+one : (text : List ℕ) (c : Condition) (rest : List Condition) → length rest ≡ 0 → judged_from text (c ∷ rest) ≡ judged_one text c
+one text c [] none = ap (of (condition_of text c)) (append-nil (faults_of text c.expression))
+one text c (d ∷ rest) none = absurd (omega arith)
+
+before : (text : List ℕ) (c : Condition) (rest : List Condition) → 0 < length rest → judged_from text (c ∷ rest) ≡ paired (judged_one text c) (judged_from text rest)
+before text c [] some = absurd (omega arith)
+before text c (d ∷ rest) some = of-And (condition_of text c) (conditions_of text (d ∷ rest)) (faults_of text c.expression) (condition_faults text (d ∷ rest))
+
+asks-one : (text : List ℕ) (c : Condition) (rest : List Condition) → length rest ≡ 0 → conditions_of text (c ∷ rest) ≡ condition_of text c
+asks-one text c [] none = refl
+asks-one text c (d ∷ rest) none = absurd (omega arith)
+
+asks-before : (text : List ℕ) (c : Condition) (rest : List Condition) → 0 < length rest → conditions_of text (c ∷ rest) ≡ core.And (condition_of text c) (conditions_of text rest)
+asks-before text c [] some = absurd (omega arith)
+asks-before text c (d ∷ rest) some = refl
+
+-- how many are left
+none_over : {A : Type 0} (xs : List A) (i : ℕ) → i ≡ length xs → length (drop i xs) ≡ 0
+none_over xs i all = omega (arith, length-drop i xs)
+
+some_over : {A : Type 0} (xs : List A) (i : ℕ) → i < length xs → 0 < length (drop i xs)
+some_over xs i below = omega (arith, length-drop i xs)
+
+-- the conditions from one of them on
+from : (cs : List Condition) (i j : ℕ) (c : Condition) → j + 1 ≡ i → j < length cs → c ≡ get_or cs j c → drop j cs ≡ c ∷ drop i cs
+from cs i j c e below is = next cs j c below ∙ ap (λ k. get_or cs j c ∷ drop k cs) e ∙ ap (λ x. x ∷ drop i cs) (sym is)
+
+module _ (text : List ℕ) (cs : List Condition) (i j : ℕ) (c : Condition) (e : j + 1 ≡ i) (is : c ≡ get_or cs j c) where
+  pub judged-last : i ≡ length cs → judged_from text (drop j cs) ≡ judged_one text c
+  judged-last all = ap (judged_from text) (from cs i j c e (omega arith) is) ∙ one text c (drop i cs) (none_over cs i all)
+
+  pub judged-before : i < length cs → judged_from text (drop j cs) ≡ paired (judged_one text c) (judged_from text (drop i cs))
+  judged-before below = ap (judged_from text) (from cs i j c e (omega arith) is) ∙ before text c (drop i cs) (some_over cs i below)
+
+  pub asks-last : i ≡ length cs → conditions_of text (drop j cs) ≡ condition_of text c
+  asks-last all = ap (conditions_of text) (from cs i j c e (omega arith) is) ∙ asks-one text c (drop i cs) (none_over cs i all)
+
+  pub asks-more : i < length cs → conditions_of text (drop j cs) ≡ core.And (condition_of text c) (conditions_of text (drop i cs))
+  asks-more below = ap (conditions_of text) (from cs i j c e (omega arith) is) ∙ asks-before text c (drop i cs) (some_over cs i below)
+
+-- a condition stands where all do
+pub stands-at : (text : List ℕ) (cs : List Condition) (i : ℕ) (c : Condition) → StandsIn text (λ ts. AllByRecursion (ConditionStands ts) cs) → i < length cs → c ≡ get_or cs i c →
+    StandsIn text (λ ts. ConditionStands ts c)
+stands-at text cs i c all below is = record {
+  tokens = all.tokens;
+  spelled = all.spelled;
+  stands = subst (ConditionStands all.tokens) (sym is) (all-at (ConditionStands all.tokens) cs i c all.stands below);
+}
+
+-- where there are no faults together, there are none of each
+
+none-left : {A : Type 0} (xs ys : List A) → xs ++ ys ≡ [] → xs ≡ []
+none-left [] ys none = refl
+none-left (x ∷ xs) ys none = absurd (cc)
+
+none-right : {A : Type 0} (xs ys : List A) → xs ++ ys ≡ [] → ys ≡ []
+none-right [] ys none = none
+none-right (x ∷ xs) ys none = absurd (cc)
+
+none-each : {X A : Type 0} (f : X → List A) (xs : List X) → flat_map f xs ≡ [] → AllByRecursion (λ x. f x ≡ []) xs
+none-each f [] none = tt
+none-each f (x ∷ xs) none = (none-left (f x) (flat_map f xs) none, none-each f xs (none-right (f x) (flat_map f xs) none))
+
+pub sound-each : (text : List ℕ) (cs : List Condition) → condition_faults text cs ≡ [] → AreSound text cs
+sound-each text cs none = none-each (λ c. faults_of text c.expression) cs none
+
+pub sound-all : (text : List ℕ) (trees : List PolicyTree) → file_faults text trees ≡ [] → AllByRecursion (λ tree. condition_faults text tree.conditions ≡ []) trees
+sound-all text trees none = none-each (λ tree. condition_faults text tree.conditions) trees none

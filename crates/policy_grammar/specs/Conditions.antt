@@ -1,0 +1,41 @@
+-- What the conditions of a policy ask, and their faults.
+-- Source: Cedar reference guide 4.0, "Basic policy construction" (conditions); cedar-spec, cedar-lean/Cedar/Spec/Policy.lean (`Condition.toExpr`).
+-- Rules of this product: conditions are joined to the right, and none are `true`.
+use Rattle.std.specs.Prelude.{ℕ, List, [], ◌∷◌, map}
+use Rattle.std.specs.List.{flat_map}
+use Rattle.policy_tokens.specs.declared.token.Kind.{Kind}
+use Rattle.policy_tokens.specs.declared.token.Kind.TheVariants as k
+use Rattle.expressions.specs.declared.operator.Unary.TheVariants.{Not}
+use Rattle.expressions.specs.declared.expr.Expr.{Expr}
+use Rattle.expressions.specs.declared.expr.Expr.TheVariants as core
+use Rattle.policy_syntax.specs.declared.tree.Condition.{Condition}
+use Rattle.policy_syntax.specs.declared.tree.PolicyTree.{PolicyTree}
+use Rattle.desugaring.specs.declared.fault.DesugarFault.{DesugarFault}
+use Rattle.desugaring.specs.Core.{core_of}
+use Rattle.desugaring.specs.Faults.{faults_of}
+use Rattle.policy_grammar.specs.Whole.{truth}
+
+-- `when { e }` asks e, and `unless { e }` asks `!e`
+abbrev pub asked_by : Kind → Expr → Expr
+asked_by k.Unless e = core.Unary Not e
+asked_by _ e = e
+
+abbrev pub condition_of : List ℕ → Condition → Expr
+condition_of text c = asked_by c.word.kind (core_of text c.expression)
+
+-- c && (d && ..)
+abbrev pub joined : List Expr → Expr
+joined [] = truth
+joined (e ∷ []) = e
+joined (e ∷ (f ∷ es)) = core.And e (joined (f ∷ es))
+
+-- the core expression of a policy's conditions
+abbrev pub conditions_of : List ℕ → List Condition → Expr
+conditions_of text conditions = joined (map (condition_of text) conditions)
+
+-- the faults of a policy's conditions, and those of a file's
+abbrev pub condition_faults : List ℕ → List Condition → List DesugarFault
+condition_faults text = flat_map (λ c. faults_of text c.expression)
+
+abbrev pub file_faults : List ℕ → List PolicyTree → List DesugarFault
+file_faults text = flat_map (λ tree. condition_faults text tree.conditions)

@@ -1,0 +1,54 @@
+-- The expression of a policy: its scope's three parts and its conditions, joined to the right.
+-- Source: Cedar reference guide 4.0, "Basic policy construction" (scope, conditions); cedar-spec, cedar-lean/Cedar/Spec/Policy.lean (`Policy.toExpr`).
+-- Rules of this product: a part that asks nothing is `true`, and `action in []` is `false`.
+use Rattle.std.specs.Prelude.{true, false, List, [], ◌∷◌, map}
+use Rattle.values.specs.declared.entity_uid.EntityUid.{EntityUid}
+use Rattle.expressions.specs.declared.leaf.Literal.TheVariants as literal
+use Rattle.expressions.specs.declared.leaf.Variable.{Variable}
+use Rattle.expressions.specs.declared.leaf.Variable.TheVariants.{Principal, Action, Resource}
+use Rattle.expressions.specs.declared.operator.Unary.TheVariants.{Is}
+use Rattle.expressions.specs.declared.operator.Binary.TheVariants.{Equal, In}
+use Rattle.expressions.specs.declared.expr.Expr.{Expr}
+use Rattle.expressions.specs.declared.expr.Expr.TheVariants as core
+use Rattle.policy_grammar.specs.declared.policy.EntityScope.{EntityScope}
+use Rattle.policy_grammar.specs.declared.policy.EntityScope.TheVariants as entity
+use Rattle.policy_grammar.specs.declared.policy.ActionScope.{ActionScope}
+use Rattle.policy_grammar.specs.declared.policy.ActionScope.TheVariants as action
+use Rattle.policy_grammar.specs.declared.policy.Policy.{Policy}
+
+abbrev pub truth : Expr
+truth = core.Literal (literal.Boolean true)
+
+abbrev pub falsehood : Expr
+falsehood = core.Literal (literal.Boolean false)
+
+abbrev pub entity_literal : EntityUid → Expr
+entity_literal uid = core.Literal (literal.Entity uid)
+
+-- `x == E`, `x in E`, `x is T`
+abbrev pub is_equal : Variable → EntityUid → Expr
+is_equal x uid = core.Binary Equal (core.Variable x) (entity_literal uid)
+
+abbrev pub is_in : Variable → EntityUid → Expr
+is_in x uid = core.Binary In (core.Variable x) (entity_literal uid)
+
+-- what a scope asks of the principal or of the resource
+abbrev pub entity_part : Variable → EntityScope → Expr
+entity_part x entity.Any = truth
+entity_part x (entity.Equal uid) = is_equal x uid
+entity_part x (entity.In uid) = is_in x uid
+entity_part x (entity.Is name) = core.Unary (Is name) (core.Variable x)
+entity_part x (entity.IsIn name uid) = core.And (core.Unary (Is name) (core.Variable x)) (is_in x uid)
+
+-- what a scope asks of the action
+abbrev pub action_part : ActionScope → Expr
+action_part action.Any = truth
+action_part (action.Equal uid) = is_equal Action uid
+action_part (action.In uid) = is_in Action uid
+action_part (action.InList []) = falsehood
+action_part (action.InList (uid ∷ uids)) = core.Binary In (core.Variable Action) (core.Set (map entity_literal (uid ∷ uids)))
+
+-- principal && (action && (resource && condition))
+abbrev pub expression_of : Policy → Expr
+expression_of policy = core.And (entity_part Principal policy.scope.principal)
+    (core.And (action_part policy.scope.action) (core.And (entity_part Resource policy.scope.resource) policy.condition))

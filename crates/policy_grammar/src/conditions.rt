@@ -1,0 +1,114 @@
+//! The conditions of a policy, from the last to the first: judged before anything is made, and made.
+ghost use Rattle.std.specs.Prelude.{◌≡◌, [], IfOk};
+ghost use Rattle.std.specs.List.{AllByRecursion};
+ghost use Rattle.expressions.specs.declared.expr.Expr.TheVariants as core;
+ghost use Rattle.desugaring.specs.Faults.{faults_of};
+ghost use Rattle.desugaring.specs.Judged.{of};
+ghost use Rattle.policy_syntax.specs.Stands.{ConditionStands};
+ghost use Rattle.policy_grammar.specs.Conditions.{asked_by, condition_of, conditions_of, condition_faults};
+ghost use Rattle.policy_grammar.specs.Standing.{StandsIn, AreSound, judged_by};
+
+use desugaring::{Judgement, build_expr, judge_expr};
+use expressions::{Expr, Literal, Unary};
+use plain::NoMemory;
+use policy_syntax::Condition;
+use policy_tokens::Kind;
+use std::alloc::Global;
+
+/// What is told of an expression behind this word.
+fn judge_behind(word: Kind, judgement: Judgement) -> Judgement
+    ensures { result ≡ judged_by word judgement }
+{
+    match word {
+        Kind::Unless => judgement.above(),
+        _ => judgement,
+    }
+}
+
+fn judge_condition(alloc: Global, text: &str, condition: &Condition) -> Result<Judgement, NoMemory>
+    requires { StandsIn text.now (λ tokens. ConditionStands tokens condition.now) }
+    ensures { IfOk result (λ j. j ≡ of (condition_of text.now condition.now) (faults_of text.now condition.now.expression)) }
+{
+    let judgement = judge_expr(alloc, text, &condition.expression)?;
+    Ok(judge_behind(condition.word.kind, judgement))
+}
+
+/// How large the core expression of the conditions is, and their fault at the least place. Takes memory for the keys of records alone.
+pub(crate) fn judge_conditions(
+    alloc: Global,
+    text: &str,
+    conditions: &[Condition],
+) -> Result<Judgement, NoMemory>
+    requires { StandsIn text.now (λ tokens. AllByRecursion (ConditionStands tokens) conditions.now) }
+    ensures { IfOk result (λ j. j ≡ of (conditions_of text.now conditions.now) (condition_faults text.now conditions.now)) }
+{
+    let mut left = conditions.len();
+    if left == 0 {
+        return Ok(Judgement::leaf(None));
+    }
+    left -= 1;
+    let mut joined = judge_condition(alloc, text, &conditions[left])?;
+    while left > 0 {
+        left -= 1;
+        let first = judge_condition(alloc, text, &conditions[left])?;
+        joined = first.paired(joined);
+    }
+    Ok(joined)
+}
+
+/// What is asked by an expression behind this word.
+fn asked(alloc: Global, word: Kind, expr: Expr) -> Result<Expr, NoMemory>
+    ensures { IfOk result (λ e. e ≡ asked_by word expr) }
+{
+    match word {
+        Kind::Unless => Expr::unary(alloc, Unary::Not, expr),
+        _ => Ok(expr),
+    }
+}
+
+fn build_condition(alloc: Global, text: &str, condition: &Condition) -> Result<Expr, NoMemory>
+    requires stands { StandsIn text.now (λ tokens. ConditionStands tokens condition.now) }
+    requires sound { faults_of text.now condition.now.expression ≡ [] }
+    ensures { IfOk result (λ e. e ≡ condition_of text.now condition.now) }
+{
+    let expr = build_expr(alloc, text, &condition.expression)?;
+    asked(alloc, condition.word.kind, expr)
+}
+
+/// One condition more, before those that are joined.
+fn join_before(
+    alloc: Global,
+    text: &str,
+    condition: &Condition,
+    joined: Expr,
+) -> Result<Expr, NoMemory>
+    requires stands { StandsIn text.now (λ tokens. ConditionStands tokens condition.now) }
+    requires sound { faults_of text.now condition.now.expression ≡ [] }
+    ensures { IfOk result (λ e. e ≡ core.And (condition_of text.now condition.now) joined) }
+{
+    let first = build_condition(alloc, text, condition)?;
+    Expr::and(alloc, first, joined)
+}
+
+/// The core expression of the conditions. It is made of a policy that keeps to the limits alone.
+pub(crate) fn build_conditions(
+    alloc: Global,
+    text: &str,
+    conditions: &[Condition],
+) -> Result<Expr, NoMemory>
+    requires stands { StandsIn text.now (λ tokens. AllByRecursion (ConditionStands tokens) conditions.now) }
+    requires sound { AreSound text.now conditions.now }
+    ensures { IfOk result (λ e. e ≡ conditions_of text.now conditions.now) }
+{
+    let mut left = conditions.len();
+    if left == 0 {
+        return Ok(Expr::Literal(Literal::Boolean(true)));
+    }
+    left -= 1;
+    let mut joined = build_condition(alloc, text, &conditions[left])?;
+    while left > 0 {
+        left -= 1;
+        joined = join_before(alloc, text, &conditions[left], joined)?;
+    }
+    Ok(joined)
+}
