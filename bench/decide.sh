@@ -3,7 +3,8 @@
 #
 #   bench/decide.sh ["POLICIES ENTITIES" ..]      (default: 10, 1,000 and 100,000 policies with 1,000 and 100,000 entities)
 #
-# Policies have scopes alone; one in ten names a group that the principal is in. Entities: users in groups, groups in a tree of groups. PROGRAM names another binary.
+# Policies have scopes alone, or where CONDITION is given that condition and no scope; one in ten names a group that the principal is in.
+# Entities: users in groups, groups in a tree of groups. PROGRAM names another binary.
 # Needs python3 and GNU time.
 set -euo pipefail
 top=$(cd "$(dirname "${BASH_SOURCE[0]}")/.." && pwd)
@@ -16,13 +17,17 @@ sizes=("$@")
 
 make_inputs() {
     python3 - "$folder" "$1" "$2" <<'P'
-import json, sys
+import json, os, sys
+condition = os.environ.get('CONDITION', '')
 folder, policies, entities = sys.argv[1], int(sys.argv[2]), int(sys.argv[3])
 with open(folder + '/policies.cedar', 'w') as out:
     for n in range(policies):
         effect = 'forbid' if n % 7 == 3 else 'permit'
         part = f'principal in Group::"g{n % 100}"' if n % 10 == 0 else f'principal == User::"u{n}"'
-        out.write(f'{effect}({part}, action == Action::"view", resource);\n')
+        if condition:
+            out.write(f'{effect}(principal, action, resource) when {{ {condition} }};\n')
+        else:
+            out.write(f'{effect}({part}, action == Action::"view", resource);\n')
 groups = max(1, entities // 10)
 def uid(kind, n):
     return {'type': kind, 'id': f'{"g" if kind == "Group" else "u"}{n}'}

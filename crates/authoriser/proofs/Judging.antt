@@ -1,5 +1,5 @@
 -- From what is looked up once to the truth of scopes, and from policy to policy.
-use Rattle.std.specs.Prelude.{◌≡◌, ◌≢◌, ◌↔◌, ℕ, ◌+◌, ◌<◌, ◌≤◌, List, [], ◌∷◌, ◌++◌, length, slice_index_or, Bool, true, false, IsTrue, Contains, Ok, Err, refl}
+use Rattle.std.specs.Prelude.{◌≡◌, ◌≢◌, ℕ, ◌+◌, ◌<◌, ◌≤◌, List, [], ◌∷◌, ◌++◌, length, slice_index_or, Bool, true, false, Contains, Ok, Err, refl}
 use Rattle.std.specs.Borrow.{Bor}
 use Rattle.std.proofs.Common.{inl, inr, sym, ap, subst, ◌∙◌, take}
 use Rattle.std.proofs.lemmas.List.{take_more, take_all}
@@ -19,7 +19,7 @@ use Rattle.policy_grammar.specs.declared.policy.Scope.{Scope}
 use Rattle.evaluator.specs.declared.fault.EvalFault.{EvalFault}
 use Rattle.evaluator.specs.declared.fault.EvalFault.TheVariants as fault
 use Rattle.evaluator.specs.Operators.{World}
-use Rattle.evaluator.specs.Evaluation.{Gives, TestFails, test_errs, no_boolean}
+use Rattle.evaluator.specs.Evaluation.{Gives, test_errs, no_boolean}
 use Rattle.authoriser.specs.declared.outcome.PolicyError.{PolicyError}
 use Rattle.authoriser.specs.declared.outcome.PolicyError.TheVariants.{EntityDoesNotExist, AttrDoesNotExist, TypeError, ArithBoundsError, ExtensionError}
 use Rattle.authoriser.specs.declared.outcome.Outcome.{Outcome}

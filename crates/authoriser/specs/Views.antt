@@ -1,5 +1,5 @@
 -- How the values that the code holds are read by the definitions.
-use Rattle.std.specs.Prelude.{◌≡◌, ◌⊎◌, ℕ, List, map, Contains, true, false, Ok}
+use Rattle.std.specs.Prelude.{◌≡◌, ◌⊎◌, ℕ, List, map, Contains, Bool, true, false, Option, Some, None, Ok}
 use Rattle.std.specs.Borrow.{Bor}
 use Rattle.values.specs.declared.entity_uid.EntityUid.{EntityUid}
 use Rattle.values.specs.declared.request.Request.{Request}
@@ -9,6 +9,7 @@ use Rattle.expressions.specs.declared.expr.Expr.{Expr}
 use Rattle.policy_grammar.specs.declared.policy.Policy.{Policy}
 use Rattle.policy_grammar.specs.declared.policy.Scope.{Scope}
 use Rattle.policy_grammar.specs.declared.policy.Effect.TheVariants.{Permit, Forbid}
+use Rattle.evaluator.specs.Outcomes.{boolean_in}
 use Rattle.evaluator.specs.Operators.{World}
 use Rattle.evaluator.specs.Evaluation.{Gives, TestFails}
 use Rattle.authoriser.specs.declared.answer.Erring.{Erring}
@@ -60,10 +61,13 @@ ConditionComesTo W q x NotSatisfied = Gives W q x (Ok (boolean false))
 ConditionComesTo W q x (Errs error) = TestFails W q x (fault_of error)
 
 -- a condition has to give a boolean
+abbrev pub outcome_by_truth : Option Bool → Outcome
+outcome_by_truth (Some true) = Satisfied
+outcome_by_truth (Some false) = NotSatisfied
+outcome_by_truth None = Errs TypeError
+
 abbrev pub outcome_by : PlainValue → Outcome
-outcome_by (boolean true) = Satisfied
-outcome_by (boolean false) = NotSatisfied
-outcome_by v = Errs TypeError
+outcome_by v = outcome_by_truth (boolean_in v)
 
 abbrev pub ids : List (Bor (List ℕ)) → List (List ℕ)
 ids xs = map (λ x. x.now) xs

@@ -8,12 +8,12 @@ ghost use Rattle.authoriser.specs.Views.{IsStanding, ConditionComesTo, outcome_b
 use crate::outcome::{Outcome, PolicyError};
 use crate::placed::Standing;
 use crate::scopes::is_scope_true;
-use evaluator::{EvalFault, Lookup, evaluate};
+use evaluator::{EvalFault, Given, Lookup, evaluate};
 use expressions::Expr;
 use plain::NoMemory;
 use policy_grammar::Policy;
 use std::alloc::Global;
-use values::{Kind, Request, Value};
+use values::Request;
 
 /// The error that a fault of evaluating is, where it is not want of memory.
 fn error_by(fault: EvalFault) -> Result<PolicyError, NoMemory>
@@ -30,13 +30,13 @@ fn error_by(fault: EvalFault) -> Result<PolicyError, NoMemory>
 }
 
 /// What a condition that gives this comes to: it has to give a boolean.
-fn outcome_by(value: &Value) -> Outcome
-    ensures { result ≡ outcome_by value.now }
+fn outcome_by(given: &Given<'_>) -> Outcome
+    ensures { result ≡ outcome_by given.now }
 {
-    match value.kind() {
-        Kind::Boolean(true) => Outcome::Satisfied,
-        Kind::Boolean(false) => Outcome::NotSatisfied,
-        _ => Outcome::Errs(PolicyError::TypeError),
+    match given.as_boolean() {
+        Some(true) => Outcome::Satisfied,
+        Some(false) => Outcome::NotSatisfied,
+        None => Outcome::Errs(PolicyError::TypeError),
     }
 }
 
@@ -50,7 +50,7 @@ fn outcome_of_condition<L: Lookup>(
     ensures { IfOk result (ConditionComesTo (world_of (L.stored store.now) (L.parents store.now)) request.now condition.now) }
 {
     match evaluate(alloc, condition, request, store) {
-        Ok(value) => Ok(outcome_by(&value)),
+        Ok(given) => Ok(outcome_by(&given)),
         Err(fault) => Ok(Outcome::Errs(error_by(fault)?)),
     }
 }

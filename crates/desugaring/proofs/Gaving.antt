@@ -14,12 +14,3 @@ two f a b c (Ok x) (Ok y) (Ok e) is also made same = made ∙ ap (λ z. f z y) i
 two f a b c (Ok x) (Err d) (Ok e) is also made same = absurd made
 two f a b c (Err d) second (Ok e) is also made same = absurd made
 two f a b c first second (Err d) is also made same = tt
-
-pub three : {A B C D E F G H : Type 0} (f : A → B → C → D) (a : A) (b : B) (c : C) (d : D) (first : Result A E) (second : Result B F) (third : Result C G) (r : Result D H) →
-    IfOk first (λ x. x ≡ a) → IfOk second (λ y. y ≡ b) → IfOk third (λ z. z ≡ c) →
-    IfOk r (λ e. Gave first (λ x. Gave second (λ y. Gave third (λ z. e ≡ f x y z)))) → f a b c ≡ d → IfOk r (λ e. e ≡ d)
-three f a b c d (Ok x) (Ok y) (Ok z) (Ok e) is also too made same = made ∙ ap (λ w. f w y z) is ∙ ap (λ w. f a w z) also ∙ ap (f a b) too ∙ same
-three f a b c d (Ok x) (Ok y) (Err w) (Ok e) is also too made same = absurd made
-three f a b c d (Ok x) (Err w) third (Ok e) is also too made same = absurd made
-three f a b c d (Err w) second third (Ok e) is also too made same = absurd made
-three f a b c d first second third (Err w) is also too made same = tt

@@ -1,15 +1,17 @@
 -- A tree that is made of tokens of the text stands in it.
-use Rattle.std.proofs.Common.{ℕ, zero, suc, ◌<◌, List, [], ◌∷◌, length, subst, arith}
+use Rattle.std.proofs.Common.{ℕ, zero, suc, List, [], ◌∷◌, subst, arith}
 use Rattle.std.specs.Prelude.{Contains}
 use Rattle.std.specs.List.{AllByRecursion}
 use Rattle.policy_tokens.specs.declared.token.Token.{Token}
 use Rattle.policy_tokens.specs.Lexing.{IsSpelledIn}
+use Rattle.expression_syntax.specs.declared.tree.PathTree.{PathTree}
 use Rattle.expression_syntax.specs.declared.tree.ExprTree.{ExprTree}
+use Rattle.expression_syntax.specs.Grammar.{identifiers}
 use Rattle.expression_syntax.specs.Kinds.{Kinds}
 use Rattle.expression_syntax.specs.Parts.{Part, parts_of}
-use Rattle.expression_syntax.specs.Stands.{TokenStands, ExprStands}
+use Rattle.expression_syntax.specs.Stands.{TokenStands, PathStands, ExprStands}
 use Rattle.expression_syntax.proofs.Flat.{all_as}
-use Rattle.desugaring.specs.Standing.{TokenIn, Stands}
+use Rattle.desugaring.specs.Standing.{TokenIn, PathIn, Stands}
 
 -- an item of a list of which each is so
 pub item_is : {A : Type 0} (P : A → Type 0) (xs : List A) (x : A) → AllByRecursion P xs → Contains xs x → P x
@@ -20,6 +22,12 @@ item_is P (y ∷ ys) x all (suc i, below, e) = item_is P ys x all.1 (i, omega (a
 module _ (text : List ℕ) (ts : List Token) (spelled : AllByRecursion (IsSpelledIn text) ts) where
   pub token_in : (kinds : Kinds) (token : Token) → TokenStands kinds ts token → TokenIn text kinds token
   token_in kinds token h = record { spelled = item_is (IsSpelledIn text) ts token spelled h.0; kind = h.1 }
+
+  pub path_in : (path : PathTree) → PathStands ts path → PathIn text path
+  path_in path h = record {
+    first = token_in identifiers path.first h.0;
+    more = all_as (TokenStands identifiers ts) (TokenIn text identifiers) (token_in identifiers) path.more h.1;
+  }
 
   abbrev Is : Part → Type 0
   Is p = TokenStands p.kinds ts p.token

@@ -10,4 +10,3 @@ pub mod Standing
 pub mod Strings
 pub mod Sums
 pub mod Refused
-pub mod Whole

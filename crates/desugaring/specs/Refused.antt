@@ -1,28 +1,14 @@
--- The refusals by number and place, and which of several is told. The numbers are a rule of this product.
+-- Where a fault stands, and which of several is told: a rule of this product.
 use Rattle.std.specs.Prelude.{◌≡◌, ℕ, ◌≤◌, if◌then◌else◌, nat_lt, List, [], ◌∷◌, Option, Some, None, Contains}
 use Rattle.desugaring.specs.declared.fault.DesugarFault.{DesugarFault}
-use Rattle.desugaring.specs.declared.fault.DesugarFault.TheVariants.{NoMemory, NumberRange, UnknownCall, Arity, RepeatedKey, TooDeep}
-
-abbrev pub code_of : DesugarFault → ℕ
-code_of NoMemory = 1
-code_of (NumberRange at) = 12
-code_of (UnknownCall at) = 13
-code_of (Arity at) = 14
-code_of (RepeatedKey at) = 15
-code_of TooDeep = 17
+use Rattle.desugaring.specs.declared.fault.DesugarFault.TheVariants.{NumberRange, UnknownCall, Arity, RepeatedKey}
 
 -- the byte at which it is told
 abbrev pub at : DesugarFault → ℕ
-at NoMemory = 0
 at (NumberRange place) = place
 at (UnknownCall place) = place
 at (Arity place) = place
 at (RepeatedKey place) = place
-at TooDeep = 0
-
-abbrev pub place_of : DesugarFault → Option ℕ
-place_of NoMemory = None
-place_of fault = Some (at fault)
 
 -- the one at the lesser place, the first at one place
 abbrev pub earlier : DesugarFault → DesugarFault → DesugarFault

@@ -8,14 +8,14 @@ ghost use Rattle.desugaring.specs.Standing.{Stands, AllStand, EntryStands, TermS
 
 use crate::judge::function_at;
 use crate::leaves::{
-    Chain, boolean_literal, both, call, call_method, compare, field, has, if_then_else, is, is_in,
-    join, like, negate, negated_literal, not, number_literal, record, set, text_literal,
-    uid_literal, variable_of,
+    Chain, apply, boolean_literal, both, call, call_method, compare, field, has, if_then_else, is,
+    is_in, join, like, negated_literal, number_literal, record, set, text_literal, uid_literal,
+    variable,
 };
 use crate::names::method_named;
 use crate::words::{name, sign};
 use expression_syntax::{Access, Entry, ExprTree, Term};
-use expressions::{Expr, Named};
+use expressions::{Expr, Named, Unary};
 use plain::{Items, NoMemory};
 use policy_tokens::spelling;
 use std::alloc::Global;
@@ -30,7 +30,7 @@ pub(crate) fn build_tree(alloc: Global, text: &str, tree: &ExprTree) -> Result<E
         ExprTree::Boolean(token) => Ok(boolean_literal(token.kind)),
         ExprTree::Number(token) => Ok(number_literal(text, *token)),
         ExprTree::Text(token) => text_literal(alloc, text, *token),
-        ExprTree::Variable(token) => Ok(variable_of(token.kind)),
+        ExprTree::Variable(token) => Ok(variable(token.kind)),
         ExprTree::Uid(uid) => uid_literal(alloc, text, uid),
         ExprTree::Call(path, arguments) => call(
             alloc,
@@ -44,7 +44,7 @@ pub(crate) fn build_tree(alloc: Global, text: &str, tree: &ExprTree) -> Result<E
             let first = build_tree(alloc, text, inner.get());
             build_accesses(alloc, text, accesses.as_slice(), first)
         }
-        ExprTree::Not(inner) => not(alloc, build_tree(alloc, text, inner.get())),
+        ExprTree::Not(inner) => apply(alloc, Unary::Not, build_tree(alloc, text, inner.get())),
         ExprTree::Minus(inner) => build_behind_minus(alloc, text, inner.get()),
         ExprTree::Product(inner, more) => {
             let first = build_tree(alloc, text, inner.get());
@@ -97,7 +97,7 @@ fn build_behind_minus(alloc: Global, text: &str, tree: &ExprTree) -> Result<Expr
 {
     match tree {
         ExprTree::Number(token) => Ok(negated_literal(text, *token)),
-        _ => negate(alloc, build_tree(alloc, text, tree)),
+        _ => apply(alloc, Unary::Negate, build_tree(alloc, text, tree)),
     }
 }
 

@@ -1,10 +1,8 @@
 //! How large a core expression is, and its fault, told before it is built.
-ghost use Rattle.std.specs.Prelude.{◌≡◌, ◌↔◌, ◌+◌, ◌≤◌, IsTrue, None};
-ghost use Rattle.expressions.specs.Size.{capped};
+ghost use Rattle.std.specs.Prelude.{◌≡◌};
 ghost use Rattle.desugaring.specs.Sums as spec;
 
 use crate::fault::{DesugarFault, earlier_of};
-use expressions::{FORMS_MAX, HEIGHT_MAX};
 
 /// The size of a core expression, and the fault at the least place of what it comes from. The greatest `u32` stands for all greater numbers.
 #[derive(Clone, Copy)]
@@ -18,13 +16,6 @@ pub struct Judgement {
 }
 
 impl Judgement {
-    /// Whether the core expression keeps to the limits of a policy's: no higher than 1,000, and of no more than 1,000,000 forms.
-    pub fn is_small(self) -> bool
-        ensures { IsTrue result ↔ ((self.height ≤ 1000) × (self.forms ≤ 1000000)) }
-    {
-        self.height <= HEIGHT_MAX && self.forms <= FORMS_MAX
-    }
-
     /// Of no expression.
     pub(crate) fn nothing() -> Judgement
         ensures { result ≡ spec.nothing }
@@ -37,7 +28,7 @@ impl Judgement {
     }
 
     /// Of an expression without operands.
-    pub fn leaf(fault: Option<DesugarFault>) -> Judgement
+    pub(crate) fn leaf(fault: Option<DesugarFault>) -> Judgement
         ensures { result ≡ spec.leaf fault }
     {
         Judgement {

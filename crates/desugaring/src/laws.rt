@@ -1,7 +1,6 @@
 //! Laws of the definitions.
 ghost use Rattle.desugaring.specs.Refused.{LeastIsLeast, NoneOfNone};
 ghost use Rattle.desugaring.specs.Strings.{ValueIsValue, PatternIsPattern};
-ghost use Rattle.desugaring.specs.Whole.{OneAnswer};
 
 /// That the fault told is one of the tree's faults, that none of these stands at a lesser place, and that a tree of which none is told has none; it
 /// does nothing, and its clauses are laws of the definitions.
@@ -14,9 +13,4 @@ pub fn least_fault_is_told()
 pub fn strings_are_read()
     ensures values { ValueIsValue }
     ensures patterns { PatternIsPattern }
-{}
-
-/// That a tree has one core expression at most, or one refusal: it does nothing, and its clause is a law of the definitions.
-pub fn trees_have_one_answer()
-    ensures { OneAnswer }
 {}

@@ -17,12 +17,13 @@ ghost use Rattle.desugaring.specs.Standing.{TokenIn, PathIn, UidIn};
 
 use crate::names::Method;
 use crate::numbers;
-use crate::words::{self, boolean, name, pattern, string, type_name, variable};
+use crate::words::{name, pattern, string, type_name};
 use expression_syntax::{PathTree, UidTree};
-use expressions::{Binary, Expr, Literal, Named, Unary, UnaryCall};
+use expressions::{Binary, Expr, Literal, Named, Unary, UnaryCall, Variable};
 use plain::{Items, NoMemory};
 use policy_tokens::{Kind, Token, spelling};
 use std::alloc::Global;
+use values::EntityUid;
 
 /// How the operands of a chain are joined.
 #[derive(Clone, Copy)]
@@ -35,13 +36,18 @@ pub(crate) enum Chain {
 pub(crate) fn boolean_literal(kind: Kind) -> Expr
     ensures { result ≡ core.Literal (literal.Boolean (boolean_of kind)) }
 {
-    Expr::Literal(Literal::Boolean(boolean(kind)))
+    Expr::Literal(Literal::Boolean(matches!(kind, Kind::True)))
 }
 
-pub(crate) fn variable_of(kind: Kind) -> Expr
+pub(crate) fn variable(kind: Kind) -> Expr
     ensures { result ≡ core.Variable (variable_of kind) }
 {
-    Expr::Variable(variable(kind))
+    match kind {
+        Kind::Action => Expr::Variable(Variable::Action),
+        Kind::Resource => Expr::Variable(Variable::Resource),
+        Kind::Context => Expr::Variable(Variable::Context),
+        _ => Expr::Variable(Variable::Principal),
+    }
 }
 
 /// A number by itself.
@@ -72,8 +78,9 @@ pub(crate) fn uid_literal(alloc: Global, text: &str, tree: &UidTree) -> Result<E
     requires { UidIn text.now tree.now }
     ensures { IfOk result (λ e. e ≡ core.Literal (literal.Entity (uid_of text.now tree.now))) }
 {
-    let uid = words::uid(alloc, text, tree)?;
-    Ok(Expr::Literal(Literal::Entity(uid)))
+    let type_name = type_name(alloc, text, &tree.path)?;
+    let id = string(alloc, text, tree.id)?;
+    Ok(Expr::Literal(Literal::Entity(EntityUid { type_name, id })))
 }
 
 /// `owner.name`
@@ -142,21 +149,6 @@ pub(crate) fn both(
     Ok((left, right))
 }
 
-/// `operand is path in ancestor`
-fn is_within(
-    alloc: Global,
-    text: &str,
-    operand: Expr,
-    path: &PathTree,
-    ancestor: Expr,
-) -> Result<Expr, NoMemory>
-    requires { PathIn text.now path.now }
-    ensures { IfOk result (λ e. e ≡ core.And (core.Unary (unary.Is (path_name text.entry.now path.entry.now)) operand) (core.Binary binary.In operand ancestor)) }
-{
-    let type_name = type_name(alloc, text, path)?;
-    Expr::is_in(alloc, operand, type_name, ancestor)
-}
-
 /// `operand is path in ancestor`, of the operand and the ancestor.
 pub(crate) fn is_in(
     alloc: Global,
@@ -168,36 +160,23 @@ pub(crate) fn is_in(
     ensures { IfOk result (λ e. Gave pair (λ p. e ≡ core.And (core.Unary (unary.Is (path_name text.now path.now)) p.0) (core.Binary binary.In p.0 p.1))) }
 {
     let (operand, ancestor) = pair?;
-    is_within(alloc, text, operand, path, ancestor)
+    let type_name = type_name(alloc, text, path)?;
+    Expr::is_in(alloc, operand, type_name, ancestor)
 }
 
-/// `!operand`
-pub(crate) fn not(alloc: Global, operand: Result<Expr, NoMemory>) -> Result<Expr, NoMemory>
-    ensures { IfOk result (λ e. Gave operand (λ a. e ≡ core.Unary unary.Not a)) }
+/// An operator with one operand.
+pub(crate) fn apply(
+    alloc: Global,
+    operator: Unary,
+    operand: Result<Expr, NoMemory>,
+) -> Result<Expr, NoMemory>
+    ensures { IfOk result (λ e. Gave operand (λ a. e ≡ core.Unary operator a)) }
 {
-    Expr::unary(alloc, Unary::Not, operand?)
-}
-
-/// `-operand`
-pub(crate) fn negate(alloc: Global, operand: Result<Expr, NoMemory>) -> Result<Expr, NoMemory>
-    ensures { IfOk result (λ e. Gave operand (λ a. e ≡ core.Unary unary.Negate a)) }
-{
-    Expr::unary(alloc, Unary::Negate, operand?)
+    let operand = operand?;
+    Expr::unary(alloc, operator, operand)
 }
 
 /// `if test then consequent else alternative`, of the test and the two others.
-fn conditional(
-    alloc: Global,
-    test: Expr,
-    pair: Result<(Expr, Expr), NoMemory>,
-) -> Result<Expr, NoMemory>
-    ensures { IfOk result (λ e. Gave pair (λ p. e ≡ core.If test p.0 p.1)) }
-{
-    let (consequent, alternative) = pair?;
-    Expr::if_then_else(alloc, test, consequent, alternative)
-}
-
-/// The same, of a test that was built.
 pub(crate) fn if_then_else(
     alloc: Global,
     test: Result<Expr, NoMemory>,
@@ -205,7 +184,9 @@ pub(crate) fn if_then_else(
 ) -> Result<Expr, NoMemory>
     ensures { IfOk result (λ e. Gave test (λ a. Gave pair (λ p. e ≡ core.If a p.0 p.1))) }
 {
-    conditional(alloc, test?, pair)
+    let test = test?;
+    let (consequent, alternative) = pair?;
+    Expr::if_then_else(alloc, test, consequent, alternative)
 }
 
 /// `[members]`
@@ -222,7 +203,7 @@ pub(crate) fn record(fields: Result<Items<Named<Expr>>, NoMemory>) -> Result<Exp
     Ok(Expr::Record(fields?))
 }
 
-/// A comparison of what was built.
+/// A comparison: `!=`, `>` and `>=` are the negations of `==`, `<=` and `<`.
 pub(crate) fn compare(
     alloc: Global,
     kind: Kind,
@@ -233,13 +214,6 @@ pub(crate) fn compare(
 {
     let left = left?;
     let right = right?;
-    comparison(alloc, kind, left, right)
-}
-
-/// A comparison: `!=`, `>` and `>=` are the negations of `==`, `<=` and `<`.
-fn comparison(alloc: Global, kind: Kind, left: Expr, right: Expr) -> Result<Expr, NoMemory>
-    ensures { IfOk result (λ e. e ≡ spec.compared kind left right) }
-{
     match kind {
         Kind::Less => Expr::binary(alloc, Binary::Less, left, right),
         Kind::LessEqual => Expr::binary(alloc, Binary::LessOrEqual, left, right),

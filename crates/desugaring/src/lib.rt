@@ -16,5 +16,6 @@ mod words;
 
 pub use fault::{DesugarFault, earlier_of};
 pub use judgement::Judgement;
-pub use laws::{least_fault_is_told, strings_are_read, trees_have_one_answer};
-pub use whole::{build_expr, desugar, judge_expr};
+pub use laws::{least_fault_is_told, strings_are_read};
+pub use whole::{build_expr, judge_expr};
+pub use words::type_name;

@@ -5,33 +5,16 @@ ghost use Rattle.policy_tokens.specs.Lexing.{spelling_of};
 ghost use Rattle.policy_tokens.specs.declared.token.Kind.TheVariants as k;
 ghost use Rattle.expression_syntax.specs.Kinds.{only};
 ghost use Rattle.expression_syntax.specs.Expressions.{keys, patterns};
-ghost use Rattle.desugaring.specs.Standing.{TokenIn, PathIn, UidIn};
+ghost use Rattle.desugaring.specs.Standing.{TokenIn, PathIn};
 ghost use Rattle.desugaring.specs.Strings.{value_of, pattern_of};
-ghost use Rattle.desugaring.specs.Meaning.{boolean_of, variable_of, sign_of, path_name, uid_of, name_of};
+ghost use Rattle.desugaring.specs.Meaning.{sign_of, path_name, name_of};
 
-use expression_syntax::{PathTree, UidTree};
-use expressions::{Binary, Pattern, Variable};
+use expression_syntax::PathTree;
+use expressions::{Binary, Pattern};
 use plain::{NoMemory, Text};
 use policy_tokens::{Kind, Token, decode_pattern, decode_string, spelling};
 use std::alloc::Global;
-use values::{EntityUid, TypeName};
-
-pub(crate) fn boolean(kind: Kind) -> bool
-    ensures { result ≡ boolean_of kind }
-{
-    matches!(kind, Kind::True)
-}
-
-pub(crate) fn variable(kind: Kind) -> Variable
-    ensures { result ≡ variable_of kind }
-{
-    match kind {
-        Kind::Action => Variable::Action,
-        Kind::Resource => Variable::Resource,
-        Kind::Context => Variable::Context,
-        _ => Variable::Principal,
-    }
-}
+use values::TypeName;
 
 /// The operator before a further term of a sum.
 pub(crate) fn sign(kind: Kind) -> Binary
@@ -85,19 +68,11 @@ fn words_of<'a>(alloc: Global, text: &'a str, path: &PathTree) -> Result<Vec<&'a
     Ok(words)
 }
 
-pub(crate) fn type_name(alloc: Global, text: &str, path: &PathTree) -> Result<TypeName, NoMemory>
+/// The type name that a path is. The only error is `NoMemory`.
+pub fn type_name(alloc: Global, text: &str, path: &PathTree) -> Result<TypeName, NoMemory>
     requires { PathIn text.now path.now }
     ensures { IfOk result (λ name. name ≡ path_name text.now path.now) }
 {
     let words = words_of(alloc, text, path)?;
     TypeName::from_words(alloc, &words)
-}
-
-pub(crate) fn uid(alloc: Global, text: &str, tree: &UidTree) -> Result<EntityUid, NoMemory>
-    requires { UidIn text.now tree.now }
-    ensures { IfOk result (λ uid. uid ≡ uid_of text.now tree.now) }
-{
-    let type_name = type_name(alloc, text, &tree.path)?;
-    let id = string(alloc, text, tree.id)?;
-    Ok(EntityUid { type_name, id })
 }

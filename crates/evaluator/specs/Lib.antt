@@ -1,3 +1,4 @@
+pub mod Borrowed
 pub mod Computing
 pub mod Decided
 pub mod Evaluation

@@ -6,6 +6,7 @@ ghost use Rattle.evaluator.specs.TextsDecided.{decimal_text_decided, network_tex
 ghost use Rattle.evaluator.specs.Computing.{decimal_read, network_read, is_v4, apply_unary_call, apply_binary_call};
 
 use crate::fault::EvalFault;
+use crate::given::Given;
 use crate::operands::{decimal_of, network_of, text_of};
 use expressions::{BinaryCall, UnaryCall};
 use extensions::{Decimal, IpNet};
@@ -74,21 +75,25 @@ fn is_less_or_equal(a: Decimal, b: Decimal) -> bool
 }
 
 /// What a call with one operand gives on a value.
-pub(crate) fn unary_call(called: UnaryCall, value: &Value) -> Result<Value, EvalFault>
-    ensures { result ≡ apply_unary_call called value.now }
+pub(crate) fn unary_call(called: UnaryCall, given: &Given<'_>) -> Result<Value, EvalFault>
+    ensures { result ≡ apply_unary_call called given.now }
 {
     match called {
-        UnaryCall::Decimal => read_decimal(text_of(value)?.as_str()),
-        UnaryCall::Ip => read_network(text_of(value)?.as_str()),
-        UnaryCall::IsIpv4 => Ok(Value::boolean(is_ipv4(network_of(value)?))),
-        UnaryCall::IsIpv6 => Ok(Value::boolean(is_ipv6(network_of(value)?))),
-        UnaryCall::IsLoopback => Ok(Value::boolean(is_loopback(network_of(value)?))),
-        UnaryCall::IsMulticast => Ok(Value::boolean(is_multicast(network_of(value)?))),
+        UnaryCall::Decimal => read_decimal(text_of(given)?.as_str()),
+        UnaryCall::Ip => read_network(text_of(given)?.as_str()),
+        UnaryCall::IsIpv4 => Ok(Value::boolean(is_ipv4(network_of(given)?))),
+        UnaryCall::IsIpv6 => Ok(Value::boolean(is_ipv6(network_of(given)?))),
+        UnaryCall::IsLoopback => Ok(Value::boolean(is_loopback(network_of(given)?))),
+        UnaryCall::IsMulticast => Ok(Value::boolean(is_multicast(network_of(given)?))),
     }
 }
 
 /// What a call with two operands gives on values.
-pub(crate) fn binary_call(called: BinaryCall, a: &Value, b: &Value) -> Result<Value, EvalFault>
+pub(crate) fn binary_call(
+    called: BinaryCall,
+    a: &Given<'_>,
+    b: &Given<'_>,
+) -> Result<Value, EvalFault>
     ensures { result ≡ apply_binary_call called a.now b.now }
 {
     match called {

@@ -9,6 +9,7 @@ ghost use Rattle.evaluator.specs.Computing.{entities_of, Answers, meaning, named
 use crate::calls::{binary_call, unary_call};
 use crate::fault::EvalFault;
 use crate::fields::{field, has};
+use crate::given::Given;
 use crate::leaves::{literal_of, variable_of};
 use crate::lookup::Lookup;
 use crate::operands::boolean_of;
@@ -20,17 +21,19 @@ use values::{Record, Request, Value};
 
 /// What an expression gives under a request, over the stored entities: its value, or the first error.
 ///
+/// What stands in the expression, the request or the stored entities is borrowed; memory is asked for by sets and records that are written out, and for a field of such
+/// a record.
 /// Operands are evaluated from the left to the right, the fields of a record in the order in which they are written; `&&`, `||` and `if`
 /// evaluate only what decides. `NoMemory` where an allocation was refused, and only then.
 /// It recurses: its stack grows with the height of the expression, by less than two kilobytes a level.
 ///
 /// Source: Cedar reference guide, "Operators and functions".
-pub fn evaluate<L: Lookup>(
+pub fn evaluate<'a, L: Lookup>(
     alloc: Global,
-    expr: &Expr,
-    request: &Request,
-    store: &L,
-) -> Result<Value, EvalFault>
+    expr: &'a Expr,
+    request: &'a Request,
+    store: &'a L,
+) -> Result<Given<'a>, EvalFault>
     ensures given { AnswersWhatIsGiven (world_of (L.stored store.now) (L.parents store.now)) request.now expr.now result }
     ensures all { AnswersAllThatIsGiven (world_of (L.stored store.now) (L.parents store.now)) request.now expr.now result }
 {
@@ -39,17 +42,17 @@ pub fn evaluate<L: Lookup>(
 
 // The arms that hold a value are functions of their own, so that a level of the recursion takes little stack.
 #[cycle(evaluate)]
-fn outcome_of<L: Lookup>(
+fn outcome_of<'a, L: Lookup>(
     alloc: Global,
-    expr: &Expr,
-    request: &Request,
-    store: &L,
-) -> Result<Value, EvalFault>
+    expr: &'a Expr,
+    request: &'a Request,
+    store: &'a L,
+) -> Result<Given<'a>, EvalFault>
     ensures { Answers result (meaning request.now (entities_of (L.stored store.now) (L.above store.now)) expr.now) }
 {
     match expr {
-        Expr::Literal(literal) => Ok(literal_of(literal)?),
-        Expr::Variable(variable) => Ok(variable_of(alloc, *variable, request)?),
+        Expr::Literal(literal) => Ok(literal_of(literal)),
+        Expr::Variable(variable) => Ok(variable_of(*variable, request)),
         Expr::If(test, consequent, alternative) => {
             if test_of(alloc, test, request, store)? {
                 outcome_of(alloc, consequent.get(), request, store)
@@ -60,12 +63,12 @@ fn outcome_of<L: Lookup>(
         Expr::And(left, right) => {
             let holds = test_of(alloc, left, request, store)?
                 && test_of(alloc, right, request, store)?;
-            Ok(Value::boolean(holds))
+            Ok(Given::computed(Value::boolean(holds)))
         }
         Expr::Or(left, right) => {
             let holds = test_of(alloc, left, request, store)?
                 || test_of(alloc, right, request, store)?;
-            Ok(Value::boolean(holds))
+            Ok(Given::computed(Value::boolean(holds)))
         }
         Expr::Unary(operator, operand) => one_operand(alloc, operator, operand, request, store),
         Expr::Binary(operator, left, right) => {
@@ -87,161 +90,162 @@ fn outcome_of<L: Lookup>(
 /// What an expression gives as a test.
 #[cycle(evaluate)]
 #[inline(never)]
-fn test_of<L: Lookup>(
+fn test_of<'a, L: Lookup>(
     alloc: Global,
-    test: &Boxed<Expr>,
-    request: &Request,
-    store: &L,
+    test: &'a Boxed<Expr>,
+    request: &'a Request,
+    store: &'a L,
 ) -> Result<bool, EvalFault>
     ensures { Answers result (as_test (meaning request.now (entities_of (L.stored store.now) (L.above store.now)) test.now)) }
 {
-    let value = outcome_of(alloc, test.get(), request, store)?;
-    boolean_of(&value)
+    let given = outcome_of(alloc, test.get(), request, store)?;
+    boolean_of(&given)
 }
 
 /// What an operator gives on an expression's value.
 #[cycle(evaluate)]
 #[inline(never)]
-fn one_operand<L: Lookup>(
+fn one_operand<'a, L: Lookup>(
     alloc: Global,
     operator: &Unary,
-    operand: &Boxed<Expr>,
-    request: &Request,
-    store: &L,
-) -> Result<Value, EvalFault>
+    operand: &'a Boxed<Expr>,
+    request: &'a Request,
+    store: &'a L,
+) -> Result<Given<'a>, EvalFault>
     ensures { Answers result (and_then (meaning request.now (entities_of (L.stored store.now) (L.above store.now)) operand.now) (apply_unary operator.now)) }
 {
-    let value = outcome_of(alloc, operand.get(), request, store)?;
-    unary(operator, &value)
+    let given = outcome_of(alloc, operand.get(), request, store)?;
+    Ok(Given::computed(unary(operator, &given)?))
 }
 
 /// What an operator gives on a value and an expression's value.
 #[cycle(evaluate)]
 #[inline(never)]
-fn second_operand<L: Lookup>(
+fn second_operand<'a, L: Lookup>(
     alloc: Global,
-    right: &Boxed<Expr>,
+    right: &'a Boxed<Expr>,
     operator: Binary,
-    left: &Value,
-    request: &Request,
-    store: &L,
-) -> Result<Value, EvalFault>
+    left: &Given<'_>,
+    request: &'a Request,
+    store: &'a L,
+) -> Result<Given<'a>, EvalFault>
     ensures { Answers result (and_then (meaning request.now (entities_of (L.stored store.now) (L.above store.now)) right.now) (apply_binary (entities_of (L.stored store.now) (L.above store.now)) operator left.now)) }
 {
     let right = outcome_of(alloc, right.get(), request, store)?;
-    binary(store, operator, left, &right)
+    Ok(Given::computed(binary(store, operator, left, &right)?))
 }
 
 /// What a call gives on an expression's value.
 #[cycle(evaluate)]
 #[inline(never)]
-fn one_called<L: Lookup>(
+fn one_called<'a, L: Lookup>(
     alloc: Global,
     called: UnaryCall,
-    operand: &Boxed<Expr>,
-    request: &Request,
-    store: &L,
-) -> Result<Value, EvalFault>
+    operand: &'a Boxed<Expr>,
+    request: &'a Request,
+    store: &'a L,
+) -> Result<Given<'a>, EvalFault>
     ensures { Answers result (and_then (meaning request.now (entities_of (L.stored store.now) (L.above store.now)) operand.now) (apply_unary_call called)) }
 {
-    let value = outcome_of(alloc, operand.get(), request, store)?;
-    unary_call(called, &value)
+    let given = outcome_of(alloc, operand.get(), request, store)?;
+    Ok(Given::computed(unary_call(called, &given)?))
 }
 
 /// What a call gives on a value and an expression's value.
 #[cycle(evaluate)]
 #[inline(never)]
-fn second_called<L: Lookup>(
+fn second_called<'a, L: Lookup>(
     alloc: Global,
-    right: &Boxed<Expr>,
+    right: &'a Boxed<Expr>,
     called: BinaryCall,
-    left: &Value,
-    request: &Request,
-    store: &L,
-) -> Result<Value, EvalFault>
+    left: &Given<'_>,
+    request: &'a Request,
+    store: &'a L,
+) -> Result<Given<'a>, EvalFault>
     ensures { Answers result (and_then (meaning request.now (entities_of (L.stored store.now) (L.above store.now)) right.now) (apply_binary_call called left.now)) }
 {
     let right = outcome_of(alloc, right.get(), request, store)?;
-    binary_call(called, left, &right)
+    Ok(Given::computed(binary_call(called, left, &right)?))
 }
 
 /// A field or an attribute of an expression's value.
 #[cycle(evaluate)]
 #[inline(never)]
-fn field_of<L: Lookup>(
+fn field_of<'a, L: Lookup>(
     alloc: Global,
-    owner: &Boxed<Expr>,
+    owner: &'a Boxed<Expr>,
     name: &Text,
-    request: &Request,
-    store: &L,
-) -> Result<Value, EvalFault>
+    request: &'a Request,
+    store: &'a L,
+) -> Result<Given<'a>, EvalFault>
     ensures { Answers result (and_then (meaning request.now (entities_of (L.stored store.now) (L.above store.now)) owner.now) (field_of (entities_of (L.stored store.now) (L.above store.now)) name.now)) }
 {
-    let value = outcome_of(alloc, owner.get(), request, store)?;
-    field(alloc, store, &value, name.as_str())
+    let given = outcome_of(alloc, owner.get(), request, store)?;
+    field(alloc, store, &given, name.as_str())
 }
 
 /// Whether an expression's value has a field or an attribute.
 #[cycle(evaluate)]
 #[inline(never)]
-fn has_of<L: Lookup>(
+fn has_of<'a, L: Lookup>(
     alloc: Global,
-    owner: &Boxed<Expr>,
+    owner: &'a Boxed<Expr>,
     name: &Text,
-    request: &Request,
-    store: &L,
-) -> Result<Value, EvalFault>
+    request: &'a Request,
+    store: &'a L,
+) -> Result<Given<'a>, EvalFault>
     ensures { Answers result (and_then (meaning request.now (entities_of (L.stored store.now) (L.above store.now)) owner.now) (has_field (entities_of (L.stored store.now) (L.above store.now)) name.now)) }
 {
-    let value = outcome_of(alloc, owner.get(), request, store)?;
-    has(store, &value, name.as_str())
+    let given = outcome_of(alloc, owner.get(), request, store)?;
+    Ok(Given::computed(has(store, &given, name.as_str())?))
 }
 
 /// The set of what expressions give.
 #[cycle(evaluate)]
 #[inline(never)]
-fn set_of<L: Lookup>(
+fn set_of<'a, L: Lookup>(
     alloc: Global,
-    members: &Items<Expr>,
-    request: &Request,
-    store: &L,
-) -> Result<Value, EvalFault>
+    members: &'a Items<Expr>,
+    request: &'a Request,
+    store: &'a L,
+) -> Result<Given<'a>, EvalFault>
     ensures { Answers result (and_then (each (map (meaning request.now (entities_of (L.stored store.now) (L.above store.now))) members.now)) (λ vs. Ok (set (values_of (set_list vs))))) }
 {
     let members = evaluate_each(alloc, members, request, store)?;
-    Ok(Value::set(members)?)
+    Ok(Given::computed(Value::set(members)?))
 }
 
 /// The record of what the expressions under names give.
 #[cycle(evaluate)]
 #[inline(never)]
-fn record_of<L: Lookup>(
+fn record_of<'a, L: Lookup>(
     alloc: Global,
-    fields: &Items<Named<Expr>>,
-    request: &Request,
-    store: &L,
-) -> Result<Value, EvalFault>
+    fields: &'a Items<Named<Expr>>,
+    request: &'a Request,
+    store: &'a L,
+) -> Result<Given<'a>, EvalFault>
     ensures { Answers result (and_then (each_field (map (named_meaning request.now (entities_of (L.stored store.now) (L.above store.now))) fields.now) []) (λ done. Ok (record_of (fields_of done)))) }
 {
     let fields = evaluate_fields(alloc, fields, request, store)?;
-    Ok(Value::from_record(fields))
+    Ok(Given::computed(Value::from_record(fields)))
 }
 
 /// What expressions give, in order.
 #[cycle(evaluate)]
 #[inline(never)]
-fn evaluate_each<L: Lookup>(
+fn evaluate_each<'a, L: Lookup>(
     alloc: Global,
-    exprs: &Items<Expr>,
-    request: &Request,
-    store: &L,
+    exprs: &'a Items<Expr>,
+    request: &'a Request,
+    store: &'a L,
 ) -> Result<Vec<Value>, EvalFault>
     ensures { let m = each (map (meaning request.now (entities_of (L.stored store.now) (L.above store.now))) exprs.now) in
         MatchResult result (λ vs. m ≡ Ok vs.items) (λ e. e ≢ EvalFault.NoMemory → m ≡ Err e) }
 {
     let mut values = Vec::with_capacity(alloc, exprs.len())?;
     for expr in exprs.as_slice() {
-        values.push(outcome_of(alloc, expr, request, store)?)?;
+        let value = outcome_of(alloc, expr, request, store)?.into_value(alloc)?;
+        values.push(value)?;
     }
     Ok(values)
 }
@@ -249,18 +253,18 @@ fn evaluate_each<L: Lookup>(
 /// The fields that the expressions under names give, in the order in which they are written.
 #[cycle(evaluate)]
 #[inline(never)]
-fn evaluate_fields<L: Lookup>(
+fn evaluate_fields<'a, L: Lookup>(
     alloc: Global,
-    fields: &Items<Named<Expr>>,
-    request: &Request,
-    store: &L,
+    fields: &'a Items<Named<Expr>>,
+    request: &'a Request,
+    store: &'a L,
 ) -> Result<Record, EvalFault>
     ensures { Answers result (each_field (map (named_meaning request.now (entities_of (L.stored store.now) (L.above store.now))) fields.now) []) }
 {
     let mut record = Record::new(alloc);
     for field in fields.as_slice() {
         let name = field.name.copy()?;
-        let value = outcome_of(alloc, &field.value, request, store)?;
+        let value = outcome_of(alloc, &field.value, request, store)?.into_value(alloc)?;
         record.insert(name, value)?;
     }
     Ok(record)

@@ -1,50 +1,105 @@
 // The fields of records and the attributes of entities.
 ghost use Rattle.std.specs.Prelude.{◌≡◌, option_map};
-ghost use Rattle.evaluator.specs.Computing.{entities_of, Answers, found_or, field_of, has_field};
+ghost use Rattle.evaluator.specs.Borrowed.{of_borrowed};
+ghost use Rattle.evaluator.specs.Computing.{entities_of, Answers, found_or, attribute, field_of, has_field};
 
 use crate::fault::EvalFault;
+use crate::given::{Given, Origin};
+use crate::kinds::{BorrowedKind, same_kind};
 use crate::lookup::Lookup;
 use std::alloc::Global;
-use values::{Kind, Value};
+use values::{EntityUid, Kind, Value};
 
 /// The value that was found.
-fn copy_found(alloc: Global, found: Option<&Value>) -> Result<Value, EvalFault>
-    ensures { Answers result (found_or EvalFault.AttrDoesNotExist (option_map (λ v. v.now) found.entry)) }
+fn found<'a>(found: Option<&'a Value>) -> Result<Given<'a>, EvalFault>
+    ensures { result ≡ found_or EvalFault.AttrDoesNotExist (option_map (λ v. v.now) found.entry) }
 {
     match found {
-        Some(value) => Ok(value.copy(alloc)?),
+        Some(value) => Ok(Given::borrowed(value)),
         None => Err(EvalFault::AttrDoesNotExist),
     }
 }
 
-/// The value of a field or an attribute.
-#[tactic(auto, using(crate::proofs::Conversions::conversions))]
-pub(crate) fn field<L: Lookup>(
-    alloc: Global,
-    store: &L,
-    value: &Value,
-    name: &str,
-) -> Result<Value, EvalFault>
-    ensures { Answers result (field_of (entities_of (L.stored store.now) (L.above store.now)) name.now value.now) }
+/// The value that was found, copied.
+fn copy_found<'a>(alloc: Global, found: Option<&Value>) -> Result<Given<'a>, EvalFault>
+    ensures { Answers result (found_or EvalFault.AttrDoesNotExist (option_map (λ v. v.now) found.entry)) }
 {
-    match value.kind() {
-        Kind::Record(fields) => copy_found(alloc, fields.field(name)),
-        Kind::Entity(uid) => match store.attrs_of(uid) {
-            Some(attributes) => copy_found(alloc, attributes.field(name)),
-            None => Err(EvalFault::EntityDoesNotExist),
-        },
+    match found {
+        Some(value) => Ok(Given::computed(value.copy(alloc)?)),
+        None => Err(EvalFault::AttrDoesNotExist),
+    }
+}
+
+/// The value of an entity's attribute.
+fn attribute<'a, L: Lookup>(
+    store: &'a L,
+    uid: &EntityUid,
+    name: &str,
+) -> Result<Given<'a>, EvalFault>
+    ensures { result ≡ attribute (L.stored store.now uid.now) name.now }
+{
+    match store.attrs_of(uid) {
+        Some(attributes) => found(attributes.field(name)),
+        None => Err(EvalFault::EntityDoesNotExist),
+    }
+}
+
+/// The value of a field or an attribute of what is borrowed.
+#[tactic(auto, using(crate::proofs::Conversions::conversions))]
+fn field_of_borrowed<'a, L: Lookup>(
+    store: &'a L,
+    owner: BorrowedKind<'a>,
+    name: &str,
+) -> Result<Given<'a>, EvalFault>
+    ensures { result ≡ field_of (entities_of (L.stored store.now) (L.above store.now)) name.now (of_borrowed owner.entry) }
+{
+    match owner {
+        BorrowedKind::Record(fields) => found(fields.field(name)),
+        BorrowedKind::Entity(uid) => attribute(store, uid, name),
         _ => Err(EvalFault::TypeError),
+    }
+}
+
+/// The value of a field or an attribute of what was computed.
+#[tactic(auto, using(crate::proofs::Conversions::conversions))]
+fn field_of_computed<'a, L: Lookup>(
+    alloc: Global,
+    store: &'a L,
+    owner: &Value,
+    name: &str,
+) -> Result<Given<'a>, EvalFault>
+    ensures { Answers result (field_of (entities_of (L.stored store.now) (L.above store.now)) name.now owner.now) }
+{
+    match owner.kind() {
+        Kind::Record(fields) => copy_found(alloc, fields.field(name)),
+        Kind::Entity(uid) => attribute(store, uid, name),
+        _ => Err(EvalFault::TypeError),
+    }
+}
+
+/// The value of a field or an attribute.
+pub(crate) fn field<'a, L: Lookup>(
+    alloc: Global,
+    store: &'a L,
+    owner: &Given<'a>,
+    name: &str,
+) -> Result<Given<'a>, EvalFault>
+    ensures { Answers result (field_of (entities_of (L.stored store.now) (L.above store.now)) name.now owner.now) }
+{
+    match &owner.origin {
+        Origin::Borrowed(kind) => field_of_borrowed(store, same_kind(kind), name),
+        Origin::Computed(value) => field_of_computed(alloc, store, value, name),
     }
 }
 
 /// Whether a field or an attribute is there.
 #[tactic(auto, using(crate::proofs::Conversions::conversions))]
-pub(crate) fn has<L: Lookup>(store: &L, value: &Value, name: &str) -> Result<Value, EvalFault>
-    ensures { result ≡ has_field (entities_of (L.stored store.now) (L.above store.now)) name.now value.now }
+pub(crate) fn has<L: Lookup>(store: &L, owner: &Given<'_>, name: &str) -> Result<Value, EvalFault>
+    ensures { result ≡ has_field (entities_of (L.stored store.now) (L.above store.now)) name.now owner.now }
 {
-    match value.kind() {
-        Kind::Record(fields) => Ok(Value::boolean(fields.field(name).is_some())),
-        Kind::Entity(uid) => match store.attrs_of(uid) {
+    match owner.kind() {
+        BorrowedKind::Record(fields) => Ok(Value::boolean(fields.field(name).is_some())),
+        BorrowedKind::Entity(uid) => match store.attrs_of(uid) {
             Some(attributes) => Ok(Value::boolean(attributes.field(name).is_some())),
             None => Ok(Value::boolean(false)),
         },

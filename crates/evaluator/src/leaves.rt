@@ -1,36 +1,51 @@
 // The values of literals and of variables.
-ghost use Rattle.std.specs.Prelude.{◌≡◌, IfOk};
+ghost use Rattle.std.specs.Prelude.{◌≡◌};
+ghost use Rattle.evaluator.specs.Borrowed.{of_borrowed};
 ghost use Rattle.evaluator.specs.Evaluation.{literal_value, variable_value};
 
+use crate::given::{Given, Origin};
+use crate::kinds::BorrowedKind;
 use expressions::{Literal, Variable};
-use plain::NoMemory;
-use std::alloc::Global;
-use values::{Request, Value};
+use values::Request;
 
-/// The value of a literal.
-pub(crate) fn literal_of(literal: &Literal) -> Result<Value, NoMemory>
-    ensures { IfOk result (λ v. v ≡ literal_value literal.now) }
+/// What a literal is.
+fn literal_kind(literal: &Literal) -> BorrowedKind<'_>
+    ensures { of_borrowed result ≡ literal_value literal.now }
 {
     match literal {
-        Literal::Boolean(truth) => Ok(Value::boolean(*truth)),
-        Literal::Long(number) => Ok(Value::long(*number)),
-        Literal::Text(content) => Ok(Value::text(content.copy()?)),
-        Literal::Entity(uid) => Ok(Value::entity(uid.copy()?)),
+        Literal::Boolean(truth) => BorrowedKind::Boolean(*truth),
+        Literal::Long(number) => BorrowedKind::Long(*number),
+        Literal::Text(content) => BorrowedKind::Text(content),
+        Literal::Entity(uid) => BorrowedKind::Entity(uid),
+    }
+}
+
+/// The value of a literal.
+pub(crate) fn literal_of(literal: &Literal) -> Given<'_>
+    ensures { result ≡ literal_value literal.now }
+{
+    Given {
+        origin: Origin::Borrowed(literal_kind(literal)),
+    }
+}
+
+/// What the part of the request is that a variable stands for.
+fn variable_kind(variable: Variable, request: &Request) -> BorrowedKind<'_>
+    ensures { of_borrowed result ≡ variable_value variable request.now }
+{
+    match variable {
+        Variable::Principal => BorrowedKind::Entity(&request.principal),
+        Variable::Action => BorrowedKind::Entity(&request.action),
+        Variable::Resource => BorrowedKind::Entity(&request.resource),
+        Variable::Context => BorrowedKind::Record(&request.context),
     }
 }
 
 /// The part of the request that a variable stands for.
-pub(crate) fn variable_of(
-    alloc: Global,
-    variable: Variable,
-    request: &Request,
-) -> Result<Value, NoMemory>
-    ensures { IfOk result (λ v. v ≡ variable_value variable request.now) }
+pub(crate) fn variable_of(variable: Variable, request: &Request) -> Given<'_>
+    ensures { result ≡ variable_value variable request.now }
 {
-    match variable {
-        Variable::Principal => Ok(Value::entity(request.principal.copy()?)),
-        Variable::Action => Ok(Value::entity(request.action.copy()?)),
-        Variable::Resource => Ok(Value::entity(request.resource.copy()?)),
-        Variable::Context => Ok(Value::from_record(request.context.copy(alloc)?)),
+    Given {
+        origin: Origin::Borrowed(variable_kind(variable, request)),
     }
 }

@@ -5,6 +5,8 @@ mod calls;
 mod evaluating;
 mod fault;
 mod fields;
+mod given;
+mod kinds;
 mod laws;
 mod leaves;
 mod lookup;
@@ -13,6 +15,7 @@ mod operators;
 
 pub use evaluating::evaluate;
 pub use fault::EvalFault;
+pub use given::Given;
 pub use laws::expressions_have_one_outcome;
 pub use lookup::Lookup;
 pub use plain::NoMemory;

@@ -4,77 +4,79 @@ ghost use Rattle.evaluator.specs.Outcomes.{boolean_in, long_in, text_in, entity_
 ghost use Rattle.evaluator.specs.Computing.{demanded};
 
 use crate::fault::EvalFault;
+use crate::given::Given;
+use crate::kinds::BorrowedKind;
 use extensions::{Decimal, IpNet};
 use plain::Text;
-use values::{EntityUid, Kind, Set, Value};
+use values::{EntityUid, Set};
 
 /// The value as a boolean.
-pub(crate) fn boolean_of(value: &Value) -> Result<bool, EvalFault>
-    ensures { result ≡ demanded (boolean_in value.now) }
+pub(crate) fn boolean_of(given: &Given<'_>) -> Result<bool, EvalFault>
+    ensures { result ≡ demanded (boolean_in given.now) }
 {
-    match value.kind() {
-        Kind::Boolean(truth) => Ok(*truth),
+    match given.kind() {
+        BorrowedKind::Boolean(truth) => Ok(truth),
         _ => Err(EvalFault::TypeError),
     }
 }
 
 /// The value as a number.
-pub(crate) fn long_of(value: &Value) -> Result<i64, EvalFault>
-    ensures { result ≡ demanded (long_in value.now) }
+pub(crate) fn long_of(given: &Given<'_>) -> Result<i64, EvalFault>
+    ensures { result ≡ demanded (long_in given.now) }
 {
-    match value.kind() {
-        Kind::Long(number) => Ok(*number),
+    match given.kind() {
+        BorrowedKind::Long(number) => Ok(number),
         _ => Err(EvalFault::TypeError),
     }
 }
 
 /// The value as a text.
-pub(crate) fn text_of(value: &Value) -> Result<&Text, EvalFault>
-    ensures { MatchResult result (λ t. demanded (text_in value.now) ≡ Ok t.now) (λ e. demanded (text_in value.now) ≡ Err e) }
+pub(crate) fn text_of<'g>(given: &'g Given<'_>) -> Result<&'g Text, EvalFault>
+    ensures { MatchResult result (λ t. demanded (text_in given.now) ≡ Ok t.now) (λ e. demanded (text_in given.now) ≡ Err e) }
 {
-    match value.kind() {
-        Kind::Text(content) => Ok(content),
+    match given.kind() {
+        BorrowedKind::Text(content) => Ok(content),
         _ => Err(EvalFault::TypeError),
     }
 }
 
 /// The value as an entity.
-pub(crate) fn entity_of(value: &Value) -> Result<&EntityUid, EvalFault>
-    ensures { MatchResult result (λ u. demanded (entity_in value.now) ≡ Ok u.now) (λ e. demanded (entity_in value.now) ≡ Err e) }
+pub(crate) fn entity_of<'g>(given: &'g Given<'_>) -> Result<&'g EntityUid, EvalFault>
+    ensures { MatchResult result (λ u. demanded (entity_in given.now) ≡ Ok u.now) (λ e. demanded (entity_in given.now) ≡ Err e) }
 {
-    match value.kind() {
-        Kind::Entity(uid) => Ok(uid),
+    match given.kind() {
+        BorrowedKind::Entity(uid) => Ok(uid),
         _ => Err(EvalFault::TypeError),
     }
 }
 
 /// The value as a set.
 #[tactic(auto, using(crate::proofs::Conversions::conversions))]
-pub(crate) fn set_of(value: &Value) -> Result<&Set, EvalFault>
-    ensures { MatchResult result (λ s. demanded (members_in value.now) ≡ Ok s.now) (λ e. demanded (members_in value.now) ≡ Err e) }
+pub(crate) fn set_of<'g>(given: &'g Given<'_>) -> Result<&'g Set, EvalFault>
+    ensures { MatchResult result (λ s. demanded (members_in given.now) ≡ Ok s.now) (λ e. demanded (members_in given.now) ≡ Err e) }
 {
-    match value.kind() {
-        Kind::Set(members) => Ok(members),
+    match given.kind() {
+        BorrowedKind::Set(members) => Ok(members),
         _ => Err(EvalFault::TypeError),
     }
 }
 
 /// The value as a decimal.
-pub(crate) fn decimal_of(value: &Value) -> Result<Decimal, EvalFault>
-    ensures { result ≡ demanded (decimal_in value.now) }
+pub(crate) fn decimal_of(given: &Given<'_>) -> Result<Decimal, EvalFault>
+    ensures { result ≡ demanded (decimal_in given.now) }
 {
-    match value.kind() {
-        Kind::Decimal(number) => Ok(*number),
+    match given.kind() {
+        BorrowedKind::Decimal(number) => Ok(number),
         _ => Err(EvalFault::TypeError),
     }
 }
 
 /// The value as an address.
-pub(crate) fn network_of(value: &Value) -> Result<IpNet, EvalFault>
-    ensures { result ≡ demanded (network_in value.now) }
+pub(crate) fn network_of(given: &Given<'_>) -> Result<IpNet, EvalFault>
+    ensures { result ≡ demanded (network_in given.now) }
 {
-    match value.kind() {
-        Kind::IpAddr(network) => Ok(*network),
+    match given.kind() {
+        BorrowedKind::IpAddr(network) => Ok(network),
         _ => Err(EvalFault::TypeError),
     }
 }

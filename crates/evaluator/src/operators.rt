@@ -1,24 +1,30 @@
 // What operators give on values.
-ghost use Rattle.std.specs.Prelude.{◌≡◌, IfOk};
-ghost use Rattle.evaluator.specs.Computing.{entities_of, Answers, number_or_fault, apply_unary, apply_binary, is_in, in_members, in_value};
+ghost use Rattle.std.specs.Prelude.{◌≡◌, IfOk, MatchResult, Ok, Err};
+ghost use Rattle.values.specs.ValueOrder.{value_cmp};
+ghost use Rattle.values.specs.Sets.{has_member};
+ghost use Rattle.evaluator.specs.Outcomes.{entity_in};
+ghost use Rattle.evaluator.specs.Computing.{entities_of, demanded, Answers, number_or_fault, apply_unary, apply_binary, is_in, in_members, in_value};
 
 use crate::fault::EvalFault;
+use crate::given::Given;
+use crate::kinds::BorrowedKind;
 use crate::lookup::Lookup;
 use crate::operands::{boolean_of, entity_of, long_of, set_of, text_of};
 use expressions::{Binary, Unary};
 use plain::NoMemory;
-use values::{EntityUid, Kind, Value};
+use std::cmp::Ordering;
+use values::{EntityUid, Kind, Set, Value};
 
 /// What an operator gives on a value.
-pub(crate) fn unary(operator: &Unary, value: &Value) -> Result<Value, EvalFault>
-    ensures { result ≡ apply_unary operator.now value.now }
+pub(crate) fn unary(operator: &Unary, given: &Given<'_>) -> Result<Value, EvalFault>
+    ensures { result ≡ apply_unary operator.now given.now }
 {
     match operator {
-        Unary::Not => Ok(Value::boolean(!boolean_of(value)?)),
-        Unary::Negate => number(long_of(value)?.checked_neg()),
-        Unary::Like(pattern) => Ok(Value::boolean(pattern.matches(text_of(value)?.as_str()))),
+        Unary::Not => Ok(Value::boolean(!boolean_of(given)?)),
+        Unary::Negate => number(long_of(given)?.checked_neg()),
+        Unary::Like(pattern) => Ok(Value::boolean(pattern.matches(text_of(given)?.as_str()))),
         Unary::Is(name) => Ok(Value::boolean(
-            entity_of(value)?.type_name.as_str() == name.as_str(),
+            entity_of(given)?.type_name.as_str() == name.as_str(),
         )),
     }
 }
@@ -43,13 +49,23 @@ fn is_in<L: Lookup>(store: &L, a: &EntityUid, b: &EntityUid) -> Result<bool, NoM
     store.is_ancestor(b, a)
 }
 
+/// A member of a set as an entity.
+fn member_entity(member: &Value) -> Result<&EntityUid, EvalFault>
+    ensures { MatchResult result (λ u. demanded (entity_in member.now) ≡ Ok u.now) (λ e. demanded (entity_in member.now) ≡ Err e) }
+{
+    match member.kind() {
+        Kind::Entity(uid) => Ok(uid),
+        _ => Err(EvalFault::TypeError),
+    }
+}
+
 /// Whether `a` is in some member, all of which have to be entities.
 fn in_members<L: Lookup>(store: &L, a: &EntityUid, members: &[Value]) -> Result<bool, EvalFault>
     ensures { Answers result (in_members (entities_of (L.stored store.now) (L.above store.now)) a.now members.now) }
 {
     let mut found = false;
     for member in members {
-        let b = entity_of(member)?;
+        let b = member_entity(member)?;
         if !found {
             found = is_in(store, a, b)?;
         }
@@ -59,34 +75,51 @@ fn in_members<L: Lookup>(store: &L, a: &EntityUid, members: &[Value]) -> Result<
 
 /// Whether `a` is in an entity, or in some member of a set.
 #[tactic(auto, using(crate::proofs::Conversions::conversions))]
-fn in_value<L: Lookup>(store: &L, a: &EntityUid, value: &Value) -> Result<Value, EvalFault>
-    ensures { Answers result (in_value (entities_of (L.stored store.now) (L.above store.now)) a.now value.now) }
+fn in_value<L: Lookup>(store: &L, a: &EntityUid, b: &Given<'_>) -> Result<Value, EvalFault>
+    ensures { Answers result (in_value (entities_of (L.stored store.now) (L.above store.now)) a.now b.now) }
 {
-    match value.kind() {
-        Kind::Entity(b) => Ok(Value::boolean(is_in(store, a, b)?)),
-        Kind::Set(members) => Ok(Value::boolean(in_members(store, a, members.members())?)),
+    match b.kind() {
+        BorrowedKind::Entity(uid) => Ok(Value::boolean(is_in(store, a, uid)?)),
+        BorrowedKind::Set(members) => Ok(Value::boolean(in_members(store, a, members.members())?)),
         _ => Err(EvalFault::TypeError),
     }
+}
+
+/// How a member compares with a value.
+fn compare_member(member: &Value, given: &Given<'_>) -> Ordering
+    ensures { result ≡ value_cmp member.now given.now }
+{
+    Given::borrowed(member).compare(given)
+}
+
+/// Whether a value is a member; takes no memory, and logarithmic time.
+fn is_member(members: &Set, given: &Given<'_>) -> bool
+    ensures { result ≡ has_member members.now given.now }
+{
+    members
+        .members()
+        .binary_search_by(|member| compare_member(member, given))
+        .is_ok()
 }
 
 /// What an operator gives on two values.
 pub(crate) fn binary<L: Lookup>(
     store: &L,
     operator: Binary,
-    a: &Value,
-    b: &Value,
+    a: &Given<'_>,
+    b: &Given<'_>,
 ) -> Result<Value, EvalFault>
     ensures { Answers result (apply_binary (entities_of (L.stored store.now) (L.above store.now)) operator a.now b.now) }
 {
     match operator {
-        Binary::Equal => Ok(Value::boolean(a == b)),
+        Binary::Equal => Ok(Value::boolean(a.compare(b).is_eq())),
         Binary::In => in_value(store, entity_of(a)?, b),
         Binary::Less => Ok(Value::boolean(long_of(a)? < long_of(b)?)),
         Binary::LessOrEqual => Ok(Value::boolean(long_of(a)? <= long_of(b)?)),
         Binary::Add => number(long_of(a)?.checked_add(long_of(b)?)),
         Binary::Subtract => number(long_of(a)?.checked_sub(long_of(b)?)),
         Binary::Multiply => number(long_of(a)?.checked_mul(long_of(b)?)),
-        Binary::Contains => Ok(Value::boolean(set_of(a)?.contains(b))),
+        Binary::Contains => Ok(Value::boolean(is_member(set_of(a)?, b))),
         Binary::ContainsAll => Ok(Value::boolean(set_of(a)?.contains_all(set_of(b)?))),
         Binary::ContainsAny => Ok(Value::boolean(set_of(a)?.contains_any(set_of(b)?))),
     }

@@ -1,8 +1,8 @@
 -- The grammar of names, over tokens: which trees a list of tokens derives. One definition for each production.
 -- Source: Cedar reference guide 4.0, "Grammar specification for Cedar policy syntax". Rules of this product: `__cedar` is reserved too,
 -- and so is no Ident.
-use Rattle.std.specs.Prelude.{true, false}
 use Rattle.policy_tokens.specs.declared.token.Kind.TheVariants as k
+use Rattle.policy_tokens.specs.Idents.{is_ident}
 use Rattle.expression_syntax.specs.declared.tree.PathTree.{PathTree}
 use Rattle.expression_syntax.specs.declared.tree.UidTree.{UidTree}
 use Rattle.expression_syntax.specs.Kinds.{Kinds}
@@ -10,16 +10,7 @@ use Rattle.expression_syntax.specs.Lang.{Lang, of, one, empty, ◌>>=◌, ◌>>�
 
 -- Ident: a word that isn't reserved
 abbrev pub identifiers : Kinds
-identifiers k.Ident = true
-identifiers k.Permit = true
-identifiers k.Forbid = true
-identifiers k.When = true
-identifiers k.Unless = true
-identifiers k.Principal = true
-identifiers k.Action = true
-identifiers k.Resource = true
-identifiers k.Context = true
-identifiers _ = false
+identifiers = is_ident
 
 -- Path = Ident { "::" Ident }
 abbrev pub path : Lang PathTree

@@ -10,3 +10,4 @@ pub mod Expressions
 pub mod ExpressionReading
 pub mod Nests
 pub mod Parts
+pub mod Included

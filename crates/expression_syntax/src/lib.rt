@@ -15,7 +15,7 @@ mod primary;
 mod read;
 mod tree;
 
-pub use cursor::{Cursor, is_identifier};
+pub use cursor::{Cursor, TokenSet};
 pub use expression::expr;
 pub use fault::{Halt, SyntaxFault};
 pub use laws::expression_is_unique;

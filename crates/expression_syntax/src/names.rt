@@ -4,7 +4,7 @@ ghost use Rattle.expression_syntax.specs.ExpressionReading as expression_reading
 ghost use Rattle.expression_syntax.specs.Gives.{Gives};
 ghost use Rattle.expression_syntax.specs.Parsing as spec;
 
-use crate::cursor::Cursor;
+use crate::cursor::{Cursor, TokenSet};
 use crate::fault::Halt;
 use crate::tree::{Name, PathTree, UidTree};
 use plain::Items;
@@ -16,7 +16,7 @@ fn path_word(tokens: &mut Cursor<'_>) -> Result<Token, Halt>
     ensures { Gives (spec.path_word tokens.old.rest.now) result tokens.new.rest.now }
 {
     tokens.take(Kind::Colons)?;
-    tokens.take_identifier()
+    tokens.take_one_of(TokenSet::Identifiers)
 }
 
 fn path_behind(alloc: Global, tokens: &mut Cursor<'_>, first: Token) -> Result<PathTree, Halt>
@@ -38,7 +38,7 @@ fn path_behind(alloc: Global, tokens: &mut Cursor<'_>, first: Token) -> Result<P
 pub fn path(alloc: Global, tokens: &mut Cursor<'_>) -> Result<PathTree, Halt>
     ensures { Gives (spec.path tokens.old.rest.now) result tokens.new.rest.now }
 {
-    let first = tokens.take_identifier()?;
+    let first = tokens.take_one_of(TokenSet::Identifiers)?;
     path_behind(alloc, tokens, first)
 }
 
@@ -47,7 +47,7 @@ fn piece(tokens: &mut Cursor<'_>) -> Result<Token, Halt>
     ensures { Gives (spec.piece tokens.old.rest.now) result tokens.new.rest.now }
 {
     tokens.take(Kind::Colons)?;
-    tokens.take_piece()
+    tokens.take_one_of(TokenSet::Pieces)
 }
 
 fn uid_behind(alloc: Global, tokens: &mut Cursor<'_>, first: Token) -> Result<UidTree, Halt>
@@ -70,7 +70,7 @@ fn uid_behind(alloc: Global, tokens: &mut Cursor<'_>, first: Token) -> Result<Ui
 pub fn uid(alloc: Global, tokens: &mut Cursor<'_>) -> Result<UidTree, Halt>
     ensures { Gives (spec.uid tokens.old.rest.now) result tokens.new.rest.now }
 {
-    let first = tokens.take_identifier()?;
+    let first = tokens.take_one_of(TokenSet::Identifiers)?;
     uid_behind(alloc, tokens, first)
 }
 

@@ -7,7 +7,7 @@ ghost use Rattle.expression_syntax.specs.Gives.{Gives};
 ghost use Rattle.expression_syntax.specs.Nests.{Nests};
 ghost use Rattle.expression_syntax.specs.declared.tree.ExprTree.TheVariants as tree;
 
-use crate::cursor::Cursor;
+use crate::cursor::{Cursor, TokenSet};
 use crate::fault::Halt;
 use crate::names::path;
 use crate::primary::{Reader, indexed};
@@ -153,7 +153,7 @@ impl<F: Fn(Global, &mut Cursor<'_>, usize) -> Result<ExprTree, Halt>> Reader<F> 
         ensures { Gives (spec.dotted (is_positive self.now.levels) (spec.expr self.now.levels) tokens.old.rest.now) result tokens.new.rest.now }
     {
         tokens.take(Kind::Dot)?;
-        let name = tokens.take_identifier()?;
+        let name = tokens.take_one_of(TokenSet::Identifiers)?;
         let found = self.maybe_called(tokens)?;
         Ok(access(name, found))
     }
@@ -175,7 +175,7 @@ impl<F: Fn(Global, &mut Cursor<'_>, usize) -> Result<ExprTree, Halt>> Reader<F> 
     {
         let mut found = Items::new(self.alloc);
         for _turn in 0..tokens.left() {
-            if !tokens.sees_access() {
+            if !tokens.sees_one_of(TokenSet::AccessStarts) {
                 return Ok(found);
             }
             let next = self.accessing(tokens)?;
@@ -266,7 +266,7 @@ impl<F: Fn(Global, &mut Cursor<'_>, usize) -> Result<ExprTree, Halt>> Reader<F> 
         requires { Nests self.now.levels (F.pre self.now.expr) (F.post self.now.expr) }
         ensures { Gives (spec.term (is_positive self.now.levels) (spec.expr self.now.levels) tokens.old.rest.now) result tokens.new.rest.now }
     {
-        let sign = tokens.take_sign()?;
+        let sign = tokens.take_one_of(TokenSet::Signs)?;
         let operand = self.product(tokens)?;
         Ok(Term { sign, operand })
     }
@@ -277,7 +277,7 @@ impl<F: Fn(Global, &mut Cursor<'_>, usize) -> Result<ExprTree, Halt>> Reader<F> 
     {
         let mut found = Items::new(self.alloc);
         for _turn in 0..tokens.left() {
-            if !tokens.sees_sign() {
+            if !tokens.sees_one_of(TokenSet::Signs) {
                 return Ok(found);
             }
             let next = self.term(tokens)?;
@@ -303,7 +303,7 @@ impl<F: Fn(Global, &mut Cursor<'_>, usize) -> Result<ExprTree, Halt>> Reader<F> 
         requires { Nests self.now.levels (F.pre self.now.expr) (F.post self.now.expr) }
         ensures { Gives (spec.compared (is_positive self.now.levels) (spec.expr self.now.levels) x tokens.old.rest.now) result tokens.new.rest.now }
     {
-        let operator = tokens.take_comparison()?;
+        let operator = tokens.take_one_of(TokenSet::Comparisons)?;
         let y = self.sum(tokens)?;
         Ok(compare(self.alloc, x, operator, y)?)
     }
@@ -315,7 +315,7 @@ impl<F: Fn(Global, &mut Cursor<'_>, usize) -> Result<ExprTree, Halt>> Reader<F> 
         ensures { Gives (spec.has (is_positive self.now.levels) (spec.expr self.now.levels) x tokens.old.rest.now) result tokens.new.rest.now }
     {
         tokens.take(Kind::Has)?;
-        let name = tokens.take_key()?;
+        let name = tokens.take_one_of(TokenSet::Keys)?;
         Ok(has_of(self.alloc, x, name)?)
     }
 
@@ -326,7 +326,7 @@ impl<F: Fn(Global, &mut Cursor<'_>, usize) -> Result<ExprTree, Halt>> Reader<F> 
         ensures { Gives (spec.like (is_positive self.now.levels) (spec.expr self.now.levels) x tokens.old.rest.now) result tokens.new.rest.now }
     {
         tokens.take(Kind::Like)?;
-        let text = tokens.take_pattern()?;
+        let text = tokens.take_one_of(TokenSet::Patterns)?;
         Ok(like_of(self.alloc, x, text)?)
     }
 
@@ -386,7 +386,7 @@ impl<F: Fn(Global, &mut Cursor<'_>, usize) -> Result<ExprTree, Halt>> Reader<F> 
         requires { Nests self.now.levels (F.pre self.now.expr) (F.post self.now.expr) }
         ensures { Gives (spec.related (is_positive self.now.levels) (spec.expr self.now.levels) x tokens.old.rest.now) result tokens.new.rest.now }
     {
-        if tokens.sees_comparison() {
+        if tokens.sees_one_of(TokenSet::Comparisons) {
             return self.compared(tokens, x);
         }
         self.tested(tokens, x)

@@ -6,7 +6,7 @@ ghost use Rattle.expression_syntax.specs.Expressions.{is_positive};
 ghost use Rattle.expression_syntax.specs.Gives.{Gives};
 ghost use Rattle.expression_syntax.specs.Nests.{Nests};
 
-use crate::cursor::{Cursor, is_variable};
+use crate::cursor::{Cursor, TokenSet};
 use crate::fault::Halt;
 use crate::names::name_behind;
 use crate::tree::{Access, Entry, ExprTree, Name, PathTree};
@@ -19,8 +19,8 @@ use std::alloc::Global;
 fn literal(tokens: &mut Cursor<'_>) -> Result<ExprTree, Halt>
     ensures { Gives (spec.literal tokens.old.rest.now) result tokens.new.rest.now }
 {
-    if tokens.sees_boolean() {
-        let token = tokens.take_boolean()?;
+    if tokens.sees_one_of(TokenSet::Booleans) {
+        let token = tokens.take_one_of(TokenSet::Booleans)?;
         return Ok(ExprTree::Boolean(token));
     }
     if tokens.sees(Kind::Number) {
@@ -48,7 +48,7 @@ fn alone(tokens: &Cursor<'_>, path: PathTree) -> Result<ExprTree, Halt>
     ensures { Gives (spec.alone path tokens.now.rest.now) result tokens.now.rest.now }
 {
     match path.more.as_slice() {
-        [] if is_variable(path.first.kind) => Ok(ExprTree::Variable(path.first)),
+        [] if TokenSet::Variables.includes(path.first.kind) => Ok(ExprTree::Variable(path.first)),
         _ => Err(Halt::Unexpected),
     }
 }
@@ -107,7 +107,7 @@ impl<F: Fn(Global, &mut Cursor<'_>, usize) -> Result<ExprTree, Halt>> Reader<F> 
         requires { Nests self.now.levels (F.pre self.now.expr) (F.post self.now.expr) }
         ensures { Gives (spec.arguments (is_positive self.now.levels) (spec.expr self.now.levels) tokens.old.rest.now) result tokens.new.rest.now }
     {
-        if !tokens.sees_expression() {
+        if !tokens.sees_one_of(TokenSet::ExpressionStarts) {
             return Ok(Items::new(self.alloc));
         }
         let first = self.inner(tokens)?;
@@ -132,7 +132,7 @@ impl<F: Fn(Global, &mut Cursor<'_>, usize) -> Result<ExprTree, Halt>> Reader<F> 
         requires { Nests self.now.levels (F.pre self.now.expr) (F.post self.now.expr) }
         ensures { Gives (spec.entry (is_positive self.now.levels) (spec.expr self.now.levels) tokens.old.rest.now) result tokens.new.rest.now }
     {
-        let key = tokens.take_key()?;
+        let key = tokens.take_one_of(TokenSet::Keys)?;
         tokens.take(Kind::Colon)?;
         let value = self.inner(tokens)?;
         Ok(Entry { key, value })
@@ -173,7 +173,7 @@ impl<F: Fn(Global, &mut Cursor<'_>, usize) -> Result<ExprTree, Halt>> Reader<F> 
         requires { Nests self.now.levels (F.pre self.now.expr) (F.post self.now.expr) }
         ensures { Gives (spec.entries (is_positive self.now.levels) (spec.expr self.now.levels) tokens.old.rest.now) result tokens.new.rest.now }
     {
-        if !tokens.sees_key() {
+        if !tokens.sees_one_of(TokenSet::Keys) {
             return Ok(Items::new(self.alloc));
         }
         let first = self.entry(tokens)?;
@@ -220,7 +220,7 @@ impl<F: Fn(Global, &mut Cursor<'_>, usize) -> Result<ExprTree, Halt>> Reader<F> 
         requires { Nests self.now.levels (F.pre self.now.expr) (F.post self.now.expr) }
         ensures { Gives (spec.named (is_positive self.now.levels) (spec.expr self.now.levels) tokens.old.rest.now) result tokens.new.rest.now }
     {
-        let first = tokens.take_identifier()?;
+        let first = tokens.take_one_of(TokenSet::Identifiers)?;
         self.named_behind(tokens, first)
     }
 
@@ -281,10 +281,10 @@ impl<F: Fn(Global, &mut Cursor<'_>, usize) -> Result<ExprTree, Halt>> Reader<F> 
         requires { Nests self.now.levels (F.pre self.now.expr) (F.post self.now.expr) }
         ensures { Gives (spec.primary (is_positive self.now.levels) (spec.expr self.now.levels) tokens.old.rest.now) result tokens.new.rest.now }
     {
-        if tokens.sees_identifier() {
+        if tokens.sees_one_of(TokenSet::Identifiers) {
             return self.named(tokens);
         }
-        if !tokens.sees_opener() {
+        if !tokens.sees_one_of(TokenSet::Openers) {
             return literal(tokens);
         }
         if self.levels == 0 {

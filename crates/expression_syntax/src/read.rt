@@ -5,7 +5,7 @@ ghost use Rattle.expression_syntax.specs.Expressions as grammar;
 ghost use Rattle.expression_syntax.specs.Reads.{ReadsWithin, refusal_of};
 ghost use Rattle.expression_syntax.specs.Stands.{ExprStands};
 
-use crate::cursor::Cursor;
+use crate::cursor::{Cursor, TokenSet};
 use crate::expression::expr;
 use crate::fault::{Halt, SyntaxFault};
 use crate::tree::ExprTree;
@@ -26,7 +26,7 @@ pub fn refusal(tokens: &[Token], cursor: &Cursor<'_>, halt: Halt) -> SyntaxFault
         Halt::NoMemory => SyntaxFault::NoMemory,
         Halt::TooDeep => SyntaxFault::TooDeep(place),
         Halt::Unexpected => {
-            if cursor.sees_slot() {
+            if cursor.sees_one_of(TokenSet::Slots) {
                 SyntaxFault::Slot(place)
             } else {
                 SyntaxFault::Unexpected(place)

@@ -1,5 +1,5 @@
 -- Conditions joined from the last to the first.
-use Rattle.std.proofs.Common.{◌≡◌, ℕ, suc, ◌+◌, ◌<◌, ◌≤◌, List, [], ◌∷◌, ◌++◌, length, drop, get_or, map, None, refl, sym, ◌∙◌, ap, subst, arith}
+use Rattle.std.proofs.Common.{◌≡◌, ℕ, ◌+◌, ◌<◌, List, [], ◌∷◌, ◌++◌, length, drop, get_or, None, refl, sym, ◌∙◌, ap, subst, arith}
 use Rattle.std.proofs.lemmas.List.{append-nil, length-drop}
 use Rattle.std.specs.List.{AllByRecursion, flat_map}
 use Rattle.policy_tokens.specs.declared.token.Kind.{Kind}
@@ -13,15 +13,14 @@ use Rattle.policy_syntax.specs.declared.tree.PolicyTree.{PolicyTree}
 use Rattle.policy_syntax.specs.Stands.{ConditionStands}
 use Rattle.desugaring.specs.declared.fault.DesugarFault.{DesugarFault}
 use Rattle.desugaring.specs.declared.judgement.Judgement.{Judgement}
-use Rattle.desugaring.specs.Core.{core_of}
 use Rattle.desugaring.specs.Faults.{faults_of}
 use Rattle.desugaring.specs.Judged.{of}
-use Rattle.desugaring.specs.Sums.{leaf, above, paired}
+use Rattle.desugaring.specs.Sums.{leaf, paired}
 use Rattle.desugaring.proofs.Lists.{next}
 use Rattle.policy_grammar.proofs.Lists.{all-at}
 use Rattle.desugaring.proofs.Sizing.{of-Literal, of-Unary, of-And}
 use Rattle.policy_grammar.specs.Whole.{truth}
-use Rattle.policy_grammar.specs.Conditions.{asked_by, condition_of, joined, conditions_of, condition_faults, file_faults}
+use Rattle.policy_grammar.specs.Conditions.{asked_by, condition_of, conditions_of, condition_faults, file_faults}
 use Rattle.policy_grammar.specs.Standing.{judged_by, AreSound, StandsIn}
 
 -- what is told of an expression behind a word

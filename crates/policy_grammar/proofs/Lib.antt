@@ -1,6 +1,5 @@
 pub mod Repeating
 pub mod Lists
-pub mod Idents
 pub mod Marking
 pub mod Naming
 pub mod Joining

@@ -5,7 +5,6 @@ use Rattle.policy_syntax.specs.declared.tree.PolicyTree.{PolicyTree}
 use Rattle.policy_grammar.specs.CoreOf.{IsNameOf, AreNamesOf}
 use Rattle.std.specs.List.{AllZip, AllByRecursion, enumerate_from, zip}
 use Rattle.std.proofs.lemmas.List.{take_more}
-use Rattle.plain.specs.Words.{AreIdents, IsIdent}
 use Rattle.policy_grammar.specs.Repeats.{Mark, StandsAgain, RepeatsAt}
 
 pub all_zip-more : {A B : Type 0} (R : A → B → Type 0) (xs : List A) (ys : List B) (x : A) (y : B) → AllZip R xs ys → R x y → AllZip R (xs ++ x ∷ []) (ys ++ y ∷ [])
@@ -37,10 +36,6 @@ zip-more [] [] x y same = refl
 zip-more [] (b ∷ ys) x y same = absurd (omega arith)
 zip-more (a ∷ xs) [] x y same = absurd (omega arith)
 zip-more (a ∷ xs) (b ∷ ys) x y same = ap (λ zs. (a, b) ∷ zs) (zip-more xs ys x y (omega arith))
-
-pub idents-more : (words : List (List ℕ)) (word : List ℕ) → AreIdents words → IsIdent word → AreIdents (words ++ word ∷ [])
-idents-more [] word idents ident = (ident, tt)
-idents-more (w ∷ ws) word idents ident = (idents.0, idents-more ws word idents.1 ident)
 
 -- one list of marks more
 pub repeats-more : (gs : List (List Mark)) (g : List Mark) (at : ℕ) → RepeatsAt gs at ⊎ StandsAgain g at → RepeatsAt (gs ++ g ∷ []) at

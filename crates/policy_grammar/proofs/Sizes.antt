@@ -1,5 +1,5 @@
 -- How large a policy is.
-use Rattle.std.proofs.Common.{◌≡◌, ◌↔◌, IsTrue, ℕ, suc, ◌+◌, ◌≤◌, max, List, [], ◌∷◌, length, map, refl, sym, ◌∙◌, ap, arith}
+use Rattle.std.proofs.Common.{◌≡◌, ◌↔◌, ℕ, suc, ◌+◌, ◌≤◌, max, List, [], ◌∷◌, length, map, refl, sym, ◌∙◌, ap, arith}
 use Rattle.std.specs.List.{AllZip, AllByRecursion}
 use Rattle.std.proofs.lemmas.Slice.Zip.{AllZip-long}
 use Rattle.values.specs.declared.entity_uid.EntityUid.{EntityUid}
@@ -27,10 +27,10 @@ use Rattle.policy_grammar.specs.declared.policy.EntityScope.TheVariants as entit
 use Rattle.policy_grammar.specs.declared.policy.ActionScope.{ActionScope}
 use Rattle.policy_grammar.specs.declared.policy.ActionScope.TheVariants as actions
 use Rattle.policy_grammar.specs.declared.policy.Policy.{Policy}
-use Rattle.policy_grammar.specs.Whole.{truth, falsehood, entity_literal, entity_part, action_part, expression_of}
+use Rattle.policy_grammar.specs.Whole.{entity_literal, entity_part, action_part, expression_of}
 use Rattle.policy_grammar.specs.Conditions.{conditions_of}
 use Rattle.policy_grammar.specs.CoreOf.{IsUidOf, IsEntityScopeOf, IsActionScopeOf, IsCoreOf, AreCoresOf}
-use Rattle.policy_grammar.specs.Limits.{Shape, leaf, over, both, literals, sized, forms, height, part_shape, action_shape, shape_over, shape_of, IsSmallShape, IsSmallOver, IsSmallTree, IsSmallPolicy, ShapesAreSizes, NineFormsMore, HeadsAreLow}
+use Rattle.policy_grammar.specs.Limits.{Shape, leaf, over, both, literals, sized, forms, height, part_shape, action_shape, shape_over, shape_of, IsSmallOver, IsSmallTree, IsSmallPolicy, ShapesAreSizes, NineFormsMore, HeadsAreLow}
 
 -- ---- no head is too high
 

@@ -18,7 +18,7 @@ use Rattle.policy_grammar.specs.Conditions.{conditions_of, condition_faults, fil
 use Rattle.policy_grammar.specs.Faults.{of_desugaring}
 use Rattle.policy_grammar.specs.Limits.{IsSmallOver, IsSmallTree}
 use Rattle.policy_grammar.specs.PolicyText.{HasNoFault, IsFirstFault, repeat_fault}
-use Rattle.policy_grammar.specs.Repeats.{Nowhere, TellsLeast}
+use Rattle.policy_grammar.specs.Repeats.{TellsLeast}
 use Rattle.policy_grammar.specs.Standing.{TellsPolicy, TellsFile, OrNoMemory}
 use Rattle.policy_grammar.proofs.Sizes.{decides}
 

@@ -1,19 +1,18 @@
 -- What a syntax tree stands for, with the text in which its tokens stand: the pass from tree to core.
 -- Source: Cedar reference guide 4.0, "Basic policy construction": effect, scope, conditions and annotations; "Grammar specification for Cedar policy
 -- syntax". That a policy is named by its `@id` follows the Cedar command line; the names of the others are a rule of this product.
-use Rattle.std.specs.Prelude.{◌≡◌, ℕ, Bool, List, [], ◌++◌, Option, Some, None, codes, map, find}
+use Rattle.std.specs.Prelude.{◌≡◌, ℕ, Bool, List, [], ◌++◌, Option, Some, None, codes, find}
 use Rattle.std.specs.List.{AllZip, enumerate_from}
 use Rattle.std.specs.Fmt.{decimal}
 use Rattle.std.specs.Str.{bytes_eq}
-use Rattle.plain.specs.Words.{joined_path}
 use Rattle.values.specs.declared.entity_uid.EntityUid.{EntityUid}
 use Rattle.policy_tokens.specs.declared.token.Kind.{Kind}
 use Rattle.policy_tokens.specs.declared.token.Kind.TheVariants as k
 use Rattle.policy_tokens.specs.declared.token.Token.{Token}
 use Rattle.policy_tokens.specs.Lexing.{spelling_of}
 use Rattle.policy_tokens.specs.Strings.{IsStringOf}
-use Rattle.expression_syntax.specs.declared.tree.PathTree.{PathTree}
 use Rattle.expression_syntax.specs.declared.tree.UidTree.{UidTree}
+use Rattle.desugaring.specs.Meaning.{path_name}
 use Rattle.policy_syntax.specs.declared.tree.Annotation.{Annotation}
 use Rattle.policy_syntax.specs.declared.tree.PartTree.{PartTree}
 use Rattle.policy_syntax.specs.declared.tree.PartTree.TheVariants as part
@@ -28,10 +27,6 @@ use Rattle.policy_grammar.specs.declared.policy.ActionScope.{ActionScope}
 use Rattle.policy_grammar.specs.declared.policy.ActionScope.TheVariants as actions
 use Rattle.policy_grammar.specs.declared.policy.Policy.{Policy}
 use Rattle.policy_grammar.specs.Conditions.{conditions_of}
-
--- the name that a Path is: its words with `::` between each two, without blanks and comments
-abbrev pub path_name : List ℕ → PathTree → List ℕ
-path_name text path = joined_path (spelling_of text path.first) (map (spelling_of text) path.more)
 
 -- A uid is its type's name and its string's value.
 pub record IsUidOf (text : List ℕ) (tree : UidTree) (uid : EntityUid) : Type 0 where

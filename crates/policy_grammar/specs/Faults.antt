@@ -40,9 +40,7 @@ of_lexing (lex.BadToken at) = BadToken at
 
 -- a fault of a condition
 abbrev pub of_desugaring : DesugarFault → ReadFault
-of_desugaring desugar.NoMemory = NoMemory
 of_desugaring (desugar.NumberRange at) = NumberRange at
 of_desugaring (desugar.UnknownCall at) = UnknownCall at
 of_desugaring (desugar.Arity at) = Arity at
 of_desugaring (desugar.RepeatedKey at) = RepeatedKey at
-of_desugaring desugar.TooDeep = TooDeep 0

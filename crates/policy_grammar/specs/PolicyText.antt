@@ -100,8 +100,8 @@ abbrev pub repeat_fault : Option ℕ → Option DesugarFault
 repeat_fault None = None
 repeat_fault (Some at) = Some (RepeatedKey at)
 
--- Of all the places at which a key or a name stands again, and of all the faults of conditions, this one is told: the one at the least place. (No text has
--- two at one place; there a key or a name would go first, and then the fault that is listed first.)
+-- Of all the places at which a key or a name stands again, and of all the faults of conditions, this one is told: the one at the least place. At one place a
+-- key or a name goes first, and of the conditions' faults the one that is listed first.
 pub record IsFirstFault (Repeats : ℕ → Type 0) (faults : List DesugarFault) (why : ReadFault) : Type 0 where
   pub repeat : Option ℕ
   pub repeated : TellsLeast Repeats repeat

@@ -1,7 +1,7 @@
 -- The expression of a policy: its scope's three parts and its conditions, joined to the right.
 -- Source: Cedar reference guide 4.0, "Basic policy construction" (scope, conditions); cedar-spec, cedar-lean/Cedar/Spec/Policy.lean (`Policy.toExpr`).
 -- Rules of this product: a part that asks nothing is `true`, and `action in []` is `false`.
-use Rattle.std.specs.Prelude.{true, false, List, [], ◌∷◌, map}
+use Rattle.std.specs.Prelude.{true, false, [], ◌∷◌, map}
 use Rattle.values.specs.declared.entity_uid.EntityUid.{EntityUid}
 use Rattle.expressions.specs.declared.leaf.Literal.TheVariants as literal
 use Rattle.expressions.specs.declared.leaf.Variable.{Variable}

@@ -44,7 +44,11 @@ pub(crate) fn judge_conditions(
 {
     let mut left = conditions.len();
     if left == 0 {
-        return Ok(Judgement::leaf(None));
+        return Ok(Judgement {
+            height: 1,
+            forms: 1,
+            fault: None,
+        });
     }
     left -= 1;
     let mut joined = judge_condition(alloc, text, &conditions[left])?;

@@ -1,43 +1,27 @@
 //! The pass from a syntax tree to what it stands for.
-ghost use Rattle.std.specs.Prelude.{◌≡◌, [], ◌∷◌, true, IfOk, length, map};
-ghost use Rattle.std.specs.Option.{option_copied};
-ghost use Rattle.std.specs.List.{AllByRecursion, find};
-ghost use Rattle.plain.specs.Words.{AreIdents};
-ghost use Rattle.policy_tokens.specs.Lexing.{spelling_of};
+ghost use Rattle.std.specs.Prelude.{◌≡◌, [], true, IfOk};
+ghost use Rattle.std.specs.List.{AllByRecursion};
 ghost use Rattle.policy_syntax.specs.Grammar.{effects};
-ghost use Rattle.policy_syntax.specs.Stands.{PathStands, UidStands, ValueStands, PartStands, ActionStands, AnnotationStands, PolicyStands};
+ghost use Rattle.policy_syntax.specs.Stands.{PathStands, UidStands, PartStands, ActionStands, PolicyStands};
 ghost use Rattle.policy_grammar.specs.Conditions.{condition_faults};
-ghost use Rattle.policy_grammar.specs.CoreOf.{path_name, IsUidOf, AreUidsOf, IsEntityScopeOf, IsActionScopeOf, effect_word, IsCoreOf, IsValueOf, is_id, IsNameOf, AreNamesOf, AreCoresOf};
+ghost use Rattle.desugaring.specs.Meaning.{path_name};
+ghost use Rattle.policy_grammar.specs.CoreOf.{IsUidOf, AreUidsOf, IsEntityScopeOf, IsActionScopeOf, effect_word, IsCoreOf};
 ghost use Rattle.policy_grammar.specs.Standing.{StandsIn};
 
 use crate::conditions::build_conditions;
 use crate::policy::{ActionScope, Effect, EntityScope, Policy, Scope};
-use plain::{Items, NoMemory, Text};
-use policy_syntax::{ActionTree, Annotation, PartTree, PathTree, PolicyTree, UidTree};
-use policy_tokens::{Kind, Token, decode_string, spelling};
+use desugaring::type_name;
+use plain::{Items, NoMemory};
+use policy_syntax::{ActionTree, PartTree, PathTree, PolicyTree, UidTree};
+use policy_tokens::{Kind, decode_string};
 use std::alloc::Global;
 use values::{EntityUid, TypeName};
-
-/// The words of a path.
-fn words_of<'a>(alloc: Global, text: &'a str, path: &PathTree) -> Result<Vec<&'a str>, NoMemory>
-    requires { StandsIn text.now (λ tokens. PathStands tokens path.now) }
-    ensures words { IfOk result (λ words. map (λ w. w.now) words.items ≡ spelling_of text.entry.now path.now.first ∷ map (spelling_of text.entry.now) path.now.more) }
-    ensures idents { IfOk result (λ words. AreIdents (map (λ w. w.now) words.items)) }
-{
-    let mut words = Vec::new(alloc);
-    words.push(spelling(text, path.first))?;
-    for word in path.more.as_slice() {
-        words.push(spelling(text, *word))?;
-    }
-    Ok(words)
-}
 
 fn type_name_of(alloc: Global, text: &str, path: &PathTree) -> Result<TypeName, NoMemory>
     requires { StandsIn text.now (λ tokens. PathStands tokens path.now) }
     ensures { IfOk result (λ name. name ≡ path_name text.now path.now) }
 {
-    let words = words_of(alloc, text, path)?;
-    TypeName::from_words(alloc, &words)
+    type_name(alloc, text, path)
 }
 
 pub(crate) fn uid_of(alloc: Global, text: &str, tree: &UidTree) -> Result<EntityUid, NoMemory>

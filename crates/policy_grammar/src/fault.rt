@@ -105,12 +105,10 @@ impl From<DesugarFault> for ReadFault {
 
     fn from(fault: DesugarFault) -> ReadFault {
         match fault {
-            DesugarFault::NoMemory => ReadFault::NoMemory,
             DesugarFault::NumberRange(at) => ReadFault::NumberRange(at),
             DesugarFault::UnknownCall(at) => ReadFault::UnknownCall(at),
             DesugarFault::Arity(at) => ReadFault::Arity(at),
             DesugarFault::RepeatedKey(at) => ReadFault::RepeatedKey(at),
-            DesugarFault::TooDeep => ReadFault::TooDeep(0),
         }
     }
 }

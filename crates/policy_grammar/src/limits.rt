@@ -3,6 +3,7 @@ ghost use Rattle.std.specs.Prelude.{◌≡◌, ◌↔◌, ◌<◌, ◌^◌, IsTr
 ghost use Rattle.policy_grammar.specs.Limits as spec;
 ghost use Rattle.policy_grammar.specs.Limits.{IsSmallOver, IsId, ShapesAreSizes, NineFormsMore, HeadsAreLow};
 
+use expressions::{FORMS_MAX, HEIGHT_MAX};
 use plain::Text;
 use policy_syntax::{ActionTree, PartTree, PolicyTree};
 
@@ -13,10 +14,10 @@ pub(crate) const MOST_POLICY_BYTES: usize = 262_144;
 pub(crate) const MOST_FILE_BYTES: usize = 8_388_608;
 
 /// The greatest height of the conditions' core expression: three `&&` stand above it, and no head is too high.
-const MOST_CONDITION_HEIGHT: u32 = 997;
+const MOST_CONDITION_HEIGHT: u32 = HEIGHT_MAX - 3;
 
 /// The most forms of a policy's core expression.
-const MOST_FORMS: usize = 1_000_000;
+const MOST_FORMS: usize = FORMS_MAX as usize;
 
 /// The most bytes of a policy's id.
 const MOST_ID_BYTES: usize = 256;

@@ -1,5 +1,5 @@
 -- A policy, a list of policies and a Uid, each as a whole list of tokens.
-use Rattle.std.proofs.Common.{◌≡◌, ℕ, suc, ◌-◌, ◌≤◌, ◌<◌, Err, List, length}
+use Rattle.std.proofs.Common.{◌≡◌, suc, ◌-◌, ◌≤◌, ◌<◌, Err, List, length}
 use Rattle.policy_tokens.specs.declared.token.Token.{Token}
 use Rattle.expression_syntax.specs.declared.fault.Halt.{Halt}
 use Rattle.expression_syntax.specs.declared.fault.Halt.TheVariants as halt
@@ -12,7 +12,6 @@ use Rattle.expression_syntax.specs.Gives.{Gives}
 use Rattle.expression_syntax.specs.Reads.{HasOneTree, HasOneAnswer, HasOneAnswerWithin, IsRefused, IsRefusedWithin, refusal_of}
 use Rattle.expression_syntax.specs.Reading.{Read}
 use Rattle.expression_syntax.proofs.Rules.{Levels}
-use Rattle.expression_syntax.proofs.Many.{alive_many}
 use Rattle.expression_syntax.proofs.Steps.{none}
 use Rattle.expression_syntax.proofs.NameRules.{after_name, uid_rule, alive_uid}
 use Rattle.policy_syntax.proofs.ScopeRules.{policy_rule, alive_policy, policies_rule, alive_policies}

@@ -25,7 +25,7 @@ use Rattle.expression_syntax.proofs.Follows.{after_expr}
 use Rattle.expression_syntax.proofs.ExpressionRules.{expr_rule, alive_expr}
 use Rattle.expression_syntax.proofs.Depths.{levels}
 use Rattle.expression_syntax.specs.Reads.{Begins, sees}
-use Rattle.expression_syntax.specs.Reading.{Parser, pure, either, token, ◌>>=◌, ◌>>◌}
+use Rattle.expression_syntax.specs.Reading.{Parser, pure, either, ◌>>=◌}
 use Rattle.policy_syntax.specs.Parsing as r
 use Rattle.policy_syntax.specs.Parsing.{policy_firsts}
 use Rattle.expression_syntax.proofs.Sets.{apart, within, wide_sees, sees-append}

@@ -1,10 +1,11 @@
 -- The grammar of policies, over tokens: which trees a list of tokens derives. One definition for each production.
 -- Source: Cedar reference guide 4.0, "Grammar specification for Cedar policy syntax". Rules of this product: `__cedar` is reserved too,
 -- and so is no Ident; an annotation's value may be missing, with its parentheses or between them.
-use Rattle.std.specs.Prelude.{ℕ, true, false, List, [], ◌∷◌, Option, Some, None}
+use Rattle.std.specs.Prelude.{ℕ, true, false, ◌||◌, List, [], ◌∷◌, Option, Some, None}
 use Rattle.policy_tokens.specs.declared.token.Kind.{Kind}
 use Rattle.policy_tokens.specs.declared.token.Kind.TheVariants as k
 use Rattle.policy_tokens.specs.declared.token.Token.{Token}
+use Rattle.policy_tokens.specs.Idents.{is_reserved}
 use Rattle.expression_syntax.specs.declared.tree.PathTree.{PathTree}
 use Rattle.expression_syntax.specs.declared.tree.UidTree.{UidTree}
 use Rattle.policy_syntax.specs.declared.tree.Annotation.{Annotation}
@@ -22,17 +23,7 @@ use Rattle.expression_syntax.specs.Lang.{Lang, of, one, empty, ◌>>=◌, ◌>>�
 
 -- Ident | Reserved
 abbrev pub words : Kinds
-words k.True = true
-words k.False = true
-words k.If = true
-words k.Then = true
-words k.Else = true
-words k.In = true
-words k.Is = true
-words k.Like = true
-words k.Has = true
-words k.Cedar = true
-words kind = identifiers kind
+words kind = is_reserved kind || identifiers kind
 
 -- Effect = "permit" | "forbid"
 abbrev pub effects : Kinds

@@ -4,7 +4,7 @@ ghost use Rattle.expression_syntax.specs.Gives.{Gives};
 ghost use Rattle.expression_syntax.specs.Expressions.{nesting_limit};
 ghost use Rattle.policy_syntax.specs.Parsing as spec;
 
-use crate::cursor::{sees_condition, sees_policy, take_condition_word, take_effect, take_word};
+use crate::cursor::{PolicySet, sees_one_of, take_one_of};
 use crate::scope::scope;
 use crate::tree::{Annotation, Condition, PolicyTree, ScopeTree};
 use expression_syntax::{Cursor, Halt, NESTING_LIMIT, expr};
@@ -50,7 +50,7 @@ fn annotation(tokens: &mut Cursor<'_>) -> Result<Annotation, Halt>
     ensures { Gives (spec.annotation tokens.old.rest.now) result tokens.new.rest.now }
 {
     let at = tokens.take(Kind::At)?;
-    let key = take_word(tokens)?;
+    let key = take_one_of(tokens, PolicySet::Words)?;
     let value = maybe_value(tokens)?;
     Ok(Annotation { at, key, value })
 }
@@ -74,7 +74,7 @@ fn annotations(alloc: Global, tokens: &mut Cursor<'_>) -> Result<Items<Annotatio
 fn condition(alloc: Global, tokens: &mut Cursor<'_>) -> Result<Condition, Halt>
     ensures { Gives (spec.condition nesting_limit tokens.old.rest.now) result tokens.new.rest.now }
 {
-    let word = take_condition_word(tokens)?;
+    let word = take_one_of(tokens, PolicySet::ConditionWords)?;
     tokens.take(Kind::LBrace)?;
     let expression = expr(alloc, tokens, NESTING_LIMIT)?;
     tokens.take(Kind::RBrace)?;
@@ -86,7 +86,7 @@ fn conditions(alloc: Global, tokens: &mut Cursor<'_>) -> Result<Items<Condition>
 {
     let mut found = Items::new(alloc);
     for _turn in 0..tokens.left() {
-        if !sees_condition(tokens) {
+        if !sees_one_of(tokens, PolicySet::ConditionWords) {
             return Ok(found);
         }
         let next = condition(alloc, tokens)?;
@@ -125,7 +125,7 @@ pub(crate) fn policy(alloc: Global, tokens: &mut Cursor<'_>) -> Result<PolicyTre
     ensures { Gives (spec.policy nesting_limit tokens.old.rest.now) result tokens.new.rest.now }
 {
     let annotations = annotations(alloc, tokens)?;
-    let effect = take_effect(tokens)?;
+    let effect = take_one_of(tokens, PolicySet::Effects)?;
     tokens.take(Kind::LParen)?;
     let found = scope(alloc, tokens)?;
     policy_of(alloc, tokens, annotations, effect, found)
@@ -137,7 +137,7 @@ pub(crate) fn policies(alloc: Global, tokens: &mut Cursor<'_>) -> Result<Items<P
 {
     let mut found = Items::new(alloc);
     for _turn in 0..tokens.left() {
-        if !sees_policy(tokens) {
+        if !sees_one_of(tokens, PolicySet::PolicyStarts) {
             return Ok(found);
         }
         let next = policy(alloc, tokens)?;

@@ -4,7 +4,7 @@ ghost use Rattle.expression_syntax.specs.Gives.{Gives};
 ghost use Rattle.policy_syntax.specs.Parsing as spec;
 
 use crate::tree::{ActionTree, PartTree, ScopeTree};
-use expression_syntax::{Cursor, Halt, UidTree, path, uid};
+use expression_syntax::{Cursor, Halt, TokenSet, UidTree, path, uid};
 use plain::Items;
 use policy_tokens::Kind;
 use std::alloc::Global;
@@ -101,7 +101,7 @@ fn uids_behind(
 fn uids(alloc: Global, tokens: &mut Cursor<'_>) -> Result<Items<UidTree>, Halt>
     ensures { Gives (spec.uids tokens.old.rest.now) result tokens.new.rest.now }
 {
-    if !tokens.sees_identifier() {
+    if !tokens.sees_one_of(TokenSet::Identifiers) {
         return Ok(Items::new(alloc));
     }
     let first = uid(alloc, tokens)?;

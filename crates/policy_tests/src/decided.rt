@@ -87,74 +87,142 @@ fn erring(alloc: Global, error: &str) -> Result<Vec<u8>, Fail> {
     Ok(line)
 }
 
+/// Alice is in group g, which is in group top.
+const STORED: &str =
+    "[{\"uid\":{\"type\":\"User\",\"id\":\"alice\"},\"parents\":[{\"type\":\"Group\",\"id\":\"g\"}]},{\"uid\":{\"type\":\"Group\",\"id\":\"g\"},\"parents\":[{\"type\":\"Group\",\"id\":\"top\"}]}]";
+
 /// The line of a policy with this condition, asked for alice.
-fn under(alloc: Global, condition: &str, entities: &str) -> Result<Vec<u8>, Fail> {
+fn under(alloc: Global, condition: &str) -> Result<Vec<u8>, Fail> {
     let mut policy = String::from_str(alloc, "permit(principal, action, resource) when { ")?;
     policy.push_str(condition)?;
     policy.push_str(" };")?;
     line(
         alloc,
         policy.as_bytes(),
-        entities.as_bytes(),
+        STORED.as_bytes(),
         ALICE.as_bytes(),
     )
 }
 
 #[test]
-fn conditions(rt: HostRuntime) -> Result<(), Fail> {
-    let rows = [
-        ("!(false && 1)", "[]", ALLOWED),
-        ("[1, 2, 1] == [2, 1]", "[]", ALLOWED),
-        ("User::\"zoe\" in User::\"zoe\"", "[]", ALLOWED),
-        ("principal has name", MEMBERS, NOTHING),
-        ("principal has name", "[]", NOTHING),
-        ("principal in Group::\"g\"", MEMBERS, ALLOWED),
-        ("\"a*bc\" like \"a\\*b*\"", "[]", ALLOWED),
-        ("\"axb\" like \"a\\*b*\"", "[]", NOTHING),
-        ("\"\" like \"*\"", "[]", ALLOWED),
-        ("-9223372036854775808 < 0", "[]", ALLOWED),
-        (
-            "ip(\"10.1.2.3\").isInRange(ip(\"10.0.0.0/8\"))",
-            "[]",
-            ALLOWED,
-        ),
-        ("ip(\"10.1.2.3\").isInRange(ip(\"::/0\"))", "[]", NOTHING),
-        (
-            "decimal(\"922337203685477.5807\") == decimal(\"922337203685477.5807\")",
-            "[]",
-            ALLOWED,
-        ),
-        ("context == {}", "[]", ALLOWED),
-    ];
-    for (condition, entities, want) in rows {
-        let found = under(rt.alloc(), condition, entities)?;
-        assert!(rt; found.as_slice() == want.as_bytes(), "{condition}");
+fn conditions_that_hold(rt: HostRuntime) -> Result<(), Fail> {
+    for condition in [
+        "1 + 2 == 3",
+        "2 - 5 == -3",
+        "3 * 4 == 12",
+        "1 < 2",
+        "2 <= 2",
+        "!(false && 1)",
+        "true || 1",
+        "(if true then 1 else \"a\") == 1",
+        "(if false then 1 else \"a\") == \"a\"",
+        "\"a*bc\" like \"a\\*b*\"",
+        "\"\" like \"*\"",
+        "-9223372036854775808 < 0",
+        "[1, 2, 1] == [2, 1]",
+        "[1, 2].contains(2)",
+        "[1, 1].containsAll([])",
+        "[1, 2].containsAny([2, 3])",
+        "{a: 1, b: 2}.b == 2",
+        "{a: 1, b: 2} has a",
+        "{a: 1, b: 2} == {b: 2, a: 1}",
+        "context == {}",
+        "principal is User",
+        "principal in principal",
+        "[principal, User::\"bob\"].contains(principal)",
+        "{a: principal, b: context}.b == context",
+        "User::\"zoe\" in User::\"zoe\"",
+        "principal in Group::\"top\"",
+        "principal in [User::\"zoe\", Group::\"g\"]",
+        "ip(\"10.1.2.3\").isInRange(ip(\"10.0.0.0/8\"))",
+        "ip(\"10.0.0.1\") == ip(\"10.0.0.1/32\")",
+        "ip(\"127.1.2.3\").isLoopback()",
+        "ip(\"ff02::1\").isMulticast()",
+        "ip(\"::1\").isIpv6()",
+        "decimal(\"922337203685477.5807\") == decimal(\"922337203685477.5807\")",
+        "decimal(\"1.5\") == decimal(\"1.50\")",
+        "decimal(\"1.5\").lessThan(decimal(\"1.6\"))",
+        "decimal(\"1.5\").lessThanOrEqual(decimal(\"1.5\"))",
+        "decimal(\"1.5\").greaterThanOrEqual(decimal(\"1.5\"))",
+    ] {
+        let found = under(rt.alloc(), condition)?;
+        assert!(rt; found.as_slice() == ALLOWED.as_bytes(), "{condition}");
+    }
+    Ok(())
+}
+
+#[test]
+fn conditions_that_fail(rt: HostRuntime) -> Result<(), Fail> {
+    for condition in [
+        "2 < 2",
+        "1 == \"a\"",
+        "!true",
+        "false && 1",
+        "false || false",
+        "\"axb\" like \"a\\*b*\"",
+        "[1, 2].contains(\"a\")",
+        "[].containsAll([1, 1])",
+        "[1, 2].containsAny([3, 4])",
+        "{a: 1, b: 2} has c",
+        "principal is Group",
+        "Group::\"top\" in principal",
+        "[principal, User::\"bob\"].contains(User::\"carol\")",
+        "principal in []",
+        "principal has name",
+        "User::\"zoe\" has name",
+        "principal has no && principal.no + 1 > 0",
+        "ip(\"10.1.2.3\").isInRange(ip(\"::/0\"))",
+        "ip(\"::1\").isIpv4()",
+        "decimal(\"1.5\").greaterThan(decimal(\"1.6\"))",
+    ] {
+        let found = under(rt.alloc(), condition)?;
+        assert!(rt; found.as_slice() == NOTHING.as_bytes(), "{condition}");
     }
     Ok(())
 }
 
 #[test]
 fn errors(rt: HostRuntime) -> Result<(), Fail> {
-    let rows = [
-        ("1 && false", "[]", "typeError"),
+    for (condition, error) in [
+        ("1", "typeError"),
+        ("1 && false", "typeError"),
+        ("true && 1", "typeError"),
+        ("1 && true", "typeError"),
+        ("false || 1", "typeError"),
+        ("if 1 then true else true", "typeError"),
+        ("true + 1 == 0", "typeError"),
+        ("\"a\" < 2", "typeError"),
+        ("!1", "typeError"),
+        ("1.contains(1)", "typeError"),
+        ("[1, 2].containsAll(1)", "typeError"),
+        ("1.a == 1", "typeError"),
+        ("1 has a", "typeError"),
+        ("principal in [User::\"alice\", 1]", "typeError"),
+        ("principal in 1", "typeError"),
+        ("1 in []", "typeError"),
+        ("ip(1) == 1", "typeError"),
+        ("\"::1\".isIpv4()", "typeError"),
+        ("decimal(\"1.5\").lessThan(1)", "typeError"),
+        ("decimal(true) == 1", "typeError"),
+        ("9223372036854775807 + 1 == 0", "arithBoundsError"),
+        ("-9223372036854775808 - 1 == 0", "arithBoundsError"),
+        ("9223372036854775807 * 2 == 0", "arithBoundsError"),
+        ("-(-9223372036854775808) > 0", "arithBoundsError"),
+        ("true + (9223372036854775807 + 1) == 0", "arithBoundsError"),
         (
             "{a: 1 + 9223372036854775807, b: 1 && true} == {}",
-            "[]",
             "arithBoundsError",
         ),
-        ("principal in [User::\"alice\", 1]", "[]", "typeError"),
-        (
-            "decimal(\"1.\") == decimal(\"1.0\")",
-            "[]",
-            "extensionError",
-        ),
-        ("principal.name == \"x\"", MEMBERS, "attrDoesNotExist"),
-        ("principal.name == \"x\"", "[]", "entityDoesNotExist"),
-        ("-(-9223372036854775808) > 0", "[]", "arithBoundsError"),
-        ("1", "[]", "typeError"),
-    ];
-    for (condition, entities, error) in rows {
-        let found = under(rt.alloc(), condition, entities)?;
+        ("{a: 1}.c == 2", "attrDoesNotExist"),
+        ("principal.name == \"x\"", "attrDoesNotExist"),
+        ("User::\"zoe\".name == \"x\"", "entityDoesNotExist"),
+        ("decimal(\"1.\") == decimal(\"1.0\")", "extensionError"),
+        ("decimal(\"1.00000\") == 1", "extensionError"),
+        ("decimal(\"922337203685477.5808\") == 1", "extensionError"),
+        ("ip(\"01.2.3.4\") == 1", "extensionError"),
+        ("ip(\"::ffff:1.2.3.4\") == 1", "extensionError"),
+    ] {
+        let found = under(rt.alloc(), condition)?;
         let want = erring(rt.alloc(), error)?;
         assert!(rt; found.as_slice() == want.as_slice(), "{condition}");
     }

@@ -1,6 +1,5 @@
 use Rattle.std.proofs.lemmas.Result.{IfOk-weaker}
 use Rattle.std.specs.Prelude.{refl}
-use Rattle.std.proofs.Common.{sym, ◌∙◌}
 use Rattle.evaluator.specs.Operators.{world_of}
 use Rattle.authoriser.specs.Answers.{ComesTo}
 use Rattle.authoriser.specs.Views.{ConditionComesTo}

@@ -118,7 +118,7 @@ pub build_tree-returns-in-Number : goal.build_tree-returns-in-Number
 build_tree-returns-in-Number t c = c.number_literal.ensures ∙ (sym (core-Number c.args.text.now c.in-Number.token) ∙ ap (core_of c.args.text.now) (sym c.in-Number.is))
 
 pub build_tree-returns-in-Variable : goal.build_tree-returns-in-Variable
-build_tree-returns-in-Variable t c = c.variable_of.ensures ∙ (sym (core-Variable c.args.text.now c.in-Variable.token) ∙ ap (core_of c.args.text.now) (sym c.in-Variable.is))
+build_tree-returns-in-Variable t c = c.variable.ensures ∙ (sym (core-Variable c.args.text.now c.in-Variable.token) ∙ ap (core_of c.args.text.now) (sym c.in-Variable.is))
 
 pub build_tree-returns-in-Text : goal.build_tree-returns-in-Text
 build_tree-returns-in-Text t c = subst (λ y. IfOk c.text_literal.result (λ e. e ≡ y)) (sym (core-Text c.args.text.now c.in-Text.token) ∙ ap (core_of c.args.text.now) (sym c.in-Text.is)) c.text_literal.ensures
@@ -138,7 +138,7 @@ pub build_tree-returns-in-Record : goal.build_tree-returns-in-Record
 build_tree-returns-in-Record t c = one core.Record ((λ (es : List (Entry ExprTree)). map (field c.args.text.now) (map (in_entry (core_of c.args.text.now)) es)) c.in-Record.entries) (core_of c.args.text.now c.args.tree.now) c.build_entries.result c.record.result (subst (λ ys. IfOk c.build_entries.result (λ e. e ≡ (λ (es : List (Entry ExprTree)). map (field c.args.text.now) (map (in_entry (core_of c.args.text.now)) es)) ys)) c.as_slice-in-Record.ensures c.build_entries.ensures) c.record.ensures (sym (core-Record c.args.text.now c.in-Record.entries) ∙ ap (core_of c.args.text.now) (sym c.in-Record.is))
 
 pub build_tree-returns-in-Not : goal.build_tree-returns-in-Not
-build_tree-returns-in-Not t c = one (core.Unary unary.Not) (core_of c.args.text.now c.in-Not.inner) (core_of c.args.text.now c.args.tree.now) c.build_tree-in-Not.result c.not.result (subst (λ y. IfOk c.build_tree-in-Not.result (λ e. e ≡ core_of c.args.text.now y)) c.get-in-Not.ensures c.build_tree-in-Not.ensures) c.not.ensures (sym (core-Not c.args.text.now c.in-Not.inner) ∙ ap (core_of c.args.text.now) (sym c.in-Not.is))
+build_tree-returns-in-Not t c = one (core.Unary unary.Not) (core_of c.args.text.now c.in-Not.inner) (core_of c.args.text.now c.args.tree.now) c.build_tree-in-Not.result c.apply.result (subst (λ y. IfOk c.build_tree-in-Not.result (λ e. e ≡ core_of c.args.text.now y)) c.get-in-Not.ensures c.build_tree-in-Not.ensures) c.apply.ensures (sym (core-Not c.args.text.now c.in-Not.inner) ∙ ap (core_of c.args.text.now) (sym c.in-Not.is))
 
 pub build_tree-returns-in-Has : goal.build_tree-returns-in-Has
 build_tree-returns-in-Has t c = one (λ e. core.Has e (name_of c.args.text.now c.in-Has.token)) (core_of c.args.text.now c.in-Has.inner) (core_of c.args.text.now c.args.tree.now) c.build_tree-in-Has.result c.has.result (subst (λ y. IfOk c.build_tree-in-Has.result (λ e. e ≡ core_of c.args.text.now y)) c.get-in-Has.ensures c.build_tree-in-Has.ensures) c.has.ensures (sym (core-Has c.args.text.now c.in-Has.inner c.in-Has.token) ∙ ap (core_of c.args.text.now) (sym c.in-Has.is))
@@ -193,4 +193,4 @@ pub build_behind_minus-returns-in-Number : goal.build_behind_minus-returns-in-Nu
 build_behind_minus-returns-in-Number t c = c.negated_literal.ensures ∙ sym (negated-Number c.args.text.now c.in-Number.token) ∙ ap (negated c.args.text.now) (sym c.in-Number.is)
 
 pub build_behind_minus-returns-in_default : goal.build_behind_minus-returns-in_default
-build_behind_minus-returns-in_default t c = one (core.Unary unary.Negate) (core_of c.args.text.now c.args.tree.now) (negated c.args.text.now c.args.tree.now) c.build_tree.result c.negate.result c.build_tree.ensures c.negate.ensures (sym (negated-other c.args.text.now c.args.tree.now c.in_default.not-Number))
+build_behind_minus-returns-in_default t c = one (core.Unary unary.Negate) (core_of c.args.text.now c.args.tree.now) (negated c.args.text.now c.args.tree.now) c.build_tree.result c.apply.result c.build_tree.ensures c.apply.ensures (sym (negated-other c.args.text.now c.args.tree.now c.in_default.not-Number))

@@ -4,7 +4,7 @@ use Rattle.policy_grammar.proofs.Joining.{judged_one, judged-none, judged-last, 
 use Rattle.policy_grammar.proofs.conditions.judge_conditions.Goals as goal
 
 pub returns-then-left-eq0 : goal.returns-then-left-eq0
-returns-then-left-eq0 c = c.leaf.ensures ∙ sym (judged-none c.args.text.now c.args.conditions.now c.if-left-eq0.true)
+returns-then-left-eq0 c = sym (judged-none c.args.text.now c.args.conditions.now c.if-left-eq0.true)
 
 pub judge_condition-requires : goal.judge_condition-requires
 judge_condition-requires c =

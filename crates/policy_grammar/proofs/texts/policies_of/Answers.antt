@@ -1,4 +1,4 @@
-use Rattle.std.proofs.Common.{All, ap, inl, inr, map, refl, sym, subst, length, string_bytes, ◌∙◌}
+use Rattle.std.proofs.Common.{All, ap, inl, inr, map, refl, sym, subst, length, ◌∙◌}
 use Rattle.std.specs.List.{AllByRecursion}
 use Rattle.policy_grammar.specs.Conditions.{file_faults}
 use Rattle.policy_grammar.specs.CoreOf.{AreNamesOf}

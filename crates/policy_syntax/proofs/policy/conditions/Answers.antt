@@ -14,16 +14,16 @@ loop-turn-init c = as_read _ ∙ filling condition_words (spec.condition nesting
 pub loop-turn-preserved : goal.loop-turn-preserved
 loop-turn-preserved c =
     pushed condition_words (spec.condition nesting_limit) itself _ c.left-turn-end.result c.loop-turn._turn c.loop-turn.found c.loop-turn.tokens.rest.now
-    c.push.new.self c.in_ok-next.next c.condition.new.tokens.rest.now c.loop-turn.invariant c.loop-turn-test.true c.if-not-sees_condition.ensures c.in_ok-next.ensures c.in_ok-push.ensures.ok
+    c.push.new.self c.in_ok-next.next c.condition.new.tokens.rest.now c.loop-turn.invariant c.loop-turn-test.true c.if-not-sees_one_of.ensures c.in_ok-next.ensures c.in_ok-push.ensures.ok
 
-pub returns-then-not-sees_condition : goal.returns-then-not-sees_condition
-returns-then-not-sees_condition c = filled_up condition_words (spec.condition nesting_limit) itself _ c.left-turn-end.result c.loop-turn._turn c.loop-turn.found c.loop-turn.tokens.rest.now c.loop-turn.invariant c.if-not-sees_condition.ensures
+pub returns-then-not-sees_one_of : goal.returns-then-not-sees_one_of
+returns-then-not-sees_one_of c = filled_up condition_words (spec.condition nesting_limit) itself _ c.left-turn-end.result c.loop-turn._turn c.loop-turn.found c.loop-turn.tokens.rest.now c.loop-turn.invariant c.if-not-sees_one_of.ensures
 
 pub returns-in_err-next : goal.returns-in_err-next
 returns-in_err-next c =
     let exit = err_from_is_err_and c.from_residual.result c.from_residual.ensures.1 in
     rw (exit.1, exit.2) (stopped condition_words (spec.condition nesting_limit) (filled itself) _ c.left-turn-end.result c.loop-turn._turn c.loop-turn.found c.loop-turn.tokens.rest.now
-    c.in_err-next.field-0.0 c.condition.new.tokens.rest.now c.loop-turn.invariant c.loop-turn-test.true c.if-not-sees_condition.ensures c.in_err-next.ensures)
+    c.in_err-next.field-0.0 c.condition.new.tokens.rest.now c.loop-turn.invariant c.loop-turn-test.true c.if-not-sees_one_of.ensures c.in_err-next.ensures)
 
 pub returns : goal.returns
 returns c = filled_out condition_words (spec.condition nesting_limit) itself _ c.left-turn-end.result c.loop-turn._turn c.loop-turn.found c.loop-turn.tokens.rest.now c.loop-turn.invariant c.loop-turn-test.false

@@ -13,16 +13,16 @@ loop-turn-init c = as_read _ ∙ filling spec.policy_firsts (spec.policy nesting
 pub loop-turn-preserved : goal.loop-turn-preserved
 loop-turn-preserved c =
     pushed spec.policy_firsts (spec.policy nesting_limit) itself _ c.left-turn-end.result c.loop-turn._turn c.loop-turn.found c.loop-turn.tokens.rest.now
-    c.push.new.self c.in_ok-next.next c.policy.new.tokens.rest.now c.loop-turn.invariant c.loop-turn-test.true c.if-not-sees_policy.ensures c.in_ok-next.ensures c.in_ok-push.ensures.ok
+    c.push.new.self c.in_ok-next.next c.policy.new.tokens.rest.now c.loop-turn.invariant c.loop-turn-test.true c.if-not-sees_one_of.ensures c.in_ok-next.ensures c.in_ok-push.ensures.ok
 
-pub returns-then-not-sees_policy : goal.returns-then-not-sees_policy
-returns-then-not-sees_policy c = filled_up spec.policy_firsts (spec.policy nesting_limit) itself _ c.left-turn-end.result c.loop-turn._turn c.loop-turn.found c.loop-turn.tokens.rest.now c.loop-turn.invariant c.if-not-sees_policy.ensures
+pub returns-then-not-sees_one_of : goal.returns-then-not-sees_one_of
+returns-then-not-sees_one_of c = filled_up spec.policy_firsts (spec.policy nesting_limit) itself _ c.left-turn-end.result c.loop-turn._turn c.loop-turn.found c.loop-turn.tokens.rest.now c.loop-turn.invariant c.if-not-sees_one_of.ensures
 
 pub returns-in_err-next : goal.returns-in_err-next
 returns-in_err-next c =
     let exit = err_from_is_err_and c.from_residual.result c.from_residual.ensures.1 in
     rw (exit.1, exit.2) (stopped spec.policy_firsts (spec.policy nesting_limit) (filled itself) _ c.left-turn-end.result c.loop-turn._turn c.loop-turn.found c.loop-turn.tokens.rest.now
-    c.in_err-next.field-0.0 c.policy.new.tokens.rest.now c.loop-turn.invariant c.loop-turn-test.true c.if-not-sees_policy.ensures c.in_err-next.ensures)
+    c.in_err-next.field-0.0 c.policy.new.tokens.rest.now c.loop-turn.invariant c.loop-turn-test.true c.if-not-sees_one_of.ensures c.in_err-next.ensures)
 
 pub returns : goal.returns
 returns c = filled_out spec.policy_firsts (spec.policy nesting_limit) itself _ c.left-turn-end.result c.loop-turn._turn c.loop-turn.found c.loop-turn.tokens.rest.now c.loop-turn.invariant c.loop-turn-test.false

@@ -13,16 +13,16 @@ loop-turn-init g c = as_read _ ∙ filling spec.access_firsts (spec.accessing (i
 pub loop-turn-preserved : goal.loop-turn-preserved
 loop-turn-preserved g c =
     pushed spec.access_firsts (spec.accessing (is_positive c.args.self.now.levels) (spec.expr c.args.self.now.levels)) itself _ c.left-turn-end.result c.loop-turn._turn c.loop-turn.found c.loop-turn.tokens.rest.now
-    c.push.new.self c.in_ok-next.next c.accessing.new.tokens.rest.now c.loop-turn.invariant c.loop-turn-test.true c.if-not-sees_access.ensures c.in_ok-next.ensures c.in_ok-push.ensures.ok
+    c.push.new.self c.in_ok-next.next c.accessing.new.tokens.rest.now c.loop-turn.invariant c.loop-turn-test.true c.if-not-sees_one_of.ensures c.in_ok-next.ensures c.in_ok-push.ensures.ok
 
-pub returns-then-not-sees_access : goal.returns-then-not-sees_access
-returns-then-not-sees_access g c = filled_up spec.access_firsts (spec.accessing (is_positive c.args.self.now.levels) (spec.expr c.args.self.now.levels)) itself _ c.left-turn-end.result c.loop-turn._turn c.loop-turn.found c.loop-turn.tokens.rest.now c.loop-turn.invariant c.if-not-sees_access.ensures
+pub returns-then-not-sees_one_of : goal.returns-then-not-sees_one_of
+returns-then-not-sees_one_of g c = filled_up spec.access_firsts (spec.accessing (is_positive c.args.self.now.levels) (spec.expr c.args.self.now.levels)) itself _ c.left-turn-end.result c.loop-turn._turn c.loop-turn.found c.loop-turn.tokens.rest.now c.loop-turn.invariant c.if-not-sees_one_of.ensures
 
 pub returns-in_err-next : goal.returns-in_err-next
 returns-in_err-next g c =
     let exit = err_from_is_err_and c.from_residual.result c.from_residual.ensures.1 in
     rw (exit.1, exit.2) (stopped spec.access_firsts (spec.accessing (is_positive c.args.self.now.levels) (spec.expr c.args.self.now.levels)) (filled itself) _ c.left-turn-end.result c.loop-turn._turn c.loop-turn.found c.loop-turn.tokens.rest.now
-    c.in_err-next.field-0.0 c.accessing.new.tokens.rest.now c.loop-turn.invariant c.loop-turn-test.true c.if-not-sees_access.ensures c.in_err-next.ensures)
+    c.in_err-next.field-0.0 c.accessing.new.tokens.rest.now c.loop-turn.invariant c.loop-turn-test.true c.if-not-sees_one_of.ensures c.in_err-next.ensures)
 
 pub returns : goal.returns
 returns g c = filled_out spec.access_firsts (spec.accessing (is_positive c.args.self.now.levels) (spec.expr c.args.self.now.levels)) itself _ c.left-turn-end.result c.loop-turn._turn c.loop-turn.found c.loop-turn.tokens.rest.now c.loop-turn.invariant c.loop-turn-test.false

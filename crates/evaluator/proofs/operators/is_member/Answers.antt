@@ -1,0 +1,20 @@
+use Rattle.std.proofs.Common.{rules, ◌∙◌, subst, length, List}
+use Rattle.std.specs.Prelude.{is_ok, Contains}
+use Rattle.std.specs.List.Sorted.{IsBinarySearchResult, IsSearchInRange}
+use Rattle.std.proofs.lemmas.Fn.{always_returns_same}
+use Rattle.values.specs.Values.{PlainValue}
+use Rattle.values.specs.ValueOrder.{value_cmp}
+use Rattle.values.specs.Sets.{has_member}
+use Rattle.values.proofs.Found.{found_in, has_member-is, same_test}
+use Rattle.evaluator.proofs.operators.is_member.Goals as goal
+
+pub returns : goal.returns
+returns c =
+    let r = c.binary_search_by.result in
+    let s = c.args.members.now in
+    let v = c.args.given.now in
+    let by = c.binary_search_by.ensures.position (λ m. value_cmp m v) (always_returns_same _ _ _ (λ a r f' called. search rules)) in
+    let bound = subst (λ (xs : List PlainValue). IsSearchInRange r (length xs)) c.members.ensures.members c.binary_search_by.ensures.bound in
+    let position = subst (λ (xs : List PlainValue). IsBinarySearchResult (λ y. value_cmp y v) xs r) c.members.ensures.members by in
+    let here = found_in s v r c.members.ensures.ascending bound position in
+    c.is_ok.ensures.value ∙ same_test (is_ok r) (has_member s v) (Contains s v) here (has_member-is s v)

@@ -1,0 +1,108 @@
+// What expressions give.
+ghost use Rattle.std.specs.Prelude.{◌≡◌, IfOk};
+ghost use Rattle.values.specs.ValueOrder.{value_cmp};
+ghost use Rattle.evaluator.specs.Outcomes.{boolean_in};
+ghost use Rattle.evaluator.specs.Borrowed.{of_borrowed};
+
+use crate::kinds::{BorrowedKind, borrowed_kind, copied, place, same_kind};
+use plain::NoMemory;
+use std::alloc::Global;
+use std::cmp::Ordering;
+use std::marker::Model;
+use values::Value;
+
+/// What an expression gives: a value, borrowed where it stands in the expression, the request or the stored entities. Contracts see the value.
+#[derive(Drop)]
+pub struct Given<'a> {
+    pub(crate) origin: Origin<'a>,
+}
+
+/// Where a value comes from.
+#[derive(Drop)]
+pub(crate) enum Origin<'a> {
+    Borrowed(BorrowedKind<'a>),
+    Computed(Value),
+}
+
+impl<'a> Model for Given<'a> {
+    ghost use Rattle.values.specs.Values.{PlainValue};
+    ghost use Rattle.values.specs.ValueCode.{value_code};
+
+    ghost Value = { PlainValue };
+
+    ghost coded = { value_code };
+
+    ghost use Rattle.evaluator.specs.Borrowed.{of_origin};
+
+    ghost view = { λ a. of_origin a.origin };
+}
+
+impl<'a> Given<'a> {
+    /// A value that stands somewhere.
+    pub(crate) fn borrowed(value: &'a Value) -> Given<'a>
+        ensures { result ≡ value.now }
+    {
+        Given {
+            origin: Origin::Borrowed(borrowed_kind(value)),
+        }
+    }
+
+    /// What was computed.
+    pub(crate) fn computed(value: Value) -> Given<'a>
+        ensures { result ≡ value }
+    {
+        Given {
+            origin: Origin::Computed(value),
+        }
+    }
+
+    /// What the value is.
+    pub(crate) fn kind(&self) -> BorrowedKind<'_>
+        ensures { of_borrowed result ≡ self.now }
+    {
+        match &self.origin {
+            Origin::Borrowed(kind) => same_kind(kind),
+            Origin::Computed(value) => borrowed_kind(value),
+        }
+    }
+
+    /// The order of values.
+    pub(crate) fn compare(&self, other: &Given<'_>) -> Ordering
+        ensures { result ≡ value_cmp self.now other.now }
+    {
+        let a = self.kind();
+        let b = other.kind();
+        match (&a, &b) {
+            (BorrowedKind::Boolean(x), BorrowedKind::Boolean(y)) => x.cmp(y),
+            (BorrowedKind::Long(x), BorrowedKind::Long(y)) => x.cmp(y),
+            (BorrowedKind::Text(x), BorrowedKind::Text(y)) => (*x).cmp(*y),
+            (BorrowedKind::Entity(x), BorrowedKind::Entity(y)) => (*x).cmp(*y),
+            (BorrowedKind::Set(x), BorrowedKind::Set(y)) => (*x).cmp(*y),
+            (BorrowedKind::Record(x), BorrowedKind::Record(y)) => (*x).cmp(*y),
+            (BorrowedKind::Decimal(x), BorrowedKind::Decimal(y)) => x.cmp(y),
+            (BorrowedKind::IpAddr(x), BorrowedKind::IpAddr(y)) => x.cmp(y),
+            (x, y) => place(x).cmp(&place(y)),
+        }
+    }
+
+    /// The boolean that it is, or None where it is of another kind; takes no memory.
+    pub fn as_boolean(&self) -> Option<bool>
+        ensures { result ≡ boolean_in self.now }
+    {
+        match self.kind() {
+            BorrowedKind::Boolean(truth) => Some(truth),
+            _ => None,
+        }
+    }
+
+    /// The value, copied where it was borrowed, or `NoMemory`.
+    pub fn into_value(self, alloc: Global) -> Result<Value, NoMemory>
+        ensures { IfOk result (λ v. v ≡ self.entry) }
+    {
+        let Given { origin } = self;
+        match origin {
+            Origin::Borrowed(kind) => copied(alloc, kind),
+            Origin::Computed(value) => Ok(value),
+        }
+    }
+}

@@ -1,9 +1,0 @@
-use Rattle.std.proofs.Common.{◌≡◌, ◌∷◌, map, take}
-use Rattle.plain.specs.Words.{AreIdents}
-use Rattle.policy_tokens.specs.Lexing.{spelling_of}
-use Rattle.policy_grammar.proofs.core_of.words_of.Given as goal
-
--- the words up to here
-abbrev pub invariant-loop-word : goal.invariant-loop-word
-invariant-loop-word l =
-    (map (λ w. w.now) l.words.items ≡ spelling_of l.text l.path.first ∷ map (spelling_of l.text) (take l.word-index l.word-items)) × AreIdents (map (λ w. w.now) l.words.items)
