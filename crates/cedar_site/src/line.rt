@@ -1,5 +1,5 @@
 //! The command line.
-ghost use Rattle.std.specs.Prelude.{◌≡◌, [], false, IfOk, IfErr, OnOk, MatchOption, map, option_map, string_bytes};
+ghost use Rattle.std.specs.Prelude.{◌≡◌, [], false, Some, IfOk, IfErr, OnOk, MatchOption, map, option_map, string_bytes};
 ghost use Rattle.clap.specs.Words.{app_of, rule_of, fault_of, first_of, found_of, rows_of, subcommand_rows_of};
 ghost use Rattle.clap.specs.declared.builder.Command.TheViews.{out-Command as fields_of};
 ghost use Rattle.cedar_site.specs.Line.{file_rule, decide_app, site_app, IsNamed, IsNoLine, Says, IsFaultOf};
@@ -52,6 +52,7 @@ impl From<NoMemory> for LineFault {
 fn file_option<'a>(alloc: Global, name: &'a str, help: &'a str) -> Arg<'a>
     ensures rule { rule_of result ≡ file_rule name.entry.now }
     ensures local { result.global ≡ false }
+    ensures help { result.help ≡ Some help.entry }
 {
     Arg::new(alloc, name)
         .long(name)

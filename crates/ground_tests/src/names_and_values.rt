@@ -65,35 +65,60 @@ fn user(alloc: Global, id: &str) -> Result<EntityUid, Fail> {
     })
 }
 
+fn is_uid_copied(uid: &EntityUid) -> Result<bool, NoMemory> {
+    let copy = uid.copy()?;
+    Ok(copy == *uid)
+}
+
+fn is_type_name_copied(uid: &EntityUid) -> Result<bool, NoMemory> {
+    let copy = uid.type_name.copy()?;
+    Ok(copy == uid.type_name)
+}
+
+fn is_name_copied(name: &Name) -> Result<bool, NoMemory> {
+    let copy = name.copy()?;
+    Ok(copy == *name)
+}
+
 #[test]
-fn copies_and_compares(rt: HostRuntime) -> Result<(), Fail> {
+fn copies_uids(rt: HostRuntime) -> Result<(), Fail> {
+    let alice = user(rt.alloc(), "alice")?;
+    assert!(rt; is_uid_copied(&alice)?);
+    assert!(rt; is_type_name_copied(&alice)?);
+    Ok(())
+}
+
+#[test]
+fn copies_names(rt: HostRuntime) -> Result<(), Fail> {
+    let alice = Name::Entity(user(rt.alloc(), "alice")?);
+    assert!(rt; is_name_copied(&alice)?);
+    Ok(())
+}
+
+#[test]
+fn compares_names(rt: HostRuntime) -> Result<(), Fail> {
     let alice = user(rt.alloc(), "alice")?;
     let bob = user(rt.alloc(), "bob")?;
-    assert!(rt; alice.copy()? == alice);
     assert!(rt; alice < bob);
-    assert!(rt; alice.type_name.copy()? == bob.type_name);
-    let request = Request {
-        principal: alice.copy()?,
-        action: bob.copy()?,
-        resource: alice.copy()?,
-        context: Record::new(rt.alloc()),
-    };
-    assert!(rt; request.copy(rt.alloc())? == request);
-    let entity = Name::Entity(alice);
-    let policy = Name::Policy(Text::from_str(rt.alloc(), "zebra")?);
-    assert!(rt; entity.copy()? == entity);
-    assert!(rt; policy < entity);
+    let zebra = Name::Policy(Text::from_str(rt.alloc(), "zebra")?);
+    assert!(rt; zebra < Name::Entity(alice));
     Ok(())
 }
 
 #[test]
 fn keys_of_maps(rt: HostRuntime) -> Result<(), Fail> {
-    let alice = user(rt.alloc(), "alice")?;
     let bob = user(rt.alloc(), "bob")?;
     let mut ages = BTreeMap::<EntityUid, u8>::new(rt.alloc());
-    ages.insert(alice.copy()?, 30)?;
-    assert_eq!(rt; ages.get(&alice).copied(), Some(30));
+    ages.insert(user(rt.alloc(), "alice")?, 30)?;
     assert_eq!(rt; ages.get(&bob).copied(), None);
+    ages.insert(bob, 31)?;
+    assert_eq!(rt; ages.len(), 2);
+    Ok(())
+}
+
+#[test]
+fn members_of_sets(rt: HostRuntime) -> Result<(), Fail> {
+    let bob = user(rt.alloc(), "bob")?;
     let mut seen = BTreeSet::<&EntityUid>::new(rt.alloc());
     seen.insert(&bob)?;
     assert!(rt; seen.contains(&&bob));
@@ -144,53 +169,81 @@ fn orders_kinds(rt: HostRuntime) -> Result<(), Fail> {
     Ok(())
 }
 
+// The set of two values of each kind, each handed in twice.
+fn repeated(alloc: Global) -> Result<Set, Fail> {
+    let mut all = kinds(alloc)?;
+    all.reverse();
+    for value in kinds(alloc)? {
+        all.push(value)?;
+    }
+    Ok(Set::new(all)?)
+}
+
+fn is_set_copied(set: &Set, alloc: Global) -> Result<bool, NoMemory> {
+    let copy = set.copy(alloc)?;
+    Ok(copy == *set)
+}
+
+// The set whose only member is the set of two values of each kind, handed in twice.
+fn set_in_a_set(alloc: Global) -> Result<Set, Fail> {
+    let mut members = Vec::new(alloc);
+    members.push(Value::from_set(repeated(alloc)?))?;
+    members.push(Value::from_set(repeated(alloc)?))?;
+    Ok(Set::new(members)?)
+}
+
 #[test]
 fn keeps_each_member_once(rt: HostRuntime) -> Result<(), Fail> {
-    let mut repeated = kinds(rt.alloc())?;
-    repeated.reverse();
-    for value in kinds(rt.alloc())? {
-        repeated.push(value)?;
-    }
-    let inner = Set::new(repeated)?;
+    let inner = repeated(rt.alloc())?;
     assert_eq!(rt; inner.members().len(), 16);
-    let one = inner.copy(rt.alloc())?;
-    assert!(rt; one == inner);
-    let mut outer = Vec::new(rt.alloc());
-    outer.push(Value::from_set(inner))?;
-    outer.push(Value::from_set(one.copy(rt.alloc())?))?;
-    let outer = Set::new(outer)?;
+    assert!(rt; is_set_copied(&inner, rt.alloc())?);
+    let outer = set_in_a_set(rt.alloc())?;
     assert_eq!(rt; outer.members().len(), 1);
-    assert!(rt; outer.contains(&Value::from_set(one.copy(rt.alloc())?)));
     assert!(rt; !outer.contains(&Value::long(3)));
-    assert!(rt; one.contains_all(&one));
-    assert!(rt; !one.contains_all(&outer));
-    assert!(rt; one.contains_any(&one));
-    assert!(rt; !outer.contains_any(&one));
+    assert!(rt; inner.contains_all(&inner));
+    assert!(rt; !inner.contains_all(&outer));
+    assert!(rt; inner.contains_any(&inner));
+    assert!(rt; !outer.contains_any(&inner));
+    assert!(rt; outer.contains(&Value::from_set(inner)));
     Ok(())
+}
+
+// A record with the field `x`, set twice.
+fn with_x(alloc: Global) -> Result<Record, Fail> {
+    let mut record = Record::new(alloc);
+    record.insert(Text::from_str(alloc, "x")?, Value::long(1))?;
+    record.insert(Text::from_str(alloc, "x")?, Value::long(2))?;
+    Ok(record)
 }
 
 #[test]
 fn finds_fields(rt: HostRuntime) -> Result<(), Fail> {
-    let mut inner = Record::new(rt.alloc());
-    inner.insert(Text::from_str(rt.alloc(), "x")?, Value::long(1))?;
-    inner.insert(Text::from_str(rt.alloc(), "x")?, Value::long(2))?;
+    let record = with_x(rt.alloc())?;
     assert!(rt;
-        inner
+        record
             .field("x")
             .is_some_and(|value| *value == Value::long(2))
     );
-    assert!(rt; inner.field("y").is_none());
-    assert_eq!(rt; inner.as_map().len(), 1);
+    assert!(rt; record.field("y").is_none());
+    assert_eq!(rt; record.as_map().len(), 1);
+    Ok(())
+}
+
+fn is_record_copied(value: &Value, alloc: Global) -> Result<bool, NoMemory> {
+    let copy = value.copy(alloc)?;
+    Ok(matches!(copy.into_kind(), Kind::Record(_)))
+}
+
+#[test]
+fn finds_fields_of_fields(rt: HostRuntime) -> Result<(), Fail> {
     let mut outer = Record::new(rt.alloc());
-    outer.insert(
-        Text::from_str(rt.alloc(), "in")?,
-        Value::from_record(inner.copy(rt.alloc())?),
-    )?;
-    assert!(rt; outer != inner);
-    assert!(rt; outer < inner);
+    let name = Text::from_str(rt.alloc(), "in")?;
+    outer.insert(name, Value::from_record(with_x(rt.alloc())?))?;
+    let inner = with_x(rt.alloc())?;
+    assert!(rt; outer != inner && outer < inner);
     let found = outer.field("in").ok_or("the field")?;
     assert!(rt; matches!(found.kind(), Kind::Record(fields) if *fields == inner));
-    assert!(rt; matches!(found.copy(rt.alloc())?.into_kind(), Kind::Record(_)));
+    assert!(rt; is_record_copied(found, rt.alloc())?);
     Ok(())
 }
 

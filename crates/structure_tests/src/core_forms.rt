@@ -68,9 +68,14 @@ fn tower(alloc: Global, negations: u32) -> Result<Expr, NoMemory> {
 #[test]
 fn high_expressions(rt: HostRuntime) -> Result<(), Fail> {
     let high = tower(rt.alloc(), 999)?;
-    let copied = high.copy(rt.alloc())?;
-    assert!(rt; matches!(copied, Expr::Unary(Unary::Not, _)));
+    assert!(rt; is_copied_not(rt.alloc(), &high)?);
     Ok(())
+}
+
+/// Whether a copy is a `!`.
+fn is_copied_not(alloc: Global, expr: &Expr) -> Result<bool, NoMemory> {
+    let copied = expr.copy(alloc)?;
+    Ok(matches!(copied, Expr::Unary(Unary::Not, _)))
 }
 
 /// A call in operators.
@@ -124,8 +129,13 @@ fn whole(alloc: Global) -> Result<Expr, Fail> {
 #[test]
 fn every_form(rt: HostRuntime) -> Result<(), Fail> {
     let expr = whole(rt.alloc())?;
-    assert!(rt; matches!(expr.copy(rt.alloc())?, Expr::Record(_)));
+    assert!(rt; is_copied_record(rt.alloc(), &expr)?);
     Ok(())
+}
+
+fn is_copied_record(alloc: Global, expr: &Expr) -> Result<bool, NoMemory> {
+    let copied = expr.copy(alloc)?;
+    Ok(matches!(copied, Expr::Record(_)))
 }
 
 /// Whether an operator is `like`, with a pattern that this text matches.

@@ -130,6 +130,21 @@ fn first_joined(
     joined
 }
 
+// Of a store whose entries have count 1, where one of three policies and two entities with count 9 was merged: exactly the entries of the first names are joined.
+fn is_joined_up_to(
+    rt: &impl Abort,
+    store: &PolicyStore<usize, usize>,
+    uids: &[EntityUid],
+    taken: usize,
+) {
+    let stamp = Stamp { count: 9, site: 2 };
+    let ids = ["d", "e", "f"];
+    assert_eq!(rt; first_joined(store, stamp, &ids, uids), taken);
+    let policies_alone = first_joined(store, stamp, &ids, &[]);
+    assert_eq!(rt; policies_alone, taken.min(3));
+    assert_eq!(rt; store.greatest_count(), if taken == 0 { 1 } else { 9 });
+}
+
 // Where memory is refused in a merge, exactly the entries of the first names are joined. A refusal before that ends the test.
 fn merged(
     rt: &impl Abort,
@@ -137,19 +152,14 @@ fn merged(
     policies: &[&str],
     entities: &[&str],
 ) -> Result<(), AllocError> {
-    let mut store = filled(alloc, (1, 1, PERMIT), policies, entities)?;
     let uids = [uid(alloc, "x")?, uid(alloc, "y")?];
+    let mut store = filled(alloc, (1, 1, PERMIT), policies, entities)?;
     let other = filled(alloc, (9, 2, FORBID), &["d", "e", "f"], &["x", "y"])?;
     let taken = match store.merge(other) {
         Ok(()) => 5,
         Err(short) => short.taken,
     };
-    let stamp = Stamp { count: 9, site: 2 };
-    let ids = ["d", "e", "f"];
-    assert_eq!(rt; first_joined(&store, stamp, &ids, &uids), taken);
-    let policies_alone = first_joined(&store, stamp, &ids, &[]);
-    assert_eq!(rt; policies_alone, taken.min(3));
-    assert_eq!(rt; store.greatest_count(), if taken == 0 { 1 } else { 9 });
+    is_joined_up_to(rt, &store, &uids, taken);
     Ok(())
 }
 
@@ -161,12 +171,22 @@ fn a_refused_merge_joins_the_first_names(rt: HostRuntime) {
 
 #[test]
 fn a_store_is_looked_up(rt: HostRuntime) -> Result<(), Fail> {
-    let store = filled(rt.alloc(), (4, 1, PERMIT), &["b", "a"], &["y", "x"])?;
     let uid = uid(rt.alloc(), "x")?;
+    let store = filled(rt.alloc(), (4, 1, PERMIT), &["b", "a"], &["y", "x"])?;
+    is_looked_up(&rt, &store, &uid);
+    Ok(())
+}
+
+fn is_looked_up(rt: &impl Abort, store: &PolicyStore<usize, usize>, uid: &EntityUid) {
     assert_eq!(rt; store.greatest_count(), 4);
     assert_eq!(rt; store.issue(7), Stamp { count: 5, site: 7 });
     assert!(rt; store.get_policy("c").is_none());
-    assert_eq!(rt; store.get_entity(&uid).map(text_of), Some(PERMIT));
+    assert_eq!(rt; store.get_entity(uid).map(text_of), Some(PERMIT));
+}
+
+#[test]
+fn a_store_is_below_a_later_one(rt: HostRuntime) -> Result<(), Fail> {
+    let store = filled(rt.alloc(), (4, 1, PERMIT), &["b", "a"], &["y", "x"])?;
     let later = filled(rt.alloc(), (5, 1, ""), &["b", "a"], &["y", "x"])?;
     assert!(rt; store.below(&later));
     assert!(rt; !later.below(&store));
