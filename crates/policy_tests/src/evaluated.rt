@@ -1,10 +1,11 @@
 // Conditions over attributes and the context.
-use crate::site::{request, stored};
+use crate::site::{Site, request, stored};
 use evaluator::{EvalFault, Given, evaluate};
 use expressions::{Expr, Literal, Unary};
 use policy_grammar::parse_policy;
 use std::alloc::Global;
 use std::test::Fail;
+use values::Request;
 
 /// The condition of a policy.
 fn condition(alloc: Global, text: &str) -> Result<Expr, Fail> {
@@ -34,6 +35,17 @@ fn told(found: &Result<Given<'_>, EvalFault>) -> &'static str {
     }
 }
 
+/// What an expression gives, in a word.
+fn outcome(alloc: Global, expr: &Expr, request: &Request, site: &Site) -> &'static str {
+    told(&evaluate(alloc, expr, request, site))
+}
+
+/// What a condition gives, in a word.
+fn given(alloc: Global, text: &str, request: &Request, site: &Site) -> Result<&'static str, Fail> {
+    let expr = condition(alloc, text)?;
+    Ok(outcome(alloc, &expr, request, site))
+}
+
 #[test]
 fn attributes(rt: HostRuntime) -> Result<(), Fail> {
     let request = request(rt.alloc())?;
@@ -51,9 +63,11 @@ fn attributes(rt: HostRuntime) -> Result<(), Fail> {
         ("resource.owner has age", "false"),
         ("context.src.isInRange(ip(\"10.0.0.0/8\"))", "true"),
     ] {
-        let expr = condition(rt.alloc(), text)?;
-        let found = evaluate(rt.alloc(), &expr, &request, &site);
-        assert_eq!(rt; told(&found), expected, "{text}");
+        assert_eq!(rt;
+            given(rt.alloc(), text, &request, &site)?,
+            expected,
+            "{text}"
+        );
     }
     Ok(())
 }
@@ -75,7 +89,6 @@ fn high_expressions(rt: HostRuntime) -> Result<(), Fail> {
     let expr = high(rt.alloc())?;
     let request = request(rt.alloc())?;
     let site = stored(rt.alloc())?;
-    let found = evaluate(rt.alloc(), &expr, &request, &site);
-    assert_eq!(rt; told(&found), "true");
+    assert_eq!(rt; outcome(rt.alloc(), &expr, &request, &site), "true");
     Ok(())
 }
