@@ -21,8 +21,8 @@ use values::{Record, Request, Value};
 
 /// What an expression gives under a request, over the stored entities: its value, or the first error.
 ///
-/// What stands in the expression, the request or the stored entities is borrowed; memory is asked for by sets and records that are written out, and for a field of such
-/// a record.
+/// What stands in the expression, the request or the stored entities is borrowed; memory is asked for by sets and records that are written out, by a field of such
+/// a record, and by `in`, which searches the hierarchy.
 /// Operands are evaluated from the left to the right, the fields of a record in the order in which they are written; `&&`, `||` and `if`
 /// evaluate only what decides. `NoMemory` where an allocation was refused, and only then.
 /// It recurses: its stack grows with the height of the expression, by less than two kilobytes a level.
