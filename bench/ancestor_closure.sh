@@ -1,32 +1,21 @@
-#!/bin/bash
-# Times a hierarchy kept by search: for each shape and size, nanoseconds for an edge of one question
-# (the processor time of many askings, less that of building the hierarchy alone).
-# Build the program first: rt run -- chain 10 cyclic 1, in crates/bench_ancestor_closure.
-# Usage: bench/ancestor_closure.sh [SIZE..]
-set -e
-program=$(dirname "$0")/../crates/bench_ancestor_closure/out/bench_ancestor_closure
-sizes=${*:-1000 10000 100000}
+#!/usr/bin/env bash
+# Measures a hierarchy kept by search: for each shape and size, the instructions for an edge of one question.
+#
+#   bench/ancestor_closure.sh [SIZE ..]       (default: 1,000 and 10,000 entities)
+set -euo pipefail
+source "$(dirname "${BASH_SOURCE[0]}")/counting.sh"
+sizes=("$@")
+[ ${#sizes[@]} -gt 0 ] || sizes=(1000 10000)
 
-# seconds of processor time that the program takes
-TIMEFORMAT=%U
-seconds() {
-    { time "$program" "$@" > /dev/null; } 2>&1
-}
-
-printf '%-8s %8s %12s %12s\n' shape entities question 'ns an edge'
+printf '%-8s %8s %12s %22s\n' shape entities question 'instructions an edge'
 for shape in chain tree layers cycle; do
-    for size in $sizes; do
-        times=$((2000000 / size))
+    for size in "${sizes[@]}"; do
         edges=$size
-        if [ "$shape" = layers ]; then
-            edges=$((10 * size))
-            times=$((times / 10 + 1))
-        fi
-        built=$(seconds "$shape" "$size" cyclic 0)
+        [ "$shape" = layers ] && edges=$((10 * size))
+        built=$(instructions "ancestor_closure/$shape-cyclic/$size/0")
         for question in ancestors is_ancestor cyclic; do
-            asked=$(seconds "$shape" "$size" "$question" "$times")
-            nanoseconds=$(echo "($asked - $built) * 1000000000 / ($times * $edges)" | bc)
-            printf '%-8s %8s %12s %12s\n' "$shape" "$size" "$question" "$nanoseconds"
+            asked=$(instructions "ancestor_closure/$shape-$question/$size/1")
+            printf '%-8s %8s %12s %22s\n' "$shape" "$size" "$question" "$(each "$built" "$asked" "$edges")"
         done
     done
 done

@@ -1,23 +1,19 @@
 #!/usr/bin/env bash
-# Times `evaluate`: nanoseconds for one evaluation of a condition, by how many texts the request's context holds.
+# Measures `evaluate`: instructions for one evaluation of a condition, by how many texts the request's context holds.
 # text: two literal texts are equal; principal: `principal == User::".."`; field: `context.a == 1`; member: `context.friends.contains(principal)`, ten friends.
-# Build the program first: rt run -- text 10 10, in crates/bench_evaluator. PROGRAM names another binary.
-set -e
-program=${PROGRAM:-$(dirname "$0")/../crates/bench_evaluator/out/bench_evaluator}
-sizes=${*:-10 1000}
+#
+#   bench/evaluator.sh [TEXTS ..]             (default: 10 and 1,000)
+set -euo pipefail
+source "$(dirname "${BASH_SOURCE[0]}")/counting.sh"
+sizes=("$@")
+[ ${#sizes[@]} -gt 0 ] || sizes=(10 1000)
+times=1000
 
-# seconds of processor time that the program takes
-TIMEFORMAT=%U
-seconds() {
-    { time "$program" "$@" > /dev/null; } 2>&1
-}
-
-printf '%-10s %8s %16s\n' condition texts 'ns an evaluation'
-for size in $sizes; do
+printf '%-10s %8s %28s\n' condition texts 'instructions an evaluation'
+for size in "${sizes[@]}"; do
     for condition in text principal field member; do
-        times=${TIMES:-200000}
-        built=$(seconds "$condition" "$size" 0)
-        asked=$(seconds "$condition" "$size" "$times")
-        printf '%-10s %8s %16s\n' "$condition" "$size" "$(echo "($asked - $built) * 1000000000 / $times" | bc)"
+        built=$(instructions "evaluator/$condition/$size/0")
+        asked=$(instructions "evaluator/$condition/$size/$times")
+        printf '%-10s %8s %28s\n' "$condition" "$size" "$(each "$built" "$asked" "$times")"
     done
 done

@@ -1,34 +1,25 @@
 #!/usr/bin/env bash
-# Times the reading of policy files: nanoseconds and bytes of memory for each byte of a file.
+# Measures the reading of policy files: instructions and bytes of memory for each byte of a file.
 #
-#   bench/policy_grammar.sh [COUNT ..]        (default: 12,337 and 98,689 policies, which are 1 MiB and 8 MiB)
+#   bench/policy_grammar.sh [COUNT ..]        (default: 1,000 and 10,000 parts)
 #
-# Needs the program of crates/bench_policy_grammar, as `rt run` builds it, and GNU time. The time of one pass is the difference of a run
-# with some passes and one with none, so that making the text is left out; memory is the difference of the greatest resident sizes.
+# A part is a policy, an action of one policy's list, an annotation of one policy; or, of the texts from `string` on, on which the lexer has the most
+# work, a letter or two, so that these show the lexer alone (what it reads there is refused at once, or is no policy).
+# The instructions are those of one reading, without the making of the text; memory is the difference of the greatest resident sizes.
 set -euo pipefail
-cd "$(dirname "$0")/../crates/bench_policy_grammar"
-program=${PROGRAM:-$(find out -type f -name bench_policy_grammar -perm -u+x | head -1)}
-if [ -z "$program" ]; then
-    rt run -- policies 10 1 >/dev/null
-    program=$(find out -type f -name bench_policy_grammar -perm -u+x | head -1)
-fi
+source "$(dirname "${BASH_SOURCE[0]}")/counting.sh"
 counts=("$@")
-[ ${#counts[@]} -gt 0 ] || counts=(12337 98689)
-passes=5
+[ ${#counts[@]} -gt 0 ] || counts=(1000 10000)
 
-# user seconds and greatest resident KiB of one run
-measure() {
-    /usr/bin/time -f '%U %M' "$program" "$@" 2>&1 >/dev/null | tail -1
-}
-
-printf '%-12s %8s %10s %18s %8s %12s\n' kind count bytes answer ns/byte memory/byte
-for kind in policies named actions annotations; do
+printf '%-12s %9s %10s %8s %18s %12s\n' kind count bytes answer 'instructions/byte' memory/byte
+for kind in policies named conditions actions annotations string escapes comment comments colons word words number blanks unclosed; do
     for count in "${counts[@]}"; do
-        { read -r size _; read -r answer; } < <("$program" "$kind" "$count" 1)
-        read -r none empty < <(measure "$kind" "$count" 0)
-        read -r once full < <(measure "$kind" "$count" 1)
-        read -r many _ < <(measure "$kind" "$count" "$passes")
-        awk -v kind="$kind" -v count="$count" -v size="$size" -v answer="$answer" -v a="$none" -v b="$many" -v n="$passes" -v e="$empty" -v f="$full" 'BEGIN {
-            printf "%-12s %8d %10d %18s %8.1f %12.1f\n", kind, count, size, answer, (b - a) * 1e9 / n / size, (f - e) * 1024 / size }'
+        read -r _ bytes < <("$program" "policy_grammar/$kind/$count/0")
+        read -r _ answer < <("$program" "policy_grammar/$kind/$count/1")
+        made=$(instructions "policy_grammar/$kind/$count/0")
+        read_=$(instructions "policy_grammar/$kind/$count/1")
+        empty=$(memory "policy_grammar/$kind/$count/0")
+        full=$(memory "policy_grammar/$kind/$count/1")
+        printf '%-12s %9s %10s %8s %18s %12s\n' "$kind" "$count" "$bytes" "$answer" "$(each "$made" "$read_" "$bytes")" "$(each "$((empty * 1024))" "$((full * 1024))" "$bytes")"
     done
 done

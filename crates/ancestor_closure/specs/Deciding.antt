@@ -1,5 +1,6 @@
 -- The test for a path decides.
-use Rattle.std.proofs.Common.{◌≡◌, zero, suc, arith, Bool, true, false, List, [], ◌∷◌, refl, ap, sym, subst, inl, inr, ◌||◌, Option, Some, None}
+use Rattle.std.proofs.Common.{◌≡◌, zero, suc, arith, Bool, true, false, List, [], ◌∷◌, refl, ap, sym, subst, inl, inr}
+use Rattle.std.proofs.Common.{◌||◌, Option, Some, None}
 use Rattle.std.specs.Prelude.{Contains, IsTrue, ◌&&◌, ◌⊎◌, Vec, IsSome}
 use Rattle.std.specs.List.{list_any}
 use Rattle.std.specs.Ordering.{is_eq}
@@ -31,14 +32,16 @@ pub same_uid : (x y : EntityUid) → is_eq (uid_cmp x y) ≡ true → x ≡ y
 same_uid x y h = tells_apart uid_cmp-IsAntisymmetric x y h
 
 -- an entity with a parent is stored
-pub parent_is_stored : (edges : BTreeMap EntityUid (Vec EntityUid Global)) (b a : EntityUid) → Contains (parents_of edges b) a → Contains (keys edges) b
-parent_is_stored edges b a h = (btree_map_contains_key_iff uid_cmp-IsTotalOrder uid_cmp-IsAntisymmetric edges b).0 (some (get uid_cmp edges b) h)
+pub parent_is_stored : (edges : BTreeMap EntityUid (Vec EntityUid Global)) (b a : EntityUid) →
+    Contains (parents_of edges b) a → Contains (keys edges) b
+parent_is_stored edges b a h =
+    (btree_map_contains_key_iff uid_cmp-IsTotalOrder uid_cmp-IsAntisymmetric edges b).0 (some (get uid_cmp edges b) h)
   where
     some : (o : Option (Vec EntityUid Global)) → Contains (items_or_none o) a → IsSome o
     some None h = Contains-none a h
     some (Some v) h = refl
 
-same_self : (x : EntityUid) → IsTrue (is_same x x)
+pub same_self : (x : EntityUid) → IsTrue (is_same x x)
 same_self x = ap is_eq (tied_itself uid_cmp-IsTotalOrder x)
 
 same_if : (x y : EntityUid) → x ≡ y → IsTrue (is_same x y)
@@ -64,14 +67,16 @@ and_both : (a b : Bool) → IsTrue a → IsTrue b → IsTrue (a && b)
 and_both true b h k = k
 and_both false b h k = cc h
 
-any_from : (test : EntityUid → Bool) (xs : List EntityUid) (x : EntityUid) → Contains xs x → IsTrue (test x) → IsTrue (list_any test xs)
+pub any_from : (test : EntityUid → Bool) (xs : List EntityUid) (x : EntityUid) →
+    Contains xs x → IsTrue (test x) → IsTrue (list_any test xs)
 any_from test [] x h t = Contains-none x h
 any_from test (y ∷ ys) x h t = elim (Contains-cases y ys x h) [
   | inl e ↦ or_left (test y) _ (subst (λ z. IsTrue (test z)) (sym e) t)
   | inr r ↦ or_right (test y) _ (any_from test ys x r t)
 ]
 
-any_at : (test : EntityUid → Bool) (xs : List EntityUid) → IsTrue (list_any test xs) → (x : EntityUid) × Contains xs x × IsTrue (test x)
+pub any_at : (test : EntityUid → Bool) (xs : List EntityUid) →
+    IsTrue (list_any test xs) → (x : EntityUid) × Contains xs x × IsTrue (test x)
 any_at test [] h = cc h
 any_at test (y ∷ ys) h = elim (or_cases (test y) _ h) [
   | inl t ↦ (y, Contains-here y ys, t)
@@ -80,7 +85,8 @@ any_at test (y ∷ ys) h = elim (or_cases (test y) _ h) [
 
 module _ (parents : Parents) where
   -- paths follow one another
-  joined : (b : EntityUid) (cs : List EntityUid) (u a : EntityUid) → Path parents b cs u → Above parents a u → Above parents a b
+  joined : (b : EntityUid) (cs : List EntityUid) (u a : EntityUid) →
+      Path parents b cs u → Above parents a u → Above parents a b
   joined b [] u a h above = (u ∷ above.0, (h, above.1))
   joined b (c ∷ cs) u a h above = let rest = joined c cs u a h.1 above in (c ∷ rest.0, (h.0, rest.1))
 
@@ -107,11 +113,14 @@ module _ (parents : Parents) where
   ]
 
   -- an edge that begins at one of the entities is found, and one more edge before what is found
-  more : (us : List EntityUid) (b c : EntityUid) → Contains us b → Contains (parents b) c → (a : EntityUid) → (c ≡ a) ⊎ IsTrue (reaches parents us a c) → IsTrue (reaches parents us a b)
+  more : (us : List EntityUid) (b c : EntityUid) → Contains us b → Contains (parents b) c → (a : EntityUid) →
+      (c ≡ a) ⊎ IsTrue (reaches parents us a c) → IsTrue (reaches parents us a b)
   unfolding reaches
   more [] b c h edge a goes = Contains-none b h
   more (u ∷ us) b c h edge a goes = elim (Contains-cases u us b h) [
-    | inl same ↦ or_right (reaches parents us a b) _ (and_both _ _ (or_left _ _ (same_if u b same)) (by_u (subst (λ z. Contains (parents z) c) (sym same) edge) goes))
+    | inl same ↦
+        let edge_of_u = subst (λ z. Contains (parents z) c) (sym same) edge in
+        or_right (reaches parents us a b) _ (and_both _ _ (or_left _ _ (same_if u b same)) (by_u edge_of_u goes))
     | inr t ↦ elim goes [
       | inl e ↦ or_left _ _ (more us b c t edge a (inl e))
       | inr on ↦ elim (or_cases (reaches parents us a c) _ on) [
@@ -127,14 +136,16 @@ module _ (parents : Parents) where
     ]
   ]
     where
-      by_u : Contains (parents u) c → (c ≡ a) ⊎ IsTrue (reaches parents (u ∷ us) a c) → IsTrue (list_any (λ p. is_same p a || reaches parents us a p) (parents u))
+      by_u : Contains (parents u) c → (c ≡ a) ⊎ IsTrue (reaches parents (u ∷ us) a c) →
+          IsTrue (list_any (λ p. is_same p a || reaches parents us a p) (parents u))
       by_u edge (inl e) = any_from _ (parents u) c edge (or_left _ _ (same_if c a e))
       by_u edge (inr on) = elim (or_cases (reaches parents us a c) _ on) [
         | inl old ↦ any_from _ (parents u) c edge (or_right (is_same c a) _ old)
         | inr new ↦ (and_parts _ _ new).1
       ]
 
-  all_found : (us : List EntityUid) → HaveAllParents parents us → (a b : EntityUid) (cs : List EntityUid) → Path parents b cs a → IsTrue (reaches parents us a b)
+  all_found : (us : List EntityUid) → HaveAllParents parents us → (a b : EntityUid) (cs : List EntityUid) →
+      Path parents b cs a → IsTrue (reaches parents us a b)
   all_found us all a b [] h = more us b a (all b a h) h a (inl refl)
   all_found us all a b (c ∷ cs) h = more us b c (all b c h.0) h.0 a (inr (all_found us all a c cs h.1))
 
@@ -144,6 +155,11 @@ module _ (parents : Parents) where
 pub paths_are_decided : PathsAreDecided
 paths_are_decided parents stored all = decided parents stored all
 
+-- the keys of a map are all entities with parents
+pub map_has_all : (edges : BTreeMap EntityUid (Vec EntityUid Global)) → HaveAllParents (parents_of edges) (keys edges)
+map_has_all edges = λ b a h. parent_is_stored edges b a h
+
 -- the edges of a map
-pub edges_are_decided : (edges : BTreeMap EntityUid (Vec EntityUid Global)) → Decides (parents_of edges) (reaches (parents_of edges) (keys edges))
-edges_are_decided edges = decided (parents_of edges) (keys edges) (λ b a h. parent_is_stored edges b a h)
+pub edges_are_decided : (edges : BTreeMap EntityUid (Vec EntityUid Global)) →
+    Decides (parents_of edges) (reaches (parents_of edges) (keys edges))
+edges_are_decided edges = decided (parents_of edges) (keys edges) (map_has_all edges)

@@ -1,5 +1,7 @@
 pub mod Hierarchy
 pub mod Search
+pub mod UnderWay
+pub mod Walking
+pub mod Numbering
 pub mod Decided
 pub mod Deciding
-pub mod Components

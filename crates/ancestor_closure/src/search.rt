@@ -1,68 +1,34 @@
-//! The search for what lies above an entity.
-ghost use Rattle.std.specs.Prelude.{◌≡◌, ◌+◌, ◌^◌, ◌<◌, List, [], length, IsTrue, ◌↔◌, IfOk, OnOk, vec_len};
+//! The search for what lies above an entity, in any graph.
+ghost use Rattle.std.specs.Prelude.{◌≡◌, ◌^◌, ◌<◌, Contains, IsTrue, ◌↔◌, IfOk, OnOk};
 ghost use Rattle.std.specs.BTreeSet.{btree_set_len};
-ghost use Rattle.ancestor_closure.specs.Hierarchy.{Parents, Above, IsAllAbove, IsAscending, names, with_parents};
-ghost use Rattle.ancestor_closure.specs.Search.{parents_of, Adds};
+ghost use Rattle.ancestor_closure.specs.Hierarchy.{Above, IsAllAbove, IsAscending, names, with_parents};
+ghost use Rattle.ancestor_closure.specs.Search.{Adds};
 
+use crate::graph::{Changed, ParentsOf};
+use crate::lists::listed;
 use plain::NoMemory;
 use std::alloc::Global;
-use std::collections::{BTreeMap, BTreeSet};
+use std::collections::BTreeSet;
 use values::EntityUid;
 
-/// Entities and their parents.
-pub trait Graph {
-    /// The parents of each entity; one that is not stored has none.
-    ghost parents: { Self → Parents };
-
-    fn parents(&self, uid: &EntityUid) -> &[EntityUid]
-        ensures { result.now ≡ parents self.now uid.now };
+// Whether the list has an entity.
+fn has(entities: &[EntityUid], uid: &EntityUid) -> bool
+    ensures { IsTrue result ↔ Contains entities.now uid.now }
+{
+    entities.contains(uid)
 }
 
-/// The parents of each stored entity.
-pub type Edges = BTreeMap<EntityUid, Vec<EntityUid>>;
-
-impl Graph for BTreeMap<EntityUid, Vec<EntityUid>> {
-    ghost parents = { parents_of };
-
-    fn parents(&self, uid: &EntityUid) -> &[EntityUid] {
-        match self.get(uid) {
-            Some(parents) => parents,
-            None => &[],
-        }
-    }
-}
-
-/// The graph in which one entity has other parents.
-#[derive(Clone, Copy)]
-pub struct Changed<'a> {
-    pub edges: &'a Edges,
-    pub uid: &'a EntityUid,
-    pub parents: &'a [EntityUid],
-}
-
-impl Graph for Changed<'_> {
-    ghost parents = { λ s. with_parents (parents_of s.edges.now) s.uid.now s.parents.now };
-
-    fn parents(&self, uid: &EntityUid) -> &[EntityUid] {
-        if self.uid == uid {
-            self.parents
-        } else {
-            self.edges.parents(uid)
-        }
-    }
-}
-
-// Adds the parents that were not seen before to what is seen, and to the work.
-fn add_parents<'a, G: Graph>(
-    graph: &'a G,
-    uid: &EntityUid,
+// Adds those that were not seen before to what is seen, and to the work.
+fn add_parents<'a>(
+    parents: &'a [EntityUid],
     seen: &mut BTreeSet<&'a EntityUid>,
     work: &mut Vec<&'a EntityUid>,
 ) -> Result<(), NoMemory>
-    ensures adds { OnOk result (Adds (G.parents graph.now uid.now) (names seen.old.keys) (names work.old.items) (names seen.new.keys) (names work.new.items)) }
+    ensures adds { OnOk result
+        (Adds parents.now (names seen.old.keys) (names work.old.items) (names seen.new.keys) (names work.new.items)) }
     ensures small { OnOk result (btree_set_len seen.new < 2 ^ 63) }
 {
-    for parent in graph.parents(uid) {
+    for parent in parents {
         if seen.insert(parent)? {
             work.push(parent)?;
         }
@@ -71,8 +37,8 @@ fn add_parents<'a, G: Graph>(
     Ok(())
 }
 
-/// All that lies above an entity.
-fn above<'a, G: Graph>(
+// All that lies above an entity.
+fn above<'a, G: ParentsOf>(
     alloc: Global,
     graph: &'a G,
     uid: &EntityUid,
@@ -81,27 +47,15 @@ fn above<'a, G: Graph>(
 {
     let mut seen = BTreeSet::new(alloc);
     let mut work = Vec::new(alloc);
-    add_parents(graph, uid, &mut seen, &mut work)?;
+    add_parents(graph.parents_of(uid), &mut seen, &mut work)?;
     while let Some(next) = work.pop() {
-        add_parents(graph, next, &mut seen, &mut work)?;
+        add_parents(graph.parents_of(next), &mut seen, &mut work)?;
     }
     Ok(seen)
 }
 
-/// The members of a set, ascending.
-pub fn listed<'a>(
-    alloc: Global,
-    found: BTreeSet<&'a EntityUid>,
-) -> Result<Vec<&'a EntityUid>, NoMemory>
-    ensures same { IfOk result (λ all. names all.items ≡ names found.entry.keys) }
-    ensures ascending { IsAscending (names found.entry.keys) }
-{
-    let _ascending = found.len();
-    found.into_iter().collect(alloc)
-}
-
-/// Whether `a` lies above `b`.
-pub fn is_above<'a, G: Graph>(
+/// Whether `a` lies above `b`. The search ends at the first path found; for a parent of `b` it takes no memory.
+pub fn is_above<'a, G: ParentsOf>(
     alloc: Global,
     graph: &'a G,
     a: &'a EntityUid,
@@ -109,11 +63,25 @@ pub fn is_above<'a, G: Graph>(
 ) -> Result<bool, NoMemory>
     ensures { IfOk result (λ yes. IsTrue yes ↔ Above (G.parents graph.now) a.now b.now) }
 {
-    Ok(above(alloc, graph, b)?.contains(&a))
+    let parents = graph.parents_of(b);
+    if has(parents, a) {
+        return Ok(true);
+    }
+    let mut seen = BTreeSet::new(alloc);
+    let mut work = Vec::new(alloc);
+    add_parents(parents, &mut seen, &mut work)?;
+    while let Some(next) = work.pop() {
+        let further = graph.parents_of(next);
+        if has(further, a) {
+            return Ok(true);
+        }
+        add_parents(further, &mut seen, &mut work)?;
+    }
+    Ok(seen.contains(&a))
 }
 
-/// All that lies above an entity, ascending.
-pub fn all_above<'a, G: Graph>(
+/// All that lies above an entity, stored or not, ascending.
+pub fn ancestors_of<'a, G: ParentsOf>(
     alloc: Global,
     graph: &'a G,
     uid: &EntityUid,
@@ -122,4 +90,22 @@ pub fn all_above<'a, G: Graph>(
     ensures ascending { IfOk result (λ found. IsAscending (names found.items)) }
 {
     listed(alloc, above(alloc, graph, uid)?)
+}
+
+/// Whether the entity would be above itself if it had these parents.
+pub fn would_cycle<G: ParentsOf>(
+    alloc: Global,
+    graph: &G,
+    uid: &EntityUid,
+    parents: &[EntityUid],
+) -> Result<bool, NoMemory>
+    ensures { let changed = with_parents (G.parents graph.now) uid.now parents.now in
+        IfOk result (λ yes. IsTrue yes ↔ Above changed uid.now uid.now) }
+{
+    let changed = Changed {
+        graph,
+        uid,
+        parents,
+    };
+    is_above(alloc, &changed, uid, uid)
 }

@@ -7,7 +7,7 @@ use Rattle.std.proofs.lemmas.List.Elements.{Contains-push_cases}
 use Rattle.values.specs.declared.entity_uid.EntityUid.{EntityUid}
 use Rattle.values.specs.declared.request.Request.{Request}
 use Rattle.values.specs.Values.{PlainValue, boolean, long, text, entity, set, record_of, decimal, ipaddr}
-use Rattle.ancestor_closure.specs.Hierarchy.{Parents, Above, AreOnCycles, IsAscending, names}
+use Rattle.ancestor_closure.specs.Hierarchy.{Parents, Above, IsAllAbove, AreOnCycles, IsAscending, names}
 use Rattle.ancestor_closure.specs.Decided.{Decides}
 use Rattle.expressions.specs.declared.expr.Expr.{Expr}
 use Rattle.policy_grammar.specs.declared.policy.Policy.{Policy}
@@ -31,7 +31,7 @@ use Rattle.authoriser.specs.declared.placed.Standing.{Standing}
 use Rattle.authoriser.specs.declared.tally.Tally.{Tally}
 use Rattle.authoriser.specs.Scopes.{IsIn, IsEntityScopeTrue, IsActionScopeTrue, IsScopeTrue}
 use Rattle.authoriser.specs.Answers.{Named, Judged, IsJudged, AreJudged, fault_of, ComesTo, decided, answer_by, IsAnswer}
-use Rattle.authoriser.specs.Views.{named, IsWithin, IsPlaced, IsStanding, AreAscending, IsTrueOf, ConditionComesTo, outcome_by, ids, faults, Counts}
+use Rattle.authoriser.specs.Views.{named, IsWithin, IsPlaced, IsStanding, AreAllPlaced, AreAscending, IsTrueOf, ConditionComesTo, outcome_by, ids, faults, Counts}
 use Rattle.authoriser.proofs.Members.{Contains-none}
 use Rattle.authoriser.proofs.PartsTold.{condition_decides, scope_fails}
 
@@ -110,6 +110,12 @@ true_scope W q s p (Errs error) standing h c = (condition_decides W q p (scope_t
 
 pub other_scope : (W : World) (above : EntityUid → EntityUid → Bool) → Decides W.parents above → (q : Request) (s : Standing) (p : Policy) → IsStanding W.parents q s → (IsTrueOf p.scope s → ⊥) → ComesTo W q p NotSatisfied
 other_scope W above D q s p standing n = scope_fails W above D q p (λ h. n (scope_back W.parents q s p.scope standing h))
+
+placed_itself : {parents : Parents} {uid : EntityUid} {p : Placed} → IsPlaced parents uid p → IsPlaced parents p.uid.now p
+placed_itself {parents} {uid} {p} h = record { same = refl; all = subst (λ (u : EntityUid). IsAllAbove parents u (names p.ancestors.items)) (sym h.same) h.all; ascending = h.ascending }
+
+pub all_placed : (parents : Parents) (q : Request) (s : Standing) → IsStanding parents q s → AreAllPlaced parents s
+all_placed parents q s h = record { principal = placed_itself h.principal; action = placed_itself h.action; resource = placed_itself h.resource }
 
 pub are_ascending : (parents : Parents) (q : Request) (s : Standing) → IsStanding parents q s → AreAscending s
 are_ascending parents q s standing = record { principal = standing.principal.ascending; action = standing.action.ascending; resource = standing.resource.ascending }

@@ -42,6 +42,12 @@ pub record IsStanding (parents : Parents) (q : Request) (s : Standing) : Type 0 
   pub action : IsPlaced parents q.action s.action
   pub resource : IsPlaced parents q.resource s.resource
 
+-- the ancestors of each of the three are all that lie above it
+pub record AreAllPlaced (parents : Parents) (s : Standing) : Type 0 where
+  pub principal : IsPlaced parents s.principal.uid.now s.principal
+  pub action : IsPlaced parents s.action.uid.now s.action
+  pub resource : IsPlaced parents s.resource.uid.now s.resource
+
 pub record AreAscending (s : Standing) : Type 0 where
   pub principal : IsAscending (names s.principal.ancestors.items)
   pub action : IsAscending (names s.action.ancestors.items)

@@ -5,7 +5,7 @@ ghost use Rattle.authoriser.specs.Views.{named};
 
 use crate::answer::{Answer, Decision};
 use crate::conditions::outcome_of;
-use crate::placed::standing_of;
+use crate::known::Known;
 use crate::tally::Tally;
 use ancestor_closure::Ancestry;
 use evaluator::Lookup;
@@ -31,6 +31,26 @@ fn is_none(uids: &[&EntityUid]) -> bool
     uids.is_empty()
 }
 
+/// The answer by what the policies come to, where the request's entities were looked up.
+fn answer_by_known<L: Lookup>(
+    alloc: Global,
+    policies: &[(&str, &Policy)],
+    request: &Request,
+    known: &Known<'_, L>,
+) -> Result<Answer, NoMemory>
+    requires { known.now.1 ≡ request.now }
+    ensures { let W = world_of (L.stored known.now.0) (L.parents known.now.0) in
+        IfOk result (λ a. (js : List Judged) × AreJudged W request.now (named policies.now) js × (a ≡ answer_by js)) }
+{
+    let standing = known.standing();
+    let mut tally = Tally::new(alloc);
+    for (id, policy) in policies {
+        let outcome = outcome_of(alloc, policy, standing, request, known)?;
+        tally.note(id, policy.effect, outcome)?;
+    }
+    tally.into_answer(alloc)
+}
+
 /// The answer by what the policies come to, where the hierarchy has no cycle.
 fn answer_by_policies<L: Lookup>(
     alloc: Global,
@@ -38,15 +58,11 @@ fn answer_by_policies<L: Lookup>(
     request: &Request,
     store: &L,
 ) -> Result<Answer, NoMemory>
-    ensures { IfOk result (λ a. (js : List Judged) × AreJudged (world_of (L.stored store.now) (L.parents store.now)) request.now (named policies.now) js × (a ≡ answer_by js)) }
+    ensures { let W = world_of (L.stored store.now) (L.parents store.now) in
+        IfOk result (λ a. (js : List Judged) × AreJudged W request.now (named policies.now) js × (a ≡ answer_by js)) }
 {
-    let standing = standing_of(store, request)?;
-    let mut tally = Tally::new(alloc);
-    for (id, policy) in policies {
-        let outcome = outcome_of(alloc, policy, &standing, request, store)?;
-        tally.note(id, policy.effect, outcome)?;
-    }
-    tally.into_answer(alloc)
+    let known = Known::of(alloc, store, request)?;
+    answer_by_known(alloc, policies, request, &known)
 }
 
 /// The answer to a request over these policies and these stored entities.

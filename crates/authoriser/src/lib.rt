@@ -8,6 +8,7 @@
 mod answer;
 mod conditions;
 mod deciding;
+mod known;
 mod laws;
 mod outcome;
 mod placed;

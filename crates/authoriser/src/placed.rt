@@ -1,9 +1,9 @@
 //! Where a request's three entities stand in the hierarchy, looked up once.
-ghost use Rattle.std.specs.Prelude.{◌≡◌, ◌↔◌, IsTrue, IfOk, Contains};
-ghost use Rattle.ancestor_closure.specs.Hierarchy.{IsAscending, names};
-ghost use Rattle.authoriser.specs.Views.{IsWithin, IsPlaced, IsStanding};
+ghost use Rattle.std.specs.Prelude.{◌≡◌, ◌↔◌, ⊤, IsTrue, IfOk, MatchOption};
+ghost use Rattle.ancestor_closure.specs.Hierarchy.{Parents, IsAscending, names};
+ghost use Rattle.authoriser.specs.Views.{IsWithin, IsPlaced, IsStanding, AreAllPlaced};
 
-use ancestor_closure::Ancestry;
+use ancestor_closure::{Ancestry, is_among};
 use plain::NoMemory;
 use values::{EntityUid, Request, TypeName};
 
@@ -46,14 +46,6 @@ pub(crate) fn standing_of<'a, A: Ancestry>(
     })
 }
 
-/// Whether an entity is among these, which ascend.
-fn is_among(uids: &[&EntityUid], uid: &EntityUid) -> bool
-    requires { IsAscending (names uids.now) }
-    ensures { IsTrue result ↔ Contains (names uids.now) uid.now }
-{
-    uids.binary_search(&uid).is_ok()
-}
-
 /// Whether two uids are one.
 pub(crate) fn is_same(a: &EntityUid, b: &EntityUid) -> bool
     ensures { IsTrue result ↔ (a.now ≡ b.now) }
@@ -75,5 +67,24 @@ impl Placed<'_> {
         ensures { IsTrue result ↔ IsWithin self.now of.now }
     {
         is_same(self.uid, of) || is_among(&self.ancestors, of)
+    }
+}
+
+impl<'a> Standing<'a> {
+    /// Where an entity stands, if it is one of the three.
+    pub(crate) fn place_of(&self, uid: &EntityUid) -> Option<&Placed<'a>>
+        ensures { MatchOption result ⊤
+            (λ p. (parents : Parents) → AreAllPlaced parents self.now → IsPlaced parents uid.now p.now) }
+    {
+        if is_same(self.principal.uid, uid) {
+            return Some(&self.principal);
+        }
+        if is_same(self.resource.uid, uid) {
+            return Some(&self.resource);
+        }
+        if is_same(self.action.uid, uid) {
+            return Some(&self.action);
+        }
+        None
     }
 }

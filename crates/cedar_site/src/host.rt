@@ -75,6 +75,4 @@ impl<R: Files + AllocGlobal, O: Write, E: Write> Host for SystemHost<'_, R, O, E
 }
 
 #[cfg(test)]
-pub mod memory;
-#[cfg(test)]
 mod tests;

@@ -9,7 +9,7 @@ use plain::NoMemory;
 use std::alloc::Global;
 
 /// What the words ask for. Each option that a command demands is there, as a field of its own.
-#[derive(Clone, Copy, Debug, PartialEq, Eq)]
+#[derive(Clone, Copy)]
 pub enum Line<'a> {
     /// Decide one request: the names of three files.
     Decide {
@@ -20,7 +20,7 @@ pub enum Line<'a> {
 }
 
 /// Why the words ask for nothing: a fault of theirs, a question for help, or want of memory.
-#[derive(Debug, Drop)]
+#[derive(Drop)]
 pub enum LineFault {
     /// What is to be printed, on which stream, and the status.
     Words(clap::Error),
@@ -134,6 +134,3 @@ pub fn line_of<'a>(alloc: Global, words: &'a [String]) -> Result<Line<'a>, LineF
         None => Err(LineFault::Incomplete),
     }
 }
-
-#[cfg(test)]
-mod tests;

@@ -109,6 +109,3 @@ pub fn tell_words<H: Host>(host: &mut H, fault: &LineFault) -> ExitCode
         LineFault::Incomplete => ExitCode::from(LINE_FAULT),
     }
 }
-
-#[cfg(test)]
-mod tests;

@@ -1,7 +1,7 @@
 //! The streams that a run writes on.
 
 /// One of the two standard streams.
-#[derive(Clone, Copy, Debug, PartialEq, Eq)]
+#[derive(Clone, Copy)]
 pub enum Stream {
     /// Standard output, for answers and for help.
     Answers,
@@ -10,5 +10,5 @@ pub enum Stream {
 }
 
 /// A stream did not take all that was written.
-#[derive(Clone, Copy, Debug, PartialEq, Eq)]
+#[derive(Clone, Copy)]
 pub struct StreamFailed;

@@ -1,5 +1,6 @@
 -- Reading an array of entities, as a loop does that keeps the uids it has met in a set.
-use Rattle.std.proofs.Common.{◌≡◌, ◌∙◌, ℕ, suc, Bool, true, false, not, cond, List, [], ◌∷◌, ◌++◌, map, take, Option, Some, Result, Ok, Err, refl, sym, ap}
+use Rattle.std.proofs.Common.{◌≡◌, ◌∙◌, ℕ, suc, ◌+◌, ◌<◌, Bool, true, false, not, cond, List, [], ◌∷◌, ◌++◌, length, map, take, drop, get_or, Option, Some, Result, Ok, Err, refl, sym, ap, add-one, arith}
+use Rattle.std.proofs.Math.Seq.{drop-cons}
 use Rattle.std.specs.Prelude.{⊤, ◌||◌}
 use Rattle.std.specs.List.{list_any}
 use Rattle.std.proofs.lemmas.List.{take-map}
@@ -84,3 +85,22 @@ flip a false h = rw h refl
 -- whether the set had the uid
 pub had : (uid : EntityUid) (ds : List Data) (es : List BareEntity) (added old : Bool) → added ≡ not old → old ≡ is_among uid es → is_before uid ds ≡ is_among uid es → is_before uid ds ≡ not added
 had uid ds es added old is was same = same ∙ sym was ∙ sym (flip added old is)
+
+-- ---- the JSON that is left
+
+heads : {A : Type 0} (x y : A) (xs ys : List A) → x ∷ xs ≡ y ∷ ys → x ≡ y
+heads x y xs ys e = cc
+
+tails : {A : Type 0} (x y : A) (xs ys : List A) → x ∷ xs ≡ y ∷ ys → xs ≡ ys
+tails x y xs ys e = cc
+
+-- what is taken from the front is the next
+pub taken : {A : Type 0} (xs rest left : List A) (i : ℕ) (x : A) → i < length xs → rest ≡ drop i xs → rest ≡ x ∷ left → x ≡ get_or xs i x
+taken xs rest left i x below is front = heads x (get_or xs i x) left (drop (suc i) xs) (sym front ∙ is ∙ drop-cons xs i x below)
+
+pub left-over : {A : Type 0} (xs rest left : List A) (i : ℕ) (x : A) → i < length xs → rest ≡ drop i xs → rest ≡ x ∷ left → left ≡ drop (i + 1) xs
+left-over xs rest left i x below is front = tails x (get_or xs i x) left (drop (suc i) xs) (sym front ∙ is ∙ drop-cons xs i x below) ∙ ap (λ n. drop n xs) (sym (add-one i))
+
+pub some-left : {A : Type 0} (xs rest : List A) (i : ℕ) → i < length xs → rest ≡ drop i xs → length rest ≡ 0 → ⊥
+some-left [] rest i below is none = absurd (omega arith)
+some-left (d ∷ xs) rest i below is none = let more : length rest ≡ length (get_or (d ∷ xs) i d ∷ drop (suc i) (d ∷ xs)) = ap length (is ∙ drop-cons (d ∷ xs) i d below) in absurd (omega arith)

@@ -1,7 +1,8 @@
 -- What a store of entities looks up is what its entities state.
-use Rattle.std.proofs.Common.{◌≡◌, ◌∙◌, Bool, true, false, cond, List, [], ◌∷◌, map, Some, None, refl, ap, subst}
+use Rattle.std.proofs.Common.{◌≡◌, ◌∙◌, Bool, true, false, List, [], ◌∷◌, ◌++◌, map, Some, None, refl, sym, ap, subst}
 use Rattle.std.specs.Prelude.{Contains, if◌then◌else◌, ◌||◌}
 use Rattle.std.specs.List.{list_any}
+use Rattle.std.specs.BTreeSet.{BTreeSet, contains}
 use Rattle.std.specs.Ordering.{is_eq}
 use Rattle.values.specs.declared.entity_uid.EntityUid.{EntityUid}
 use Rattle.values.specs.Names.{uid_cmp, uid_cmp-IsTotalOrder, uid_cmp-IsAntisymmetric}
@@ -13,7 +14,7 @@ use Rattle.evaluator.specs.Operators.{world_of}
 use Rattle.decision_texts.specs.declared.bare.BareEntity.{BareEntity}
 use Rattle.decision_texts.specs.declared.store.BareStore.{BareStore}
 use Rattle.decision_texts.specs.Decisions.{parents_in, world_in}
-use Rattle.decision_texts.specs.Stores.{attributes_in, Holds}
+use Rattle.decision_texts.specs.Stores.{attributes_in, HasParents}
 
 -- ---- all entities with parents are those of the array
 
@@ -32,14 +33,31 @@ all_parents (e ∷ es) b a c =
 
 -- ---- the store
 
-pub looked_up : (s : BareStore) (es : List BareEntity) → Holds s es → world_of (attributes_in s) (searched.parents-value.it s.hierarchy) ≡ world_in es
-looked_up s es h i = world_of (λ uid. if h.uids uid i then Some (h.nothing i) else None) (h.parents i)
+pub looked_up : (s : BareStore) (es : List BareEntity) → HasParents s es → ((q : EntityUid) → contains uid_cmp s.uids q ≡ list_any (λ e. is_same e.uid q) es) → s.nothing ≡ [] →
+    world_of (attributes_in s) (searched.parents-value.it s.hierarchy) ≡ world_in es
+looked_up s es parents uids nothing i = world_of (λ uid. if uids uid i then Some (nothing i) else None) (parents i)
 
-either : (b c : Bool) → cond b true c ≡ (b || c)
-either true c = refl
-either false c = refl
+same_self : (uid : EntityUid) → is_same uid uid ≡ true
+same_self uid = (equal-is uid_cmp-IsTotalOrder uid_cmp-IsAntisymmetric uid uid).1 refl
 
--- the set of uids with one more
-pub one_more : (q : EntityUid) (es : List BareEntity) (e : BareEntity) (old new : Bool) → new ≡ cond (is_same e.uid q) true old → old ≡ list_any (λ x. is_same x.uid q) es →
-    new ≡ list_any (λ x. is_same x.uid q) (e ∷ es)
-one_more q es e old new is was = is ∙ either (is_same e.uid q) old ∙ ap (λ (b : Bool). is_same e.uid q || b) was
+or_true : (b : Bool) → (b || true) ≡ true
+or_true true = refl
+or_true false = refl
+
+-- one of the entities is among them
+pub one-among : (front done : List BareEntity) (e : BareEntity) → list_any (λ x. is_same x.uid e.uid) ((front ++ e ∷ []) ++ done) ≡ true
+one-among [] done e = ap (λ b. b || list_any (λ x. is_same x.uid e.uid) done) (same_self e.uid)
+one-among (x ∷ front) done e = ap (λ b. is_same x.uid e.uid || b) (one-among front done e) ∙ or_true (is_same x.uid e.uid)
+
+true_false : {G : Type 0} (b : Bool) → b ≡ true → b ≡ false → G
+true_false b yes' no' = let e : true ≡ false = sym yes' ∙ no' in absurd cc
+
+apart-by : (own : EntityUid) (q : EntityUid) (b : Bool) → b ≡ is_same own q → (is_same own q ≡ true → ⊥) → is_same own q ≡ false
+apart-by own q true e no' = absurd (no' (sym e))
+apart-by own q false e no' = sym e
+
+-- what is not in a set is another than what is
+pub another : (uids : BTreeSet EntityUid) (own q : EntityUid) → contains uid_cmp uids own ≡ true → contains uid_cmp uids q ≡ false → is_same own q ≡ false
+another uids own q here none =
+    apart-by own q (is_same own q) refl
+    (λ same. true_false (contains uid_cmp uids q) (subst (λ u. contains uid_cmp uids u ≡ true) ((equal-is uid_cmp-IsTotalOrder uid_cmp-IsAntisymmetric own q).0 same) here) none)

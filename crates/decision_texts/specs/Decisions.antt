@@ -80,6 +80,12 @@ pub record IsAnswerTo (policies : List Named) (stored : List BareEntity) (asked 
   pub order : IsInOrder policies ordered
   pub is : IsAnswer (world_in stored) asked ordered answer
 
+-- the line of that answer
+pub record IsLineTo (policies : List Named) (stored : List BareEntity) (asked : Request) (line : List ℕ) : Type 0 where
+  pub answer : Answer
+  pub answers : IsAnswerTo policies stored asked answer
+  pub line_is : line ≡ answer_line answer
+
 -- ---- the three texts
 
 -- the texts of policies, entities and a request are read, and this is the line of the request's answer

@@ -1,17 +1,16 @@
 ghost use Rattle.std.specs.Prelude.{◌≡◌, map, string_bytes, IfOk, IfErr};
 ghost use Rattle.authoriser.specs.Views.{named};
 ghost use Rattle.decision_texts.specs.Refusals.{no_memory};
-ghost use Rattle.decision_texts.specs.Decisions.{named_policies, IsInOrder, IsAnswerTo, IsDecided, IsRefused};
+ghost use Rattle.decision_texts.specs.Decisions.{named_policies, IsInOrder, IsAnswerTo, IsLineTo, IsDecided, IsRefused};
 
-use crate::bare::BareEntity;
-use crate::entity_file::{read_entities, refusal_at};
+use crate::entity_file::{EntityFile, read_entities, refusal_at};
 use crate::lines::answer_line;
 use crate::policies::{read_policies, refusal_by};
 use crate::refusal::Refusal;
 use crate::request::read_request;
 use crate::store::BareStore;
 use authoriser::{Answer, decide};
-use plain::{Items, NoMemory};
+use plain::NoMemory;
 use policy_grammar::Policy;
 use std::alloc::Global;
 use values::Request;
@@ -46,14 +45,27 @@ fn in_order<'p>(
 fn answer_to(
     alloc: Global,
     policies: &[(String, Policy)],
-    entities: Items<BareEntity>,
+    file: EntityFile,
     request: &Request,
 ) -> Result<Answer, NoMemory>
-    ensures { IfOk result (IsAnswerTo (named_policies (map (λ p. string_bytes p.0) policies.now) (map (λ p. p.1) policies.now)) entities request.now) }
+    ensures { IfOk result (IsAnswerTo (named_policies (map (λ p. string_bytes p.0) policies.now) (map (λ p. p.1) policies.now)) file.entities request.now) }
 {
     let ordered = in_order(alloc, policies)?;
-    let store = BareStore::of(alloc, entities)?;
+    let store = BareStore::of(alloc, file)?;
     decide(alloc, &ordered, request, &store)
+}
+
+/// The line of the answer to a request over these policies and entities.
+fn line_to(
+    alloc: Global,
+    policies: &[(String, Policy)],
+    file: EntityFile,
+    request: &Request,
+) -> Result<Vec<u8>, NoMemory>
+    ensures { IfOk result (λ line. IsLineTo (named_policies (map (λ p. string_bytes p.0) policies.now) (map (λ p. p.1) policies.now)) file.entities request.now line.items) }
+{
+    let answer = answer_to(alloc, policies, file, request)?;
+    answer_line(alloc, &answer)
 }
 
 /// The line of the answer to a request, over a file of policies and an array of entities, or the first refusal.
@@ -79,6 +91,5 @@ pub fn decide_texts(
         Ok(request) => request,
         Err(fault) => return Err(refusal_at(None, fault)),
     };
-    let answer = answer_to(alloc, &policies, entities, &request)?;
-    Ok(answer_line(alloc, &answer)?)
+    Ok(line_to(alloc, &policies, entities, &request)?)
 }

@@ -1,4 +1,11 @@
-ghost use Rattle.std.specs.Prelude.{◌≡◌, Some};
+//! The entities of a file.
+ghost use Rattle.std.specs.Prelude.{◌≡◌, Some, option_map};
+ghost use Rattle.std.specs.BTreeSet.{contains};
+ghost use Rattle.std.specs.List.{list_any};
+ghost use Rattle.values.specs.declared.entity_uid.EntityUid.{EntityUid};
+ghost use Rattle.values.specs.Names.{uid_cmp};
+ghost use Rattle.ancestor_closure.specs.Decided.{is_same};
+ghost use Rattle.serde_json.specs.Find.{as_array};
 ghost use Rattle.serde_json.specs.View.{view, items_view};
 ghost use Rattle.json_words.specs.Gives.{Gives};
 ghost use Rattle.decision_texts.specs.Refusals.{no_memory, refusal_at};
@@ -10,8 +17,16 @@ use json_words::read_json;
 use plain::Items;
 use serde_json::Value;
 use std::alloc::Global;
-use std::collections::BTreeSet;
+use std::collections::{BTreeSet, VecDeque};
 use values::EntityUid;
+
+/// The entities of an array in its order, and the set of their uids.
+#[derive(Drop)]
+pub(crate) struct EntityFile {
+    pub(crate) entities: Items<BareEntity>,
+    pub(crate) uids: BTreeSet<EntityUid>,
+    ghost all: { (q : EntityUid) → contains uid_cmp uids q ≡ list_any (λ e. is_same e.uid q) entities },
+}
 
 /// A fault of shape as a refusal at a place.
 pub(crate) fn refusal_at(place: Option<usize>, fault: ShapeFault) -> Refusal
@@ -33,32 +48,49 @@ fn read_entity_at(alloc: Global, value: &Value, place: usize) -> Result<BareEnti
     }
 }
 
-/// The entities of an array, each the only one of its uid.
-fn read_array(alloc: Global, values: &[Value]) -> Result<Items<BareEntity>, Refusal>
-    ensures { Gives no_memory (λ es. es) result (entities_in (items_view values.now)) }
+/// The entities of an array, each the only one of its uid. The JSON of each is given up before the next is read.
+fn read_array(alloc: Global, values: Vec<Value>) -> Result<EntityFile, Refusal>
+    ensures { Gives no_memory (λ f. f.entities) result (entities_in (items_view values.items)) }
 {
+    let count = values.len();
+    let mut rest = VecDeque::from_vec(values);
     let mut entities = Items::new(alloc);
     let mut uids: BTreeSet<EntityUid> = BTreeSet::new(alloc);
-    for (place, value) in values.iter().enumerate() {
-        let entity = read_entity_at(alloc, value, place)?;
+    for place in 0..count {
+        let Some(value) = rest.pop_front() else {
+            unreachable!();
+        };
+        let read = read_entity_at(alloc, &value, place);
+        drop(value);
+        let entity = read?;
         let uid = entity.uid.copy()?;
         if !uids.insert(uid)? {
             return Err(Refusal::bad_shape(Some(place)));
         }
         entities.push(entity)?;
     }
-    Ok(entities)
+    Ok(EntityFile { entities, uids })
+}
+
+/// The items of an array.
+fn into_array(value: Value) -> Option<Vec<Value>>
+    ensures { option_map (λ values. items_view values.items) result ≡ as_array (view value) }
+{
+    match value {
+        Value::Array(values) => Some(values),
+        _ => None,
+    }
 }
 
 /// The entities of a file.
 #[tactic(auto, unfolding(crate::specs::Bare::entities_of))]
-pub(crate) fn read_entities(alloc: Global, text: &[u8]) -> Result<Items<BareEntity>, Refusal>
-    ensures { Gives no_memory (λ es. es) result (entities_of text.now) }
+pub(crate) fn read_entities(alloc: Global, text: &[u8]) -> Result<EntityFile, Refusal>
+    ensures { Gives no_memory (λ f. f.entities) result (entities_of text.now) }
 {
     let Some(value) = read_json(alloc, text)? else {
         return Err(Refusal::bad_shape(None));
     };
-    match value.as_array() {
+    match into_array(value) {
         Some(values) => read_array(alloc, values),
         None => Err(Refusal::bad_shape(None)),
     }

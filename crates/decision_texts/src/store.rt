@@ -1,14 +1,15 @@
 //! The entities of a file, as policies ask for them.
-ghost use Rattle.std.specs.Prelude.{◌≡◌, ◌∷◌, [], false, List, IfOk, OnOk};
+ghost use Rattle.std.specs.Prelude.{◌≡◌, ◌∷◌, [], true, false, List, IfOk, OnOk};
 ghost use Rattle.std.specs.BTreeSet.{contains};
 ghost use Rattle.values.specs.declared.entity_uid.EntityUid.{EntityUid};
 ghost use Rattle.values.specs.Names.{uid_cmp};
 ghost use Rattle.ancestor_closure.specs.contracts.searched.SearchedAncestry.TheImpl as searched;
 
 use crate::bare::BareEntity;
+use crate::entity_file::EntityFile;
 use ancestor_closure::{Ancestry, Hierarchy, Searched};
 use evaluator::Lookup;
-use plain::{Items, NoMemory};
+use plain::NoMemory;
 use std::alloc::Global;
 use std::collections::BTreeSet;
 use values::{EntityUid, Record};
@@ -65,26 +66,28 @@ impl BareStore {
     ghost use Rattle.evaluator.specs.Operators.{world_of};
     ghost use Rattle.decision_texts.specs.declared.bare.BareEntity.{BareEntity};
     ghost use Rattle.decision_texts.specs.Decisions.{world_in};
-    ghost use Rattle.decision_texts.specs.Stores.{Holds};
+    ghost use Rattle.decision_texts.specs.Stores.{HasParents};
 
-    /// Stores an entity with its parents.
+    /// Gives an entity of the store its parents.
     fn add(&mut self, entity: BareEntity) -> Result<(), NoMemory>
-        ensures { OnOk result ((es : List BareEntity) → Holds self.old es → Holds self.new (entity ∷ es)) }
+        requires { contains uid_cmp self.old.uids entity.uid ≡ true }
+        ensures uids { self.new.uids ≡ self.old.uids }
+        ensures nothing { self.new.nothing ≡ self.old.nothing }
+        ensures parents { OnOk result ((es : List BareEntity) → HasParents self.old es → HasParents self.new (entity ∷ es)) }
     {
         let BareEntity { uid, parents } = entity;
-        let own = uid.copy()?;
-        self.uids.insert(own)?;
         self.hierarchy.set_parents(uid, parents.into_vec())
     }
 
-    /// The store in which each entity has its own parents and no attributes.
-    pub(crate) fn of(alloc: Global, entities: Items<BareEntity>) -> Result<BareStore, NoMemory>
-        ensures { IfOk result (λ s. world_of (⟦<BareStore as Lookup>⟧.stored s) (⟦<BareStore as Ancestry>⟧.parents s) ≡ world_in entities) }
+    /// The store in which each entity of a file has its own parents and no attributes.
+    pub(crate) fn of(alloc: Global, file: EntityFile) -> Result<BareStore, NoMemory>
+        ensures { IfOk result (λ s. world_of (⟦<BareStore as Lookup>⟧.stored s) (⟦<BareStore as Ancestry>⟧.parents s) ≡ world_in file.entities) }
     {
+        let EntityFile { entities, uids } = file;
         let mut left = entities.into_vec();
         let mut store = BareStore {
             hierarchy: Searched::new(alloc),
-            uids: BTreeSet::new(alloc),
+            uids,
             nothing: Record::new(alloc),
         };
         while let Some(entity) = left.pop() {

@@ -1,5 +1,5 @@
 //! Core expressions from their parts, and those that a single token makes.
-ghost use Rattle.std.specs.Prelude.{◌≡◌, IfOk};
+ghost use Rattle.std.specs.Prelude.{◌≡◌, IfOk, Some};
 ghost use Rattle.policy_tokens.specs.declared.token.Kind.TheVariants as k;
 ghost use Rattle.policy_tokens.specs.Lexing.{spelling_of};
 ghost use Rattle.expressions.specs.declared.leaf.Literal.TheVariants as literal;
@@ -12,6 +12,7 @@ ghost use Rattle.desugaring.specs.Strings.{value_of, pattern_of};
 ghost use Rattle.desugaring.specs.Numbers.{positive, negative};
 ghost use Rattle.desugaring.specs.Meaning.{boolean_of, variable_of, path_name, uid_of, name_of};
 ghost use Rattle.desugaring.specs.Core as spec;
+ghost use Rattle.desugaring.specs.declared.names.Method.TheVariants as method;
 ghost use Rattle.desugaring.specs.Giving.{Gave};
 ghost use Rattle.desugaring.specs.Standing.{TokenIn, PathIn, UidIn};
 
@@ -88,7 +89,7 @@ pub(crate) fn field(alloc: Global, text: &str, owner: Expr, token: Token) -> Res
     requires { TokenIn text.now keys token }
     ensures { IfOk result (λ e. e ≡ core.Field owner (name_of text.entry.now token)) }
 {
-    let name = name(alloc, text, token)?;
+    let (owner, name) = both(Ok(owner), name(alloc, text, token))?;
     Expr::field(alloc, owner, name)
 }
 
@@ -102,8 +103,7 @@ pub(crate) fn has(
     requires { TokenIn text.now keys token }
     ensures { IfOk result (λ e. Gave owner (λ a. e ≡ core.Has a (name_of text.now token))) }
 {
-    let owner = owner?;
-    let name = name(alloc, text, token)?;
+    let (owner, name) = both(owner, name(alloc, text, token))?;
     Expr::has(alloc, owner, name)
 }
 
@@ -117,8 +117,7 @@ pub(crate) fn like(
     requires { TokenIn text.now patterns token }
     ensures { IfOk result (λ e. Gave operand (λ a. e ≡ core.Unary (unary.Like (pattern_of (spelling_of text.now token))) a)) }
 {
-    let operand = operand?;
-    let pattern = pattern(alloc, text, token)?;
+    let (operand, pattern) = both(operand, pattern(alloc, text, token))?;
     Expr::unary(alloc, Unary::Like(pattern), operand)
 }
 
@@ -132,16 +131,15 @@ pub(crate) fn is(
     requires { PathIn text.now path.now }
     ensures { IfOk result (λ e. Gave operand (λ a. e ≡ core.Unary (unary.Is (path_name text.now path.now)) a)) }
 {
-    let operand = operand?;
-    let type_name = type_name(alloc, text, path)?;
+    let (operand, type_name) = both(operand, type_name(alloc, text, path))?;
     Expr::unary(alloc, Unary::Is(type_name), operand)
 }
 
-/// Both of two.
-pub(crate) fn both(
-    left: Result<Expr, NoMemory>,
-    right: Result<Expr, NoMemory>,
-) -> Result<(Expr, Expr), NoMemory>
+/// Both of two. Generic, so that what is let go where one is missing is one step, and not one a form.
+pub(crate) fn both<A: Drop, B: Drop>(
+    left: Result<A, NoMemory>,
+    right: Result<B, NoMemory>,
+) -> Result<(A, B), NoMemory>
     ensures { IfOk result (λ pair. Gave left (λ a. Gave right (λ b. pair ≡ (a, b)))) }
 {
     let left = left?;
@@ -159,8 +157,7 @@ pub(crate) fn is_in(
     requires { PathIn text.now path.now }
     ensures { IfOk result (λ e. Gave pair (λ p. e ≡ core.And (core.Unary (unary.Is (path_name text.now path.now)) p.0) (core.Binary binary.In p.0 p.1))) }
 {
-    let (operand, ancestor) = pair?;
-    let type_name = type_name(alloc, text, path)?;
+    let ((operand, ancestor), type_name) = both(pair, type_name(alloc, text, path))?;
     Expr::is_in(alloc, operand, type_name, ancestor)
 }
 
@@ -184,8 +181,7 @@ pub(crate) fn if_then_else(
 ) -> Result<Expr, NoMemory>
     ensures { IfOk result (λ e. Gave test (λ a. Gave pair (λ p. e ≡ core.If a p.0 p.1))) }
 {
-    let test = test?;
-    let (consequent, alternative) = pair?;
+    let (test, (consequent, alternative)) = both(test, pair)?;
     Expr::if_then_else(alloc, test, consequent, alternative)
 }
 
@@ -212,8 +208,7 @@ pub(crate) fn compare(
 ) -> Result<Expr, NoMemory>
     ensures { IfOk result (λ e. Gave left (λ a. Gave right (λ b. e ≡ spec.compared kind a b))) }
 {
-    let left = left?;
-    let right = right?;
+    let (left, right) = both(left, right)?;
     match kind {
         Kind::Less => Expr::binary(alloc, Binary::Less, left, right),
         Kind::LessEqual => Expr::binary(alloc, Binary::LessOrEqual, left, right),
@@ -236,8 +231,8 @@ pub(crate) fn join(alloc: Global, chain: Chain, left: Expr, right: Expr) -> Resu
     }
 }
 
-/// What stands in place of a call that is refused.
-fn no_call() -> Expr
+/// What stands in place of a call of these parts that is refused.
+fn no_call<T: Drop>(_parts: T) -> Expr
     ensures { result ≡ spec.no_call }
 {
     Expr::Literal(Literal::Boolean(false))
@@ -259,9 +254,13 @@ pub(crate) fn call(
 ) -> Result<Expr, NoMemory>
     ensures { IfOk result (λ e. Gave arguments (λ es. e ≡ spec.called function es)) }
 {
-    match (function, single(arguments?)) {
-        (Some(called), Some(argument)) => Expr::unary_call(alloc, called, argument),
-        _ => Ok(no_call()),
+    let arguments = arguments?;
+    let Some(called) = function else {
+        return Ok(no_call(arguments));
+    };
+    match single(arguments) {
+        Some(argument) => Expr::unary_call(alloc, called, argument),
+        None => Ok(no_call(())),
     }
 }
 
@@ -275,9 +274,25 @@ fn call_with(
     ensures { IfOk result (λ e. e ≡ spec.called_with method receiver argument) }
 {
     match method {
-        Method::Alone(_) => Ok(no_call()),
+        Method::Alone(_) => Ok(no_call((receiver, argument))),
         Method::Operator(operator) => Expr::binary(alloc, operator, receiver, argument),
         Method::WithArgument(called) => Expr::binary_call(alloc, called, receiver, argument),
+    }
+}
+
+/// A call of a method that takes no argument.
+fn call_alone(
+    alloc: Global,
+    called: UnaryCall,
+    receiver: Expr,
+    arguments: Items<Expr>,
+) -> Result<Expr, NoMemory>
+    ensures { IfOk result (λ e. e ≡ spec.method_called (Some (method.Alone called)) receiver arguments) }
+{
+    if arguments.is_empty() {
+        Expr::unary_call(alloc, called, receiver)
+    } else {
+        Ok(no_call((receiver, arguments)))
     }
 }
 
@@ -291,17 +306,11 @@ pub(crate) fn call_method(
     ensures { IfOk result (λ e. e ≡ spec.method_called method receiver arguments) }
 {
     match method {
-        None => Ok(no_call()),
-        Some(Method::Alone(called)) => {
-            if arguments.is_empty() {
-                Expr::unary_call(alloc, called, receiver)
-            } else {
-                Ok(no_call())
-            }
-        }
+        None => Ok(no_call((receiver, arguments))),
+        Some(Method::Alone(called)) => call_alone(alloc, called, receiver, arguments),
         Some(other) => match single(arguments) {
             Some(argument) => call_with(alloc, other, receiver, argument),
-            None => Ok(no_call()),
+            None => Ok(no_call(receiver)),
         },
     }
 }

@@ -3,4 +3,5 @@ pub mod Alone
 pub mod Applied
 pub mod ByKind
 pub mod Conversions
+pub mod Membership
 pub mod Telling

@@ -15,7 +15,7 @@ use crate::lookup::Lookup;
 use crate::operands::boolean_of;
 use crate::operators::{binary, unary};
 use expressions::{Binary, BinaryCall, Expr, Named, Unary, UnaryCall};
-use plain::{Boxed, Items, Text};
+use plain::{Items, Shared, Text};
 use std::alloc::Global;
 use values::{Record, Request, Value};
 
@@ -92,7 +92,7 @@ fn outcome_of<'a, L: Lookup>(
 #[inline(never)]
 fn test_of<'a, L: Lookup>(
     alloc: Global,
-    test: &'a Boxed<Expr>,
+    test: &'a Shared<Expr>,
     request: &'a Request,
     store: &'a L,
 ) -> Result<bool, EvalFault>
@@ -108,7 +108,7 @@ fn test_of<'a, L: Lookup>(
 fn one_operand<'a, L: Lookup>(
     alloc: Global,
     operator: &Unary,
-    operand: &'a Boxed<Expr>,
+    operand: &'a Shared<Expr>,
     request: &'a Request,
     store: &'a L,
 ) -> Result<Given<'a>, EvalFault>
@@ -123,7 +123,7 @@ fn one_operand<'a, L: Lookup>(
 #[inline(never)]
 fn second_operand<'a, L: Lookup>(
     alloc: Global,
-    right: &'a Boxed<Expr>,
+    right: &'a Shared<Expr>,
     operator: Binary,
     left: &Given<'_>,
     request: &'a Request,
@@ -141,7 +141,7 @@ fn second_operand<'a, L: Lookup>(
 fn one_called<'a, L: Lookup>(
     alloc: Global,
     called: UnaryCall,
-    operand: &'a Boxed<Expr>,
+    operand: &'a Shared<Expr>,
     request: &'a Request,
     store: &'a L,
 ) -> Result<Given<'a>, EvalFault>
@@ -156,7 +156,7 @@ fn one_called<'a, L: Lookup>(
 #[inline(never)]
 fn second_called<'a, L: Lookup>(
     alloc: Global,
-    right: &'a Boxed<Expr>,
+    right: &'a Shared<Expr>,
     called: BinaryCall,
     left: &Given<'_>,
     request: &'a Request,
@@ -173,7 +173,7 @@ fn second_called<'a, L: Lookup>(
 #[inline(never)]
 fn field_of<'a, L: Lookup>(
     alloc: Global,
-    owner: &'a Boxed<Expr>,
+    owner: &'a Shared<Expr>,
     name: &Text,
     request: &'a Request,
     store: &'a L,
@@ -189,7 +189,7 @@ fn field_of<'a, L: Lookup>(
 #[inline(never)]
 fn has_of<'a, L: Lookup>(
     alloc: Global,
-    owner: &'a Boxed<Expr>,
+    owner: &'a Shared<Expr>,
     name: &Text,
     request: &'a Request,
     store: &'a L,

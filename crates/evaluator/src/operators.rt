@@ -1,7 +1,8 @@
 // What operators give on values.
-ghost use Rattle.std.specs.Prelude.{◌≡◌, IfOk, MatchResult, Ok, Err};
+ghost use Rattle.std.specs.Prelude.{◌≡◌, ◌⊎◌, ◌↔◌, IsTrue, Contains, IfOk, MatchResult, Ok, Err};
 ghost use Rattle.values.specs.ValueOrder.{value_cmp};
 ghost use Rattle.values.specs.Sets.{has_member};
+ghost use Rattle.ancestor_closure.specs.Hierarchy.{IsAscending, names};
 ghost use Rattle.evaluator.specs.Outcomes.{entity_in};
 ghost use Rattle.evaluator.specs.Computing.{entities_of, demanded, Answers, number_or_fault, apply_unary, apply_binary, is_in, in_members, in_value};
 
@@ -10,6 +11,7 @@ use crate::given::Given;
 use crate::kinds::BorrowedKind;
 use crate::lookup::Lookup;
 use crate::operands::{boolean_of, entity_of, long_of, set_of, text_of};
+use ancestor_closure::is_among;
 use expressions::{Binary, Unary};
 use plain::NoMemory;
 use std::cmp::Ordering;
@@ -59,15 +61,24 @@ fn member_entity(member: &Value) -> Result<&EntityUid, EvalFault>
     }
 }
 
-/// Whether `a` is in some member, all of which have to be entities.
+/// Whether `a` is `b`, or `b` is among the ancestors of `a`.
+fn is_within(a: &EntityUid, ancestors: &[&EntityUid], b: &EntityUid) -> bool
+    requires { IsAscending (names ancestors.now) }
+    ensures { IsTrue result ↔ ((a.now ≡ b.now) ⊎ Contains (names ancestors.now) b.now) }
+{
+    a.cmp(b).is_eq() || is_among(ancestors, b)
+}
+
+/// Whether `a` is in some member, all of which have to be entities. The ancestors of `a` are asked for once.
 fn in_members<L: Lookup>(store: &L, a: &EntityUid, members: &[Value]) -> Result<bool, EvalFault>
     ensures { Answers result (in_members (entities_of (L.stored store.now) (L.above store.now)) a.now members.now) }
 {
+    let ancestors = store.ancestors(a)?;
     let mut found = false;
     for member in members {
         let b = member_entity(member)?;
         if !found {
-            found = is_in(store, a, b)?;
+            found = is_within(a, &ancestors, b);
         }
     }
     Ok(found)

@@ -9,6 +9,7 @@ ghost use Rattle.expression_syntax.specs.declared.tree.ExprTree.TheVariants as t
 
 use crate::cursor::Cursor;
 use crate::fault::Halt;
+use crate::held::{beside, three};
 use crate::primary::Reader;
 use crate::tree::ExprTree;
 use plain::Boxed;
@@ -23,11 +24,8 @@ fn if_of(
 ) -> Result<ExprTree, AllocError>
     ensures { IfOk result (λ e. e ≡ tree.If test consequent alternative) }
 {
-    Ok(ExprTree::If(
-        Boxed::new(alloc, test)?,
-        Boxed::new(alloc, consequent)?,
-        Boxed::new(alloc, alternative)?,
-    ))
+    let (test, consequent, alternative) = three(alloc, test, consequent, alternative)?;
+    Ok(ExprTree::If(test, consequent, alternative))
 }
 
 impl<F: Fn(Global, &mut Cursor<'_>, usize) -> Result<ExprTree, Halt>> Reader<F> {
@@ -61,7 +59,10 @@ impl<F: Fn(Global, &mut Cursor<'_>, usize) -> Result<ExprTree, Halt>> Reader<F> 
         requires { Nests self.now.levels (F.pre self.now.expr) (F.post self.now.expr) }
         ensures { Gives (spec.decided (is_positive self.now.levels) (spec.expr self.now.levels) test consequent tokens.old.rest.now) result tokens.new.rest.now }
     {
-        let alternative = self.alternative(tokens)?;
+        let ((test, consequent), alternative) = beside(
+            (test, consequent),
+            self.alternative(tokens),
+        )?;
         Ok(if_of(self.alloc, test, consequent, alternative)?)
     }
 
@@ -70,7 +71,7 @@ impl<F: Fn(Global, &mut Cursor<'_>, usize) -> Result<ExprTree, Halt>> Reader<F> 
         requires { Nests self.now.levels (F.pre self.now.expr) (F.post self.now.expr) }
         ensures { Gives (spec.tried (is_positive self.now.levels) (spec.expr self.now.levels) test tokens.old.rest.now) result tokens.new.rest.now }
     {
-        let consequent = self.consequent(tokens)?;
+        let (test, consequent) = beside(test, self.consequent(tokens))?;
         self.decided(tokens, test, consequent)
     }
 

@@ -8,6 +8,7 @@
 mod cursor;
 mod expression;
 mod fault;
+mod held;
 mod laws;
 mod names;
 mod operators;
@@ -18,6 +19,7 @@ mod tree;
 pub use cursor::{Cursor, TokenSet};
 pub use expression::expr;
 pub use fault::{Halt, SyntaxFault};
+pub use held::beside;
 pub use laws::expression_is_unique;
 pub use names::{path, uid};
 pub use read::{NESTING_LIMIT, read_expression, refusal};

@@ -9,6 +9,7 @@ ghost use Rattle.expression_syntax.specs.declared.tree.ExprTree.TheVariants as t
 
 use crate::cursor::{Cursor, TokenSet};
 use crate::fault::Halt;
+use crate::held::{beside, two};
 use crate::names::path;
 use crate::primary::{Reader, indexed};
 use crate::tree::{Access, ExprTree, PathTree, Term};
@@ -82,7 +83,8 @@ fn under(alloc: Global, sign: Kind, x: ExprTree) -> Result<ExprTree, AllocError>
 fn compare(alloc: Global, x: ExprTree, operator: Token, y: ExprTree) -> Result<ExprTree, AllocError>
     ensures { IfOk result (λ e. e ≡ tree.Compare x operator y) }
 {
-    Ok(ExprTree::Compare(Boxed::new(alloc, x)?, operator, Boxed::new(alloc, y)?))
+    let (x, y) = two(alloc, x, y)?;
+    Ok(ExprTree::Compare(x, operator, y))
 }
 
 fn has_of(alloc: Global, x: ExprTree, name: Token) -> Result<ExprTree, AllocError>
@@ -105,10 +107,12 @@ fn is_of(
 ) -> Result<ExprTree, AllocError>
     ensures { IfOk result (λ e. e ≡ is_in x type_name entity) }
 {
-    let x = Boxed::new(alloc, x)?;
     match entity {
-        None => Ok(ExprTree::Is(x, type_name)),
-        Some(entity) => Ok(ExprTree::IsIn(x, type_name, Boxed::new(alloc, entity)?)),
+        None => Ok(ExprTree::Is(Boxed::new(alloc, x)?, type_name)),
+        Some(entity) => {
+            let (x, entity) = two(alloc, x, entity)?;
+            Ok(ExprTree::IsIn(x, type_name, entity))
+        }
     }
 }
 
@@ -191,7 +195,7 @@ impl<F: Fn(Global, &mut Cursor<'_>, usize) -> Result<ExprTree, Halt>> Reader<F> 
         ensures { Gives (spec.member (is_positive self.now.levels) (spec.expr self.now.levels) tokens.old.rest.now) result tokens.new.rest.now }
     {
         let first = self.primary(tokens)?;
-        let more = self.accesses(tokens)?;
+        let (first, more) = beside(first, self.accesses(tokens))?;
         Ok(member_of(self.alloc, first, more)?)
     }
 
@@ -256,7 +260,7 @@ impl<F: Fn(Global, &mut Cursor<'_>, usize) -> Result<ExprTree, Halt>> Reader<F> 
         ensures { Gives (spec.product (is_positive self.now.levels) (spec.expr self.now.levels) tokens.old.rest.now) result tokens.new.rest.now }
     {
         let first = self.unary(tokens)?;
-        let more = self.factors(tokens)?;
+        let (first, more) = beside(first, self.factors(tokens))?;
         Ok(product_of(self.alloc, first, more)?)
     }
 
@@ -293,7 +297,7 @@ impl<F: Fn(Global, &mut Cursor<'_>, usize) -> Result<ExprTree, Halt>> Reader<F> 
         ensures { Gives (spec.sum (is_positive self.now.levels) (spec.expr self.now.levels) tokens.old.rest.now) result tokens.new.rest.now }
     {
         let first = self.product(tokens)?;
-        let more = self.terms(tokens)?;
+        let (first, more) = beside(first, self.terms(tokens))?;
         Ok(sum_of(self.alloc, first, more)?)
     }
 
@@ -303,8 +307,8 @@ impl<F: Fn(Global, &mut Cursor<'_>, usize) -> Result<ExprTree, Halt>> Reader<F> 
         requires { Nests self.now.levels (F.pre self.now.expr) (F.post self.now.expr) }
         ensures { Gives (spec.compared (is_positive self.now.levels) (spec.expr self.now.levels) x tokens.old.rest.now) result tokens.new.rest.now }
     {
-        let operator = tokens.take_one_of(TokenSet::Comparisons)?;
-        let y = self.sum(tokens)?;
+        let (x, operator) = beside(x, tokens.take_one_of(TokenSet::Comparisons))?;
+        let (x, y) = beside(x, self.sum(tokens))?;
         Ok(compare(self.alloc, x, operator, y)?)
     }
 
@@ -314,8 +318,8 @@ impl<F: Fn(Global, &mut Cursor<'_>, usize) -> Result<ExprTree, Halt>> Reader<F> 
         requires { Nests self.now.levels (F.pre self.now.expr) (F.post self.now.expr) }
         ensures { Gives (spec.has (is_positive self.now.levels) (spec.expr self.now.levels) x tokens.old.rest.now) result tokens.new.rest.now }
     {
-        tokens.take(Kind::Has)?;
-        let name = tokens.take_one_of(TokenSet::Keys)?;
+        let (x, _has) = beside(x, tokens.take(Kind::Has))?;
+        let (x, name) = beside(x, tokens.take_one_of(TokenSet::Keys))?;
         Ok(has_of(self.alloc, x, name)?)
     }
 
@@ -325,8 +329,8 @@ impl<F: Fn(Global, &mut Cursor<'_>, usize) -> Result<ExprTree, Halt>> Reader<F> 
         requires { Nests self.now.levels (F.pre self.now.expr) (F.post self.now.expr) }
         ensures { Gives (spec.like (is_positive self.now.levels) (spec.expr self.now.levels) x tokens.old.rest.now) result tokens.new.rest.now }
     {
-        tokens.take(Kind::Like)?;
-        let text = tokens.take_one_of(TokenSet::Patterns)?;
+        let (x, _like) = beside(x, tokens.take(Kind::Like))?;
+        let (x, text) = beside(x, tokens.take_one_of(TokenSet::Patterns))?;
         Ok(like_of(self.alloc, x, text)?)
     }
 
@@ -358,9 +362,9 @@ impl<F: Fn(Global, &mut Cursor<'_>, usize) -> Result<ExprTree, Halt>> Reader<F> 
         requires { Nests self.now.levels (F.pre self.now.expr) (F.post self.now.expr) }
         ensures { Gives (spec.typed (is_positive self.now.levels) (spec.expr self.now.levels) x tokens.old.rest.now) result tokens.new.rest.now }
     {
-        tokens.take(Kind::Is)?;
-        let type_name = path(self.alloc, tokens)?;
-        let entity = self.maybe_inside(tokens)?;
+        let (x, _is) = beside(x, tokens.take(Kind::Is))?;
+        let (x, type_name) = beside(x, path(self.alloc, tokens))?;
+        let ((x, type_name), entity) = beside((x, type_name), self.maybe_inside(tokens))?;
         Ok(is_of(self.alloc, x, type_name, entity)?)
     }
 
@@ -433,7 +437,7 @@ impl<F: Fn(Global, &mut Cursor<'_>, usize) -> Result<ExprTree, Halt>> Reader<F> 
         ensures { Gives (spec.conjunction (is_positive self.now.levels) (spec.expr self.now.levels) tokens.old.rest.now) result tokens.new.rest.now }
     {
         let first = self.relation(tokens)?;
-        let more = self.ands(tokens)?;
+        let (first, more) = beside(first, self.ands(tokens))?;
         Ok(and_of(self.alloc, first, more)?)
     }
 
@@ -468,7 +472,7 @@ impl<F: Fn(Global, &mut Cursor<'_>, usize) -> Result<ExprTree, Halt>> Reader<F> 
         ensures { Gives (spec.disjunction (is_positive self.now.levels) (spec.expr self.now.levels) tokens.old.rest.now) result tokens.new.rest.now }
     {
         let first = self.conjunction(tokens)?;
-        let more = self.ors(tokens)?;
+        let (first, more) = beside(first, self.ors(tokens))?;
         Ok(or_of(self.alloc, first, more)?)
     }
 }

@@ -8,6 +8,7 @@ ghost use Rattle.expression_syntax.specs.Nests.{Nests};
 
 use crate::cursor::{Cursor, TokenSet};
 use crate::fault::Halt;
+use crate::held::beside;
 use crate::names::name_behind;
 use crate::tree::{Access, Entry, ExprTree, Name, PathTree};
 use plain::{Boxed, Items};
@@ -232,7 +233,7 @@ impl<F: Fn(Global, &mut Cursor<'_>, usize) -> Result<ExprTree, Halt>> Reader<F> 
     {
         tokens.take(Kind::LParen)?;
         let x = self.inner(tokens)?;
-        tokens.take(Kind::RParen)?;
+        let (x, _closed) = beside(x, tokens.take(Kind::RParen))?;
         let x = Boxed::new(self.alloc, x)?;
         Ok(ExprTree::Parentheses(x))
     }

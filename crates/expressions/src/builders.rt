@@ -2,8 +2,9 @@
 ghost use Rattle.std.specs.Prelude.{◌≡◌, IfOk};
 
 use crate::expr::Expr;
+use crate::held::{three, twice, two};
 use crate::operator::{Binary, BinaryCall, Unary, UnaryCall};
-use plain::{Boxed, NoMemory, Text};
+use plain::{NoMemory, Shared, Text};
 use std::alloc::Global;
 use values::TypeName;
 
@@ -17,32 +18,31 @@ impl Expr {
     ) -> Result<Expr, NoMemory>
         ensures { IfOk result (λ expr. expr ≡ Expr.If test consequent alternative) }
     {
-        let test = Boxed::new(alloc, test)?;
-        let consequent = Boxed::new(alloc, consequent)?;
-        Ok(Expr::If(test, consequent, Boxed::new(alloc, alternative)?))
+        let (test, consequent, alternative) = three(alloc, test, consequent, alternative)?;
+        Ok(Expr::If(test, consequent, alternative))
     }
 
     /// `left && right`, or `NoMemory`.
     pub fn and(alloc: Global, left: Expr, right: Expr) -> Result<Expr, NoMemory>
         ensures { IfOk result (λ expr. expr ≡ Expr.And left right) }
     {
-        let left = Boxed::new(alloc, left)?;
-        Ok(Expr::And(left, Boxed::new(alloc, right)?))
+        let (left, right) = two(alloc, left, right)?;
+        Ok(Expr::And(left, right))
     }
 
     /// `left || right`, or `NoMemory`.
     pub fn or(alloc: Global, left: Expr, right: Expr) -> Result<Expr, NoMemory>
         ensures { IfOk result (λ expr. expr ≡ Expr.Or left right) }
     {
-        let left = Boxed::new(alloc, left)?;
-        Ok(Expr::Or(left, Boxed::new(alloc, right)?))
+        let (left, right) = two(alloc, left, right)?;
+        Ok(Expr::Or(left, right))
     }
 
     /// An operator with its operand, or `NoMemory`.
     pub fn unary(alloc: Global, operator: Unary, operand: Expr) -> Result<Expr, NoMemory>
         ensures { IfOk result (λ expr. expr ≡ Expr.Unary operator operand) }
     {
-        Ok(Expr::Unary(operator, Boxed::new(alloc, operand)?))
+        Ok(Expr::Unary(operator, Shared::new(alloc, operand)?))
     }
 
     /// An operator with its operands, or `NoMemory`.
@@ -54,29 +54,29 @@ impl Expr {
     ) -> Result<Expr, NoMemory>
         ensures { IfOk result (λ expr. expr ≡ Expr.Binary operator left right) }
     {
-        let left = Boxed::new(alloc, left)?;
-        Ok(Expr::Binary(operator, left, Boxed::new(alloc, right)?))
+        let (left, right) = two(alloc, left, right)?;
+        Ok(Expr::Binary(operator, left, right))
     }
 
     /// `owner.name`, or `NoMemory`.
     pub fn field(alloc: Global, owner: Expr, name: Text) -> Result<Expr, NoMemory>
         ensures { IfOk result (λ expr. expr ≡ Expr.Field owner name) }
     {
-        Ok(Expr::Field(Boxed::new(alloc, owner)?, name))
+        Ok(Expr::Field(Shared::new(alloc, owner)?, name))
     }
 
     /// `owner has name`, or `NoMemory`.
     pub fn has(alloc: Global, owner: Expr, name: Text) -> Result<Expr, NoMemory>
         ensures { IfOk result (λ expr. expr ≡ Expr.Has owner name) }
     {
-        Ok(Expr::Has(Boxed::new(alloc, owner)?, name))
+        Ok(Expr::Has(Shared::new(alloc, owner)?, name))
     }
 
     /// A call with one operand, or `NoMemory`.
     pub fn unary_call(alloc: Global, called: UnaryCall, operand: Expr) -> Result<Expr, NoMemory>
         ensures { IfOk result (λ expr. expr ≡ Expr.UnaryCall called operand) }
     {
-        Ok(Expr::UnaryCall(called, Boxed::new(alloc, operand)?))
+        Ok(Expr::UnaryCall(called, Shared::new(alloc, operand)?))
     }
 
     /// A call with two operands, a method's receiver first, or `NoMemory`.
@@ -88,8 +88,8 @@ impl Expr {
     ) -> Result<Expr, NoMemory>
         ensures { IfOk result (λ expr. expr ≡ Expr.BinaryCall called left right) }
     {
-        let left = Boxed::new(alloc, left)?;
-        Ok(Expr::BinaryCall(called, left, Boxed::new(alloc, right)?))
+        let (left, right) = two(alloc, left, right)?;
+        Ok(Expr::BinaryCall(called, left, right))
     }
 
     /// `left != right`, which is `!(left == right)`, or `NoMemory`.
@@ -116,7 +116,8 @@ impl Expr {
         Expr::unary(alloc, Unary::Not, less)
     }
 
-    /// `operand is type_name in ancestor`, which is `operand is type_name && operand in ancestor`, or `NoMemory`.
+    /// `operand is type_name in ancestor`, which is `operand is type_name && operand in ancestor`, or `NoMemory`. The operand, which stands
+    /// twice in it, is kept once.
     pub fn is_in(
         alloc: Global,
         operand: Expr,
@@ -125,16 +126,9 @@ impl Expr {
     ) -> Result<Expr, NoMemory>
         ensures { IfOk result (λ expr. expr ≡ Expr.And (Expr.Unary (Unary.Is type_name) operand) (Expr.Binary Binary.In operand ancestor)) }
     {
-        let is = copy_is(alloc, &operand, type_name)?;
-        let within = Expr::binary(alloc, Binary::In, operand, ancestor)?;
+        let (tested, operand, ancestor) = twice(alloc, operand, ancestor)?;
+        let is = Expr::Unary(Unary::Is(type_name), tested);
+        let within = Expr::Binary(Binary::In, operand, ancestor);
         Expr::and(alloc, is, within)
     }
-}
-
-/// `operand is type_name`, of a copy of the operand.
-fn copy_is(alloc: Global, operand: &Expr, type_name: TypeName) -> Result<Expr, NoMemory>
-    ensures { IfOk result (λ expr. expr ≡ Expr.Unary (Unary.Is type_name) operand.now) }
-{
-    let tested = operand.copy(alloc)?;
-    Expr::unary(alloc, Unary::Is(type_name), tested)
 }

@@ -1,7 +1,7 @@
 // Core expressions.
 use crate::leaf::{Literal, Variable};
 use crate::operator::{Binary, BinaryCall, Unary, UnaryCall};
-use plain::{Boxed, Items, Text};
+use plain::{Items, Shared, Text};
 
 /// Something under a name, as a field of a record.
 #[derive(Drop)]
@@ -25,25 +25,25 @@ pub enum Expr {
     /// A part of the request.
     Variable(Variable),
     /// `if`, its test, and what stands behind `then` and `else`.
-    If(Boxed<Expr>, Boxed<Expr>, Boxed<Expr>),
+    If(Shared<Expr>, Shared<Expr>, Shared<Expr>),
     /// `&&`.
-    And(Boxed<Expr>, Boxed<Expr>),
+    And(Shared<Expr>, Shared<Expr>),
     /// `||`.
-    Or(Boxed<Expr>, Boxed<Expr>),
+    Or(Shared<Expr>, Shared<Expr>),
     /// An operator with its operand.
-    Unary(Unary, Boxed<Expr>),
+    Unary(Unary, Shared<Expr>),
     /// An operator with its operands.
-    Binary(Binary, Boxed<Expr>, Boxed<Expr>),
+    Binary(Binary, Shared<Expr>, Shared<Expr>),
     /// `.`: the field of a record, or the attribute of an entity, of this name.
-    Field(Boxed<Expr>, Text),
+    Field(Shared<Expr>, Text),
     /// `has`: whether there is a field or an attribute of this name.
-    Has(Boxed<Expr>, Text),
+    Has(Shared<Expr>, Text),
     /// A set of what these give.
     Set(Items<Expr>),
     /// A record of what these give, in the order that they are written in.
     Record(Items<Named<Expr>>),
     /// A call of a function or a method with one operand.
-    UnaryCall(UnaryCall, Boxed<Expr>),
+    UnaryCall(UnaryCall, Shared<Expr>),
     /// A call of a method with two operands.
-    BinaryCall(BinaryCall, Boxed<Expr>, Boxed<Expr>),
+    BinaryCall(BinaryCall, Shared<Expr>, Shared<Expr>),
 }

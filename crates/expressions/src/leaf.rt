@@ -1,7 +1,5 @@
 //! Expressions without operands: literals and variables.
-ghost use Rattle.std.specs.Prelude.{◌≡◌, IfOk};
-
-use plain::{NoMemory, Text};
+use plain::Text;
 use values::EntityUid;
 
 /// A value that is written out in a policy (Cedar reference guide, "Supported data types").
@@ -28,18 +26,4 @@ pub enum Variable {
     Resource,
     /// The record that the request brings along.
     Context,
-}
-
-impl Literal {
-    /// The same literal, or `NoMemory`.
-    pub fn copy(&self) -> Result<Literal, NoMemory>
-        ensures { IfOk result (λ literal. literal ≡ self.now) }
-    {
-        match self {
-            Literal::Boolean(truth) => Ok(Literal::Boolean(*truth)),
-            Literal::Long(number) => Ok(Literal::Long(*number)),
-            Literal::Text(text) => Ok(Literal::Text(text.copy()?)),
-            Literal::Entity(uid) => Ok(Literal::Entity(uid.copy()?)),
-        }
-    }
 }

@@ -4,8 +4,8 @@
 #![tactic(auto)]
 
 mod builders;
-mod copying;
 mod expr;
+mod held;
 mod laws;
 mod leaf;
 mod operator;

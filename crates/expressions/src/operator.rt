@@ -1,9 +1,6 @@
 //! What is done with operands (Cedar reference guide, "Operators and functions").
-ghost use Rattle.std.specs.Prelude.{◌≡◌, IfOk};
 
 use crate::pattern::Pattern;
-use plain::NoMemory;
-use std::alloc::Global;
 use values::TypeName;
 
 /// An operator with one operand.
@@ -74,18 +71,4 @@ pub enum BinaryCall {
     GreaterThanOrEqual,
     /// `isInRange`, of addresses.
     IsInRange,
-}
-
-impl Unary {
-    /// The same operator, or `NoMemory`.
-    pub fn copy(&self, alloc: Global) -> Result<Unary, NoMemory>
-        ensures { IfOk result (λ operator. operator ≡ self.now) }
-    {
-        match self {
-            Unary::Not => Ok(Unary::Not),
-            Unary::Negate => Ok(Unary::Negate),
-            Unary::Like(pattern) => Ok(Unary::Like(pattern.copy(alloc)?)),
-            Unary::Is(name) => Ok(Unary::Is(name.copy()?)),
-        }
-    }
 }

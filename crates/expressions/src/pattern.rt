@@ -1,10 +1,9 @@
 // Patterns of `like`.
-ghost use Rattle.std.specs.Prelude.{◌≡◌, ◌↔◌, ◌<◌, ◌++◌, [], ◌∷◌, IsTrue, IfOk, length};
+ghost use Rattle.std.specs.Prelude.{◌≡◌, ◌↔◌, ◌<◌, ◌++◌, [], ◌∷◌, IsTrue, length};
 ghost use Rattle.expressions.specs.Like.{Matches, literal, behind_stars};
 ghost use Rattle.expressions.specs.LikeTest.{Joins, is_match};
 
-use plain::{Items, NoMemory, Text};
-use std::alloc::Global;
+use plain::{Items, Text};
 use std::marker::Model;
 
 /// A pattern of `like`: literal texts with a wildcard between each two. Contracts see the list of the literal texts, one more than there
@@ -39,15 +38,6 @@ impl Pattern {
             before: Items::from_vec(before),
             last,
         }
-    }
-
-    /// The same pattern, or `NoMemory`.
-    pub fn copy(&self, alloc: Global) -> Result<Pattern, NoMemory>
-        ensures { IfOk result (λ pattern. pattern ≡ self.now) }
-    {
-        let before = copy_texts(alloc, &self.before)?;
-        let last = self.last.copy()?;
-        Ok(Pattern { before, last })
     }
 
     /// Whether the text is a joining of pieces, one for each element of the pattern in order: a literal text's piece equals it, a wildcard's is
@@ -88,15 +78,4 @@ fn others_match(middle: &[Text], last: &str, text: &str) -> bool
         rest = after;
     }
     rest.ends_with(last)
-}
-
-/// The same texts.
-fn copy_texts(alloc: Global, texts: &Items<Text>) -> Result<Items<Text>, NoMemory>
-    ensures { IfOk result (λ copies. copies ≡ texts.now) }
-{
-    let mut copies = Vec::with_capacity(alloc, texts.len())?;
-    for text in texts.as_slice() {
-        copies.push(text.copy()?)?;
-    }
-    Ok(Items::from_vec(copies))
 }

@@ -15,8 +15,8 @@ use std::marker::Model;
 /// How many bytes the longest canonical text has: `-922337203685477.5808`.
 const MOST: usize = 21;
 
-/// A number with four decimal places: a whole number of ten-thousandths, in signed 64 bits. Contracts see it as that number, by which
-/// decimals are compared and ordered.
+/// A number with four decimal places: a whole number of ten-thousandths, in signed 64 bits. Contracts see it as that
+/// number, by which decimals are compared and ordered.
 #[derive(Clone, Copy, Debug)]
 pub struct Decimal {
     ten_thousandths: i64,
@@ -36,8 +36,8 @@ impl Model for Decimal {
 }
 
 impl Decimal {
-    /// The decimal that the text writes: an optional `-`, digits, `.` and one to four digits, with nothing around it. It is
-    /// `None` for every other text, and for a number outside of signed 64 bits of ten-thousandths.
+    /// The decimal that the text writes: an optional `-`, digits, `.` and one to four digits, with nothing around it.
+    /// It is `None` for every other text, and for a number outside of signed 64 bits of ten-thousandths.
     pub fn parse(text: &str) -> Option<Decimal>
         ensures some { IfSome result (IsDecimalText text.now) }
         ensures none { IsNone result → (n : ℤ) → ¬ (IsDecimalText text.now n) }
@@ -63,8 +63,9 @@ impl Decimal {
         self.ten_thousandths <= other.ten_thousandths
     }
 
-    /// Appends the canonical text: four digits behind the point, no needless leading zeros, and no `-` on zero. The text reads back as
-    /// this number. Where there is no room for the longest text and no more memory, it answers `NoMemory` and appends nothing.
+    /// Appends the canonical text: four digits behind the point, no needless leading zeros, and no `-` on zero. The
+    /// text reads back as this number. Where there is no room for the longest text and no more memory, it answers
+    /// `NoMemory` and appends nothing.
     pub fn write_to(&self, out: &mut String) -> Result<(), NoMemory>
         ensures written { OnOk result (string_bytes out.new ≡ string_bytes out.old ++ decimal_text self.now) }
         ensures unchanged { OnErr result (string_bytes out.new ≡ string_bytes out.old) }

@@ -21,12 +21,14 @@ const MOST: usize = 43;
 /// The versions of the Internet Protocol.
 #[derive(Clone, Copy, Debug, PartialEq, Eq)]
 pub enum Version {
+    /// Addresses of 32 bits.
     V4,
+    /// Addresses of 128 bits.
     V6,
 }
 
-/// An address as it was written, and how many of its first bits are the prefix. Contracts see it as a `Network`. IPv4 is less
-/// than IPv6; then the address decides, then the prefix.
+/// An address as it was written, and how many of its first bits are the prefix. Contracts see it as a `Network`. IPv4
+/// is less than IPv6; then the address decides, then the prefix.
 #[derive(Clone, Copy, Debug)]
 pub struct IpNet {
     version: Version,
@@ -160,8 +162,8 @@ impl IpNet {
     ghost use Rattle.extensions.specs.NetworkText.{IsNetworkText, network_text};
     ghost use Rattle.extensions.specs.declared.ip_net.Version.TheVariants.{V4, V6};
 
-    /// The network that the text writes: an address, and `/` and a prefix where it isn't all bits, with nothing around it. It
-    /// is `None` for every other text.
+    /// The network that the text writes: an address, and `/` and a prefix where it isn't all bits, with nothing around
+    /// it. It is `None` for every other text.
     pub fn parse(text: &str) -> Option<IpNet>
         ensures some { IfSome result (IsNetworkText text.now) }
         ensures none { IsNone result → (n : Network) → ¬ (IsNetworkText text.now n) }
@@ -224,8 +226,9 @@ impl IpNet {
         self.is_in_range(&MULTICAST_V4) || self.is_in_range(&MULTICAST_V6)
     }
 
-    /// Appends the canonical text: always with the prefix, and IPv6 as eight groups in lower case without leading zeros. The text reads
-    /// back as this network. Where there is no room for the longest text and no more memory, it answers `NoMemory` and appends nothing.
+    /// Appends the canonical text: always with the prefix, and IPv6 as eight groups in lower case without leading
+    /// zeros. The text reads back as this network. Where there is no room for the longest text and no more memory, it
+    /// answers `NoMemory` and appends nothing.
     pub fn write_to(&self, out: &mut String) -> Result<(), NoMemory>
         ensures written { OnOk result (string_bytes out.new ≡ string_bytes out.old ++ network_text self.now) }
         ensures unchanged { OnErr result (string_bytes out.new ≡ string_bytes out.old) }

@@ -1,5 +1,5 @@
-//! The extension values of the policy language: decimals, and IP addresses with a prefix. They are read from their texts, compared, and
-//! written as their canonical texts.
+//! The extension values of the policy language: decimals, and IP addresses with a prefix. They are read from their
+//! texts, compared, and written as their canonical texts.
 //!
 //! Reading and comparing take no memory. Writing asks for the room of the longest text before it appends anything.
 #![tactic(auto)]

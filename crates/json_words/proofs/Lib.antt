@@ -1,4 +1,6 @@
 pub mod EachLemmas
+pub mod EachSame
 pub mod JsonLemmas
 pub mod KeysLemmas
+pub mod MembersLemmas
 pub mod CompactLemmas

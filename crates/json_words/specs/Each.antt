@@ -1,6 +1,6 @@
--- Reading each element of a list, from the left, up to the first fault.
+-- Reading each element of a list, or each member of an object, from the left, up to the first fault.
 use Rattle.std.specs.Prelude.{ℕ, suc, List, [], ◌∷◌, Result, Ok}
-use Rattle.serde_json.specs.Data.{Data, Items, no_items, item}
+use Rattle.serde_json.specs.Data.{Data, Items, no_items, item, Members, no_members, member}
 use Rattle.json_words.specs.Gives.{◌>>=◌}
 
 -- `f i x` reads the element x at the place i; k is the place of the first
@@ -15,3 +15,11 @@ each f k (x ∷ xs) = do
 abbrev pub list_of : Items → List Data
 list_of no_items = []
 list_of (item d ds) = d ∷ list_of ds
+
+-- `f k d` reads the member of an object with the key k and the value d; a value's members ascend by key
+unfoldable pub each_member : {B F : Type 0} → (List ℕ → Data → Result B F) → Members → Result (List B) F
+each_member f no_members = Ok []
+each_member f (member k d ms) = do
+  x ← f k d
+  xs ← each_member f ms
+  Ok (x ∷ xs)

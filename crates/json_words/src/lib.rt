@@ -1,8 +1,8 @@
-//! Words that all readers and writers of JSON share: the value of bytes, an object's keys, the compact text, and reading as a function
-//! with its first fault.
+//! Words that all readers and writers of JSON share: the value of bytes, an object's keys, the compact text, and
+//! reading as a function with its first fault.
 //!
-//! The definitions `each`, `Gives`, `demand` and `or_fault` of `specs/` are for the contracts of readers in other crates, and the lemmas
-//! of `proofs/` for their loops.
+//! The definitions `each`, `Gives`, `demand` and `or_fault` of `specs/` are for the contracts of readers in other
+//! crates, and the lemmas of `proofs/` for their loops.
 #![tactic(auto)]
 
 ghost use Rattle.std.specs.Prelude.{◌≡◌, ◌≤◌, Some, false, option_map, IfOk, IfSome, map, string_bytes};

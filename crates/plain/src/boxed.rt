@@ -43,6 +43,7 @@ impl<T> Boxed<T> {
         Box::into_inner(owner)
     }
 
+    /// The value, by reference; takes no memory.
     pub fn get(&self) -> &T
         ensures { result.now ≡ self.now }
     {
@@ -60,7 +61,7 @@ impl<T: Drop> Boxed<T> {
     }
 }
 
-/// Two are equal where the values are; no memory.
+/// Two are equal where the values are. Takes no memory.
 impl<T: PartialEq> PartialEq for Boxed<T> {
     ghost eq = { λ a b. T.eq a b };
 
@@ -75,7 +76,7 @@ impl<T: Eq> Eq for Boxed<T> {
     ghost laws = { T.Eq.laws };
 }
 
-/// Two are compared as the values are; no memory.
+/// Two are compared as the values are. Takes no memory.
 impl<T: PartialOrd> PartialOrd for Boxed<T> {
     ghost partial_cmp = { λ a b. T.partial_cmp a b };
 

@@ -52,18 +52,21 @@ impl<T> Items<T> {
         list
     }
 
+    /// The items in order, as a slice; takes no memory.
     pub fn as_slice(&self) -> &[T]
         ensures { result.now ≡ self.now }
     {
         self.list.as_slice()
     }
 
+    /// How many items there are.
     pub fn len(&self) -> usize
         ensures { result ≡ length self.now }
     {
         self.list.len()
     }
 
+    /// Whether there is no item.
     pub fn is_empty(&self) -> bool
         ensures { IsTrue result ↔ (self.now ≡ []) }
     {
@@ -80,7 +83,7 @@ impl<T> Items<T> {
 }
 
 impl<T> Items<T> {
-    /// The items in order.
+    /// The items in order, one after the other; takes no memory.
     pub fn iter(&self) -> Iter<'_, T>
         ensures rest { iter_rest result ≡ self.now }
         ensures len { length (iter_rest result) < 2 ^ 64 }
@@ -113,7 +116,7 @@ impl<T: Drop> Items<T> {
     }
 }
 
-/// Lists are equal where they are as long and have equal items place by place; no memory.
+/// Lists are equal where they are as long and have equal items place by place. Takes no memory.
 impl<T: PartialEq> PartialEq for Items<T> {
     ghost eq = { λ xs ys. pointwise T.eq xs ys };
 
@@ -128,7 +131,7 @@ impl<T: Eq> Eq for Items<T> {
     ghost laws = { lists_equiv T.Eq.laws };
 }
 
-/// Lists are compared item by item, and a beginning of a list is less than the list; no memory.
+/// Lists are compared item by item, and a beginning of a list is less than the list. Takes no memory.
 impl<T: PartialOrd> PartialOrd for Items<T> {
     ghost partial_cmp = { λ xs ys. slice_partial_cmp T.partial_cmp xs ys };
 

@@ -1,6 +1,7 @@
 pub mod Repeating
 pub mod Lists
 pub mod Marking
+pub mod Doubtful
 pub mod Naming
 pub mod Joining
 pub mod Sizes

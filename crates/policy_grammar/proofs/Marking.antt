@@ -1,14 +1,13 @@
 -- Marks that a loop makes, one more at each turn.
-use Rattle.std.proofs.Common.{◌≡◌, ◌⊎◌, ℕ, ◌+◌, ◌<◌, ◌≤◌, List, [], ◌∷◌, ◌++◌, length, take, get_or, map, Option, sym, ◌∙◌, ap, subst, inl, inr, arith}
-use Rattle.std.specs.List.{zip}
-use Rattle.std.proofs.lemmas.List.{take_more, take_all, map-append, length-take-le}
+use Rattle.std.proofs.Common.{◌≡◌, ◌⊎◌, ℕ, ◌+◌, ◌<◌, ◌≤◌, List, [], ◌∷◌, ◌++◌, length, take, get_or, map, Option, sym, ◌∙◌, ap, subst, inl, inr}
+use Rattle.std.proofs.lemmas.List.{take_more, take_all, map-append}
 use Rattle.policy_tokens.specs.Lexing.{spelling_of}
 use Rattle.policy_syntax.specs.declared.tree.Annotation.{Annotation}
 use Rattle.policy_syntax.specs.declared.tree.PolicyTree.{PolicyTree}
 use Rattle.policy_grammar.specs.declared.repeats.Mark as code
-use Rattle.policy_grammar.specs.Repeats.{Mark, mark_of, annotation_marks, policy_marks, start_of, StandsAgain, RepeatsAt, TellsLeast}
+use Rattle.policy_grammar.specs.Repeats.{Mark, mark_of, annotation_marks, StandsAgain, RepeatsAt, TellsLeast}
 use Rattle.policy_grammar.specs.Standing.{bare, earlier_of}
-use Rattle.policy_grammar.proofs.Lists.{zip-more, repeats-more, repeats-split}
+use Rattle.policy_grammar.proofs.Lists.{repeats-more, repeats-split}
 use Rattle.policy_grammar.proofs.Repeating.{tells-same, tells-both}
 
 -- a mark of code
@@ -29,26 +28,6 @@ pub annotation-step : (text : List ℕ) (xs : List Annotation) (i : ℕ) (d : An
 annotation-step text xs i d old new m was below pushed name at =
     bare-push old new m pushed ∙ ap (λ ms. ms ++ seen m ∷ []) was ∙ ap (λ n. map (mark_of text) (take i xs) ++ n ∷ []) (same_mark (seen m) (mark_of text (get_or xs i d)) name at)
     ∙ sym (ap (map (mark_of text)) (take_more xs i d below) ∙ map-append (mark_of text) (take i xs) (get_or xs i d ∷ []))
-
--- a policy by its name at its first token
-abbrev of_policy : List ℕ × PolicyTree → Mark
-of_policy named = record { name = named.0; at = start_of named.1 }
-
-pub policy-step : (names : List (List ℕ)) (trees : List PolicyTree) (i : ℕ) (n : List ℕ) (t : PolicyTree) (old new : List code.Mark) (m : code.Mark) →
-    bare old ≡ policy_marks (take i names) (take i trees) → i < length trees → length names ≡ length trees → new ≡ old ++ m ∷ [] →
-    m.name.now ≡ get_or names i n → m.at ≡ start_of (get_or trees i t) → bare new ≡ policy_marks (take (i + 1) names) (take (i + 1) trees)
-policy-step names trees i n t old new m was below same pushed name at =
-    let low : i < length names = omega arith in
-    let even : length (take i names) ≡ length (take i trees) = length-take-le i names (omega arith) ∙ sym (length-take-le i trees (omega arith)) in
-    bare-push old new m pushed ∙ ap (λ ms. ms ++ seen m ∷ []) was
-    ∙ ap (λ x. policy_marks (take i names) (take i trees) ++ x ∷ []) (same_mark (seen m) (of_policy (get_or names i n, get_or trees i t)) name at)
-    ∙ sym (ap (λ ns. policy_marks ns (take (i + 1) trees)) (take_more names i n low) ∙ ap (λ ts. policy_marks (take i names ++ get_or names i n ∷ []) ts) (take_more trees i t below)
-    ∙ ap (map of_policy) (zip-more (take i names) (take i trees) (get_or names i n) (get_or trees i t) even) ∙ map-append of_policy (zip (take i names) (take i trees)) _)
-
-pub policy-end : (names : List (List ℕ)) (trees : List PolicyTree) (i : ℕ) (marks : List Mark) → marks ≡ policy_marks (take i names) (take i trees) →
-    length trees ≤ i → length names ≡ length trees → marks ≡ policy_marks names trees
-policy-end names trees i marks is all same =
-    is ∙ ap (λ ns. policy_marks ns (take i trees)) (take_all i names (omega arith)) ∙ ap (policy_marks names) (take_all i trees all)
 
 pub file-none : (marks : List Mark) (o : Option ℕ) → TellsLeast (StandsAgain marks) o → TellsLeast (RepeatsAt (marks ∷ [])) o
 file-none marks o tells = tells-same (StandsAgain marks) (RepeatsAt (marks ∷ [])) o (λ at again. inl again) (λ at either. elim either [ inl again ↦ again | inr none ↦ absurd none ]) tells

@@ -1,6 +1,6 @@
 -- What the parts of the reader tell one another.
-use Rattle.std.specs.Prelude.{◌≡◌, ◌↔◌, IsTrue, ℕ, ◌≤◌, ◌<◌, List, [], length, slice_get, map, min, Option, Some, None}
-use Rattle.std.specs.List.{AllByRecursion}
+use Rattle.std.specs.Prelude.{◌≡◌, ◌↔◌, ◌&&◌, ◌||◌, ◌==◌, Bool, false, IsTrue, ℕ, ◌≤◌, ◌<◌, List, [], ◌∷◌, length, slice_get, map, min, Option, Some, None, is_some, find, codes, if◌then◌else◌}
+use Rattle.std.specs.List.{AllByRecursion, starts_with}
 use Rattle.policy_tokens.specs.declared.token.Kind.{Kind}
 use Rattle.policy_tokens.specs.declared.token.Kind.TheVariants as k
 use Rattle.policy_tokens.specs.declared.token.Token.{Token}
@@ -20,7 +20,8 @@ use Rattle.policy_grammar.specs.Limits.{IsSmallTree}
 use Rattle.policy_grammar.specs.declared.fault.ReadFault.{ReadFault}
 use Rattle.policy_grammar.specs.declared.fault.ReadFault.TheVariants as fault
 use Rattle.policy_grammar.specs.PolicyText.{byte_of}
-use Rattle.policy_grammar.specs.Repeats.{Mark}
+use Rattle.policy_grammar.specs.CoreOf.{is_id}
+use Rattle.policy_grammar.specs.Repeats.{Mark, start_of}
 
 -- A tree is made of tokens that are spelled in the text.
 pub record StandsIn (text : List ℕ) (Stands : List Token → Type 0) : Type 0 where
@@ -51,6 +52,31 @@ refusal_of text tokens (syntax.TooDeep place) = fault.TooDeep (byte_of text (sli
 -- the marks that code holds, with what their names point to
 abbrev pub bare : List code.Mark → List Mark
 bare = map (λ m. record { name = m.name.now; at = m.at })
+
+-- whether a policy is named by an `@id`
+abbrev pub has_id : List ℕ → PolicyTree → Bool
+has_id text tree = is_some (find (is_id text) tree.annotations)
+
+-- whether it is, and the name begins as those by places do
+abbrev pub looks_placed : List ℕ → List ℕ → PolicyTree → Bool
+looks_placed text name tree = has_id text tree && starts_with (λ a b. a == b) name (codes "policy")
+
+-- whether a policy of these is named so
+abbrev pub meets_place : List ℕ → List (List ℕ) → List PolicyTree → Bool
+meets_place text [] trees = false
+meets_place text (name ∷ names) [] = false
+meets_place text (name ∷ names) (tree ∷ trees) = looks_placed text name tree || meets_place text names trees
+
+-- a mark more, or none
+abbrev pub kept : Bool → Mark → List Mark → List Mark
+kept keep mark marks = if keep then mark ∷ marks else marks
+
+-- the policies that are named by an `@id`, or all of them (`wide`), each by its name at its first token
+abbrev pub doubtful_marks : List ℕ → Bool → List (List ℕ) → List PolicyTree → List Mark
+doubtful_marks text wide [] trees = []
+doubtful_marks text wide (name ∷ names) [] = []
+doubtful_marks text wide (name ∷ names) (tree ∷ trees) =
+    kept (wide || has_id text tree) (record { name = name; at = start_of tree }) (doubtful_marks text wide names trees)
 
 -- the lesser place, where there is one
 abbrev pub earlier_of : Option ℕ → Option ℕ → Option ℕ

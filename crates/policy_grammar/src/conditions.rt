@@ -8,6 +8,7 @@ ghost use Rattle.policy_syntax.specs.Stands.{ConditionStands};
 ghost use Rattle.policy_grammar.specs.Conditions.{asked_by, condition_of, conditions_of, condition_faults};
 ghost use Rattle.policy_grammar.specs.Standing.{StandsIn, AreSound, judged_by};
 
+use crate::held::beside;
 use desugaring::{Judgement, build_expr, judge_expr};
 use expressions::{Expr, Literal, Unary};
 use plain::NoMemory;
@@ -90,7 +91,7 @@ fn join_before(
     requires sound { faults_of text.now condition.now.expression ≡ [] }
     ensures { IfOk result (λ e. e ≡ core.And (condition_of text.now condition.now) joined) }
 {
-    let first = build_condition(alloc, text, condition)?;
+    let (joined, first) = beside(joined, build_condition(alloc, text, condition))?;
     Expr::and(alloc, first, joined)
 }
 

@@ -9,6 +9,7 @@ ghost use Rattle.policy_grammar.specs.CoreOf.{IsUidOf, AreUidsOf, IsEntityScopeO
 ghost use Rattle.policy_grammar.specs.Standing.{StandsIn};
 
 use crate::conditions::build_conditions;
+use crate::held::beside;
 use crate::policy::{ActionScope, Effect, EntityScope, Policy, Scope};
 use desugaring::type_name;
 use plain::{Items, NoMemory};
@@ -111,8 +112,12 @@ fn scope_of(alloc: Global, text: &str, tree: &PolicyTree) -> Result<Scope, NoMem
     ensures resource { IfOk result (λ scope. IsEntityScopeOf text.now tree.now.resource scope.resource) }
 {
     let principal = entity_scope_of(alloc, text, &tree.principal)?;
-    let action = action_scope_of(alloc, text, &tree.action)?;
-    let resource = entity_scope_of(alloc, text, &tree.resource)?;
+    let (principal, action) = beside(principal, action_scope_of(alloc, text, &tree.action))?;
+    let (first, resource) = beside(
+        (principal, action),
+        entity_scope_of(alloc, text, &tree.resource),
+    )?;
+    let (principal, action) = first;
     Ok(Scope {
         principal,
         action,
@@ -128,7 +133,10 @@ pub(crate) fn core_of(alloc: Global, text: &str, tree: &PolicyTree) -> Result<Po
 {
     let effect = effect_of(tree.effect.kind);
     let scope = scope_of(alloc, text, tree)?;
-    let condition = build_conditions(alloc, text, tree.conditions.as_slice())?;
+    let (scope, condition) = beside(
+        scope,
+        build_conditions(alloc, text, tree.conditions.as_slice()),
+    )?;
     Ok(Policy {
         effect,
         scope,

@@ -4,6 +4,7 @@
 mod conditions;
 mod core_of;
 mod fault;
+mod held;
 mod laws;
 mod limits;
 mod names;

@@ -5,7 +5,7 @@ ghost use Rattle.std.specs.List.{AllByRecursion};
 ghost use Rattle.policy_syntax.specs.Stands.{AnnotationStands, PolicyStands};
 ghost use Rattle.policy_grammar.specs.Conditions.{condition_faults};
 ghost use Rattle.policy_grammar.specs.CoreOf.{IsValueOf, is_id, IsNameOf, AreNamesOf, AreCoresOf};
-ghost use Rattle.policy_grammar.specs.Standing.{StandsIn};
+ghost use Rattle.policy_grammar.specs.Standing.{StandsIn, has_id};
 
 use crate::core_of::core_of;
 use crate::policy::Policy;
@@ -27,6 +27,14 @@ fn id_of<'a>(text: &str, annotations: &'a [Annotation]) -> Option<&'a Annotation
         }
     }
     None
+}
+
+/// Whether a policy is named by an `@id`, and not by its place.
+pub(crate) fn has_id(text: &str, tree: &PolicyTree) -> bool
+    requires { StandsIn text.now (λ tokens. PolicyStands tokens tree.now) }
+    ensures { result ≡ has_id text.now tree.now }
+{
+    id_of(text, tree.annotations.as_slice()).is_some()
 }
 
 /// The text that an annotation has.

@@ -1,10 +1,12 @@
 //! Which key or name stands a second time, and where first.
-ghost use Rattle.std.specs.Prelude.{◌≡◌, IfOk, length};
+ghost use Rattle.std.specs.Prelude.{◌≡◌, ◌||◌, IfOk, length};
 ghost use Rattle.std.specs.List.{AllByRecursion};
 ghost use Rattle.policy_syntax.specs.Stands.{PolicyStands};
+ghost use Rattle.policy_grammar.specs.CoreOf.{AreNamesOf};
 ghost use Rattle.policy_grammar.specs.Repeats.{StandsAgain, RepeatsInFile, annotation_marks, policy_marks, start_of, TellsLeast};
-ghost use Rattle.policy_grammar.specs.Standing.{StandsIn, bare, earlier_of};
+ghost use Rattle.policy_grammar.specs.Standing.{StandsIn, bare, earlier_of, has_id, looks_placed, meets_place, doubtful_marks};
 
+use crate::names::has_id;
 use plain::{NoMemory, Text};
 use policy_syntax::PolicyTree;
 use policy_tokens::spelling;
@@ -72,23 +74,75 @@ fn start(tree: &PolicyTree) -> usize
     }
 }
 
-/// The policies of a file, each by its name at its first token.
-fn marks_of_policies<'a>(
+/// Whether a policy is named by an `@id` that begins as the names by places do.
+fn looks_placed(text: &str, name: &Text, tree: &PolicyTree) -> bool
+    requires { StandsIn text.now (λ tokens. PolicyStands tokens tree.now) }
+    ensures { result ≡ looks_placed text.now name.now tree.now }
+{
+    has_id(text, tree) && name.as_str().as_bytes().starts_with(b"policy")
+}
+
+/// Whether an `@id` of a file may be the name that a policy has by its place.
+fn meets_place(text: &str, names: &[Text], trees: &[PolicyTree]) -> bool
+    requires same { length names.now ≡ length trees.now }
+    requires stands { StandsIn text.now (λ tokens. AllByRecursion (PolicyStands tokens) trees.now) }
+    ensures { result ≡ meets_place text.now names.now trees.now }
+{
+    for (i, tree) in trees.iter().enumerate() {
+        if looks_placed(text, &names[i], tree) {
+            return true;
+        }
+    }
+    false
+}
+
+/// Whether the name of a policy may stand twice.
+fn is_doubtful(text: &str, wide: bool, tree: &PolicyTree) -> bool
+    requires { StandsIn text.now (λ tokens. PolicyStands tokens tree.now) }
+    ensures { result ≡ (wide || has_id text.now tree.now) }
+{
+    wide || has_id(text, tree)
+}
+
+/// The policies whose names may stand twice, each at its first token: those that have an `@id`, or all (`wide`).
+fn doubtful_marks<'a>(
     alloc: Global,
+    text: &str,
+    wide: bool,
     names: &'a [Text],
     trees: &[PolicyTree],
 ) -> Result<Vec<Mark<'a>>, NoMemory>
-    requires { length names.now ≡ length trees.now }
-    ensures { IfOk result (λ marks. bare marks.items ≡ policy_marks names.entry.now trees.now) }
+    requires same { length names.now ≡ length trees.now }
+    requires stands { StandsIn text.now (λ tokens. AllByRecursion (PolicyStands tokens) trees.now) }
+    ensures { IfOk result (λ marks. bare marks.items ≡ doubtful_marks text.now wide names.entry.now trees.now) }
 {
     let mut marks = Vec::new(alloc);
     for (i, tree) in trees.iter().enumerate() {
+        if !is_doubtful(text, wide, tree) {
+            continue;
+        }
         marks.push(Mark {
             name: names[i].as_str(),
             at: start(tree),
         })?;
     }
     Ok(marks)
+}
+
+/// The least place at which the name of a policy stands again in a file. Names by places are all different.
+fn least_repeated_name(
+    alloc: Global,
+    text: &str,
+    names: &[Text],
+    trees: &[PolicyTree],
+) -> Result<Option<usize>, NoMemory>
+    requires named { AreNamesOf text.now trees.now names.now }
+    requires stands { StandsIn text.now (λ tokens. AllByRecursion (PolicyStands tokens) trees.now) }
+    ensures { IfOk result (TellsLeast (StandsAgain (policy_marks names.now trees.now))) }
+{
+    let wide = meets_place(text, names, trees);
+    let marks = doubtful_marks(alloc, text, wide, names, trees)?;
+    least_repeat(alloc, &marks)
 }
 
 /// The least place at which an annotation stands again in its policy, or a policy's name in the file.
@@ -98,12 +152,11 @@ pub(crate) fn least_repeat_in_file(
     names: &[Text],
     trees: &[PolicyTree],
 ) -> Result<Option<usize>, NoMemory>
-    requires same { length names.now ≡ length trees.now }
+    requires named { AreNamesOf text.now trees.now names.now }
     requires stands { StandsIn text.now (λ tokens. AllByRecursion (PolicyStands tokens) trees.now) }
     ensures { IfOk result (TellsLeast (RepeatsInFile text.now trees.now names.now)) }
 {
-    let marks = marks_of_policies(alloc, names, trees)?;
-    let mut least = least_repeat(alloc, &marks)?;
+    let mut least = least_repeated_name(alloc, text, names, trees)?;
     for tree in trees {
         let marks = marks_of_annotations(alloc, text, tree)?;
         let again = least_repeat(alloc, &marks)?;

@@ -7,7 +7,7 @@ ghost use Rattle.policy_syntax.specs.Parsing as spec;
 use crate::cursor::{PolicySet, sees_one_of, take_one_of};
 use crate::scope::scope;
 use crate::tree::{Annotation, Condition, PolicyTree, ScopeTree};
-use expression_syntax::{Cursor, Halt, NESTING_LIMIT, expr};
+use expression_syntax::{Cursor, Halt, NESTING_LIMIT, beside, expr};
 use plain::Items;
 use policy_tokens::{Kind, Token};
 use std::alloc::Global;
@@ -77,7 +77,7 @@ fn condition(alloc: Global, tokens: &mut Cursor<'_>) -> Result<Condition, Halt>
     let word = take_one_of(tokens, PolicySet::ConditionWords)?;
     tokens.take(Kind::LBrace)?;
     let expression = expr(alloc, tokens, NESTING_LIMIT)?;
-    tokens.take(Kind::RBrace)?;
+    let (expression, _closed) = beside(expression, tokens.take(Kind::RBrace))?;
     Ok(Condition { word, expression })
 }
 
@@ -106,9 +106,10 @@ fn policy_of(
 ) -> Result<PolicyTree, Halt>
     ensures { Gives (spec.policy_of nesting_limit annotations effect found tokens.old.rest.now) result tokens.new.rest.now }
 {
-    tokens.take(Kind::RParen)?;
-    let conditions = conditions(alloc, tokens)?;
-    tokens.take(Kind::Semicolon)?;
+    let (kept, _closed) = beside((annotations, found), tokens.take(Kind::RParen))?;
+    let (kept, conditions) = beside(kept, conditions(alloc, tokens))?;
+    let ((kept, conditions), _ended) = beside((kept, conditions), tokens.take(Kind::Semicolon))?;
+    let (annotations, found) = kept;
     Ok(PolicyTree {
         annotations,
         effect,

@@ -4,7 +4,7 @@ ghost use Rattle.expression_syntax.specs.Gives.{Gives};
 ghost use Rattle.policy_syntax.specs.Parsing as spec;
 
 use crate::tree::{ActionTree, PartTree, ScopeTree};
-use expression_syntax::{Cursor, Halt, TokenSet, UidTree, path, uid};
+use expression_syntax::{Cursor, Halt, TokenSet, UidTree, beside, path, uid};
 use plain::Items;
 use policy_tokens::Kind;
 use std::alloc::Global;
@@ -168,10 +168,13 @@ pub(crate) fn scope(alloc: Global, tokens: &mut Cursor<'_>) -> Result<ScopeTree,
     ensures { Gives (spec.scope tokens.old.rest.now) result tokens.new.rest.now }
 {
     let principal = entity_part(alloc, tokens, Kind::Principal)?;
-    tokens.take(Kind::Comma)?;
-    let action = action_part(alloc, tokens)?;
-    tokens.take(Kind::Comma)?;
-    let resource = entity_part(alloc, tokens, Kind::Resource)?;
+    let (principal, _comma) = beside(principal, tokens.take(Kind::Comma))?;
+    let (principal, action) = beside(principal, action_part(alloc, tokens))?;
+    let (parts, _comma) = beside((principal, action), tokens.take(Kind::Comma))?;
+    let ((principal, action), resource) = beside(
+        parts,
+        entity_part(alloc, tokens, Kind::Resource),
+    )?;
     Ok(ScopeTree {
         principal,
         action,

@@ -21,14 +21,18 @@ pub struct Stamp {
 /// A text, and what it was read as. No order and no equality looks at the latter.
 #[derive(Debug, Drop)]
 pub struct ReadText<P> {
+    /// The text itself.
     pub text: Text,
+    /// What it was read as.
     pub read: P,
 }
 
 /// A stamp and a body: nothing (a tombstone), or a text.
 #[derive(Debug, Drop)]
 pub struct Entry<P> {
+    /// When and where the entry was issued.
     pub stamp: Stamp,
+    /// None is a tombstone: the name is taken, and nothing stands there.
     pub body: Option<ReadText<P>>,
 }
 

@@ -1,8 +1,8 @@
 ghost use Rattle.std.specs.Prelude.{◌≡◌, Bool, true, IsTrue};
 ghost use Rattle.stamped_store.specs.Joins.{IsJoin};
 
-/// A value that can be joined with another: the join is the least value above both. Two values are equal where each is below the
-/// other. Neither call takes memory.
+/// A value that can be joined with another: the join is the least value above both. Two values are equal where each is
+/// below the other. Neither call takes memory.
 pub trait Join {
     /// Whether a value is below another, or equal to it.
     ghost is_below: { Self → Self → Bool };

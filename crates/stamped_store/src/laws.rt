@@ -12,8 +12,8 @@ ghost use Rattle.stamped_store.specs.Store.{Store, Update, updates, store_of, pl
 
 use crate::{Entry, Join};
 
-/// The order of entries is total, entries that tie are one, and the greater of two entries is their join: associative, commutative,
-/// idempotent, and the least above both.
+/// The order of entries is total, entries that tie are one, and the greater of two entries is their join: associative,
+/// commutative, idempotent, and the least above both.
 pub fn entries_are_joined()
     ensures total { IsTotalOrder entry_cmp }
     ensures exact { IsAntisymmetric entry_cmp }
@@ -23,16 +23,16 @@ pub fn entries_are_joined()
     ensures least { (a b : PlainEntry) → IsLeastAbove (λ x y. plain_below x y ≡ true) a b (greater_entry a b) }
 {}
 
-/// What an entry's text was read as plays no part: joined entries are joined as stamps and bodies, and two entries are below each
-/// other exactly where their stamps and bodies are equal.
+/// What an entry's text was read as plays no part: joined entries are joined as stamps and bodies, and two entries are
+/// below each other exactly where their stamps and bodies are equal.
 pub fn read_entries_are_joined<P: Drop>()
     ensures laws { IsJoin (λ (a b : Entry P). entry_below a b ≡ true) greater }
     ensures plain { (a b : Entry P) → plain_entry (greater a b) ≡ greater_entry (plain_entry a) (plain_entry b) }
     ensures equal { (a b : Entry P) → (entry_below a b ≡ true) × (entry_below b a ≡ true) ↔ (plain_entry a ≡ plain_entry b) }
 {}
 
-/// Each implementation of `Join` has an order, and a join that is associative, commutative, idempotent and least above both, equality
-/// being below both ways.
+/// Each implementation of `Join` has an order, and a join that is associative, commutative, idempotent and least above
+/// both, equality being below both ways.
 pub fn joins_have_laws<V: Join>()
     ensures { IsJoin (λ a b. V.is_below a b ≡ true) V.joined }
 {}
@@ -42,9 +42,9 @@ pub fn stamped_are_joined<K: Ord, V: Join>()
     ensures { IsJoin (IsBelowAt {K = K} V.is_below) (joined_at V.joined) }
 {}
 
-/// The store of a set of updates gives each of their names the greatest entry that they have for it. It is the only one that does;
-/// order, repeats and grouping of the updates do not matter; a store is that of its own updates; and the store of two sets
-/// together is the join of their stores.
+/// The store of a set of updates gives each of their names the greatest entry that they have for it. It is the only one
+/// that does; order, repeats and grouping of the updates do not matter; a store is that of its own updates; and the
+/// store of two sets together is the join of their stores.
 pub fn updates_have_one_store()
     ensures greatest { (us : List Update) → IsStoreOf us (store_of us) }
     ensures only { (us : List Update) (s : Store) → IsStoreOf us s → s ≡ store_of us }
@@ -54,8 +54,8 @@ pub fn updates_have_one_store()
     ensures union { (us vs : List Update) → IsStoreJoin (store_of us) (store_of vs) (store_of (us ++ vs)) }
 {}
 
-/// The join of stores over names is associative, commutative and idempotent, and the only least store above both; stores that are
-/// below each other are one.
+/// The join of stores over names is associative, commutative and idempotent, and the only least store above both;
+/// stores that are below each other are one.
 pub fn stores_are_joined()
     ensures associative { (s t u : Store) → joined_stores (joined_stores s t) u ≡ joined_stores s (joined_stores t u) }
     ensures commutative { (s t : Store) → joined_stores s t ≡ joined_stores t s }
@@ -65,8 +65,8 @@ pub fn stores_are_joined()
     ensures equal { (s t : Store) → IsStoreBelow s t → IsStoreBelow t s → s ≡ t }
 {}
 
-/// The greatest count is at least that of each entry, and is that of one where it isn't 0; that of a join is the greater of the
-/// two; and an entry with an issued stamp is the greatest at its name.
+/// The greatest count is at least that of each entry, and is that of one where it isn't 0; that of a join is the
+/// greater of the two; and an entry with an issued stamp is the greatest at its name.
 pub fn stamps_are_issued()
     ensures greatest { (s : Store) (u : Update) → Contains (updates s) u → u.1.count ≤ greatest_count s }
     ensures reached { (s : Store) → (greatest_count s ≡ 0) ⊎ ((u : Update) × Contains (updates s) u × (u.1.count ≡ greatest_count s)) }

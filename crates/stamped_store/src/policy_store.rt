@@ -22,7 +22,8 @@ use values::EntityUid;
 /// The greatest count of a stamp: 10^18.
 pub const COUNT_MAX: u64 = 1_000_000_000_000_000_000;
 
-/// The store of a site: the entries of policies by id, with what their texts were read as (a P), and those of entities by uid (an E).
+/// The store of a site: the entries of policies by id, with what their texts were read as (a P), and those of entities
+/// by uid (an E).
 ///
 /// Contracts see the entries, and the store over names that they show: policies come before entities.
 #[derive(Drop)]
@@ -99,7 +100,8 @@ impl<P: Drop, E: Drop> PolicyStore<P, E> {
         self.greatest
     }
 
-    /// The stamp of the next local command at a site: one more than the greatest count in the whole store, and the site's number.
+    /// The stamp of the next local command at a site: one more than the greatest count in the whole store, and the
+    /// site's number.
     pub fn issue(&self, site: u16) -> Stamp
         requires { greatest_count (shown_store self.now) < COUNT_MAX }
         ensures { result ≡ issue (shown_store self.now) site }
@@ -110,8 +112,8 @@ impl<P: Drop, E: Drop> PolicyStore<P, E> {
         }
     }
 
-    /// Joins an entry at a policy's id, in logarithmic time. Every other name keeps its entry. Where memory is refused, the id and
-    /// the entry come back and nothing changes.
+    /// Joins an entry at a policy's id, in logarithmic time. Every other name keeps its entry. Where memory is refused,
+    /// the id and the entry come back and nothing changes.
     pub fn take_policy(&mut self, id: String, entry: Entry<P>) -> Result<(), (String, Entry<P>)>
         ensures ok { OnOk result (shown_store self.new ≡ store_of (updates (shown_store self.old) ++ (policy_name (string_bytes id), plain_entry entry) ∷ [])) }
         ensures others { OnOk result (KeepsOtherNames (policy_name (string_bytes id)) (shown_store self.old) (shown_store self.new)) }
@@ -123,8 +125,8 @@ impl<P: Drop, E: Drop> PolicyStore<P, E> {
         Ok(())
     }
 
-    /// Joins an entry at an entity's uid, in logarithmic time. Every other name keeps its entry. Where memory is refused, the uid
-    /// and the entry come back and nothing changes.
+    /// Joins an entry at an entity's uid, in logarithmic time. Every other name keeps its entry. Where memory is
+    /// refused, the uid and the entry come back and nothing changes.
     pub fn take_entity(
         &mut self,
         uid: EntityUid,
@@ -140,8 +142,8 @@ impl<P: Drop, E: Drop> PolicyStore<P, E> {
         Ok(())
     }
 
-    /// Leaves the join of both stores. Where memory is refused, the entries of the other store's first names have been joined
-    /// (policies come before entities), and its rest is dropped.
+    /// Leaves the join of both stores. Where memory is refused, the entries of the other store's first names have been
+    /// joined (policies come before entities), and its rest is dropped.
     pub fn merge(&mut self, other: Self) -> Result<(), Short>
         ensures ok { OnOk result (IsStoreJoin (shown_store self.old) (shown_store other) (shown_store self.new)) }
         ensures ok_kept { OnOk result (self.new ≡ all_kept self.old other) }
@@ -167,7 +169,8 @@ impl<P: Drop, E: Drop> PolicyStore<P, E> {
         Ok(())
     }
 
-    /// Whether each name of this store is a name of the other, with an entry there that is at least as great. Takes no memory.
+    /// Whether each name of this store is a name of the other, with an entry there that is at least as great. Takes no
+    /// memory.
     pub fn below(&self, other: &Self) -> bool
         ensures { IsTrue result ↔ IsStoreBelow (shown_store self.now) (shown_store other.now) }
     {

@@ -14,9 +14,11 @@ use std::collections::BTreeMap;
 use std::collections::btree_map::Iter;
 use std::marker::Model;
 
-/// Want of memory in a merge: exactly the entries of the first `taken` keys of the other store were joined, and its rest was dropped.
+/// Want of memory in a merge: exactly the entries of the first `taken` keys of the other store were joined, and its
+/// rest was dropped.
 #[derive(Clone, Copy, Debug, PartialEq, Eq)]
 pub struct Short {
+    /// How many keys of the other store, from its least on, have their entries in the join.
     pub taken: usize,
 }
 
@@ -72,8 +74,8 @@ impl<K: Ord + Drop, V: Join + Drop> Stamped<K, V> {
         self.map.iter()
     }
 
-    /// Joins the value at the key, in logarithmic time, and keeps every other key's value. Where memory is refused, the key and
-    /// the value come back and nothing changes.
+    /// Joins the value at the key, in logarithmic time, and keeps every other key's value. Where memory is refused, the
+    /// key and the value come back and nothing changes.
     pub fn take(&mut self, key: K, value: V) -> Result<(), (K, V)>
         ensures ok { OnOk result (self.new ≡ taken K.cmp V.joined self.old key value) }
         ensures at_key { OnOk result (value_at K.cmp self.new key ≡ Some (joined_onto V.joined (value_at K.cmp self.old key) value)) }
@@ -89,9 +91,9 @@ impl<K: Ord + Drop, V: Join + Drop> Stamped<K, V> {
         Ok(())
     }
 
-    /// Leaves the join of both stores: the least store above both. Takes logarithmic time for each key of the other store, whose
-    /// keys and values are moved. Where memory is refused, the entries of its first keys have been joined, and the rest is
-    /// dropped.
+    /// Leaves the join of both stores: the least store above both. Takes logarithmic time for each key of the other
+    /// store, whose keys and values are moved. Where memory is refused, the entries of its first keys have been joined,
+    /// and the rest is dropped.
     pub fn merge(&mut self, other: Self) -> Result<(), Short>
         ensures ok { OnOk result (IsLeastAbove (IsBelow K.cmp V.is_below) self.old other self.new) }
         ensures ok_values { OnOk result (IsJoined K.cmp V.joined self.old other self.new) }

@@ -4,7 +4,9 @@ pub mod Depths
 pub mod Found
 pub mod Joining
 pub mod Members
+pub mod PathLemmas
 pub mod Puts
 pub mod Records
 pub mod Scanning
 pub mod Unique
+pub mod Within

@@ -1,8 +1,29 @@
--- The Path that a list of words makes.
-use Rattle.std.specs.Prelude.{ℕ, List, [], ◌∷◌}
-use Rattle.plain.specs.Words.{joined_path}
+-- The Path that a list of words makes, and whether a text is a Path, as a test that computes.
+-- Source: Cedar reference guide 4.0, "Grammar specification for Cedar policy syntax", Path = Ident { "::" Ident }, without blanks or comments.
+use Rattle.std.specs.Prelude.{false, ℕ, List, [], ◌∷◌, ◌++◌, Bool, not, ◌==◌, ◌&&◌, if◌then◌else◌}
+use Rattle.std.specs.List.{list_any, list_all}
+use Rattle.std.specs.Str.{bytes_eq}
+use Rattle.plain.specs.Words.{is_letter, is_word_byte, reserved_words, joined_path}
 
 -- the words with `::` between each two
 abbrev pub path_of : List (List ℕ) → List ℕ
 path_of [] = []
 path_of (first ∷ more) = joined_path first more
+
+abbrev pub is_word : List ℕ → Bool
+is_word [] = false
+is_word (c ∷ cs) = is_letter c && list_all is_word_byte cs
+
+-- a word that is not reserved
+abbrev pub is_ident : List ℕ → Bool
+is_ident word = is_word word && not (list_any (bytes_eq word) reserved_words)
+
+-- the pieces of a text between each two `::`; `word` has been read of the first
+unfoldable pub pieces : List ℕ → List ℕ → List (List ℕ)
+pieces word [] = word ∷ []
+pieces word (c ∷ []) = (word ++ c ∷ []) ∷ []
+pieces word (c ∷ d ∷ rest) = if c == 58 && d == 58 then word ∷ pieces [] rest else pieces (word ++ c ∷ []) (d ∷ rest)
+
+-- each piece is an identifier
+unfoldable pub is_path : List ℕ → Bool
+is_path text = list_all is_ident (pieces [] text)

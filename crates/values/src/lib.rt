@@ -1,5 +1,5 @@
-//! Names, requests and values: entity types, entity uids, names of policies and entities, what is asked of a site, and the values that
-//! policies compute with.
+//! Names, requests and values: entity types, entity uids, names of policies and entities, what is asked of a site, and
+//! the values that policies compute with.
 #![tactic(auto)]
 
 mod entity_uid;

@@ -14,7 +14,8 @@ use crate::request::Request;
 use crate::type_name::TypeName;
 use crate::value::{Record, Set, Value};
 
-/// Type names are compared by their bytes: `cmp` is that order, which is total, and `Equal` only at equal names; `==` holds exactly at equal values.
+/// Type names are compared by their bytes: `cmp` is that order, which is total, and `Equal` only at equal names; `==`
+/// holds exactly at equal values.
 pub fn type_names_are_ordered()
     ensures by { (a b : TypeName) → ⟦<TypeName as Ord>⟧.cmp a b ≡ text_cmp a b }
     ensures same { (a b : TypeName) → IsTrue (⟦<TypeName as PartialEq>⟧.eq a b) ↔ (a ≡ b) }
@@ -22,7 +23,8 @@ pub fn type_names_are_ordered()
     ensures exact { IsAntisymmetric text_cmp }
 {}
 
-/// Entity uids are compared by the type's name, then by the id: `cmp` is that order, which is total, and `Equal` only at equal uids; `==` holds exactly at equal values.
+/// Entity uids are compared by the type's name, then by the id: `cmp` is that order, which is total, and `Equal` only
+/// at equal uids; `==` holds exactly at equal values.
 pub fn entity_uids_are_ordered()
     ensures by { (a b : EntityUid) → ⟦<EntityUid as Ord>⟧.cmp a b ≡ uid_cmp a b }
     ensures same { (a b : EntityUid) → IsTrue (⟦<EntityUid as PartialEq>⟧.eq a b) ↔ (a ≡ b) }
@@ -30,7 +32,8 @@ pub fn entity_uids_are_ordered()
     ensures exact { IsAntisymmetric uid_cmp }
 {}
 
-/// Names are compared with policies before entities: `cmp` is that order, which is total, and `Equal` only at equal names; `==` holds exactly at equal values.
+/// Names are compared with policies before entities: `cmp` is that order, which is total, and `Equal` only at equal
+/// names; `==` holds exactly at equal values.
 pub fn names_are_ordered()
     ensures by { (a b : Name) → ⟦<Name as Ord>⟧.cmp a b ≡ name_cmp a b }
     ensures same { (a b : Name) → IsTrue (⟦<Name as PartialEq>⟧.eq a b) ↔ (a ≡ b) }
@@ -38,7 +41,8 @@ pub fn names_are_ordered()
     ensures exact { IsAntisymmetric name_cmp }
 {}
 
-/// Requests are compared by principal, action, resource and context: `cmp` is that order, which is total, and `Equal` only at equal requests; `==` holds exactly at equal values.
+/// Requests are compared by principal, action, resource and context: `cmp` is that order, which is total, and `Equal`
+/// only at equal requests; `==` holds exactly at equal values.
 pub fn requests_are_ordered()
     ensures by { (a b : Request) → ⟦<Request as Ord>⟧.cmp a b ≡ request_cmp a b }
     ensures same { (a b : Request) → IsTrue (⟦<Request as PartialEq>⟧.eq a b) ↔ (a ≡ b) }
@@ -46,8 +50,8 @@ pub fn requests_are_ordered()
     ensures exact { IsAntisymmetric request_cmp }
 {}
 
-/// Values are compared by kind, then by what they hold: `cmp` is that order, which is total, and `Equal` only at equal values; `==` holds
-/// exactly at equal values.
+/// Values are compared by kind, then by what they hold: `cmp` is that order, which is total, and `Equal` only at equal
+/// values; `==` holds exactly at equal values.
 pub fn values_are_ordered()
     ensures by { (a b : Value) → ⟦<Value as Ord>⟧.cmp a b ≡ value_cmp a b }
     ensures same { (a b : Value) → IsTrue (⟦<Value as PartialEq>⟧.eq a b) ↔ (a ≡ b) }
@@ -62,7 +66,8 @@ pub fn sets_are_ordered()
     ensures members { (a b : Set) → IsStrictlySortedBy value_cmp a → IsStrictlySortedBy value_cmp b → ((v : Value) → Contains a v ↔ Contains b v) → a ≡ b }
 {}
 
-/// Records are compared field by field, by the key and then by the value, as lists that ascend by keys, a beginning first.
+/// Records are compared field by field, by the key and then by the value, as lists that ascend by keys, a beginning
+/// first.
 pub fn records_are_ordered()
     ensures by { (a b : Record) → ⟦<Record as Ord>⟧.cmp a b ≡ slice_cmp field_cmp a b }
     ensures same { (a b : Record) → IsTrue (⟦<Record as PartialEq>⟧.eq a b) ↔ (a ≡ b) }

@@ -1,4 +1,5 @@
 ghost use Rattle.std.specs.Prelude.{◌≡◌, ◌<◌, Some, IfOk, MatchResult, MatchOption, length, map, refl};
+ghost use Rattle.std.specs.Prelude.{◌++◌, OnOk, codes, string_bytes};
 ghost use Rattle.std.specs.Ordering.{nat_cmp, is_eq};
 ghost use Rattle.std.specs.Cmp.{partial_equiv_from_equiv, partial_order_from_agreeing_total};
 ghost use Rattle.std.specs.Cmp.Lexicographic.{slice_cmp};
@@ -12,10 +13,11 @@ use std::alloc::Global;
 use std::cmp::Ordering;
 use std::marker::Model;
 
-/// The name of an entity type: identifiers with `::` between them, as `User` or `Photos::Album`. Contracts see it as its bytes.
+/// The name of an entity type: identifiers with `::` between them, as `User` or `Photos::Album`. Contracts see it as
+/// its bytes.
 ///
-/// Each identifier is `_` or an ASCII letter and then `_`, ASCII letters and digits, and no reserved word (Cedar reference guide, grammar: `Path`).
-/// Names are equal where their bytes are, and ordered by bytes.
+/// Each identifier is `_` or an ASCII letter and then `_`, ASCII letters and digits, and no reserved word (Cedar
+/// reference guide, grammar: `Path`). Names are equal where their bytes are, and ordered by bytes.
 #[derive(Debug, Drop)]
 pub struct TypeName {
     text: Text,
@@ -45,7 +47,8 @@ impl TypeName {
         Ok(Some(TypeName { text }))
     }
 
-    /// The type name that these identifiers make, `::` between each two: that of a Path that was read with blanks or comments between its words.
+    /// The type name that these identifiers make, `::` between each two: that of a Path that was read with blanks or
+    /// comments between its words.
     pub fn from_words(alloc: Global, words: &[&str]) -> Result<TypeName, NoMemory>
         requires some { 0 < length words.now }
         requires idents { AreIdents (map (λ w. w.now) words.now) }
@@ -54,15 +57,28 @@ impl TypeName {
         let mut joined = String::from_str(alloc, words[0])?;
         let more = &words[1..];
         for word in more {
-            joined.push_str("::")?;
-            joined.push_str(word)?;
+            append_word(&mut joined, word)?;
         }
         Ok(TypeName {
             text: Text::from_string(joined),
         })
     }
 
-    /// The name as a text.
+    /// This name in a namespace: `Album` in `Photos` is `Photos::Album`. Fails for memory alone.
+    pub fn within(&self, alloc: Global, namespace: &TypeName) -> Result<TypeName, NoMemory>
+        ensures { IfOk result (λ t. t ≡ namespace.now ++ codes "::" ++ self.now) }
+    {
+        let last = &self.text;
+        let first = &namespace.text;
+        let mut name = String::from_str(alloc, first.as_str())?;
+        name.push_str("::")?;
+        name.push_str(last.as_str())?;
+        Ok(TypeName {
+            text: Text::from_string(name),
+        })
+    }
+
+    /// The name as a text; takes no memory.
     pub fn as_str(&self) -> &str
         ensures { result.now ≡ self.now }
     {
@@ -76,6 +92,15 @@ impl TypeName {
         let text = self.text.copy()?;
         Ok(TypeName { text })
     }
+}
+
+// Puts `::` and a word behind a text.
+fn append_word(joined: &mut String, word: &str) -> Result<(), NoMemory>
+    ensures { OnOk result (string_bytes joined.new ≡ string_bytes joined.old ++ codes "::" ++ word.now) }
+{
+    joined.push_str("::")?;
+    joined.push_str(word)?;
+    Ok(())
 }
 
 impl PartialEq for TypeName {

@@ -30,13 +30,21 @@ pub struct Value {
 #[cycle(value)]
 #[derive(Drop)]
 pub enum Kind {
+    /// True or false.
     Boolean(bool),
+    /// A whole number in signed 64 bits.
     Long(i64),
+    /// A text.
     Text(Text),
+    /// An entity, by its uid.
     Entity(EntityUid),
+    /// A set of values.
     Set(Set),
+    /// Values by keys.
     Record(Record),
+    /// A number with four decimal places.
     Decimal(Decimal),
+    /// An IP address with a prefix.
     IpAddr(IpNet),
 }
 
@@ -120,7 +128,7 @@ impl Model for Record {
 }
 
 impl Value {
-    /// A boolean.
+    /// A boolean; takes no memory.
     pub fn boolean(value: bool) -> Value
         ensures { result ≡ boolean value }
     {
@@ -129,7 +137,7 @@ impl Value {
         }
     }
 
-    /// A number.
+    /// A number; takes no memory.
     pub fn long(number: i64) -> Value
         ensures { result ≡ long number }
     {
@@ -138,7 +146,7 @@ impl Value {
         }
     }
 
-    /// A text.
+    /// A text, which is moved in; takes no memory.
     pub fn text(content: Text) -> Value
         ensures { result ≡ text content }
     {
@@ -147,7 +155,7 @@ impl Value {
         }
     }
 
-    /// An entity, by its uid.
+    /// An entity, by its uid, which is moved in; takes no memory.
     pub fn entity(uid: EntityUid) -> Value
         ensures { result ≡ entity uid }
     {
@@ -181,7 +189,7 @@ impl Value {
         }
     }
 
-    /// A decimal.
+    /// A decimal; takes no memory.
     pub fn decimal(number: Decimal) -> Value
         ensures { result ≡ decimal number }
     {
@@ -190,7 +198,7 @@ impl Value {
         }
     }
 
-    /// An IP address with a prefix.
+    /// An IP address with a prefix; takes no memory.
     pub fn ipaddr(network: IpNet) -> Value
         ensures { result ≡ ipaddr network }
     {
@@ -199,7 +207,7 @@ impl Value {
         }
     }
 
-    /// What the value is.
+    /// What the value is, by reference; takes no memory.
     pub fn kind(&self) -> &Kind
         ensures { of_kind result.now ≡ self.now }
     {
@@ -261,7 +269,7 @@ impl Set {
         Ok(Set { members })
     }
 
-    /// The members, which ascend strictly.
+    /// The members, which ascend strictly; takes no memory.
     pub fn members(&self) -> &[Value]
         ensures members { result.now ≡ self.now }
         ensures ascending { IsStrictlySortedBy value_cmp self.now }
@@ -332,7 +340,7 @@ impl Record {
         self.fields.get(key)
     }
 
-    /// The fields, whose keys ascend by their bytes.
+    /// The fields, whose keys ascend by their bytes; takes no memory.
     pub fn as_map(&self) -> &BTreeMap<String, Value>
         ensures { of_entries result.now.entries ≡ self.now }
     {

@@ -1,17 +1,6 @@
 use super::*;
 use crate::host::SystemHost;
-use crate::host::memory::MemoryHost;
 use std::test::Fail;
-
-const FILES: [(&str, &[u8]); 4] = [
-    ("none.cedar", b""),
-    ("broken.cedar", b"permit(principal, action);"),
-    ("none.json", b"[]"),
-    (
-        "asked.json",
-        b"{\"principal\":\"U::\\\"a\\\"\",\"action\":\"Action::\\\"v\\\"\",\"resource\":\"D::\\\"d\\\"\"}",
-    ),
-];
 
 /// The words of a command line: the program's own name, and then these.
 fn words_of(alloc: Global, texts: &[&str]) -> Result<Vec<String>, Fail> {
@@ -21,83 +10,6 @@ fn words_of(alloc: Global, texts: &[&str]) -> Result<Vec<String>, Fail> {
         words.push(String::from_str(alloc, text)?)?;
     }
     Ok(words)
-}
-
-/// Whether deciding over files of these names, on streams that take so many bytes, is as recorded and ends with this status.
-fn decides(
-    alloc: Global,
-    names: (&str, &str, &str),
-    room: usize,
-    record: &str,
-    status: u8,
-) -> Result<bool, Fail> {
-    let texts = [
-        "decide",
-        "--request",
-        names.2,
-        "--entities",
-        names.1,
-        "--policies",
-        names.0,
-    ];
-    let words = words_of(alloc, &texts)?;
-    let mut host = MemoryHost {
-        alloc,
-        files: &FILES,
-        room,
-        record: Vec::new(alloc),
-    };
-    let end = run(alloc, &mut host, words.as_slice());
-    Ok(host.record.as_slice() == record.as_bytes() && end == ExitCode::from(status))
-}
-
-#[test]
-fn reads_three_files_and_writes_one_line(rt: HostRuntime) -> Result<(), Fail> {
-    let rows = [
-        (
-            ("none.cedar", "none.json", "asked.json"),
-            100,
-            "read none.cedar\nread none.json\nread asked.json\nAnswers: {\"cycle\":[],\"decision\":\"Deny\",\"errors\":[],\"reason\":[]}\n",
-            0,
-        ),
-        (
-            ("broken.cedar", "none.json", "asked.json"),
-            100,
-            "read broken.cedar\nread none.json\nread asked.json\nFaults: {\"error\":{\"code\":11,\"place\":24,\"within\":null}}\n",
-            1,
-        ),
-        (
-            ("nowhere.cedar", "none.json", "asked.json"),
-            100,
-            "read nowhere.cedar\nFaults: fault: nowhere.cedar\n",
-            3,
-        ),
-        (
-            ("broken.cedar", "nowhere.json", "nor_here.json"),
-            100,
-            "read broken.cedar\nread nowhere.json\nFaults: fault: nowhere.json\n",
-            3,
-        ),
-        (
-            ("none.cedar", "none.json", "nowhere.json"),
-            100,
-            "read none.cedar\nread none.json\nread nowhere.json\nFaults: fault: nowhere.json\n",
-            3,
-        ),
-        (
-            ("none.cedar", "none.json", "asked.json"),
-            10,
-            "read none.cedar\nread none.json\nread asked.json\nAnswers: {\"cycle\":[",
-            3,
-        ),
-    ];
-    for (names, room, record, status) in rows {
-        assert!(rt;
-            decides(rt.alloc(), names, room, record, status)?,
-            "{record}"
-        );
-    }
-    Ok(())
 }
 
 /// Whether a run over these words writes this on standard output and this on standard error, both of the system, and ends with this status.

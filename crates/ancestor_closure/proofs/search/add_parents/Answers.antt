@@ -11,13 +11,13 @@ use Rattle.ancestor_closure.proofs.search.add_parents.Goals as goal
 use Rattle.ancestor_closure.proofs.search.add_parents.Goals.{then-branch+in_ok-push, else-branch}
 
 pub loop-parent-preserved : goal.loop-parent-preserved
-loop-parent-preserved g c =
+loop-parent-preserved c =
     let p = c.parent-item.result in
-    let ps = take c.loop-parent.parent-index c.parents-parent-items.result.now in
+    let ps = take c.loop-parent.parent-index c.args.parents.now in
     let s1 = names c.loop-parent.seen.keys in
     let s2 = names c.insert.new.self.keys in
     let w1 = names c.loop-parent.work.items in
-    let more = take_more c.parents-parent-items.result.now c.loop-parent.parent-index p c.loop-parent-test.true ∙ ap (λ y. ps ++ y ∷ []) (sym c.parent-item.is) in
+    let more = take_more c.args.parents.now c.loop-parent.parent-index p c.loop-parent-test.true ∙ ap (λ y. ps ++ y ∷ []) (sym c.parent-item.is) in
     let inserted : s2 ≡ insert_key uid_cmp s1 p = ap names c.in_ok-insert.ensures.keys ∙ names-insert_key c.loop-parent.seen.keys _ in
     let longer = c.in_ok-insert.ensures.len in
     let same = c.in_ok-insert.ensures.unchanged in
@@ -34,5 +34,4 @@ loop-parent-preserved g c =
     ])
 
 pub returns-clause-adds : goal.returns-clause-adds
-returns-clause-adds g c =
-    rw (← c.parents-parent-items.ensures) (rw (take_all _ c.parents-parent-items.result.now c.loop-parent-test.false) at c.loop-parent.invariant)
+returns-clause-adds c = rw (take_all _ c.args.parents.now c.loop-parent-test.false) at c.loop-parent.invariant

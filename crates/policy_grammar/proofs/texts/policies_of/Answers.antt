@@ -1,4 +1,4 @@
-use Rattle.std.proofs.Common.{All, ap, inl, inr, map, refl, sym, subst, length, ◌∙◌}
+use Rattle.std.proofs.Common.{All, inl, inr, map, refl, sym, subst, ◌∙◌}
 use Rattle.std.specs.List.{AllByRecursion}
 use Rattle.policy_grammar.specs.Conditions.{file_faults}
 use Rattle.policy_grammar.specs.CoreOf.{AreNamesOf}
@@ -11,8 +11,8 @@ use Rattle.policy_grammar.proofs.Sizes.{small_cores}
 use Rattle.policy_grammar.proofs.Telling.{is_first, has_none, or_no_memory}
 use Rattle.policy_grammar.proofs.texts.policies_of.Goals as goal
 
-pub least_repeat_in_file-requires-clause-same : goal.least_repeat_in_file-requires-clause-same
-least_repeat_in_file-requires-clause-same c = ap length c.deref.ensures.value ∙ names-long c.args.text.now c.args.trees.now c.args.names.items c.requires.named
+pub least_repeat_in_file-requires-clause-named : goal.least_repeat_in_file-requires-clause-named
+least_repeat_in_file-requires-clause-named c = subst (AreNamesOf c.args.text.now c.args.trees.now) (sym c.deref.ensures.value) c.requires.named
 
 pub returns-in-Some-clause-refused : goal.returns-in-Some-clause-refused
 returns-in-Some-clause-refused c =

@@ -1,0 +1,99 @@
+//! The stored entities, with what was looked up already for a request.
+ghost use Rattle.std.specs.Prelude.{◌≡◌, IfOk};
+ghost use Rattle.authoriser.specs.Views.{IsStanding};
+
+use crate::placed::{Standing, standing_of};
+use ancestor_closure::{Ancestry, is_among};
+use evaluator::Lookup;
+use plain::NoMemory;
+use std::alloc::Global;
+use std::marker::Model;
+use values::{EntityUid, Record, Request};
+
+/// Stored entities, and the ancestors of a request's three: what is asked of one of these is not searched again.
+/// Contracts see the stored entities and the request.
+#[derive(Drop)]
+pub(crate) struct Known<'a, L: Lookup> {
+    alloc: Global,
+    store: &'a L,
+    request: &'a Request,
+    standing: Standing<'a>,
+}
+
+impl<'a, L: Lookup> Model for Known<'a, L> {
+    ghost use Rattle.values.specs.declared.request.Request.{Request};
+    ghost use Rattle.std.specs.Coded.{codes};
+    ghost use Rattle.values.specs.ValueCode.{value_code};
+    ghost use Rattle.authoriser.specs.Views.{IsStanding};
+
+    ghost Value = { L × Request };
+
+    ghost coded = { Prim.hlevel (codes, value_code) };
+
+    ghost view = { λ k. (k.store.now, k.request.now) };
+
+    ghost invariant = { λ k. IsStanding (L.parents k.store.now) k.request.now k.standing };
+}
+
+impl<'a, L: Lookup> Known<'a, L> {
+    /// Looks up the request's three entities.
+    pub(crate) fn of(alloc: Global, store: &'a L, request: &'a Request) -> Result<Self, NoMemory>
+        ensures { IfOk result (λ k. k ≡ (store.now, request.now)) }
+    {
+        let standing = standing_of(store, request)?;
+        Ok(Known {
+            alloc,
+            store,
+            request,
+            standing,
+        })
+    }
+
+    /// Where the request's three entities stand.
+    pub(crate) fn standing(&self) -> &Standing<'a>
+        ensures { IsStanding (L.parents self.now.0) self.now.1 result.now }
+    {
+        &self.standing
+    }
+}
+
+/// The same references once more.
+fn copied<'a>(alloc: Global, uids: &[&'a EntityUid]) -> Result<Vec<&'a EntityUid>, NoMemory>
+    ensures { IfOk result (λ copies. copies.items ≡ uids.now) }
+{
+    uids.iter().copied().collect(alloc)
+}
+
+impl<L: Lookup> Ancestry for Known<'_, L> {
+    ghost parents = { λ s. L.parents s.0 };
+
+    ghost above = { λ s. L.above s.0 };
+
+    ghost above_is = { λ s. L.above_is s.0 };
+
+    fn is_ancestor(&self, a: &EntityUid, b: &EntityUid) -> Result<bool, NoMemory> {
+        match self.standing.place_of(b) {
+            Some(placed) => Ok(is_among(&placed.ancestors, a)),
+            None => self.store.is_ancestor(a, b),
+        }
+    }
+
+    fn ancestors(&self, uid: &EntityUid) -> Result<Vec<&EntityUid>, NoMemory> {
+        match self.standing.place_of(uid) {
+            Some(placed) => copied(self.alloc, &placed.ancestors),
+            None => self.store.ancestors(uid),
+        }
+    }
+
+    fn cyclic(&self) -> Result<Vec<&EntityUid>, NoMemory> {
+        self.store.cyclic()
+    }
+}
+
+impl<L: Lookup> Lookup for Known<'_, L> {
+    ghost stored = { λ s. L.stored s.0 };
+
+    fn attrs_of(&self, uid: &EntityUid) -> Option<&Record> {
+        self.store.attrs_of(uid)
+    }
+}

@@ -1,0 +1,5 @@
+use Rattle.std.proofs.Common.{rules}
+use Rattle.extensions.proofs.ip_net.IpNet.is_loopback.Goals as goal
+
+pub returns-else-is_in_range : goal.returns-else-is_in_range
+returns-else-is_in_range c = search rules

@@ -1,0 +1,61 @@
+-- A type may hold itself through `Shared`: its one value is the child, and a pointer is all that lies round it.
+use mathlib.Core.Path.{refl}
+use mathlib.Core.Former.{Former, this, const, pair, via}
+use base.Stored.{gnil}
+use base.Fml.{ftrue}
+use denote.Memory.{part_of}
+use denote.RattleType.{RattleType}
+use denote.RawPtr.{Ptr}
+use denote.Sharing.{nothing}
+use denote.HoleLaws.{Alike}
+use denote.HolePlaces.{Recodes, struct_places, laid, one_value}
+use denote.Hole.Fix.{over}
+use denote.Model.Placed.{view_places}
+use denote.Param.Weighed.{Weighed}
+use Rattle.std.specs.declared.alloc.Global.{Global}
+use Rattle.std.specs.declared.rc.Rc.{Rc}
+use Rattle.std.specs.contracts.alloc.Global as heap
+use Rattle.std.specs.contracts.rc.Rc as counted
+use Rattle.std.specs.contracts.impls.GlobalAllocator.TheImpl.{ghosts}
+use Rattle.plain.specs.declared.shared.Shared.TheInside.{Inside}
+use Rattle.plain.specs.declared.shared.Shared.TheView.{view, invariant}
+use Rattle.plain.specs.contracts.shared.Shared as seen
+use Rattle.plain.specs.contracts.shared.Shared.TheInside as inner
+
+-- what contracts see is the child itself
+abbrev pub the_former : Former {0} → Former {0}
+the_former child = child
+
+abbrev pub the_weighed : {child : Former {0}} → Weighed child → Weighed (the_former child)
+the_weighed weight = weight
+
+-- the struct: where the child lies, and the child
+abbrev layout : Former {0}
+layout = via (pair (const Ptr) this) Inside
+    (λ X s. (s.owner.ptr, s.owner.value))
+    (λ X p. record { owner = record { ptr = p.0; value = p.1 } }) (λ X s. refl) (λ X p. refl)
+
+-- the same pointer to another value
+abbrev refilled : {X Y : Type 0} → Rc X Global → Y → Rc Y Global
+refilled b y = record { ptr = b.ptr; value = y }
+
+abbrev rc_row : RattleType → RattleType
+rc_row T = counted.the_row T heap.the_row ghosts
+
+module _ (T U : RattleType) (change : T.Denot → U.Denot) where
+  rc_alike : Alike T U change → Alike (rc_row T) (rc_row U) (λ b. refilled b (change b.value))
+  unfolding part_of
+  rc_alike same = record {
+    mir_same = λ i. (rc_row (one_value T (same.mir_same i) (λ _. ftrue) (λ _ _. nothing) gnil)).mir;
+    own_same = λ b i. (rc_row (one_value T (same.mir_same i) (same.own_same b.value i) (same.shr_same b.value i) gnil)).own_val (refilled b tt);
+    shr_same = λ b i. (rc_row (one_value T (same.mir_same i) (same.own_same b.value i) (same.shr_same b.value i) gnil)).shr_at (refilled b tt);
+  }
+
+  pub the_places : Alike T U change → Alike (seen.the_row T) (seen.the_row U) ((the_former this).map T.Denot U.Denot change)
+  the_places same = view_places layout this view (λ X Y f s. refl) (λ X s. refl) T.Denot U.Denot change (seen.the_row T).coded (seen.the_row U).coded
+      (invariant T.Denot) (invariant U.Denot) (λ s p q. refl) (λ s p q. refl) (λ s e. tt) (λ s e. tt)
+      (over (inner.the_row T)) (over (inner.the_row U))
+      (struct_places (inner.the_type T) (inner.the_type U) ((λ b. refilled b (change b.value)), tt) _ (λ s. refl) refl (laid _ _ _ (rc_alike same), tt))
+
+  pub the_codes_placed : Recodes T U change → Recodes (seen.the_row T) (seen.the_row U) ((the_former this).map T.Denot U.Denot change)
+  the_codes_placed recodes value = recodes value

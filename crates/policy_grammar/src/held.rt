@@ -1,0 +1,15 @@
+//! A value that waits while more is made.
+ghost use Rattle.std.specs.Prelude.{◌≡◌, IfOk, Ok};
+
+use plain::NoMemory;
+
+/// What was made after another value, with that value. Generic, so that what is dropped where memory was refused is one step.
+pub(crate) fn beside<T: Drop, U>(kept: T, made: Result<U, NoMemory>) -> Result<(T, U), NoMemory>
+    ensures made { IfOk result (λ both. made ≡ Ok both.1) }
+    ensures kept { IfOk result (λ both. both.0 ≡ kept) }
+{
+    match made {
+        Ok(more) => Ok((kept, more)),
+        Err(refused) => Err(refused),
+    }
+}
