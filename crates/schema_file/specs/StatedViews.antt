@@ -1,0 +1,30 @@
+-- What the parts of a schema file stand for, without where they lie in memory.
+use Rattle.std.specs.Prelude.{ℕ, List, map, option_map}
+use Rattle.schema_types.specs.Raw.{Raw}
+use Rattle.schema_types.specs.Views.{raw_view}
+use Rattle.schema_file.specs.Stated.{EntityTypeOf, UseOf, ActionOf, NamespaceOf}
+use Rattle.schema_file.specs.declared.stated.StatedCommon.{StatedCommon}
+use Rattle.schema_file.specs.declared.stated.StatedEntityType.{StatedEntityType}
+use Rattle.schema_file.specs.declared.stated.StatedUse.{StatedUse}
+use Rattle.schema_file.specs.declared.stated.StatedAction.{StatedAction}
+use Rattle.schema_file.specs.declared.stated.StatedNamespace.{StatedNamespace}
+
+abbrev pub common_view : StatedCommon → List ℕ × Raw
+common_view c = (c.name, raw_view c.ty)
+
+abbrev pub entity_type_view : StatedEntityType → EntityTypeOf
+entity_type_view e = record { name = e.name; parents = e.parents; shape = option_map raw_view e.shape }
+
+abbrev pub use_view : StatedUse → UseOf
+use_view u = record { principals = u.principals; resources = u.resources; context = option_map raw_view u.context }
+
+abbrev pub action_view : StatedAction → ActionOf
+action_view a = record { id = a.id; parents = a.parents; applies_to = option_map use_view a.applies_to }
+
+abbrev pub namespace_view : StatedNamespace → NamespaceOf
+namespace_view n = record {
+  name = n.name;
+  commons = map common_view n.commons;
+  entity_types = map entity_type_view n.entity_types;
+  actions = map action_view n.actions;
+}

@@ -1,0 +1,4 @@
+pub mod AddLemmas
+pub mod NamingLemmas
+pub mod RecordLemmas
+pub mod SpreadLemmas

@@ -1,0 +1,158 @@
+-- Rounds that find the common types that mean no record.
+use Rattle.std.proofs.Common.{◌≡◌, ◌∙◌, ◌⊎◌, inl, inr, ℕ, suc, zero, ◌+◌, ◌<◌, Bool, true, false, cond, Option, Some, None, List, [], ◌∷◌, ◌++◌, map, length, drop, get_or, String, Global, string_bytes, string_cmp, refl, sym, ap, arith, subst, true≢false}
+use Rattle.std.specs.Prelude.{◌||◌, not, Contains, if◌then◌else◌}
+use Rattle.std.specs.Str.{bytes_eq}
+use Rattle.std.specs.BTreeSet.{BTreeSet, contains, btree_set_len, Updates}
+use Rattle.std.proofs.lemmas.Bool.{cases_Bool}
+use Rattle.std.proofs.lemmas.List.Elements.{Contains-append_left, Contains-append_right, Contains-append_cases}
+use Rattle.std.proofs.lemmas.Slice.Eq.{bytes_eq-Decides}
+use Rattle.schema_types.specs.Raw.{Raw}
+use Rattle.schema_types.specs.Names.{Scope}
+use Rattle.schema_file.specs.Stated.{NamespaceOf}
+use Rattle.schema_names.specs.Qualifying.{CommonOf, common_in, commons_declared, scope_in}
+use Rattle.schema_names.specs.Records.{common_meant, is_no_record, MeansNoRecord, form, named}
+use Rattle.schema_names.specs.inner.Adding.{has_name}
+use Rattle.schema_names.specs.inner.Spreading.{means_by, means_now, NamesNoRecord, IsSound, AreAmong, IsSettled, KeepsNames, Spreads, TellsRecords}
+use Rattle.schema_file.specs.declared.stated.StatedCommon.{StatedCommon}
+use Rattle.schema_file.specs.declared.stated.StatedNamespace.{StatedNamespace}
+use Rattle.schema_file.specs.StatedViews.{common_view, namespace_view}
+use Rattle.json_words.proofs.EachSame.{cut}
+use Rattle.values.proofs.Members.{Contains-here, Contains-there}
+use Rattle.schema_names.proofs.AddLemmas.{name_added}
+
+abbrev Names : Type 0
+Names = BTreeSet (String Global)
+
+no_member : (c : CommonOf) → Contains [] c → ⊥
+no_member c (k, lt, e) = omega (arith, lt)
+
+only_member : (c d : CommonOf) → Contains (c ∷ []) d → c ≡ d
+only_member c d (zero, lt, e) = e
+only_member c d (suc k, lt, e) = absurd (omega (arith, lt))
+
+pub spreads_none : (s : Scope) (t : Names) → Spreads s [] t t
+spreads_none s t = record { sound = λ ns e among h. h; grows = inl (refl, λ c here m. absurd (no_member c here)) }
+
+settled_both : (s : Scope) (t : Names) (xs ys : List CommonOf) → IsSettled s t xs → IsSettled s t ys → IsSettled s t (xs ++ ys)
+settled_both s t xs ys h k c here m = at (Contains-append_cases xs ys c here)
+  where
+    at : Contains xs c ⊎ Contains ys c → has_name t c.name ≡ true
+    at (inl l) = h c l m
+    at (inr r) = k c r m
+
+grow_both : (s : Scope) (xs ys : List CommonOf) (old mid new : Names) → ((mid ≡ old) × IsSettled s old xs) ⊎ (btree_set_len old < btree_set_len mid) → ((new ≡ mid) × IsSettled s mid ys) ⊎ (btree_set_len mid < btree_set_len new)
+    → ((new ≡ old) × IsSettled s old (xs ++ ys)) ⊎ (btree_set_len old < btree_set_len new)
+grow_both s xs ys old mid new (inl p) (inl q) = inl (q.0 ∙ p.0, settled_both s old xs ys p.1 (subst (λ (t : Names). IsSettled s t ys) p.0 q.1))
+grow_both s xs ys old mid new (inl p) (inr lt) = inr (subst (λ (t : Names). btree_set_len t < btree_set_len new) p.0 lt)
+grow_both s xs ys old mid new (inr lt) (inl q) = inr (subst (λ (t : Names). btree_set_len old < btree_set_len t) (sym q.0) lt)
+grow_both s xs ys old mid new (inr lt) (inr more) = inr (omega (arith, lt, more))
+
+-- first these, and then those
+pub spreads_both : (s : Scope) (xs ys : List CommonOf) (old mid new : Names) → Spreads s xs old mid → Spreads s ys mid new → Spreads s (xs ++ ys) old new
+spreads_both s xs ys old mid new h k = record {
+  sound = λ ns e among so. k.sound ns e (λ c here. among c (Contains-append_right xs ys c here)) (h.sound ns e (λ c here. among c (Contains-append_left xs ys c here)) so);
+  grows = grow_both s xs ys old mid new h.grows k.grows;
+}
+
+-- ---- one common type
+
+pub stays_known : (s : Scope) (c : CommonOf) (t : Names) → has_name t c.name ≡ true → Spreads s (c ∷ []) t t
+stays_known s c t known = record {
+  sound = λ ns e among h. h;
+  grows = inl (refl, λ d here m. subst (λ (x : CommonOf). has_name t x.name ≡ true) (only_member c d here) known);
+}
+
+pub stays_record : (s : Scope) (c : CommonOf) (t : Names) → means_now (λ q. has_name t q) s c.own c.type ≡ false → Spreads s (c ∷ []) t t
+stays_record s c t means = record {
+  sound = λ ns e among h. h;
+  grows = inl (
+    refl,
+    λ d here m.
+        let other : means_now (λ q. has_name t q) s d.own d.type ≡ false = subst (λ (x : CommonOf). means_now (λ q. has_name t q) s x.own x.type ≡ false) (only_member c d here) means in
+        absurd (true≢false (sym m ∙ other)),
+  );
+}
+
+-- what is found is so
+pub found_so : (ns : List NamespaceOf) (known : Names) (own : Option (List ℕ)) (r : Raw) → IsSound ns known → means_now (λ q. has_name known q) (scope_in ns) own r ≡ true → MeansNoRecord ns own r
+found_so ns known own r h m = by (common_meant (scope_in ns) own r) refl m
+  where
+    by : (o : Option (List ℕ)) → common_meant (scope_in ns) own r ≡ o → means_by o (λ q. has_name known q) (is_no_record (scope_in ns) own r) ≡ true → MeansNoRecord ns own r
+    by (Some q) e there = let n = h q there in named own r n.common (e ∙ ap (λ (p : List ℕ). Some p) (sym n.is)) n.declared n.means
+    by None e there = form own r e there
+
+grown : (old new : ℕ) (here added : Bool) → new ≡ old + (if added then 1 else 0) → added ≡ not here → here ≡ false → old < new
+grown old new here added len is none = let more = ap (λ (b : Bool). old + cond b 1 0) (is ∙ ap not none) in omega (arith, len, more)
+
+pub spreads_one : (s : Scope) (c : CommonOf) (old new : Names) (text : String Global) (added : Bool) → string_bytes text ≡ c.name → has_name old c.name ≡ false
+    → means_now (λ q. has_name old q) s c.own c.type ≡ true → Updates string_cmp old new text true → btree_set_len new ≡ btree_set_len old + (if added then 1 else 0)
+    → added ≡ not (contains string_cmp old text) → Spreads s (c ∷ []) old new
+spreads_one s c old new text added t none means updates len is = record {
+  sound = λ ns e among h q known. added_so ns e among h q known (cases_Bool (bytes_eq c.name q));
+  grows = inr (grown (btree_set_len old) (btree_set_len new) (contains string_cmp old text) added len is (ap (λ (n : List ℕ). has_name old n) t ∙ none));
+}
+  where
+    added_so : (ns : List NamespaceOf) → s ≡ scope_in ns → AreAmong (c ∷ []) (commons_declared ns) → IsSound ns old → (q : List ℕ) → has_name new q ≡ true
+        → (bytes_eq c.name q ≡ true) ⊎ (bytes_eq c.name q ≡ false) → NamesNoRecord ns q
+    added_so ns e among h q known (inl y) = record {
+      common = c;
+      declared = among c (zero, omega arith, refl);
+      is = (bytes_eq-Decides c.name q).0 y;
+      means = found_so ns old c.own c.type h (subst (λ (x : Scope). means_now (λ p. has_name old p) x c.own c.type ≡ true) e means);
+    }
+    added_so ns e among h q known (inr n) =
+        let here = name_added old new text (string_bytes text) (string_bytes text) c.name refl refl t updates q in
+        h q (sym (here ∙ ap (λ (b : Bool). b || has_name old q) n) ∙ known)
+
+-- ---- when nothing is left to do
+
+pub settled_of : (s : Scope) (cs : List CommonOf) (old new : Names) → Spreads s cs old new → btree_set_len new ≡ btree_set_len old → IsSettled s new cs
+settled_of s cs old new r same = at r.grows
+  where
+    at : ((new ≡ old) × IsSettled s old cs) ⊎ (btree_set_len old < btree_set_len new) → IsSettled s new cs
+    at (inl p) = subst (λ (t : Names). IsSettled s t cs) (sym p.0) p.1
+    at (inr lt) = absurd (omega (arith, lt, same))
+
+pub grown_of : (s : Scope) (cs : List CommonOf) (old new : Names) → Spreads s cs old new → (btree_set_len new ≡ btree_set_len old → ⊥) → btree_set_len old < btree_set_len new
+grown_of s cs old new r apart = at r.grows
+  where
+    at : ((new ≡ old) × IsSettled s old cs) ⊎ (btree_set_len old < btree_set_len new) → btree_set_len old < btree_set_len new
+    at (inl p) = absurd (apart (ap (λ (t : Names). btree_set_len t) p.0))
+    at (inr lt) = lt
+
+all_found : (ns : List NamespaceOf) (known : Names) → IsSettled (scope_in ns) known (commons_declared ns) → (own : Option (List ℕ)) (r : Raw) → MeansNoRecord ns own r
+    → means_now (λ q. has_name known q) (scope_in ns) own r ≡ true
+all_found ns known settled _ _ (form own r e n) = rw e n
+all_found ns known settled _ _ (named own r c e here m) = rw e (settled c here (all_found ns known settled c.own c.type m))
+
+pub tells : (ns : List NamespaceOf) (known : Names) → IsSound ns known → IsSettled (scope_in ns) known (commons_declared ns) → TellsRecords ns known
+tells ns known so settled = record { sound = λ own r m. found_so ns known own r so m; complete = all_found ns known settled }
+
+-- ---- one of the common types
+
+inner_drop : (own : Option (List ℕ)) (j : ℕ) (cs : List StatedCommon) (c : CommonOf) → Contains (map (λ x. common_in own x) (map common_view (drop j cs))) c
+    → Contains (map (λ x. common_in own x) (map common_view cs)) c
+inner_drop own zero cs c h = h
+inner_drop own (suc j) [] c h = h
+inner_drop own (suc j) (x ∷ cs) c h = Contains-there (common_in own (common_view x)) (map (λ y. common_in own y) (map common_view cs)) c (inner_drop own j cs c h)
+
+outer_drop : (j : ℕ) (ns : List StatedNamespace) (c : CommonOf) → Contains (commons_declared (map namespace_view (drop j ns))) c → Contains (commons_declared (map namespace_view ns)) c
+outer_drop zero ns c h = h
+outer_drop (suc j) [] c h = h
+outer_drop (suc j) (n ∷ ns) c h =
+    Contains-append_right (map (λ x. common_in n.name x) (map common_view n.commons)) (commons_declared (map namespace_view ns)) c (outer_drop j ns c h)
+
+pub kept_one : (s : Scope) (own : Option (List ℕ)) (cs : List StatedCommon) (j : ℕ) (c : StatedCommon) (old new : Names) → j < length cs → c ≡ get_or cs j c
+    → Spreads s (common_in own (common_view c) ∷ []) old new → KeepsNames s (map (λ x. common_in own x) (map common_view cs)) old new
+kept_one s own cs j c old new lt at h = λ ns e among so.
+    let here : Contains (map (λ x. common_in own x) (map common_view (drop j cs))) (common_in own (common_view c)) =
+    subst (λ (l : List StatedCommon). Contains (map (λ x. common_in own x) (map common_view l)) (common_in own (common_view c))) (sym (cut cs j c lt at))
+    (Contains-here (common_in own (common_view c)) (map (λ x. common_in own x) (map common_view (drop (j + 1) cs)))) in
+    let there = among (common_in own (common_view c)) (inner_drop own j cs (common_in own (common_view c)) here) in
+    h.sound ns e (λ d only. subst (λ (x : CommonOf). Contains (commons_declared ns) x) (only_member (common_in own (common_view c)) d only) there) so
+
+pub kept_at : (s : Scope) (all : List StatedNamespace) (i : ℕ) (n : StatedNamespace) (old new : Names) → i < length all → n ≡ get_or all i n
+    → KeepsNames s (map (λ x. common_in n.name x) (map common_view n.commons)) old new → KeepsNames s (commons_declared (map namespace_view all)) old new
+kept_at s all i n old new lt at h = λ ns e among so.
+    h ns e (λ c here. among c (outer_drop i all c (subst (λ (l : List StatedNamespace). Contains (commons_declared (map namespace_view l)) c) (sym (cut all i n lt at))
+    (Contains-append_left (map (λ x. common_in n.name x) (map common_view n.commons)) (commons_declared (map namespace_view (drop (i + 1) all))) c here)))) so

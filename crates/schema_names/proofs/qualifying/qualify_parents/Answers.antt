@@ -1,0 +1,29 @@
+use Rattle.std.proofs.Common.{refl}
+use Rattle.std.proofs.lemmas.Result.{err_from_is_err_and}
+use Rattle.json_words.specs.Each.{each}
+use Rattle.json_words.proofs.EachLemmas.{each_next}
+use Rattle.schema_types.specs.declared.fault.SchemaFault.TheVariants.{NoMemory}
+use Rattle.schema_types.specs.inner.NamesViews.{is_action_of}
+use Rattle.schema_names.specs.Qualifying.{parent_named, parents_named}
+use Rattle.json_words.proofs.EachSame.{same_fails, same_ends}
+use Rattle.schema_names.proofs.qualifying.qualify_parents.Goals as goal
+
+pub loop-parent-init : goal.loop-parent-init
+unfolding each
+loop-parent-init c = rw c.new-found.ensures refl
+
+pub returns-in_err-uid : goal.returns-in_err-uid
+unfolding parents_named
+returns-in_err-uid c =
+    let p = err_from_is_err_and c.from_residual.result c.from_residual.ensures.1 in
+    rw (p.1, p.2) (same_fails (λ i p. parent_named (is_action_of c.args.names.now) c.args.own.now p) c.args.parents.now c.loop-parent.parent-index c.parent-item.result c.loop-parent.found NoMemory c.in_err-uid.field-0.0
+    c.loop-parent-test.true c.parent-item.is c.loop-parent.invariant c.in_err-uid.ensures)
+
+pub loop-parent-preserved : goal.loop-parent-preserved
+loop-parent-preserved c =
+    rw c.in_ok-push.ensures.ok (each_next (λ x. x) (λ i p. parent_named (is_action_of c.args.names.now) c.args.own.now p) c.args.parents.now c.loop-parent.parent-index c.parent-item.result c.loop-parent.found c.in_ok-uid.uid
+    c.loop-parent-test.true c.parent-item.is c.loop-parent.invariant c.in_ok-uid.ensures)
+
+pub returns : goal.returns
+unfolding parents_named
+returns c = same_ends (λ i p. parent_named (is_action_of c.args.names.now) c.args.own.now p) c.args.parents.now c.loop-parent.parent-index c.loop-parent.found c.loop-parent-test.false c.loop-parent.invariant

@@ -1,0 +1,25 @@
+-- What the parts of a schema file with all names found stand for, without where they lie in memory.
+use Rattle.std.specs.Prelude.{map, option_map}
+use Rattle.schema_types.specs.QualifiedViews.{qualified_view, found_common_view}
+use Rattle.schema_names.specs.Qualifying.{FoundEntityType, FoundUse, FoundAction, FoundSchema}
+use Rattle.schema_names.specs.declared.qualifying.FoundEntityType as entity_type
+use Rattle.schema_names.specs.declared.qualifying.FoundUse as use_code
+use Rattle.schema_names.specs.declared.qualifying.FoundAction as action
+use Rattle.schema_names.specs.declared.qualifying.Found as namespace
+
+abbrev pub found_entity_type_view : entity_type.FoundEntityType → FoundEntityType
+found_entity_type_view e = record { name = e.name; parents = e.parents; shape = option_map qualified_view e.shape }
+
+abbrev pub found_use_view : use_code.FoundUse → FoundUse
+found_use_view u =
+    record { principals = u.principals; resources = u.resources; context = option_map qualified_view u.context }
+
+abbrev pub found_action_view : action.FoundAction → FoundAction
+found_action_view a = record { uid = a.uid; parents = a.parents; applies_to = option_map found_use_view a.applies_to }
+
+abbrev pub found_view : namespace.Found → FoundSchema
+found_view n = record {
+  commons = map found_common_view n.commons;
+  entity_types = map found_entity_type_view n.entity_types;
+  actions = map found_action_view n.actions;
+}

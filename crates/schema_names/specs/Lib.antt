@@ -1,0 +1,5 @@
+pub mod FoundViews
+pub mod Naming
+pub mod Qualifying
+pub mod Records
+pub mod inner

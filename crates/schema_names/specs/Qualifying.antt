@@ -1,0 +1,198 @@
+-- A schema file with each name found.
+-- Source: Cedar reference guide, "Schema JSON format": action types, `memberOf`, `memberOfTypes`, `appliesTo`.
+-- Rules of this product: an action of the empty namespace has the type `Action`, one of another `NS::Action`; a member
+-- of `memberOf` without a type is of the same namespace, and one with an unqualified type is looked for in the own
+-- namespace and then in the empty one.
+use Rattle.std.specs.Prelude.{ℕ, List, [], ◌∷◌, ◌++◌, map, Bool, codes, Option, Some, None, Result, Ok, if◌then◌else◌}
+use Rattle.std.specs.Ordering.{is_eq}
+use Rattle.std.specs.List.{list_any}
+use Rattle.std.specs.Str.{bytes_eq}
+use Rattle.json_words.specs.Gives.{◌>>=◌, or_fault}
+use Rattle.json_words.specs.Each.{each}
+use Rattle.values.specs.declared.entity_uid.EntityUid.{EntityUid}
+use Rattle.values.specs.Names.{uid_cmp}
+use Rattle.schema_types.specs.Raw.{Raw}
+use Rattle.schema_types.specs.Qualified.{Qualified}
+use Rattle.schema_types.specs.WrittenOut.{Declarations}
+use Rattle.schema_types.specs.Names.{Scope, full_name, is_qualified, found, qualified_of}
+use Rattle.schema_file.specs.Stated.{EntityTypeOf, UseOf, ActionOf, NamespaceOf}
+use Rattle.schema_file.specs.declared.stated.StatedParent.{StatedParent}
+use Rattle.schema_types.specs.declared.fault.SchemaFault.{SchemaFault}
+use Rattle.schema_types.specs.declared.fault.SchemaFault.TheVariants.{UnknownName}
+
+-- ---- what is declared
+
+abbrev pub all_of : {A B : Type 0} → (A → List B) → List A → List B
+all_of f [] = []
+all_of f (x ∷ xs) = f x ++ all_of f xs
+
+-- a common type as it was declared: its full name, its namespace, and its type
+pub record CommonOf : Type 0 where
+  pub name : List ℕ
+  pub own : Option (List ℕ)
+  pub type : Raw
+
+abbrev pub common_in : Option (List ℕ) → List ℕ × Raw → CommonOf
+common_in own c = record { name = full_name own c.0; own = own; type = c.1 }
+
+abbrev pub commons_declared : List NamespaceOf → List CommonOf
+commons_declared ns = all_of (λ n. map (λ c. common_in n.name c) n.commons) ns
+
+abbrev pub entity_types_declared : List NamespaceOf → List (List ℕ)
+entity_types_declared ns = all_of (λ n. map (λ e. full_name n.name e.name) n.entity_types) ns
+
+abbrev pub action_type : Option (List ℕ) → List ℕ
+action_type own = full_name own (codes "Action")
+
+abbrev pub uid_of : List ℕ → List ℕ → EntityUid
+uid_of type_name id = record { type_name = type_name; id = id }
+
+abbrev pub actions_declared : List NamespaceOf → List EntityUid
+actions_declared ns = all_of (λ n. map (λ a. uid_of (action_type n.name) a.id) n.actions) ns
+
+abbrev pub scope_in : List NamespaceOf → Scope
+scope_in ns = record {
+  commons = λ q. list_any (λ c. bytes_eq c.name q) (commons_declared ns);
+  entities = λ q. list_any (λ e. bytes_eq e q) (entity_types_declared ns);
+}
+
+abbrev pub is_action_in : List NamespaceOf → EntityUid → Bool
+is_action_in ns u = list_any (λ a. is_eq (uid_cmp a u)) (actions_declared ns)
+
+-- ---- with each name found
+
+pub record FoundEntityType : Type 0 where
+  pub name : List ℕ
+  pub parents : List (List ℕ)
+  pub shape : Option Qualified
+
+pub record FoundUse : Type 0 where
+  pub principals : List (List ℕ)
+  pub resources : List (List ℕ)
+  pub context : Option Qualified
+
+pub record FoundAction : Type 0 where
+  pub uid : EntityUid
+  pub parents : List EntityUid
+  pub applies_to : Option FoundUse
+
+pub record FoundSchema : Type 0 where
+  pub commons : Declarations
+  pub entity_types : List FoundEntityType
+  pub actions : List FoundAction
+
+abbrev pub entity_type_named : Scope → Option (List ℕ) → List ℕ → Result (List ℕ) SchemaFault
+entity_type_named s own w = or_fault UnknownName (found s.entities own w)
+
+unfoldable pub entity_types_named : Scope → Option (List ℕ) → List (List ℕ) → Result (List (List ℕ)) SchemaFault
+entity_types_named s own ws = each (λ i w. entity_type_named s own w) 0 ws
+
+abbrev pub type_named : Scope → Option (List ℕ) → Option Raw → Result (Option Qualified) SchemaFault
+type_named s own None = Ok None
+type_named s own (Some r) = do
+  t ← qualified_of s own r
+  Ok (Some t)
+
+-- the action of this type and id, where it is declared
+abbrev pub declared_action : (EntityUid → Bool) → List ℕ → List ℕ → Option EntityUid
+declared_action is_action t id = if is_action (uid_of t id) then Some (uid_of t id) else None
+
+abbrev pub first_of : {A : Type 0} → Option A → Option A → Option A
+first_of (Some x) later = Some x
+first_of None later = later
+
+-- of an action's type that is written: in the own namespace, then in the empty one
+unfoldable pub action_of_type : (EntityUid → Bool) → Option (List ℕ) → List ℕ → List ℕ → Option EntityUid
+action_of_type is_action own w id =
+    if is_qualified w then declared_action is_action w id
+    else first_of (declared_action is_action (full_name own w) id) (declared_action is_action w id)
+
+abbrev pub action_meant_at : (EntityUid → Bool) → Option (List ℕ) → Option (List ℕ) → List ℕ → Option EntityUid
+action_meant_at is_action own None id = declared_action is_action (action_type own) id
+action_meant_at is_action own (Some w) id = action_of_type is_action own w id
+
+abbrev pub action_meant : (EntityUid → Bool) → Option (List ℕ) → StatedParent → Option EntityUid
+action_meant is_action own p = action_meant_at is_action own p.type_name p.id
+
+unfoldable pub parent_named : (EntityUid → Bool) → Option (List ℕ) → StatedParent → Result EntityUid SchemaFault
+parent_named is_action own p = or_fault UnknownName (action_meant is_action own p)
+
+unfoldable pub parents_named : (EntityUid → Bool) → Option (List ℕ) → List StatedParent
+    → Result (List EntityUid) SchemaFault
+parents_named is_action own ps = each (λ i p. parent_named is_action own p) 0 ps
+
+unfoldable pub qualified_common : Scope → Option (List ℕ) → List ℕ × Raw → Result (List ℕ × Qualified) SchemaFault
+qualified_common s own c = do
+  t ← qualified_of s own c.1
+  Ok (full_name own c.0, t)
+
+unfoldable pub qualified_entity_type : Scope → Option (List ℕ) → EntityTypeOf → Result FoundEntityType SchemaFault
+qualified_entity_type s own e = do
+  parents ← entity_types_named s own e.parents
+  shape ← type_named s own e.shape
+  Ok (record { name = full_name own e.name; parents = parents; shape = shape })
+
+unfoldable pub qualified_use : Scope → Option (List ℕ) → UseOf → Result FoundUse SchemaFault
+qualified_use s own u = do
+  principals ← entity_types_named s own u.principals
+  resources ← entity_types_named s own u.resources
+  context ← type_named s own u.context
+  Ok (record { principals = principals; resources = resources; context = context })
+
+abbrev pub use_named : Scope → Option (List ℕ) → Option UseOf → Result (Option FoundUse) SchemaFault
+use_named s own None = Ok None
+use_named s own (Some u) = do
+  applied ← qualified_use s own u
+  Ok (Some applied)
+
+unfoldable pub qualified_action : Scope → (EntityUid → Bool) → Option (List ℕ) → ActionOf
+    → Result FoundAction SchemaFault
+qualified_action s is_action own a = do
+  parents ← parents_named is_action own a.parents
+  applies_to ← use_named s own a.applies_to
+  Ok (record { uid = uid_of (action_type own) a.id; parents = parents; applies_to = applies_to })
+
+unfoldable pub qualified_commons : Scope → Option (List ℕ) → List (List ℕ × Raw)
+    → Result (List (List ℕ × Qualified)) SchemaFault
+qualified_commons s own cs = each (λ i x. qualified_common s own x) 0 cs
+
+unfoldable pub qualified_entity_types : Scope → Option (List ℕ) → List EntityTypeOf
+    → Result (List FoundEntityType) SchemaFault
+qualified_entity_types s own es = each (λ i x. qualified_entity_type s own x) 0 es
+
+unfoldable pub qualified_actions : Scope → (EntityUid → Bool) → Option (List ℕ) → List ActionOf
+    → Result (List FoundAction) SchemaFault
+qualified_actions s is_action own us = each (λ i x. qualified_action s is_action own x) 0 us
+
+-- a namespace, or a whole file, with each name found: refused where one is declared nowhere
+unfoldable pub qualified_namespace : Scope → (EntityUid → Bool) → NamespaceOf → Result FoundSchema SchemaFault
+qualified_namespace s is_action n = do
+  commons ← qualified_commons s n.name n.commons
+  entity_types ← qualified_entity_types s n.name n.entity_types
+  actions ← qualified_actions s is_action n.name n.actions
+  Ok (record { commons = commons; entity_types = entity_types; actions = actions })
+
+unfoldable pub qualified_namespaces : Scope → (EntityUid → Bool) → List NamespaceOf
+    → Result (List FoundSchema) SchemaFault
+qualified_namespaces s is_action ns = each (λ i n. qualified_namespace s is_action n) 0 ns
+
+-- what two declare
+abbrev pub both : FoundSchema → FoundSchema → FoundSchema
+both a b = record {
+  commons = a.commons ++ b.commons;
+  entity_types = a.entity_types ++ b.entity_types;
+  actions = a.actions ++ b.actions;
+}
+
+-- what several namespaces declare
+abbrev pub together : List FoundSchema → FoundSchema
+together parts = record {
+  commons = all_of (λ p. p.commons) parts;
+  entity_types = all_of (λ p. p.entity_types) parts;
+  actions = all_of (λ p. p.actions) parts;
+}
+
+unfoldable pub qualified : List NamespaceOf → Result FoundSchema SchemaFault
+qualified ns = do
+  parts ← qualified_namespaces (scope_in ns) (is_action_in ns) ns
+  Ok (together parts)

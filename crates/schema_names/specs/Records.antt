@@ -1,0 +1,59 @@
+-- Shapes and contexts are records, written out or by name.
+-- Source: Cedar reference guide, "Schema JSON format": `shape`, `context`. A rule of this product: names are followed
+-- as far as they are declared.
+use Rattle.std.specs.Prelude.{◌≡◌, ◌⊎◌, ℕ, List, Contains, Bool, true, false, Option, Some, None, is_some}
+use Rattle.schema_types.specs.Raw as raw
+use Rattle.schema_types.specs.Raw.{Raw}
+use Rattle.schema_types.specs.Names.{Scope, found, or_entity, built_in}
+use Rattle.schema_file.specs.Stated.{EntityTypeOf, UseOf, ActionOf, NamespaceOf}
+use Rattle.schema_names.specs.Qualifying.{CommonOf, commons_declared, scope_in}
+
+-- the common type that a type names, where it names one that is declared
+abbrev pub common_meant : Scope → Option (List ℕ) → Raw → Option (List ℕ)
+common_meant s own raw.text = None
+common_meant s own raw.long = None
+common_meant s own raw.boolean = None
+common_meant s own raw.decimal = None
+common_meant s own raw.ipaddr = None
+common_meant s own (raw.set r) = None
+common_meant s own (raw.record_of rs) = None
+common_meant s own (raw.entity w) = None
+common_meant s own (raw.common w) = found s.commons own w
+common_meant s own (raw.entity_or_common w) = found s.commons own w
+
+-- what is no record, where it names no common type that is declared
+abbrev pub is_no_record : Scope → Option (List ℕ) → Raw → Bool
+is_no_record s own raw.text = true
+is_no_record s own raw.long = true
+is_no_record s own raw.boolean = true
+is_no_record s own raw.decimal = true
+is_no_record s own raw.ipaddr = true
+is_no_record s own (raw.set r) = true
+is_no_record s own (raw.record_of rs) = false
+is_no_record s own (raw.entity w) = true
+is_no_record s own (raw.common w) = false
+is_no_record s own (raw.entity_or_common w) = is_some (or_entity (found s.entities own w) (built_in w))
+
+-- following the names leads to a form that is no record
+pub data MeansNoRecord (ns : List NamespaceOf) : Option (List ℕ) → Raw → Type 0 where
+  form : (own : Option (List ℕ)) (r : Raw) → common_meant (scope_in ns) own r ≡ None
+      → is_no_record (scope_in ns) own r ≡ true → MeansNoRecord ns own r
+  named : (own : Option (List ℕ)) (r : Raw) (c : CommonOf) → common_meant (scope_in ns) own r ≡ Some c.name
+      → Contains (commons_declared ns) c → MeansNoRecord ns c.own c.type
+      → MeansNoRecord ns own r
+
+abbrev pub HasContext : ActionOf → Raw → Type 0
+HasContext a r = (u : UseOf) × (a.applies_to ≡ Some u) × (u.context ≡ Some r)
+
+-- r is the shape of an entity type, or the context of an action
+abbrev pub StandsAsRecord : NamespaceOf → Raw → Type 0
+StandsAsRecord n r =
+    ((e : EntityTypeOf) × Contains n.entity_types e × (e.shape ≡ Some r))
+    ⊎ ((a : ActionOf) × Contains n.actions a × HasContext a r)
+
+pub record SomeIsNoRecord (ns : List NamespaceOf) : Type 0 where
+  pub namespace : NamespaceOf
+  pub type : Raw
+  pub stated : Contains ns namespace
+  pub stands : StandsAsRecord namespace type
+  pub means : MeansNoRecord ns namespace.name type

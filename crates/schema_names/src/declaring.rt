@@ -1,0 +1,127 @@
+//! The names that a schema file declares.
+ghost use Rattle.std.specs.Prelude.{OnOk, IfOk, map};
+ghost use Rattle.std.specs.Ordering.{is_eq};
+ghost use Rattle.std.specs.Str.{bytes_eq};
+ghost use Rattle.values.specs.Names.{uid_cmp};
+ghost use Rattle.schema_types.specs.Names.{full_name};
+ghost use Rattle.schema_file.specs.StatedViews.{common_view, entity_type_view, action_view, namespace_view};
+ghost use Rattle.schema_names.specs.Qualifying.{common_in, action_type, uid_of};
+ghost use Rattle.schema_names.specs.inner.Adding.{has_name, has_uid, Adds, AddsNamespace, Declares, any_common};
+ghost use Rattle.schema_names.specs.inner.Adding.{any_name, any_uid};
+
+use crate::qualifying::action_type;
+use plain::NoMemory;
+use schema_file::{StatedAction, StatedCommon, StatedEntityType, StatedNamespace};
+use schema_types::{Names, full_name};
+use std::alloc::Global;
+use std::collections::BTreeSet;
+use values::{EntityUid, TypeName};
+
+fn add_name(
+    alloc: Global,
+    declared: &mut BTreeSet<String>,
+    own: &Option<TypeName>,
+    word: &TypeName,
+) -> Result<(), NoMemory>
+    ensures { OnOk result (Adds has_name (λ q. bytes_eq (full_name own.now word.now) q) declared.old declared.new) }
+{
+    let full = full_name(alloc, own, word)?;
+    let text = String::from_str(alloc, full.as_str())?;
+    declared.insert(text)?;
+    Ok(())
+}
+
+fn add_commons(
+    alloc: Global,
+    declared: &mut BTreeSet<String>,
+    own: &Option<TypeName>,
+    stated: &[StatedCommon],
+) -> Result<(), NoMemory>
+    ensures { OnOk result (Adds has_name
+        (any_common (map (λ c. common_in own.now c) (map common_view stated.now))) declared.old declared.new) }
+{
+    for common in stated {
+        add_name(alloc, declared, own, &common.name)?;
+    }
+    Ok(())
+}
+
+fn add_entity_types(
+    alloc: Global,
+    declared: &mut BTreeSet<String>,
+    own: &Option<TypeName>,
+    stated: &[StatedEntityType],
+) -> Result<(), NoMemory>
+    ensures { OnOk result (Adds has_name
+        (any_name (map (λ e. full_name own.now e.name) (map entity_type_view stated.now))) declared.old declared.new) }
+{
+    for entity_type in stated {
+        add_name(alloc, declared, own, &entity_type.name)?;
+    }
+    Ok(())
+}
+
+fn add_action(
+    alloc: Global,
+    declared: &mut BTreeSet<EntityUid>,
+    own: &Option<TypeName>,
+    action: &StatedAction,
+) -> Result<(), NoMemory>
+    ensures { OnOk result (Adds has_uid
+        (λ u. is_eq (uid_cmp (uid_of (action_type own.now) action.now.id) u)) declared.old declared.new) }
+{
+    let type_name = action_type(alloc, own)?;
+    let id = action.id.copy()?;
+    declared.insert(EntityUid { type_name, id })?;
+    Ok(())
+}
+
+fn add_actions(
+    alloc: Global,
+    declared: &mut BTreeSet<EntityUid>,
+    own: &Option<TypeName>,
+    stated: &[StatedAction],
+) -> Result<(), NoMemory>
+    ensures { OnOk result (Adds has_uid
+        (any_uid (map (λ a. uid_of (action_type own.now) a.id) (map action_view stated.now)))
+        declared.old declared.new) }
+{
+    for action in stated {
+        add_action(alloc, declared, own, action)?;
+    }
+    Ok(())
+}
+
+fn add_namespace(
+    alloc: Global,
+    names: &mut Names,
+    namespace: &StatedNamespace,
+) -> Result<(), NoMemory>
+    ensures { OnOk result (AddsNamespace (namespace_view namespace.now) names.old names.new) }
+{
+    let own = &namespace.name;
+    add_commons(alloc, &mut names.commons, own, namespace.commons.as_slice())?;
+    add_entity_types(
+        alloc,
+        &mut names.entities,
+        own,
+        namespace.entity_types.as_slice(),
+    )?;
+    add_actions(alloc, &mut names.actions, own, namespace.actions.as_slice())?;
+    Ok(())
+}
+
+/// The names that these namespaces declare. Fails for memory alone.
+pub(crate) fn declare(alloc: Global, stated: &[StatedNamespace]) -> Result<Names, NoMemory>
+    ensures { IfOk result (λ n. Declares (map namespace_view stated.now) n) }
+{
+    let mut names = Names {
+        commons: BTreeSet::new(alloc),
+        entities: BTreeSet::new(alloc),
+        actions: BTreeSet::new(alloc),
+    };
+    for namespace in stated {
+        add_namespace(alloc, &mut names, namespace)?;
+    }
+    Ok(names)
+}

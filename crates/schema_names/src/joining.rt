@@ -1,0 +1,47 @@
+//! What several namespaces declare, in one.
+ghost use Rattle.std.specs.Prelude.{◌≡◌, ◌++◌, IfOk, map};
+ghost use Rattle.schema_names.specs.Qualifying.{both, together};
+ghost use Rattle.schema_names.specs.FoundViews.{found_view};
+
+use crate::qualifying::Found;
+use plain::{Items, NoMemory};
+use std::alloc::Global;
+
+/// The items of the one list and then those of the other.
+fn append<T: Drop>(items: Items<T>, more: Items<T>) -> Result<Items<T>, NoMemory>
+    ensures { IfOk result (λ whole. whole ≡ items ++ more) }
+{
+    let mut whole = items.into_vec();
+    let mut rest = more.into_vec();
+    whole.append(&mut rest)?;
+    Ok(Items::from_vec(whole))
+}
+
+/// What the one declares and then what the other declares.
+fn join(first: Found, second: Found) -> Result<Found, NoMemory>
+    ensures { IfOk result (λ found. found_view found ≡ both (found_view first) (found_view second)) }
+{
+    let commons = append(first.commons, second.commons)?;
+    let entity_types = append(first.entity_types, second.entity_types)?;
+    let actions = append(first.actions, second.actions)?;
+    Ok(Found {
+        commons,
+        entity_types,
+        actions,
+    })
+}
+
+/// What all of them declare.
+pub(crate) fn join_all(alloc: Global, parts: Items<Found>) -> Result<Found, NoMemory>
+    ensures { IfOk result (λ found. found_view found ≡ together (map found_view parts)) }
+{
+    let mut whole = Found {
+        commons: Items::new(alloc),
+        entity_types: Items::new(alloc),
+        actions: Items::new(alloc),
+    };
+    for part in parts.into_vec() {
+        whole = join(whole, part)?;
+    }
+    Ok(whole)
+}

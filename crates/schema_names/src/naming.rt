@@ -1,0 +1,64 @@
+//! From bytes to a schema file with each name found.
+ghost use Rattle.std.specs.Prelude.{◌≢◌, MatchResult, map};
+ghost use Rattle.serde_json.specs.View.{view};
+ghost use Rattle.json_words.specs.Gives.{Gives, or_fault};
+ghost use Rattle.json_words.specs.Json.{json_of};
+ghost use Rattle.schema_file.specs.StatedViews.{namespace_view};
+ghost use Rattle.schema_names.specs.Qualifying.{together};
+ghost use Rattle.schema_names.specs.FoundViews.{found_view};
+ghost use Rattle.schema_names.specs.Naming.{IsNamed, NamesRefused, StatesNamed, NamingRefused};
+ghost use Rattle.schema_types.specs.declared.fault.SchemaFault.TheVariants as SchemaFault;
+
+use crate::declaring::declare;
+use crate::joining::join_all;
+use crate::qualifying::{Found, qualify_namespaces};
+use crate::records::demand_records;
+use json_words::read_json;
+use plain::Items;
+use schema_file::{StatedNamespace, read_stated};
+use schema_types::SchemaFault;
+use serde_json::Value;
+use std::alloc::Global;
+
+fn read_value(alloc: Global, bytes: &[u8]) -> Result<Value, SchemaFault>
+    ensures { Gives SchemaFault.NoMemory view result (or_fault SchemaFault.NotJson (json_of bytes.now)) }
+{
+    match read_json(alloc, bytes)? {
+        Some(value) => Ok(value),
+        None => Err(SchemaFault::NotJson),
+    }
+}
+
+/// The namespaces with each name found.
+///
+/// Refused where a shape or a context is no record, and then where a name is declared nowhere.
+fn name_all(alloc: Global, stated: &[StatedNamespace]) -> Result<Items<Found>, SchemaFault>
+    ensures { MatchResult result (λ ps. IsNamed (map namespace_view stated.now) (together (map found_view ps)))
+        (λ f. f ≢ SchemaFault.NoMemory → NamesRefused (map namespace_view stated.now) f) }
+{
+    let names = declare(alloc, stated)?;
+    demand_records(alloc, &names, stated)?;
+    qualify_namespaces(alloc, &names, stated)
+}
+
+/// The namespaces that bytes state, with each name found.
+fn read_parts(alloc: Global, bytes: &[u8]) -> Result<Items<Found>, SchemaFault>
+    ensures { MatchResult result (λ ps. StatesNamed bytes.now (together (map found_view ps)))
+        (λ f. f ≢ SchemaFault.NoMemory → NamingRefused bytes.now f) }
+{
+    let value = read_value(alloc, bytes)?;
+    let stated = read_stated(alloc, &value)?;
+    name_all(alloc, stated.as_slice())
+}
+
+/// What the namespaces that bytes state declare, with each name found.
+///
+/// Refused where the bytes are no JSON, then where the JSON has not the shape of a schema, and then where a name is
+/// declared nowhere.
+pub fn read_named(alloc: Global, bytes: &[u8]) -> Result<Found, SchemaFault>
+    ensures { MatchResult result (λ found. StatesNamed bytes.now (found_view found))
+        (λ f. f ≢ SchemaFault.NoMemory → NamingRefused bytes.now f) }
+{
+    let parts = read_parts(alloc, bytes)?;
+    Ok(join_all(alloc, parts)?)
+}

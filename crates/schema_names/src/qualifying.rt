@@ -1,0 +1,383 @@
+//! A schema file with each name found.
+ghost use Rattle.std.specs.Prelude.{◌≡◌, IfOk, map, option_map};
+ghost use Rattle.json_words.specs.Gives.{Gives};
+ghost use Rattle.schema_types.specs.Views.{raw_view};
+ghost use Rattle.schema_types.specs.QualifiedViews.{qualified_view};
+ghost use Rattle.schema_types.specs.inner.NamesViews.{scope_of, is_action_of};
+ghost use Rattle.schema_file.specs.StatedViews.{common_view, entity_type_view, use_view, action_view, namespace_view};
+ghost use Rattle.schema_types.specs.QualifiedViews.{found_common_view};
+ghost use Rattle.schema_names.specs.FoundViews.{found_entity_type_view, found_use_view, found_action_view, found_view};
+ghost use Rattle.schema_names.specs.Qualifying.{action_type, declared_action, action_of_type, action_meant};
+ghost use Rattle.schema_names.specs.Qualifying.{parent_named, parents_named, entity_type_named, entity_types_named};
+ghost use Rattle.schema_names.specs.Qualifying.{type_named, qualified_common, qualified_entity_type, qualified_use};
+ghost use Rattle.schema_names.specs.Qualifying.{use_named, qualified_action, qualified_commons, qualified_entity_types};
+ghost use Rattle.schema_names.specs.Qualifying.{qualified_actions, qualified_namespace, qualified_namespaces};
+ghost use Rattle.schema_types.specs.declared.fault.SchemaFault.TheVariants as SchemaFault;
+
+use plain::{Items, NoMemory, Text};
+use schema_file::{
+    StatedAction, StatedCommon, StatedEntityType, StatedNamespace, StatedParent, StatedUse,
+};
+use schema_types::{
+    FoundCommon, Names, QualifiedType, RawType, SchemaFault, find, full_name, is_qualified, resolve,
+};
+use std::alloc::Global;
+use values::{EntityUid, TypeName};
+
+/// An entity type by its full name.
+#[derive(Drop)]
+pub struct FoundEntityType {
+    pub name: TypeName,
+    pub parents: Items<TypeName>,
+    pub shape: Option<QualifiedType>,
+}
+
+/// To what an action applies.
+#[derive(Drop)]
+pub struct FoundUse {
+    pub principals: Items<TypeName>,
+    pub resources: Items<TypeName>,
+    pub context: Option<QualifiedType>,
+}
+
+/// An action by its uid.
+#[derive(Drop)]
+pub struct FoundAction {
+    pub uid: EntityUid,
+    pub parents: Items<EntityUid>,
+    pub applies_to: Option<FoundUse>,
+}
+
+/// What a namespace declares, or a whole file.
+#[derive(Drop)]
+pub struct Found {
+    pub commons: Items<FoundCommon>,
+    pub entity_types: Items<FoundEntityType>,
+    pub actions: Items<FoundAction>,
+}
+
+/// The entity type that a word means.
+fn qualify_name(
+    alloc: Global,
+    names: &Names,
+    own: &Option<TypeName>,
+    word: &TypeName,
+) -> Result<TypeName, SchemaFault>
+    ensures { Gives SchemaFault.NoMemory (λ t. t) result (entity_type_named (scope_of names.now) own.now word.now) }
+{
+    match find(alloc, &names.entities, own, word)? {
+        Some(name) => Ok(name),
+        None => Err(SchemaFault::UnknownName),
+    }
+}
+
+fn qualify_names(
+    alloc: Global,
+    names: &Names,
+    own: &Option<TypeName>,
+    words: &[TypeName],
+) -> Result<Items<TypeName>, SchemaFault>
+    ensures { Gives SchemaFault.NoMemory (λ ns. ns) result (entity_types_named (scope_of names.now) own.now words.now) }
+{
+    let mut found = Items::new(alloc);
+    for word in words {
+        let name = qualify_name(alloc, names, own, word)?;
+        found.push(name)?;
+    }
+    Ok(found)
+}
+
+/// A type that may be missing.
+fn qualify_optional(
+    alloc: Global,
+    names: &Names,
+    own: &Option<TypeName>,
+    ty: &Option<RawType>,
+) -> Result<Option<QualifiedType>, SchemaFault>
+    ensures { Gives SchemaFault.NoMemory (option_map qualified_view) result
+        (type_named (scope_of names.now) own.now (option_map raw_view ty.now)) }
+{
+    match ty {
+        None => Ok(None),
+        Some(ty) => Ok(Some(resolve(alloc, names, own, ty)?)),
+    }
+}
+
+/// The type of the actions of a namespace.
+pub(crate) fn action_type(alloc: Global, own: &Option<TypeName>) -> Result<TypeName, NoMemory>
+    ensures { IfOk result (λ t. t ≡ action_type own.now) }
+{
+    let word = TypeName::from_words(alloc, ["Action"].as_slice())?;
+    full_name(alloc, own, &word)
+}
+
+/// The common type of a namespace.
+#[tactic(auto, unfolding(crate::specs::Qualifying::qualified_common))]
+fn qualify_common(
+    alloc: Global,
+    names: &Names,
+    own: &Option<TypeName>,
+    common: &StatedCommon,
+) -> Result<FoundCommon, SchemaFault>
+    ensures { Gives SchemaFault.NoMemory found_common_view result
+        (qualified_common (scope_of names.now) own.now (common_view common.now)) }
+{
+    let ty = resolve(alloc, names, own, &common.ty)?;
+    let name = full_name(alloc, own, &common.name)?;
+    Ok(FoundCommon { name, ty })
+}
+
+/// The entity type of a namespace.
+#[tactic(auto, unfolding(crate::specs::Qualifying::qualified_entity_type))]
+fn qualify_entity_type(
+    alloc: Global,
+    names: &Names,
+    own: &Option<TypeName>,
+    entity_type: &StatedEntityType,
+) -> Result<FoundEntityType, SchemaFault>
+    ensures { Gives SchemaFault.NoMemory found_entity_type_view result
+        (qualified_entity_type (scope_of names.now) own.now (entity_type_view entity_type.now)) }
+{
+    let parents = qualify_names(alloc, names, own, entity_type.parents.as_slice())?;
+    let shape = qualify_optional(alloc, names, own, &entity_type.shape)?;
+    let name = full_name(alloc, own, &entity_type.name)?;
+    Ok(FoundEntityType {
+        name,
+        parents,
+        shape,
+    })
+}
+
+/// To what an action applies.
+#[tactic(auto, unfolding(crate::specs::Qualifying::qualified_use))]
+fn qualify_use(
+    alloc: Global,
+    names: &Names,
+    own: &Option<TypeName>,
+    stated: &StatedUse,
+) -> Result<FoundUse, SchemaFault>
+    ensures { Gives SchemaFault.NoMemory found_use_view result
+        (qualified_use (scope_of names.now) own.now (use_view stated.now)) }
+{
+    let principals = qualify_names(alloc, names, own, stated.principals.as_slice())?;
+    let resources = qualify_names(alloc, names, own, stated.resources.as_slice())?;
+    let context = qualify_optional(alloc, names, own, &stated.context)?;
+    Ok(FoundUse {
+        principals,
+        resources,
+        context,
+    })
+}
+
+/// To what an action applies, where that is said.
+fn qualify_optional_use(
+    alloc: Global,
+    names: &Names,
+    own: &Option<TypeName>,
+    stated: &Option<StatedUse>,
+) -> Result<Option<FoundUse>, SchemaFault>
+    ensures { Gives SchemaFault.NoMemory (option_map found_use_view) result
+        (use_named (scope_of names.now) own.now (option_map use_view stated.now)) }
+{
+    match stated {
+        None => Ok(None),
+        Some(stated) => Ok(Some(qualify_use(alloc, names, own, stated)?)),
+    }
+}
+
+/// The action of this type and id, where it is declared.
+fn declared_action(
+    names: &Names,
+    type_name: TypeName,
+    id: &Text,
+) -> Result<Option<EntityUid>, NoMemory>
+    ensures { IfOk result (λ o. o ≡ declared_action (is_action_of names.now) type_name id.now) }
+{
+    let id = id.copy()?;
+    let uid = EntityUid { type_name, id };
+    if names.actions.contains(&uid) {
+        return Ok(Some(uid));
+    }
+    Ok(None)
+}
+
+/// The action that a type as written and an id mean.
+#[tactic(auto, unfolding(crate::specs::Qualifying::action_of_type))]
+fn find_action_of_type(
+    alloc: Global,
+    names: &Names,
+    own: &Option<TypeName>,
+    word: &TypeName,
+    id: &Text,
+) -> Result<Option<EntityUid>, NoMemory>
+    ensures { IfOk result (λ o. o ≡ action_of_type (is_action_of names.now) own.now word.now id.now) }
+{
+    if !is_qualified(word.as_str()) {
+        let full = full_name(alloc, own, word)?;
+        if let Some(uid) = declared_action(names, full, id)? {
+            return Ok(Some(uid));
+        }
+    }
+    declared_action(names, word.copy()?, id)
+}
+
+/// The action that a member of `memberOf` means.
+fn find_action(
+    alloc: Global,
+    names: &Names,
+    own: &Option<TypeName>,
+    parent: &StatedParent,
+) -> Result<Option<EntityUid>, NoMemory>
+    ensures { IfOk result (λ o. o ≡ action_meant (is_action_of names.now) own.now parent.now) }
+{
+    match &parent.type_name {
+        Some(word) => find_action_of_type(alloc, names, own, word, &parent.id),
+        None => declared_action(names, action_type(alloc, own)?, &parent.id),
+    }
+}
+
+/// The action above, which must be declared.
+#[tactic(auto, unfolding(crate::specs::Qualifying::parent_named))]
+fn qualify_parent(
+    alloc: Global,
+    names: &Names,
+    own: &Option<TypeName>,
+    parent: &StatedParent,
+) -> Result<EntityUid, SchemaFault>
+    ensures { Gives SchemaFault.NoMemory (λ u. u) result (parent_named (is_action_of names.now) own.now parent.now) }
+{
+    match find_action(alloc, names, own, parent)? {
+        Some(uid) => Ok(uid),
+        None => Err(SchemaFault::UnknownName),
+    }
+}
+
+fn qualify_parents(
+    alloc: Global,
+    names: &Names,
+    own: &Option<TypeName>,
+    parents: &[StatedParent],
+) -> Result<Items<EntityUid>, SchemaFault>
+    ensures { Gives SchemaFault.NoMemory (λ us. us) result
+        (parents_named (is_action_of names.now) own.now parents.now) }
+{
+    let mut found = Items::new(alloc);
+    for parent in parents {
+        let uid = qualify_parent(alloc, names, own, parent)?;
+        found.push(uid)?;
+    }
+    Ok(found)
+}
+
+/// The action of a namespace.
+#[tactic(auto, unfolding(crate::specs::Qualifying::qualified_action))]
+fn qualify_action(
+    alloc: Global,
+    names: &Names,
+    own: &Option<TypeName>,
+    action: &StatedAction,
+) -> Result<FoundAction, SchemaFault>
+    ensures { Gives SchemaFault.NoMemory found_action_view result
+        (qualified_action (scope_of names.now) (is_action_of names.now) own.now (action_view action.now)) }
+{
+    let parents = qualify_parents(alloc, names, own, action.parents.as_slice())?;
+    let applies_to = qualify_optional_use(alloc, names, own, &action.applies_to)?;
+    let type_name = action_type(alloc, own)?;
+    let id = action.id.copy()?;
+    Ok(FoundAction {
+        uid: EntityUid { type_name, id },
+        parents,
+        applies_to,
+    })
+}
+
+fn qualify_commons(
+    alloc: Global,
+    names: &Names,
+    own: &Option<TypeName>,
+    stated: &[StatedCommon],
+) -> Result<Items<FoundCommon>, SchemaFault>
+    ensures { Gives SchemaFault.NoMemory (map found_common_view) result
+        (qualified_commons (scope_of names.now) own.now (map common_view stated.now)) }
+{
+    let mut found = Items::new(alloc);
+    for item in stated {
+        let one = qualify_common(alloc, names, own, item)?;
+        found.push(one)?;
+    }
+    Ok(found)
+}
+
+fn qualify_entity_types(
+    alloc: Global,
+    names: &Names,
+    own: &Option<TypeName>,
+    stated: &[StatedEntityType],
+) -> Result<Items<FoundEntityType>, SchemaFault>
+    ensures { Gives SchemaFault.NoMemory (map found_entity_type_view) result
+        (qualified_entity_types (scope_of names.now) own.now (map entity_type_view stated.now)) }
+{
+    let mut found = Items::new(alloc);
+    for item in stated {
+        let one = qualify_entity_type(alloc, names, own, item)?;
+        found.push(one)?;
+    }
+    Ok(found)
+}
+
+fn qualify_actions(
+    alloc: Global,
+    names: &Names,
+    own: &Option<TypeName>,
+    stated: &[StatedAction],
+) -> Result<Items<FoundAction>, SchemaFault>
+    ensures { Gives SchemaFault.NoMemory (map found_action_view) result
+        (qualified_actions (scope_of names.now) (is_action_of names.now) own.now (map action_view stated.now)) }
+{
+    let mut found = Items::new(alloc);
+    for item in stated {
+        let one = qualify_action(alloc, names, own, item)?;
+        found.push(one)?;
+    }
+    Ok(found)
+}
+
+/// A namespace with each name found.
+#[tactic(auto, unfolding(crate::specs::Qualifying::qualified_namespace))]
+pub(crate) fn qualify_namespace(
+    alloc: Global,
+    names: &Names,
+    namespace: &StatedNamespace,
+) -> Result<Found, SchemaFault>
+    ensures { Gives SchemaFault.NoMemory found_view result
+        (qualified_namespace (scope_of names.now) (is_action_of names.now) (namespace_view namespace.now)) }
+{
+    let own = &namespace.name;
+    let commons = qualify_commons(alloc, names, own, namespace.commons.as_slice())?;
+    let entity_types = qualify_entity_types(alloc, names, own, namespace.entity_types.as_slice())?;
+    let actions = qualify_actions(alloc, names, own, namespace.actions.as_slice())?;
+    Ok(Found {
+        commons,
+        entity_types,
+        actions,
+    })
+}
+
+/// The namespaces with each name found.
+///
+/// Refused where a name is declared nowhere.
+pub(crate) fn qualify_namespaces(
+    alloc: Global,
+    names: &Names,
+    stated: &[StatedNamespace],
+) -> Result<Items<Found>, SchemaFault>
+    ensures { Gives SchemaFault.NoMemory (map found_view) result
+        (qualified_namespaces (scope_of names.now) (is_action_of names.now) (map namespace_view stated.now)) }
+{
+    let mut found = Items::new(alloc);
+    for item in stated {
+        let one = qualify_namespace(alloc, names, item)?;
+        found.push(one)?;
+    }
+    Ok(found)
+}

@@ -1,0 +1,480 @@
+//! Shapes and contexts are records.
+ghost use Rattle.std.specs.Prelude.{◌≡◌, ◌∷◌, [], ◌<◌, ◌^◌, OnOk, IfOk, MatchResult, map, option_map, is_some, true};
+ghost use Rattle.std.specs.Prelude.{false};
+ghost use Rattle.std.specs.BTreeSet.{btree_set_len};
+ghost use Rattle.schema_types.specs.Views.{raw_view};
+ghost use Rattle.schema_types.specs.Names.{found, or_entity, built_in as built_in_of};
+ghost use Rattle.schema_types.specs.inner.NamesViews.{scope_of};
+ghost use Rattle.schema_file.specs.StatedViews.{common_view, entity_type_view, use_view, action_view, namespace_view};
+ghost use Rattle.schema_names.specs.Records.{common_meant, SomeIsNoRecord};
+ghost use Rattle.schema_names.specs.Qualifying.{common_in, commons_declared};
+ghost use Rattle.schema_names.specs.inner.Adding.{has_name, Declares};
+ghost use Rattle.schema_names.specs.inner.Spreading.{means_now, IsSettled, KeepsNames, Spreads, TellsRecords};
+ghost use Rattle.schema_names.specs.inner.Spreading.{is_record_at, is_record_in, are_shapes, are_contexts};
+ghost use Rattle.schema_names.specs.inner.Spreading.{are_records_of, are_records, MayRefuseRecords};
+
+use plain::NoMemory;
+use schema_file::{StatedAction, StatedCommon, StatedEntityType, StatedNamespace, StatedUse};
+use schema_types::{Names, RawType, SchemaFault, built_in, ends_first, find, full_name};
+use std::alloc::Global;
+use std::collections::{BTreeMap, BTreeSet};
+use values::TypeName;
+
+/// Whether a word means an entity type, a primitive or an extension.
+fn is_other(
+    alloc: Global,
+    names: &Names,
+    own: &Option<TypeName>,
+    word: &TypeName,
+) -> Result<bool, NoMemory>
+    ensures { IfOk result (λ b. b ≡ is_some (or_entity (found (λ q. has_name names.now.entities q) own.now word.now)
+        (built_in_of word.now))) }
+{
+    match find(alloc, &names.entities, own, word)? {
+        Some(_) => Ok(true),
+        None => Ok(built_in(word.as_str()).is_some()),
+    }
+}
+
+/// Whether a type means no record, as far as it is known which common types mean none.
+fn means_none(
+    alloc: Global,
+    names: &Names,
+    known: &BTreeSet<String>,
+    own: &Option<TypeName>,
+    ty: &RawType,
+) -> Result<bool, NoMemory>
+    ensures { IfOk result (λ b. b ≡ means_now (λ q. has_name known.now q) (scope_of names.now) own.now
+        (raw_view ty.now)) }
+{
+    match ty {
+        RawType::Record(_) => Ok(false),
+        RawType::Common(word) => match find(alloc, &names.commons, own, word)? {
+            Some(name) => Ok(known.contains(name.as_str())),
+            None => Ok(false),
+        },
+        RawType::EntityOrCommon(word) => match find(alloc, &names.commons, own, word)? {
+            Some(name) => Ok(known.contains(name.as_str())),
+            None => is_other(alloc, names, own, word),
+        },
+        RawType::Text
+        | RawType::Long
+        | RawType::Boolean
+        | RawType::Decimal
+        | RawType::Ipaddr
+        | RawType::Set(_)
+        | RawType::Entity(_) => Ok(true),
+    }
+}
+
+/// Adds a common type that means no record.
+fn add_if_none(
+    alloc: Global,
+    names: &Names,
+    own: &Option<TypeName>,
+    common: &StatedCommon,
+    known: &mut BTreeSet<String>,
+) -> Result<(), NoMemory>
+    ensures { OnOk result (Spreads (scope_of names.now)
+        (common_in own.now (common_view common.now) ∷ []) known.old known.new) }
+{
+    let name = full_name(alloc, own, &common.name)?;
+    if known.contains(name.as_str()) {
+        return Ok(());
+    }
+    if !means_none(alloc, names, known, own, &common.ty)? {
+        return Ok(());
+    }
+    let text = String::from_str(alloc, name.as_str())?;
+    known.insert(text)?;
+    Ok(())
+}
+
+/// Tries each common type of a namespace once.
+fn spread_in(
+    alloc: Global,
+    names: &Names,
+    own: &Option<TypeName>,
+    commons: &[StatedCommon],
+    known: &mut BTreeSet<String>,
+) -> Result<(), NoMemory>
+    ensures { OnOk result (Spreads (scope_of names.now) (map (λ c. common_in own.now c)
+        (map common_view commons.now)) known.old known.new) }
+{
+    for common in commons {
+        add_if_none(alloc, names, own, common, known)?;
+    }
+    Ok(())
+}
+
+/// Tries each common type once.
+fn spread(
+    alloc: Global,
+    names: &Names,
+    stated: &[StatedNamespace],
+    known: &mut BTreeSet<String>,
+) -> Result<(), NoMemory>
+    ensures { OnOk result (Spreads (scope_of names.now)
+        (commons_declared (map namespace_view stated.now)) known.old known.new) }
+{
+    for namespace in stated {
+        spread_in(
+            alloc,
+            names,
+            &namespace.name,
+            namespace.commons.as_slice(),
+            known,
+        )?;
+    }
+    Ok(())
+}
+
+/// Tries each common type once, and tells whether one was added.
+fn has_spread(
+    alloc: Global,
+    names: &Names,
+    stated: &[StatedNamespace],
+    known: &mut BTreeSet<String>,
+) -> Result<bool, NoMemory>
+    ensures spreads { OnOk result (Spreads (scope_of names.now)
+        (commons_declared (map namespace_view stated.now)) known.old known.new) }
+    ensures grown { IfOk result (λ b. b ≡ true → btree_set_len known.old < btree_set_len known.new) }
+    ensures settled { IfOk result (λ b. b ≡ false → IsSettled (scope_of names.now) known.new
+        (commons_declared (map namespace_view stated.now))) }
+    ensures small { OnOk result (btree_set_len known.new < 2 ^ 63) }
+{
+    let before = known.len();
+    spread(alloc, names, stated, known)?;
+    Ok(known.len() != before)
+}
+
+/// Where a common type is declared: the place of its namespace, and its own place there.
+#[derive(Clone, Copy)]
+struct Place {
+    namespace: usize,
+    common: usize,
+}
+
+/// The common types that are declared, and the place in that list of each full name.
+#[derive(Drop)]
+struct Listed {
+    places: Vec<Place>,
+    named: BTreeMap<String, usize>,
+}
+
+fn add_listed(
+    alloc: Global,
+    listed: &mut Listed,
+    namespace: usize,
+    stated: &StatedNamespace,
+) -> Result<(), NoMemory> {
+    for (common, item) in stated.commons.as_slice().iter().enumerate() {
+        let full = full_name(alloc, &stated.name, &item.name)?;
+        let name = String::from_str(alloc, full.as_str())?;
+        let last = listed.places.len();
+        listed.named.insert(name, last)?;
+        listed.places.push(Place { namespace, common })?;
+    }
+    Ok(())
+}
+
+fn list_all(alloc: Global, stated: &[StatedNamespace]) -> Result<Listed, NoMemory> {
+    let mut listed = Listed {
+        places: Vec::new(alloc),
+        named: BTreeMap::new(alloc),
+    };
+    for (namespace, item) in stated.iter().enumerate() {
+        add_listed(alloc, &mut listed, namespace, item)?;
+    }
+    Ok(listed)
+}
+
+/// The common type that a type names, where it names one that is declared.
+fn find_common(
+    alloc: Global,
+    names: &Names,
+    own: &Option<TypeName>,
+    ty: &RawType,
+) -> Result<Option<TypeName>, NoMemory>
+    ensures { IfOk result (λ o. o ≡ common_meant (scope_of names.now) own.now (raw_view ty.now)) }
+{
+    match ty {
+        RawType::Common(word) => find(alloc, &names.commons, own, word),
+        RawType::EntityOrCommon(word) => find(alloc, &names.commons, own, word),
+        RawType::Text
+        | RawType::Long
+        | RawType::Boolean
+        | RawType::Decimal
+        | RawType::Ipaddr
+        | RawType::Set(_)
+        | RawType::Record(_)
+        | RawType::Entity(_) => Ok(None),
+    }
+}
+
+/// The place in the list of the common type that the one at a place names, where it names one.
+fn next_place(
+    alloc: Global,
+    names: &Names,
+    stated: &[StatedNamespace],
+    listed: &Listed,
+    place: Place,
+) -> Result<Option<usize>, NoMemory> {
+    let Some(namespace) = stated.get(place.namespace) else {
+        return Ok(None);
+    };
+    let Some(common) = namespace.commons.get(place.common) else {
+        return Ok(None);
+    };
+    match find_common(alloc, names, &namespace.name, &common.ty)? {
+        Some(name) => Ok(listed.named.get(name.as_str()).copied()),
+        None => Ok(None),
+    }
+}
+
+/// An order of the list in which one round finds each that means no record.
+fn order_of(
+    alloc: Global,
+    names: &Names,
+    stated: &[StatedNamespace],
+    listed: &Listed,
+) -> Result<Vec<usize>, NoMemory> {
+    let mut edges = Vec::new(alloc);
+    for place in &listed.places {
+        let mut ends = Vec::new(alloc);
+        if let Some(next) = next_place(alloc, names, stated, listed, *place)? {
+            ends.push(next)?;
+        }
+        edges.push(ends)?;
+    }
+    ends_first(alloc, edges.as_slice())
+}
+
+/// Tries the common type at a place of a namespace, where there is one.
+fn spread_one(
+    alloc: Global,
+    names: &Names,
+    own: &Option<TypeName>,
+    commons: &[StatedCommon],
+    place: usize,
+    known: &mut BTreeSet<String>,
+) -> Result<(), NoMemory>
+    ensures { OnOk result (KeepsNames (scope_of names.now) (map (λ c. common_in own.now c)
+        (map common_view commons.now)) known.old known.new) }
+{
+    if place < commons.len() {
+        let common = &commons[place];
+        add_if_none(alloc, names, own, common, known)?;
+    }
+    Ok(())
+}
+
+/// Tries the common type at a place, where there is one.
+fn spread_at(
+    alloc: Global,
+    names: &Names,
+    stated: &[StatedNamespace],
+    place: Place,
+    known: &mut BTreeSet<String>,
+) -> Result<(), NoMemory>
+    ensures { OnOk result (KeepsNames (scope_of names.now)
+        (commons_declared (map namespace_view stated.now)) known.old known.new) }
+{
+    let at = place.namespace;
+    if at < stated.len() {
+        let namespace = &stated[at];
+        spread_one(
+            alloc,
+            names,
+            &namespace.name,
+            namespace.commons.as_slice(),
+            place.common,
+            known,
+        )?;
+    }
+    Ok(())
+}
+
+/// Tries the common type that is listed at a place, where there is one.
+fn spread_listed(
+    alloc: Global,
+    names: &Names,
+    stated: &[StatedNamespace],
+    places: &[Place],
+    at: usize,
+    known: &mut BTreeSet<String>,
+) -> Result<(), NoMemory>
+    ensures { OnOk result (KeepsNames (scope_of names.now)
+        (commons_declared (map namespace_view stated.now)) known.old known.new) }
+{
+    match places.get(at) {
+        Some(place) => spread_at(alloc, names, stated, *place, known),
+        None => Ok(()),
+    }
+}
+
+/// Tries the common types in this order.
+fn spread_in_order(
+    alloc: Global,
+    names: &Names,
+    stated: &[StatedNamespace],
+    places: &[Place],
+    order: &[usize],
+    known: &mut BTreeSet<String>,
+) -> Result<(), NoMemory>
+    ensures { OnOk result (KeepsNames (scope_of names.now)
+        (commons_declared (map namespace_view stated.now)) known.old known.new) }
+{
+    for at in order {
+        spread_listed(alloc, names, stated, places, *at, known)?;
+    }
+    Ok(())
+}
+
+/// The common types that mean no record, by their full names.
+fn no_records(
+    alloc: Global,
+    names: &Names,
+    stated: &[StatedNamespace],
+) -> Result<BTreeSet<String>, NoMemory>
+    requires { Declares (map namespace_view stated.now) names.now }
+    ensures { IfOk result (λ known. TellsRecords (map namespace_view stated.now) known) }
+{
+    let listed = list_all(alloc, stated)?;
+    let order = order_of(alloc, names, stated, &listed)?;
+    let mut known = BTreeSet::new(alloc);
+    spread_in_order(
+        alloc,
+        names,
+        stated,
+        listed.places.as_slice(),
+        order.as_slice(),
+        &mut known,
+    )?;
+    while has_spread(alloc, names, stated, &mut known)? {}
+    Ok(known)
+}
+
+/// Whether a type, where there is one, means a record.
+fn is_record(
+    alloc: Global,
+    names: &Names,
+    known: &BTreeSet<String>,
+    own: &Option<TypeName>,
+    ty: &Option<RawType>,
+) -> Result<bool, NoMemory>
+    ensures { IfOk result (λ b. b ≡ is_record_at (λ q. has_name known.now q) (scope_of names.now) own.now
+        (option_map raw_view ty.now)) }
+{
+    match ty {
+        None => Ok(true),
+        Some(ty) => Ok(!means_none(alloc, names, known, own, ty)?),
+    }
+}
+
+/// Whether the context of an action, where it has one, is a record.
+fn is_context(
+    alloc: Global,
+    names: &Names,
+    known: &BTreeSet<String>,
+    own: &Option<TypeName>,
+    stated: &Option<StatedUse>,
+) -> Result<bool, NoMemory>
+    ensures { IfOk result (λ b. b ≡ is_record_in (λ q. has_name known.now q) (scope_of names.now) own.now
+        (option_map use_view stated.now)) }
+{
+    match stated {
+        None => Ok(true),
+        Some(stated) => is_record(alloc, names, known, own, &stated.context),
+    }
+}
+
+fn are_shapes(
+    alloc: Global,
+    names: &Names,
+    known: &BTreeSet<String>,
+    own: &Option<TypeName>,
+    stated: &[StatedEntityType],
+) -> Result<bool, NoMemory>
+    ensures { IfOk result (λ b. b ≡ are_shapes (λ q. has_name known.now q) (scope_of names.now) own.now
+        (map entity_type_view stated.now)) }
+{
+    for item in stated {
+        let passes = is_record(alloc, names, known, own, &item.shape)?;
+        if !passes {
+            return Ok(false);
+        }
+    }
+    Ok(true)
+}
+
+fn are_contexts(
+    alloc: Global,
+    names: &Names,
+    known: &BTreeSet<String>,
+    own: &Option<TypeName>,
+    stated: &[StatedAction],
+) -> Result<bool, NoMemory>
+    ensures { IfOk result (λ b. b ≡ are_contexts (λ q. has_name known.now q) (scope_of names.now) own.now
+        (map action_view stated.now)) }
+{
+    for item in stated {
+        let passes = is_context(alloc, names, known, own, &item.applies_to)?;
+        if !passes {
+            return Ok(false);
+        }
+    }
+    Ok(true)
+}
+
+/// Whether each shape and each context of a namespace is a record.
+fn are_records_of(
+    alloc: Global,
+    names: &Names,
+    known: &BTreeSet<String>,
+    namespace: &StatedNamespace,
+) -> Result<bool, NoMemory>
+    ensures { IfOk result (λ b. b ≡ are_records_of (λ q. has_name known.now q) (scope_of names.now)
+        (namespace_view namespace.now)) }
+{
+    let own = &namespace.name;
+    if !are_shapes(alloc, names, known, own, namespace.entity_types.as_slice())? {
+        return Ok(false);
+    }
+    are_contexts(alloc, names, known, own, namespace.actions.as_slice())
+}
+
+fn are_records(
+    alloc: Global,
+    names: &Names,
+    known: &BTreeSet<String>,
+    stated: &[StatedNamespace],
+) -> Result<bool, NoMemory>
+    ensures { IfOk result (λ b. b ≡ are_records (λ q. has_name known.now q) (scope_of names.now)
+        (map namespace_view stated.now)) }
+{
+    for item in stated {
+        let passes = are_records_of(alloc, names, known, item)?;
+        if !passes {
+            return Ok(false);
+        }
+    }
+    Ok(true)
+}
+
+/// Refuses a shape or a context that is no record.
+pub(crate) fn demand_records(
+    alloc: Global,
+    names: &Names,
+    stated: &[StatedNamespace],
+) -> Result<(), SchemaFault>
+    requires { Declares (map namespace_view stated.now) names.now }
+    ensures { MatchResult result (λ u. SomeIsNoRecord (map namespace_view stated.now) → ⊥) (λ f. MayRefuseRecords
+        (map namespace_view stated.now) f) }
+{
+    let known = no_records(alloc, names, stated)?;
+    if !are_records(alloc, names, &known, stated)? {
+        return Err(SchemaFault::BadShape);
+    }
+    Ok(())
+}

@@ -1,0 +1,11 @@
+pub mod CedarWalk
+pub mod Keyed
+pub mod NameLemmas
+pub mod NamesSized
+pub mod OneEnd
+pub mod QualifiedWalk
+pub mod Rounds
+pub mod Sizes
+pub mod Tables
+pub mod Walk
+pub mod WholeLemmas

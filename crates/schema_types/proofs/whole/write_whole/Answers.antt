@@ -1,0 +1,20 @@
+use Rattle.std.proofs.Common.{inr, refl, sym}
+use Rattle.schema_types.specs.QualifiedViews.{qualified_view}
+use Rattle.schema_types.specs.CedarViews.{cedar_view}
+use Rattle.schema_types.specs.inner.TableViews.{size_view, knowledge}
+use Rattle.schema_types.proofs.WholeLemmas.{is_large, is_whole, is_there}
+use Rattle.schema_types.proofs.whole.write_whole.Goals as goal
+
+pub returns-then-not-is_within : goal.returns-then-not-is_within
+returns-then-not-is_within g c =
+    inr (refl, is_large g.commons (knowledge c.args.table.now) c.requires.0 (qualified_view c.args.ty.now) (size_view c.in-Some.size) c.in-Some.ensures (sym c.if-not-is_within.ensures))
+
+pub returns-in-Some-2 : goal.returns-in-Some-2
+returns-in-Some-2 g c =
+    is_whole g.commons (knowledge c.args.table.now) c.requires.0 (qualified_view c.args.ty.now) (size_view c.in-Some.size) c.in-Some.ensures (sym c.if-not-is_within.ensures)
+    (cedar_view c.in-Some-2.whole) (rw c.in-Some-2.is at c.in_ok-whole.ensures)
+
+pub returns-in-None : goal.returns-in-None
+returns-in-None g c =
+    is_there g.commons (knowledge c.args.table.now) c.requires.0 (qualified_view c.args.ty.now) (size_view c.in-Some.size) c.in-Some.ensures (sym c.if-not-is_within.ensures)
+    (rw c.in-None.is at c.in_ok-whole.ensures)

@@ -1,0 +1,20 @@
+-- Laws of writing out.
+use Rattle.std.specs.Prelude.{◌≡◌, ℕ, List}
+use Rattle.schema_types.specs.Qualified.{Qualified}
+use Rattle.schema_types.specs.Cedar.{Cedar}
+use Rattle.schema_types.specs.WrittenOut.{Declarations, Declares, WrittenOut, HasNoEnd}
+use Rattle.schema_types.specs.Mentions.{Leads}
+
+-- no name is declared twice
+abbrev pub AreOnce : Declarations → Type 0
+AreOnce commons = (q : List ℕ) (r s : Qualified) → Declares commons q r → Declares commons q s → r ≡ s
+
+-- a type stands for one type at most
+abbrev pub OneWritten : Type 0
+OneWritten =
+    (commons : Declarations) → AreOnce commons → (r : Qualified) (t u : Cedar) → WrittenOut commons r t
+    → WrittenOut commons r u → t ≡ u
+
+-- a common type that leads back to itself has no end
+abbrev pub CyclesHaveNoEnd : Type 0
+CyclesHaveNoEnd = (commons : Declarations) → AreOnce commons → (q : List ℕ) → Leads commons q q → HasNoEnd commons q

@@ -1,0 +1,15 @@
+pub mod Cedar
+pub mod CedarViews
+pub mod Forms
+pub mod Law
+pub mod Mentions
+pub mod Names
+pub mod Optional
+pub mod Outcome
+pub mod Qualified
+pub mod QualifiedViews
+pub mod Raw
+pub mod TypeShape
+pub mod Views
+pub mod WrittenOut
+pub mod inner

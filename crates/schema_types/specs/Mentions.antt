@@ -1,0 +1,28 @@
+-- Which common types a common type stands on.
+use Rattle.std.specs.Prelude.{◌≡◌, ◌⊎◌, ℕ, List}
+use Rattle.schema_types.specs.Qualified as qualified
+use Rattle.schema_types.specs.Qualified.{Qualified, QualifiedFields}
+use Rattle.schema_types.specs.WrittenOut.{Declarations, Declares}
+
+-- the name stands somewhere in the type
+abbrev mutual
+  pub Mentions : Qualified → List ℕ → Type 0
+  Mentions qualified.text q = ⊥
+  Mentions qualified.long q = ⊥
+  Mentions qualified.boolean q = ⊥
+  Mentions qualified.decimal q = ⊥
+  Mentions qualified.ipaddr q = ⊥
+  Mentions (qualified.set r) q = Mentions r q
+  Mentions (qualified.record_of rs) q = FieldsMention rs q
+  Mentions (qualified.entity n) q = ⊥
+  Mentions (qualified.common p) q = p ≡ q
+
+  pub FieldsMention : QualifiedFields → List ℕ → Type 0
+  FieldsMention qualified.no_fields q = ⊥
+  FieldsMention (qualified.field k r b rs) q = Mentions r q ⊎ FieldsMention rs q
+
+-- one or more steps lead from the one common type to the other, each to a name that stands in what is declared
+pub data Leads (commons : Declarations) : List ℕ → List ℕ → Type 0 where
+  step : (p q : List ℕ) (r : Qualified) → Declares commons p r → Mentions r q → Leads commons p q
+  steps : (p q end : List ℕ) (r : Qualified) → Declares commons p r → Mentions r q → Leads commons q end
+      → Leads commons p end

@@ -1,0 +1,93 @@
+-- The one declaration that a name means, and the types of a schema with each name found.
+-- Source: Cedar reference guide, "Schema JSON format": namespaces, `EntityOrCommon`. Rules of this product: an
+-- unqualified name is looked for in its own namespace and then in the empty one; a common type goes before an entity
+-- type, and that before a primitive.
+use Rattle.std.specs.Prelude.{ℕ, List, ◌++◌, ◌==◌, Bool, codes, Option, Some, None, Result, Ok, if◌then◌else◌}
+use Rattle.std.specs.List.{list_any}
+use Rattle.std.specs.Str.{bytes_eq}
+use Rattle.json_words.specs.Gives.{◌>>=◌, or_fault}
+use Rattle.schema_types.specs.Raw as raw
+use Rattle.schema_types.specs.Raw.{Raw, RawFields}
+use Rattle.schema_types.specs.Qualified as qualified
+use Rattle.schema_types.specs.Qualified.{Qualified, QualifiedFields}
+use Rattle.schema_types.specs.declared.fault.SchemaFault.{SchemaFault}
+use Rattle.schema_types.specs.declared.fault.SchemaFault.TheVariants.{UnknownName}
+
+-- the full names that are declared
+pub record Scope : Type 0 where
+  pub commons : List ℕ → Bool
+  pub entities : List ℕ → Bool
+
+-- a name with a namespace in it
+abbrev pub is_qualified : List ℕ → Bool
+is_qualified w = list_any (λ b. b == 58) w
+
+-- a namespace is a Path, or none: the empty one
+abbrev pub full_name : Option (List ℕ) → List ℕ → List ℕ
+full_name None w = w
+full_name (Some namespace) w = namespace ++ codes "::" ++ w
+
+unfoldable pub as_declared : (List ℕ → Bool) → List ℕ → Option (List ℕ)
+as_declared declared w = if declared w then Some w else None
+
+-- An unqualified name is looked for in its own namespace, then in the empty one.
+unfoldable pub found : (List ℕ → Bool) → Option (List ℕ) → List ℕ → Option (List ℕ)
+found declared own w =
+    if is_qualified w then as_declared declared w else
+    if declared (full_name own w) then Some (full_name own w) else as_declared declared w
+
+-- a primitive or an extension by its name
+unfoldable pub built_in : List ℕ → Option Qualified
+built_in w =
+    if bytes_eq w (codes "String") then Some qualified.text else
+    if bytes_eq w (codes "Long") then Some qualified.long else
+    if bytes_eq w (codes "Boolean") then Some qualified.boolean else
+    if bytes_eq w (codes "Bool") then Some qualified.boolean else
+    if bytes_eq w (codes "ipaddr") then Some qualified.ipaddr else
+    if bytes_eq w (codes "decimal") then Some qualified.decimal else None
+
+abbrev pub or_entity : Option (List ℕ) → Option Qualified → Option Qualified
+or_entity (Some q) later = Some (qualified.entity q)
+or_entity None later = later
+
+abbrev pub or_common : Option (List ℕ) → Option Qualified → Option Qualified
+or_common (Some q) later = Some (qualified.common q)
+or_common None later = later
+
+-- a common type, else an entity type, else a primitive or an extension
+unfoldable pub any_named : Scope → Option (List ℕ) → List ℕ → Option Qualified
+any_named s own w = or_common (found s.commons own w) (or_entity (found s.entities own w) (built_in w))
+
+unfoldable pub entity_named : Scope → Option (List ℕ) → List ℕ → Result Qualified SchemaFault
+entity_named s own w = do
+  q ← or_fault UnknownName (found s.entities own w)
+  Ok (qualified.entity q)
+
+unfoldable pub common_named : Scope → Option (List ℕ) → List ℕ → Result Qualified SchemaFault
+common_named s own w = do
+  q ← or_fault UnknownName (found s.commons own w)
+  Ok (qualified.common q)
+
+unfoldable mutual
+  pub qualified_of : Scope → Option (List ℕ) → Raw → Result Qualified SchemaFault
+  qualified_of s own raw.text = Ok qualified.text
+  qualified_of s own raw.long = Ok qualified.long
+  qualified_of s own raw.boolean = Ok qualified.boolean
+  qualified_of s own raw.decimal = Ok qualified.decimal
+  qualified_of s own raw.ipaddr = Ok qualified.ipaddr
+  qualified_of s own (raw.set r) = do
+    n ← qualified_of s own r
+    Ok (qualified.set n)
+  qualified_of s own (raw.record_of rs) = do
+    ns ← fields_of s own rs
+    Ok (qualified.record_of ns)
+  qualified_of s own (raw.entity w) = entity_named s own w
+  qualified_of s own (raw.common w) = common_named s own w
+  qualified_of s own (raw.entity_or_common w) = or_fault UnknownName (any_named s own w)
+
+  pub fields_of : Scope → Option (List ℕ) → RawFields → Result QualifiedFields SchemaFault
+  fields_of s own raw.no_fields = Ok qualified.no_fields
+  fields_of s own (raw.field k r required rs) = do
+    n ← qualified_of s own r
+    ns ← fields_of s own rs
+    Ok (qualified.field k n required ns)

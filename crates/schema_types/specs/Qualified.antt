@@ -1,0 +1,19 @@
+-- Types whose names were found, and types with no common type left in them.
+use Rattle.std.specs.Prelude.{ℕ, List, Bool}
+
+-- A name that was found is written in full.
+mutual
+  pub data Qualified : Type 0 where
+    text : Qualified
+    long : Qualified
+    boolean : Qualified
+    decimal : Qualified
+    ipaddr : Qualified
+    set : Qualified → Qualified
+    record_of : QualifiedFields → Qualified
+    entity : List ℕ → Qualified
+    common : List ℕ → Qualified
+
+  pub data QualifiedFields : Type 0 where
+    no_fields : QualifiedFields
+    field : List ℕ → Qualified → Bool → QualifiedFields → QualifiedFields

@@ -1,0 +1,21 @@
+-- Types as a schema writes them, before any name is looked for.
+use Rattle.std.specs.Prelude.{ℕ, List, Bool}
+
+mutual
+  pub data Raw : Type 0 where
+    text : Raw
+    long : Raw
+    boolean : Raw
+    decimal : Raw
+    ipaddr : Raw
+    set : Raw → Raw
+    record_of : RawFields → Raw
+    -- an entity type, a common type, and a name that may be either
+    entity : List ℕ → Raw
+    common : List ℕ → Raw
+    entity_or_common : List ℕ → Raw
+
+  pub data RawFields : Type 0 where
+    no_fields : RawFields
+    -- a key, its type, and whether it is required
+    field : List ℕ → Raw → Bool → RawFields → RawFields

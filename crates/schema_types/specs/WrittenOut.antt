@@ -1,0 +1,39 @@
+-- What a type is once each common type in it is replaced by what it stands for.
+use Rattle.std.specs.Prelude.{◌≡◌, ◌⊎◌, ℕ, List, [], ◌∷◌, Bool}
+use Rattle.schema_types.specs.Qualified as qualified
+use Rattle.schema_types.specs.Qualified.{Qualified, QualifiedFields}
+use Rattle.schema_types.specs.Cedar as cedar
+use Rattle.schema_types.specs.Cedar.{Cedar, CedarFields}
+
+-- the names of common types, each with what it stands for
+abbrev pub Declarations : Type 0
+Declarations = List (List ℕ × Qualified)
+
+abbrev pub Declares : Declarations → List ℕ → Qualified → Type 0
+Declares [] q r = ⊥
+Declares (d ∷ ds) q r = ((d.0 ≡ q) × (d.1 ≡ r)) ⊎ Declares ds q r
+
+-- One case a form. A type that leads back to itself has no such form, since none would be finite.
+mutual
+  pub data WrittenOut (commons : Declarations) : Qualified → Cedar → Type 0 where
+    text : WrittenOut commons qualified.text cedar.text
+    long : WrittenOut commons qualified.long cedar.long
+    boolean : WrittenOut commons qualified.boolean cedar.boolean
+    decimal : WrittenOut commons qualified.decimal cedar.decimal
+    ipaddr : WrittenOut commons qualified.ipaddr cedar.ipaddr
+    set : (r : Qualified) (t : Cedar) → WrittenOut commons r t → WrittenOut commons (qualified.set r) (cedar.set t)
+    record_of : (rs : QualifiedFields) (ts : CedarFields) → FieldsWrittenOut commons rs ts
+        → WrittenOut commons (qualified.record_of rs) (cedar.record_of ts)
+    entity : (n : List ℕ) → WrittenOut commons (qualified.entity n) (cedar.entity n)
+    common : (q : List ℕ) (r : Qualified) (t : Cedar) → Declares commons q r → WrittenOut commons r t
+        → WrittenOut commons (qualified.common q) t
+
+  pub data FieldsWrittenOut (commons : Declarations) : QualifiedFields → CedarFields → Type 0 where
+    no_fields : FieldsWrittenOut commons qualified.no_fields cedar.no_fields
+    field : (k : List ℕ) (r : Qualified) (t : Cedar) (required : Bool) (rs : QualifiedFields) (ts : CedarFields)
+        → WrittenOut commons r t → FieldsWrittenOut commons rs ts
+        → FieldsWrittenOut commons (qualified.field k r required rs) (cedar.field k t required ts)
+
+-- nothing finite is what q stands for
+abbrev pub HasNoEnd : Declarations → List ℕ → Type 0
+HasNoEnd commons q = (t : Cedar) → WrittenOut commons (qualified.common q) t → ⊥

@@ -1,0 +1,5 @@
+pub mod NamesViews
+pub mod Table
+pub mod TableViews
+pub mod Whole
+pub mod Written

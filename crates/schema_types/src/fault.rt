@@ -1,0 +1,44 @@
+//! Why no schema was read.
+ghost use Rattle.std.specs.Prelude.{◌≡◌};
+
+use plain::NoMemory;
+use std::alloc::AllocFailed;
+
+/// The first cause for which bytes state no schema.
+#[derive(Clone, Copy, Debug, PartialEq, Eq)]
+pub enum SchemaFault {
+    /// An allocation was refused.
+    NoMemory,
+    /// The bytes are no JSON.
+    NotJson,
+    /// The JSON has not the shape of a schema.
+    BadShape,
+    /// A name is declared nowhere.
+    UnknownName,
+    /// A common type leads back to itself.
+    TypeCycle,
+    /// An action is above itself.
+    ActionCycle,
+    /// A type, written out in full, has over 10,000 parts or is over 64 deep.
+    TypeTooLarge,
+}
+
+impl From<NoMemory> for SchemaFault {
+    ghost use Rattle.schema_types.specs.declared.fault.SchemaFault.TheVariants.{NoMemory};
+
+    ghost from_gives = { λ _ e. e ≡ NoMemory };
+
+    fn from(_error: NoMemory) -> SchemaFault {
+        SchemaFault::NoMemory
+    }
+}
+
+impl<T: Drop> From<AllocFailed<T>> for SchemaFault {
+    ghost use Rattle.schema_types.specs.declared.fault.SchemaFault.TheVariants.{NoMemory};
+
+    ghost from_gives = { λ _ e. e ≡ NoMemory };
+
+    fn from(_error: AllocFailed<T>) -> SchemaFault {
+        SchemaFault::NoMemory
+    }
+}
