@@ -1,0 +1,6 @@
+pub mod BeginLemmas
+pub mod CutLemmas
+pub mod OneReplyLemmas
+pub mod ReplyLemmas
+pub mod StreamLemmas
+pub mod UniqueLemmas

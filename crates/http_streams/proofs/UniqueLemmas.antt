@@ -1,0 +1,303 @@
+-- A stream has one reading: what stands at its front is one request, one refusal, or less than a request.
+use Rattle.std.proofs.Common.{◌≡◌, ℕ, zero, suc, ◌-◌, ◌<◌, ◌≤◌, ◌⊎◌, inl, inr, Bool, true, false, List, [], ◌∷◌, ◌++◌, length, drop, take, sym, ap, ◌∙◌, subst, arith, rules, append_assoc, append-nil, length-append}
+use Rattle.std.proofs.lemmas.Bool.{false≢true}
+use Rattle.std.proofs.Math.Seq.{take-append_seam, drop-append_seam}
+use Rattle.httparse.specs.Grammar.{RequestHead, lf, print_request, ReadsRequest, NeverHasRequest, IsRequestHead, is_token_byte, is_uri_byte}
+use Rattle.std.specs.Prelude.{IsTrue}
+use Rattle.std.proofs.lemmas.List.Elements.{All-cons, All-nil}
+use Rattle.std.proofs.lemmas.Str.{IsUtf8-from_ascii}
+use Rattle.std.proofs.lemmas.Str.Ascii.{IsAscii-from_all}
+use Rattle.httparse.proofs.GrammarLemmas.{ReadsRequest-append, request_unique}
+use Rattle.http_streams.specs.declared.cut.Framing.TheVariants.{Body, Refused}
+use Rattle.http_streams.specs.Request.{Admits, HasNoAdmitted, ReadsWhole, RefusesHead, IsBadHead, IsTooLarge, IsRefused, IsCutOff, framing_of, closes_of}
+use Rattle.http_streams.specs.Replies.{reply_text, error_line}
+use Rattle.http_streams.specs.Status.{code}
+use Rattle.http_streams.specs.declared.status.Status.{Status}
+use Rattle.http_streams.specs.declared.status.Status.TheVariants.{BadRequest}
+use Rattle.http_streams.specs.Stream.{Answering, Closes, Ends, Exchanges, IsSilent, Rests, Serves}
+use Rattle.http_streams.specs.Laws.{AgreeOn, AnswersAll, DiffersInCorner, IsCorner, IsFunction}
+use Rattle.http_streams.proofs.CutLemmas.{length_head, short_front}
+use Rattle.http_streams.proofs.StreamLemmas.{Admits-append, Exchanges-append, Serves-append}
+
+admits_unique : {bytes : List ℕ} {h k : RequestHead} {r q : List ℕ} → Admits bytes h r → Admits bytes k q → (h ≡ k) × (r ≡ q)
+admits_unique {bytes} {h} {k} {r} {q} a b = request_unique bytes h k r q a.reads b.reads
+
+-- one head is framed in one way
+whole_not_refused : {bytes body rest : List ℕ} {h : RequestHead} {status : Status} → ReadsWhole bytes h body rest → RefusesHead bytes status → ⊥
+whole_not_refused w r =
+    let same = admits_unique w.head r.admits in
+    let framed : Body _ ≡ Refused _ = sym w.framed ∙ ap framing_of same.0 ∙ r.framed in
+    cc
+
+whole_not_cut_off : {bytes body rest : List ℕ} {h : RequestHead} → ReadsWhole bytes h body rest → IsCutOff bytes → ⊥
+whole_not_cut_off {body = body} {rest = rest} w r =
+    let same = admits_unique w.head r.admits in
+    let framed : Body (length body) ≡ Body r.size = sym w.framed ∙ ap framing_of same.0 ∙ r.framed in
+    let size : length body ≡ r.size = cc in
+    omega (arith, r.short, size, ap length same.1, length-append body rest)
+
+whole_unique : {bytes body rest body2 rest2 : List ℕ} {h k : RequestHead} → ReadsWhole bytes h body rest → ReadsWhole bytes k body2 rest2
+    → (h ≡ k) × (body ≡ body2) × (rest ≡ rest2)
+whole_unique {body = body} {rest = rest} {body2 = body2} {rest2 = rest2} x y =
+    let same = admits_unique x.head y.head in
+    let framed : Body (length body) ≡ Body (length body2) = sym x.framed ∙ ap framing_of same.0 ∙ y.framed in
+    let size : length body ≡ length body2 = cc in
+    let split : body ++ rest ≡ body2 ++ rest2 = same.1 in
+    let front : body ≡ body2 = sym (take-append_seam body rest) ∙ ap (λ (n : ℕ). take n (body ++ rest)) size ∙ ap (take (length body2)) split ∙ take-append_seam body2 rest2 in
+    let back : rest ≡ rest2 = sym (drop-append_seam body rest) ∙ ap (λ (n : ℕ). drop n (body ++ rest)) size ∙ ap (drop (length body2)) split ∙ drop-append_seam body2 rest2 in
+    (same.0, front, back)
+
+nothing_read : (h : RequestHead) (rest : List ℕ) → ReadsRequest [] h rest → ⊥
+nothing_read h rest x = omega (arith, length_head h, ap length x.1, length-append (print_request h) rest)
+
+pub whole_not_silent : {bytes body rest : List ℕ} {h : RequestHead} → ReadsWhole bytes h body rest → IsSilent bytes → ⊥
+whole_not_silent {bytes} {body} {rest} {h} w s =
+    elim s [
+      | inl none ↦ nothing_read h (body ++ rest) (subst (λ (t : List ℕ). ReadsRequest t h (body ++ rest)) none w.head.reads)
+      | inr more ↦ elim more [ inl cut ↦ whole_not_cut_off w cut | inr part ↦ part.none h (body ++ rest) w.head.reads ]
+    ]
+
+whole_not_bad : {bytes body rest : List ℕ} {h : RequestHead} → ReadsWhole bytes h body rest → IsBadHead bytes → ⊥
+whole_not_bad {body = body} {rest = rest} {h = h} w bad = bad.0 h (body ++ rest) w.head
+
+pub whole_or_refused : {bytes body rest : List ℕ} {h : RequestHead} {status : Status} → ReadsWhole bytes h body rest → IsRefused bytes status → ⊥
+whole_or_refused w r = elim r [ inl head ↦ whole_not_refused w head | inr bad ↦ whole_not_bad w bad.1 ]
+
+pub refused_unique : {bytes : List ℕ} (m n : Status) → IsRefused bytes m → IsRefused bytes n → m ≡ n
+refused_unique m n (inl x) (inl y) =
+    let same = admits_unique x.admits y.admits in
+    let framed : Refused m ≡ Refused n = sym x.framed ∙ ap framing_of same.0 ∙ y.framed in
+    cc
+refused_unique m n (inl x) (inr y) = absurd (y.1.0 x.head x.rest x.admits)
+refused_unique m n (inr x) (inl y) = absurd (x.1.0 y.head y.rest y.admits)
+refused_unique m n (inr x) (inr y) = x.0 ∙ sym y.0
+
+refused_or_silent : (rest : List ℕ) (status : Status) → IsRefused rest status → IsSilent rest
+    → (rest ≡ []) ⊎ (IsCorner rest × (status ≡ BadRequest))
+refused_or_silent rest status r (inl none) = inl none
+refused_or_silent rest status (inl head) (inr (inl cut)) =
+    let same = admits_unique head.admits cut.admits in
+    let framed : Refused status ≡ Body cut.size = sym head.framed ∙ ap framing_of same.0 ∙ cut.framed in
+    absurd (cc)
+refused_or_silent rest status (inl head) (inr (inr part)) = absurd (part.none head.head head.rest head.admits.reads)
+refused_or_silent rest status (inr bad) (inr (inl cut)) = absurd (bad.1.0 cut.head cut.rest cut.admits)
+refused_or_silent rest status (inr (is, (none, inl (inl (h, r, reads, over))))) (inr (inr part)) = absurd (part.none h r reads)
+refused_or_silent rest status (inr (is, (none, inl (inr long)))) (inr (inr part)) = absurd (omega (arith, part.short))
+refused_or_silent rest status (inr (is, (none, inr never))) (inr (inr part)) =
+    elim part.open_still [
+      | inl goes_on ↦ absurd (never goes_on.0 goes_on.1 [] goes_on.2)
+      | inr target ↦ inr (record { target = target; never = never }, is)
+    ]
+
+-- `G / HTTP/1.0` and an empty line
+abbrev sample : RequestHead
+sample = record { blank = []; method = 71 ∷ []; target = 47 ∷ []; minor = 0; line_end = lf; fields = []; last = lf }
+
+sample_is : IsRequestHead sample
+unfolding is_token_byte
+sample_is = record {
+  method = (omega arith, All-cons (λ (b : ℕ). IsTrue (is_token_byte b)) 71 [] (search rules) (All-nil _));
+  target = (omega arith, All-cons (λ (b : ℕ). IsTrue (is_uri_byte b)) 47 [] (search rules) (All-nil _));
+  target_text = IsUtf8-from_ascii (47 ∷ []) (IsAscii-from_all (47 ∷ []) (All-cons (λ (b : ℕ). b < 128) 47 [] (omega arith) (All-nil _)));
+  minor = omega arith;
+  fields = All-nil _;
+}
+
+-- no bytes are not refused
+refused_nothing : (status : Status) → IsRefused [] status → ⊥
+refused_nothing status (inl head) = nothing_read head.head head.rest head.admits.reads
+refused_nothing status (inr (is, (none, inl (inl (h, r, reads, over))))) = nothing_read h r reads
+refused_nothing status (inr (is, (none, inl (inr long)))) = omega (arith, long)
+refused_nothing status (inr (is, (none, inr never))) = never (print_request sample) sample [] (sample_is, sym (append-nil (print_request sample)))
+
+-- ---- what is refused stays refused when more comes
+
+bad_none : (bytes more : List ℕ) → IsBadHead bytes → HasNoAdmitted (bytes ++ more)
+bad_none bytes more (none, inl (inl (h, r, reads, over))) k q a =
+    let same = request_unique (bytes ++ more) h k (r ++ more) q (ReadsRequest-append bytes h r more reads) a.reads in
+    let n : length h.fields ≡ length k.fields = ap (λ (t : RequestHead). length t.fields) same.0 in
+    omega (arith, a.few, over, n)
+bad_none bytes more (none, inl (inr long)) k q a =
+    let fits : length (print_request k) ≤ length bytes = omega (arith, a.short, long) in
+    let front = short_front (bytes ++ more) (length bytes) k q a.reads fits in
+    let reads = subst (λ (t : List ℕ). ReadsRequest t k (take (length bytes - length (print_request k)) q)) (take-append_seam bytes more) front in
+    none k _ (record { reads = reads; short = a.short; few = a.few })
+bad_none bytes more (none, inr never) k q a = never more k q a.reads
+
+bad_cause : (bytes more : List ℕ) → IsTooLarge bytes ⊎ NeverHasRequest bytes → IsTooLarge (bytes ++ more) ⊎ NeverHasRequest (bytes ++ more)
+bad_cause bytes more (inl (inl (h, r, reads, over))) = inl (inl (h, r ++ more, ReadsRequest-append bytes h r more reads, over))
+bad_cause bytes more (inl (inr long)) = inl (inr (omega (arith, long, length-append bytes more)))
+bad_cause bytes more (inr never) =
+    inr (λ x h rest reads. never (more ++ x) h rest (subst (λ (t : List ℕ). ReadsRequest t h rest) (append_assoc bytes more x) reads))
+
+refused-append : (bytes more : List ℕ) (status : Status) → IsRefused bytes status → IsRefused (bytes ++ more) status
+refused-append bytes more status (inl head) =
+    inl (record { head = head.head; rest = head.rest ++ more; admits = Admits-append head.admits more; framed = head.framed })
+refused-append bytes more status (inr (is, bad)) = inr (is, (bad_none bytes more bad, bad_cause bytes more bad.1))
+
+pub closes-append : {S : Type 0} (answers : Answering S) (old new : S) (bytes out more : List ℕ) → Closes answers old bytes out new
+    → Closes answers old (bytes ++ more) out new
+closes-append answers old new bytes out more (inl (rest, x)) = inl (rest ++ more, Exchanges-append answers x more)
+closes-append answers old new bytes out more (inr (status, refused, is, same)) = inr (status, refused-append bytes more status refused, is, same)
+
+pub ends-append : {S : Type 0} (answers : Answering S) (old new : S) (bytes out more : List ℕ) → Ends answers old bytes out new
+    → Ends answers old (bytes ++ more) out new
+ends-append answers old new bytes out more e = record {
+  count = e.count;
+  mid = e.mid;
+  rest = e.rest ++ more;
+  before = e.before;
+  last = e.last;
+  serves = Serves-append answers e.count old e.mid bytes e.rest e.before more e.serves;
+  closes = closes-append answers e.mid new e.rest e.last more e.closes;
+  joined = e.joined;
+}
+
+module _ {S : Type 0} (answers : Answering S)
+    (one : IsFunction answers) where
+  pub exchange_unique : {old new new2 : S} {bytes out out2 rest rest2 : List ℕ} {last last2 : Bool}
+      → Exchanges answers old bytes last out new rest → Exchanges answers old bytes last2 out2 new2 rest2
+      → (last ≡ last2) × (out ≡ out2) × (new ≡ new2) × (rest ≡ rest2)
+  exchange_unique {old = old} {new2 = new2} x y =
+      let same = whole_unique x.reads y.reads in
+      let last = x.last_is ∙ ap closes_of same.0 ∙ sym y.last_is in
+      let moved = subst (λ (b : List ℕ). answers old y.head.method y.head.target b y.status y.text new2) (sym same.1) y.answered in
+      let moved_head = subst (λ (h : RequestHead). answers old h.method h.target x.body y.status y.text new2) (sym same.0) moved in
+      let reply = one old _ _ _ _ _ _ _ _ _ x.answered moved_head in (
+        last,
+        x.out_is ∙ cc (last, reply.0, reply.1) ∙ sym y.out_is,
+        reply.2,
+        same.2,
+      )
+
+  -- two readings of the same bytes, each to a rest that gets nothing
+  pub rests_unique : (n m : ℕ) (old new new2 : S) (bytes rest rest2 out out2 : List ℕ)
+      → Serves answers n old bytes rest out new → IsSilent rest → Serves answers m old bytes rest2 out2 new2 → IsSilent rest2
+      → (out ≡ out2) × (new ≡ new2)
+  rests_unique zero zero old new new2 bytes rest rest2 out out2 x s y t = (x.1 ∙ sym y.1, x.2 ∙ sym y.2)
+  rests_unique zero (suc m) old new new2 bytes rest rest2 out out2 x s y t =
+      absurd (whole_not_silent y.4.reads (subst IsSilent (sym x.0) s))
+  rests_unique (suc n) zero old new new2 bytes rest rest2 out out2 x s y t =
+      absurd (whole_not_silent x.4.reads (subst IsSilent (sym y.0) t))
+  rests_unique (suc n) (suc m) old new new2 bytes rest rest2 out out2 x s y t =
+      let same = exchange_unique x.4 y.4 in
+      let moved = subst (λ (b : List ℕ). Serves answers m y.0 b rest2 y.3 new2) (sym same.3) y.5 in
+      let moved_state = subst (λ (a : S). Serves answers m a x.1 rest2 y.3 new2) (sym same.2) moved in
+      let later = rests_unique n m x.0 new new2 x.1 rest rest2 x.3 y.3 x.5 s moved_state t in
+      (x.6 ∙ ap (λ (a : List ℕ). a ++ x.3) same.1 ∙ ap (λ (a : List ℕ). y.2 ++ a) later.0 ∙ sym y.6, later.1)
+
+  closes_unique : (old new new2 : S) (bytes out out2 : List ℕ) → Closes answers old bytes out new → Closes answers old bytes out2 new2
+      → (out ≡ out2) × (new ≡ new2)
+  closes_unique old new new2 bytes out out2 (inl x) (inl y) = let same = exchange_unique x.1 y.1 in (same.1, same.2)
+  closes_unique old new new2 bytes out out2 (inl x) (inr y) = absurd (whole_or_refused x.1.reads y.1)
+  closes_unique old new new2 bytes out out2 (inr x) (inl y) = absurd (whole_or_refused y.1.reads x.1)
+  closes_unique old new new2 bytes out out2 (inr x) (inr y) =
+      let same = refused_unique x.0 y.0 x.1 y.1 in
+      (x.2 ∙ ap (λ (n : Status). reply_text true n (error_line (code n))) same ∙ sym y.2, x.3 ∙ sym y.3)
+
+  pub open_not_closed : (old new new2 : S) (bytes out out2 rest : List ℕ) → Exchanges answers old bytes false out new rest
+      → Closes answers old bytes out2 new2 → ⊥
+  open_not_closed old new new2 bytes out out2 rest x (inl y) = false≢true (exchange_unique x y.1).0
+  open_not_closed old new new2 bytes out out2 rest x (inr y) = whole_or_refused x.reads y.1
+
+  -- two readings of the same bytes, each to a reply that ends the stream
+  pub ends_unique : (n m : ℕ) (old mid mid2 new new2 : S) (bytes rest rest2 out out2 last last2 : List ℕ)
+      → Serves answers n old bytes rest out mid → Closes answers mid rest last new
+      → Serves answers m old bytes rest2 out2 mid2 → Closes answers mid2 rest2 last2 new2
+      → (out ++ last ≡ out2 ++ last2) × (new ≡ new2)
+  ends_unique zero zero old mid mid2 new new2 bytes rest rest2 out out2 last last2 x e y f =
+      let a = subst (λ (s : S). Closes answers s rest last new) x.2 e in
+      let b = subst (λ (t : List ℕ). Closes answers old t last new) (sym x.0) a in
+      let c = subst (λ (s : S). Closes answers s rest2 last2 new2) y.2 f in
+      let d = subst (λ (t : List ℕ). Closes answers old t last2 new2) (sym y.0) c in
+      let same = closes_unique old new new2 bytes last last2 b d in
+      (ap (λ (t : List ℕ). t ++ last) (x.1 ∙ sym y.1) ∙ ap (λ (t : List ℕ). out2 ++ t) same.0, same.1)
+  ends_unique zero (suc m) old mid mid2 new new2 bytes rest rest2 out out2 last last2 x e y f =
+      let a = subst (λ (s : S). Closes answers s rest last new) x.2 e in
+      let b = subst (λ (t : List ℕ). Closes answers old t last new) (sym x.0) a in
+      absurd (open_not_closed old _ new bytes _ last _ y.4 b)
+  ends_unique (suc n) zero old mid mid2 new new2 bytes rest rest2 out out2 last last2 x e y f =
+      let a = subst (λ (s : S). Closes answers s rest2 last2 new2) y.2 f in
+      let b = subst (λ (t : List ℕ). Closes answers old t last2 new2) (sym y.0) a in
+      absurd (open_not_closed old _ new2 bytes _ last2 _ x.4 b)
+  ends_unique (suc n) (suc m) old mid mid2 new new2 bytes rest rest2 out out2 last last2 x e y f =
+      let same = exchange_unique x.4 y.4 in
+      let moved = subst (λ (b : List ℕ). Serves answers m y.0 b rest2 y.3 mid2) (sym same.3) y.5 in
+      let moved_state = subst (λ (a : S). Serves answers m a x.1 rest2 y.3 mid2) (sym same.2) moved in
+      let later = ends_unique n m x.0 mid mid2 new new2 x.1 rest rest2 x.3 y.3 last last2 x.5 e moved_state f in (
+        ap (λ (t : List ℕ). t ++ last) x.6 ∙ append_assoc x.2 x.3 last ∙ ap (λ (a : List ℕ). a ++ (x.3 ++ last)) same.1
+            ∙ ap (λ (a : List ℕ). y.2 ++ a) later.0 ∙ sym (append_assoc y.2 y.3 last2) ∙ sym (ap (λ (t : List ℕ). t ++ last2) y.6),
+        later.1,
+      )
+
+  corner_now : (old new new2 : S) (bytes last : List ℕ) → IsSilent bytes → Closes answers old bytes last new2
+      → (old ≡ new2) × IsCorner bytes × (last ≡ reply_text true BadRequest (error_line 400))
+  corner_now old new new2 bytes last silent (inl x) = absurd (whole_not_silent x.1.reads silent)
+  corner_now old new new2 bytes last silent (inr (status, refused, is, same)) =
+      elim (refused_or_silent bytes status refused silent) [
+        | inl none ↦ absurd (refused_nothing status (subst (λ (t : List ℕ). IsRefused t status) none refused))
+        | inr corner ↦ (sym same, corner.0, is ∙ ap (λ (n : Status). reply_text true n (error_line (code n))) corner.1)
+      ]
+
+  -- a reading to a rest that gets nothing, and one to a reply that ends the stream
+  rests_ends : (n m : ℕ) (old new mid new2 : S) (bytes rest rest2 out out2 last : List ℕ)
+      → Serves answers n old bytes rest out new → IsSilent rest
+      → Serves answers m old bytes rest2 out2 mid → Closes answers mid rest2 last new2
+      → (new ≡ new2) × IsCorner rest × (out2 ++ last ≡ out ++ reply_text true BadRequest (error_line 400))
+  rests_ends zero zero old new mid new2 bytes rest rest2 out out2 last x s y e =
+      let a = subst (λ (t : S). Closes answers t rest2 last new2) y.2 e in
+      let b = subst (λ (t : List ℕ). Closes answers old t last new2) (sym y.0 ∙ x.0) a in
+      let found = corner_now old new new2 rest last s b in (
+        x.2 ∙ found.0,
+        found.1,
+        ap (λ (t : List ℕ). t ++ last) (y.1 ∙ sym x.1) ∙ ap (λ (t : List ℕ). out ++ t) found.2,
+      )
+  rests_ends zero (suc m) old new mid new2 bytes rest rest2 out out2 last x s y e =
+      absurd (whole_not_silent y.4.reads (subst IsSilent (sym x.0) s))
+  rests_ends (suc n) zero old new mid new2 bytes rest rest2 out out2 last x s y e =
+      let a = subst (λ (t : S). Closes answers t rest2 last new2) y.2 e in
+      let b = subst (λ (t : List ℕ). Closes answers old t last new2) (sym y.0) a in
+      absurd (open_not_closed old _ new2 bytes _ last _ x.4 b)
+  rests_ends (suc n) (suc m) old new mid new2 bytes rest rest2 out out2 last x s y e =
+      let same = exchange_unique x.4 y.4 in
+      let moved = subst (λ (b : List ℕ). Serves answers m y.0 b rest2 y.3 mid) (sym same.3) y.5 in
+      let moved_state = subst (λ (a : S). Serves answers m a x.1 rest2 y.3 mid) (sym same.2) moved in
+      let corner = reply_text true BadRequest (error_line 400) in
+      let later = rests_ends n m x.0 new mid new2 x.1 rest rest2 x.3 y.3 last x.5 s moved_state e in (
+        later.0,
+        later.1,
+        ap (λ (t : List ℕ). t ++ last) y.6 ∙ append_assoc y.2 y.3 last ∙ ap (λ (a : List ℕ). a ++ (y.3 ++ last)) (sym same.1)
+            ∙ ap (λ (a : List ℕ). x.2 ++ a) later.2 ∙ sym (append_assoc x.2 x.3 corner) ∙ sym (ap (λ (t : List ℕ). t ++ corner) x.6),
+      )
+
+  mixed : (old new new2 : S) (stream out more : List ℕ) → Rests answers old stream out new → Ends answers old stream more new2
+      → (new ≡ new2) × DiffersInCorner answers old stream out more new
+  mixed old new new2 stream out more x y =
+      let found = rests_ends x.count y.count old new y.mid new2 stream x.rest y.rest out y.before y.last x.serves x.silent y.serves y.closes in
+      (found.0, (x.count, x.rest, x.serves, found.1, y.joined ∙ found.2))
+
+  pub to_end : (old new : S) (stream out : List ℕ) → AnswersAll answers old stream out new
+      → Rests answers old stream out new ⊎ Ends answers old stream out new
+  to_end old new stream out (inl x) = inl x
+  to_end old new stream out (inr (front, rest, is, x)) =
+      inr (subst (λ (t : List ℕ). Ends answers old t out new) (sym is) (ends-append answers old new front out rest x))
+
+  agree : (old new new2 : S) (stream out more : List ℕ)
+      → Rests answers old stream out new ⊎ Ends answers old stream out new
+      → Rests answers old stream more new2 ⊎ Ends answers old stream more new2 → AgreeOn answers old stream out more new new2
+  agree old new new2 stream out more (inl x) (inl y) =
+      let same = rests_unique x.count y.count old new new2 stream x.rest y.rest out more x.serves x.silent y.serves y.silent in
+      (same.1, inl same.0)
+  agree old new new2 stream out more (inr x) (inr y) =
+      let same = ends_unique x.count y.count old x.mid y.mid new new2 stream x.rest y.rest x.before y.before x.last y.last x.serves x.closes y.serves y.closes in
+      (same.1, inl (x.joined ∙ same.0 ∙ sym y.joined))
+  agree old new new2 stream out more (inl x) (inr y) =
+      let found = mixed old new new2 stream out more x y in (found.0, inr (inl found.1))
+  agree old new new2 stream out more (inr x) (inl y) =
+      let found = mixed old new2 new stream more out y x in
+      (sym found.0, inr (inr (subst (λ (s : S). DiffersInCorner answers old stream more out s) found.0 found.1)))
+
+  pub agree_on : (old new new2 : S) (stream out more : List ℕ) → AnswersAll answers old stream out new
+      → AnswersAll answers old stream more new2 → AgreeOn answers old stream out more new new2
+  agree_on old new new2 stream out more x y =
+      agree old new new2 stream out more (to_end old new stream out x) (to_end old new2 stream more y)

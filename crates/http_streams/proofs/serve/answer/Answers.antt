@@ -1,0 +1,41 @@
+use Rattle.std.proofs.Common.{◌≡◌, ◌++◌, ◌-◌, ℕ, Bool, List, length, take, drop, sym, ap, ◌∙◌, inl, inr}
+use Rattle.std.proofs.lemmas.List.{drop_at, take_rest}
+use Rattle.http_streams.specs.Replies.{reply_text}
+use Rattle.http_streams.specs.declared.status.Status.{Status}
+use Rattle.http_streams.proofs.StreamLemmas.{exchanged}
+use Rattle.http_streams.proofs.serve.answer.Goals as goal
+
+-- the rest of a text from its start on, where the text before its head was put has a reply behind its room
+sent : (all now old reply : List ℕ) (start room : ℕ) (last : Bool) (status : Status) → all ≡ now
+    → drop start now ≡ reply_text last status (drop room (old ++ reply)) → length old ≡ room
+    → take (length all - start) (drop start all) ≡ reply_text last status reply
+sent all now old reply start room last status same head len =
+    take_rest all start ∙ ap (drop start) same ∙ head ∙ ap (reply_text last status) (drop_at old reply room len)
+
+pub returns-in-Ok-clause-ok : goal.returns-in-Ok-clause-ok
+returns-in-Ok-clause-ok g c =
+    let said = c.call-status.ensures in
+    let head = c.finish-start.ensures.text ∙ ap (λ (t : List ℕ). reply_text c.args.parts.now.closes c.call-status.result (drop 160 t)) said.1 in
+    let text = sent _ _ _ said.0 c.finish-start.result 160 _ _ c.deref.ensures.value head (sym c.args.text.now.ok.0 ∙ c.requires.len) in (
+      _,
+      c.in-Ok.ensures.ok,
+      exchanged g.S.Service.answers c.args.bytes.now c.args.parts.now _ _ c.call-status.result said.0 _ c.requires.whole
+          c.of-method.ensures c.of-target.ensures said.2 text,
+    )
+
+pub returns-in-Err-clause-err : goal.returns-in-Err-clause-err
+returns-in-Err-clause-err g c =
+    let said = c.call-status.ensures in
+    let head = c.finish-start.ensures.text ∙ ap (λ (t : List ℕ). reply_text c.args.parts.now.closes c.call-status.result (drop 160 t)) said.1 in
+    let text = sent _ _ _ said.0 c.finish-start.result 160 _ _ c.deref.ensures.value head (sym c.args.text.now.ok.0 ∙ c.requires.len) in
+    let went = c.in-Err.ensures.err in (
+      went.0,
+      went.3,
+      inr (inl (
+        went.1,
+        drop c.args.parts.now.end c.args.bytes.now,
+        c.args.parts.now.closes,
+        exchanged g.S.Service.answers c.args.bytes.now c.args.parts.now _ _ c.call-status.result said.0 (went.0 ++ went.1) c.requires.whole
+            c.of-method.ensures c.of-target.ensures said.2 (sym went.2 ∙ text),
+      )),
+    )

@@ -1,0 +1,14 @@
+use Rattle.std.proofs.Common.{◌≡◌, ℕ, ◌-◌, ◌≤◌, List, length, drop}
+use Rattle.std.specs.Io.KnownBytes.{Appends}
+use Rattle.http_streams.specs.Stream.{Serves}
+use Rattle.http_streams.proofs.serve.answer_all.Given as goal
+
+abbrev pub invariant-requests : goal.invariant-requests
+invariant-requests g l =
+    (l.at ≤ length l.bytes)
+    × ((out : List ℕ) × (n : ℕ) × Appends (g.W.Sink.holds l.fn.writer) (g.W.Sink.holds l.writer) out
+    × Serves g.S.Service.answers n l.fn.service l.bytes (drop l.at l.bytes) out l.service)
+    × (g.W.Sink.failed l.writer ≡ g.W.Sink.failed l.fn.writer)
+
+abbrev pub decreases-requests : goal.decreases-requests
+decreases-requests g l = length l.bytes - l.at

@@ -1,0 +1,9 @@
+pub mod Devices
+pub mod Status
+pub mod Replies
+pub mod Fields
+pub mod Request
+pub mod Stream
+pub mod Fetch
+pub mod Laws
+pub mod inner

@@ -1,0 +1,97 @@
+//! What is read and not yet answered.
+ghost use Rattle.std.specs.Prelude.{◌≡◌, ◌≤◌, ◌<◌, ◌++◌, ℕ, List, [], true, false, Err, take, drop, length, IfOk, OnOk};
+ghost use Rattle.std.specs.Prelude.{OnErr, IsTrue, IsFalse, vec_len};
+ghost use Rattle.std.specs.Io.KnownBytes.{Consumes, IsAtEnd, Keeps};
+ghost use Rattle.http_streams.specs.Devices.{HasFailed};
+
+use crate::devices::Source;
+use crate::{MAX_FIELDS, MAX_HEAD};
+use httparse::spans::{EMPTY_HEADER_SPAN, HeaderSpan};
+use std::alloc::{AllocError, Global};
+
+/// The most bytes that one read takes.
+const CHUNK: usize = 16_384;
+
+/// Why no bytes came.
+#[derive(Clone, Copy)]
+pub(crate) enum ReadFault {
+    Read,
+    NoMemory,
+}
+
+/// Room for a header at each byte of a head.
+pub(crate) fn room_for_heads(alloc: Global) -> Result<Vec<HeaderSpan>, AllocError>
+    ensures { IfOk result (λ room. MAX_HEAD ≤ vec_len room) }
+{
+    vec![in alloc; EMPTY_HEADER_SPAN; MAX_HEAD]
+}
+
+/// Room for the bytes of one read.
+pub(crate) fn room_for_reads(alloc: Global) -> Result<Vec<u8>, AllocError>
+    ensures { IfOk result (λ room. 0 < vec_len room) }
+{
+    vec![in alloc; 0u8; CHUNK]
+}
+
+/// As much as a head may have.
+pub(crate) fn first_bytes(buf: &[u8]) -> &[u8]
+    ensures { result.now ≡ take MAX_HEAD buf.now }
+{
+    if buf.len() > MAX_HEAD {
+        &buf[..MAX_HEAD]
+    } else {
+        buf
+    }
+}
+
+/// Whether a head has more fields than it may.
+pub(crate) fn has_too_many(fields: usize) -> bool
+    ensures over { result ≡ true → MAX_FIELDS < fields }
+    ensures fits { result ≡ false → fields ≤ MAX_FIELDS }
+{
+    fields > MAX_FIELDS
+}
+
+/// Whether the `left` bytes behind a head are less than its body of this size.
+pub(crate) fn is_cut_off(left: usize, size: usize) -> bool
+    ensures cut { result ≡ true → left < size }
+    ensures whole { result ≡ false → size ≤ left }
+{
+    left < size
+}
+
+/// Takes the first `count` bytes away.
+pub(crate) fn drop_front(bytes: &mut Vec<u8>, count: usize)
+    requires { count ≤ vec_len bytes.old }
+    ensures { bytes.new.items ≡ drop count bytes.old.items }
+{
+    let left = bytes.len() - count;
+    bytes.copy_within(count.., 0);
+    bytes.truncate(left);
+}
+
+/// Reads once, and says whether bytes came.
+pub(crate) fn read_more<R: Source>(
+    reader: &mut R,
+    chunk: &mut [u8],
+    buffer: &mut Vec<u8>,
+) -> Result<bool, ReadFault>
+    requires { 0 < length chunk.old }
+    ensures ok { IfOk result (λ more. (bytes : List ℕ) × Consumes (R.left reader.old) (R.left reader.new) bytes
+        × (buffer.new.items ≡ buffer.old.items ++ bytes) × (IsTrue more → 0 < length bytes)
+        × (IsFalse more → (bytes ≡ []) × IsAtEnd (R.left reader.new))) }
+    ensures err { OnErr result ((bytes : List ℕ) × Consumes (R.left reader.old) (R.left reader.new) bytes) }
+    ensures lost { result ≡ Err ReadFault.Read → Keeps (R.left reader.old) (R.left reader.new)
+        × (buffer.new.items ≡ buffer.old.items) }
+    ensures read { result ≡ Err ReadFault.Read → HasFailed (R.failed reader.old) (R.failed reader.new) }
+    ensures count { OnOk result (R.failed reader.new ≡ R.failed reader.old) }
+{
+    match reader.read(chunk) {
+        Ok(0) => Ok(false),
+        Ok(n) => match buffer.extend_from_slice(&chunk[..n]) {
+            Ok(()) => Ok(true),
+            Err(_) => Err(ReadFault::NoMemory),
+        },
+        Err(_) => Err(ReadFault::Read),
+    }
+}

@@ -1,0 +1,20 @@
+//! What answers a request.
+ghost use Rattle.std.specs.Prelude.{◌≡◌, ◌≤◌, ◌+◌, ℕ, List, ◌++◌, vec_len};
+ghost use Rattle.std.specs.Vec.{vec_capacity};
+ghost use Rattle.http_streams.specs.declared.TheConstants.{REPLY_ROOM};
+ghost use Rattle.http_streams.specs.declared.status.Status.{Status};
+
+use crate::status::Status;
+
+/// A state that answers requests.
+pub trait Service {
+    // In a state, a method, a target and a body may be answered by a status and a body, which leaves a state.
+    ghost answers: { Self → List ℕ → List ℕ → List ℕ → Status → List ℕ → Self → Type 0 };
+
+    /// Appends the body of the reply to `text`, and answers its status. There is room for a short reply, so that
+    /// it takes no memory; where memory is refused for a longer one, a short reply can still say so.
+    fn call(&mut self, method: &[u8], target: &[u8], body: &[u8], text: &mut Vec<u8>) -> Status
+        requires room { vec_len text.old + REPLY_ROOM ≤ vec_capacity text.old }
+        ensures { (reply : List ℕ) × (text.new.items ≡ text.old.items ++ reply)
+            × answers self.old method.now target.now body.now result reply self.new };
+}
