@@ -39,5 +39,21 @@ wants "a missing file" 3 "fault: nowhere.json" 2 "${decide[@]}" --request nowher
 wants "broken JSON" 1 '{"error":{"code":30,"place":null,"within":null}}' 2 decide --policies policies.cedar --entities "$broken/entities.json" --request request.json
 wants "a broken policy" 1 '{"error":{"code":11,"place":24,"within":null}}' 2 decide --policies "$broken/policies.cedar" --entities entities.json --request request.json
 wants "a policy errs" 0 '{"cycle":[],"decision":"Allow","errors":[{"error":"attrDoesNotExist","policy":"policy1"}],"reason":["policy0"]}' 1 decide --policies "$broken/erring.cedar" --entities entities.json --request request.json
+# The examples of docs/codes.md: code, place, policy text.
+refused() {
+    printf '%s' "$3" >"$broken/code.cedar"
+    wants "code $1" 1 "{\"error\":{\"code\":$1,\"place\":$2,\"within\":null}}" 2 decide --policies "$broken/code.cedar" --entities entities.json --request request.json
+}
+refused 10 26 'permit(principal, action, #);'
+refused 11 24 'permit(principal, action);'
+refused 12 43 'permit(principal, action, resource) when { 9223372036854775808 > 0 };'
+refused 13 43 'permit(principal, action, resource) when { now() == 1 };'
+refused 14 43 'permit(principal, action, resource) when { ip() == 1 };'
+refused 15 50 'permit(principal, action, resource) when { {a: 1, "a": 2} == {} };'
+refused 16 20 'permit(principal == ?principal, action, resource);'
+refused 19 0 '@id("") permit(principal, action, resource);'
+printf '[{"uid":{"type":"User"}}]' >"$broken/entities.json"
+wants "code 30" 1 '{"error":{"code":30,"place":0,"within":null}}' 2 decide --policies policies.cedar --entities "$broken/entities.json" --request request.json
+
 [ $failed = 0 ] && echo "examples: as they should be"
 exit $failed

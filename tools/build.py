@@ -1,0 +1,162 @@
+#!/usr/bin/env python3
+"""Proves and builds the program cedar_site, and says how far it is.
+
+    tools/build.py [--if-needed] [--jobs N]
+
+The crates that the program stands on are copied into a folder of their own, without their must-fail edits, and
+`rt ci` proves each of them there from nothing: side by side, as many as there are processors, one job each, which takes the least processor time.
+The program is built by both compilers and its stored run is compared; then it stands in crates/cedar_site/out. With --if-needed nothing is done
+where that program was made from these very sources. Standard library alone.
+"""
+import hashlib
+import os
+import shutil
+import subprocess
+import sys
+import tempfile
+import threading
+import time
+
+TOP = os.path.dirname(os.path.dirname(os.path.abspath(__file__)))
+PROGRAM = "cedar_site"
+BUILT = f"{TOP}/crates/{PROGRAM}/out/{PROGRAM}"
+# what a build reads of a crate: its must-fail edits are the gate's business
+PARTS = ("src", "specs", "proofs", "data", "stdin", "stdout", "args", "status")
+
+
+def crates_below(name):
+    """The crates of crates.txt that a crate stands on, and itself, lowest first, each with its line."""
+    lines = {}
+    with open(f"{TOP}/crates.txt", encoding="utf-8") as file:
+        for line in file:
+            head, _, libraries = line.partition("#")[0].partition(":")
+            if head.strip():
+                lines[head.split()[0]] = (line.rstrip("\n"), libraries.split())
+    found = {}
+
+    def visit(crate):
+        if crate in lines and crate not in found:
+            for library in lines[crate][1]:
+                visit(library)
+            found[crate] = lines[crate][0]
+
+    visit(name)
+    return found
+
+
+def files_of(crates):
+    """The path of each file that the build reads, in order."""
+    for crate in sorted(crates):
+        for part in PARTS:
+            path = f"{TOP}/crates/{crate}/{part}"
+            if os.path.isfile(path):
+                yield path
+            for folder, folders, names in os.walk(path):
+                folders.sort()
+                yield from (f"{folder}/{name}" for name in sorted(names))
+
+
+def sum_of(crates):
+    """A sum over what the program is made from: its crates' lines and files, and the toolchain."""
+    found = hashlib.sha256(repr(crates).encode())
+    toolchain = subprocess.run(["rt", "version"], capture_output=True, check=False).stdout
+    found.update(toolchain)
+    for path in files_of(crates):
+        with open(path, "rb") as file:
+            found.update(repr((os.path.relpath(path, TOP), file.read())).encode())
+    return found.hexdigest()
+
+
+def lay_out(crates, room):
+    """Copies what the build reads into a repository of its own."""
+    for path in files_of(crates):
+        to = f"{room}/{os.path.relpath(path, TOP)}"
+        os.makedirs(os.path.dirname(to), exist_ok=True)
+        shutil.copyfile(path, to)
+    shutil.copyfile(f"{TOP}/HANDLES", f"{room}/HANDLES")
+    with open(f"{room}/crates.txt", "w", encoding="utf-8") as file:
+        file.write("".join(f"{line}\n" for line in crates.values()))
+
+
+def minutes(seconds):
+    return f"{int(seconds) // 60}:{int(seconds) % 60:02}"
+
+
+class Progress:
+    """Tells now and then which crates are proved and which are being proved."""
+
+    def __init__(self, crates, room):
+        self.crates, self.room, self.proved, self.began = crates, room, {}, {}
+        self.start, self.over, self.last = time.monotonic(), threading.Event(), ""
+
+    def tell(self):
+        now = time.monotonic()
+        for crate in self.crates:
+            if crate not in self.began and os.path.isdir(f"{self.room}/crates/{crate}/out"):
+                self.began[crate] = now
+        going = [f"{it} ({minutes(now - self.began[it])})" for it in self.began if it not in self.proved]
+        text = f"{len(self.proved)} of {len(self.crates)} crates proved; at work: {', '.join(going) or 'nothing yet'}"
+        if text != self.last:
+            print(f"  {minutes(now - self.start):>6}  {text}", file=sys.stderr, flush=True)
+            self.last = text
+
+    def run(self, every):
+        while not self.over.wait(every):
+            self.tell()
+
+    def saw(self, line):
+        words = line.split()
+        if len(words) == 3 and words[0] == "rt:" and words[1] in self.crates and words[2] == "proved":
+            self.proved[words[1]] = True
+            self.tell()
+
+
+def prove(crates, room, jobs):
+    """Runs the gate over the copy. Returns its status and what it said."""
+    progress, said = Progress(crates, room), []
+    telling = threading.Thread(target=progress.run, args=(30 if sys.stderr.isatty() else 120,), daemon=True)
+    telling.start()
+    environment = {**os.environ, "RT_JOBS": str(jobs)}
+    how = {"cwd": room, "env": environment, "stdout": subprocess.PIPE, "stderr": subprocess.STDOUT, "text": True, "errors": "replace"}
+    with subprocess.Popen(["rt", "ci"], **how) as gate:
+        for line in gate.stdout:
+            said.append(line)
+            progress.saw(line)
+    progress.over.set()
+    telling.join()
+    return gate.returncode, said
+
+
+def main(words):
+    jobs = int(words[words.index("--jobs") + 1]) if "--jobs" in words else len(os.sched_getaffinity(0))
+    crates = crates_below(PROGRAM)
+    wanted, stamp = sum_of(crates), f"{BUILT}.from"
+    if "--if-needed" in words and os.path.isfile(BUILT) and os.path.isfile(stamp):
+        with open(stamp, encoding="utf-8") as file:
+            if file.read().strip() == wanted:
+                return 0
+    print(f"{PROGRAM}: proving its {len(crates)} crates from nothing, then building it, once; {jobs} at a time", file=sys.stderr)
+    before = os.times()
+    start = time.monotonic()
+    with tempfile.TemporaryDirectory(prefix="cedar-site-") as room:
+        lay_out(crates, room)
+        status, said = prove(crates, room, jobs)
+        if status:
+            sys.stderr.write("".join(said))
+            print(f"{PROGRAM}: not built", file=sys.stderr)
+            return 1
+        os.makedirs(os.path.dirname(BUILT), exist_ok=True)
+        shutil.copyfile(f"{room}/crates/{PROGRAM}/out/{PROGRAM}", f"{BUILT}.new")
+    os.chmod(f"{BUILT}.new", 0o755)
+    os.replace(f"{BUILT}.new", BUILT)
+    with open(stamp, "w", encoding="utf-8") as file:
+        file.write(f"{wanted}\n")
+    used = os.times()
+    spent = used.children_user + used.children_system - before.children_user - before.children_system
+    taken = f"{minutes(time.monotonic() - start)} by the clock, {minutes(spent)} of processor time"
+    print(f"{PROGRAM}: proved and built in {taken} (minutes:seconds)", file=sys.stderr)
+    return 0
+
+
+if __name__ == "__main__":
+    sys.exit(main(sys.argv[1:]))
