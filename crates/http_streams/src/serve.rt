@@ -26,7 +26,8 @@ pub enum StreamFault {
     Read,
     /// The writer failed.
     Write,
-    /// Memory was refused for what was read, or before anything was read.
+    /// Memory was refused before anything was read, for what was read, or for the room of a reply, before its
+    /// request was handed to the service.
     NoMemory,
 }
 
