@@ -3,25 +3,25 @@ use Rattle.std.proofs.Common.{◌≡◌, ◌⊎◌, inl, inr, ℕ, zero, suc, Bo
 use Rattle.policy_tokens.specs.declared.token.Token.{Token}
 use Rattle.policy_tokens.specs.declared.token.Kind.{Kind}
 use Rattle.policy_tokens.specs.declared.token.Kind.TheVariants as k
-use Rattle.expression_syntax.specs.declared.tree.PathTree.{PathTree}
+use Rattle.token_readers.specs.declared.tree.PathTree.{PathTree}
 use Rattle.expression_syntax.specs.declared.tree.Access.{Access}
 use Rattle.expression_syntax.specs.declared.tree.Entry.{Entry}
 use Rattle.expression_syntax.specs.declared.tree.Term.{Term}
 use Rattle.expression_syntax.specs.declared.tree.ExprTree.{ExprTree}
 use Rattle.expression_syntax.specs.declared.tree.ExprTree.TheVariants as tree
-use Rattle.expression_syntax.specs.Kinds.{Kinds, only, same_kind}
-use Rattle.expression_syntax.specs.Lang.{Lang}
-use Rattle.expression_syntax.specs.Lang as lang
-use Rattle.expression_syntax.specs.Grammar.{identifiers, path, uid}
+use Rattle.token_readers.specs.Kinds.{Kinds, only, same_kind}
+use Rattle.token_readers.specs.Lang.{Lang}
+use Rattle.token_readers.specs.Lang as lang
+use Rattle.token_readers.specs.Grammar.{identifiers, path, uid}
 use Rattle.expression_syntax.specs.Expressions as g
 use Rattle.expression_syntax.specs.Expressions.{booleans, variables, keys, patterns, signs, comparisons, joined, accessed, is_in}
 use Rattle.expression_syntax.specs.ExpressionReading.{openers, access_firsts, firsts}
-use Rattle.expression_syntax.specs.Reads.{Begins}
-use Rattle.expression_syntax.proofs.Forms.{Starts, starts_of, starts_both, starts_or, alive_empty, alive_left, alive_right, begin_of}
-use Rattle.expression_syntax.proofs.Many.{alive_many}
-use Rattle.expression_syntax.proofs.Steps.{go, go_one, alive_maybe, starts_one, wide_starts}
-use Rattle.expression_syntax.proofs.NameRules.{starts_path, starts_uid}
-use Rattle.expression_syntax.proofs.Openings.{Opening, opening_one, opening_then, starts_gate}
+use Rattle.token_readers.specs.Reads.{Begins}
+use Rattle.token_readers.proofs.Forms.{Starts, starts_of, starts_both, starts_or, alive_empty, alive_left, alive_right, begin_of}
+use Rattle.token_readers.proofs.Many.{alive_many}
+use Rattle.token_readers.proofs.Steps.{go, go_one, alive_maybe, starts_one, wide_starts}
+use Rattle.token_readers.proofs.NameRules.{starts_path, starts_uid}
+use Rattle.token_readers.proofs.Openings.{Opening, opening_one, opening_then, starts_gate}
 use Rattle.expression_syntax.proofs.NamedRules.{call_behind}
 
 -- ---- first tokens

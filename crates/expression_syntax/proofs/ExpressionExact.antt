@@ -1,20 +1,20 @@
 -- An expression as a whole list of tokens.
-use Rattle.std.proofs.Common.{◌≡◌, ℕ, suc, ◌-◌, ◌≤◌, ◌<◌, List, [], Err, length, refl, arith}
+use Rattle.std.proofs.Common.{◌≡◌, ℕ, zero, suc, ◌-◌, ◌≤◌, ◌<◌, List, [], Result, Err, length, refl, arith}
 use Rattle.policy_tokens.specs.declared.token.Token.{Token}
-use Rattle.expression_syntax.specs.declared.fault.Halt.{Halt}
-use Rattle.expression_syntax.specs.declared.fault.Halt.TheVariants as halt
+use Rattle.token_readers.specs.declared.fault.Halt.{Halt}
+use Rattle.token_readers.specs.declared.fault.Halt.TheVariants as halt
 use Rattle.expression_syntax.specs.declared.tree.ExprTree.{ExprTree}
 use Rattle.expression_syntax.specs.Expressions as g
 use Rattle.expression_syntax.specs.Expressions.{nesting_limit, any_expr}
 use Rattle.expression_syntax.specs.ExpressionReading as r
-use Rattle.expression_syntax.specs.Gives.{Gives}
-use Rattle.expression_syntax.specs.Reading.{Read}
-use Rattle.expression_syntax.specs.Reads.{Begins, HasOneTree, HasOneAnswerWithin, IsRefusedWithin, refusal_of}
-use Rattle.expression_syntax.proofs.Rules.{Rule}
+use Rattle.token_readers.specs.Gives.{Gives}
+use Rattle.token_readers.specs.Reading.{Read}
+use Rattle.token_readers.specs.Reads.{Begins, HasOneTree, HasOneAnswerWithin, ReadsWithin, ReadsFrontWithin, OpensNextLevel, refusal_of}
+use Rattle.token_readers.proofs.Rules.{Rule}
 use Rattle.expression_syntax.proofs.Follows.{after_expr}
 use Rattle.expression_syntax.proofs.ExpressionRules.{expr_rule, alive_expr}
-use Rattle.expression_syntax.proofs.Depths as depths
-use Rattle.expression_syntax.proofs.Depths.{levels}
+use Rattle.token_readers.proofs.Depths as depths
+use Rattle.token_readers.proofs.Depths.{levels}
 
 rule : (n m : ℕ) → n ≤ m → Rule (g.expr (suc n)) (g.expr (suc m)) (r.expr (suc n)) (r.expr (suc m)) after_expr (levels (suc n) (suc m))
 rule n m le = expr_rule (suc n) (suc m) (omega (arith, le)) refl
@@ -34,8 +34,19 @@ expression_answer = depths.one_answer g.expr r.expr after_expr rule alive 63
 pub expression_whole : (ts rest : List Token) (x : ExprTree) → r.expr nesting_limit ts ≡ Read x rest → length rest ≤ 0 → g.expr nesting_limit ts x
 expression_whole = depths.whole_read g.expr r.expr after_expr rule alive 63
 
-pub expression_part : (ts rest : List Token) (x : ExprTree) → r.expr nesting_limit ts ≡ Read x rest → 0 < length rest → IsRefusedWithin (g.expr nesting_limit) any_expr ts (refusal_of halt.Unexpected (length ts - length rest) rest)
+pub expression_part : (ts rest : List Token) (x : ExprTree) → r.expr nesting_limit ts ≡ Read x rest → 0 < length rest
+    → ReadsWithin (g.expr nesting_limit) any_expr ts (Err (refusal_of halt.Unexpected (length ts - length rest) rest))
 expression_part = depths.part_read g.expr r.expr after_expr rule alive 63
 
-pub expression_halted : (ts rest : List Token) (e : Halt) → Gives (r.expr nesting_limit ts) (Err e) rest → IsRefusedWithin (g.expr nesting_limit) any_expr ts (refusal_of e (length ts - length rest) rest)
+pub expression_halted : (ts rest : List Token) (e : Halt) → Gives (r.expr nesting_limit ts) (Err e) rest
+    → ReadsWithin (g.expr nesting_limit) any_expr ts (Err (refusal_of e (length ts - length rest) rest))
 expression_halted = depths.halted_read g.expr r.expr after_expr rule alive 63
+
+pub next_level : OpensNextLevel g.expr nesting_limit
+next_level = depths.next_level g.expr r.expr after_expr rule alive 63
+
+-- the front of a list, at any number of levels
+pub expression_front : (levels : ℕ) (ts rest : List Token) (x : Result ExprTree Halt) → Gives (r.expr levels ts) x rest → 0 < levels
+    → ReadsFrontWithin (g.expr levels) any_expr ts x rest
+expression_front zero ts rest x gives some = absurd (omega (arith, some))
+expression_front (suc n) ts rest x gives some = depths.front_read g.expr r.expr after_expr rule alive n ts rest x gives

@@ -4,31 +4,31 @@ use mathlib.Core.Path.{fun_ext}
 use Rattle.policy_tokens.specs.declared.token.Token.{Token}
 use Rattle.policy_tokens.specs.declared.token.Kind.{Kind}
 use Rattle.policy_tokens.specs.declared.token.Kind.TheVariants as k
-use Rattle.expression_syntax.specs.declared.tree.PathTree.{PathTree}
+use Rattle.token_readers.specs.declared.tree.PathTree.{PathTree}
 use Rattle.expression_syntax.specs.declared.tree.Access.TheVariants as access
 use Rattle.expression_syntax.specs.declared.tree.ExprTree.{ExprTree}
 use Rattle.expression_syntax.specs.declared.tree.ExprTree.TheVariants as tree
-use Rattle.expression_syntax.specs.Kinds.{Kinds, only, same_kind}
-use Rattle.expression_syntax.specs.Lang.{Lang}
-use Rattle.expression_syntax.specs.Lang as lang
-use Rattle.expression_syntax.specs.Grammar.{identifiers}
+use Rattle.token_readers.specs.Kinds.{Kinds, only, same_kind}
+use Rattle.token_readers.specs.Lang.{Lang}
+use Rattle.token_readers.specs.Lang as lang
+use Rattle.token_readers.specs.Grammar.{identifiers}
 use Rattle.expression_syntax.specs.Expressions as g
 use Rattle.expression_syntax.specs.Expressions.{booleans, keys, patterns, signs, comparisons, joined, accessed, is_in, is_positive}
-use Rattle.expression_syntax.specs.Reading.{Parser, Outcome, Read, Stop, Why, Unexpected, TooDeep, and_then, ◌>>=◌, ◌>>◌, pure, either, take, token, many}
-use Rattle.expression_syntax.specs.Reading as reading
+use Rattle.token_readers.specs.Reading.{Parser, Outcome, Read, Stop, Why, Unexpected, TooDeep, and_then, ◌>>=◌, ◌>>◌, pure, either, take, token, many}
+use Rattle.token_readers.specs.Reading as reading
 use Rattle.expression_syntax.specs.ExpressionReading as r
 use Rattle.expression_syntax.specs.ExpressionReading.{openers, access_firsts, firsts, path_of, name_by, is_variable}
-use Rattle.expression_syntax.specs.Parsing.{piece, ended_by, goes_on, ends, uid_of}
-use Rattle.expression_syntax.specs.Reads.{Begins}
-use Rattle.expression_syntax.proofs.Sets.{apart, within}
-use Rattle.expression_syntax.proofs.Rules.{Rule, Levels, Keeps, both}
-use Rattle.expression_syntax.proofs.Forms.{Starts, Leads, of, one, nothing, refused, or, starts_both, leads_starts, leads_empty, leads_or, leads_both, leads_many, leads_maybe, alive_empty, begin_of}
-use Rattle.expression_syntax.proofs.More.{same, Same, maybe, gated}
-use Rattle.expression_syntax.proofs.Many.{each}
-use Rattle.expression_syntax.proofs.Steps.{none, seq, free, behind, go, go_one, leads_first, leads_one, starts_one}
-use Rattle.expression_syntax.proofs.NameRules.{path_rule, alive_path, segments, segments_rule}
-use Rattle.expression_syntax.proofs.Depths.{levels}
-use Rattle.expression_syntax.proofs.Openings.{giving, opening_gate, starts_gate}
+use Rattle.token_readers.specs.Parsing.{piece, ended_by, goes_on, ends, uid_of}
+use Rattle.token_readers.specs.Reads.{Begins}
+use Rattle.token_readers.proofs.Sets.{apart, within}
+use Rattle.token_readers.proofs.Rules.{Rule, Levels, Keeps, both}
+use Rattle.token_readers.proofs.Forms.{Starts, Leads, of, one, nothing, refused, or, starts_both, leads_starts, leads_empty, leads_or, leads_both, leads_many, leads_maybe, alive_empty, begin_of}
+use Rattle.token_readers.proofs.More.{same, Same, maybe, gated}
+use Rattle.token_readers.proofs.Many.{each}
+use Rattle.token_readers.proofs.Steps.{none, seq, free, behind, go, go_one, leads_first, leads_one, starts_one}
+use Rattle.token_readers.proofs.NameRules.{path_rule, alive_path, segments, segments_rule}
+use Rattle.token_readers.proofs.Depths.{levels}
+use Rattle.token_readers.proofs.Openings.{giving, opening_gate, starts_gate}
 use Rattle.expression_syntax.proofs.Follows.{after_named, after_access, after_member, after_product, after_sum, after_relation, after_conjunction, after_expr, after_arguments, after_entries}
 use Rattle.expression_syntax.proofs.NamedRules.{call_behind, variable_by, behind_by, behind_pieces, factored, on, leads_variable, leads_variable_colons, same_named}
 use Rattle.expression_syntax.proofs.Alive as a

@@ -4,19 +4,19 @@ use Rattle.std.specs.List.{AllByRecursion}
 use Rattle.policy_tokens.specs.declared.token.Kind.{Kind}
 use Rattle.policy_tokens.specs.declared.token.Kind.TheVariants as k
 use Rattle.policy_tokens.specs.declared.token.Token.{Token}
-use Rattle.expression_syntax.specs.declared.tree.PathTree.{PathTree}
+use Rattle.token_readers.specs.declared.tree.PathTree.{PathTree}
 use Rattle.expression_syntax.specs.declared.tree.Access.TheVariants as access
 use Rattle.expression_syntax.specs.declared.tree.ExprTree.{ExprTree}
 use Rattle.expression_syntax.specs.declared.tree.ExprTree.TheVariants as tree
-use Rattle.expression_syntax.specs.Kinds.{Kinds, only, same_kind}
-use Rattle.expression_syntax.specs.Lang.{Lang}
-use Rattle.expression_syntax.specs.Lang as lang
-use Rattle.expression_syntax.specs.Grammar.{identifiers}
+use Rattle.token_readers.specs.Kinds.{Kinds, only, same_kind}
+use Rattle.token_readers.specs.Lang.{Lang}
+use Rattle.token_readers.specs.Lang as lang
+use Rattle.token_readers.specs.Grammar.{identifiers}
 use Rattle.expression_syntax.specs.Expressions as g
 use Rattle.expression_syntax.specs.Expressions.{booleans, variables, keys, patterns, signs, comparisons, joined, accessed, is_in, is_positive, expr}
 use Rattle.expression_syntax.specs.Stands.{TokenStands, PathStands, ExprStands}
-use Rattle.expression_syntax.proofs.Sets.{within, is_within}
-use Rattle.expression_syntax.proofs.StandsLemmas.{Makes, token_in, nothing_in, both_in, past_in, giving_in, or_in, maybe_in, many_in, gate_in, path_in, uid_in}
+use Rattle.token_readers.proofs.Sets.{within, is_within}
+use Rattle.token_readers.proofs.StandsLemmas.{Makes, token_in, nothing_in, both_in, past_in, giving_in, or_in, maybe_in, many_in, gate_in, path_in, uid_in}
 use Rattle.expression_syntax.proofs.TreeStands as form
 use Rattle.expression_syntax.proofs.TreeStands.{Tree, Trees, AccessStands, EntryStands, TermStands}
 

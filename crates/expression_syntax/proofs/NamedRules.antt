@@ -3,22 +3,22 @@ use Rattle.std.proofs.Common.{◌≡◌, inl, inr, Bool, true, false, List, [], 
 use Rattle.policy_tokens.specs.declared.token.Token.{Token}
 use Rattle.policy_tokens.specs.declared.token.Kind.{Kind}
 use Rattle.policy_tokens.specs.declared.token.Kind.TheVariants as k
-use Rattle.expression_syntax.specs.declared.tree.PathTree.{PathTree}
+use Rattle.token_readers.specs.declared.tree.PathTree.{PathTree}
 use Rattle.expression_syntax.specs.declared.tree.ExprTree.{ExprTree}
 use Rattle.expression_syntax.specs.declared.tree.ExprTree.TheVariants as tree
-use Rattle.expression_syntax.specs.Kinds.{only, same_kind}
-use Rattle.expression_syntax.specs.Lang.{Lang, Joined}
-use Rattle.expression_syntax.specs.Lang as lang
-use Rattle.expression_syntax.specs.Grammar.{identifiers, path, uid}
+use Rattle.token_readers.specs.Kinds.{only, same_kind}
+use Rattle.token_readers.specs.Lang.{Lang, Joined}
+use Rattle.token_readers.specs.Lang as lang
+use Rattle.token_readers.specs.Grammar.{identifiers, path, uid}
 use Rattle.expression_syntax.specs.Expressions as g
 use Rattle.expression_syntax.specs.Expressions.{variables}
-use Rattle.expression_syntax.specs.Reads.{Begins}
-use Rattle.expression_syntax.specs.Parsing.{pieces, is_text, ended_by, ends, uid_of}
+use Rattle.token_readers.specs.Reads.{Begins}
+use Rattle.token_readers.specs.Parsing.{pieces, is_text, ended_by, ends, uid_of}
 use Rattle.expression_syntax.specs.ExpressionReading.{path_of, is_variable}
-use Rattle.expression_syntax.proofs.Forms.{same_self, Leads, leads_empty}
-use Rattle.expression_syntax.proofs.Many.{looped}
-use Rattle.expression_syntax.proofs.More.{Same}
-use Rattle.expression_syntax.proofs.NameRules.{path_word, segment, segments, closed, snoc, ends-snoc, word_as, as_word, no_text, not_ended, closed_is, to_uid, from_uid}
+use Rattle.token_readers.proofs.Forms.{same_self, Leads, leads_empty}
+use Rattle.token_readers.proofs.Many.{looped}
+use Rattle.token_readers.proofs.More.{Same}
+use Rattle.token_readers.proofs.NameRules.{path_word, segment, segments, closed, snoc, ends-snoc, word_as, as_word, no_text, not_ended, closed_is, to_uid, from_uid}
 use Rattle.expression_syntax.proofs.Follows.{after_named}
 
 -- ---- from the common front

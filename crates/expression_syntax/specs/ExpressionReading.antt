@@ -3,20 +3,24 @@ use Rattle.std.specs.Prelude.{ℕ, zero, suc, Bool, true, false, List, [], ◌�
 use Rattle.policy_tokens.specs.declared.token.Kind.{Kind}
 use Rattle.policy_tokens.specs.declared.token.Kind.TheVariants as k
 use Rattle.policy_tokens.specs.declared.token.Token.{Token}
-use Rattle.expression_syntax.specs.declared.tree.PathTree.{PathTree}
-use Rattle.expression_syntax.specs.declared.tree.Name.{Name}
-use Rattle.expression_syntax.specs.declared.tree.Name.TheVariants as name
+use Rattle.token_readers.specs.declared.tree.PathTree.{PathTree}
+use Rattle.token_readers.specs.declared.tree.Name.{Name}
+use Rattle.token_readers.specs.declared.tree.Name.TheVariants as name
 use Rattle.expression_syntax.specs.declared.tree.Access.{Access}
 use Rattle.expression_syntax.specs.declared.tree.Access.TheVariants as access
 use Rattle.expression_syntax.specs.declared.tree.Entry.{Entry}
 use Rattle.expression_syntax.specs.declared.tree.Term.{Term}
 use Rattle.expression_syntax.specs.declared.tree.ExprTree.{ExprTree}
 use Rattle.expression_syntax.specs.declared.tree.ExprTree.TheVariants as tree
-use Rattle.expression_syntax.specs.Kinds.{Kinds, only}
-use Rattle.expression_syntax.specs.Reading.{Parser, take, token, pure, refuse, ◌>>=◌, ◌>>◌, either, optional, many, loop, gate, too_deep}
-use Rattle.expression_syntax.specs.Grammar.{identifiers}
-use Rattle.expression_syntax.specs.Parsing.{path, piece, ended_by, goes_on, ends, uid_of}
-use Rattle.expression_syntax.specs.Expressions.{booleans, variables, keys, patterns, signs, comparisons, joined, accessed, is_in, is_positive}
+use Rattle.token_readers.specs.Kinds.{Kinds, only}
+use Rattle.token_readers.specs.Reading.{Parser, take, token, pure, refuse, ◌>>=◌, ◌>>◌, either, optional, many}
+use Rattle.token_readers.specs.Reading.{gate, too_deep}
+use Rattle.token_readers.specs.Grammar.{identifiers}
+use Rattle.token_readers.specs.Parsing.{path}
+pub use Rattle.token_readers.specs.Parsing.{path_of, name_by}
+unfoldable pub use Rattle.token_readers.specs.Parsing.{name_behind}
+use Rattle.expression_syntax.specs.Expressions.{booleans, variables, keys, patterns, signs, comparisons}
+use Rattle.expression_syntax.specs.Expressions.{joined, accessed, is_in, is_positive}
 
 -- ---- what comes next
 
@@ -59,18 +63,6 @@ indexed = do
   word ← token k.Text
   token k.RBracket
   pure (access.Field word)
-
--- A variable, a Uid and a call begin alike, so they are read from their common front: an identifier and pieces behind it, which make a Uid
--- where the last one is a String.
-abbrev pub path_of : Token → List Token → PathTree
-path_of first more = record { first = first; more = more }
-
-abbrev pub name_by : Bool → Token → List Token → Name
-name_by true first ts = name.Uid (uid_of first ts)
-name_by false first ts = name.Path (path_of first ts)
-
-unfoldable pub name_behind : Token → Parser Name
-name_behind first = loop ended_by goes_on (λ ended. piece) false >>= (λ ts. pure (name_by (ends false ts) first ts))
 
 abbrev pub is_variable : Token → List Token → Bool
 is_variable first [] = variables first.kind
@@ -123,7 +115,7 @@ module _ (may : Bool) (inner : Parser ExprTree) where
   unfoldable pub entries : Parser (List (Entry ExprTree))
   entries = either keys (entry >>= entries_behind) (pure [])
 
-  -- ---- names
+  -- ---- names: a variable, a Uid and a call begin alike, so they are read from their common front, by `name_behind`
 
   unfoldable pub call_of : PathTree → Parser ExprTree
   call_of p = called >>= (λ found. pure (tree.Call p found))
@@ -204,7 +196,9 @@ module _ (may : Bool) (inner : Parser ExprTree) where
   signed sign make (suc n) = either (only sign) (do token sign; x ← signed sign make n; pure (make x)) member
 
   unfoldable pub unary : Parser ExprTree
-  unary = either (only k.Not) (do token k.Not; x ← signed k.Not tree.Not 3; pure (tree.Not x)) (signed k.Minus tree.Minus 4)
+  unary =
+      either (only k.Not) (do token k.Not; x ← signed k.Not tree.Not 3; pure (tree.Not x))
+      (signed k.Minus tree.Minus 4)
 
   unfoldable pub factor : Parser ExprTree
   factor = token k.Star >> unary

@@ -1,20 +1,21 @@
 -- The grammar of expressions, over tokens: which trees a list of tokens derives. One definition for each production.
--- Source: Cedar reference guide 4.0, "Grammar specification for Cedar policy syntax". Rules of this product: a variable's word with `::` or
--- `(` behind it is a Path, and expressions nest at most so deep.
+-- Source: Cedar reference guide 4.0, "Grammar specification for Cedar policy syntax". Rules of this product: a
+-- variable's word with `::` or `(` behind it is a Path, and expressions nest at most so deep.
 use Rattle.std.specs.Prelude.{ℕ, zero, suc, Bool, true, false, List, [], ◌∷◌, Option, Some, None}
 use Rattle.policy_tokens.specs.declared.token.Kind.{Kind}
 use Rattle.policy_tokens.specs.declared.token.Kind.TheVariants as k
 use Rattle.policy_tokens.specs.declared.token.Token.{Token}
-use Rattle.expression_syntax.specs.declared.tree.PathTree.{PathTree}
+use Rattle.token_readers.specs.declared.tree.PathTree.{PathTree}
 use Rattle.expression_syntax.specs.declared.tree.Access.{Access}
 use Rattle.expression_syntax.specs.declared.tree.Access.TheVariants as access
 use Rattle.expression_syntax.specs.declared.tree.Entry.{Entry}
 use Rattle.expression_syntax.specs.declared.tree.Term.{Term}
 use Rattle.expression_syntax.specs.declared.tree.ExprTree.{ExprTree}
 use Rattle.expression_syntax.specs.declared.tree.ExprTree.TheVariants as tree
-use Rattle.expression_syntax.specs.Kinds.{Kinds}
-use Rattle.expression_syntax.specs.Lang.{Lang, of, one, empty, ◌>>=◌, ◌>>◌, ◌giving◌, ◌or◌, optional, many, never, at_any, gate}
-use Rattle.expression_syntax.specs.Grammar.{identifiers, path, uid}
+use Rattle.token_readers.specs.Kinds.{Kinds}
+use Rattle.token_readers.specs.Lang.{Lang, of, one, empty, ◌>>=◌, ◌>>◌, ◌giving◌, ◌or◌, optional, many, never}
+use Rattle.token_readers.specs.Lang.{at_any, gate}
+use Rattle.token_readers.specs.Grammar.{identifiers, path, uid}
 
 -- "true" | "false"
 abbrev pub booleans : Kinds
@@ -154,7 +155,8 @@ module _ (may : Bool) (inner : Lang ExprTree) where
   abbrev pub nested : Lang ExprTree
   nested = parenthesized or set or braced
 
-  -- Primary = Variable | Uid | Call | "(" Expr ")" | "[" Arguments "]" | "{" [ Key ":" Expr { "," Key ":" Expr } ] "}" | Literal
+  -- Primary = Variable | Uid | Call | "(" Expr ")" | "[" Arguments "]"
+  --     | "{" [ Key ":" Expr { "," Key ":" Expr } ] "}" | Literal
   abbrev pub primary : Lang ExprTree
   primary = named or gate may nested or literal
 
@@ -231,7 +233,8 @@ module _ (may : Bool) (inner : Lang ExprTree) where
     y ← optional inside
     empty (is_in x type_name y)
 
-  -- Relation = Sum [ ("<" | "<=" | ">" | ">=" | "==" | "!=" | "in") Sum | "has" (Ident | String) | "like" Pattern | "is" Path [ "in" Sum ] ]
+  -- Relation = Sum [ ("<" | "<=" | ">" | ">=" | "==" | "!=" | "in") Sum
+  --     | "has" (Ident | String) | "like" Pattern | "is" Path [ "in" Sum ] ]
   abbrev pub relation : Lang ExprTree
   relation = do
     x ← sum
@@ -262,8 +265,8 @@ abbrev pub is_positive : ℕ → Bool
 is_positive zero = false
 is_positive (suc n) = true
 
--- Expr, with so many levels of nesting at most: its own, and one more for what stands in parentheses, brackets, braces or call arguments, and
--- for each part of an `if`.
+-- Expr, with so many levels of nesting at most: its own, and one more for what stands in parentheses, brackets, braces
+-- or call arguments, and for each part of an `if`.
 unfoldable pub expr : ℕ → Lang ExprTree
 expr zero = never
 expr (suc levels) = level (is_positive levels) (expr levels)

@@ -1,13 +1,5 @@
-pub mod Kinds
-pub mod Lang
-pub mod Grammar
-pub mod Reads
-pub mod Stands
-pub mod Reading
-pub mod Parsing
-pub mod Gives
-pub mod Expressions
 pub mod ExpressionReading
-pub mod Nests
+pub mod Expressions
 pub mod Parts
-pub mod Included
+pub mod Stands
+pub mod inner

@@ -3,8 +3,8 @@ use Rattle.std.specs.Prelude.{List, [], ◌∷◌, ◌++◌, map}
 use Rattle.std.specs.List.{flat_map}
 use Rattle.policy_tokens.specs.declared.token.Kind.TheVariants as k
 use Rattle.policy_tokens.specs.declared.token.Token.{Token}
-use Rattle.expression_syntax.specs.declared.tree.PathTree.{PathTree}
-use Rattle.expression_syntax.specs.declared.tree.UidTree.{UidTree}
+use Rattle.token_readers.specs.declared.tree.PathTree.{PathTree}
+use Rattle.token_readers.specs.declared.tree.UidTree.{UidTree}
 use Rattle.expression_syntax.specs.declared.tree.Access.{Access}
 use Rattle.expression_syntax.specs.declared.tree.Access.TheVariants as access
 use Rattle.expression_syntax.specs.declared.tree.Entry.{Entry}
@@ -12,8 +12,8 @@ use Rattle.expression_syntax.specs.declared.tree.Term.{Term}
 use Rattle.expression_syntax.specs.declared.tree.ExprTree.{ExprTree}
 use Rattle.expression_syntax.specs.declared.tree.ExprTree.TheOpen.{ExprTree-F as tree}
 use Rattle.expression_syntax.specs.declared.tree.ExprTree.TheFolds.{fold-ExprTree}
-use Rattle.expression_syntax.specs.Kinds.{Kinds, only}
-use Rattle.expression_syntax.specs.Grammar.{identifiers}
+use Rattle.token_readers.specs.Kinds.{Kinds, only}
+use Rattle.token_readers.specs.Grammar.{identifiers}
 use Rattle.expression_syntax.specs.Expressions.{booleans, variables, keys, patterns, signs, comparisons}
 
 -- a token, and the kinds that its place asks for

@@ -1,20 +1,22 @@
 //! Expressions.
 
-ghost use Rattle.std.specs.Prelude.{◌≡◌, IfOk};
+ghost use Rattle.std.specs.Prelude.{◌≡◌, ◌<◌, IfOk, Err};
 ghost use Rattle.expression_syntax.specs.ExpressionReading as spec;
+ghost use Rattle.expression_syntax.specs.Expressions as grammar;
 ghost use Rattle.expression_syntax.specs.Expressions.{is_positive};
-ghost use Rattle.expression_syntax.specs.Gives.{Gives};
-ghost use Rattle.expression_syntax.specs.Nests.{Nests};
+ghost use Rattle.token_readers.specs.Gives.{Gives};
+ghost use Rattle.expression_syntax.specs.inner.Nests.{Nests};
 ghost use Rattle.expression_syntax.specs.declared.tree.ExprTree.TheVariants as tree;
+ghost use Rattle.token_readers.specs.Reads.{ReadsFrontWithin};
+ghost use Rattle.token_readers.specs.declared.fault.Halt.TheVariants as halt;
 
-use crate::cursor::Cursor;
-use crate::fault::Halt;
 use crate::held::{beside, three};
 use crate::primary::Reader;
 use crate::tree::ExprTree;
 use plain::Boxed;
 use policy_tokens::Kind;
 use std::alloc::{AllocError, Global};
+use token_readers::{Cursor, Halt};
 
 fn if_of(
     alloc: Global,
@@ -33,7 +35,8 @@ impl<F: Fn(Global, &mut Cursor<'_>, usize) -> Result<ExprTree, Halt>> Reader<F> 
     #[tactic(auto, unfolding(crate::specs::ExpressionReading::alternative))]
     fn alternative(&self, tokens: &mut Cursor<'_>) -> Result<ExprTree, Halt>
         requires { Nests self.now.levels (F.pre self.now.expr) (F.post self.now.expr) }
-        ensures { Gives (spec.alternative (is_positive self.now.levels) (spec.expr self.now.levels) tokens.old.rest.now) result tokens.new.rest.now }
+        ensures { Gives (spec.alternative (is_positive self.now.levels) (spec.expr self.now.levels) tokens.old.rest.now)
+            result tokens.new.rest.now }
     {
         tokens.take(Kind::Else)?;
         self.inner(tokens)
@@ -43,7 +46,8 @@ impl<F: Fn(Global, &mut Cursor<'_>, usize) -> Result<ExprTree, Halt>> Reader<F> 
     #[tactic(auto, unfolding(crate::specs::ExpressionReading::consequent))]
     fn consequent(&self, tokens: &mut Cursor<'_>) -> Result<ExprTree, Halt>
         requires { Nests self.now.levels (F.pre self.now.expr) (F.post self.now.expr) }
-        ensures { Gives (spec.consequent (is_positive self.now.levels) (spec.expr self.now.levels) tokens.old.rest.now) result tokens.new.rest.now }
+        ensures { Gives (spec.consequent (is_positive self.now.levels) (spec.expr self.now.levels) tokens.old.rest.now)
+            result tokens.new.rest.now }
     {
         tokens.take(Kind::Then)?;
         self.inner(tokens)
@@ -57,7 +61,9 @@ impl<F: Fn(Global, &mut Cursor<'_>, usize) -> Result<ExprTree, Halt>> Reader<F> 
         consequent: ExprTree,
     ) -> Result<ExprTree, Halt>
         requires { Nests self.now.levels (F.pre self.now.expr) (F.post self.now.expr) }
-        ensures { Gives (spec.decided (is_positive self.now.levels) (spec.expr self.now.levels) test consequent tokens.old.rest.now) result tokens.new.rest.now }
+        ensures { Gives (spec.decided (is_positive self.now.levels) (spec.expr self.now.levels)
+            test consequent tokens.old.rest.now)
+            result tokens.new.rest.now }
     {
         let ((test, consequent), alternative) = beside(
             (test, consequent),
@@ -69,7 +75,8 @@ impl<F: Fn(Global, &mut Cursor<'_>, usize) -> Result<ExprTree, Halt>> Reader<F> 
     #[tactic(auto, unfolding(crate::specs::ExpressionReading::tried))]
     fn tried(&self, tokens: &mut Cursor<'_>, test: ExprTree) -> Result<ExprTree, Halt>
         requires { Nests self.now.levels (F.pre self.now.expr) (F.post self.now.expr) }
-        ensures { Gives (spec.tried (is_positive self.now.levels) (spec.expr self.now.levels) test tokens.old.rest.now) result tokens.new.rest.now }
+        ensures { Gives (spec.tried (is_positive self.now.levels) (spec.expr self.now.levels) test tokens.old.rest.now)
+            result tokens.new.rest.now }
     {
         let (test, consequent) = beside(test, self.consequent(tokens))?;
         self.decided(tokens, test, consequent)
@@ -79,7 +86,8 @@ impl<F: Fn(Global, &mut Cursor<'_>, usize) -> Result<ExprTree, Halt>> Reader<F> 
     #[tactic(auto, unfolding(crate::specs::ExpressionReading::conditional))]
     fn conditional(&self, tokens: &mut Cursor<'_>) -> Result<ExprTree, Halt>
         requires { Nests self.now.levels (F.pre self.now.expr) (F.post self.now.expr) }
-        ensures { Gives (spec.conditional (is_positive self.now.levels) (spec.expr self.now.levels) tokens.old.rest.now) result tokens.new.rest.now }
+        ensures { Gives (spec.conditional (is_positive self.now.levels) (spec.expr self.now.levels) tokens.old.rest.now)
+            result tokens.new.rest.now }
     {
         tokens.take(Kind::If)?;
         let test = self.inner(tokens)?;
@@ -90,7 +98,8 @@ impl<F: Fn(Global, &mut Cursor<'_>, usize) -> Result<ExprTree, Halt>> Reader<F> 
     #[tactic(auto, unfolding(crate::specs::ExpressionReading::level))]
     fn level(&self, tokens: &mut Cursor<'_>) -> Result<ExprTree, Halt>
         requires { Nests self.now.levels (F.pre self.now.expr) (F.post self.now.expr) }
-        ensures { Gives (spec.level (is_positive self.now.levels) (spec.expr self.now.levels) tokens.old.rest.now) result tokens.new.rest.now }
+        ensures { Gives (spec.level (is_positive self.now.levels) (spec.expr self.now.levels) tokens.old.rest.now)
+            result tokens.new.rest.now }
     {
         if !tokens.sees(Kind::If) {
             return self.disjunction(tokens);
@@ -102,10 +111,14 @@ impl<F: Fn(Global, &mut Cursor<'_>, usize) -> Result<ExprTree, Halt>> Reader<F> 
     }
 }
 
-/// An expression with so many levels of nesting at most, its own being one. The tokens that are
-/// left afterwards begin behind it, or with the one at which reading halts.
+/// An expression with so many levels of nesting at most, its own being one, from the front of the
+/// tokens and as many of them as it takes. The tokens that are left afterwards begin behind it, or
+/// with the one at which reading halts: that is too deep where more levels would go on with it.
 pub fn expr(alloc: Global, tokens: &mut Cursor<'_>, levels: usize) -> Result<ExprTree, Halt>
-    ensures { Gives (spec.expr levels tokens.old.rest.now) result tokens.new.rest.now }
+    ensures reads { 0 < levels → ReadsFrontWithin (grammar.expr levels) grammar.any_expr
+        tokens.old.rest.now result tokens.new.rest.now }
+    ensures shut { levels ≡ 0 → (result ≡ Err halt.TooDeep) × (tokens.new.rest.now ≡ tokens.old.rest.now) }
+    ensures steps { Gives (spec.expr levels tokens.old.rest.now) result tokens.new.rest.now }
 {
     if levels == 0 {
         return Err(Halt::TooDeep);

@@ -3,19 +3,18 @@
 ghost use Rattle.std.specs.Prelude.{◌≡◌, IfOk};
 ghost use Rattle.expression_syntax.specs.ExpressionReading as spec;
 ghost use Rattle.expression_syntax.specs.Expressions.{is_positive, joined, accessed, is_in};
-ghost use Rattle.expression_syntax.specs.Gives.{Gives};
-ghost use Rattle.expression_syntax.specs.Nests.{Nests};
+ghost use Rattle.token_readers.specs.Gives.{Gives};
+ghost use Rattle.expression_syntax.specs.inner.Nests.{Nests};
 ghost use Rattle.expression_syntax.specs.declared.tree.ExprTree.TheVariants as tree;
 
-use crate::cursor::{Cursor, TokenSet};
-use crate::fault::Halt;
 use crate::held::{beside, two};
-use crate::names::path;
 use crate::primary::{Reader, indexed};
-use crate::tree::{Access, ExprTree, PathTree, Term};
+use crate::token_sets::TokenSet;
+use crate::tree::{Access, ExprTree, Term};
 use plain::{Boxed, Items};
 use policy_tokens::{Kind, Token};
 use std::alloc::{AllocError, Global};
+use token_readers::{Cursor, Halt, NameSet, PathTree, path};
 
 fn member_of(
     alloc: Global,
@@ -129,7 +128,8 @@ impl<F: Fn(Global, &mut Cursor<'_>, usize) -> Result<ExprTree, Halt>> Reader<F> 
     #[tactic(auto, unfolding(crate::specs::ExpressionReading::some_called))]
     fn some_called(&self, tokens: &mut Cursor<'_>) -> Result<Option<Items<ExprTree>>, Halt>
         requires { Nests self.now.levels (F.pre self.now.expr) (F.post self.now.expr) }
-        ensures { Gives (spec.some_called (is_positive self.now.levels) (spec.expr self.now.levels) tokens.old.rest.now) result tokens.new.rest.now }
+        ensures { Gives (spec.some_called (is_positive self.now.levels) (spec.expr self.now.levels) tokens.old.rest.now)
+            result tokens.new.rest.now }
     {
         let found = self.called(tokens)?;
         Ok(Some(found))
@@ -139,7 +139,9 @@ impl<F: Fn(Global, &mut Cursor<'_>, usize) -> Result<ExprTree, Halt>> Reader<F> 
     #[tactic(auto, unfolding(crate::specs::ExpressionReading::maybe_called))]
     fn maybe_called(&self, tokens: &mut Cursor<'_>) -> Result<Option<Items<ExprTree>>, Halt>
         requires { Nests self.now.levels (F.pre self.now.expr) (F.post self.now.expr) }
-        ensures { Gives (spec.maybe_called (is_positive self.now.levels) (spec.expr self.now.levels) tokens.old.rest.now) result tokens.new.rest.now }
+        ensures { Gives (spec.maybe_called (is_positive self.now.levels) (spec.expr self.now.levels)
+            tokens.old.rest.now)
+            result tokens.new.rest.now }
     {
         if !tokens.sees(Kind::LParen) {
             return Ok(None);
@@ -154,10 +156,11 @@ impl<F: Fn(Global, &mut Cursor<'_>, usize) -> Result<ExprTree, Halt>> Reader<F> 
     #[tactic(auto, unfolding(crate::specs::ExpressionReading::dotted))]
     fn dotted(&self, tokens: &mut Cursor<'_>) -> Result<Access<Items<ExprTree>>, Halt>
         requires { Nests self.now.levels (F.pre self.now.expr) (F.post self.now.expr) }
-        ensures { Gives (spec.dotted (is_positive self.now.levels) (spec.expr self.now.levels) tokens.old.rest.now) result tokens.new.rest.now }
+        ensures { Gives (spec.dotted (is_positive self.now.levels) (spec.expr self.now.levels) tokens.old.rest.now)
+            result tokens.new.rest.now }
     {
         tokens.take(Kind::Dot)?;
-        let name = tokens.take_one_of(TokenSet::Identifiers)?;
+        let name = tokens.take_one_of(NameSet::Identifiers)?;
         let found = self.maybe_called(tokens)?;
         Ok(access(name, found))
     }
@@ -165,7 +168,8 @@ impl<F: Fn(Global, &mut Cursor<'_>, usize) -> Result<ExprTree, Halt>> Reader<F> 
     #[tactic(auto, unfolding(crate::specs::ExpressionReading::accessing))]
     fn accessing(&self, tokens: &mut Cursor<'_>) -> Result<Access<Items<ExprTree>>, Halt>
         requires { Nests self.now.levels (F.pre self.now.expr) (F.post self.now.expr) }
-        ensures { Gives (spec.accessing (is_positive self.now.levels) (spec.expr self.now.levels) tokens.old.rest.now) result tokens.new.rest.now }
+        ensures { Gives (spec.accessing (is_positive self.now.levels) (spec.expr self.now.levels) tokens.old.rest.now)
+            result tokens.new.rest.now }
     {
         if tokens.sees(Kind::Dot) {
             return self.dotted(tokens);
@@ -175,7 +179,8 @@ impl<F: Fn(Global, &mut Cursor<'_>, usize) -> Result<ExprTree, Halt>> Reader<F> 
 
     fn accesses(&self, tokens: &mut Cursor<'_>) -> Result<Items<Access<Items<ExprTree>>>, Halt>
         requires { Nests self.now.levels (F.pre self.now.expr) (F.post self.now.expr) }
-        ensures { Gives (spec.accesses (is_positive self.now.levels) (spec.expr self.now.levels) tokens.old.rest.now) result tokens.new.rest.now }
+        ensures { Gives (spec.accesses (is_positive self.now.levels) (spec.expr self.now.levels) tokens.old.rest.now)
+            result tokens.new.rest.now }
     {
         let mut found = Items::new(self.alloc);
         for _turn in 0..tokens.left() {
@@ -192,7 +197,8 @@ impl<F: Fn(Global, &mut Cursor<'_>, usize) -> Result<ExprTree, Halt>> Reader<F> 
     #[tactic(auto, unfolding(crate::specs::ExpressionReading::member))]
     fn member(&self, tokens: &mut Cursor<'_>) -> Result<ExprTree, Halt>
         requires { Nests self.now.levels (F.pre self.now.expr) (F.post self.now.expr) }
-        ensures { Gives (spec.member (is_positive self.now.levels) (spec.expr self.now.levels) tokens.old.rest.now) result tokens.new.rest.now }
+        ensures { Gives (spec.member (is_positive self.now.levels) (spec.expr self.now.levels) tokens.old.rest.now)
+            result tokens.new.rest.now }
     {
         let first = self.primary(tokens)?;
         let (first, more) = beside(first, self.accesses(tokens))?;
@@ -202,7 +208,9 @@ impl<F: Fn(Global, &mut Cursor<'_>, usize) -> Result<ExprTree, Halt>> Reader<F> 
     /// So many of a sign at most, and a Member.
     fn signed(&self, tokens: &mut Cursor<'_>, sign: Kind, most: u8) -> Result<ExprTree, Halt>
         requires { Nests self.now.levels (F.pre self.now.expr) (F.post self.now.expr) }
-        ensures { Gives (spec.signed (is_positive self.now.levels) (spec.expr self.now.levels) sign (spec.under sign) most tokens.old.rest.now) result tokens.new.rest.now }
+        ensures { Gives (spec.signed (is_positive self.now.levels) (spec.expr self.now.levels)
+            sign (spec.under sign) most tokens.old.rest.now)
+            result tokens.new.rest.now }
     {
         if most == 0 {
             return self.member(tokens);
@@ -219,7 +227,8 @@ impl<F: Fn(Global, &mut Cursor<'_>, usize) -> Result<ExprTree, Halt>> Reader<F> 
     #[tactic(auto, unfolding(crate::specs::ExpressionReading::unary))]
     fn unary(&self, tokens: &mut Cursor<'_>) -> Result<ExprTree, Halt>
         requires { Nests self.now.levels (F.pre self.now.expr) (F.post self.now.expr) }
-        ensures { Gives (spec.unary (is_positive self.now.levels) (spec.expr self.now.levels) tokens.old.rest.now) result tokens.new.rest.now }
+        ensures { Gives (spec.unary (is_positive self.now.levels) (spec.expr self.now.levels) tokens.old.rest.now)
+            result tokens.new.rest.now }
     {
         if !tokens.sees(Kind::Not) {
             return self.signed(tokens, Kind::Minus, 4);
@@ -232,7 +241,8 @@ impl<F: Fn(Global, &mut Cursor<'_>, usize) -> Result<ExprTree, Halt>> Reader<F> 
     #[tactic(auto, unfolding(crate::specs::ExpressionReading::factor))]
     fn factor(&self, tokens: &mut Cursor<'_>) -> Result<ExprTree, Halt>
         requires { Nests self.now.levels (F.pre self.now.expr) (F.post self.now.expr) }
-        ensures { Gives (spec.factor (is_positive self.now.levels) (spec.expr self.now.levels) tokens.old.rest.now) result tokens.new.rest.now }
+        ensures { Gives (spec.factor (is_positive self.now.levels) (spec.expr self.now.levels) tokens.old.rest.now)
+            result tokens.new.rest.now }
     {
         tokens.take(Kind::Star)?;
         self.unary(tokens)
@@ -240,7 +250,8 @@ impl<F: Fn(Global, &mut Cursor<'_>, usize) -> Result<ExprTree, Halt>> Reader<F> 
 
     fn factors(&self, tokens: &mut Cursor<'_>) -> Result<Items<ExprTree>, Halt>
         requires { Nests self.now.levels (F.pre self.now.expr) (F.post self.now.expr) }
-        ensures { Gives (spec.factors (is_positive self.now.levels) (spec.expr self.now.levels) tokens.old.rest.now) result tokens.new.rest.now }
+        ensures { Gives (spec.factors (is_positive self.now.levels) (spec.expr self.now.levels) tokens.old.rest.now)
+            result tokens.new.rest.now }
     {
         let mut found = Items::new(self.alloc);
         for _turn in 0..tokens.left() {
@@ -257,7 +268,8 @@ impl<F: Fn(Global, &mut Cursor<'_>, usize) -> Result<ExprTree, Halt>> Reader<F> 
     #[tactic(auto, unfolding(crate::specs::ExpressionReading::product))]
     fn product(&self, tokens: &mut Cursor<'_>) -> Result<ExprTree, Halt>
         requires { Nests self.now.levels (F.pre self.now.expr) (F.post self.now.expr) }
-        ensures { Gives (spec.product (is_positive self.now.levels) (spec.expr self.now.levels) tokens.old.rest.now) result tokens.new.rest.now }
+        ensures { Gives (spec.product (is_positive self.now.levels) (spec.expr self.now.levels) tokens.old.rest.now)
+            result tokens.new.rest.now }
     {
         let first = self.unary(tokens)?;
         let (first, more) = beside(first, self.factors(tokens))?;
@@ -268,7 +280,8 @@ impl<F: Fn(Global, &mut Cursor<'_>, usize) -> Result<ExprTree, Halt>> Reader<F> 
     #[tactic(auto, unfolding(crate::specs::ExpressionReading::term))]
     fn term(&self, tokens: &mut Cursor<'_>) -> Result<Term<ExprTree>, Halt>
         requires { Nests self.now.levels (F.pre self.now.expr) (F.post self.now.expr) }
-        ensures { Gives (spec.term (is_positive self.now.levels) (spec.expr self.now.levels) tokens.old.rest.now) result tokens.new.rest.now }
+        ensures { Gives (spec.term (is_positive self.now.levels) (spec.expr self.now.levels) tokens.old.rest.now)
+            result tokens.new.rest.now }
     {
         let sign = tokens.take_one_of(TokenSet::Signs)?;
         let operand = self.product(tokens)?;
@@ -277,7 +290,8 @@ impl<F: Fn(Global, &mut Cursor<'_>, usize) -> Result<ExprTree, Halt>> Reader<F> 
 
     fn terms(&self, tokens: &mut Cursor<'_>) -> Result<Items<Term<ExprTree>>, Halt>
         requires { Nests self.now.levels (F.pre self.now.expr) (F.post self.now.expr) }
-        ensures { Gives (spec.terms (is_positive self.now.levels) (spec.expr self.now.levels) tokens.old.rest.now) result tokens.new.rest.now }
+        ensures { Gives (spec.terms (is_positive self.now.levels) (spec.expr self.now.levels) tokens.old.rest.now)
+            result tokens.new.rest.now }
     {
         let mut found = Items::new(self.alloc);
         for _turn in 0..tokens.left() {
@@ -294,7 +308,8 @@ impl<F: Fn(Global, &mut Cursor<'_>, usize) -> Result<ExprTree, Halt>> Reader<F> 
     #[tactic(auto, unfolding(crate::specs::ExpressionReading::sum))]
     fn sum(&self, tokens: &mut Cursor<'_>) -> Result<ExprTree, Halt>
         requires { Nests self.now.levels (F.pre self.now.expr) (F.post self.now.expr) }
-        ensures { Gives (spec.sum (is_positive self.now.levels) (spec.expr self.now.levels) tokens.old.rest.now) result tokens.new.rest.now }
+        ensures { Gives (spec.sum (is_positive self.now.levels) (spec.expr self.now.levels) tokens.old.rest.now)
+            result tokens.new.rest.now }
     {
         let first = self.product(tokens)?;
         let (first, more) = beside(first, self.terms(tokens))?;
@@ -305,7 +320,8 @@ impl<F: Fn(Global, &mut Cursor<'_>, usize) -> Result<ExprTree, Halt>> Reader<F> 
     #[tactic(auto, unfolding(crate::specs::ExpressionReading::compared))]
     fn compared(&self, tokens: &mut Cursor<'_>, x: ExprTree) -> Result<ExprTree, Halt>
         requires { Nests self.now.levels (F.pre self.now.expr) (F.post self.now.expr) }
-        ensures { Gives (spec.compared (is_positive self.now.levels) (spec.expr self.now.levels) x tokens.old.rest.now) result tokens.new.rest.now }
+        ensures { Gives (spec.compared (is_positive self.now.levels) (spec.expr self.now.levels) x tokens.old.rest.now)
+            result tokens.new.rest.now }
     {
         let (x, operator) = beside(x, tokens.take_one_of(TokenSet::Comparisons))?;
         let (x, y) = beside(x, self.sum(tokens))?;
@@ -316,7 +332,8 @@ impl<F: Fn(Global, &mut Cursor<'_>, usize) -> Result<ExprTree, Halt>> Reader<F> 
     #[tactic(auto, unfolding(crate::specs::ExpressionReading::has))]
     fn has(&self, tokens: &mut Cursor<'_>, x: ExprTree) -> Result<ExprTree, Halt>
         requires { Nests self.now.levels (F.pre self.now.expr) (F.post self.now.expr) }
-        ensures { Gives (spec.has (is_positive self.now.levels) (spec.expr self.now.levels) x tokens.old.rest.now) result tokens.new.rest.now }
+        ensures { Gives (spec.has (is_positive self.now.levels) (spec.expr self.now.levels) x tokens.old.rest.now)
+            result tokens.new.rest.now }
     {
         let (x, _has) = beside(x, tokens.take(Kind::Has))?;
         let (x, name) = beside(x, tokens.take_one_of(TokenSet::Keys))?;
@@ -327,7 +344,8 @@ impl<F: Fn(Global, &mut Cursor<'_>, usize) -> Result<ExprTree, Halt>> Reader<F> 
     #[tactic(auto, unfolding(crate::specs::ExpressionReading::like))]
     fn like(&self, tokens: &mut Cursor<'_>, x: ExprTree) -> Result<ExprTree, Halt>
         requires { Nests self.now.levels (F.pre self.now.expr) (F.post self.now.expr) }
-        ensures { Gives (spec.like (is_positive self.now.levels) (spec.expr self.now.levels) x tokens.old.rest.now) result tokens.new.rest.now }
+        ensures { Gives (spec.like (is_positive self.now.levels) (spec.expr self.now.levels) x tokens.old.rest.now)
+            result tokens.new.rest.now }
     {
         let (x, _like) = beside(x, tokens.take(Kind::Like))?;
         let (x, text) = beside(x, tokens.take_one_of(TokenSet::Patterns))?;
@@ -337,7 +355,8 @@ impl<F: Fn(Global, &mut Cursor<'_>, usize) -> Result<ExprTree, Halt>> Reader<F> 
     #[tactic(auto, unfolding(crate::specs::ExpressionReading::inside))]
     fn inside(&self, tokens: &mut Cursor<'_>) -> Result<ExprTree, Halt>
         requires { Nests self.now.levels (F.pre self.now.expr) (F.post self.now.expr) }
-        ensures { Gives (spec.inside (is_positive self.now.levels) (spec.expr self.now.levels) tokens.old.rest.now) result tokens.new.rest.now }
+        ensures { Gives (spec.inside (is_positive self.now.levels) (spec.expr self.now.levels) tokens.old.rest.now)
+            result tokens.new.rest.now }
     {
         tokens.take(Kind::In)?;
         self.sum(tokens)
@@ -347,7 +366,9 @@ impl<F: Fn(Global, &mut Cursor<'_>, usize) -> Result<ExprTree, Halt>> Reader<F> 
     #[tactic(auto, unfolding(crate::specs::ExpressionReading::maybe_inside))]
     fn maybe_inside(&self, tokens: &mut Cursor<'_>) -> Result<Option<ExprTree>, Halt>
         requires { Nests self.now.levels (F.pre self.now.expr) (F.post self.now.expr) }
-        ensures { Gives (spec.maybe_inside (is_positive self.now.levels) (spec.expr self.now.levels) tokens.old.rest.now) result tokens.new.rest.now }
+        ensures { Gives (spec.maybe_inside (is_positive self.now.levels) (spec.expr self.now.levels)
+            tokens.old.rest.now)
+            result tokens.new.rest.now }
     {
         if !tokens.sees(Kind::In) {
             return Ok(None);
@@ -360,7 +381,8 @@ impl<F: Fn(Global, &mut Cursor<'_>, usize) -> Result<ExprTree, Halt>> Reader<F> 
     #[tactic(auto, unfolding(crate::specs::ExpressionReading::typed))]
     fn typed(&self, tokens: &mut Cursor<'_>, x: ExprTree) -> Result<ExprTree, Halt>
         requires { Nests self.now.levels (F.pre self.now.expr) (F.post self.now.expr) }
-        ensures { Gives (spec.typed (is_positive self.now.levels) (spec.expr self.now.levels) x tokens.old.rest.now) result tokens.new.rest.now }
+        ensures { Gives (spec.typed (is_positive self.now.levels) (spec.expr self.now.levels) x tokens.old.rest.now)
+            result tokens.new.rest.now }
     {
         let (x, _is) = beside(x, tokens.take(Kind::Is))?;
         let (x, type_name) = beside(x, path(self.alloc, tokens))?;
@@ -371,7 +393,8 @@ impl<F: Fn(Global, &mut Cursor<'_>, usize) -> Result<ExprTree, Halt>> Reader<F> 
     #[tactic(auto, unfolding(crate::specs::ExpressionReading::tested))]
     fn tested(&self, tokens: &mut Cursor<'_>, x: ExprTree) -> Result<ExprTree, Halt>
         requires { Nests self.now.levels (F.pre self.now.expr) (F.post self.now.expr) }
-        ensures { Gives (spec.tested (is_positive self.now.levels) (spec.expr self.now.levels) x tokens.old.rest.now) result tokens.new.rest.now }
+        ensures { Gives (spec.tested (is_positive self.now.levels) (spec.expr self.now.levels) x tokens.old.rest.now)
+            result tokens.new.rest.now }
     {
         if tokens.sees(Kind::Has) {
             return self.has(tokens, x);
@@ -388,7 +411,8 @@ impl<F: Fn(Global, &mut Cursor<'_>, usize) -> Result<ExprTree, Halt>> Reader<F> 
     #[tactic(auto, unfolding(crate::specs::ExpressionReading::related))]
     fn related(&self, tokens: &mut Cursor<'_>, x: ExprTree) -> Result<ExprTree, Halt>
         requires { Nests self.now.levels (F.pre self.now.expr) (F.post self.now.expr) }
-        ensures { Gives (spec.related (is_positive self.now.levels) (spec.expr self.now.levels) x tokens.old.rest.now) result tokens.new.rest.now }
+        ensures { Gives (spec.related (is_positive self.now.levels) (spec.expr self.now.levels) x tokens.old.rest.now)
+            result tokens.new.rest.now }
     {
         if tokens.sees_one_of(TokenSet::Comparisons) {
             return self.compared(tokens, x);
@@ -400,7 +424,8 @@ impl<F: Fn(Global, &mut Cursor<'_>, usize) -> Result<ExprTree, Halt>> Reader<F> 
     #[tactic(auto, unfolding(crate::specs::ExpressionReading::relation))]
     fn relation(&self, tokens: &mut Cursor<'_>) -> Result<ExprTree, Halt>
         requires { Nests self.now.levels (F.pre self.now.expr) (F.post self.now.expr) }
-        ensures { Gives (spec.relation (is_positive self.now.levels) (spec.expr self.now.levels) tokens.old.rest.now) result tokens.new.rest.now }
+        ensures { Gives (spec.relation (is_positive self.now.levels) (spec.expr self.now.levels) tokens.old.rest.now)
+            result tokens.new.rest.now }
     {
         let x = self.sum(tokens)?;
         self.related(tokens, x)
@@ -409,7 +434,8 @@ impl<F: Fn(Global, &mut Cursor<'_>, usize) -> Result<ExprTree, Halt>> Reader<F> 
     #[tactic(auto, unfolding(crate::specs::ExpressionReading::next_and))]
     fn next_and(&self, tokens: &mut Cursor<'_>) -> Result<ExprTree, Halt>
         requires { Nests self.now.levels (F.pre self.now.expr) (F.post self.now.expr) }
-        ensures { Gives (spec.next_and (is_positive self.now.levels) (spec.expr self.now.levels) tokens.old.rest.now) result tokens.new.rest.now }
+        ensures { Gives (spec.next_and (is_positive self.now.levels) (spec.expr self.now.levels) tokens.old.rest.now)
+            result tokens.new.rest.now }
     {
         tokens.take(Kind::And)?;
         self.relation(tokens)
@@ -417,7 +443,8 @@ impl<F: Fn(Global, &mut Cursor<'_>, usize) -> Result<ExprTree, Halt>> Reader<F> 
 
     fn ands(&self, tokens: &mut Cursor<'_>) -> Result<Items<ExprTree>, Halt>
         requires { Nests self.now.levels (F.pre self.now.expr) (F.post self.now.expr) }
-        ensures { Gives (spec.ands (is_positive self.now.levels) (spec.expr self.now.levels) tokens.old.rest.now) result tokens.new.rest.now }
+        ensures { Gives (spec.ands (is_positive self.now.levels) (spec.expr self.now.levels) tokens.old.rest.now)
+            result tokens.new.rest.now }
     {
         let mut found = Items::new(self.alloc);
         for _turn in 0..tokens.left() {
@@ -434,7 +461,8 @@ impl<F: Fn(Global, &mut Cursor<'_>, usize) -> Result<ExprTree, Halt>> Reader<F> 
     #[tactic(auto, unfolding(crate::specs::ExpressionReading::conjunction))]
     fn conjunction(&self, tokens: &mut Cursor<'_>) -> Result<ExprTree, Halt>
         requires { Nests self.now.levels (F.pre self.now.expr) (F.post self.now.expr) }
-        ensures { Gives (spec.conjunction (is_positive self.now.levels) (spec.expr self.now.levels) tokens.old.rest.now) result tokens.new.rest.now }
+        ensures { Gives (spec.conjunction (is_positive self.now.levels) (spec.expr self.now.levels) tokens.old.rest.now)
+            result tokens.new.rest.now }
     {
         let first = self.relation(tokens)?;
         let (first, more) = beside(first, self.ands(tokens))?;
@@ -444,7 +472,8 @@ impl<F: Fn(Global, &mut Cursor<'_>, usize) -> Result<ExprTree, Halt>> Reader<F> 
     #[tactic(auto, unfolding(crate::specs::ExpressionReading::next_or))]
     fn next_or(&self, tokens: &mut Cursor<'_>) -> Result<ExprTree, Halt>
         requires { Nests self.now.levels (F.pre self.now.expr) (F.post self.now.expr) }
-        ensures { Gives (spec.next_or (is_positive self.now.levels) (spec.expr self.now.levels) tokens.old.rest.now) result tokens.new.rest.now }
+        ensures { Gives (spec.next_or (is_positive self.now.levels) (spec.expr self.now.levels) tokens.old.rest.now)
+            result tokens.new.rest.now }
     {
         tokens.take(Kind::Or)?;
         self.conjunction(tokens)
@@ -452,7 +481,8 @@ impl<F: Fn(Global, &mut Cursor<'_>, usize) -> Result<ExprTree, Halt>> Reader<F> 
 
     fn ors(&self, tokens: &mut Cursor<'_>) -> Result<Items<ExprTree>, Halt>
         requires { Nests self.now.levels (F.pre self.now.expr) (F.post self.now.expr) }
-        ensures { Gives (spec.ors (is_positive self.now.levels) (spec.expr self.now.levels) tokens.old.rest.now) result tokens.new.rest.now }
+        ensures { Gives (spec.ors (is_positive self.now.levels) (spec.expr self.now.levels) tokens.old.rest.now)
+            result tokens.new.rest.now }
     {
         let mut found = Items::new(self.alloc);
         for _turn in 0..tokens.left() {
@@ -469,7 +499,8 @@ impl<F: Fn(Global, &mut Cursor<'_>, usize) -> Result<ExprTree, Halt>> Reader<F> 
     #[tactic(auto, unfolding(crate::specs::ExpressionReading::disjunction))]
     pub(crate) fn disjunction(&self, tokens: &mut Cursor<'_>) -> Result<ExprTree, Halt>
         requires { Nests self.now.levels (F.pre self.now.expr) (F.post self.now.expr) }
-        ensures { Gives (spec.disjunction (is_positive self.now.levels) (spec.expr self.now.levels) tokens.old.rest.now) result tokens.new.rest.now }
+        ensures { Gives (spec.disjunction (is_positive self.now.levels) (spec.expr self.now.levels) tokens.old.rest.now)
+            result tokens.new.rest.now }
     {
         let first = self.conjunction(tokens)?;
         let (first, more) = beside(first, self.ors(tokens))?;

@@ -1,24 +1,25 @@
 //! Primaries: literals, names, calls, and what stands in brackets.
 
-ghost use Rattle.std.specs.Prelude.{◌≡◌};
+ghost use Rattle.std.specs.Prelude.{◌≡◌, IfErr};
 ghost use Rattle.expression_syntax.specs.ExpressionReading as spec;
 ghost use Rattle.expression_syntax.specs.Expressions.{is_positive};
-ghost use Rattle.expression_syntax.specs.Gives.{Gives};
-ghost use Rattle.expression_syntax.specs.Nests.{Nests};
+ghost use Rattle.token_readers.specs.Gives.{Gives};
+ghost use Rattle.expression_syntax.specs.inner.Nests.{Nests};
+ghost use Rattle.token_readers.specs.declared.fault.Halt.TheVariants as halt;
 
-use crate::cursor::{Cursor, TokenSet};
-use crate::fault::Halt;
 use crate::held::beside;
-use crate::names::name_behind;
-use crate::tree::{Access, Entry, ExprTree, Name, PathTree};
+use crate::token_sets::TokenSet;
+use crate::tree::{Access, Entry, ExprTree};
 use plain::{Boxed, Items};
 use policy_tokens::{Kind, Token};
 use std::alloc::Global;
+use token_readers::{Cursor, Halt, KindSet, Name, NameSet, PathTree, name_behind};
 
 /// "true" | "false" | Number | String
 #[tactic(auto, unfolding(crate::specs::ExpressionReading::literal))]
 fn literal(tokens: &mut Cursor<'_>) -> Result<ExprTree, Halt>
-    ensures { Gives (spec.literal tokens.old.rest.now) result tokens.new.rest.now }
+    ensures reads { Gives (spec.literal tokens.old.rest.now) result tokens.new.rest.now }
+    ensures only { IfErr result (λ why. why ≡ halt.Unexpected) }
 {
     if tokens.sees_one_of(TokenSet::Booleans) {
         let token = tokens.take_one_of(TokenSet::Booleans)?;
@@ -35,7 +36,8 @@ fn literal(tokens: &mut Cursor<'_>) -> Result<ExprTree, Halt>
 /// "[" String "]"
 #[tactic(auto, unfolding(crate::specs::ExpressionReading::indexed))]
 pub(crate) fn indexed(tokens: &mut Cursor<'_>) -> Result<Access<Items<ExprTree>>, Halt>
-    ensures { Gives (spec.indexed tokens.old.rest.now) result tokens.new.rest.now }
+    ensures reads { Gives (spec.indexed tokens.old.rest.now) result tokens.new.rest.now }
+    ensures only { IfErr result (λ why. why ≡ halt.Unexpected) }
 {
     tokens.take(Kind::LBracket)?;
     let name = tokens.take(Kind::Text)?;
@@ -46,7 +48,8 @@ pub(crate) fn indexed(tokens: &mut Cursor<'_>) -> Result<Access<Items<ExprTree>>
 /// A Path that no argument follows: the word of a variable, or nothing.
 #[tactic(auto, unfolding(crate::specs::ExpressionReading::alone))]
 fn alone(tokens: &Cursor<'_>, path: PathTree) -> Result<ExprTree, Halt>
-    ensures { Gives (spec.alone path tokens.now.rest.now) result tokens.now.rest.now }
+    ensures reads { Gives (spec.alone path tokens.now.rest.now) result tokens.now.rest.now }
+    ensures only { IfErr result (λ why. why ≡ halt.Unexpected) }
 {
     match path.more.as_slice() {
         [] if TokenSet::Variables.includes(path.first.kind) => Ok(ExprTree::Variable(path.first)),
@@ -76,7 +79,9 @@ impl<F: Fn(Global, &mut Cursor<'_>, usize) -> Result<ExprTree, Halt>> Reader<F> 
     #[tactic(auto, unfolding(crate::specs::ExpressionReading::next_argument))]
     fn next_argument(&self, tokens: &mut Cursor<'_>) -> Result<ExprTree, Halt>
         requires { Nests self.now.levels (F.pre self.now.expr) (F.post self.now.expr) }
-        ensures { Gives (spec.next_argument (is_positive self.now.levels) (spec.expr self.now.levels) tokens.old.rest.now) result tokens.new.rest.now }
+        ensures { Gives (spec.next_argument (is_positive self.now.levels) (spec.expr self.now.levels)
+            tokens.old.rest.now)
+            result tokens.new.rest.now }
     {
         tokens.take(Kind::Comma)?;
         self.inner(tokens)
@@ -88,7 +93,9 @@ impl<F: Fn(Global, &mut Cursor<'_>, usize) -> Result<ExprTree, Halt>> Reader<F> 
         first: ExprTree,
     ) -> Result<Items<ExprTree>, Halt>
         requires { Nests self.now.levels (F.pre self.now.expr) (F.post self.now.expr) }
-        ensures { Gives (spec.arguments_behind (is_positive self.now.levels) (spec.expr self.now.levels) first tokens.old.rest.now) result tokens.new.rest.now }
+        ensures { Gives (spec.arguments_behind (is_positive self.now.levels) (spec.expr self.now.levels)
+            first tokens.old.rest.now)
+            result tokens.new.rest.now }
     {
         let mut found = Items::new(self.alloc);
         found.push(first)?;
@@ -106,7 +113,8 @@ impl<F: Fn(Global, &mut Cursor<'_>, usize) -> Result<ExprTree, Halt>> Reader<F> 
     #[tactic(auto, unfolding(crate::specs::ExpressionReading::arguments))]
     fn arguments(&self, tokens: &mut Cursor<'_>) -> Result<Items<ExprTree>, Halt>
         requires { Nests self.now.levels (F.pre self.now.expr) (F.post self.now.expr) }
-        ensures { Gives (spec.arguments (is_positive self.now.levels) (spec.expr self.now.levels) tokens.old.rest.now) result tokens.new.rest.now }
+        ensures { Gives (spec.arguments (is_positive self.now.levels) (spec.expr self.now.levels) tokens.old.rest.now)
+            result tokens.new.rest.now }
     {
         if !tokens.sees_one_of(TokenSet::ExpressionStarts) {
             return Ok(Items::new(self.alloc));
@@ -119,7 +127,8 @@ impl<F: Fn(Global, &mut Cursor<'_>, usize) -> Result<ExprTree, Halt>> Reader<F> 
     #[tactic(auto, unfolding(crate::specs::ExpressionReading::called))]
     pub(crate) fn called(&self, tokens: &mut Cursor<'_>) -> Result<Items<ExprTree>, Halt>
         requires { Nests self.now.levels (F.pre self.now.expr) (F.post self.now.expr) }
-        ensures { Gives (spec.called (is_positive self.now.levels) (spec.expr self.now.levels) tokens.old.rest.now) result tokens.new.rest.now }
+        ensures { Gives (spec.called (is_positive self.now.levels) (spec.expr self.now.levels) tokens.old.rest.now)
+            result tokens.new.rest.now }
     {
         tokens.take(Kind::LParen)?;
         let found = self.arguments(tokens)?;
@@ -131,7 +140,8 @@ impl<F: Fn(Global, &mut Cursor<'_>, usize) -> Result<ExprTree, Halt>> Reader<F> 
     #[tactic(auto, unfolding(crate::specs::ExpressionReading::entry))]
     fn entry(&self, tokens: &mut Cursor<'_>) -> Result<Entry<ExprTree>, Halt>
         requires { Nests self.now.levels (F.pre self.now.expr) (F.post self.now.expr) }
-        ensures { Gives (spec.entry (is_positive self.now.levels) (spec.expr self.now.levels) tokens.old.rest.now) result tokens.new.rest.now }
+        ensures { Gives (spec.entry (is_positive self.now.levels) (spec.expr self.now.levels) tokens.old.rest.now)
+            result tokens.new.rest.now }
     {
         let key = tokens.take_one_of(TokenSet::Keys)?;
         tokens.take(Kind::Colon)?;
@@ -142,7 +152,8 @@ impl<F: Fn(Global, &mut Cursor<'_>, usize) -> Result<ExprTree, Halt>> Reader<F> 
     #[tactic(auto, unfolding(crate::specs::ExpressionReading::next_entry))]
     fn next_entry(&self, tokens: &mut Cursor<'_>) -> Result<Entry<ExprTree>, Halt>
         requires { Nests self.now.levels (F.pre self.now.expr) (F.post self.now.expr) }
-        ensures { Gives (spec.next_entry (is_positive self.now.levels) (spec.expr self.now.levels) tokens.old.rest.now) result tokens.new.rest.now }
+        ensures { Gives (spec.next_entry (is_positive self.now.levels) (spec.expr self.now.levels) tokens.old.rest.now)
+            result tokens.new.rest.now }
     {
         tokens.take(Kind::Comma)?;
         self.entry(tokens)
@@ -154,7 +165,9 @@ impl<F: Fn(Global, &mut Cursor<'_>, usize) -> Result<ExprTree, Halt>> Reader<F> 
         first: Entry<ExprTree>,
     ) -> Result<Items<Entry<ExprTree>>, Halt>
         requires { Nests self.now.levels (F.pre self.now.expr) (F.post self.now.expr) }
-        ensures { Gives (spec.entries_behind (is_positive self.now.levels) (spec.expr self.now.levels) first tokens.old.rest.now) result tokens.new.rest.now }
+        ensures { Gives (spec.entries_behind (is_positive self.now.levels) (spec.expr self.now.levels)
+            first tokens.old.rest.now)
+            result tokens.new.rest.now }
     {
         let mut found = Items::new(self.alloc);
         found.push(first)?;
@@ -172,7 +185,8 @@ impl<F: Fn(Global, &mut Cursor<'_>, usize) -> Result<ExprTree, Halt>> Reader<F> 
     #[tactic(auto, unfolding(crate::specs::ExpressionReading::entries))]
     fn entries(&self, tokens: &mut Cursor<'_>) -> Result<Items<Entry<ExprTree>>, Halt>
         requires { Nests self.now.levels (F.pre self.now.expr) (F.post self.now.expr) }
-        ensures { Gives (spec.entries (is_positive self.now.levels) (spec.expr self.now.levels) tokens.old.rest.now) result tokens.new.rest.now }
+        ensures { Gives (spec.entries (is_positive self.now.levels) (spec.expr self.now.levels) tokens.old.rest.now)
+            result tokens.new.rest.now }
     {
         if !tokens.sees_one_of(TokenSet::Keys) {
             return Ok(Items::new(self.alloc));
@@ -184,7 +198,9 @@ impl<F: Fn(Global, &mut Cursor<'_>, usize) -> Result<ExprTree, Halt>> Reader<F> 
     #[tactic(auto, unfolding(crate::specs::ExpressionReading::call_of))]
     fn call_of(&self, tokens: &mut Cursor<'_>, path: PathTree) -> Result<ExprTree, Halt>
         requires { Nests self.now.levels (F.pre self.now.expr) (F.post self.now.expr) }
-        ensures { Gives (spec.call_of (is_positive self.now.levels) (spec.expr self.now.levels) path tokens.old.rest.now) result tokens.new.rest.now }
+        ensures { Gives (spec.call_of (is_positive self.now.levels) (spec.expr self.now.levels) path
+            tokens.old.rest.now)
+            result tokens.new.rest.now }
     {
         let found = self.called(tokens)?;
         Ok(ExprTree::Call(path, found))
@@ -193,7 +209,9 @@ impl<F: Fn(Global, &mut Cursor<'_>, usize) -> Result<ExprTree, Halt>> Reader<F> 
     #[tactic(auto, unfolding(crate::specs::ExpressionReading::call_or_variable))]
     fn call_or_variable(&self, tokens: &mut Cursor<'_>, path: PathTree) -> Result<ExprTree, Halt>
         requires { Nests self.now.levels (F.pre self.now.expr) (F.post self.now.expr) }
-        ensures { Gives (spec.call_or_variable (is_positive self.now.levels) (spec.expr self.now.levels) path tokens.old.rest.now) result tokens.new.rest.now }
+        ensures { Gives (spec.call_or_variable (is_positive self.now.levels) (spec.expr self.now.levels)
+            path tokens.old.rest.now)
+            result tokens.new.rest.now }
     {
         if !tokens.sees(Kind::LParen) {
             return alone(tokens, path);
@@ -207,7 +225,9 @@ impl<F: Fn(Global, &mut Cursor<'_>, usize) -> Result<ExprTree, Halt>> Reader<F> 
     #[tactic(auto, unfolding(crate::specs::ExpressionReading::named_behind))]
     fn named_behind(&self, tokens: &mut Cursor<'_>, first: Token) -> Result<ExprTree, Halt>
         requires { Nests self.now.levels (F.pre self.now.expr) (F.post self.now.expr) }
-        ensures { Gives (spec.named_behind (is_positive self.now.levels) (spec.expr self.now.levels) first tokens.old.rest.now) result tokens.new.rest.now }
+        ensures { Gives (spec.named_behind (is_positive self.now.levels) (spec.expr self.now.levels)
+            first tokens.old.rest.now)
+            result tokens.new.rest.now }
     {
         match name_behind(self.alloc, tokens, first)? {
             Name::Uid(uid) => Ok(ExprTree::Uid(uid)),
@@ -219,9 +239,10 @@ impl<F: Fn(Global, &mut Cursor<'_>, usize) -> Result<ExprTree, Halt>> Reader<F> 
     #[tactic(auto, unfolding(crate::specs::ExpressionReading::named))]
     fn named(&self, tokens: &mut Cursor<'_>) -> Result<ExprTree, Halt>
         requires { Nests self.now.levels (F.pre self.now.expr) (F.post self.now.expr) }
-        ensures { Gives (spec.named (is_positive self.now.levels) (spec.expr self.now.levels) tokens.old.rest.now) result tokens.new.rest.now }
+        ensures { Gives (spec.named (is_positive self.now.levels) (spec.expr self.now.levels) tokens.old.rest.now)
+            result tokens.new.rest.now }
     {
-        let first = tokens.take_one_of(TokenSet::Identifiers)?;
+        let first = tokens.take_one_of(NameSet::Identifiers)?;
         self.named_behind(tokens, first)
     }
 
@@ -229,7 +250,9 @@ impl<F: Fn(Global, &mut Cursor<'_>, usize) -> Result<ExprTree, Halt>> Reader<F> 
     #[tactic(auto, unfolding(crate::specs::ExpressionReading::parenthesized))]
     fn parenthesized(&self, tokens: &mut Cursor<'_>) -> Result<ExprTree, Halt>
         requires { Nests self.now.levels (F.pre self.now.expr) (F.post self.now.expr) }
-        ensures { Gives (spec.parenthesized (is_positive self.now.levels) (spec.expr self.now.levels) tokens.old.rest.now) result tokens.new.rest.now }
+        ensures { Gives (spec.parenthesized (is_positive self.now.levels) (spec.expr self.now.levels)
+            tokens.old.rest.now)
+            result tokens.new.rest.now }
     {
         tokens.take(Kind::LParen)?;
         let x = self.inner(tokens)?;
@@ -242,7 +265,8 @@ impl<F: Fn(Global, &mut Cursor<'_>, usize) -> Result<ExprTree, Halt>> Reader<F> 
     #[tactic(auto, unfolding(crate::specs::ExpressionReading::set))]
     fn set(&self, tokens: &mut Cursor<'_>) -> Result<ExprTree, Halt>
         requires { Nests self.now.levels (F.pre self.now.expr) (F.post self.now.expr) }
-        ensures { Gives (spec.set (is_positive self.now.levels) (spec.expr self.now.levels) tokens.old.rest.now) result tokens.new.rest.now }
+        ensures { Gives (spec.set (is_positive self.now.levels) (spec.expr self.now.levels) tokens.old.rest.now)
+            result tokens.new.rest.now }
     {
         tokens.take(Kind::LBracket)?;
         let found = self.arguments(tokens)?;
@@ -254,7 +278,8 @@ impl<F: Fn(Global, &mut Cursor<'_>, usize) -> Result<ExprTree, Halt>> Reader<F> 
     #[tactic(auto, unfolding(crate::specs::ExpressionReading::braced))]
     fn braced(&self, tokens: &mut Cursor<'_>) -> Result<ExprTree, Halt>
         requires { Nests self.now.levels (F.pre self.now.expr) (F.post self.now.expr) }
-        ensures { Gives (spec.braced (is_positive self.now.levels) (spec.expr self.now.levels) tokens.old.rest.now) result tokens.new.rest.now }
+        ensures { Gives (spec.braced (is_positive self.now.levels) (spec.expr self.now.levels) tokens.old.rest.now)
+            result tokens.new.rest.now }
     {
         tokens.take(Kind::LBrace)?;
         let found = self.entries(tokens)?;
@@ -265,7 +290,8 @@ impl<F: Fn(Global, &mut Cursor<'_>, usize) -> Result<ExprTree, Halt>> Reader<F> 
     #[tactic(auto, unfolding(crate::specs::ExpressionReading::nested))]
     fn nested(&self, tokens: &mut Cursor<'_>) -> Result<ExprTree, Halt>
         requires { Nests self.now.levels (F.pre self.now.expr) (F.post self.now.expr) }
-        ensures { Gives (spec.nested (is_positive self.now.levels) (spec.expr self.now.levels) tokens.old.rest.now) result tokens.new.rest.now }
+        ensures { Gives (spec.nested (is_positive self.now.levels) (spec.expr self.now.levels) tokens.old.rest.now)
+            result tokens.new.rest.now }
     {
         if tokens.sees(Kind::LParen) {
             return self.parenthesized(tokens);
@@ -280,9 +306,10 @@ impl<F: Fn(Global, &mut Cursor<'_>, usize) -> Result<ExprTree, Halt>> Reader<F> 
     #[tactic(auto, unfolding(crate::specs::ExpressionReading::primary))]
     pub(crate) fn primary(&self, tokens: &mut Cursor<'_>) -> Result<ExprTree, Halt>
         requires { Nests self.now.levels (F.pre self.now.expr) (F.post self.now.expr) }
-        ensures { Gives (spec.primary (is_positive self.now.levels) (spec.expr self.now.levels) tokens.old.rest.now) result tokens.new.rest.now }
+        ensures { Gives (spec.primary (is_positive self.now.levels) (spec.expr self.now.levels) tokens.old.rest.now)
+            result tokens.new.rest.now }
     {
-        if tokens.sees_one_of(TokenSet::Identifiers) {
+        if tokens.sees_one_of(NameSet::Identifiers) {
             return self.named(tokens);
         }
         if !tokens.sees_one_of(TokenSet::Openers) {

@@ -1,39 +1,19 @@
 //! Whole lists of tokens.
 
-ghost use Rattle.std.specs.Prelude.{◌≡◌, ◌-◌, IfOk, length};
+ghost use Rattle.std.specs.Prelude.{IfOk};
 ghost use Rattle.expression_syntax.specs.Expressions as grammar;
-ghost use Rattle.expression_syntax.specs.Reads.{ReadsWithin, refusal_of};
+ghost use Rattle.token_readers.specs.Reads.{ReadsWithin};
 ghost use Rattle.expression_syntax.specs.Stands.{ExprStands};
 
-use crate::cursor::{Cursor, TokenSet};
 use crate::expression::expr;
-use crate::fault::{Halt, SyntaxFault};
 use crate::tree::ExprTree;
 use policy_tokens::Token;
 use std::alloc::Global;
+use token_readers::{Cursor, Halt, SyntaxFault, refusal};
 
 /// The most levels that expressions nest: an expression's own, and one more for what stands in
 /// parentheses, brackets, braces or call arguments, and for each part of an `if`.
 pub const NESTING_LIMIT: usize = 64;
-
-/// The refusal of the tokens where reading halted: its place is that of the first token that is
-/// left, or their count where none is.
-pub fn refusal(tokens: &[Token], cursor: &Cursor<'_>, halt: Halt) -> SyntaxFault
-    ensures { result ≡ refusal_of halt (length tokens.now - length cursor.now.rest.now) cursor.now.rest.now }
-{
-    let place = tokens.len().saturating_sub(cursor.left());
-    match halt {
-        Halt::NoMemory => SyntaxFault::NoMemory,
-        Halt::TooDeep => SyntaxFault::TooDeep(place),
-        Halt::Unexpected => {
-            if cursor.sees_one_of(TokenSet::Slots) {
-                SyntaxFault::Slot(place)
-            } else {
-                SyntaxFault::Unexpected(place)
-            }
-        }
-    }
-}
 
 /// The expression that the tokens are, or the first token with which no expression goes on. Where
 /// one would go on but for the limit on nesting, the token is too deep. The tree is made of the

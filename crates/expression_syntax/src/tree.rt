@@ -1,28 +1,6 @@
 use plain::{Boxed, Items};
 use policy_tokens::Token;
-
-/// The words of a name: a Path.
-#[derive(Drop)]
-pub struct PathTree {
-    pub first: Token,
-    /// Those behind each `::`.
-    pub more: Items<Token>,
-}
-
-/// An entity, by its type's name and its quoted id.
-#[derive(Drop)]
-pub struct UidTree {
-    pub path: PathTree,
-    /// A quoted text without `\*`.
-    pub id: Token,
-}
-
-/// A Path or a Uid, which begin alike.
-#[derive(Drop)]
-pub(crate) enum Name {
-    Path(PathTree),
-    Uid(UidTree),
-}
+use token_readers::{PathTree, UidTree};
 
 /// What is asked of the expression before it. `A` is a call's list of arguments.
 #[derive(Drop)]

@@ -3,8 +3,8 @@ use Rattle.std.proofs.Common.{◌≡◌, ℕ, suc, ◌≤◌, true, false, List,
 use Rattle.policy_tokens.specs.declared.token.Token.{Token}
 use Rattle.policy_tokens.specs.declared.token.Kind.{Kind}
 use Rattle.policy_tokens.specs.declared.token.Kind.TheVariants as k
-use Rattle.expression_syntax.specs.declared.tree.PathTree.{PathTree}
-use Rattle.expression_syntax.specs.declared.tree.UidTree.{UidTree}
+use Rattle.token_readers.specs.declared.tree.PathTree.{PathTree}
+use Rattle.token_readers.specs.declared.tree.UidTree.{UidTree}
 use Rattle.policy_syntax.specs.declared.tree.Annotation.{Annotation}
 use Rattle.policy_syntax.specs.declared.tree.PartTree.{PartTree}
 use Rattle.policy_syntax.specs.declared.tree.PartTree.TheVariants as part
@@ -14,27 +14,26 @@ use Rattle.policy_syntax.specs.declared.tree.ScopeTree.{ScopeTree}
 use Rattle.expression_syntax.specs.declared.tree.ExprTree.{ExprTree}
 use Rattle.policy_syntax.specs.declared.tree.Condition.{Condition}
 use Rattle.policy_syntax.specs.declared.tree.PolicyTree.{PolicyTree}
-use Rattle.expression_syntax.specs.Kinds.{Kinds, only, same_kind}
-use Rattle.expression_syntax.specs.Lang.{Lang}
-use Rattle.expression_syntax.specs.Lang as lang
+use Rattle.token_readers.specs.Kinds.{Kinds, only, same_kind}
+use Rattle.token_readers.specs.Lang.{Lang}
+use Rattle.token_readers.specs.Lang as lang
 use Rattle.policy_syntax.specs.Grammar as g
 use Rattle.policy_syntax.specs.Grammar.{identifiers, words, effects, condition_words, is_in}
 use Rattle.expression_syntax.specs.Expressions.{expr}
 use Rattle.expression_syntax.specs.ExpressionReading as expressions
-use Rattle.expression_syntax.proofs.Follows.{after_expr}
-use Rattle.expression_syntax.proofs.ExpressionRules.{expr_rule, alive_expr}
-use Rattle.expression_syntax.proofs.Depths.{levels}
-use Rattle.expression_syntax.specs.Reads.{Begins, sees}
-use Rattle.expression_syntax.specs.Reading.{Parser, pure, either, ◌>>=◌}
-use Rattle.policy_syntax.specs.Parsing as r
-use Rattle.policy_syntax.specs.Parsing.{policy_firsts}
-use Rattle.expression_syntax.proofs.Sets.{apart, within, wide_sees, sees-append}
-use Rattle.expression_syntax.proofs.Rules.{Rule, Levels}
-use Rattle.expression_syntax.proofs.Forms.{Starts, Leads, of, one, nothing, or, starts_of, starts_both, leads_empty, leads_or, leads_both, leads_many, leads_maybe, alive_empty, alive_right, begin_of}
-use Rattle.expression_syntax.proofs.More.{maybe}
-use Rattle.expression_syntax.proofs.Many.{each, alive_many}
-use Rattle.expression_syntax.proofs.Steps.{none, seq, free, behind, go, go_one, alive_maybe, leads_first, leads_one, starts_one}
-use Rattle.expression_syntax.proofs.NameRules.{after_name, path_rule, alive_path, uid_rule, starts_uid, alive_uid}
+use Rattle.expression_syntax.proofs.Published.{after_expr, expr_rule, alive_expr}
+use Rattle.token_readers.proofs.Depths.{levels}
+use Rattle.token_readers.specs.Reads.{Begins, sees}
+use Rattle.token_readers.specs.Reading.{Parser, pure, either, ◌>>=◌}
+use Rattle.policy_syntax.specs.inner.Parsing as r
+use Rattle.policy_syntax.specs.inner.Parsing.{policy_firsts}
+use Rattle.token_readers.proofs.Sets.{apart, within, wide_sees, sees-append}
+use Rattle.token_readers.proofs.Rules.{Rule, Levels}
+use Rattle.token_readers.proofs.Forms.{Starts, Leads, of, one, nothing, or, starts_of, starts_both, leads_empty, leads_or, leads_both, leads_many, leads_maybe, alive_empty, alive_right, begin_of}
+use Rattle.token_readers.proofs.More.{maybe}
+use Rattle.token_readers.proofs.Many.{each, alive_many}
+use Rattle.token_readers.proofs.Steps.{none, seq, free, behind, go, go_one, alive_maybe, leads_first, leads_one, starts_one}
+use Rattle.token_readers.proofs.NameRules.{after_name, path_rule, alive_path, uid_rule, starts_uid, alive_uid}
 
 -- ---- principal and resource
 

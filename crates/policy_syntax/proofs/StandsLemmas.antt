@@ -4,19 +4,19 @@ use Rattle.std.specs.List.{AllByRecursion}
 use Rattle.policy_tokens.specs.declared.token.Kind.{Kind}
 use Rattle.policy_tokens.specs.declared.token.Kind.TheVariants as k
 use Rattle.policy_tokens.specs.declared.token.Token.{Token}
-use Rattle.expression_syntax.specs.declared.tree.PathTree.{PathTree}
-use Rattle.expression_syntax.specs.declared.tree.UidTree.{UidTree}
+use Rattle.token_readers.specs.declared.tree.PathTree.{PathTree}
+use Rattle.token_readers.specs.declared.tree.UidTree.{UidTree}
 use Rattle.policy_syntax.specs.declared.tree.PartTree.TheVariants as part
 use Rattle.policy_syntax.specs.declared.tree.ActionTree.TheVariants as action
 use Rattle.policy_syntax.specs.declared.tree.ScopeTree.{ScopeTree}
 use Rattle.policy_syntax.specs.declared.tree.PolicyTree.{PolicyTree}
-use Rattle.expression_syntax.specs.Kinds.{only}
-use Rattle.expression_syntax.specs.Lang as lang
+use Rattle.token_readers.specs.Kinds.{only}
+use Rattle.token_readers.specs.Lang as lang
 use Rattle.policy_syntax.specs.Grammar as g
 use Rattle.policy_syntax.specs.Grammar.{identifiers, words, effects, condition_words, is_in}
 use Rattle.policy_syntax.specs.Stands.{PathStands, UidStands, ValueStands, AnnotationStands, PartStands, ActionStands, ConditionStands, PolicyStands}
-use Rattle.expression_syntax.proofs.StandsLemmas.{Makes, token_in, nothing_in, both_in, past_in, giving_in, or_in, maybe_in, many_in, path_in, uid_in}
-use Rattle.expression_syntax.proofs.ExpressionStands.{expr_in}
+use Rattle.token_readers.proofs.StandsLemmas.{Makes, token_in, nothing_in, both_in, past_in, giving_in, or_in, maybe_in, many_in, path_in, uid_in}
+use Rattle.expression_syntax.proofs.Published.{expr_in}
 
 module _ (all : List Token) where
   text_in : Makes all (lang.optional (lang.one k.Text)) (ValueStands all)

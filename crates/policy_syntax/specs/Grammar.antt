@@ -1,13 +1,13 @@
 -- The grammar of policies, over tokens: which trees a list of tokens derives. One definition for each production.
--- Source: Cedar reference guide 4.0, "Grammar specification for Cedar policy syntax". Rules of this product: `__cedar` is reserved too,
--- and so is no Ident; an annotation's value may be missing, with its parentheses or between them.
+-- Source: Cedar reference guide 4.0, "Grammar specification for Cedar policy syntax". Rules of this product: `__cedar`
+-- is reserved too, and so is no Ident; an annotation's value may be missing, with its parentheses or between them.
 use Rattle.std.specs.Prelude.{ℕ, true, false, ◌||◌, List, [], ◌∷◌, Option, Some, None}
 use Rattle.policy_tokens.specs.declared.token.Kind.{Kind}
 use Rattle.policy_tokens.specs.declared.token.Kind.TheVariants as k
 use Rattle.policy_tokens.specs.declared.token.Token.{Token}
 use Rattle.policy_tokens.specs.Idents.{is_reserved}
-use Rattle.expression_syntax.specs.declared.tree.PathTree.{PathTree}
-use Rattle.expression_syntax.specs.declared.tree.UidTree.{UidTree}
+use Rattle.token_readers.specs.declared.tree.PathTree.{PathTree}
+use Rattle.token_readers.specs.declared.tree.UidTree.{UidTree}
 use Rattle.policy_syntax.specs.declared.tree.Annotation.{Annotation}
 use Rattle.policy_syntax.specs.declared.tree.PartTree.{PartTree}
 use Rattle.policy_syntax.specs.declared.tree.PartTree.TheVariants as part
@@ -16,10 +16,10 @@ use Rattle.policy_syntax.specs.declared.tree.ActionTree.TheVariants as action
 use Rattle.policy_syntax.specs.declared.tree.ScopeTree.{ScopeTree}
 use Rattle.policy_syntax.specs.declared.tree.Condition.{Condition}
 use Rattle.policy_syntax.specs.declared.tree.PolicyTree.{PolicyTree}
-use Rattle.expression_syntax.specs.Kinds.{Kinds}
-pub use Rattle.expression_syntax.specs.Grammar.{identifiers, path, uid}
+use Rattle.token_readers.specs.Kinds.{Kinds}
+pub use Rattle.token_readers.specs.Grammar.{identifiers, path, uid}
 use Rattle.expression_syntax.specs.Expressions.{expr}
-use Rattle.expression_syntax.specs.Lang.{Lang, of, one, empty, ◌>>=◌, ◌>>◌, ◌giving◌, ◌or◌, optional, many}
+use Rattle.token_readers.specs.Lang.{Lang, of, one, empty, ◌>>=◌, ◌>>◌, ◌giving◌, ◌or◌, optional, many}
 
 -- Ident | Reserved
 abbrev pub words : Kinds
@@ -136,7 +136,14 @@ module _ (levels : ℕ) where
     one k.RParen
     conditions ← many condition
     one k.Semicolon
-    empty (record { annotations = annotations; effect = effect; principal = found.principal; action = found.action; resource = found.resource; conditions = conditions })
+    empty (record {
+      annotations = annotations;
+      effect = effect;
+      principal = found.principal;
+      action = found.action;
+      resource = found.resource;
+      conditions = conditions;
+    })
 
   -- a file: any number of policies
   abbrev pub policies : Lang (List PolicyTree)

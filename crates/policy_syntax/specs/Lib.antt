@@ -1,4 +1,3 @@
 pub mod Grammar
 pub mod Stands
-pub mod Parsing
-pub mod Included
+pub mod inner

@@ -10,7 +10,7 @@ use Rattle.policy_syntax.specs.declared.tree.ActionTree.{ActionTree}
 use Rattle.policy_syntax.specs.declared.tree.ActionTree.TheVariants as action
 use Rattle.policy_syntax.specs.declared.tree.Condition.{Condition}
 use Rattle.policy_syntax.specs.declared.tree.PolicyTree.{PolicyTree}
-use Rattle.expression_syntax.specs.Kinds.{only}
+use Rattle.token_readers.specs.Kinds.{only}
 pub use Rattle.expression_syntax.specs.Stands.{TokenStands, PathStands, UidStands, ExprStands}
 use Rattle.policy_syntax.specs.Grammar.{words, effects, condition_words}
 

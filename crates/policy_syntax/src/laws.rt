@@ -1,11 +1,11 @@
 // Laws of the definitions.
 ghost use Rattle.policy_syntax.specs.Grammar.{policy, policies, uid};
 ghost use Rattle.expression_syntax.specs.Expressions.{nesting_limit};
-ghost use Rattle.expression_syntax.specs.Lang.{at_any};
-ghost use Rattle.expression_syntax.specs.Reads.{HasOneTree, HasOneAnswer, HasOneAnswerWithin};
+ghost use Rattle.token_readers.specs.Lang.{at_any};
+ghost use Rattle.token_readers.specs.Reads.{HasOneTree, HasOneAnswer, HasOneAnswerWithin, OpensNextLevel};
 
-/// That a list of tokens is read in one way: it does nothing, and its clauses are laws of the
-/// definitions.
+/// That a list of tokens comes to one tree or one refusal, and that a token which is too deep opens
+/// the first level past the limit: it does nothing, and its clauses are laws of the definitions.
 pub fn reading_is_unique()
     ensures one_policy { HasOneTree (policy nesting_limit) }
     ensures one_list { HasOneTree (policies nesting_limit) }
@@ -13,4 +13,6 @@ pub fn reading_is_unique()
     ensures policy_answer { HasOneAnswerWithin (policy nesting_limit) (at_any policy) }
     ensures list_answer { HasOneAnswerWithin (policies nesting_limit) (at_any policies) }
     ensures uid_answer { HasOneAnswer uid }
+    ensures policy_too_deep { OpensNextLevel policy nesting_limit }
+    ensures list_too_deep { OpensNextLevel policies nesting_limit }
 {}

@@ -4,9 +4,9 @@
 //! derives; else it is refused at the first token with which nothing goes on.
 #![tactic(auto)]
 
-mod cursor;
 mod laws;
 mod policy;
+mod policy_sets;
 mod read;
 mod scope;
 mod tree;

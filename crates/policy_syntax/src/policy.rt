@@ -1,20 +1,24 @@
 //! Annotations and policies.
 
-ghost use Rattle.expression_syntax.specs.Gives.{Gives};
+ghost use Rattle.std.specs.Prelude.{◌≡◌, IfErr};
+ghost use Rattle.token_readers.specs.Gives.{Gives};
+ghost use Rattle.token_readers.specs.declared.fault.Halt.TheVariants as halt;
 ghost use Rattle.expression_syntax.specs.Expressions.{nesting_limit};
-ghost use Rattle.policy_syntax.specs.Parsing as spec;
+ghost use Rattle.policy_syntax.specs.inner.Parsing as spec;
 
-use crate::cursor::{PolicySet, sees_one_of, take_one_of};
+use crate::policy_sets::PolicySet;
 use crate::scope::scope;
 use crate::tree::{Annotation, Condition, PolicyTree, ScopeTree};
-use expression_syntax::{Cursor, Halt, NESTING_LIMIT, beside, expr};
+use expression_syntax::{NESTING_LIMIT, beside, expr};
 use plain::Items;
 use policy_tokens::{Kind, Token};
 use std::alloc::Global;
+use token_readers::{Cursor, Halt};
 
-#[tactic(auto, unfolding(crate::specs::Parsing::maybe_text))]
+#[tactic(auto, unfolding(crate::specs::inner::Parsing::maybe_text))]
 fn maybe_text(tokens: &mut Cursor<'_>) -> Result<Option<Token>, Halt>
-    ensures { Gives (spec.maybe_text tokens.old.rest.now) result tokens.new.rest.now }
+    ensures reads { Gives (spec.maybe_text tokens.old.rest.now) result tokens.new.rest.now }
+    ensures only { IfErr result (λ why. why ≡ halt.Unexpected) }
 {
     if !tokens.sees(Kind::Text) {
         return Ok(None);
@@ -24,9 +28,10 @@ fn maybe_text(tokens: &mut Cursor<'_>) -> Result<Option<Token>, Halt>
 }
 
 /// "(" [ String ] ")"
-#[tactic(auto, unfolding(crate::specs::Parsing::annotation_value))]
+#[tactic(auto, unfolding(crate::specs::inner::Parsing::annotation_value))]
 fn annotation_value(tokens: &mut Cursor<'_>) -> Result<Option<Token>, Halt>
-    ensures { Gives (spec.annotation_value tokens.old.rest.now) result tokens.new.rest.now }
+    ensures reads { Gives (spec.annotation_value tokens.old.rest.now) result tokens.new.rest.now }
+    ensures only { IfErr result (λ why. why ≡ halt.Unexpected) }
 {
     tokens.take(Kind::LParen)?;
     let text = maybe_text(tokens)?;
@@ -34,9 +39,10 @@ fn annotation_value(tokens: &mut Cursor<'_>) -> Result<Option<Token>, Halt>
     Ok(text)
 }
 
-#[tactic(auto, unfolding(crate::specs::Parsing::maybe_value))]
+#[tactic(auto, unfolding(crate::specs::inner::Parsing::maybe_value))]
 fn maybe_value(tokens: &mut Cursor<'_>) -> Result<Option<Token>, Halt>
-    ensures { Gives (spec.maybe_value tokens.old.rest.now) result tokens.new.rest.now }
+    ensures reads { Gives (spec.maybe_value tokens.old.rest.now) result tokens.new.rest.now }
+    ensures only { IfErr result (λ why. why ≡ halt.Unexpected) }
 {
     if !tokens.sees(Kind::LParen) {
         return Ok(None);
@@ -45,12 +51,13 @@ fn maybe_value(tokens: &mut Cursor<'_>) -> Result<Option<Token>, Halt>
 }
 
 /// Annotation = "@" (Ident | Reserved) [ "(" [ String ] ")" ]
-#[tactic(auto, unfolding(crate::specs::Parsing::annotation))]
+#[tactic(auto, unfolding(crate::specs::inner::Parsing::annotation))]
 fn annotation(tokens: &mut Cursor<'_>) -> Result<Annotation, Halt>
-    ensures { Gives (spec.annotation tokens.old.rest.now) result tokens.new.rest.now }
+    ensures reads { Gives (spec.annotation tokens.old.rest.now) result tokens.new.rest.now }
+    ensures only { IfErr result (λ why. why ≡ halt.Unexpected) }
 {
     let at = tokens.take(Kind::At)?;
-    let key = take_one_of(tokens, PolicySet::Words)?;
+    let key = tokens.take_one_of(PolicySet::Words)?;
     let value = maybe_value(tokens)?;
     Ok(Annotation { at, key, value })
 }
@@ -70,11 +77,11 @@ fn annotations(alloc: Global, tokens: &mut Cursor<'_>) -> Result<Items<Annotatio
 }
 
 /// ("when" | "unless") "{" Expr "}"
-#[tactic(auto, unfolding(crate::specs::Parsing::condition))]
+#[tactic(auto, unfolding(crate::specs::inner::Parsing::condition))]
 fn condition(alloc: Global, tokens: &mut Cursor<'_>) -> Result<Condition, Halt>
     ensures { Gives (spec.condition nesting_limit tokens.old.rest.now) result tokens.new.rest.now }
 {
-    let word = take_one_of(tokens, PolicySet::ConditionWords)?;
+    let word = tokens.take_one_of(PolicySet::ConditionWords)?;
     tokens.take(Kind::LBrace)?;
     let expression = expr(alloc, tokens, NESTING_LIMIT)?;
     let (expression, _closed) = beside(expression, tokens.take(Kind::RBrace))?;
@@ -86,7 +93,7 @@ fn conditions(alloc: Global, tokens: &mut Cursor<'_>) -> Result<Items<Condition>
 {
     let mut found = Items::new(alloc);
     for _turn in 0..tokens.left() {
-        if !sees_one_of(tokens, PolicySet::ConditionWords) {
+        if !tokens.sees_one_of(PolicySet::ConditionWords) {
             return Ok(found);
         }
         let next = condition(alloc, tokens)?;
@@ -96,7 +103,7 @@ fn conditions(alloc: Global, tokens: &mut Cursor<'_>) -> Result<Items<Condition>
 }
 
 /// What stands behind a policy's scope.
-#[tactic(auto, unfolding(crate::specs::Parsing::policy_of))]
+#[tactic(auto, unfolding(crate::specs::inner::Parsing::policy_of))]
 fn policy_of(
     alloc: Global,
     tokens: &mut Cursor<'_>,
@@ -104,7 +111,8 @@ fn policy_of(
     effect: Token,
     found: ScopeTree,
 ) -> Result<PolicyTree, Halt>
-    ensures { Gives (spec.policy_of nesting_limit annotations effect found tokens.old.rest.now) result tokens.new.rest.now }
+    ensures { Gives (spec.policy_of nesting_limit annotations effect found tokens.old.rest.now)
+        result tokens.new.rest.now }
 {
     let (kept, _closed) = beside((annotations, found), tokens.take(Kind::RParen))?;
     let (kept, conditions) = beside(kept, conditions(alloc, tokens))?;
@@ -121,12 +129,12 @@ fn policy_of(
 }
 
 /// Policy = { Annotation } Effect "(" Scope ")" { Condition } ";"
-#[tactic(auto, unfolding(crate::specs::Parsing::policy))]
+#[tactic(auto, unfolding(crate::specs::inner::Parsing::policy))]
 pub(crate) fn policy(alloc: Global, tokens: &mut Cursor<'_>) -> Result<PolicyTree, Halt>
     ensures { Gives (spec.policy nesting_limit tokens.old.rest.now) result tokens.new.rest.now }
 {
     let annotations = annotations(alloc, tokens)?;
-    let effect = take_one_of(tokens, PolicySet::Effects)?;
+    let effect = tokens.take_one_of(PolicySet::Effects)?;
     tokens.take(Kind::LParen)?;
     let found = scope(alloc, tokens)?;
     policy_of(alloc, tokens, annotations, effect, found)
@@ -138,7 +146,7 @@ pub(crate) fn policies(alloc: Global, tokens: &mut Cursor<'_>) -> Result<Items<P
 {
     let mut found = Items::new(alloc);
     for _turn in 0..tokens.left() {
-        if !sees_one_of(tokens, PolicySet::PolicyStarts) {
+        if !tokens.sees_one_of(PolicySet::PolicyStarts) {
             return Ok(found);
         }
         let next = policy(alloc, tokens)?;

@@ -1,16 +1,17 @@
 //! The parts of a scope.
 
-ghost use Rattle.expression_syntax.specs.Gives.{Gives};
-ghost use Rattle.policy_syntax.specs.Parsing as spec;
+ghost use Rattle.token_readers.specs.Gives.{Gives};
+ghost use Rattle.policy_syntax.specs.inner.Parsing as spec;
 
 use crate::tree::{ActionTree, PartTree, ScopeTree};
-use expression_syntax::{Cursor, Halt, TokenSet, UidTree, beside, path, uid};
+use expression_syntax::beside;
 use plain::Items;
 use policy_tokens::Kind;
 use std::alloc::Global;
+use token_readers::{Cursor, Halt, NameSet, UidTree, path, uid};
 
 /// "==" Uid
-#[tactic(auto, unfolding(crate::specs::Parsing::equal_uid))]
+#[tactic(auto, unfolding(crate::specs::inner::Parsing::equal_uid))]
 fn equal_uid(alloc: Global, tokens: &mut Cursor<'_>) -> Result<UidTree, Halt>
     ensures { Gives (spec.equal_uid tokens.old.rest.now) result tokens.new.rest.now }
 {
@@ -19,7 +20,7 @@ fn equal_uid(alloc: Global, tokens: &mut Cursor<'_>) -> Result<UidTree, Halt>
 }
 
 /// "in" Uid
-#[tactic(auto, unfolding(crate::specs::Parsing::in_uid))]
+#[tactic(auto, unfolding(crate::specs::inner::Parsing::in_uid))]
 fn in_uid(alloc: Global, tokens: &mut Cursor<'_>) -> Result<UidTree, Halt>
     ensures { Gives (spec.in_uid tokens.old.rest.now) result tokens.new.rest.now }
 {
@@ -28,7 +29,7 @@ fn in_uid(alloc: Global, tokens: &mut Cursor<'_>) -> Result<UidTree, Halt>
 }
 
 /// "is" Path [ "in" Uid ]
-#[tactic(auto, unfolding(crate::specs::Parsing::of_type))]
+#[tactic(auto, unfolding(crate::specs::inner::Parsing::of_type))]
 fn of_type(alloc: Global, tokens: &mut Cursor<'_>) -> Result<PartTree, Halt>
     ensures { Gives (spec.of_type tokens.old.rest.now) result tokens.new.rest.now }
 {
@@ -42,7 +43,7 @@ fn of_type(alloc: Global, tokens: &mut Cursor<'_>) -> Result<PartTree, Halt>
 }
 
 /// [ "==" Uid | "in" Uid | "is" Path [ "in" Uid ] ]
-#[tactic(auto, unfolding(crate::specs::Parsing::entity_constraint))]
+#[tactic(auto, unfolding(crate::specs::inner::Parsing::entity_constraint))]
 fn entity_constraint(alloc: Global, tokens: &mut Cursor<'_>) -> Result<PartTree, Halt>
     ensures { Gives (spec.entity_constraint tokens.old.rest.now) result tokens.new.rest.now }
 {
@@ -61,7 +62,7 @@ fn entity_constraint(alloc: Global, tokens: &mut Cursor<'_>) -> Result<PartTree,
 }
 
 /// The variable and its constraint: Principal or Resource.
-#[tactic(auto, unfolding(crate::specs::Parsing::entity_part))]
+#[tactic(auto, unfolding(crate::specs::inner::Parsing::entity_part))]
 fn entity_part(alloc: Global, tokens: &mut Cursor<'_>, variable: Kind) -> Result<PartTree, Halt>
     ensures { Gives (spec.entity_part variable tokens.old.rest.now) result tokens.new.rest.now }
 {
@@ -69,7 +70,7 @@ fn entity_part(alloc: Global, tokens: &mut Cursor<'_>, variable: Kind) -> Result
     entity_constraint(alloc, tokens)
 }
 
-#[tactic(auto, unfolding(crate::specs::Parsing::comma_uid))]
+#[tactic(auto, unfolding(crate::specs::inner::Parsing::comma_uid))]
 fn comma_uid(alloc: Global, tokens: &mut Cursor<'_>) -> Result<UidTree, Halt>
     ensures { Gives (spec.comma_uid tokens.old.rest.now) result tokens.new.rest.now }
 {
@@ -97,18 +98,18 @@ fn uids_behind(
 }
 
 /// [ Uid { "," Uid } ]
-#[tactic(auto, unfolding(crate::specs::Parsing::uids))]
+#[tactic(auto, unfolding(crate::specs::inner::Parsing::uids))]
 fn uids(alloc: Global, tokens: &mut Cursor<'_>) -> Result<Items<UidTree>, Halt>
     ensures { Gives (spec.uids tokens.old.rest.now) result tokens.new.rest.now }
 {
-    if !tokens.sees_one_of(TokenSet::Identifiers) {
+    if !tokens.sees_one_of(NameSet::Identifiers) {
         return Ok(Items::new(alloc));
     }
     let first = uid(alloc, tokens)?;
     uids_behind(alloc, tokens, first)
 }
 
-#[tactic(auto, unfolding(crate::specs::Parsing::uid_list))]
+#[tactic(auto, unfolding(crate::specs::inner::Parsing::uid_list))]
 fn uid_list(alloc: Global, tokens: &mut Cursor<'_>) -> Result<ActionTree, Halt>
     ensures { Gives (spec.uid_list tokens.old.rest.now) result tokens.new.rest.now }
 {
@@ -118,7 +119,7 @@ fn uid_list(alloc: Global, tokens: &mut Cursor<'_>) -> Result<ActionTree, Halt>
     Ok(ActionTree::InList(found))
 }
 
-#[tactic(auto, unfolding(crate::specs::Parsing::list_or_uid))]
+#[tactic(auto, unfolding(crate::specs::inner::Parsing::list_or_uid))]
 fn list_or_uid(alloc: Global, tokens: &mut Cursor<'_>) -> Result<ActionTree, Halt>
     ensures { Gives (spec.list_or_uid tokens.old.rest.now) result tokens.new.rest.now }
 {
@@ -130,7 +131,7 @@ fn list_or_uid(alloc: Global, tokens: &mut Cursor<'_>) -> Result<ActionTree, Hal
 }
 
 /// "in" ( "[" [ Uid { "," Uid } ] "]" | Uid )
-#[tactic(auto, unfolding(crate::specs::Parsing::in_actions))]
+#[tactic(auto, unfolding(crate::specs::inner::Parsing::in_actions))]
 fn in_actions(alloc: Global, tokens: &mut Cursor<'_>) -> Result<ActionTree, Halt>
     ensures { Gives (spec.in_actions tokens.old.rest.now) result tokens.new.rest.now }
 {
@@ -139,7 +140,7 @@ fn in_actions(alloc: Global, tokens: &mut Cursor<'_>) -> Result<ActionTree, Halt
 }
 
 /// [ "==" Uid | "in" Uid | "in" "[" [ Uid { "," Uid } ] "]" ]
-#[tactic(auto, unfolding(crate::specs::Parsing::action_constraint))]
+#[tactic(auto, unfolding(crate::specs::inner::Parsing::action_constraint))]
 fn action_constraint(alloc: Global, tokens: &mut Cursor<'_>) -> Result<ActionTree, Halt>
     ensures { Gives (spec.action_constraint tokens.old.rest.now) result tokens.new.rest.now }
 {
@@ -154,7 +155,7 @@ fn action_constraint(alloc: Global, tokens: &mut Cursor<'_>) -> Result<ActionTre
 }
 
 /// "action" and its constraint.
-#[tactic(auto, unfolding(crate::specs::Parsing::action_part))]
+#[tactic(auto, unfolding(crate::specs::inner::Parsing::action_part))]
 fn action_part(alloc: Global, tokens: &mut Cursor<'_>) -> Result<ActionTree, Halt>
     ensures { Gives (spec.action_part tokens.old.rest.now) result tokens.new.rest.now }
 {
@@ -163,7 +164,7 @@ fn action_part(alloc: Global, tokens: &mut Cursor<'_>) -> Result<ActionTree, Hal
 }
 
 /// Scope = Principal "," Action "," Resource
-#[tactic(auto, unfolding(crate::specs::Parsing::scope))]
+#[tactic(auto, unfolding(crate::specs::inner::Parsing::scope))]
 pub(crate) fn scope(alloc: Global, tokens: &mut Cursor<'_>) -> Result<ScopeTree, Halt>
     ensures { Gives (spec.scope tokens.old.rest.now) result tokens.new.rest.now }
 {

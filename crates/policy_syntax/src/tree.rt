@@ -1,6 +1,7 @@
-use expression_syntax::{ExprTree, PathTree, UidTree};
+use expression_syntax::ExprTree;
 use plain::Items;
 use policy_tokens::Token;
+use token_readers::{PathTree, UidTree};
 
 /// An annotation: `@key("value")`.
 #[derive(Drop)]

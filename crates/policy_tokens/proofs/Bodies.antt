@@ -6,7 +6,7 @@ use Rattle.policy_tokens.specs.declared.piece.Piece.TheVariants.{Byte, Char, Sta
 use Rattle.policy_tokens.specs.declared.token.Kind.{Kind}
 use Rattle.policy_tokens.specs.declared.token.Kind.TheVariants.{Text}
 use Rattle.policy_tokens.specs.Lexing.{IsEscape, IsBody, done, itself, escape, kind_of_pieces, IsToken, quoted, NoToken}
-use Rattle.policy_tokens.specs.Reading.{NoEscape, kind_with, IsFirst}
+use Rattle.policy_tokens.specs.inner.Reading.{NoEscape, kind_with, IsFirst}
 use Rattle.plain.specs.Words.{is_letter, is_digit}
 use Rattle.policy_tokens.proofs.Escapes.{shaped, same_escape}
 use Rattle.policy_tokens.proofs.FirstByte.{quotes, class, OfClass}

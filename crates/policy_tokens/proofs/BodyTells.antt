@@ -5,7 +5,7 @@ use Rattle.std.proofs.lemmas.List.{drop-drop, length-drop}
 use Rattle.policy_tokens.specs.declared.token.Kind.{Kind}
 use Rattle.policy_tokens.specs.declared.piece.Escape.{Escape}
 use Rattle.policy_tokens.specs.Lexing.{NoToken}
-use Rattle.policy_tokens.specs.Reading.{NoEscape, IsFirstEscape, kind_with, IsFirst}
+use Rattle.policy_tokens.specs.inner.Reading.{NoEscape, IsFirstEscape, kind_with, IsFirst}
 use Rattle.policy_tokens.proofs.Bodies.{Passed, passed_byte, passed_escape, quoted_found, bad_escape, never_closed}
 use Rattle.policy_tokens.proofs.Parts.{past}
 

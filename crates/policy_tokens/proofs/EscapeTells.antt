@@ -7,7 +7,7 @@ use Rattle.std.specs.Char.{IsScalar, digit_value}
 use Rattle.policy_tokens.specs.declared.piece.Piece.TheVariants.{Char, Star}
 use Rattle.plain.specs.Words.{AllAre}
 use Rattle.policy_tokens.specs.Lexing.{escaped, is_hex, hex_after, letter, star, short, long}
-use Rattle.policy_tokens.specs.Reading.{run, NoEscape, IsFirstEscape}
+use Rattle.policy_tokens.specs.inner.Reading.{run, NoEscape, IsFirstEscape}
 use Rattle.std.proofs.lemmas.List.{length-take-le}
 use Rattle.policy_tokens.proofs.Runs.{run_all}
 use Rattle.policy_tokens.proofs.Escapes.{Sort, letters, sort, Shape, goes, closed}

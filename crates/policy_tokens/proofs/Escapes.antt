@@ -7,7 +7,7 @@ use Rattle.policy_tokens.specs.declared.piece.Piece.{Piece}
 use Rattle.policy_tokens.specs.declared.piece.Piece.TheVariants.{Char, Star}
 use Rattle.plain.specs.Words.{AllAre}
 use Rattle.policy_tokens.specs.Lexing.{escaped, is_hex, hex_after, IsEscape, letter, star, short, long}
-use Rattle.policy_tokens.specs.Reading.{NoEscape}
+use Rattle.policy_tokens.specs.inner.Reading.{NoEscape}
 
 pub data Sort : Type 0 where
   letters : Sort

@@ -5,7 +5,7 @@ use Rattle.policy_tokens.specs.declared.token.Kind.TheVariants.{Number}
 use Rattle.policy_tokens.specs.declared.token.Found.{Found}
 use Rattle.plain.specs.Words.{is_letter, is_digit, is_word_byte}
 use Rattle.policy_tokens.specs.Lexing.{kind_of_word, listed, singles, pairs, IsToken, word, number, single, pair, NoToken}
-use Rattle.policy_tokens.specs.Reading.{run, IsFirst, TellsToken, sized, first_found, mark_of}
+use Rattle.policy_tokens.specs.inner.Reading.{run, IsFirst, TellsToken, sized, first_found, mark_of}
 use Rattle.policy_tokens.proofs.Runs.{run_all, run_most, run_within}
 use Rattle.policy_tokens.proofs.FirstByte.{Class, letters, digits, others, class, OfClass, class_of_letter, class_of_digit, of_class, not_empty}
 

@@ -6,7 +6,7 @@ use Rattle.std.specs.Str.{IsUtf8}
 use Rattle.policy_tokens.specs.declared.token.Token.{Token}
 use Rattle.policy_tokens.specs.declared.token.Found.{Found}
 use Rattle.policy_tokens.specs.Lexing.{Lex, finish, gap, token, NoGap, NoToken, IsBadAt}
-use Rattle.policy_tokens.specs.Reading.{IsGapOf, IsFirst}
+use Rattle.policy_tokens.specs.inner.Reading.{IsGapOf, IsFirst}
 use Rattle.policy_tokens.proofs.GapTells.{Cuts}
 use Rattle.policy_tokens.proofs.Ends.{boundary, ends_low}
 use Rattle.policy_tokens.proofs.Parts.{past}

@@ -7,7 +7,7 @@ use Rattle.policy_tokens.specs.declared.piece.Piece.TheVariants.{Byte}
 use Rattle.policy_tokens.specs.declared.token.Kind.{Kind}
 use Rattle.policy_tokens.specs.declared.token.Kind.TheVariants.{Text, StarText}
 use Rattle.policy_tokens.specs.Lexing.{IsBody, done, itself, escape, has_star, IsToken}
-use Rattle.policy_tokens.specs.Reading.{EndsLiteral, IsLiteral}
+use Rattle.policy_tokens.specs.inner.Reading.{EndsLiteral, IsLiteral}
 use Rattle.policy_tokens.specs.Strings.{is_string, piece_bytes, bytes_of, is_wildcard, literals_of, prefixed, IsStringOf, IsPatternOf, HasValue, HasPattern}
 use Rattle.policy_tokens.proofs.Bodies.{body_append, slash}
 use Rattle.policy_tokens.proofs.Between.{between, body_in}

@@ -2,7 +2,7 @@
 use Rattle.std.proofs.Common.{◌≡◌, ℕ, suc, ◌≤◌, Bool, true, List, [], ◌∷◌, ◌++◌, inl, inr, refl, sym, ◌∙◌, ap, arith, length, take}
 use Rattle.std.proofs.lemmas.Bool.{cases_Bool}
 use Rattle.plain.specs.Words.{AllAre}
-use Rattle.policy_tokens.specs.Reading.{run}
+use Rattle.policy_tokens.specs.inner.Reading.{run}
 
 -- the first of a run pass
 pub run_all : (p : ℕ → Bool) (cs : List ℕ) → AllAre p (take (run p cs) cs)

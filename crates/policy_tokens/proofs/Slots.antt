@@ -9,7 +9,7 @@ use Rattle.policy_tokens.specs.declared.token.Kind.{Kind}
 use Rattle.policy_tokens.specs.declared.token.Kind.TheVariants.{PrincipalSlot, ResourceSlot}
 use Rattle.plain.specs.Words.{is_letter, is_digit}
 use Rattle.policy_tokens.specs.Lexing.{listed, slots, IsToken, slot, NoToken}
-use Rattle.policy_tokens.specs.Reading.{IsFirst}
+use Rattle.policy_tokens.specs.inner.Reading.{IsFirst}
 use Rattle.policy_tokens.proofs.FirstByte.{class, OfClass}
 use Rattle.policy_tokens.proofs.FrontTells.{begins}
 

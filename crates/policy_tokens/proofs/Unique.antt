@@ -8,7 +8,7 @@ use Rattle.std.proofs.lemmas.Bool.{eqb-true, leb-true, ltb-true, and_parts, or_c
 use Rattle.policy_tokens.specs.declared.token.Kind.{Kind}
 use Rattle.plain.specs.Words.{AllAre, is_letter, is_digit}
 use Rattle.policy_tokens.specs.Lexing.{singles, pairs, slots, IsToken, word, number, quoted, single, pair, slot, in_line, EndsLine, IsGap, blank, comment}
-use Rattle.policy_tokens.specs.Reading.{run}
+use Rattle.policy_tokens.specs.inner.Reading.{run}
 use Rattle.policy_tokens.proofs.FirstByte.{known, not_empty}
 use Rattle.policy_tokens.proofs.Parts.{heads, negated, tails}
 

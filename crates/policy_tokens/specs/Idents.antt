@@ -1,10 +1,12 @@
 -- Which kinds of tokens are identifiers, and which are reserved words.
--- Source: Cedar reference guide 4.0, "Grammar specification for Cedar policy syntax": IDENT and RESERVED; `permit`, `when`, `principal` and
--- the like are identifiers too, and may stand in a Path.
+-- Source: Cedar reference guide 4.0, "Grammar specification for Cedar policy syntax": IDENT and RESERVED; `permit`,
+-- `when`, `principal` and the like are identifiers too, and may stand in a Path.
 use Rattle.std.specs.Prelude.{◌≡◌, ◌↔◌, ℕ, Bool, true, false, List}
 use Rattle.plain.specs.Words.{IsIdent, IsReserved}
 use Rattle.policy_tokens.specs.declared.token.Kind.{Kind}
-use Rattle.policy_tokens.specs.declared.token.Kind.TheVariants.{Ident, True, False, If, Then, Else, In, Is, Like, Has, Cedar, Permit, Forbid, When, Unless, Principal, Action, Resource, Context}
+use Rattle.policy_tokens.specs.declared.token.Kind.TheVariants.{Ident, True, False, If, Then, Else, In, Is, Like, Has}
+use Rattle.policy_tokens.specs.declared.token.Kind.TheVariants.{Cedar, Permit, Forbid, When, Unless, Principal, Action}
+use Rattle.policy_tokens.specs.declared.token.Kind.TheVariants.{Resource, Context}
 use Rattle.policy_tokens.specs.Lexing.{IsToken}
 
 -- the kinds of tokens that are identifiers

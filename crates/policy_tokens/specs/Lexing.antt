@@ -1,17 +1,26 @@
 -- What the tokens of a policy text are.
 --
--- Source: Cedar reference guide 4.0, "Grammar specification for Cedar policy syntax" (IDENT, RESERVED, INT, STR, WHITESPC, COMMENT and the marks of
--- the productions). The escapes in strings are those of string literals in Rust, as the guide says, and `\*` ("Operators: like").
--- Rules of this product: white space is what Unicode calls White_Space; a comment ends before a line feed or a carriage return; a line
--- end may stand in a string; the longest token is taken; `__cedar` is reserved.
+-- Source: Cedar reference guide 4.0, "Grammar specification for Cedar policy syntax" (IDENT, RESERVED, INT, STR,
+-- WHITESPC, COMMENT and the marks of the productions). The escapes in strings are those of string literals in Rust, as
+-- the guide says, and `\*` ("Operators: like"). Rules of this product: white space is what Unicode calls White_Space; a
+-- comment ends before a line feed or a carriage return; a line end may stand in a string; the longest token is taken;
+-- `__cedar` is reserved.
 --
 -- A text is the list of its bytes in UTF-8, and a place is a number of bytes from the text's start.
-use Rattle.std.specs.Prelude.{◌≡◌, ◌≢◌, ℕ, ◌+◌, ◌-◌, ◌*◌, ◌≤◌, ◌<◌, Bool, true, false, not, ◌==◌, ◌||◌, nat_eq, nat_lt, if◌then◌else◌, List, [], ◌∷◌, ◌++◌, length, take, drop, Option, Some, None, codes, encode_utf8}
+use Rattle.std.specs.Prelude.{◌≡◌, ◌≢◌, ℕ, ◌+◌, ◌-◌, ◌*◌, ◌≤◌, ◌<◌, Bool, true, false, not, ◌==◌, ◌||◌, nat_eq, nat_lt}
+use Rattle.std.specs.Prelude.{if◌then◌else◌, List, [], ◌∷◌, ◌++◌, length, take, drop, Option, Some, None, codes}
+use Rattle.std.specs.Prelude.{encode_utf8}
 use Rattle.std.specs.Str.{bytes_eq, IsCharBoundary}
 use Rattle.std.specs.Char.{is_whitespace, IsScalar, digit_value}
 use Rattle.plain.specs.Words.{is_digit, AllAre, IsWord}
 use Rattle.policy_tokens.specs.declared.token.Kind.{Kind}
-use Rattle.policy_tokens.specs.declared.token.Kind.TheVariants.{Ident, Number, Text, StarText, True, False, If, Then, Else, In, Is, Like, Has, Cedar, Permit, Forbid, When, Unless, Principal, Action, Resource, Context, PrincipalSlot, ResourceSlot, At, LParen, RParen, LBrace, RBrace, LBracket, RBracket, Comma, Semicolon, Colon, Colons, Dot, Equal, NotEqual, Less, LessEqual, Greater, GreaterEqual, And, Or, Plus, Minus, Star, Not}
+use Rattle.policy_tokens.specs.declared.token.Kind.TheVariants.{Ident, Number, Text, StarText, True, False, If, Then}
+use Rattle.policy_tokens.specs.declared.token.Kind.TheVariants.{Else, In, Is, Like, Has, Cedar, Permit, Forbid, When}
+use Rattle.policy_tokens.specs.declared.token.Kind.TheVariants.{Unless, Principal, Action, Resource, Context}
+use Rattle.policy_tokens.specs.declared.token.Kind.TheVariants.{PrincipalSlot, ResourceSlot, At, LParen, RParen, LBrace}
+use Rattle.policy_tokens.specs.declared.token.Kind.TheVariants.{RBrace, LBracket, RBracket, Comma, Semicolon, Colon}
+use Rattle.policy_tokens.specs.declared.token.Kind.TheVariants.{Colons, Dot, Equal, NotEqual, Less, LessEqual, Greater}
+use Rattle.policy_tokens.specs.declared.token.Kind.TheVariants.{GreaterEqual, And, Or, Plus, Minus, Star, Not}
 use Rattle.policy_tokens.specs.declared.token.Token.{Token}
 use Rattle.policy_tokens.specs.declared.piece.Piece.{Piece}
 use Rattle.policy_tokens.specs.declared.piece.Piece.TheVariants as piece
@@ -30,24 +39,32 @@ entry s k = record { spelling = s; kind = k }
 
 -- the reserved words, which are no identifiers
 abbrev pub reserved : List Entry
-reserved = entry (codes "true") True ∷ entry (codes "false") False ∷ entry (codes "if") If ∷ entry (codes "then") Then ∷ entry (codes "else") Else
-    ∷ entry (codes "in") In ∷ entry (codes "is") Is ∷ entry (codes "like") Like ∷ entry (codes "has") Has ∷ entry (codes "__cedar") Cedar ∷ []
+reserved = entry (codes "true") True ∷ entry (codes "false") False ∷ entry (codes "if") If ∷ entry (codes "then") Then
+    ∷ entry (codes "else") Else
+    ∷ entry (codes "in") In ∷ entry (codes "is") Is ∷ entry (codes "like") Like ∷ entry (codes "has") Has ∷ entry
+    (codes "__cedar") Cedar ∷ []
 
 -- identifiers that are words of the grammar too
 abbrev pub named : List Entry
-named = entry (codes "permit") Permit ∷ entry (codes "forbid") Forbid ∷ entry (codes "when") When ∷ entry (codes "unless") Unless
-    ∷ entry (codes "principal") Principal ∷ entry (codes "action") Action ∷ entry (codes "resource") Resource ∷ entry (codes "context") Context ∷ []
+named = entry (codes "permit") Permit ∷ entry (codes "forbid") Forbid ∷ entry (codes "when") When ∷ entry
+    (codes "unless") Unless
+    ∷ entry (codes "principal") Principal ∷ entry (codes "action") Action ∷ entry (codes "resource") Resource ∷ entry
+    (codes "context") Context ∷ []
 
 -- the marks of one byte
 abbrev pub singles : List Entry
-singles = entry (codes "@") At ∷ entry (codes "(") LParen ∷ entry (codes ")") RParen ∷ entry (codes "{") LBrace ∷ entry (codes "}") RBrace
-    ∷ entry (codes "[") LBracket ∷ entry (codes "]") RBracket ∷ entry (codes ",") Comma ∷ entry (codes ";") Semicolon ∷ entry (codes ":") Colon
-    ∷ entry (codes ".") Dot ∷ entry (codes "<") Less ∷ entry (codes ">") Greater ∷ entry (codes "+") Plus ∷ entry (codes "-") Minus
+singles = entry (codes "@") At ∷ entry (codes "(") LParen ∷ entry (codes ")") RParen ∷ entry (codes "{") LBrace ∷ entry
+    (codes "}") RBrace
+    ∷ entry (codes "[") LBracket ∷ entry (codes "]") RBracket ∷ entry (codes ",") Comma ∷ entry (codes ";") Semicolon ∷
+    entry (codes ":") Colon
+    ∷ entry (codes ".") Dot ∷ entry (codes "<") Less ∷ entry (codes ">") Greater ∷ entry (codes "+") Plus ∷ entry
+    (codes "-") Minus
     ∷ entry (codes "*") Star ∷ entry (codes "!") Not ∷ []
 
 -- the marks of two bytes
 abbrev pub pairs : List Entry
-pairs = entry (codes "::") Colons ∷ entry (codes "==") Equal ∷ entry (codes "!=") NotEqual ∷ entry (codes "<=") LessEqual
+pairs = entry (codes "::") Colons ∷ entry (codes "==") Equal ∷ entry (codes "!=") NotEqual ∷ entry (codes "<=")
+    LessEqual
     ∷ entry (codes ">=") GreaterEqual ∷ entry (codes "&&") And ∷ entry (codes "||") Or ∷ []
 
 -- the slots of templates
@@ -90,7 +107,8 @@ backslash = 92
 
 -- what a letter or mark after a backslash stands for: `\n \r \t \\ \0 \' \"`
 abbrev pub escaped : ℕ → Option ℕ
-escaped c = if nat_eq c 110 then Some 10 else (if nat_eq c 114 then Some 13 else (if nat_eq c 116 then Some 9 else (if nat_eq c 92 then Some 92
+escaped c = if nat_eq c 110 then Some 10
+    else (if nat_eq c 114 then Some 13 else (if nat_eq c 116 then Some 9 else (if nat_eq c 92 then Some 92
     else (if nat_eq c 48 then Some 0 else (if nat_eq c 39 then Some 39 else (if nat_eq c 34 then Some 34 else None))))))
 
 unfoldable pub is_hex : ℕ → Bool
@@ -101,21 +119,26 @@ abbrev pub hex_after : ℕ → List ℕ → ℕ
 hex_after n [] = n
 hex_after n (d ∷ ds) = hex_after (n * 16 + digit_value d) ds
 
--- The bytes are an escape, and stand for this: a letter or mark; `\*`; `\x` and two hexadecimal digits up to 7F; `\u{` and one to six
--- hexadecimal digits of a Unicode scalar value and `}`.
+-- The bytes are an escape, and stand for this: a letter or mark; `\*`; `\x` and two hexadecimal digits up to 7F; `\u{`
+-- and one to six hexadecimal digits of a Unicode scalar value and `}`.
 pub data IsEscape : Piece → List ℕ → Type 0 where
-  letter : {p : Piece} {w : List ℕ} (c meant : ℕ) → escaped c ≡ Some meant → w ≡ backslash ∷ c ∷ [] → p ≡ piece.Char meant → IsEscape p w
+  letter : {p : Piece} {w : List ℕ} (c meant : ℕ) → escaped c ≡ Some meant → w ≡ backslash ∷ c ∷ []
+      → p ≡ piece.Char meant → IsEscape p w
   star : {p : Piece} {w : List ℕ} → w ≡ backslash ∷ codes "*" → p ≡ piece.Star → IsEscape p w
   short : {p : Piece} {w : List ℕ} (high low : ℕ) → digit_value high < 8 → digit_value low < 16 →
-      w ≡ backslash ∷ codes "x" ++ high ∷ low ∷ [] → p ≡ piece.Char (digit_value high * 16 + digit_value low) → IsEscape p w
-  long : {p : Piece} {w : List ℕ} (digits : List ℕ) → 1 ≤ length digits → length digits ≤ 6 → AllAre is_hex digits → IsScalar (hex_after 0 digits) →
+      w ≡ backslash ∷ codes "x" ++ high ∷ low ∷ [] → p ≡ piece.Char (digit_value high * 16 + digit_value low)
+      → IsEscape p w
+  long : {p : Piece} {w : List ℕ} (digits : List ℕ) → 1 ≤ length digits → length digits ≤ 6 → AllAre is_hex digits
+      → IsScalar (hex_after 0 digits) →
       w ≡ backslash ∷ codes "u{" ++ (digits ++ codes "}") → p ≡ piece.Char (hex_after 0 digits) → IsEscape p w
 
 -- The bytes between two quotes are these pieces: bytes that stand for themselves, and escapes.
 pub data IsBody : List Piece → List ℕ → Type 0 where
   done : IsBody [] []
-  itself : {b : ℕ} {ps : List Piece} {w : List ℕ} → b ≢ quote → b ≢ backslash → IsBody ps w → IsBody (piece.Byte b ∷ ps) (b ∷ w)
-  escape : {p : Piece} {ps : List Piece} {w : List ℕ} (e rest : List ℕ) → IsEscape p e → w ≡ e ++ rest → IsBody ps rest → IsBody (p ∷ ps) w
+  itself : {b : ℕ} {ps : List Piece} {w : List ℕ} → b ≢ quote → b ≢ backslash → IsBody ps w
+      → IsBody (piece.Byte b ∷ ps) (b ∷ w)
+  escape : {p : Piece} {ps : List Piece} {w : List ℕ} (e rest : List ℕ) → IsEscape p e → w ≡ e ++ rest → IsBody ps rest
+      → IsBody (p ∷ ps) w
 
 abbrev pub is_star : Piece → Bool
 is_star (piece.Byte b) = false
@@ -136,7 +159,8 @@ kind_of_pieces ps = if has_star ps then StarText else Text
 pub data IsToken : Kind → List ℕ → Type 0 where
   word : {k : Kind} {w : List ℕ} → IsWord w → k ≡ kind_of_word w → IsToken k w
   number : {k : Kind} {w : List ℕ} → IsNumber w → k ≡ Number → IsToken k w
-  quoted : {k : Kind} {w : List ℕ} (ps : List Piece) (body : List ℕ) → IsBody ps body → w ≡ quote ∷ body ++ quote ∷ [] → k ≡ kind_of_pieces ps → IsToken k w
+  quoted : {k : Kind} {w : List ℕ} (ps : List Piece) (body : List ℕ) → IsBody ps body → w ≡ quote ∷ body ++ quote ∷ []
+      → k ≡ kind_of_pieces ps → IsToken k w
   single : {k : Kind} {w : List ℕ} → listed singles w ≡ Some k → IsToken k w
   pair : {k : Kind} {w : List ℕ} → listed pairs w ≡ Some k → IsToken k w
   slot : {k : Kind} {w : List ℕ} → listed slots w ≡ Some k → IsToken k w
@@ -164,7 +188,8 @@ EndsLine (c ∷ cs) = in_line c ≡ false
 -- What may stand between tokens, and what follows it: a character of white space, or a comment as long as its line.
 pub data IsGap : List ℕ → List ℕ → Type 0 where
   blank : {w rest : List ℕ} (c : ℕ) → is_whitespace c ≡ true → w ≡ encode_utf8 c → IsGap w rest
-  comment : {w rest : List ℕ} (said : List ℕ) → AllAre in_line said → EndsLine rest → w ≡ codes "//" ++ said → IsGap w rest
+  comment : {w rest : List ℕ} (said : List ℕ) → AllAre in_line said → EndsLine rest → w ≡ codes "//" ++ said
+      → IsGap w rest
 
 -- Neither a blank nor a comment begins here.
 abbrev pub NoGap : List ℕ → Type 0
@@ -172,13 +197,16 @@ NoGap text = (w rest : List ℕ) → IsGap w rest → text ≡ w ++ rest → ⊥
 
 -- ## Texts
 
--- From the one place and text to the other the text is a joining of blanks, comments and these tokens, each the longest that begins there.
+-- From the one place and text to the other the text is a joining of blanks, comments and these tokens, each the longest
+-- that begins there.
 pub data Lex : ℕ → List ℕ → List Token → ℕ → List ℕ → Type 0 where
   finish : {at : ℕ} {text : List ℕ} → Lex at text [] at text
   gap : {at to : ℕ} {text left : List ℕ} {ts : List Token} (w rest : List ℕ) → text ≡ w ++ rest → IsGap w rest →
       Lex (at + length w) rest ts to left → Lex at text ts to left
-  token : {at to : ℕ} {text left : List ℕ} {ts : List Token} (k : Kind) (w rest : List ℕ) → text ≡ w ++ rest → IsLongest k w rest →
-      Lex (at + length w) rest ts to left → Lex at text (record { kind = k; start = at; end = at + length w } ∷ ts) to left
+  token : {at to : ℕ} {text left : List ℕ} {ts : List Token} (k : Kind) (w rest : List ℕ) → text ≡ w ++ rest
+      → IsLongest k w rest →
+      Lex (at + length w) rest ts to left
+      → Lex at text (record { kind = k; start = at; end = at + length w } ∷ ts) to left
 
 -- These are the text's tokens.
 abbrev pub IsLexed : List ℕ → List Token → Type 0

@@ -1,4 +1,4 @@
-pub mod Lexing
 pub mod Idents
+pub mod Lexing
 pub mod Strings
-pub mod Reading
+pub mod inner

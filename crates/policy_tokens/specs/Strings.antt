@@ -1,5 +1,6 @@
 -- What a string of a policy stands for: its value, or the literal texts of a pattern.
--- Source: Cedar reference guide 4.0, "Data types: String" (escape sequences) and "Operators: like" (`*` is any run of characters, `\*` a star).
+-- Source: Cedar reference guide 4.0, "Data types: String" (escape sequences) and "Operators: like" (`*` is any run of
+-- characters, `\*` a star).
 use Rattle.std.specs.Prelude.{◌≡◌, ℕ, Bool, true, false, ◌==◌, if◌then◌else◌, List, [], ◌∷◌, ◌++◌, codes, encode_utf8}
 use Rattle.policy_tokens.specs.declared.piece.Piece.{Piece}
 use Rattle.policy_tokens.specs.declared.piece.Piece.TheVariants.{Byte, Char, Star}
@@ -68,7 +69,8 @@ OneValue = (v w spelling : List ℕ) → IsStringOf v spelling → IsStringOf w 
 
 -- Each string is a pattern,
 abbrev pub HasPattern : Type 0
-HasPattern = (k : Kind) (spelling : List ℕ) → IsToken k spelling → is_string k ≡ true → (literals : List (List ℕ)) × IsPatternOf literals spelling
+HasPattern = (k : Kind) (spelling : List ℕ) → IsToken k spelling → is_string k ≡ true
+    → (literals : List (List ℕ)) × IsPatternOf literals spelling
 
 -- and one at most.
 abbrev pub OnePattern : Type 0

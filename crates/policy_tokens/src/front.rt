@@ -1,6 +1,6 @@
 // The token at the front of a text.
 ghost use Rattle.std.specs.Prelude.{◌≡◌, ◌∷◌, ◌<◌, ◌++◌, List, length, codes, ℕ};
-ghost use Rattle.policy_tokens.specs.Reading.{TellsToken, mark_of};
+ghost use Rattle.policy_tokens.specs.inner.Reading.{TellsToken, mark_of};
 
 use crate::classes::{digit, digits_len, letter, word_len};
 use crate::quoted::quoted;

@@ -4,7 +4,7 @@ ghost use Rattle.std.specs.Option.{SomeIff};
 ghost use Rattle.std.specs.Char.{digit_value};
 ghost use Rattle.plain.specs.Words.{AllAre};
 ghost use Rattle.policy_tokens.specs.Lexing.{quote, backslash, escaped, is_hex, hex_after};
-ghost use Rattle.policy_tokens.specs.Reading.{run, kind_with, TellsEscape, TellsToken};
+ghost use Rattle.policy_tokens.specs.inner.Reading.{run, kind_with, TellsEscape, TellsToken};
 
 use crate::piece::{Escape, Piece};
 use crate::token::{Found, Kind};

@@ -1,7 +1,7 @@
 // What strings stand for.
 ghost use Rattle.std.specs.Prelude.{◌≡◌, ◌≤◌, List, IfOk, length, encode_utf8, true};
 ghost use Rattle.policy_tokens.specs.Lexing.{IsSpelledIn, spelling_of, IsBody};
-ghost use Rattle.policy_tokens.specs.Reading.{run, is_plain, character_of, IsLiteral};
+ghost use Rattle.policy_tokens.specs.inner.Reading.{run, is_plain, character_of, IsLiteral};
 ghost use Rattle.policy_tokens.specs.Strings.{is_string, IsStringOf, IsPatternOf};
 ghost use Rattle.policy_tokens.specs.declared.piece.Piece.{Piece};
 
@@ -20,7 +20,7 @@ struct Literal {
 }
 
 /// Whether a byte between quotes stands for itself; in a pattern a star doesn't.
-#[tactic(auto, unfolding(crate::specs::Reading::is_plain))]
+#[tactic(auto, unfolding(crate::specs::inner::Reading::is_plain))]
 fn plain_byte(in_pattern: bool, byte: u8) -> bool
     ensures { result ≡ is_plain in_pattern byte }
 {

@@ -1,5 +1,15 @@
-use Rattle.policy_syntax.proofs.Exact.{one_policy, one_list, one_uid, policy_answer, list_answer, uid_answer}
+use Rattle.token_readers.proofs.NamesExact.{one_uid, uid_answer}
+use Rattle.policy_syntax.proofs.Exact.{one_policy, one_list, policy_answer, list_answer, policy_next_level, list_next_level}
 use Rattle.policy_syntax.proofs.laws.reading_is_unique.Goals as goal
 
 pub returns : goal.returns
-returns c = record { one_policy = one_policy; one_list = one_list; one_uid = one_uid; policy_answer = policy_answer; list_answer = list_answer; uid_answer = uid_answer }
+returns c = record {
+  one_policy = one_policy;
+  one_list = one_list;
+  one_uid = one_uid;
+  policy_answer = policy_answer;
+  list_answer = list_answer;
+  uid_answer = uid_answer;
+  policy_too_deep = policy_next_level;
+  list_too_deep = list_next_level;
+}

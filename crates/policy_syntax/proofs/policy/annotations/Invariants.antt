@@ -1,9 +1,9 @@
 use Rattle.std.proofs.Common.{◌≡◌, ◌-◌}
-use Rattle.expression_syntax.specs.Kinds.{only}
-use Rattle.policy_syntax.specs.Parsing as spec
+use Rattle.token_readers.specs.Kinds.{only}
+use Rattle.policy_syntax.specs.inner.Parsing as spec
 use Rattle.policy_tokens.specs.declared.token.Kind.TheVariants as k
-use Rattle.expression_syntax.proofs.Gathered.{gathered, filled}
-use Rattle.expression_syntax.proofs.LoopEnds.{itself}
+use Rattle.token_readers.proofs.Gathered.{gathered, filled}
+use Rattle.token_readers.proofs.LoopEnds.{itself}
 use Rattle.policy_syntax.proofs.policy.annotations.Given as goal
 
 abbrev pub invariant-loop-turn : goal.invariant-loop-turn

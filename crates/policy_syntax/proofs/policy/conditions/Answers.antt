@@ -2,9 +2,9 @@ use Rattle.std.proofs.Common.{[], ◌∙◌}
 use Rattle.std.proofs.lemmas.Result.{err_from_is_err_and}
 use Rattle.expression_syntax.specs.Expressions.{nesting_limit}
 use Rattle.policy_syntax.specs.Grammar.{condition_words}
-use Rattle.policy_syntax.specs.Parsing as spec
-use Rattle.expression_syntax.proofs.Gathered.{filled, filling, as_read, pushed, filled_up, filled_out, stopped}
-use Rattle.expression_syntax.proofs.LoopEnds.{itself}
+use Rattle.policy_syntax.specs.inner.Parsing as spec
+use Rattle.token_readers.proofs.Gathered.{filled, filling, as_read, pushed, filled_up, filled_out, stopped}
+use Rattle.token_readers.proofs.LoopEnds.{itself}
 use Rattle.policy_syntax.proofs.policy.conditions.Goals as goal
 
 pub loop-turn-init : goal.loop-turn-init

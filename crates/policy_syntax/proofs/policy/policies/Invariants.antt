@@ -1,8 +1,8 @@
 use Rattle.std.proofs.Common.{◌≡◌, ◌-◌}
 use Rattle.expression_syntax.specs.Expressions.{nesting_limit}
-use Rattle.policy_syntax.specs.Parsing as spec
-use Rattle.expression_syntax.proofs.Gathered.{gathered, filled}
-use Rattle.expression_syntax.proofs.LoopEnds.{itself}
+use Rattle.policy_syntax.specs.inner.Parsing as spec
+use Rattle.token_readers.proofs.Gathered.{gathered, filled}
+use Rattle.token_readers.proofs.LoopEnds.{itself}
 use Rattle.policy_syntax.proofs.policy.policies.Given as goal
 
 abbrev pub invariant-loop-turn : goal.invariant-loop-turn

@@ -1,8 +1,8 @@
-use Rattle.std.proofs.Common.{◌<◌, ◌≤◌, length, subst, sym, arith}
+use Rattle.std.proofs.Common.{◌<◌, ◌≤◌, Err, length, subst, sym, arith}
 use Rattle.std.specs.List.{AllByRecursion}
 use Rattle.expression_syntax.specs.Expressions.{nesting_limit}
-use Rattle.expression_syntax.specs.Lang.{at_any}
-use Rattle.expression_syntax.specs.Reads.{IsRefusedWithin}
+use Rattle.token_readers.specs.Lang.{at_any}
+use Rattle.token_readers.specs.Reads.{ReadsWithin}
 use Rattle.policy_syntax.specs.Grammar as grammar
 use Rattle.policy_syntax.specs.Stands.{PolicyStands}
 use Rattle.policy_syntax.proofs.Exact.{policies_whole, policies_part, policies_halted}
@@ -12,10 +12,10 @@ use Rattle.policy_syntax.proofs.read.read_policies.Goals as goal
 pub returns-then-left-gt0-clause-reads : goal.returns-then-left-gt0-clause-reads
 returns-then-left-gt0-clause-reads c =
     let some : 0 < length c.policies.new.tokens.rest.now = omega (arith, c.left.ensures) in
-    subst (IsRefusedWithin (grammar.policies nesting_limit) (at_any grammar.policies) c.args.tokens.now) (sym c.refusal.ensures) (policies_part c.args.tokens.now c.policies.new.tokens.rest.now c.in-Ok.trees c.in-Ok.ensures some)
+    subst (λ e. ReadsWithin (grammar.policies nesting_limit) (at_any grammar.policies) c.args.tokens.now (Err e)) (sym c.refusal.ensures) (policies_part c.args.tokens.now c.policies.new.tokens.rest.now c.in-Ok.trees c.in-Ok.ensures some)
 
 pub returns-in-Err-clause-reads : goal.returns-in-Err-clause-reads
-returns-in-Err-clause-reads c = subst (IsRefusedWithin (grammar.policies nesting_limit) (at_any grammar.policies) c.args.tokens.now) (sym c.refusal-in-Err.ensures) (policies_halted c.args.tokens.now c.policies.new.tokens.rest.now c.in-Err.halt c.in-Err.ensures)
+returns-in-Err-clause-reads c = subst (λ e. ReadsWithin (grammar.policies nesting_limit) (at_any grammar.policies) c.args.tokens.now (Err e)) (sym c.refusal-in-Err.ensures) (policies_halted c.args.tokens.now c.policies.new.tokens.rest.now c.in-Err.halt c.in-Err.ensures)
 
 pub returns-else-left-gt0-clause-reads : goal.returns-else-left-gt0-clause-reads
 returns-else-left-gt0-clause-reads c =

@@ -1,10 +1,10 @@
 use Rattle.std.proofs.Common.{[], ◌∷◌, ap, ◌∙◌, ◌++◌}
 use Rattle.std.proofs.lemmas.Result.{err_from_is_err_and}
-use Rattle.expression_syntax.specs.Kinds.{only}
-use Rattle.policy_syntax.specs.Parsing as spec
+use Rattle.token_readers.specs.Kinds.{only}
+use Rattle.policy_syntax.specs.inner.Parsing as spec
 use Rattle.policy_tokens.specs.declared.token.Kind.TheVariants as k
-use Rattle.expression_syntax.proofs.Gathered.{filled, filling, pushed, filled_up, filled_out, stopped}
-use Rattle.expression_syntax.proofs.LoopEnds.{itself}
+use Rattle.token_readers.proofs.Gathered.{filled, filling, pushed, filled_up, filled_out, stopped}
+use Rattle.token_readers.proofs.LoopEnds.{itself}
 use Rattle.policy_syntax.proofs.scope.uids_behind.Goals as goal
 
 pub loop-turn-init : goal.loop-turn-init

@@ -3,7 +3,7 @@ use Rattle.std.proofs.lemmas.List.{length-drop}
 use Rattle.std.proofs.lemmas.Str.{IsCharBoundary-start, IsCharBoundary-from_rest}
 use Rattle.std.specs.Str.{IsCharBoundary}
 use Rattle.policy_tokens.specs.Lexing.{finish}
-use Rattle.policy_tokens.specs.Reading.{IsGapOf, IsFirst}
+use Rattle.policy_tokens.specs.inner.Reading.{IsGapOf, IsFirst}
 use Rattle.policy_tokens.proofs.GapTells.{Cuts, found_cuts}
 use Rattle.policy_tokens.proofs.Spelled.{all_spelled, in_order}
 use Rattle.policy_tokens.proofs.Joining.{lex_gap, lex_token, token_cuts}

@@ -1,6 +1,6 @@
 use Rattle.std.proofs.Common.{◌∷◌, ◌+◌, List, ℕ, length, drop, arith, ap, subst, sym, ◌∙◌}
 use Rattle.std.proofs.lemmas.List.{take_rest}
-use Rattle.policy_tokens.specs.Reading.{NoEscape, IsFirstEscape}
+use Rattle.policy_tokens.specs.inner.Reading.{NoEscape, IsFirstEscape}
 use Rattle.policy_tokens.specs.declared.token.Kind.{Kind}
 use Rattle.policy_tokens.proofs.Bodies.{Passed, passed_quote}
 use Rattle.policy_tokens.proofs.BodyTells.{found_at, bad_at, ended_at, byte_at, escape_at, escape_within}

@@ -1,5 +1,5 @@
 use Rattle.std.proofs.Common.{◌≡◌, ◌+◌, drop}
-use Rattle.policy_tokens.specs.Reading.{run, is_plain}
+use Rattle.policy_tokens.specs.inner.Reading.{run, is_plain}
 use Rattle.policy_tokens.proofs.strings.plain_len.Given as goal
 
 abbrev pub invariant-loop-byte : goal.invariant-loop-byte

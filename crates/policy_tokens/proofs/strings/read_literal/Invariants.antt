@@ -1,6 +1,6 @@
 use Rattle.std.proofs.Common.{◌≤◌, ◌-◌, length}
 use Rattle.std.specs.Prelude.{string_bytes}
-use Rattle.policy_tokens.specs.Reading.{IsRead}
+use Rattle.policy_tokens.specs.inner.Reading.{IsRead}
 use Rattle.policy_tokens.proofs.strings.read_literal.Given as goal
 
 abbrev pub invariant-loop-at : goal.invariant-loop-at

@@ -1,8 +1,8 @@
 use Rattle.std.proofs.Common.{◌≡◌, ◌-◌}
 use Rattle.expression_syntax.specs.Expressions.{is_positive}
 use Rattle.expression_syntax.specs.ExpressionReading as spec
-use Rattle.expression_syntax.proofs.Gathered.{gathered, filled}
-use Rattle.expression_syntax.proofs.LoopEnds.{itself}
+use Rattle.token_readers.proofs.Gathered.{gathered, filled}
+use Rattle.token_readers.proofs.LoopEnds.{itself}
 use Rattle.expression_syntax.proofs.primary.Reader.accesses.Given as goal
 
 abbrev pub invariant-loop-turn : goal.invariant-loop-turn

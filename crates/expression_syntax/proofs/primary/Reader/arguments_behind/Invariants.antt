@@ -1,10 +1,10 @@
 use Rattle.std.proofs.Common.{◌≡◌, ◌-◌}
-use Rattle.expression_syntax.specs.Kinds.{only}
+use Rattle.token_readers.specs.Kinds.{only}
 use Rattle.policy_tokens.specs.declared.token.Kind.TheVariants as k
 use Rattle.expression_syntax.specs.Expressions.{is_positive}
 use Rattle.expression_syntax.specs.ExpressionReading as spec
-use Rattle.expression_syntax.proofs.Gathered.{gathered, filled}
-use Rattle.expression_syntax.proofs.LoopEnds.{itself}
+use Rattle.token_readers.proofs.Gathered.{gathered, filled}
+use Rattle.token_readers.proofs.LoopEnds.{itself}
 use Rattle.expression_syntax.proofs.primary.Reader.arguments_behind.Given as goal
 
 abbrev pub invariant-loop-turn : goal.invariant-loop-turn

@@ -2,8 +2,8 @@ use Rattle.std.proofs.Common.{[], ◌∙◌}
 use Rattle.std.proofs.lemmas.Result.{err_from_is_err_and}
 use Rattle.expression_syntax.specs.Expressions.{is_positive, signs}
 use Rattle.expression_syntax.specs.ExpressionReading as spec
-use Rattle.expression_syntax.proofs.Gathered.{filled, filling, as_read, pushed, filled_up, filled_out, stopped}
-use Rattle.expression_syntax.proofs.LoopEnds.{itself}
+use Rattle.token_readers.proofs.Gathered.{filled, filling, as_read, pushed, filled_up, filled_out, stopped}
+use Rattle.token_readers.proofs.LoopEnds.{itself}
 use Rattle.expression_syntax.proofs.primary.Reader.terms.Goals as goal
 
 pub loop-turn-init : goal.loop-turn-init

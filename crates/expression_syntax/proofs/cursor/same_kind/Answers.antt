@@ -1,5 +1,0 @@
-use Rattle.expression_syntax.proofs.KindLemmas.{same_by_number}
-use Rattle.expression_syntax.proofs.cursor.same_kind.Goals as goal
-
-pub returns : goal.returns
-returns c = same_by_number c.args.a c.args.b c.eq.result c.eq.ensures

@@ -1,0 +1,2 @@
+pub mod Included
+pub mod Parsing

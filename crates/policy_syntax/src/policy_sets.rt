@@ -1,0 +1,30 @@
+ghost use Rattle.policy_syntax.specs.inner.Included.{included as of_policies};
+
+use policy_tokens::Kind;
+use token_readers::KindSet;
+
+/// What readers of policies ask for.
+#[derive(Clone, Copy)]
+pub(crate) enum PolicySet {
+    /// What names an annotation: any word, reserved or not.
+    Words,
+    /// `permit` and `forbid`.
+    Effects,
+    /// `when` and `unless`.
+    ConditionWords,
+    /// What a policy begins with.
+    PolicyStarts,
+}
+
+impl KindSet for PolicySet {
+    ghost included = { of_policies };
+
+    fn includes(self, kind: Kind) -> bool {
+        match self {
+            PolicySet::Words => kind.is_reserved() || kind.is_ident(),
+            PolicySet::Effects => matches!(kind, Kind::Permit | Kind::Forbid),
+            PolicySet::ConditionWords => matches!(kind, Kind::When | Kind::Unless),
+            PolicySet::PolicyStarts => matches!(kind, Kind::At | Kind::Permit | Kind::Forbid),
+        }
+    }
+}

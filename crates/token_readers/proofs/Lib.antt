@@ -1,0 +1,27 @@
+-- The library of rules by which readers of tokens are proved. All files here are meant to be imported by the crates
+-- above: a production's rule is its `do` block again.
+--   Sets, KindLemmas                 sets of kinds, first and follow sets among them
+--   Rules, Forms, More, Many, Steps, Openings
+--                                    a rule for each form of production: what a parser reads is what its language derives
+--   Gathered, LoopEnds               loops of the code, beside the repetition that they read
+--   Whole, Depths                    of any rule: the exits of a reader, and the laws of one tree and one answer
+--   StandsLemmas                     a tree is made of the tokens that derive it
+--   NameRules, UidLoop, NameLoop, NamesExact
+--                                    names, by these
+pub mod Sets
+pub mod Rules
+pub mod Forms
+pub mod More
+pub mod Many
+pub mod Steps
+pub mod Openings
+pub mod Gathered
+pub mod Whole
+pub mod Depths
+pub mod KindLemmas
+pub mod LoopEnds
+pub mod NameRules
+pub mod UidLoop
+pub mod NameLoop
+pub mod StandsLemmas
+pub mod NamesExact

@@ -1,0 +1,9 @@
+pub mod Kinds
+pub mod Lang
+pub mod Grammar
+pub mod Reads
+pub mod Reading
+pub mod Parsing
+pub mod Gives
+pub mod Stands
+pub mod Included

@@ -1,0 +1,83 @@
+//! Tokens one after the other.
+
+ghost use Rattle.std.specs.Prelude.{◌≡◌, IfErr, length};
+ghost use Rattle.token_readers.specs.Gives.{Gives};
+ghost use Rattle.token_readers.specs.Kinds as spec;
+ghost use Rattle.token_readers.specs.Reading as reading;
+ghost use Rattle.token_readers.specs.Reads as reads;
+ghost use Rattle.token_readers.specs.declared.fault.Halt.TheVariants as halt;
+
+use crate::fault::Halt;
+use crate::kind_sets::KindSet;
+use policy_tokens::{Kind, Token};
+
+fn same_kind(a: Kind, b: Kind) -> bool
+    ensures { result ≡ spec.same_kind a b }
+{
+    a == b
+}
+
+/// The tokens that are left.
+#[derive(Drop)]
+pub struct Cursor<'a> {
+    pub rest: &'a [Token],
+}
+
+impl<'a> Cursor<'a> {
+    /// How many tokens are left.
+    pub fn left(&self) -> usize
+        ensures { result ≡ length self.now.rest.now }
+    {
+        self.rest.len()
+    }
+
+    /// Whether the next token is of this kind.
+    pub fn sees(&self, kind: Kind) -> bool
+        ensures { result ≡ reads.sees (spec.only kind) self.now.rest.now }
+    {
+        match self.rest {
+            [token, ..] => same_kind(token.kind, kind),
+            [] => false,
+        }
+    }
+
+    /// Whether the next token is of one of these kinds.
+    pub fn sees_one_of<S: KindSet>(&self, set: S) -> bool
+        ensures { result ≡ reads.sees (S.included set) self.now.rest.now }
+    {
+        match self.rest {
+            [token, ..] => set.includes(token.kind),
+            [] => false,
+        }
+    }
+
+    /// The next token, which has to be of this kind; else none is taken.
+    #[tactic(auto, unfolding(crate::specs::Reading::take))]
+    pub fn take(&mut self, kind: Kind) -> Result<Token, Halt>
+        ensures reads { Gives (reading.token kind self.old.rest.now) result self.new.rest.now }
+        ensures only { IfErr result (λ why. why ≡ halt.Unexpected) }
+    {
+        match self.rest {
+            [token, rest @ ..] if same_kind(token.kind, kind) => {
+                self.rest = rest;
+                Ok(*token)
+            }
+            _ => Err(Halt::Unexpected),
+        }
+    }
+
+    /// The next token, which has to be of one of these kinds; else none is taken.
+    #[tactic(auto, unfolding(crate::specs::Reading::take))]
+    pub fn take_one_of<S: KindSet>(&mut self, set: S) -> Result<Token, Halt>
+        ensures reads { Gives (reading.take (S.included set) self.old.rest.now) result self.new.rest.now }
+        ensures only { IfErr result (λ why. why ≡ halt.Unexpected) }
+    {
+        match self.rest {
+            [token, rest @ ..] if set.includes(token.kind) => {
+                self.rest = rest;
+                Ok(*token)
+            }
+            _ => Err(Halt::Unexpected),
+        }
+    }
+}

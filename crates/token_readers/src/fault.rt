@@ -1,0 +1,44 @@
+ghost use Rattle.std.specs.Prelude.{◌≡◌};
+ghost use Rattle.token_readers.specs.declared.fault.SyntaxFault.TheVariants as fault;
+ghost use Rattle.token_readers.specs.declared.fault.Halt.TheVariants as halt;
+
+use std::alloc::AllocError;
+
+/// Why a list of tokens is not read. A place is the index of the first token with which nothing
+/// goes on, or the count of the tokens where they end too early.
+#[derive(Clone, Copy, Debug, PartialEq, Eq)]
+pub enum SyntaxFault {
+    NoMemory,
+    /// The token at the place can't stand there.
+    Unexpected(usize),
+    /// The same, and the token is `?principal` or `?resource`.
+    Slot(usize),
+    /// The token at the place could stand there, but would open one level of nesting too many.
+    TooDeep(usize),
+}
+
+impl From<AllocError> for SyntaxFault {
+    ghost from_gives = { λ _ e. e ≡ fault.NoMemory };
+
+    fn from(_error: AllocError) -> SyntaxFault {
+        SyntaxFault::NoMemory
+    }
+}
+
+/// Why reading stops at the next token.
+#[derive(Clone, Copy, Debug, PartialEq, Eq)]
+pub enum Halt {
+    NoMemory,
+    /// The next token can't stand there, or the tokens end too early.
+    Unexpected,
+    /// The next token would open one level of nesting too many.
+    TooDeep,
+}
+
+impl From<AllocError> for Halt {
+    ghost from_gives = { λ _ e. e ≡ halt.NoMemory };
+
+    fn from(_error: AllocError) -> Halt {
+        Halt::NoMemory
+    }
+}

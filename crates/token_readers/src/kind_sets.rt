@@ -1,0 +1,42 @@
+//! Sets of kinds of tokens, by what they are to a reader.
+
+ghost use Rattle.std.specs.Prelude.{◌≡◌};
+ghost use Rattle.token_readers.specs.Included.{included as of_names};
+ghost use Rattle.token_readers.specs.Kinds.{Kinds};
+
+use policy_tokens::Kind;
+
+/// A set of kinds of tokens that readers ask for by name.
+pub trait KindSet: Copy {
+    ghost included: { Self → Kinds };
+
+    /// Whether tokens of this kind are in the set.
+    fn includes(self, kind: Kind) -> bool
+        ensures { result ≡ included self kind };
+}
+
+/// What readers of names ask for.
+#[derive(Clone, Copy)]
+pub enum NameSet {
+    /// Words that are not reserved.
+    Identifiers,
+    /// What stands behind a `::`: an identifier or a quoted text.
+    Pieces,
+    /// `?principal` and `?resource`.
+    Slots,
+}
+
+impl KindSet for NameSet {
+    ghost included = { of_names };
+
+    fn includes(self, kind: Kind) -> bool {
+        match self {
+            NameSet::Identifiers => kind.is_ident(),
+            NameSet::Pieces => match kind {
+                Kind::Text => true,
+                _ => kind.is_ident(),
+            },
+            NameSet::Slots => matches!(kind, Kind::PrincipalSlot | Kind::ResourceSlot),
+        }
+    }
+}

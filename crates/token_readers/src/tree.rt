@@ -1,0 +1,25 @@
+use plain::Items;
+use policy_tokens::Token;
+
+/// The words of a name: a Path.
+#[derive(Drop)]
+pub struct PathTree {
+    pub first: Token,
+    /// Those behind each `::`.
+    pub more: Items<Token>,
+}
+
+/// An entity, by its type's name and its quoted id.
+#[derive(Drop)]
+pub struct UidTree {
+    pub path: PathTree,
+    /// A quoted text without `\*`.
+    pub id: Token,
+}
+
+/// A Path or a Uid, which begin alike.
+#[derive(Drop)]
+pub enum Name {
+    Path(PathTree),
+    Uid(UidTree),
+}
