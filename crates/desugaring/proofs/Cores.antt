@@ -3,8 +3,8 @@ use Rattle.std.proofs.Common.{◌≡◌, ℕ, refl, ap, ◌∙◌, sym, List, ma
 use Rattle.std.specs.List.{fold}
 use Rattle.policy_tokens.specs.declared.token.Token.{Token}
 use Rattle.policy_tokens.specs.Lexing.{spelling_of}
-use Rattle.expression_syntax.specs.declared.tree.PathTree.{PathTree}
-use Rattle.expression_syntax.specs.declared.tree.UidTree.{UidTree}
+use Rattle.token_readers.specs.declared.tree.PathTree.{PathTree}
+use Rattle.token_readers.specs.declared.tree.UidTree.{UidTree}
 use Rattle.expression_syntax.specs.declared.tree.Access.{Access}
 use Rattle.expression_syntax.specs.declared.tree.Access.TheVariants as access
 use Rattle.expression_syntax.specs.declared.tree.Entry.{Entry}

@@ -3,8 +3,8 @@ use Rattle.std.proofs.Common.{◌≡◌, ℕ, refl, ap, ◌∙◌, sym, List, []
 use Rattle.std.specs.List.{flat_map}
 use Rattle.policy_tokens.specs.declared.token.Token.{Token}
 use Rattle.policy_tokens.specs.Lexing.{spelling_of}
-use Rattle.expression_syntax.specs.declared.tree.PathTree.{PathTree}
-use Rattle.expression_syntax.specs.declared.tree.UidTree.{UidTree}
+use Rattle.token_readers.specs.declared.tree.PathTree.{PathTree}
+use Rattle.token_readers.specs.declared.tree.UidTree.{UidTree}
 use Rattle.expression_syntax.specs.declared.tree.Access.{Access}
 use Rattle.expression_syntax.specs.declared.tree.Access.TheVariants as access
 use Rattle.expression_syntax.specs.declared.tree.Entry.{Entry}
@@ -15,9 +15,9 @@ use Rattle.expression_syntax.specs.declared.tree.ExprTree.TheOpen.{ExprTree-F as
 use Rattle.expression_syntax.specs.declared.tree.ExprTree.TheFolds.{fold-roll-ExprTree}
 use Rattle.desugaring.specs.Numbers.{fits, fits_negated}
 use Rattle.desugaring.specs.Core.{in_access}
-use Rattle.desugaring.specs.Repeats.{repeats}
+use Rattle.desugaring.specs.Repeats.{repeat_faults}
 use Rattle.desugaring.specs.Faults.{Faulty, fault_step, fault_meaning, faults_of, negated_faults, range, function_faults, access_faults, key_of}
-use Rattle.expression_syntax.proofs.Flat.{joined, flat_map_map, flat_map_each}
+use Rattle.expression_syntax.specs.inner.Flat.{joined, flat_map_map, flat_map_each}
 use Rattle.desugaring.proofs.Lists.{map_map, map_accesses, length-mapped}
 
 module _ (text : List ℕ) where
@@ -54,9 +54,9 @@ module _ (text : List ℕ) where
   faults-Set members =
       ap (faults_of text) (sym (t.rolls-Set members)) ∙ ap (λ f. f.alone) (fold-roll-ExprTree Faulty (fault_step text) (tree.Set members)) ∙ flat_map_map (λ f. f.alone) (fault_meaning text) members
 
-  pub faults-Record : (entries : List (Entry ExprTree)) → faults_of text (t.Record entries) ≡ repeats [] (map (key_of text) entries) ++ flat_map (λ entry. faults_of text entry.value) entries
+  pub faults-Record : (entries : List (Entry ExprTree)) → faults_of text (t.Record entries) ≡ repeat_faults (map (key_of text) entries) ++ flat_map (λ entry. faults_of text entry.value) entries
   faults-Record entries =
-      ap (faults_of text) (sym (t.rolls-Record entries)) ∙ ap (λ f. f.alone) (fold-roll-ExprTree Faulty (fault_step text) (tree.Record entries)) ∙ joined (ap (repeats []) (map_map (key_of text) _ entries)) (flat_map_each (λ entry. entry.value.alone) (λ entry. faults_of text entry.value) _ (λ entry. refl) entries)
+      ap (faults_of text) (sym (t.rolls-Record entries)) ∙ ap (λ f. f.alone) (fold-roll-ExprTree Faulty (fault_step text) (tree.Record entries)) ∙ joined (ap repeat_faults (map_map (key_of text) _ entries)) (flat_map_each (λ entry. entry.value.alone) (λ entry. faults_of text entry.value) _ (λ entry. refl) entries)
 
   pub faults-Member : (a : ExprTree) (accesses : List (Access (List ExprTree))) → faults_of text (t.Member a accesses) ≡ faults_of text a ++ flat_map (λ x. access_faults text (in_access (faults_of text) x)) accesses
   faults-Member a accesses =

@@ -1,6 +1,6 @@
 -- What is made of results that are known.
 use Rattle.std.proofs.Common.{◌≡◌, ◌∙◌, ap, Result, Ok, Err, IfOk}
-use Rattle.desugaring.specs.Giving.{Gave}
+use Rattle.desugaring.specs.inner.Giving.{Gave}
 
 pub one : {A B E F : Type 0} (f : A → B) (a : A) (b : B) (first : Result A E) (r : Result B F) → IfOk first (λ x. x ≡ a) →
     IfOk r (λ e. Gave first (λ x. e ≡ f x)) → f a ≡ b → IfOk r (λ e. e ≡ b)

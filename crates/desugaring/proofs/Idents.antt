@@ -10,8 +10,8 @@ use Rattle.policy_tokens.specs.Idents.{is_ident}
 use Rattle.policy_tokens.specs.Strings.{is_string}
 use Rattle.expression_syntax.specs.Expressions.{patterns}
 use Rattle.policy_tokens.specs.Lexing.{spelling_of}
-use Rattle.expression_syntax.specs.Grammar.{identifiers}
-use Rattle.expression_syntax.specs.Kinds.{only, same_kind}
+use Rattle.token_readers.specs.Grammar.{identifiers}
+use Rattle.token_readers.specs.Kinds.{only, same_kind}
 use Rattle.desugaring.proofs.Lists.{idents-more}
 
 pub ident-kind : (kind : Kind) → identifiers kind ≡ true → is_ident kind ≡ true

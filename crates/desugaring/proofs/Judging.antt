@@ -4,8 +4,8 @@ use Rattle.std.proofs.lemmas.List.{append-nil}
 use Rattle.std.specs.List.{fold, flat_map}
 use Rattle.policy_tokens.specs.declared.token.Token.{Token}
 use Rattle.policy_tokens.specs.Lexing.{spelling_of}
-use Rattle.expression_syntax.specs.declared.tree.PathTree.{PathTree}
-use Rattle.expression_syntax.specs.declared.tree.UidTree.{UidTree}
+use Rattle.token_readers.specs.declared.tree.PathTree.{PathTree}
+use Rattle.token_readers.specs.declared.tree.UidTree.{UidTree}
 use Rattle.expression_syntax.specs.declared.tree.Access.{Access}
 use Rattle.expression_syntax.specs.declared.tree.Access.TheVariants as access
 use Rattle.expression_syntax.specs.declared.tree.Entry.{Entry}
@@ -18,7 +18,7 @@ use Rattle.expressions.specs.declared.expr.Expr.{Expr}
 use Rattle.expressions.specs.declared.expr.Expr.TheVariants as core
 use Rattle.expressions.specs.declared.expr.Named.{Named}
 use Rattle.expressions.specs.Size.{height, height_step, forms, forms_step, greatest, total}
-use Rattle.expressions.specs.Forms.{fold_record}
+use Rattle.expressions.specs.inner.Forms.{fold_record}
 use Rattle.desugaring.specs.declared.fault.DesugarFault.{DesugarFault}
 use Rattle.desugaring.specs.Numbers.{fits, fits_negated}
 use Rattle.desugaring.specs.Strings.{pattern_of}
@@ -26,12 +26,12 @@ use Rattle.desugaring.specs.Meaning.{path_name, name_of, sign_of}
 use Rattle.desugaring.specs.Names.{method_of, method_takes}
 use Rattle.desugaring.specs.Core as spec
 use Rattle.desugaring.specs.Core.{core_of, negated, accessed, added, field, in_term, in_entry, in_access, function}
-use Rattle.desugaring.specs.Repeats.{repeats}
+use Rattle.desugaring.specs.Repeats.{repeat_faults}
 use Rattle.desugaring.specs.Refused.{earlier_of, least}
 use Rattle.desugaring.specs.Faults.{faults_of, range, call_faults, function_faults, access_faults, key_of}
 use Rattle.desugaring.specs.Judged.{judgement, of, of_row, judged, judged_negated}
 use Rattle.desugaring.specs.Sums.{nothing, leaf, above, beside, paired, called, with_fault, judged_all, judged_chain, judged_term, judged_entry, judged_compared, judged_call, judged_access}
-use Rattle.expression_syntax.proofs.Flat.{flat_map_map}
+use Rattle.expression_syntax.specs.inner.Flat.{flat_map_map}
 use Rattle.desugaring.proofs.Lists.{length-mapped}
 use Rattle.desugaring.proofs.Least.{least-append, earlier_same}
 use Rattle.desugaring.proofs.Sizing.{same, capped_above, of-Literal, of-Variable, of-Unary, of-Field, of-Has, of-Set, of-And, of-Or, of-Binary, of-If, of-compared, of-called, of-method, row-snoc, fused, fold_map, fold_snoc}
@@ -126,12 +126,12 @@ module _ (text : List ℕ) where
   judged-Set members =
       same_of (core-Set text members) (faults-Set text members) ∙ of-Set (map (core_of text) members) (flat_map (faults_of text) members) ∙ ap above (rowed members)
 
-  pub judged-Record : (entries : List (Entry ExprTree)) → judged text (t.Record entries) ≡ above (with_fault (least (repeats [] (map (key_of text) entries))) (fold (judged_entry text) nothing entries))
+  pub judged-Record : (entries : List (Entry ExprTree)) → judged text (t.Record entries) ≡ above (with_fault (least (repeat_faults (map (key_of text) entries))) (fold (judged_entry text) nothing entries))
   judged-Record entries =
-      same_of (core-Record text entries) (faults-Record text entries) ∙ of-Record entries (repeats [] (map (key_of text) entries) ++ flat_map (λ entry. faults_of text entry.value) entries)
+      same_of (core-Record text entries) (faults-Record text entries) ∙ of-Record entries (repeat_faults (map (key_of text) entries) ++ flat_map (λ entry. faults_of text entry.value) entries)
       ∙ ap (λ o. above (judgement (greatest (map height (map (λ entry. core_of text entry.value) entries))) (total (map forms (map (λ entry. core_of text entry.value) entries))) o))
-      (least-append (repeats [] (map (key_of text) entries)) (flat_map (λ entry. faults_of text entry.value) entries))
-      ∙ ap (λ j. above (with_fault (least (repeats [] (map (key_of text) entries))) j)) (valued entries)
+      (least-append (repeat_faults (map (key_of text) entries)) (flat_map (λ entry. faults_of text entry.value) entries))
+      ∙ ap (λ j. above (with_fault (least (repeat_faults (map (key_of text) entries))) j)) (valued entries)
 
   pub judged-Member : (a : ExprTree) (accesses : List (Access (List ExprTree))) → judged text (t.Member a accesses) ≡ fold (judged_access text) (judged text a) accesses
   judged-Member a accesses =

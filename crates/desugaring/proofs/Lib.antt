@@ -12,3 +12,5 @@ pub mod PartsOf
 pub mod Gaving
 pub mod Telling
 pub mod Standing
+pub mod Members
+pub mod Again

@@ -16,7 +16,7 @@ use Rattle.expressions.specs.declared.operator.Binary.TheVariants.{Equal, In, Le
 use Rattle.expressions.specs.declared.operator.UnaryCall.{UnaryCall}
 use Rattle.expressions.specs.declared.operator.BinaryCall.{BinaryCall}
 use Rattle.expressions.specs.Size.{height, height_step, forms, forms_step, capped, greatest, total}
-use Rattle.expressions.specs.Forms.{fold_literal, fold_variable, fold_if, fold_and, fold_or, fold_unary, fold_binary, fold_field, fold_has, fold_set, fold_unary_call, fold_binary_call}
+use Rattle.expressions.specs.inner.Forms.{fold_literal, fold_variable, fold_if, fold_and, fold_or, fold_unary, fold_binary, fold_field, fold_has, fold_set, fold_unary_call, fold_binary_call}
 use Rattle.desugaring.specs.declared.fault.DesugarFault.{DesugarFault}
 use Rattle.desugaring.specs.declared.fault.DesugarFault.TheVariants.{UnknownCall, Arity}
 use Rattle.desugaring.specs.declared.judgement.Judgement.{Judgement}

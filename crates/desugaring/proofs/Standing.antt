@@ -4,14 +4,14 @@ use Rattle.std.specs.Prelude.{Contains}
 use Rattle.std.specs.List.{AllByRecursion}
 use Rattle.policy_tokens.specs.declared.token.Token.{Token}
 use Rattle.policy_tokens.specs.Lexing.{IsSpelledIn}
-use Rattle.expression_syntax.specs.declared.tree.PathTree.{PathTree}
+use Rattle.token_readers.specs.declared.tree.PathTree.{PathTree}
 use Rattle.expression_syntax.specs.declared.tree.ExprTree.{ExprTree}
-use Rattle.expression_syntax.specs.Grammar.{identifiers}
-use Rattle.expression_syntax.specs.Kinds.{Kinds}
+use Rattle.token_readers.specs.Grammar.{identifiers}
+use Rattle.token_readers.specs.Kinds.{Kinds}
 use Rattle.expression_syntax.specs.Parts.{Part, parts_of}
 use Rattle.expression_syntax.specs.Stands.{TokenStands, PathStands, ExprStands}
-use Rattle.expression_syntax.proofs.Flat.{all_as}
-use Rattle.desugaring.specs.Standing.{TokenIn, PathIn, Stands}
+use Rattle.expression_syntax.specs.inner.Flat.{all_as}
+use Rattle.desugaring.specs.inner.Standing.{TokenIn, PathIn, Stands}
 
 -- an item of a list of which each is so
 pub item_is : {A : Type 0} (P : A → Type 0) (xs : List A) (x : A) → AllByRecursion P xs → Contains xs x → P x

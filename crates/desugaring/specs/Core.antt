@@ -1,6 +1,8 @@
--- The core expression that a syntax tree stands for, with the text in which its tokens stand. One line for each form of tree.
+-- The core expression that a syntax tree stands for, with the text in which its tokens stand. One line for each form
+-- of tree.
 -- Of a tree that has faults it says nothing of use: such a tree is refused.
--- Source: Cedar reference guide 4.0, "Grammar specification for Cedar policy syntax" and "Operators and functions". Operators of one level group to the left.
+-- Source: Cedar reference guide 4.0, "Grammar specification for Cedar policy syntax" and "Operators and functions".
+-- Operators of one level group to the left.
 use Rattle.std.specs.Prelude.{ℕ, ℤ, false, List, [], ◌∷◌, map, Option, Some, None}
 use Rattle.std.specs.List.{fold}
 use Rattle.policy_tokens.specs.declared.token.Kind.{Kind}
@@ -14,7 +16,7 @@ use Rattle.expressions.specs.declared.operator.UnaryCall.{UnaryCall}
 use Rattle.expressions.specs.declared.expr.Named.{Named}
 use Rattle.expressions.specs.declared.expr.Expr.{Expr}
 use Rattle.expressions.specs.declared.expr.Expr.TheVariants as core
-use Rattle.expression_syntax.specs.declared.tree.PathTree.{PathTree}
+use Rattle.token_readers.specs.declared.tree.PathTree.{PathTree}
 use Rattle.expression_syntax.specs.declared.tree.Access.{Access}
 use Rattle.expression_syntax.specs.declared.tree.Access.TheVariants as access
 use Rattle.expression_syntax.specs.declared.tree.Entry.{Entry}
@@ -127,7 +129,8 @@ core_step text (tree.Compare a t b) = plain (compared t.kind a.alone b.alone)
 core_step text (tree.Has a t) = plain (core.Has a.alone (name_of text t))
 core_step text (tree.Like a t) = plain (core.Unary (Like (pattern_of (spelling_of text t))) a.alone)
 core_step text (tree.Is a path) = plain (core.Unary (Is (path_name text path)) a.alone)
-core_step text (tree.IsIn a path b) = plain (core.And (core.Unary (Is (path_name text path)) a.alone) (core.Binary In a.alone b.alone))
+core_step text (tree.IsIn a path b) =
+    plain (core.And (core.Unary (Is (path_name text path)) a.alone) (core.Binary In a.alone b.alone))
 core_step text (tree.And a more) = plain (fold core.And a.alone (map by_itself more))
 core_step text (tree.Or a more) = plain (fold core.Or a.alone (map by_itself more))
 core_step text (tree.If a b c) = plain (core.If a.alone b.alone c.alone)

@@ -1,10 +1,11 @@
 -- The faults of a syntax tree, with the text in which its tokens stand: its own and those of its parts.
--- Source: Cedar reference guide 4.0, "Data types: Long", "Data types: Record", "Operators and functions". The places are a rule of this product.
+-- Source: Cedar reference guide 4.0, "Data types: Long", "Data types: Record", "Operators and functions". The places
+-- are a rule of this product.
 use Rattle.std.specs.Prelude.{ℕ, Bool, List, [], ◌∷◌, ◌++◌, map, length, Option, Some, None, nat_eq, if◌then◌else◌}
 use Rattle.std.specs.List.{flat_map}
 use Rattle.policy_tokens.specs.declared.token.Token.{Token}
 use Rattle.policy_tokens.specs.Lexing.{spelling_of}
-use Rattle.expression_syntax.specs.declared.tree.PathTree.{PathTree}
+use Rattle.token_readers.specs.declared.tree.PathTree.{PathTree}
 use Rattle.expression_syntax.specs.declared.tree.Access.{Access}
 use Rattle.expression_syntax.specs.declared.tree.Access.TheVariants as access
 use Rattle.expression_syntax.specs.declared.tree.Entry.{Entry}
@@ -17,8 +18,7 @@ use Rattle.desugaring.specs.Names.{method_of, function_takes, method_takes}
 use Rattle.desugaring.specs.Numbers.{fits, fits_negated}
 use Rattle.desugaring.specs.Meaning.{name_of}
 use Rattle.desugaring.specs.Core.{function, in_access}
-use Rattle.desugaring.specs.declared.repeats.Key.{Key}
-use Rattle.desugaring.specs.Repeats.{repeats}
+use Rattle.desugaring.specs.Repeats.{Mark, repeat_faults}
 
 -- the faults of a tree by itself, and behind a minus
 pub record Faulty : Type 0 where
@@ -45,10 +45,11 @@ function_faults text path count = call_faults path.first.start (function_takes (
 abbrev pub access_faults : List ℕ → Access (List (List DesugarFault)) → List DesugarFault
 access_faults text (access.Field name) = []
 access_faults text (access.Method name arguments) =
-    call_faults name.start (method_takes (method_of (spelling_of text name))) (length arguments) ++ flat_map (λ faults. faults) arguments
+    call_faults name.start (method_takes (method_of (spelling_of text name))) (length arguments)
+    ++ flat_map (λ faults. faults) arguments
 
 -- a key of a record where it stands
-abbrev pub key_of : List ℕ → {A : Type 0} → Entry A → Key
+abbrev pub key_of : List ℕ → {A : Type 0} → Entry A → Mark
 key_of text entry = record { name = name_of text entry.key; at = entry.key.start }
 
 abbrev by_itself : Faulty → List DesugarFault
@@ -59,15 +60,19 @@ in_all = flat_map by_itself
 
 abbrev pub fault_step : List ℕ → tree Faulty → Faulty
 fault_step text (tree.Boolean t) = either_way []
-fault_step text (tree.Number t) = record { alone = range (fits (spelling_of text t)) t; negated = range (fits_negated (spelling_of text t)) t }
+fault_step text (tree.Number t) =
+    record { alone = range (fits (spelling_of text t)) t; negated = range (fits_negated (spelling_of text t)) t }
 fault_step text (tree.Text t) = either_way []
 fault_step text (tree.Variable t) = either_way []
 fault_step text (tree.Uid uid) = either_way []
-fault_step text (tree.Call path arguments) = either_way (function_faults text path (length arguments) ++ in_all arguments)
+fault_step text (tree.Call path arguments) =
+    either_way (function_faults text path (length arguments) ++ in_all arguments)
 fault_step text (tree.Parentheses a) = either_way a.alone
 fault_step text (tree.Set members) = either_way (in_all members)
-fault_step text (tree.Record entries) = either_way (repeats [] (map (key_of text) entries) ++ flat_map (λ entry. entry.value.alone) entries)
-fault_step text (tree.Member a accesses) = either_way (a.alone ++ flat_map (access_faults text) (map (in_access by_itself) accesses))
+fault_step text (tree.Record entries) =
+    either_way (repeat_faults (map (key_of text) entries) ++ flat_map (λ entry. entry.value.alone) entries)
+fault_step text (tree.Member a accesses) =
+    either_way (a.alone ++ flat_map (access_faults text) (map (in_access by_itself) accesses))
 fault_step text (tree.Not a) = either_way a.alone
 fault_step text (tree.Minus a) = either_way a.negated
 fault_step text (tree.Product a more) = either_way (a.alone ++ in_all more)

@@ -1,6 +1,5 @@
 pub mod Core
 pub mod Faults
-pub mod Giving
 pub mod Judged
 pub mod Meaning
 pub mod Names
@@ -10,3 +9,4 @@ pub mod Standing
 pub mod Strings
 pub mod Sums
 pub mod Refused
+pub mod inner

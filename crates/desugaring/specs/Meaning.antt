@@ -10,8 +10,8 @@ use Rattle.expressions.specs.declared.leaf.Variable.{Variable}
 use Rattle.expressions.specs.declared.leaf.Variable.TheVariants.{Principal, Action, Resource, Context}
 use Rattle.expressions.specs.declared.operator.Binary.{Binary}
 use Rattle.expressions.specs.declared.operator.Binary.TheVariants.{Add, Subtract}
-use Rattle.expression_syntax.specs.declared.tree.PathTree.{PathTree}
-use Rattle.expression_syntax.specs.declared.tree.UidTree.{UidTree}
+use Rattle.token_readers.specs.declared.tree.PathTree.{PathTree}
+use Rattle.token_readers.specs.declared.tree.UidTree.{UidTree}
 use Rattle.desugaring.specs.Strings.{value_of}
 
 abbrev pub boolean_of : Kind → Bool

@@ -11,7 +11,9 @@ use Rattle.desugaring.specs.declared.names.Method.TheVariants as method
 
 -- a function by its name
 abbrev pub function_of : List ℕ → Option UnaryCall
-function_of name = if bytes_eq name (codes "ip") then Some unary.Ip else (if bytes_eq name (codes "decimal") then Some unary.Decimal else None)
+function_of name =
+    if bytes_eq name (codes "ip") then Some unary.Ip
+    else (if bytes_eq name (codes "decimal") then Some unary.Decimal else None)
 
 -- a name and the method that it is
 pub record Named : Type 0 where
@@ -22,12 +24,17 @@ abbrev named : List ℕ → Method → Named
 named name method = record { name = name; method = method }
 
 abbrev pub methods : List Named
-methods = named (codes "contains") (method.Operator operator.Contains) ∷ named (codes "containsAll") (method.Operator operator.ContainsAll)
-    ∷ named (codes "containsAny") (method.Operator operator.ContainsAny) ∷ named (codes "lessThan") (method.WithArgument binary.LessThan)
-    ∷ named (codes "lessThanOrEqual") (method.WithArgument binary.LessThanOrEqual) ∷ named (codes "greaterThan") (method.WithArgument binary.GreaterThan)
-    ∷ named (codes "greaterThanOrEqual") (method.WithArgument binary.GreaterThanOrEqual) ∷ named (codes "isInRange") (method.WithArgument binary.IsInRange)
+methods = named (codes "contains") (method.Operator operator.Contains)
+    ∷ named (codes "containsAll") (method.Operator operator.ContainsAll)
+    ∷ named (codes "containsAny") (method.Operator operator.ContainsAny)
+    ∷ named (codes "lessThan") (method.WithArgument binary.LessThan)
+    ∷ named (codes "lessThanOrEqual") (method.WithArgument binary.LessThanOrEqual)
+    ∷ named (codes "greaterThan") (method.WithArgument binary.GreaterThan)
+    ∷ named (codes "greaterThanOrEqual") (method.WithArgument binary.GreaterThanOrEqual)
+    ∷ named (codes "isInRange") (method.WithArgument binary.IsInRange)
     ∷ named (codes "isIpv4") (method.Alone unary.IsIpv4) ∷ named (codes "isIpv6") (method.Alone unary.IsIpv6)
-    ∷ named (codes "isLoopback") (method.Alone unary.IsLoopback) ∷ named (codes "isMulticast") (method.Alone unary.IsMulticast) ∷ []
+    ∷ named (codes "isLoopback") (method.Alone unary.IsLoopback)
+    ∷ named (codes "isMulticast") (method.Alone unary.IsMulticast) ∷ []
 
 abbrev pub listed : List Named → List ℕ → Option Method
 listed [] name = None

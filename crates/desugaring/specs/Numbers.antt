@@ -1,4 +1,5 @@
--- Numbers as their digits write them. Source: Cedar reference guide 4.0, "Data types: Long": whole numbers of signed 64 bits.
+-- Numbers as their digits write them. Source: Cedar reference guide 4.0, "Data types: Long": whole numbers of signed
+-- 64 bits.
 use Rattle.std.specs.Prelude.{ℕ, Bool, ◌+◌, ◌-◌, ◌*◌, ◌^◌, ℤ, pos, neg_ℤ, List, if◌then◌else◌, nat_lt, nat_le}
 use Rattle.std.specs.List.{fold}
 

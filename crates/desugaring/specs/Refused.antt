@@ -1,5 +1,5 @@
 -- Where a fault stands, and which of several is told: a rule of this product.
-use Rattle.std.specs.Prelude.{◌≡◌, ℕ, ◌≤◌, if◌then◌else◌, nat_lt, List, [], ◌∷◌, Option, Some, None, Contains}
+use Rattle.std.specs.Prelude.{◌≡◌, ℕ, ◌≤◌, if◌then◌else◌, nat_lt, List, [], ◌∷◌, ◌++◌, Option, Some, None, Contains}
 use Rattle.desugaring.specs.declared.fault.DesugarFault.{DesugarFault}
 use Rattle.desugaring.specs.declared.fault.DesugarFault.TheVariants.{NumberRange, UnknownCall, Arity, RepeatedKey}
 
@@ -36,3 +36,7 @@ LeastIsLeast = (faults : List DesugarFault) (fault : DesugarFault) → least fau
 
 abbrev pub NoneOfNone : Type 0
 NoneOfNone = (faults : List DesugarFault) → least faults ≡ None → faults ≡ []
+
+-- Of faults and further ones it is the earlier of the two that are told.
+abbrev pub LeastOfBoth : Type 0
+LeastOfBoth = (faults more : List DesugarFault) → least (faults ++ more) ≡ earlier_of (least faults) (least more)

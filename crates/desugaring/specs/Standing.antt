@@ -1,51 +1,11 @@
--- What a tree is made of: tokens of the text, each of a kind that its place asks for.
-use Rattle.std.specs.Prelude.{◌≡◌, ℕ, true, List}
+-- What a tree is made of: tokens that are spelled in the text.
+use Rattle.std.specs.Prelude.{ℕ, List}
 use Rattle.std.specs.List.{AllByRecursion}
-use Rattle.policy_tokens.specs.declared.token.Kind.TheVariants as k
 use Rattle.policy_tokens.specs.declared.token.Token.{Token}
 use Rattle.policy_tokens.specs.Lexing.{IsSpelledIn}
-use Rattle.expression_syntax.specs.declared.tree.PathTree.{PathTree}
-use Rattle.expression_syntax.specs.declared.tree.UidTree.{UidTree}
-use Rattle.expression_syntax.specs.declared.tree.Access.{Access}
-use Rattle.expression_syntax.specs.declared.tree.Access.TheVariants as access
-use Rattle.expression_syntax.specs.declared.tree.Entry.{Entry}
-use Rattle.expression_syntax.specs.declared.tree.Term.{Term}
-use Rattle.expression_syntax.specs.declared.tree.ExprTree.{ExprTree}
-use Rattle.expression_syntax.specs.Kinds.{Kinds, only}
-use Rattle.expression_syntax.specs.Grammar.{identifiers}
-use Rattle.expression_syntax.specs.Expressions.{keys, signs}
-use Rattle.expression_syntax.specs.Parts.{parts_of}
 
--- The token is spelled in the text, and of these kinds.
-pub record TokenIn (text : List ℕ) (kinds : Kinds) (token : Token) : Type 0 where
-  pub spelled : IsSpelledIn text token
-  pub kind : kinds token.kind ≡ true
-
--- The tree is made of tokens of the text.
-pub record Stands (text : List ℕ) (x : ExprTree) : Type 0 where
-  pub parts : AllByRecursion (λ p. TokenIn text p.kinds p.token) (parts_of x)
-
--- ## The same of the parts of a tree
-
-pub record PathIn (text : List ℕ) (path : PathTree) : Type 0 where
-  pub first : TokenIn text identifiers path.first
-  pub more : AllByRecursion (TokenIn text identifiers) path.more
-
-pub record UidIn (text : List ℕ) (uid : UidTree) : Type 0 where
-  pub path : PathIn text uid.path
-  pub id : TokenIn text (only k.Text) uid.id
-
-abbrev pub AllStand : List ℕ → List ExprTree → Type 0
-AllStand text = AllByRecursion (Stands text)
-
-pub record EntryStands (text : List ℕ) (entry : Entry ExprTree) : Type 0 where
-  pub key : TokenIn text keys entry.key
-  pub value : Stands text entry.value
-
-pub record TermStands (text : List ℕ) (term : Term ExprTree) : Type 0 where
-  pub sign : TokenIn text signs term.sign
-  pub operand : Stands text term.operand
-
-abbrev pub AccessStands : List ℕ → Access (List ExprTree) → Type 0
-AccessStands text (access.Field name) = TokenIn text keys name
-AccessStands text (access.Method name arguments) = TokenIn text identifiers name × AllStand text arguments
+-- Something is made of tokens that are spelled in the text.
+pub record StandsIn (text : List ℕ) (Stands : List Token → Type 0) : Type 0 where
+  pub tokens : List Token
+  pub spelled : AllByRecursion (IsSpelledIn text) tokens
+  pub stands : Stands tokens

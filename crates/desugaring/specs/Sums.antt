@@ -1,10 +1,14 @@
 -- Judgements put together.
-use Rattle.std.specs.Prelude.{ℕ, ◌+◌, max, List, length, Option, Some, None}
+use Rattle.std.specs.Prelude.{◌≡◌, ℕ, ◌+◌, ◌++◌, max, List, length, Option, Some, None}
 use Rattle.std.specs.List.{fold}
 use Rattle.policy_tokens.specs.declared.token.Kind.{Kind}
 use Rattle.policy_tokens.specs.declared.token.Kind.TheVariants as k
 use Rattle.policy_tokens.specs.Lexing.{spelling_of}
-use Rattle.expression_syntax.specs.declared.tree.PathTree.{PathTree}
+use Rattle.expressions.specs.declared.leaf.Literal.{Literal}
+use Rattle.expressions.specs.declared.operator.Unary.{Unary}
+use Rattle.expressions.specs.declared.expr.Expr.{Expr}
+use Rattle.expressions.specs.declared.expr.Expr.TheVariants as core
+use Rattle.token_readers.specs.declared.tree.PathTree.{PathTree}
 use Rattle.expression_syntax.specs.declared.tree.Access.{Access}
 use Rattle.expression_syntax.specs.declared.tree.Access.TheVariants as access
 use Rattle.expression_syntax.specs.declared.tree.Entry.{Entry}
@@ -15,7 +19,7 @@ use Rattle.desugaring.specs.declared.judgement.Judgement.{Judgement}
 use Rattle.desugaring.specs.Refused.{earlier_of, least}
 use Rattle.desugaring.specs.Names.{method_of, method_takes}
 use Rattle.desugaring.specs.Faults.{call_faults, function_faults}
-use Rattle.desugaring.specs.Judged.{judgement, judged}
+use Rattle.desugaring.specs.Judged.{judgement, of, judged}
 
 -- of nothing, and of a form without operands
 abbrev pub nothing : Judgement
@@ -42,6 +46,20 @@ called (Some fault) operands = leaf operands.fault
 
 abbrev pub with_fault : Option DesugarFault → Judgement → Judgement
 with_fault fault j = record { height = j.height; forms = j.forms; fault = earlier_of fault j.fault }
+
+-- ## Laws
+
+-- What is told of a literal, of a form over one and of `&&`, by what is told of the parts.
+abbrev pub LiteralIsLeaf : Type 0
+LiteralIsLeaf = (value : Literal) (faults : List DesugarFault) → of (core.Literal value) faults ≡ leaf (least faults)
+
+abbrev pub UnaryIsAbove : Type 0
+UnaryIsAbove = (operator : Unary) (a : Expr) (faults : List DesugarFault) →
+    of (core.Unary operator a) faults ≡ above (of a faults)
+
+abbrev pub AndIsPaired : Type 0
+AndIsPaired = (a b : Expr) (faults more : List DesugarFault) →
+    of (core.And a b) (faults ++ more) ≡ paired (of a faults) (of b more)
 
 -- ## Of lists of trees
 
@@ -71,7 +89,8 @@ judged_compared _ i j = paired i j
 -- of a function's call
 abbrev pub judged_call : List ℕ → PathTree → List ExprTree → Judgement
 judged_call text path arguments =
-    let fault = least (function_faults text path (length arguments)) in called fault (with_fault fault (judged_all text arguments))
+    let fault = least (function_faults text path (length arguments)) in
+    called fault (with_fault fault (judged_all text arguments))
 
 -- of an access to what is judged
 abbrev pub judged_access : List ℕ → Judgement → Access (List ExprTree) → Judgement

@@ -3,14 +3,14 @@ ghost use Rattle.std.specs.Prelude.{◌≡◌, IfOk, map};
 ghost use Rattle.std.specs.List.{AllByRecursion, fold};
 ghost use Rattle.desugaring.specs.Core as spec;
 ghost use Rattle.desugaring.specs.Core.{core_of, negated};
-ghost use Rattle.desugaring.specs.Giving.{Gave};
-ghost use Rattle.desugaring.specs.Standing.{Stands, AllStand, EntryStands, TermStands, AccessStands};
+ghost use Rattle.desugaring.specs.inner.Giving.{Gave};
+ghost use Rattle.desugaring.specs.inner.Standing.{Stands, AllStand, EntryStands, TermStands, AccessStands};
 
 use crate::judge::function_at;
 use crate::leaves::{
-    Chain, apply, boolean_literal, both, call, call_method, compare, field, has, if_then_else, is,
-    is_in, join, like, negated_literal, number_literal, record, set, text_literal, uid_literal,
-    variable,
+    Chain, apply, beside, boolean_literal, both, call, call_method, compare, field, has,
+    if_then_else, is, is_in, join, like, negated_literal, number_literal, record, set,
+    text_literal, uid_literal, variable,
 };
 use crate::names::method_named;
 use crate::words::{name, sign};
@@ -125,8 +125,8 @@ fn build_entries(
 {
     let mut row = Vec::with_capacity(alloc, entries.len())?;
     for entry in entries {
-        let name = name(alloc, text, entry.key)?;
-        let value = build_tree(alloc, text, &entry.value)?;
+        let key = name(alloc, text, entry.key)?;
+        let (name, value) = beside(key, build_tree(alloc, text, &entry.value))?;
         row.push(Named { name, value })?;
     }
     Ok(Items::from_vec(row))
@@ -145,8 +145,8 @@ fn build_chain(
 {
     let mut left = first?;
     for tree in more {
-        let right = build_tree(alloc, text, tree)?;
-        left = join(alloc, chain, left, right)?;
+        let (kept, right) = beside(left, build_tree(alloc, text, tree))?;
+        left = join(alloc, chain, kept, right)?;
     }
     Ok(left)
 }
@@ -159,12 +159,13 @@ fn build_terms(
     first: Result<Expr, NoMemory>,
 ) -> Result<Expr, NoMemory>
     requires { AllByRecursion (TermStands text.now) terms.now }
-    ensures { IfOk result (λ e. Gave first (λ a. e ≡ fold spec.added a (map (spec.in_term (core_of text.now)) terms.now))) }
+    ensures { IfOk result (λ e. Gave first
+        (λ a. e ≡ fold spec.added a (map (spec.in_term (core_of text.now)) terms.now))) }
 {
     let mut left = first?;
     for term in terms {
-        let right = build_tree(alloc, text, &term.operand)?;
-        left = Expr::binary(alloc, sign(term.sign.kind), left, right)?;
+        let (kept, right) = beside(left, build_tree(alloc, text, &term.operand))?;
+        left = Expr::binary(alloc, sign(term.sign.kind), kept, right)?;
     }
     Ok(left)
 }
@@ -177,7 +178,9 @@ fn build_accesses(
     receiver: Result<Expr, NoMemory>,
 ) -> Result<Expr, NoMemory>
     requires { AllByRecursion (AccessStands text.now) accesses.now }
-    ensures { IfOk result (λ e. Gave receiver (λ a. e ≡ fold (spec.accessed text.now) a (map (spec.in_access (core_of text.now)) accesses.now))) }
+    ensures { IfOk result
+        (λ e. Gave receiver
+        (λ a. e ≡ fold (spec.accessed text.now) a (map (spec.in_access (core_of text.now)) accesses.now))) }
 {
     let mut left = receiver?;
     for access in accesses {
@@ -199,9 +202,9 @@ fn build_access(
     match access {
         Access::Field(token) => field(alloc, text, receiver, *token),
         Access::Method(token, arguments) => {
-            let row = build_all(alloc, text, arguments.as_slice())?;
+            let (owner, row) = beside(receiver, build_all(alloc, text, arguments.as_slice()))?;
             let method = method_named(spelling(text, *token));
-            call_method(alloc, method, receiver, row)
+            call_method(alloc, method, owner, row)
         }
     }
 }

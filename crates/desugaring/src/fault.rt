@@ -2,7 +2,7 @@ ghost use Rattle.std.specs.Prelude.{◌≡◌};
 ghost use Rattle.desugaring.specs.Refused as spec;
 
 /// Why a tree has no core expression. Each place is a byte's, counted from 0.
-#[derive(Clone, Copy, Debug, PartialEq, Eq)]
+#[derive(Clone, Copy)]
 pub enum DesugarFault {
     /// The number at this token is outside signed 64 bits.
     NumberRange(usize),

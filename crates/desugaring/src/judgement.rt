@@ -4,7 +4,8 @@ ghost use Rattle.desugaring.specs.Sums as spec;
 
 use crate::fault::{DesugarFault, earlier_of};
 
-/// The size of a core expression, and the fault at the least place of what it comes from. The greatest `u32` stands for all greater numbers.
+/// The size of a core expression, and the fault at the least place of what it comes from. The greatest `u32` stands
+/// for all greater numbers.
 #[derive(Clone, Copy)]
 pub struct Judgement {
     /// The longest way down, which is 1 for a leaf.

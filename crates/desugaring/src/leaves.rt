@@ -1,24 +1,24 @@
 //! Core expressions from their parts, and those that a single token makes.
-ghost use Rattle.std.specs.Prelude.{◌≡◌, IfOk, Some};
+ghost use Rattle.std.specs.Prelude.{◌≡◌, IfOk, Ok, Some};
 ghost use Rattle.policy_tokens.specs.declared.token.Kind.TheVariants as k;
 ghost use Rattle.policy_tokens.specs.Lexing.{spelling_of};
 ghost use Rattle.expressions.specs.declared.leaf.Literal.TheVariants as literal;
 ghost use Rattle.expressions.specs.declared.operator.Unary.TheVariants as unary;
 ghost use Rattle.expressions.specs.declared.operator.Binary.TheVariants as binary;
 ghost use Rattle.expressions.specs.declared.expr.Expr.TheVariants as core;
-ghost use Rattle.expression_syntax.specs.Kinds.{only};
+ghost use Rattle.token_readers.specs.Kinds.{only};
 ghost use Rattle.expression_syntax.specs.Expressions.{keys, patterns};
 ghost use Rattle.desugaring.specs.Strings.{value_of, pattern_of};
 ghost use Rattle.desugaring.specs.Numbers.{positive, negative};
 ghost use Rattle.desugaring.specs.Meaning.{boolean_of, variable_of, path_name, uid_of, name_of};
 ghost use Rattle.desugaring.specs.Core as spec;
 ghost use Rattle.desugaring.specs.declared.names.Method.TheVariants as method;
-ghost use Rattle.desugaring.specs.Giving.{Gave};
-ghost use Rattle.desugaring.specs.Standing.{TokenIn, PathIn, UidIn};
+ghost use Rattle.desugaring.specs.inner.Giving.{Gave};
+ghost use Rattle.desugaring.specs.inner.Standing.{TokenIn, PathIn, UidIn};
 
 use crate::names::Method;
 use crate::numbers;
-use crate::words::{name, pattern, string, type_name};
+use crate::words::{name, path_type, pattern, string};
 use expression_syntax::{PathTree, UidTree};
 use expressions::{Binary, Expr, Literal, Named, Unary, UnaryCall, Variable};
 use plain::{Items, NoMemory};
@@ -79,7 +79,7 @@ pub(crate) fn uid_literal(alloc: Global, text: &str, tree: &UidTree) -> Result<E
     requires { UidIn text.now tree.now }
     ensures { IfOk result (λ e. e ≡ core.Literal (literal.Entity (uid_of text.now tree.now))) }
 {
-    let type_name = type_name(alloc, text, &tree.path)?;
+    let type_name = path_type(alloc, text, &tree.path)?;
     let id = string(alloc, text, tree.id)?;
     Ok(Expr::Literal(Literal::Entity(EntityUid { type_name, id })))
 }
@@ -115,7 +115,8 @@ pub(crate) fn like(
     token: Token,
 ) -> Result<Expr, NoMemory>
     requires { TokenIn text.now patterns token }
-    ensures { IfOk result (λ e. Gave operand (λ a. e ≡ core.Unary (unary.Like (pattern_of (spelling_of text.now token))) a)) }
+    ensures { IfOk result (λ e. Gave operand
+        (λ a. e ≡ core.Unary (unary.Like (pattern_of (spelling_of text.now token))) a)) }
 {
     let (operand, pattern) = both(operand, pattern(alloc, text, token))?;
     Expr::unary(alloc, Unary::Like(pattern), operand)
@@ -131,7 +132,7 @@ pub(crate) fn is(
     requires { PathIn text.now path.now }
     ensures { IfOk result (λ e. Gave operand (λ a. e ≡ core.Unary (unary.Is (path_name text.now path.now)) a)) }
 {
-    let (operand, type_name) = both(operand, type_name(alloc, text, path))?;
+    let (operand, type_name) = both(operand, path_type(alloc, text, path))?;
     Expr::unary(alloc, Unary::Is(type_name), operand)
 }
 
@@ -147,6 +148,18 @@ pub(crate) fn both<A: Drop, B: Drop>(
     Ok((left, right))
 }
 
+/// What was made after another value, with that value. Generic, so that what is let go where memory was refused is
+/// one step.
+pub(crate) fn beside<T: Drop, U>(kept: T, made: Result<U, NoMemory>) -> Result<(T, U), NoMemory>
+    ensures made { IfOk result (λ both. made ≡ Ok both.1) }
+    ensures kept { IfOk result (λ both. both.0 ≡ kept) }
+{
+    match made {
+        Ok(more) => Ok((kept, more)),
+        Err(refused) => Err(refused),
+    }
+}
+
 /// `operand is path in ancestor`, of the operand and the ancestor.
 pub(crate) fn is_in(
     alloc: Global,
@@ -155,9 +168,13 @@ pub(crate) fn is_in(
     path: &PathTree,
 ) -> Result<Expr, NoMemory>
     requires { PathIn text.now path.now }
-    ensures { IfOk result (λ e. Gave pair (λ p. e ≡ core.And (core.Unary (unary.Is (path_name text.now path.now)) p.0) (core.Binary binary.In p.0 p.1))) }
+    ensures { IfOk result
+        (λ e. Gave pair
+        (λ p. e
+        ≡ core.And (core.Unary (unary.Is (path_name text.now path.now)) p.0)
+        (core.Binary binary.In p.0 p.1))) }
 {
-    let ((operand, ancestor), type_name) = both(pair, type_name(alloc, text, path))?;
+    let ((operand, ancestor), type_name) = both(pair, path_type(alloc, text, path))?;
     Expr::is_in(alloc, operand, type_name, ancestor)
 }
 

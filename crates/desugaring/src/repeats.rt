@@ -1,17 +1,25 @@
-//! Keys that stand a second time in a record.
-ghost use Rattle.std.specs.Prelude.{◌≡◌, [], IfOk, map};
+//! Names that stand a second time, and where first.
+ghost use Rattle.std.specs.Prelude.{◌≡◌, IfOk, map};
 ghost use Rattle.std.specs.List.{AllByRecursion};
-ghost use Rattle.desugaring.specs.Standing.{EntryStands};
+ghost use Rattle.desugaring.specs.inner.Standing.{EntryStands};
 ghost use Rattle.desugaring.specs.Refused.{least};
-ghost use Rattle.desugaring.specs.Repeats.{repeats};
+ghost use Rattle.desugaring.specs.Repeats.{Mark, StandsAgain, repeat_faults, shown};
 ghost use Rattle.desugaring.specs.Faults.{key_of};
+ghost use Rattle.desugaring.specs.inner.Searching.{TellsLeast, lesser_of, repeat_fault, held};
 
-use crate::fault::{DesugarFault, earlier_of};
+use crate::fault::DesugarFault;
 use crate::words::name;
 use expression_syntax::{Entry, ExprTree};
 use plain::{NoMemory, Text};
 use std::alloc::Global;
 use std::collections::BTreeSet;
+
+/// A name, and the byte at which it stands.
+#[derive(Clone, Copy)]
+pub struct Mark<'a> {
+    pub name: &'a str,
+    pub at: usize,
+}
 
 /// A key of a record, and the byte at which it stands.
 #[derive(Drop)]
@@ -20,10 +28,54 @@ pub(crate) struct Key {
     at: usize,
 }
 
+/// The lesser place, where there is one.
+fn lesser(a: Option<usize>, b: Option<usize>) -> Option<usize>
+    ensures { result ≡ lesser_of a b }
+{
+    match (a, b) {
+        (Some(first), Some(second)) => Some(first.min(second)),
+        (None, other) => other,
+        (one, None) => one,
+    }
+}
+
+/// The least place at which a name stands again.
+fn least_place(alloc: Global, marks: &[Mark<'_>]) -> Result<Option<usize>, NoMemory>
+    ensures { IfOk result (TellsLeast (StandsAgain (shown marks.now))) }
+{
+    let mut seen = BTreeSet::new(alloc);
+    let mut least = None;
+    for mark in marks {
+        if !seen.insert(mark.name)? {
+            least = lesser(least, Some(mark.at));
+        }
+    }
+    Ok(least)
+}
+
+/// A place at which a name stands again, as a fault.
+fn fault_at(place: Option<usize>) -> Option<DesugarFault>
+    ensures { result ≡ repeat_fault place }
+{
+    match place {
+        Some(at) => Some(DesugarFault::RepeatedKey(at)),
+        None => None,
+    }
+}
+
+/// The fault of a name that stands again, the one at the least place. It takes time of n log n for n names; the only
+/// error is `NoMemory`.
+pub fn least_repeat(alloc: Global, marks: &[Mark<'_>]) -> Result<Option<DesugarFault>, NoMemory>
+    ensures { IfOk result (λ fault. fault ≡ least (repeat_faults (shown marks.now))) }
+{
+    let place = least_place(alloc, marks)?;
+    Ok(fault_at(place))
+}
+
 /// The keys of a record.
 fn keys_of(alloc: Global, text: &str, entries: &[Entry<ExprTree>]) -> Result<Vec<Key>, NoMemory>
     requires { AllByRecursion (EntryStands text.now) entries.now }
-    ensures { IfOk result (λ keys. keys.items ≡ map (key_of text.now) entries.now) }
+    ensures { IfOk result (λ keys. map held keys.items ≡ map (key_of text.now) entries.now) }
 {
     let mut keys = Vec::with_capacity(alloc, entries.len())?;
     for entry in entries {
@@ -36,29 +88,30 @@ fn keys_of(alloc: Global, text: &str, entries: &[Entry<ExprTree>]) -> Result<Vec
     Ok(keys)
 }
 
-/// The key that stands again at the least place, in time of n log n for n keys.
-fn least_repeat(alloc: Global, keys: &[Key]) -> Result<Option<DesugarFault>, NoMemory>
-    ensures { IfOk result (λ fault. fault ≡ least (repeats [] keys.now)) }
+/// The same, lent.
+fn marks_of<'a>(alloc: Global, keys: &'a [Key]) -> Result<Vec<Mark<'a>>, NoMemory>
+    ensures { IfOk result (λ marks. shown marks.items ≡ map held keys.entry.now) }
 {
-    let mut seen = BTreeSet::new(alloc);
-    let mut found = None;
+    let mut marks = Vec::with_capacity(alloc, keys.len())?;
     for key in keys {
-        if !seen.insert(key.name.as_str())? {
-            found = earlier_of(found, Some(DesugarFault::RepeatedKey(key.at)));
-        }
+        marks.push(Mark {
+            name: key.name.as_str(),
+            at: key.at,
+        })?;
     }
-    Ok(found)
+    Ok(marks)
 }
 
-/// The key of a record that stands again at the least place.
+/// The fault of a record's key that stands again, the one at the least place.
 pub(crate) fn repeated_key(
     alloc: Global,
     text: &str,
     entries: &[Entry<ExprTree>],
 ) -> Result<Option<DesugarFault>, NoMemory>
     requires { AllByRecursion (EntryStands text.now) entries.now }
-    ensures { IfOk result (λ fault. fault ≡ least (repeats [] (map (key_of text.now) entries.now))) }
+    ensures { IfOk result (λ fault. fault ≡ least (repeat_faults (map (key_of text.now) entries.now))) }
 {
     let keys = keys_of(alloc, text, entries)?;
-    least_repeat(alloc, &keys)
+    let marks = marks_of(alloc, &keys)?;
+    least_repeat(alloc, &marks)
 }

@@ -1,6 +1,8 @@
 //! A whole tree: what is told of it, and then its core expression.
 ghost use Rattle.std.specs.Prelude.{◌≡◌, [], IfOk};
-ghost use Rattle.desugaring.specs.Standing.{Stands};
+ghost use Rattle.expression_syntax.specs.Stands.{ExprStands, PathStands};
+ghost use Rattle.desugaring.specs.Standing.{StandsIn};
+ghost use Rattle.desugaring.specs.Meaning.{path_name};
 ghost use Rattle.desugaring.specs.Core.{core_of};
 ghost use Rattle.desugaring.specs.Faults.{faults_of};
 ghost use Rattle.desugaring.specs.Judged.{judged};
@@ -8,15 +10,18 @@ ghost use Rattle.desugaring.specs.Judged.{judged};
 use crate::build::build_tree;
 use crate::judge::judge_tree;
 use crate::judgement::Judgement;
-use expression_syntax::ExprTree;
+use crate::words::path_type;
+use expression_syntax::{ExprTree, PathTree};
 use expressions::Expr;
 use plain::NoMemory;
 use std::alloc::Global;
+use values::TypeName;
 
-/// What is told of a tree before anything is built: how large its core expression is, and its fault at the least place. Takes memory for the
-/// keys of records alone, and time in proportion to the tree but for these, of which n take n log n. The only error is `NoMemory`.
+/// What is told of a tree before anything is built: how large its core expression is, and its fault at the least
+/// place. Takes memory for the keys of records alone, and time in proportion to the tree but for these, of which n
+/// take n log n. The only error is `NoMemory`.
 pub fn judge_expr(alloc: Global, text: &str, tree: &ExprTree) -> Result<Judgement, NoMemory>
-    requires { Stands text.now tree.now }
+    requires { StandsIn text.now (λ tokens. ExprStands tokens tree.now) }
     ensures { IfOk result (λ judgement. judgement ≡ judged text.now tree.now) }
 {
     judge_tree(alloc, text, tree)
@@ -26,9 +31,17 @@ pub fn judge_expr(alloc: Global, text: &str, tree: &ExprTree) -> Result<Judgemen
 ///
 /// Source: Cedar reference guide 4.0, "Grammar specification for Cedar policy syntax" and "Operators and functions".
 pub fn build_expr(alloc: Global, text: &str, tree: &ExprTree) -> Result<Expr, NoMemory>
-    requires stands { Stands text.now tree.now }
+    requires stands { StandsIn text.now (λ tokens. ExprStands tokens tree.now) }
     requires sound { faults_of text.now tree.now ≡ [] }
     ensures { IfOk result (λ expr. expr ≡ core_of text.now tree.now) }
 {
     build_tree(alloc, text, tree)
+}
+
+/// The type name that a path is. The only error is `NoMemory`.
+pub fn type_name(alloc: Global, text: &str, path: &PathTree) -> Result<TypeName, NoMemory>
+    requires { StandsIn text.now (λ tokens. PathStands tokens path.now) }
+    ensures { IfOk result (λ name. name ≡ path_name text.now path.now) }
+{
+    path_type(alloc, text, path)
 }

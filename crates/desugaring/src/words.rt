@@ -3,9 +3,9 @@ ghost use Rattle.std.specs.Prelude.{◌≡◌, ◌∷◌, IfOk, length, map};
 ghost use Rattle.plain.specs.Words.{AreIdents};
 ghost use Rattle.policy_tokens.specs.Lexing.{spelling_of};
 ghost use Rattle.policy_tokens.specs.declared.token.Kind.TheVariants as k;
-ghost use Rattle.expression_syntax.specs.Kinds.{only};
+ghost use Rattle.token_readers.specs.Kinds.{only};
 ghost use Rattle.expression_syntax.specs.Expressions.{keys, patterns};
-ghost use Rattle.desugaring.specs.Standing.{TokenIn, PathIn};
+ghost use Rattle.desugaring.specs.inner.Standing.{TokenIn, PathIn};
 ghost use Rattle.desugaring.specs.Strings.{value_of, pattern_of};
 ghost use Rattle.desugaring.specs.Meaning.{sign_of, path_name, name_of};
 
@@ -57,7 +57,9 @@ pub(crate) fn name(alloc: Global, text: &str, token: Token) -> Result<Text, NoMe
 /// The words of a Path.
 fn words_of<'a>(alloc: Global, text: &'a str, path: &PathTree) -> Result<Vec<&'a str>, NoMemory>
     requires { PathIn text.now path.now }
-    ensures words { IfOk result (λ words. map (λ w. w.now) words.items ≡ spelling_of text.entry.now path.now.first ∷ map (spelling_of text.entry.now) path.now.more) }
+    ensures words { IfOk result
+        (λ words. map (λ w. w.now) words.items
+        ≡ spelling_of text.entry.now path.now.first ∷ map (spelling_of text.entry.now) path.now.more) }
     ensures idents { IfOk result (λ words. AreIdents (map (λ w. w.now) words.items)) }
 {
     let mut words = Vec::new(alloc);
@@ -68,8 +70,8 @@ fn words_of<'a>(alloc: Global, text: &'a str, path: &PathTree) -> Result<Vec<&'a
     Ok(words)
 }
 
-/// The type name that a path is. The only error is `NoMemory`.
-pub fn type_name(alloc: Global, text: &str, path: &PathTree) -> Result<TypeName, NoMemory>
+/// The type name that a path is.
+pub(crate) fn path_type(alloc: Global, text: &str, path: &PathTree) -> Result<TypeName, NoMemory>
     requires { PathIn text.now path.now }
     ensures { IfOk result (λ name. name ≡ path_name text.now path.now) }
 {

@@ -6,7 +6,7 @@ use Rattle.expressions.specs.declared.expr.Expr.{Expr}
 use Rattle.policy_tokens.specs.declared.token.Token.{Token}
 use Rattle.policy_tokens.specs.Lexing.{spelling_of}
 use Rattle.policy_tokens.specs.Strings.{OneValue}
-use Rattle.expression_syntax.specs.declared.tree.UidTree.{UidTree}
+use Rattle.token_readers.specs.declared.tree.UidTree.{UidTree}
 use Rattle.policy_syntax.specs.declared.tree.Annotation.{Annotation}
 use Rattle.policy_syntax.specs.declared.tree.PartTree.{PartTree}
 use Rattle.policy_syntax.specs.declared.tree.PartTree.TheVariants as part

@@ -1,18 +1,33 @@
 -- Names by places are all different: which policies' names may stand twice.
-use Rattle.std.proofs.Common.{◌≡◌, ◌⊎◌, ℕ, suc, ◌+◌, ◌<◌, ◌≤◌, ◌^◌, ◌&&◌, ◌||◌, ◌==◌, Bool, true, false, List, [], ◌∷◌, ◌++◌, length, drop, get_or, map, Option, Some, None, Contains, codes, find, refl, sym, ◌∙◌, ap, subst, inl, inr, arith, add-one}
-use Rattle.std.specs.Prelude.{is_some, IfOk, Result, Ok, Err}
-use Rattle.std.specs.declared.alloc.AllocError.{AllocError}
+use Rattle.std.proofs.Common.{◌≡◌, ◌⊎◌, ℕ, zero, suc, ◌+◌, ◌<◌, ◌≤◌, ◌^◌, ◌&&◌, ◌||◌, ◌==◌, Bool, true, false, List, [], ◌∷◌, ◌++◌, length, drop, get_or, map, Option, Some, None, Contains, codes, find, refl, sym, ◌∙◌, ap, subst, inl, inr, arith, add-one}
+use Rattle.std.specs.Prelude.{is_some}
 use Rattle.std.specs.List.{AllZip, enumerate_from, starts_with}
 use Rattle.std.specs.Fmt.{decimal}
 use Rattle.std.proofs.Math.Seq.{drop-cons}
 use Rattle.std.proofs.lemmas.Fmt.{decimal_injective}
-use Rattle.values.proofs.Members.{Contains-here, Contains-there, Contains-cases, Contains-none}
+use Rattle.desugaring.specs.Refused.{least}
+use Rattle.desugaring.specs.Repeats.{Mark, StandsAgain, repeat_faults, RepeatsAreTold}
 use Rattle.policy_syntax.specs.declared.tree.Annotation.{Annotation}
 use Rattle.policy_syntax.specs.declared.tree.PolicyTree.{PolicyTree}
 use Rattle.policy_grammar.specs.CoreOf.{is_id, IsNameBy, IsNameOf, AreNamesOf}
-use Rattle.policy_grammar.specs.Repeats.{Mark, StandsAgain, TellsLeast, policy_marks, start_of}
-use Rattle.policy_grammar.specs.Standing.{has_id, looks_placed, meets_place, kept, doubtful_marks}
-use Rattle.policy_grammar.proofs.Repeating.{tells-same}
+use Rattle.policy_grammar.specs.Repeats.{policy_marks, start_of}
+use Rattle.policy_grammar.specs.inner.Standing.{has_id, looks_placed, meets_place, kept, doubtful_marks}
+
+-- ---- members of a list
+
+module _ {X : Type 0} where
+  Contains-here : (x : X) (xs : List X) → Contains (x ∷ xs) x
+  Contains-here x xs = (0, omega arith, refl)
+
+  Contains-there : (x : X) (xs : List X) (y : X) → Contains xs y → Contains (x ∷ xs) y
+  Contains-there x xs y (i, below, e) = (suc i, omega arith, e)
+
+  Contains-cases : (x : X) (xs : List X) (y : X) → Contains (x ∷ xs) y → (x ≡ y) ⊎ Contains xs y
+  Contains-cases x xs y (zero, below, e) = inl e
+  Contains-cases x xs y (suc i, below, e) = inr (i, omega arith, e)
+
+  Contains-none : (y : X) {G : Type 0} → Contains [] y → G
+  Contains-none y (i, below, e) = absurd (omega arith)
 
 -- ---- a list of marks from its front
 
@@ -194,17 +209,11 @@ module _ (text : List ℕ) (wide : Bool) where
       ]
 
 -- The names that may stand twice are enough to be looked at.
-pub doubtful-enough : (text : List ℕ) (wide : Bool) (names : List (List ℕ)) (trees : List PolicyTree) (o : Option ℕ) → length trees < 2 ^ 64 → AreNamesOf text trees names →
-    wide ≡ meets_place text names trees → TellsLeast (StandsAgain (doubtful_marks text wide names trees)) o → TellsLeast (StandsAgain (policy_marks names trees)) o
-doubtful-enough text wide names trees o fits named is =
-    tells-same (StandsAgain (doubtful_marks text wide names trees)) (StandsAgain (policy_marks names trees)) o
-    (λ at. fewer text wide names trees at) (λ at. enough text wide 0 names trees at (omega arith) named (λ h. is ∙ h))
-
-pub doubtful-found : (text : List ℕ) (wide : Bool) (names : List (List ℕ)) (trees : List PolicyTree) → length trees < 2 ^ 64 → AreNamesOf text trees names →
-    wide ≡ meets_place text names trees → (r : Result (Option ℕ) AllocError) → IfOk r (TellsLeast (StandsAgain (doubtful_marks text wide names trees))) →
-    IfOk r (TellsLeast (StandsAgain (policy_marks names trees)))
-doubtful-found text wide names trees fits named is (Ok o) tells = doubtful-enough text wide names trees o fits named is tells
-doubtful-found text wide names trees fits named is (Err e) tells = tt
+pub doubtful-enough : RepeatsAreTold → (text : List ℕ) (wide : Bool) (names : List (List ℕ)) (trees : List PolicyTree) → length trees < 2 ^ 64 → AreNamesOf text trees names →
+    wide ≡ meets_place text names trees → least (repeat_faults (doubtful_marks text wide names trees)) ≡ least (repeat_faults (policy_marks names trees))
+doubtful-enough told text wide names trees fits named is =
+    told (doubtful_marks text wide names trees) (policy_marks names trees) (λ at. fewer text wide names trees at)
+    (λ at. enough text wide 0 names trees at (omega arith) named (λ h. is ∙ h))
 
 -- ---- the steps of the loops
 

@@ -1,5 +1,5 @@
 -- Conditions joined from the last to the first.
-use Rattle.std.proofs.Common.{◌≡◌, ℕ, ◌+◌, ◌<◌, List, [], ◌∷◌, ◌++◌, length, drop, get_or, None, refl, sym, ◌∙◌, ap, subst, arith}
+use Rattle.std.proofs.Common.{◌≡◌, ℕ, ◌+◌, ◌<◌, List, [], ◌∷◌, length, drop, get_or, None, refl, sym, ◌∙◌, ap, subst, arith}
 use Rattle.std.proofs.lemmas.List.{append-nil, length-drop}
 use Rattle.std.specs.List.{AllByRecursion, flat_map}
 use Rattle.policy_tokens.specs.declared.token.Kind.{Kind}
@@ -15,18 +15,18 @@ use Rattle.desugaring.specs.declared.fault.DesugarFault.{DesugarFault}
 use Rattle.desugaring.specs.declared.judgement.Judgement.{Judgement}
 use Rattle.desugaring.specs.Faults.{faults_of}
 use Rattle.desugaring.specs.Judged.{of}
-use Rattle.desugaring.specs.Sums.{leaf, paired}
-use Rattle.desugaring.proofs.Lists.{next}
-use Rattle.policy_grammar.proofs.Lists.{all-at}
-use Rattle.desugaring.proofs.Sizing.{of-Literal, of-Unary, of-And}
+use Rattle.desugaring.specs.Standing.{StandsIn}
+use Rattle.desugaring.specs.Sums.{leaf, paired, LiteralIsLeaf, UnaryIsAbove, AndIsPaired}
+use Rattle.policy_grammar.proofs.Lists.{all-at, next, none-left, none-right}
 use Rattle.policy_grammar.specs.Whole.{truth}
-use Rattle.policy_grammar.specs.Conditions.{asked_by, condition_of, conditions_of, condition_faults, file_faults}
-use Rattle.policy_grammar.specs.Standing.{judged_by, AreSound, StandsIn}
+use Rattle.policy_grammar.specs.Conditions.{asked_by, condition_of, conditions_of, condition_faults}
+use Rattle.policy_grammar.specs.PolicyText.{tree_faults}
+use Rattle.policy_grammar.specs.inner.Standing.{judged_by, AreSound}
 
 -- what is told of an expression behind a word
-pub judged_behind : (kind : Kind) (e : Expr) (fs : List DesugarFault) → of (asked_by kind e) fs ≡ judged_by kind (of e fs)
-judged_behind k.Unless e fs = of-Unary Not e fs
-judged_behind _ e fs = refl
+pub judged_behind : UnaryIsAbove → (kind : Kind) (e : Expr) (fs : List DesugarFault) → of (asked_by kind e) fs ≡ judged_by kind (of e fs)
+judged_behind unary k.Unless e fs = unary Not e fs
+judged_behind unary _ e fs = refl
 
 -- what is told of conditions
 abbrev pub judged_from : List ℕ → List Condition → Judgement
@@ -36,9 +36,9 @@ abbrev pub judged_one : List ℕ → Condition → Judgement
 judged_one text c = of (condition_of text c) (faults_of text c.expression)
 
 -- of none
-pub judged-none : (text : List ℕ) (cs : List Condition) → length cs ≡ 0 → judged_from text cs ≡ leaf None
-judged-none text [] none = of-Literal (literal.Boolean _) []
-judged-none text (c ∷ cs) none = absurd (omega arith)
+pub judged-none : LiteralIsLeaf → (text : List ℕ) (cs : List Condition) → length cs ≡ 0 → judged_from text cs ≡ leaf None
+judged-none law text [] none = law (literal.Boolean _) []
+judged-none law text (c ∷ cs) none = absurd (omega arith)
 
 pub asks-none : (text : List ℕ) (cs : List Condition) → length cs ≡ 0 → conditions_of text cs ≡ truth
 asks-none text [] none = refl
@@ -49,9 +49,9 @@ one : (text : List ℕ) (c : Condition) (rest : List Condition) → length rest 
 one text c [] none = ap (of (condition_of text c)) (append-nil (faults_of text c.expression))
 one text c (d ∷ rest) none = absurd (omega arith)
 
-before : (text : List ℕ) (c : Condition) (rest : List Condition) → 0 < length rest → judged_from text (c ∷ rest) ≡ paired (judged_one text c) (judged_from text rest)
-before text c [] some = absurd (omega arith)
-before text c (d ∷ rest) some = of-And (condition_of text c) (conditions_of text (d ∷ rest)) (faults_of text c.expression) (condition_faults text (d ∷ rest))
+before : AndIsPaired → (text : List ℕ) (c : Condition) (rest : List Condition) → 0 < length rest → judged_from text (c ∷ rest) ≡ paired (judged_one text c) (judged_from text rest)
+before law text c [] some = absurd (omega arith)
+before law text c (d ∷ rest) some = law (condition_of text c) (conditions_of text (d ∷ rest)) (faults_of text c.expression) (condition_faults text (d ∷ rest))
 
 asks-one : (text : List ℕ) (c : Condition) (rest : List Condition) → length rest ≡ 0 → conditions_of text (c ∷ rest) ≡ condition_of text c
 asks-one text c [] none = refl
@@ -76,8 +76,8 @@ module _ (text : List ℕ) (cs : List Condition) (i j : ℕ) (c : Condition) (e 
   pub judged-last : i ≡ length cs → judged_from text (drop j cs) ≡ judged_one text c
   judged-last all = ap (judged_from text) (from cs i j c e (omega arith) is) ∙ one text c (drop i cs) (none_over cs i all)
 
-  pub judged-before : i < length cs → judged_from text (drop j cs) ≡ paired (judged_one text c) (judged_from text (drop i cs))
-  judged-before below = ap (judged_from text) (from cs i j c e (omega arith) is) ∙ before text c (drop i cs) (some_over cs i below)
+  pub judged-before : AndIsPaired → i < length cs → judged_from text (drop j cs) ≡ paired (judged_one text c) (judged_from text (drop i cs))
+  judged-before law below = ap (judged_from text) (from cs i j c e (omega arith) is) ∙ before law text c (drop i cs) (some_over cs i below)
 
   pub asks-last : i ≡ length cs → conditions_of text (drop j cs) ≡ condition_of text c
   asks-last all = ap (conditions_of text) (from cs i j c e (omega arith) is) ∙ asks-one text c (drop i cs) (none_over cs i all)
@@ -96,14 +96,6 @@ stands-at text cs i c all below is = record {
 
 -- where there are no faults together, there are none of each
 
-none-left : {A : Type 0} (xs ys : List A) → xs ++ ys ≡ [] → xs ≡ []
-none-left [] ys none = refl
-none-left (x ∷ xs) ys none = absurd (cc)
-
-none-right : {A : Type 0} (xs ys : List A) → xs ++ ys ≡ [] → ys ≡ []
-none-right [] ys none = none
-none-right (x ∷ xs) ys none = absurd (cc)
-
 none-each : {X A : Type 0} (f : X → List A) (xs : List X) → flat_map f xs ≡ [] → AllByRecursion (λ x. f x ≡ []) xs
 none-each f [] none = tt
 none-each f (x ∷ xs) none = (none-left (f x) (flat_map f xs) none, none-each f xs (none-right (f x) (flat_map f xs) none))
@@ -111,5 +103,12 @@ none-each f (x ∷ xs) none = (none-left (f x) (flat_map f xs) none, none-each f
 pub sound-each : (text : List ℕ) (cs : List Condition) → condition_faults text cs ≡ [] → AreSound text cs
 sound-each text cs none = none-each (λ c. faults_of text c.expression) cs none
 
-pub sound-all : (text : List ℕ) (trees : List PolicyTree) → file_faults text trees ≡ [] → AllByRecursion (λ tree. condition_faults text tree.conditions ≡ []) trees
-sound-all text trees none = none-each (λ tree. condition_faults text tree.conditions) trees none
+pub sound-tree : (text : List ℕ) (tree : PolicyTree) → tree_faults text tree ≡ [] → condition_faults text tree.conditions ≡ []
+sound-tree text tree none = none-right _ (condition_faults text tree.conditions) none
+
+pub sound-all : (text : List ℕ) (trees : List PolicyTree) → flat_map (tree_faults text) trees ≡ [] → AllByRecursion (λ tree. condition_faults text tree.conditions ≡ []) trees
+sound-all text [] none = tt
+sound-all text (tree ∷ trees) none = (
+  sound-tree text tree (none-left (tree_faults text tree) (flat_map (tree_faults text) trees) none),
+  sound-all text trees (none-right (tree_faults text tree) (flat_map (tree_faults text) trees) none),
+)

@@ -1,4 +1,3 @@
-pub mod Repeating
 pub mod Lists
 pub mod Marking
 pub mod Doubtful
@@ -9,3 +8,4 @@ pub mod Telling
 pub mod Refusing
 pub mod Cores
 pub mod Readings
+pub mod Differing

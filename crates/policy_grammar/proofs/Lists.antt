@@ -1,11 +1,13 @@
--- Lists that a loop makes, one item more at each turn.
-use Rattle.std.proofs.Common.{◌≡◌, ◌⊎◌, ℕ, zero, suc, ◌+◌, ◌<◌, List, [], ◌∷◌, ◌++◌, length, take, drop, get_or, refl, sym, ◌∙◌, ap, subst, inl, inr, arith, add-one, Bool, true, false, if◌then◌else◌, find, Some, length-take}
+-- Lists that a loop goes over or makes, one item more at each turn.
+use Rattle.std.proofs.Common.{◌≡◌, ℕ, zero, suc, ◌+◌, ◌<◌, List, [], ◌∷◌, ◌++◌, length, take, drop, get_or, refl, sym, ◌∙◌, ap, subst, arith, add-one, Bool, true, false, if◌then◌else◌, find, Some, length-take}
 use Rattle.std.proofs.Math.Seq.{drop-cons}
+use Rattle.policy_tokens.specs.declared.token.Kind.{Kind}
+use Rattle.policy_tokens.specs.declared.token.Kind.TheVariants as k
+use Rattle.token_readers.specs.Kinds.{only, same_kind}
 use Rattle.policy_syntax.specs.declared.tree.PolicyTree.{PolicyTree}
 use Rattle.policy_grammar.specs.CoreOf.{IsNameOf, AreNamesOf}
 use Rattle.std.specs.List.{AllZip, AllByRecursion, enumerate_from, zip}
 use Rattle.std.proofs.lemmas.List.{take_more}
-use Rattle.policy_grammar.specs.Repeats.{Mark, StandsAgain, RepeatsAt}
 
 pub all_zip-more : {A B : Type 0} (R : A → B → Type 0) (xs : List A) (ys : List B) (x : A) (y : B) → AllZip R xs ys → R x y → AllZip R (xs ++ x ∷ []) (ys ++ y ∷ [])
 all_zip-more R [] [] x y all r = (r, tt)
@@ -37,21 +39,6 @@ zip-more [] (b ∷ ys) x y same = absurd (omega arith)
 zip-more (a ∷ xs) [] x y same = absurd (omega arith)
 zip-more (a ∷ xs) (b ∷ ys) x y same = ap (λ zs. (a, b) ∷ zs) (zip-more xs ys x y (omega arith))
 
--- one list of marks more
-pub repeats-more : (gs : List (List Mark)) (g : List Mark) (at : ℕ) → RepeatsAt gs at ⊎ StandsAgain g at → RepeatsAt (gs ++ g ∷ []) at
-repeats-more [] g at either = elim either [ inl none ↦ absurd none | inr again ↦ inl again ]
-repeats-more (h ∷ gs) g at either = elim either [
-  | inl before ↦ elim before [ inl again ↦ inl again | inr more ↦ inr (repeats-more gs g at (inl more)) ]
-  | inr again ↦ inr (repeats-more gs g at (inr again))
-]
-
-pub repeats-split : (gs : List (List Mark)) (g : List Mark) (at : ℕ) → RepeatsAt (gs ++ g ∷ []) at → RepeatsAt gs at ⊎ StandsAgain g at
-repeats-split [] g at repeats = elim repeats [ inl again ↦ inr again | inr none ↦ absurd none ]
-repeats-split (h ∷ gs) g at repeats = elim repeats [
-  | inl again ↦ inl (inl again)
-  | inr more ↦ elim (repeats-split gs g at more) [ inl before ↦ inl (inr before) | inr again ↦ inr again ]
-]
-
 found : {A : Type 0} (p : A → Bool) (x : A) (xs : List A) → p x ≡ true → find p (x ∷ xs) ≡ Some x
 found p x xs yes' = ap (λ b. if b then Some x else find p xs) yes'
 
@@ -80,3 +67,30 @@ names-step text trees names i tree name named below here is =
     ∙ ap (λ n. enumerate_from 0 (take i trees) ++ (n, get_or trees i tree) ∷ []) (placed trees i below)
     ∙ ap (λ t. enumerate_from 0 (take i trees) ++ (i, t) ∷ []) (sym here) in
     subst (λ ps. AllZip R ps (names ++ name ∷ [])) (sym grown) (all_zip-more R (enumerate_from 0 (take i trees)) names (i, tree) name named is)
+
+pub text-kind : (kind : Kind) → only k.Text kind ≡ true → kind ≡ k.Text
+unfolding same_kind
+text-kind k.Text yes' = refl
+text-kind _ yes' = absurd (cc)
+
+-- what is left of a list begins with the item here
+pub next : {A : Type 0} (xs : List A) (i : ℕ) (d : A) → i < length xs → drop i xs ≡ get_or xs i d ∷ drop (i + 1) xs
+next xs i d below = drop-cons xs i d below ∙ ap (λ j. get_or xs i d ∷ drop j xs) (sym (add-one i))
+
+-- of which each item is so
+pub all-left : {A : Type 0} (P : A → Type 0) (xs ys : List A) → AllByRecursion P (xs ++ ys) → AllByRecursion P xs
+all-left P [] ys all = tt
+all-left P (x ∷ xs) ys all = (all.0, all-left P xs ys all.1)
+
+pub all-right : {A : Type 0} (P : A → Type 0) (xs ys : List A) → AllByRecursion P (xs ++ ys) → AllByRecursion P ys
+all-right P [] ys all = all
+all-right P (x ∷ xs) ys all = all-right P xs ys all.1
+
+-- where there is nothing together, there is nothing of each
+pub none-left : {A : Type 0} (xs ys : List A) → xs ++ ys ≡ [] → xs ≡ []
+none-left [] ys none = refl
+none-left (x ∷ xs) ys none = absurd (cc)
+
+pub none-right : {A : Type 0} (xs ys : List A) → xs ++ ys ≡ [] → ys ≡ []
+none-right [] ys none = none
+none-right (x ∷ xs) ys none = absurd (cc)

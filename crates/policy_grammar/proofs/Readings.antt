@@ -1,28 +1,26 @@
 -- A text has one reading.
-use Rattle.std.proofs.Common.{◌≡◌, ◌⊎◌, ℕ, ◌≤◌, ◌<◌, List, [], length, Option, Some, None, All, Result, Ok, Err, refl, sym, ◌∙◌, ap, subst, inl, inr, arith}
+use Rattle.std.proofs.Common.{◌≡◌, ◌⊎◌, ℕ, ◌≤◌, ◌<◌, List, [], length, Some, None, All, Result, Ok, Err, refl, sym, ◌∙◌, ap, subst, inl, inr, arith}
 use Rattle.std.specs.List.{AllByRecursion}
 use Rattle.policy_tokens.specs.declared.token.Token.{Token}
 use Rattle.policy_tokens.specs.Lexing.{IsLexed, IsBadAt, OneLexing, BadIsNotLexed, OneBadPlace}
 use Rattle.policy_tokens.specs.Strings.{OneValue}
 use Rattle.policy_syntax.specs.declared.tree.PolicyTree.{PolicyTree}
-use Rattle.expression_syntax.specs.declared.fault.SyntaxFault.{SyntaxFault}
-use Rattle.expression_syntax.specs.declared.fault.SyntaxFault.TheVariants as syntax
-use Rattle.expression_syntax.specs.Lang.{Lang, at_any}
+use Rattle.token_readers.specs.declared.fault.SyntaxFault.{SyntaxFault}
+use Rattle.token_readers.specs.declared.fault.SyntaxFault.TheVariants as syntax
+use Rattle.token_readers.specs.Lang.{Lang, at_any}
 use Rattle.expression_syntax.specs.Expressions.{nesting_limit}
 use Rattle.policy_syntax.specs.Grammar as grammar
-use Rattle.expression_syntax.specs.Reads.{IsRefusedWithin, HasOneTree, HasOneAnswer, HasOneAnswerWithin}
+use Rattle.token_readers.specs.Reads.{IsRefusedWithin, HasOneTree, HasOneAnswer, HasOneAnswerWithin}
 use Rattle.policy_grammar.specs.declared.policy.Policy.{Policy}
 use Rattle.policy_grammar.specs.declared.fault.ReadFault.{ReadFault}
 use Rattle.policy_grammar.specs.declared.fault.ReadFault.TheVariants as fault
 use Rattle.policy_grammar.specs.CoreOf.{IsUidOf, AreNamesOf}
 use Rattle.desugaring.specs.declared.fault.DesugarFault.{DesugarFault}
-use Rattle.desugaring.specs.Refused.{earlier_of, least}
-use Rattle.policy_grammar.specs.Conditions.{condition_faults, file_faults}
+use Rattle.desugaring.specs.Refused.{least}
 use Rattle.policy_grammar.specs.Faults.{of_desugaring}
 use Rattle.policy_grammar.specs.Limits.{most_policy_bytes, most_file_bytes, IsId, IsSmallTree}
-use Rattle.policy_grammar.specs.Repeats.{IsLeast, TellsLeast, StandsAgain, annotation_marks, RepeatsInFile}
-use Rattle.policy_grammar.specs.PolicyText.{Derives, IsUnread, IsUidText, IsUidRefused, IsPolicyOf, IsPolicyText, HasNoFault, IsFirstFault, repeat_fault, IsOverLimit, AreOverLimits, HasNoPolicy, IsPolicyRefused, ArePoliciesOf, HaveNoPolicies, IsFileRefused}
-use Rattle.policy_grammar.specs.Standing.{refusal_of}
+use Rattle.policy_grammar.specs.PolicyText.{Derives, IsUnread, IsUidText, IsUidRefused, IsPolicyOf, IsPolicyText, tree_faults, file_faults, IsToldOf, IsOverLimit, AreOverLimits, HasNoPolicy, IsPolicyRefused, ArePoliciesOf, HaveNoPolicies, IsFileRefused}
+use Rattle.policy_grammar.specs.inner.Standing.{refusal_of}
 use Rattle.policy_grammar.specs.Unique.{HasOneReading, IsFileOf}
 use Rattle.policy_grammar.proofs.Cores.{uid-same, core-same, names-same, cores-same}
 use Rattle.policy_grammar.proofs.Sizes.{small_tree, small_trees}
@@ -41,7 +39,6 @@ record Stopped {A : Type 0} (L K : Lang A) (most : ℕ) (text : List ℕ) (why :
   pub lexed : IsLexed text tokens
   pub reason : SyntaxFault
   pub refused : IsRefusedWithin L K tokens reason
-  pub told : reason ≡ syntax.NoMemory → ⊥
   pub same : why ≡ refusal_of text tokens reason
 
 record TooLong (most : ℕ) (text : List ℕ) (why : ReadFault) : Type 0 where
@@ -58,38 +55,34 @@ record Bad (most : ℕ) (text : List ℕ) (why : ReadFault) : Type 0 where
 abbrev Unread : {A : Type 0} → Lang A → Lang A → ℕ → List ℕ → ReadFault → Type 0
 Unread L K most text why = TooLong most text why ⊎ (Bad most text why ⊎ Stopped L K most text why)
 
-view : {A : Type 0} (L K : Lang A) (most : ℕ) (text : List ℕ) (why : ReadFault) → IsUnread L K most text why → (why ≡ fault.NoMemory → ⊥) → Unread L K most text why
-view L K most text fault.NoMemory unread told = absurd (told refl)
-view L K most text fault.TooLong unread told = inl (record { long = unread; same = refl })
-view L K most text (fault.BadToken at) unread told = inr (inl (record { short = unread.0; at = at; bad = unread.1; same = refl }))
-view L K most text (fault.Unexpected at) unread told = inr (inr (record {
+view : {A : Type 0} (L K : Lang A) (most : ℕ) (text : List ℕ) (why : ReadFault) → IsUnread L K most text why → Unread L K most text why
+view L K most text fault.TooLong unread = inl (record { long = unread; same = refl })
+view L K most text (fault.BadToken at) unread = inr (inl (record { short = unread.0; at = at; bad = unread.1; same = refl }))
+view L K most text (fault.Unexpected at) unread = inr (inr (record {
   short = unread.short;
   tokens = unread.tokens;
   lexed = unread.lexed;
   reason = syntax.Unexpected unread.place;
   refused = unread.refused;
-  told = λ e. absurd (cc);
   same = ap fault.Unexpected unread.byte;
 }))
-view L K most text (fault.Slot at) unread told = inr (inr (record {
+view L K most text (fault.Slot at) unread = inr (inr (record {
   short = unread.short;
   tokens = unread.tokens;
   lexed = unread.lexed;
   reason = syntax.Slot unread.place;
   refused = unread.refused;
-  told = λ e. absurd (cc);
   same = ap fault.Slot unread.byte;
 }))
-view L K most text (fault.TooDeep at) unread told = inr (inr (record {
+view L K most text (fault.TooDeep at) unread = inr (inr (record {
   short = unread.short;
   tokens = unread.tokens;
   lexed = unread.lexed;
   reason = syntax.TooDeep unread.place;
   refused = unread.refused;
-  told = λ e. absurd (cc);
   same = ap fault.TooDeep unread.byte;
 }))
-view L K most text _ unread told = absurd unread
+view L K most text _ unread = absurd unread
 
 err-same : (A : Type 0) (e f : SyntaxFault) → ◌≡◌ {A = Result A SyntaxFault} (Err e) (Err f) → e ≡ f
 err-same A e f same = cc
@@ -103,8 +96,8 @@ module _ {A : Type 0} (L K : Lang A) (most : ℕ) (text : List ℕ) (laws : Laws
   not_stopped x why a s =
       let same = laws.lexing text s.tokens a.tokens s.lexed a.lexed in
       let answer = answers a.tokens in
-      let ok : Ok x ≡ answer.answer = answer.only (Ok x) a.derived (λ e. absurd (cc)) in
-      let err : Err s.reason ≡ answer.answer = answer.only (Err s.reason) (subst (λ ts. IsRefusedWithin L K ts s.reason) same s.refused) (λ e. s.told (err-same A _ _ e)) in
+      let ok : Ok x ≡ answer.answer = answer.only (Ok x) a.derived in
+      let err : Err s.reason ≡ answer.answer = answer.only (Err s.reason) (subst (λ ts. IsRefusedWithin L K ts s.reason) same s.refused) in
       absurd (cc)
 
   not_unread : (x : A) (why : ReadFault) → Derives L most text x → Unread L K most text why → ⊥
@@ -116,8 +109,8 @@ module _ {A : Type 0} (L K : Lang A) (most : ℕ) (text : List ℕ) (laws : Laws
   stopped-same why other s t =
       let same = laws.lexing text s.tokens t.tokens s.lexed t.lexed in
       let answer = answers t.tokens in
-      let first : Err s.reason ≡ answer.answer = answer.only (Err s.reason) (subst (λ ts. IsRefusedWithin L K ts s.reason) same s.refused) (λ e. s.told (err-same A _ _ e)) in
-      let second : Err t.reason ≡ answer.answer = answer.only (Err t.reason) t.refused (λ e. t.told (err-same A _ _ e)) in
+      let first : Err s.reason ≡ answer.answer = answer.only (Err s.reason) (subst (λ ts. IsRefusedWithin L K ts s.reason) same s.refused) in
+      let second : Err t.reason ≡ answer.answer = answer.only (Err t.reason) t.refused in
       s.same ∙ ap (λ ts. refusal_of text ts s.reason) same ∙ ap (refusal_of text t.tokens) (err-same A _ _ (first ∙ sym second)) ∙ sym t.same
 
   unread-same : (why other : ReadFault) → Unread L K most text why → Unread L K most text other → why ≡ other
@@ -132,53 +125,27 @@ module _ {A : Type 0} (L K : Lang A) (most : ℕ) (text : List ℕ) (laws : Laws
   unread-same why other (inr (inr a)) (inr (inr b)) = stopped-same why other a b
 
   -- what is derived is not unread
-  read-unread : (x : A) (why : ReadFault) → Derives L most text x → IsUnread L K most text why → why ≡ fault.NoMemory
-  read-unread x fault.NoMemory a unread = refl
-  read-unread x (fault.BadToken at) a unread = absurd (not_unread x _ a (view L K most text (fault.BadToken at) unread (λ e. absurd (cc))))
-  read-unread x (fault.Unexpected at) a unread = absurd (not_unread x _ a (view L K most text (fault.Unexpected at) unread (λ e. absurd (cc))))
-  read-unread x (fault.Slot at) a unread = absurd (not_unread x _ a (view L K most text (fault.Slot at) unread (λ e. absurd (cc))))
-  read-unread x (fault.TooDeep at) a unread = absurd (not_unread x _ a (view L K most text (fault.TooDeep at) unread (λ e. absurd (cc))))
-  read-unread x fault.TooLong a unread = absurd (not_unread x _ a (view L K most text fault.TooLong unread (λ e. absurd (cc))))
-  read-unread x _ a unread = absurd unread
-
--- the least place is one place
-least-same : (P : ℕ → Type 0) (a b : ℕ) → IsLeast P a → IsLeast P b → a ≡ b
-least-same P a b p q = let low : a ≤ b = p.least b q.here in let high : b ≤ a = q.least a p.here in omega arith
+  read-unread : (x : A) (why : ReadFault) → Derives L most text x → IsUnread L K most text why → ⊥
+  read-unread x why a unread = not_unread x why a (view L K most text why unread)
 
 pub uid_reading : Laws → HasOneTree grammar.uid → HasOneAnswer grammar.uid → HasOneReading IsUidText IsUidRefused
 uid_reading laws trees answers = record {
   one_value = λ text u v a b. uid-same laws.values text b.tree u v
       (subst (λ t. IsUidOf text t u) (derives-same grammar.uid grammar.uid most_policy_bytes text laws trees answers a.tree b.tree a.derives b.derives) a.is) b.is;
   not_both = λ text u why a refused. read-unread grammar.uid grammar.uid most_policy_bytes text laws trees answers a.tree why a.derives refused;
-  one_refusal = λ text why other a b told heard. unread-same grammar.uid grammar.uid most_policy_bytes text laws trees answers why other
-      (view grammar.uid grammar.uid most_policy_bytes text why a told) (view grammar.uid grammar.uid most_policy_bytes text other b heard);
+  one_refusal = λ text why other a b. unread-same grammar.uid grammar.uid most_policy_bytes text laws trees answers why other
+      (view grammar.uid grammar.uid most_policy_bytes text why a) (view grammar.uid grammar.uid most_policy_bytes text other b);
 }
-
-tells-same : (P : ℕ → Type 0) (o p : Option ℕ) → TellsLeast P o → TellsLeast P p → o ≡ p
-tells-same P None None a b = refl
-tells-same P None (Some y) a b = absurd (a y b.here)
-tells-same P (Some x) None a b = absurd (b x a.here)
-tells-same P (Some x) (Some y) a b = ap Some (least-same P x y a b)
 
 some-same : {A : Type 0} {x y : A} → Some x ≡ Some y → x ≡ y
 some-same e = cc
 
--- one fault is the first
-first-same : (R : ℕ → Type 0) (faults : List DesugarFault) (why other : ReadFault) → IsFirstFault R faults why → IsFirstFault R faults other → why ≡ other
-first-same R faults why other a b =
-    let same = tells-same R a.repeat b.repeat a.repeated b.repeated in
-    let first : a.fault ≡ b.fault = some-same (sym a.first ∙ ap (λ o. earlier_of (repeat_fault o) (least faults)) same ∙ b.first) in
-    a.told ∙ ap of_desugaring first ∙ sym b.told
+-- one fault is told
+told-same : (faults : List DesugarFault) (why other : ReadFault) → IsToldOf faults why → IsToldOf faults other → why ≡ other
+told-same faults why other a b = a.told ∙ ap of_desugaring (some-same (sym a.first ∙ b.first)) ∙ sym b.told
 
-no-least : (faults : List DesugarFault) (f : DesugarFault) → faults ≡ [] → least faults ≡ Some f → ⊥
-no-least faults f none some = let e : None ≡ Some f = ap least (sym none) ∙ some in cc
-
-no-first : (R : ℕ → Type 0) (faults : List DesugarFault) (o : Option ℕ) (f : DesugarFault) → HasNoFault R faults → TellsLeast R o → earlier_of (repeat_fault o) (least faults) ≡ Some f → ⊥
-no-first R faults None f none tells some = no-least faults f none.sound some
-no-first R faults (Some at) f none tells some = none.distinct at tells.here
-
-first-or-none : (R : ℕ → Type 0) (faults : List DesugarFault) (why : ReadFault) → HasNoFault R faults → IsFirstFault R faults why → ⊥
-first-or-none R faults why none told = no-first R faults told.repeat told.fault none told.repeated told.first
+told-or-none : (faults : List DesugarFault) (why : ReadFault) → faults ≡ [] → IsToldOf faults why → ⊥
+told-or-none faults why none told = let e : None ≡ Some told.fault = ap least (sym none) ∙ told.first in cc
 
 -- a tree has a policy or not
 over_or_not : (text : List ℕ) (tree : PolicyTree) (why : ReadFault) → IsSmallTree text tree → IsOverLimit text tree why → ⊥
@@ -186,7 +153,7 @@ over_or_not text tree (fault.TooDeep at) small over = over.0 small
 over_or_not text tree _ small over = absurd over
 
 policy_or_not : (text : List ℕ) (tree : PolicyTree) (policy : Policy) (why : ReadFault) → IsPolicyOf text tree policy → HasNoPolicy text tree why → ⊥
-policy_or_not text tree policy why is (inl told) = first-or-none (StandsAgain (annotation_marks text tree)) (condition_faults text tree.conditions) why is.faultless told
+policy_or_not text tree policy why is (inl told) = told-or-none (tree_faults text tree) why is.sound told
 policy_or_not text tree policy why is (inr over) = over_or_not text tree why (small_tree text tree policy is.core is.small) over.1
 
 over-same : (text : List ℕ) (tree : PolicyTree) (why other : ReadFault) → IsOverLimit text tree why → IsOverLimit text tree other → why ≡ other
@@ -195,28 +162,28 @@ over-same text tree (fault.TooDeep a) _ p q = absurd q
 over-same text tree _ _ p q = absurd p
 
 no_policy-same : (text : List ℕ) (tree : PolicyTree) (why other : ReadFault) → HasNoPolicy text tree why → HasNoPolicy text tree other → why ≡ other
-no_policy-same text tree why other (inl p) (inl q) = first-same (StandsAgain (annotation_marks text tree)) (condition_faults text tree.conditions) why other p q
-no_policy-same text tree why other (inl p) (inr q) = absurd (first-or-none (StandsAgain (annotation_marks text tree)) (condition_faults text tree.conditions) why q.0 p)
-no_policy-same text tree why other (inr p) (inl q) = absurd (first-or-none (StandsAgain (annotation_marks text tree)) (condition_faults text tree.conditions) other p.0 q)
+no_policy-same text tree why other (inl p) (inl q) = told-same (tree_faults text tree) why other p q
+no_policy-same text tree why other (inl p) (inr q) = absurd (told-or-none (tree_faults text tree) why q.0 p)
+no_policy-same text tree why other (inr p) (inl q) = absurd (told-or-none (tree_faults text tree) other p.0 q)
 no_policy-same text tree why other (inr p) (inr q) = over-same text tree why other p.1 q.1
 
 policy_both : Laws → HasOneTree (grammar.policy nesting_limit) → HasOneAnswerWithin (grammar.policy nesting_limit) (at_any grammar.policy) → (text : List ℕ) (policy : Policy) (why : ReadFault) → IsPolicyText text policy →
-    IsPolicyRefused text why → why ≡ fault.NoMemory
+    IsPolicyRefused text why → ⊥
 policy_both laws trees answers text policy why a (inl unread) = read-unread (grammar.policy nesting_limit) (at_any grammar.policy) most_policy_bytes text laws trees answers a.tree why a.derives unread
 policy_both laws trees answers text policy why a (inr none) =
-    absurd (policy_or_not text none.0 policy why
+    (policy_or_not text none.0 policy why
     (subst (λ t. IsPolicyOf text t policy) (derives-same (grammar.policy nesting_limit) (at_any grammar.policy) most_policy_bytes text laws trees answers a.tree none.0 a.derives none.1) a.is) none.2)
 
 policy_refusal : Laws → HasOneTree (grammar.policy nesting_limit) → HasOneAnswerWithin (grammar.policy nesting_limit) (at_any grammar.policy) → (text : List ℕ) (why other : ReadFault) → IsPolicyRefused text why →
-    IsPolicyRefused text other → (why ≡ fault.NoMemory → ⊥) → (other ≡ fault.NoMemory → ⊥) → why ≡ other
-policy_refusal laws trees answers text why other (inl a) (inl b) told heard =
+    IsPolicyRefused text other → why ≡ other
+policy_refusal laws trees answers text why other (inl a) (inl b) =
     unread-same (grammar.policy nesting_limit) (at_any grammar.policy) most_policy_bytes text laws trees answers why other
-    (view (grammar.policy nesting_limit) (at_any grammar.policy) most_policy_bytes text why a told) (view (grammar.policy nesting_limit) (at_any grammar.policy) most_policy_bytes text other b heard)
-policy_refusal laws trees answers text why other (inl a) (inr b) told heard =
-    absurd (told (read-unread (grammar.policy nesting_limit) (at_any grammar.policy) most_policy_bytes text laws trees answers b.0 why b.1 a))
-policy_refusal laws trees answers text why other (inr a) (inl b) told heard =
-    absurd (heard (read-unread (grammar.policy nesting_limit) (at_any grammar.policy) most_policy_bytes text laws trees answers a.0 other a.1 b))
-policy_refusal laws trees answers text why other (inr a) (inr b) told heard =
+    (view (grammar.policy nesting_limit) (at_any grammar.policy) most_policy_bytes text why a) (view (grammar.policy nesting_limit) (at_any grammar.policy) most_policy_bytes text other b)
+policy_refusal laws trees answers text why other (inl a) (inr b) =
+    absurd ((read-unread (grammar.policy nesting_limit) (at_any grammar.policy) most_policy_bytes text laws trees answers b.0 why b.1 a))
+policy_refusal laws trees answers text why other (inr a) (inl b) =
+    absurd ((read-unread (grammar.policy nesting_limit) (at_any grammar.policy) most_policy_bytes text laws trees answers a.0 other a.1 b))
+policy_refusal laws trees answers text why other (inr a) (inr b) =
     no_policy-same text b.0 why other
     (subst (λ t. HasNoPolicy text t why) (derives-same (grammar.policy nesting_limit) (at_any grammar.policy) most_policy_bytes text laws trees answers a.0 b.0 a.1 b.1) a.2) b.2
 
@@ -236,7 +203,7 @@ files_over_or_not text trees names _ small ids over = absurd over
 
 files_or_not : (text : List ℕ) (trees : List PolicyTree) (names : List (List ℕ)) (policies : List Policy) (why : ReadFault) → ArePoliciesOf text trees names policies →
     HaveNoPolicies text trees names why → ⊥
-files_or_not text trees names policies why are (inl told) = first-or-none (RepeatsInFile text trees names) (file_faults text trees) why are.faultless told
+files_or_not text trees names policies why are (inl told) = told-or-none (file_faults text trees names) why are.sound told
 files_or_not text trees names policies why are (inr over) = files_over_or_not text trees names why (small_trees text trees policies are.cores are.small) are.ids over.1
 
 -- a file's trees have policies or not
@@ -258,28 +225,28 @@ files_over-same text trees names _ _ p q = absurd p
 
 no_policies-same : (text : List ℕ) (trees : List PolicyTree) (names : List (List ℕ)) (why other : ReadFault) → HaveNoPolicies text trees names why →
     HaveNoPolicies text trees names other → why ≡ other
-no_policies-same text trees names why other (inl p) (inl q) = first-same (RepeatsInFile text trees names) (file_faults text trees) why other p q
-no_policies-same text trees names why other (inl p) (inr q) = absurd (first-or-none (RepeatsInFile text trees names) (file_faults text trees) why q.0 p)
-no_policies-same text trees names why other (inr p) (inl q) = absurd (first-or-none (RepeatsInFile text trees names) (file_faults text trees) other p.0 q)
+no_policies-same text trees names why other (inl p) (inl q) = told-same (file_faults text trees names) why other p q
+no_policies-same text trees names why other (inl p) (inr q) = absurd (told-or-none (file_faults text trees names) why q.0 p)
+no_policies-same text trees names why other (inr p) (inl q) = absurd (told-or-none (file_faults text trees names) other p.0 q)
 no_policies-same text trees names why other (inr p) (inr q) = files_over-same text trees names why other p.1 q.1
 
 file_both : Laws → HasOneTree (grammar.policies nesting_limit) → HasOneAnswerWithin (grammar.policies nesting_limit) (at_any grammar.policies) → (text : List ℕ) (file : List (List ℕ) × List Policy) (why : ReadFault) → IsFileOf text file →
-    IsFileRefused text why → why ≡ fault.NoMemory
+    IsFileRefused text why → ⊥
 file_both laws trees answers text file why a (inl unread) = read-unread (grammar.policies nesting_limit) (at_any grammar.policies) most_file_bytes text laws trees answers a.trees why a.derives unread
 file_both laws trees answers text file why a (inr none) =
-    absurd (policies_or_not laws.values text none.0 file.0 none.1 file.1 why
+    (policies_or_not laws.values text none.0 file.0 none.1 file.1 why
     (subst (λ ts. ArePoliciesOf text ts file.0 file.1) (derives-same (grammar.policies nesting_limit) (at_any grammar.policies) most_file_bytes text laws trees answers a.trees none.0 a.derives none.2) a.are) none.3 none.4)
 
 file_refusal : Laws → HasOneTree (grammar.policies nesting_limit) → HasOneAnswerWithin (grammar.policies nesting_limit) (at_any grammar.policies) → (text : List ℕ) (why other : ReadFault) → IsFileRefused text why →
-    IsFileRefused text other → (why ≡ fault.NoMemory → ⊥) → (other ≡ fault.NoMemory → ⊥) → why ≡ other
-file_refusal laws trees answers text why other (inl a) (inl b) told heard =
+    IsFileRefused text other → why ≡ other
+file_refusal laws trees answers text why other (inl a) (inl b) =
     unread-same (grammar.policies nesting_limit) (at_any grammar.policies) most_file_bytes text laws trees answers why other
-    (view (grammar.policies nesting_limit) (at_any grammar.policies) most_file_bytes text why a told) (view (grammar.policies nesting_limit) (at_any grammar.policies) most_file_bytes text other b heard)
-file_refusal laws trees answers text why other (inl a) (inr b) told heard =
-    absurd (told (read-unread (grammar.policies nesting_limit) (at_any grammar.policies) most_file_bytes text laws trees answers b.0 why b.2 a))
-file_refusal laws trees answers text why other (inr a) (inl b) told heard =
-    absurd (heard (read-unread (grammar.policies nesting_limit) (at_any grammar.policies) most_file_bytes text laws trees answers a.0 other a.2 b))
-file_refusal laws trees answers text why other (inr a) (inr b) told heard =
+    (view (grammar.policies nesting_limit) (at_any grammar.policies) most_file_bytes text why a) (view (grammar.policies nesting_limit) (at_any grammar.policies) most_file_bytes text other b)
+file_refusal laws trees answers text why other (inl a) (inr b) =
+    absurd ((read-unread (grammar.policies nesting_limit) (at_any grammar.policies) most_file_bytes text laws trees answers b.0 why b.2 a))
+file_refusal laws trees answers text why other (inr a) (inl b) =
+    absurd ((read-unread (grammar.policies nesting_limit) (at_any grammar.policies) most_file_bytes text laws trees answers a.0 other a.2 b))
+file_refusal laws trees answers text why other (inr a) (inr b) =
     let same = derives-same (grammar.policies nesting_limit) (at_any grammar.policies) most_file_bytes text laws trees answers a.0 b.0 a.2 b.2 in
     let named = subst (λ ts. AreNamesOf text ts a.1) same a.3 in
     let none = subst (λ ts. HaveNoPolicies text ts a.1 why) same a.4 in

@@ -1,5 +1,6 @@
 -- What the conditions of a policy ask, and their faults.
--- Source: Cedar reference guide 4.0, "Basic policy construction" (conditions); cedar-spec, cedar-lean/Cedar/Spec/Policy.lean (`Condition.toExpr`).
+-- Source: Cedar reference guide 4.0, "Basic policy construction" (conditions); cedar-spec,
+-- cedar-lean/Cedar/Spec/Policy.lean (`Condition.toExpr`).
 -- Rules of this product: conditions are joined to the right, and none are `true`.
 use Rattle.std.specs.Prelude.{ℕ, List, [], ◌∷◌, map}
 use Rattle.std.specs.List.{flat_map}
@@ -9,7 +10,6 @@ use Rattle.expressions.specs.declared.operator.Unary.TheVariants.{Not}
 use Rattle.expressions.specs.declared.expr.Expr.{Expr}
 use Rattle.expressions.specs.declared.expr.Expr.TheVariants as core
 use Rattle.policy_syntax.specs.declared.tree.Condition.{Condition}
-use Rattle.policy_syntax.specs.declared.tree.PolicyTree.{PolicyTree}
 use Rattle.desugaring.specs.declared.fault.DesugarFault.{DesugarFault}
 use Rattle.desugaring.specs.Core.{core_of}
 use Rattle.desugaring.specs.Faults.{faults_of}
@@ -33,9 +33,6 @@ joined (e ∷ (f ∷ es)) = core.And e (joined (f ∷ es))
 abbrev pub conditions_of : List ℕ → List Condition → Expr
 conditions_of text conditions = joined (map (condition_of text) conditions)
 
--- the faults of a policy's conditions, and those of a file's
+-- the faults of a policy's conditions
 abbrev pub condition_faults : List ℕ → List Condition → List DesugarFault
 condition_faults text = flat_map (λ c. faults_of text c.expression)
-
-abbrev pub file_faults : List ℕ → List PolicyTree → List DesugarFault
-file_faults text = flat_map (λ tree. condition_faults text tree.conditions)

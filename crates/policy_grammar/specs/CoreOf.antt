@@ -1,6 +1,7 @@
 -- What a syntax tree stands for, with the text in which its tokens stand: the pass from tree to core.
--- Source: Cedar reference guide 4.0, "Basic policy construction": effect, scope, conditions and annotations; "Grammar specification for Cedar policy
--- syntax". That a policy is named by its `@id` follows the Cedar command line; the names of the others are a rule of this product.
+-- Source: Cedar reference guide 4.0, "Basic policy construction": effect, scope, conditions and annotations; "Grammar
+-- specification for Cedar policy syntax". That a policy is named by its `@id` follows the Cedar command line; the names
+-- of the others are a rule of this product.
 use Rattle.std.specs.Prelude.{◌≡◌, ℕ, Bool, List, [], ◌++◌, Option, Some, None, codes, find}
 use Rattle.std.specs.List.{AllZip, enumerate_from}
 use Rattle.std.specs.Fmt.{decimal}
@@ -11,7 +12,7 @@ use Rattle.policy_tokens.specs.declared.token.Kind.TheVariants as k
 use Rattle.policy_tokens.specs.declared.token.Token.{Token}
 use Rattle.policy_tokens.specs.Lexing.{spelling_of}
 use Rattle.policy_tokens.specs.Strings.{IsStringOf}
-use Rattle.expression_syntax.specs.declared.tree.UidTree.{UidTree}
+use Rattle.token_readers.specs.declared.tree.UidTree.{UidTree}
 use Rattle.desugaring.specs.Meaning.{path_name}
 use Rattle.policy_syntax.specs.declared.tree.Annotation.{Annotation}
 use Rattle.policy_syntax.specs.declared.tree.PartTree.{PartTree}

@@ -5,7 +5,9 @@ use Rattle.policy_tokens.specs.declared.fault.LexFault.TheVariants as lex
 use Rattle.desugaring.specs.declared.fault.DesugarFault.{DesugarFault}
 use Rattle.desugaring.specs.declared.fault.DesugarFault.TheVariants as desugar
 use Rattle.policy_grammar.specs.declared.fault.ReadFault.{ReadFault}
-use Rattle.policy_grammar.specs.declared.fault.ReadFault.TheVariants.{NoMemory, BadToken, Unexpected, NumberRange, UnknownCall, Arity, RepeatedKey, Slot, TooDeep, TooLong, BadId}
+use Rattle.policy_grammar.specs.declared.fault.ReadFault.TheVariants.{NoMemory, BadToken, Unexpected, NumberRange}
+use Rattle.policy_grammar.specs.declared.fault.ReadFault.TheVariants.{UnknownCall, Arity, RepeatedKey, Slot, TooDeep}
+use Rattle.policy_grammar.specs.declared.fault.ReadFault.TheVariants.{TooLong, BadId}
 
 abbrev pub code_of : ReadFault → ℕ
 code_of NoMemory = 1

@@ -5,5 +5,5 @@ pub mod CoreOf
 pub mod Limits
 pub mod Repeats
 pub mod PolicyText
-pub mod Standing
+pub mod inner
 pub mod Unique

@@ -1,8 +1,8 @@
 -- How large a policy may be.
--- Rules of this product: the core expression of a policy is at most 1,000 high and has at most 1,000,000 forms, a policy's id has 1 to 256 bytes,
--- a policy text at most 262,144 bytes, a file 8,388,608.
+-- Rules of this product: the core expression of a policy is at most 1,000 high and has at most 1,000,000 forms, a
+-- policy's id has 1 to 256 bytes, a policy text at most 262,144 bytes, a file 8,388,608.
 use Rattle.std.specs.Prelude.{◌≡◌, ℕ, suc, ◌+◌, ◌≤◌, max, List, [], ◌∷◌, length}
-use Rattle.expression_syntax.specs.declared.tree.UidTree.{UidTree}
+use Rattle.token_readers.specs.declared.tree.UidTree.{UidTree}
 use Rattle.policy_syntax.specs.declared.tree.PartTree.{PartTree}
 use Rattle.policy_syntax.specs.declared.tree.PartTree.TheVariants as part
 use Rattle.policy_syntax.specs.declared.tree.ActionTree.{ActionTree}
@@ -14,7 +14,8 @@ use Rattle.policy_grammar.specs.Whole.{expression_of}
 use Rattle.policy_grammar.specs.Conditions.{conditions_of}
 use Rattle.policy_grammar.specs.CoreOf.{IsCoreOf}
 
--- A core expression, with all but its forms left out: a literal or a variable, a form over one or over two operands, a set of
+-- A core expression, with all but its forms left out: a literal or a variable, a form over one or over two operands,
+-- a set of
 -- so many literals, and any expression by its height and its count of forms.
 pub data Shape : Type 0 where
   leaf : Shape
@@ -57,11 +58,14 @@ action_shape (action.InList (uid ∷ uids)) = both leaf (literals (suc (length u
 
 -- principal && (action && (resource && conditions))
 abbrev pub shape_over : PolicyTree → Shape → Shape
-shape_over tree conditions = both (part_shape tree.principal) (both (action_shape tree.action) (both (part_shape tree.resource) conditions))
+shape_over tree conditions =
+    both (part_shape tree.principal) (both (action_shape tree.action) (both (part_shape tree.resource) conditions))
 
 -- the whole policy's, which is told without making its expression
 abbrev pub shape_of : List ℕ → PolicyTree → Shape
-shape_of text tree = let e = conditions_of text tree.conditions in shape_over tree (sized (size.height e) (size.forms e))
+shape_of text tree =
+    let e = conditions_of text tree.conditions in
+    shape_over tree (sized (size.height e) (size.forms e))
 
 -- the greatest height and count of forms, and the greatest lengths, in bytes, of an id, a policy text and a file
 abbrev pub most_height : ℕ
@@ -102,13 +106,17 @@ IsId name = (1 ≤ length name) × (length name ≤ most_id_bytes)
 -- The shape of a policy is as high as the expression of the policy that the tree stands for, and has as many forms.
 abbrev pub ShapesAreSizes : Type 0
 ShapesAreSizes = (text : List ℕ) (tree : PolicyTree) (policy : Policy) → IsCoreOf text tree policy →
-    (height (shape_of text tree) ≡ size.height (expression_of policy)) × (forms (shape_of text tree) ≡ size.forms (expression_of policy))
+    (height (shape_of text tree) ≡ size.height (expression_of policy))
+    × (forms (shape_of text tree) ≡ size.forms (expression_of policy))
 
--- A policy without conditions whose head lists some actions, and asks nothing else, has nine forms more than it lists actions.
+-- A policy without conditions whose head lists some actions, and asks nothing else, has nine forms more than it lists
+-- actions.
 abbrev pub NineFormsMore : Type 0
-NineFormsMore = (text : List ℕ) (tree : PolicyTree) (uid : UidTree) (uids : List UidTree) → tree.principal ≡ part.Any → tree.action ≡ action.InList (uid ∷ uids) →
+NineFormsMore = (text : List ℕ) (tree : PolicyTree) (uid : UidTree) (uids : List UidTree) →
+    tree.principal ≡ part.Any → tree.action ≡ action.InList (uid ∷ uids) →
     tree.resource ≡ part.Any → tree.conditions ≡ [] → forms (shape_of text tree) ≡ length (uid ∷ uids) + 9
 
 -- No head alone is too high: where a policy is, it is three higher than its conditions.
 abbrev pub HeadsAreLow : Type 0
-HeadsAreLow = (tree : PolicyTree) (conditions : Shape) → height (shape_over tree conditions) ≤ max 6 (height conditions + 3)
+HeadsAreLow = (tree : PolicyTree) (conditions : Shape) →
+    height (shape_over tree conditions) ≤ max 6 (height conditions + 3)

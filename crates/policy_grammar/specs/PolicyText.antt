@@ -1,29 +1,30 @@
 -- What a text is read as, and why it is refused: lexing, then the grammar, then the core, within the limits.
--- Source: Cedar reference guide 4.0, "Grammar specification for Cedar policy syntax". The refusals and their order are rules of this product.
-use Rattle.std.specs.Prelude.{◌≡◌, ◌⊎◌, ℕ, ◌≤◌, ◌<◌, List, [], length, Option, Some, None, slice_get, All}
-use Rattle.std.specs.List.{AllByRecursion}
+-- Source: Cedar reference guide 4.0, "Grammar specification for Cedar policy syntax". The refusals and their order
+-- are rules of this product.
+use Rattle.std.specs.Prelude.{◌≡◌, ◌⊎◌, ℕ, ◌≤◌, ◌<◌, List, [], length, Option, Some, None, slice_get, All, ◌++◌}
+use Rattle.std.specs.List.{AllByRecursion, flat_map}
 use Rattle.values.specs.declared.entity_uid.EntityUid.{EntityUid}
 use Rattle.policy_tokens.specs.declared.token.Token.{Token}
 use Rattle.policy_tokens.specs.Lexing.{IsLexed, IsBadAt}
-use Rattle.expression_syntax.specs.declared.tree.UidTree.{UidTree}
+use Rattle.token_readers.specs.declared.tree.UidTree.{UidTree}
 use Rattle.policy_syntax.specs.declared.tree.PolicyTree.{PolicyTree}
-use Rattle.expression_syntax.specs.declared.fault.SyntaxFault.{SyntaxFault}
-use Rattle.expression_syntax.specs.declared.fault.SyntaxFault.TheVariants as syntax
-use Rattle.expression_syntax.specs.Lang.{Lang, at_any}
+use Rattle.token_readers.specs.declared.fault.SyntaxFault.{SyntaxFault}
+use Rattle.token_readers.specs.declared.fault.SyntaxFault.TheVariants as syntax
+use Rattle.token_readers.specs.Lang.{Lang, at_any}
 use Rattle.expression_syntax.specs.Expressions.{nesting_limit}
 use Rattle.policy_syntax.specs.Grammar as grammar
-use Rattle.expression_syntax.specs.Reads.{IsRefusedWithin}
+use Rattle.token_readers.specs.Reads.{IsRefusedWithin}
 use Rattle.desugaring.specs.declared.fault.DesugarFault.{DesugarFault}
-use Rattle.desugaring.specs.declared.fault.DesugarFault.TheVariants.{RepeatedKey}
-use Rattle.desugaring.specs.Refused.{earlier_of, least}
+use Rattle.desugaring.specs.Refused.{least}
+use Rattle.desugaring.specs.Repeats.{repeat_faults}
 use Rattle.policy_grammar.specs.declared.policy.Policy.{Policy}
 use Rattle.policy_grammar.specs.declared.fault.ReadFault.{ReadFault}
 use Rattle.policy_grammar.specs.declared.fault.ReadFault.TheVariants as fault
-use Rattle.policy_grammar.specs.Conditions.{condition_faults, file_faults}
+use Rattle.policy_grammar.specs.Conditions.{condition_faults}
 use Rattle.policy_grammar.specs.CoreOf.{IsUidOf, IsCoreOf, AreNamesOf, AreCoresOf}
 use Rattle.policy_grammar.specs.Faults.{of_desugaring}
 use Rattle.policy_grammar.specs.Limits.{IsSmallTree, IsSmallPolicy, IsId, most_policy_bytes, most_file_bytes}
-use Rattle.policy_grammar.specs.Repeats.{annotation_marks, StandsAgain, RepeatsInFile, Nowhere, TellsLeast}
+use Rattle.policy_grammar.specs.Repeats.{annotation_marks, policy_marks}
 
 -- The text is no longer than so many bytes, and its tokens derive the tree.
 pub record Derives {A : Type 0} (L : Lang A) (most : ℕ) (text : List ℕ) (tree : A) : Type 0 where
@@ -32,21 +33,25 @@ pub record Derives {A : Type 0} (L : Lang A) (most : ℕ) (text : List ℕ) (tre
   pub lexed : IsLexed text tokens
   pub derived : L tokens tree
 
--- No key or name stands again, and no condition has a fault.
-pub record HasNoFault (Repeats : ℕ → Type 0) (faults : List DesugarFault) : Type 0 where
-  pub distinct : Nowhere Repeats
-  pub sound : faults ≡ []
+-- the faults of a policy's tree: annotations that stand again, and those of its conditions
+abbrev pub tree_faults : List ℕ → PolicyTree → List DesugarFault
+tree_faults text tree = repeat_faults (annotation_marks text tree) ++ condition_faults text tree.conditions
+
+-- and of a file's: names of policies that stand again, and those of each tree
+abbrev pub file_faults : List ℕ → List PolicyTree → List (List ℕ) → List DesugarFault
+file_faults text trees names = repeat_faults (policy_marks names trees) ++ flat_map (tree_faults text) trees
 
 -- A tree's policy, within the limits.
 pub record IsPolicyOf (text : List ℕ) (tree : PolicyTree) (policy : Policy) : Type 0 where
-  pub faultless : HasNoFault (StandsAgain (annotation_marks text tree)) (condition_faults text tree.conditions)
+  pub sound : tree_faults text tree ≡ []
   pub core : IsCoreOf text tree policy
   pub small : IsSmallPolicy policy
 
 -- The policies of a file's trees and their names, within the limits.
-pub record ArePoliciesOf (text : List ℕ) (trees : List PolicyTree) (names : List (List ℕ)) (policies : List Policy) : Type 0 where
+pub record ArePoliciesOf (text : List ℕ) (trees : List PolicyTree) (names : List (List ℕ)) (policies : List Policy) :
+    Type 0 where
   pub named : AreNamesOf text trees names
-  pub faultless : HasNoFault (RepeatsInFile text trees names) (file_faults text trees)
+  pub sound : file_faults text trees names ≡ []
   pub cores : AreCoresOf text trees policies
   pub small : AllByRecursion IsSmallPolicy policies
   pub ids : All IsId names
@@ -69,15 +74,18 @@ pub record IsPolicyFile (text : List ℕ) (names : List (List ℕ)) (policies : 
   pub derives : Derives (grammar.policies nesting_limit) most_file_bytes text trees
   pub are : ArePoliciesOf text trees names policies
 
--- The refusals, in their order: each says that those before it are not due.
+-- The refusals, in their order: each says that those before it are not due. None is for want of memory, which says
+-- nothing of a text.
 
 -- the byte at which this token starts, or the text's length where there is none
 abbrev pub byte_of : List ℕ → Option Token → ℕ
 byte_of text None = length text
 byte_of text (Some token) = token.start
 
--- The tokens leave the language at the token that starts at this byte, or with the text's end. K is the language without a limit on nesting.
-pub record StopsAt {A : Type 0} (L K : Lang A) (most : ℕ) (text : List ℕ) (why : ℕ → SyntaxFault) (at : ℕ) : Type 0 where
+-- The tokens leave the language at the token that starts at this byte, or with the text's end. K is the language
+-- without a limit on nesting.
+pub record StopsAt {A : Type 0} (L K : Lang A) (most : ℕ) (text : List ℕ) (why : ℕ → SyntaxFault) (at : ℕ) :
+    Type 0 where
   pub short : length text ≤ most
   pub tokens : List Token
   pub lexed : IsLexed text tokens
@@ -85,9 +93,9 @@ pub record StopsAt {A : Type 0} (L K : Lang A) (most : ℕ) (text : List ℕ) (w
   pub refused : IsRefusedWithin L K tokens (why place)
   pub byte : at ≡ byte_of text (slice_get tokens place)
 
--- Nothing is derived. The text is too long; else no token begins at a byte; else nothing goes on with a token, or it nests too deep.
+-- Nothing is derived. The text is too long; else no token begins at a byte; else nothing goes on with a token, or it
+-- nests too deep.
 abbrev pub IsUnread : {A : Type 0} → Lang A → Lang A → ℕ → List ℕ → ReadFault → Type 0
-IsUnread L K most text fault.NoMemory = Unit {0}
 IsUnread L K most text fault.TooLong = most < length text
 IsUnread L K most text (fault.BadToken at) = (length text ≤ most) × IsBadAt text at
 IsUnread L K most text (fault.Unexpected at) = StopsAt L K most text syntax.Unexpected at
@@ -95,18 +103,10 @@ IsUnread L K most text (fault.Slot at) = StopsAt L K most text syntax.Slot at
 IsUnread L K most text (fault.TooDeep at) = StopsAt L K most text syntax.TooDeep at
 IsUnread L K most text _ = ⊥
 
--- a key or a name that stands again, as a fault
-abbrev pub repeat_fault : Option ℕ → Option DesugarFault
-repeat_fault None = None
-repeat_fault (Some at) = Some (RepeatedKey at)
-
--- Of all the places at which a key or a name stands again, and of all the faults of conditions, this one is told: the one at the least place. At one place a
--- key or a name goes first, and of the conditions' faults the one that is listed first.
-pub record IsFirstFault (Repeats : ℕ → Type 0) (faults : List DesugarFault) (why : ReadFault) : Type 0 where
-  pub repeat : Option ℕ
-  pub repeated : TellsLeast Repeats repeat
+-- Of these faults this one is told: the one at the least place, and of those at one place the one that is listed first.
+pub record IsToldOf (faults : List DesugarFault) (why : ReadFault) : Type 0 where
   pub fault : DesugarFault
-  pub first : earlier_of (repeat_fault repeat) (least faults) ≡ Some fault
+  pub first : least faults ≡ Some fault
   pub told : why ≡ of_desugaring fault
 
 -- The policy of this tree is too large, or those of these trees are, or their names are no ids.
@@ -122,16 +122,13 @@ AreOverLimits text trees names _ = ⊥
 -- A tree has no policy: it has a fault, or else its core expression is too large.
 abbrev pub HasNoPolicy : List ℕ → PolicyTree → ReadFault → Type 0
 HasNoPolicy text tree why =
-    let repeats = StandsAgain (annotation_marks text tree) in
-    let faults = condition_faults text tree.conditions in
-    IsFirstFault repeats faults why ⊎ (HasNoFault repeats faults × IsOverLimit text tree why)
+    IsToldOf (tree_faults text tree) why ⊎ ((tree_faults text tree ≡ []) × IsOverLimit text tree why)
 
--- The trees of a file have no policies: one of them has a fault; else a core expression is too large; else a name is no id.
+-- The trees of a file have no policies: there is a fault; else a core expression is too large; else a name is no id.
 abbrev pub HaveNoPolicies : List ℕ → List PolicyTree → List (List ℕ) → ReadFault → Type 0
 HaveNoPolicies text trees names why =
-    let repeats = RepeatsInFile text trees names in
-    let faults = file_faults text trees in
-    IsFirstFault repeats faults why ⊎ (HasNoFault repeats faults × AreOverLimits text trees names why)
+    IsToldOf (file_faults text trees names) why
+    ⊎ ((file_faults text trees names ≡ []) × AreOverLimits text trees names why)
 
 -- This text is no uid,
 abbrev pub IsUidRefused : List ℕ → ReadFault → Type 0
@@ -141,11 +138,18 @@ IsUidRefused = IsUnread grammar.uid grammar.uid most_policy_bytes
 abbrev pub IsPolicyRefused : List ℕ → ReadFault → Type 0
 IsPolicyRefused text why =
     IsUnread (grammar.policy nesting_limit) (at_any grammar.policy) most_policy_bytes text why
-    ⊎ ((tree : PolicyTree) × Derives (grammar.policy nesting_limit) most_policy_bytes text tree × HasNoPolicy text tree why)
+    ⊎ ((tree : PolicyTree) × Derives (grammar.policy nesting_limit) most_policy_bytes text tree
+    × HasNoPolicy text tree why)
 
 -- no file of policies.
 abbrev pub IsFileRefused : List ℕ → ReadFault → Type 0
 IsFileRefused text why =
     IsUnread (grammar.policies nesting_limit) (at_any grammar.policies) most_file_bytes text why
-    ⊎ ((trees : List PolicyTree) × (names : List (List ℕ)) × Derives (grammar.policies nesting_limit) most_file_bytes text trees × AreNamesOf text trees names
+    ⊎ ((trees : List PolicyTree) × (names : List (List ℕ))
+    × Derives (grammar.policies nesting_limit) most_file_bytes text trees × AreNamesOf text trees names
     × HaveNoPolicies text trees names why)
+
+-- What code answers: such a refusal, or that memory was wanting.
+abbrev pub OrNoMemory : (ReadFault → Type 0) → ReadFault → Type 0
+OrNoMemory Refused fault.NoMemory = Unit {0}
+OrNoMemory Refused why = Refused why

@@ -1,5 +1,6 @@
 -- The expression of a policy: its scope's three parts and its conditions, joined to the right.
--- Source: Cedar reference guide 4.0, "Basic policy construction" (scope, conditions); cedar-spec, cedar-lean/Cedar/Spec/Policy.lean (`Policy.toExpr`).
+-- Source: Cedar reference guide 4.0, "Basic policy construction" (scope, conditions); cedar-spec,
+-- cedar-lean/Cedar/Spec/Policy.lean (`Policy.toExpr`).
 -- Rules of this product: a part that asks nothing is `true`, and `action in []` is `false`.
 use Rattle.std.specs.Prelude.{true, false, [], ◌∷◌, map}
 use Rattle.values.specs.declared.entity_uid.EntityUid.{EntityUid}
@@ -46,9 +47,11 @@ action_part action.Any = truth
 action_part (action.Equal uid) = is_equal Action uid
 action_part (action.In uid) = is_in Action uid
 action_part (action.InList []) = falsehood
-action_part (action.InList (uid ∷ uids)) = core.Binary In (core.Variable Action) (core.Set (map entity_literal (uid ∷ uids)))
+action_part (action.InList (uid ∷ uids)) =
+    core.Binary In (core.Variable Action) (core.Set (map entity_literal (uid ∷ uids)))
 
 -- principal && (action && (resource && condition))
 abbrev pub expression_of : Policy → Expr
 expression_of policy = core.And (entity_part Principal policy.scope.principal)
-    (core.And (action_part policy.scope.action) (core.And (entity_part Resource policy.scope.resource) policy.condition))
+    (core.And (action_part policy.scope.action)
+    (core.And (entity_part Resource policy.scope.resource) policy.condition))

@@ -6,10 +6,11 @@ ghost use Rattle.desugaring.specs.Faults.{faults_of};
 ghost use Rattle.desugaring.specs.Judged.{of};
 ghost use Rattle.policy_syntax.specs.Stands.{ConditionStands};
 ghost use Rattle.policy_grammar.specs.Conditions.{asked_by, condition_of, conditions_of, condition_faults};
-ghost use Rattle.policy_grammar.specs.Standing.{StandsIn, AreSound, judged_by};
+ghost use Rattle.desugaring.specs.Standing.{StandsIn};
+ghost use Rattle.policy_grammar.specs.inner.Standing.{AreSound, judged_by};
 
 use crate::held::beside;
-use desugaring::{Judgement, build_expr, judge_expr};
+use desugaring::{Judgement, build_expr, judge_expr, judgements_add_up};
 use expressions::{Expr, Literal, Unary};
 use plain::NoMemory;
 use policy_syntax::Condition;
@@ -28,21 +29,26 @@ fn judge_behind(word: Kind, judgement: Judgement) -> Judgement
 
 fn judge_condition(alloc: Global, text: &str, condition: &Condition) -> Result<Judgement, NoMemory>
     requires { StandsIn text.now (λ tokens. ConditionStands tokens condition.now) }
-    ensures { IfOk result (λ j. j ≡ of (condition_of text.now condition.now) (faults_of text.now condition.now.expression)) }
+    ensures { IfOk result (λ j. j ≡ of (condition_of text.now condition.now)
+        (faults_of text.now condition.now.expression)) }
 {
+    judgements_add_up();
     let judgement = judge_expr(alloc, text, &condition.expression)?;
     Ok(judge_behind(condition.word.kind, judgement))
 }
 
-/// How large the core expression of the conditions is, and their fault at the least place. Takes memory for the keys of records alone.
+/// How large the core expression of the conditions is, and their fault at the least place. Takes memory for the keys
+/// of records alone.
 pub(crate) fn judge_conditions(
     alloc: Global,
     text: &str,
     conditions: &[Condition],
 ) -> Result<Judgement, NoMemory>
     requires { StandsIn text.now (λ tokens. AllByRecursion (ConditionStands tokens) conditions.now) }
-    ensures { IfOk result (λ j. j ≡ of (conditions_of text.now conditions.now) (condition_faults text.now conditions.now)) }
+    ensures { IfOk result (λ j. j ≡ of (conditions_of text.now conditions.now)
+        (condition_faults text.now conditions.now)) }
 {
+    judgements_add_up();
     let mut left = conditions.len();
     if left == 0 {
         return Ok(Judgement {

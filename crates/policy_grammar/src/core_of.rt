@@ -5,8 +5,9 @@ ghost use Rattle.policy_syntax.specs.Grammar.{effects};
 ghost use Rattle.policy_syntax.specs.Stands.{PathStands, UidStands, PartStands, ActionStands, PolicyStands};
 ghost use Rattle.policy_grammar.specs.Conditions.{condition_faults};
 ghost use Rattle.desugaring.specs.Meaning.{path_name};
-ghost use Rattle.policy_grammar.specs.CoreOf.{IsUidOf, AreUidsOf, IsEntityScopeOf, IsActionScopeOf, effect_word, IsCoreOf};
-ghost use Rattle.policy_grammar.specs.Standing.{StandsIn};
+ghost use Rattle.policy_grammar.specs.CoreOf.{IsUidOf, AreUidsOf, IsEntityScopeOf, IsActionScopeOf, effect_word};
+ghost use Rattle.policy_grammar.specs.CoreOf.{IsCoreOf};
+ghost use Rattle.desugaring.specs.Standing.{StandsIn};
 
 use crate::conditions::build_conditions;
 use crate::held::beside;

@@ -11,7 +11,8 @@ use std::alloc::{AllocError, AllocFailed};
 pub enum ReadFault {
     /// An allocation was refused.
     NoMemory,
-    /// Here stands neither a blank nor a comment nor a token: among others a string that is not closed, or that has a bad escape.
+    /// Here stands neither a blank nor a comment nor a token: among others a string that is not closed, or that has a
+    /// bad escape.
     BadToken(usize),
     /// The first token with which nothing goes on, or the text's length where it ends too early.
     Unexpected(usize),
@@ -21,7 +22,8 @@ pub enum ReadFault {
     UnknownCall(usize),
     /// The name of a known call with another count of arguments.
     Arity(usize),
-    /// A key of a record, an annotation (its `@`) or a policy's name in a file (the policy's first token) that stands a second time.
+    /// A key of a record, an annotation (its `@`) or a policy's name in a file (the policy's first token) that stands
+    /// a second time.
     RepeatedKey(usize),
     /// In place of `Unexpected` where that token is `?principal` or `?resource`.
     Slot(usize),

@@ -1,7 +1,9 @@
 // Laws of the definitions.
-ghost use Rattle.policy_grammar.specs.PolicyText.{IsUidText, IsUidRefused, IsPolicyText, IsPolicyRefused, IsFileRefused};
-ghost use Rattle.policy_grammar.specs.Unique.{HasOneReading, IsFileOf};
+ghost use Rattle.policy_grammar.specs.PolicyText.{IsUidText, IsUidRefused, IsPolicyText, IsPolicyRefused};
+ghost use Rattle.policy_grammar.specs.PolicyText.{IsFileRefused};
+ghost use Rattle.policy_grammar.specs.Unique.{HasOneReading, IsFileOf, ToldIsLeast, EachIsNamed, NamesDiffer};
 
+use desugaring::least_fault_is_told;
 use policy_syntax::reading_is_unique;
 use policy_tokens::{lexing_is_unique, strings_have_one_meaning};
 
@@ -15,3 +17,18 @@ pub fn texts_have_one_reading()
     strings_have_one_meaning();
     reading_is_unique();
 }
+
+/// That the fault told of a tree or a file is the one at the least place: it does nothing, and its clause is a law of
+/// the definitions.
+pub fn told_fault_is_least()
+    ensures { ToldIsLeast }
+{
+    least_fault_is_told();
+}
+
+/// That each policy of a file has a name, and no two have one name: it does nothing, and its clauses are laws of the
+/// definitions.
+pub fn file_names_differ()
+    ensures each { EachIsNamed }
+    ensures differ { NamesDiffer }
+{}

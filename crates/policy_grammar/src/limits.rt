@@ -48,7 +48,8 @@ fn action_forms(action: &ActionTree) -> usize
     }
 }
 
-/// Whether a policy's core expression is low enough and has few enough forms, by the height and the forms of its conditions.
+/// Whether a policy's core expression is low enough and has few enough forms, by the height and the forms of its
+/// conditions.
 pub(crate) fn is_small(tree: &PolicyTree, height: u32, forms: u32) -> bool
     ensures { IsTrue result ↔ IsSmallOver tree.now height forms }
 {
@@ -73,8 +74,8 @@ pub(crate) fn are_ids(names: &[Text]) -> bool
     names.iter().all(|name| is_id(name))
 }
 
-/// That a policy's size is told as that of its core expression, and that sizes are counted as the language's rewriting says: it does nothing, and its
-/// clauses are laws of the definitions.
+/// That a policy's size is told as that of its core expression, and that sizes are counted as the language's
+/// rewriting says: it does nothing, and its clauses are laws of the definitions.
 pub fn heads_are_small()
     ensures sizes { ShapesAreSizes }
     ensures list { NineFormsMore }

@@ -1,19 +1,24 @@
 //! The names of the policies in a file.
-ghost use Rattle.std.specs.Prelude.{◌≡◌, [], IfOk, IfSome, find, length, map, string_bytes};
+ghost use Rattle.std.specs.Prelude.{◌≡◌, ◌++◌, [], IfOk, IfSome, codes, decimal, find, length, map, string_bytes};
 ghost use Rattle.std.specs.Option.{option_copied};
 ghost use Rattle.std.specs.List.{AllByRecursion};
 ghost use Rattle.policy_syntax.specs.Stands.{AnnotationStands, PolicyStands};
 ghost use Rattle.policy_grammar.specs.Conditions.{condition_faults};
 ghost use Rattle.policy_grammar.specs.CoreOf.{IsValueOf, is_id, IsNameOf, AreNamesOf, AreCoresOf};
-ghost use Rattle.policy_grammar.specs.Standing.{StandsIn, has_id};
+ghost use Rattle.desugaring.specs.Standing.{StandsIn};
+ghost use Rattle.policy_grammar.specs.inner.Standing.{has_id};
 
 use crate::core_of::core_of;
 use crate::policy::Policy;
+use itoa::Buffer;
 use plain::{NoMemory, Text};
 use policy_syntax::{Annotation, PolicyTree};
 use policy_tokens::{decode_string, spelling};
 use std::alloc::Global;
 use std::collections::VecDeque;
+
+/// The bytes of the longest name by a place: `policy` and twenty digits.
+const MOST_PLACED_BYTES: usize = 26;
 
 /// The first annotation with the key `id`.
 fn id_of<'a>(text: &str, annotations: &'a [Annotation]) -> Option<&'a Annotation>
@@ -48,6 +53,17 @@ fn value_of(alloc: Global, text: &str, annotation: &Annotation) -> Result<Text, 
     }
 }
 
+/// The name that a policy has by its place: `policy` and the place in decimal. Memory is asked for once.
+fn placed_name(alloc: Global, place: usize) -> Result<Text, NoMemory>
+    ensures { IfOk result (λ name. name ≡ codes "policy" ++ decimal place) }
+{
+    let mut digits = Buffer::new();
+    let mut name = String::with_capacity(alloc, MOST_PLACED_BYTES)?;
+    name.push_str("policy")?;
+    name.push_str(digits.format(place))?;
+    Ok(Text::from_string(name))
+}
+
 /// The name of the policy at this place of its file.
 fn name_of(alloc: Global, text: &str, place: usize, tree: &PolicyTree) -> Result<Text, NoMemory>
     requires { StandsIn text.now (λ tokens. PolicyStands tokens tree.now) }
@@ -55,7 +71,7 @@ fn name_of(alloc: Global, text: &str, place: usize, tree: &PolicyTree) -> Result
 {
     match id_of(text, tree.annotations.as_slice()) {
         Some(id) => value_of(alloc, text, id),
-        None => Ok(Text::from_string(format!(in alloc; "policy{place}")?)),
+        None => placed_name(alloc, place),
     }
 }
 

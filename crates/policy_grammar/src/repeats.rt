@@ -1,58 +1,29 @@
-//! Which key or name stands a second time, and where first.
+//! Which annotation or policy's name stands a second time, and where first.
 ghost use Rattle.std.specs.Prelude.{◌≡◌, ◌||◌, IfOk, length};
 ghost use Rattle.std.specs.List.{AllByRecursion};
 ghost use Rattle.policy_syntax.specs.Stands.{PolicyStands};
 ghost use Rattle.policy_grammar.specs.CoreOf.{AreNamesOf};
-ghost use Rattle.policy_grammar.specs.Repeats.{StandsAgain, RepeatsInFile, annotation_marks, policy_marks, start_of, TellsLeast};
-ghost use Rattle.policy_grammar.specs.Standing.{StandsIn, bare, earlier_of, has_id, looks_placed, meets_place, doubtful_marks};
+ghost use Rattle.desugaring.specs.Refused.{least};
+ghost use Rattle.desugaring.specs.Repeats.{repeat_faults, shown};
+ghost use Rattle.desugaring.specs.Standing.{StandsIn};
+ghost use Rattle.policy_grammar.specs.Repeats.{annotation_marks, policy_marks, start_of};
+ghost use Rattle.policy_grammar.specs.inner.Standing.{has_id, looks_placed, meets_place, doubtful_marks};
 
 use crate::names::has_id;
+use desugaring::{DesugarFault, Mark, least_repeat, repeats_stand_again};
 use plain::{NoMemory, Text};
 use policy_syntax::PolicyTree;
 use policy_tokens::spelling;
 use std::alloc::Global;
-use std::collections::BTreeSet;
-
-/// A key or a name, and the byte at which it is said to stand.
-#[derive(Clone, Copy)]
-pub(crate) struct Mark<'a> {
-    pub(crate) name: &'a str,
-    pub(crate) at: usize,
-}
-
-/// The lesser place, where there is one.
-fn earlier(a: Option<usize>, b: Option<usize>) -> Option<usize>
-    ensures { result ≡ earlier_of a b }
-{
-    match (a, b) {
-        (Some(first), Some(second)) => Some(first.min(second)),
-        (None, other) => other,
-        (one, None) => one,
-    }
-}
-
-/// The least place at which a name stands again.
-pub(crate) fn least_repeat(alloc: Global, marks: &[Mark<'_>]) -> Result<Option<usize>, NoMemory>
-    ensures { IfOk result (TellsLeast (StandsAgain (bare marks.now))) }
-{
-    let mut seen = BTreeSet::new(alloc);
-    let mut least = None;
-    for mark in marks {
-        if !seen.insert(mark.name)? {
-            least = earlier(least, Some(mark.at));
-        }
-    }
-    Ok(least)
-}
 
 /// The annotations of a policy, each at its `@`.
-pub(crate) fn marks_of_annotations<'a>(
+fn marks_of_annotations<'a>(
     alloc: Global,
     text: &'a str,
     tree: &PolicyTree,
 ) -> Result<Vec<Mark<'a>>, NoMemory>
     requires { StandsIn text.now (λ tokens. PolicyStands tokens tree.now) }
-    ensures { IfOk result (λ marks. bare marks.items ≡ annotation_marks text.entry.now tree.now) }
+    ensures { IfOk result (λ marks. shown marks.items ≡ annotation_marks text.entry.now tree.now) }
 {
     let mut marks = Vec::new(alloc);
     for annotation in tree.annotations.as_slice() {
@@ -62,6 +33,19 @@ pub(crate) fn marks_of_annotations<'a>(
         })?;
     }
     Ok(marks)
+}
+
+/// The fault of an annotation that stands again in its policy, the one at the least place.
+pub(crate) fn repeated_annotation(
+    alloc: Global,
+    text: &str,
+    tree: &PolicyTree,
+) -> Result<Option<DesugarFault>, NoMemory>
+    requires { StandsIn text.now (λ tokens. PolicyStands tokens tree.now) }
+    ensures { IfOk result (λ fault. fault ≡ least (repeat_faults (annotation_marks text.now tree.now))) }
+{
+    let keys = marks_of_annotations(alloc, text, tree)?;
+    least_repeat(alloc, &keys)
 }
 
 /// Where the first token of a policy stands.
@@ -114,7 +98,7 @@ fn doubtful_marks<'a>(
 ) -> Result<Vec<Mark<'a>>, NoMemory>
     requires same { length names.now ≡ length trees.now }
     requires stands { StandsIn text.now (λ tokens. AllByRecursion (PolicyStands tokens) trees.now) }
-    ensures { IfOk result (λ marks. bare marks.items ≡ doubtful_marks text.now wide names.entry.now trees.now) }
+    ensures { IfOk result (λ marks. shown marks.items ≡ doubtful_marks text.now wide names.entry.now trees.now) }
 {
     let mut marks = Vec::new(alloc);
     for (i, tree) in trees.iter().enumerate() {
@@ -129,38 +113,20 @@ fn doubtful_marks<'a>(
     Ok(marks)
 }
 
-/// The least place at which the name of a policy stands again in a file. Names by places are all different.
-fn least_repeated_name(
+/// The fault of a policy's name that stands again in a file, the one at the least place. Names by places are all
+/// different.
+pub(crate) fn repeated_name(
     alloc: Global,
     text: &str,
     names: &[Text],
     trees: &[PolicyTree],
-) -> Result<Option<usize>, NoMemory>
+) -> Result<Option<DesugarFault>, NoMemory>
     requires named { AreNamesOf text.now trees.now names.now }
     requires stands { StandsIn text.now (λ tokens. AllByRecursion (PolicyStands tokens) trees.now) }
-    ensures { IfOk result (TellsLeast (StandsAgain (policy_marks names.now trees.now))) }
+    ensures { IfOk result (λ fault. fault ≡ least (repeat_faults (policy_marks names.now trees.now))) }
 {
+    repeats_stand_again();
     let wide = meets_place(text, names, trees);
     let marks = doubtful_marks(alloc, text, wide, names, trees)?;
     least_repeat(alloc, &marks)
-}
-
-/// The least place at which an annotation stands again in its policy, or a policy's name in the file.
-pub(crate) fn least_repeat_in_file(
-    alloc: Global,
-    text: &str,
-    names: &[Text],
-    trees: &[PolicyTree],
-) -> Result<Option<usize>, NoMemory>
-    requires named { AreNamesOf text.now trees.now names.now }
-    requires stands { StandsIn text.now (λ tokens. AllByRecursion (PolicyStands tokens) trees.now) }
-    ensures { IfOk result (TellsLeast (RepeatsInFile text.now trees.now names.now)) }
-{
-    let mut least = least_repeated_name(alloc, text, names, trees)?;
-    for tree in trees {
-        let marks = marks_of_annotations(alloc, text, tree)?;
-        let again = least_repeat(alloc, &marks)?;
-        least = earlier(least, again);
-    }
-    Ok(least)
 }

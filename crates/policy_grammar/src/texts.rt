@@ -2,21 +2,27 @@
 ghost use Rattle.std.specs.Prelude.{◌≡◌, IfOk, IfErr, map, string_bytes, slice_get};
 ghost use Rattle.std.specs.List.{AllByRecursion};
 ghost use Rattle.expression_syntax.specs.Expressions.{nesting_limit};
-ghost use Rattle.expression_syntax.specs.Lang.{at_any};
+ghost use Rattle.token_readers.specs.Lang.{at_any};
 ghost use Rattle.policy_syntax.specs.Grammar as grammar;
 ghost use Rattle.policy_syntax.specs.Stands.{UidStands, PolicyStands};
 ghost use Rattle.policy_grammar.specs.CoreOf.{AreNamesOf};
 ghost use Rattle.policy_grammar.specs.Limits.{most_policy_bytes, most_file_bytes};
-ghost use Rattle.policy_grammar.specs.PolicyText.{Derives, IsUidText, IsPolicyOf, HasNoPolicy, ArePoliciesOf, HaveNoPolicies, IsPolicyText, IsPolicyFile, IsUnread, IsUidRefused, IsPolicyRefused, IsFileRefused, byte_of};
-ghost use Rattle.policy_grammar.specs.Standing.{StandsIn, LexedIn, IsUnlexed, OrNoMemory, refusal_of};
+ghost use Rattle.policy_grammar.specs.PolicyText.{Derives, IsUidText, IsPolicyOf, HasNoPolicy, ArePoliciesOf};
+ghost use Rattle.policy_grammar.specs.PolicyText.{HaveNoPolicies};
+ghost use Rattle.policy_grammar.specs.PolicyText.{IsPolicyText, IsPolicyFile, IsUnread, IsUidRefused};
+ghost use Rattle.policy_grammar.specs.PolicyText.{IsPolicyRefused, IsFileRefused, OrNoMemory, byte_of};
+ghost use Rattle.desugaring.specs.Standing.{StandsIn};
+ghost use Rattle.policy_grammar.specs.inner.Standing.{LexedIn, IsUnlexed, refusal_of};
 
 use crate::core_of::{core_of, uid_of};
 use crate::fault::ReadFault;
+use crate::held::after;
 use crate::limits::{MOST_FILE_BYTES, MOST_POLICY_BYTES, are_ids};
 use crate::names::{named_of, names_of};
 use crate::policy::Policy;
-use crate::repeats::{least_repeat, least_repeat_in_file, marks_of_annotations};
-use crate::verdict::{first_fault, judge_policies, judge_policy};
+use crate::repeats::repeated_name;
+use crate::verdict::{judge_policies, judge_policy};
+use desugaring::{earlier_of, least_fault_is_told};
 use plain::{NoMemory, Text};
 use policy_syntax::{PolicyTree, SyntaxFault, UidTree, read_policies, read_policy, read_uid};
 use policy_tokens::{Token, tokens};
@@ -26,7 +32,7 @@ use values::EntityUid;
 /// The tokens of a text that is not too long.
 fn tokens_of(alloc: Global, text: &str, most: usize) -> Result<Vec<Token>, ReadFault>
     ensures ok { IfOk result (λ tokens. LexedIn most text.now tokens.items) }
-    ensures err { IfErr result (IsUnlexed most text.now) }
+    ensures err { IfErr result (OrNoMemory (IsUnlexed most text.now)) }
 {
     if text.len() > most {
         return Err(ReadFault::TooLong);
@@ -60,7 +66,7 @@ fn refusal(text: &str, tokens: &[Token], fault: SyntaxFault) -> ReadFault
 fn uid_tree(alloc: Global, text: &str) -> Result<UidTree, ReadFault>
     ensures derives { IfOk result (Derives grammar.uid most_policy_bytes text.now) }
     ensures stands { IfOk result (λ tree. StandsIn text.now (λ tokens. UidStands tokens tree)) }
-    ensures err { IfErr result (IsUnread grammar.uid grammar.uid most_policy_bytes text.now) }
+    ensures err { IfErr result (OrNoMemory (IsUnread grammar.uid grammar.uid most_policy_bytes text.now)) }
 {
     let tokens = tokens_of(alloc, text, MOST_POLICY_BYTES)?;
     match read_uid(alloc, &tokens) {
@@ -72,7 +78,8 @@ fn uid_tree(alloc: Global, text: &str) -> Result<UidTree, ReadFault>
 fn policy_tree(alloc: Global, text: &str) -> Result<PolicyTree, ReadFault>
     ensures derives { IfOk result (Derives (grammar.policy nesting_limit) most_policy_bytes text.now) }
     ensures stands { IfOk result (λ tree. StandsIn text.now (λ tokens. PolicyStands tokens tree)) }
-    ensures err { IfErr result (IsUnread (grammar.policy nesting_limit) (at_any grammar.policy) most_policy_bytes text.now) }
+    ensures err { IfErr result
+        (OrNoMemory (IsUnread (grammar.policy nesting_limit) (at_any grammar.policy) most_policy_bytes text.now)) }
 {
     let tokens = tokens_of(alloc, text, MOST_POLICY_BYTES)?;
     match read_policy(alloc, &tokens) {
@@ -82,9 +89,12 @@ fn policy_tree(alloc: Global, text: &str) -> Result<PolicyTree, ReadFault>
 }
 
 fn policy_trees(alloc: Global, text: &str) -> Result<Vec<PolicyTree>, ReadFault>
-    ensures derives { IfOk result (λ trees. Derives (grammar.policies nesting_limit) most_file_bytes text.now trees.items) }
-    ensures stands { IfOk result (λ trees. StandsIn text.now (λ tokens. AllByRecursion (PolicyStands tokens) trees.items)) }
-    ensures err { IfErr result (IsUnread (grammar.policies nesting_limit) (at_any grammar.policies) most_file_bytes text.now) }
+    ensures derives { IfOk result
+        (λ trees. Derives (grammar.policies nesting_limit) most_file_bytes text.now trees.items) }
+    ensures stands { IfOk result
+        (λ trees. StandsIn text.now (λ tokens. AllByRecursion (PolicyStands tokens) trees.items)) }
+    ensures err { IfErr result
+        (OrNoMemory (IsUnread (grammar.policies nesting_limit) (at_any grammar.policies) most_file_bytes text.now)) }
 {
     let tokens = tokens_of(alloc, text, MOST_FILE_BYTES)?;
     match read_policies(alloc, &tokens) {
@@ -95,11 +105,11 @@ fn policy_trees(alloc: Global, text: &str) -> Result<Vec<PolicyTree>, ReadFault>
 
 /// The uid that a text is, as `User::"alice"`; blanks and comments may stand between its tokens.
 ///
-/// A text has at most 262,144 bytes. Refused, as every text here: `TooLong` first; then `BadToken` over the whole text; then `Unexpected` or `Slot`,
-/// the first met from the left.
+/// A text has at most 262,144 bytes. Refused, as every text here: `TooLong` first; then `BadToken` over the whole
+/// text; then `Unexpected` or `Slot`, the first met from the left.
 pub fn parse_uid(alloc: Global, text: &str) -> Result<EntityUid, ReadFault>
     ensures read { IfOk result (IsUidText text.now) }
-    ensures refused { IfErr result (IsUidRefused text.now) }
+    ensures refused { IfErr result (OrNoMemory (IsUidRefused text.now)) }
 {
     let tree = uid_tree(alloc, text)?;
     Ok(uid_of(alloc, text, &tree)?)
@@ -111,10 +121,9 @@ fn policy_of(alloc: Global, text: &str, tree: &PolicyTree) -> Result<Policy, Rea
     ensures read { IfOk result (IsPolicyOf text.now tree.now) }
     ensures refused { IfErr result (OrNoMemory (HasNoPolicy text.now tree.now)) }
 {
-    let marks = marks_of_annotations(alloc, text, tree)?;
-    let repeat = least_repeat(alloc, &marks)?;
+    least_fault_is_told();
     let verdict = judge_policy(alloc, text, tree)?;
-    if let Some(fault) = first_fault(repeat, verdict.fault) {
+    if let Some(fault) = verdict.fault {
         return Err(ReadFault::from(fault));
     }
     if !verdict.small {
@@ -125,19 +134,20 @@ fn policy_of(alloc: Global, text: &str, tree: &PolicyTree) -> Result<Policy, Rea
 
 /// The policy that a text is. Its annotations are not kept, and an `@id` is not judged.
 ///
-/// A text has at most 262,144 bytes. Refused: `TooLong` first; then `BadToken` over the whole text; then `Unexpected`, `Slot`, or `TooDeep` at a token
-/// that would open level 65 of an expression, the first met from the left; then `RepeatedKey` of an annotation or of a record, `NumberRange`,
-/// `UnknownCall` and `Arity`, the least place first; then `TooDeep` at 0, where the core expression is higher than 1,000 or has over 1,000,000 forms. All
+/// A text has at most 262,144 bytes. Refused: `TooLong` first; then `BadToken` over the whole text; then
+/// `Unexpected`, `Slot`, or `TooDeep` at a token that would open level 65 of an expression, the first met from the
+/// left; then `RepeatedKey` of an annotation or of a record, `NumberRange`, `UnknownCall` and `Arity`, the least
+/// place first; then `TooDeep` at 0, where the core expression is higher than 1,000 or has over 1,000,000 forms. All
 /// this is judged before any part of the core expression is made.
 ///
 /// Source: Cedar reference guide 4.0, "Grammar specification for Cedar policy syntax" and "Basic policy construction".
-#[tactic(auto, using(crate::proofs::Refusing::policy_refused))]
 pub fn parse_policy(alloc: Global, text: &str) -> Result<Policy, ReadFault>
     ensures read { IfOk result (IsPolicyText text.now) }
-    ensures refused { IfErr result (IsPolicyRefused text.now) }
+    ensures refused { IfErr result (OrNoMemory (IsPolicyRefused text.now)) }
 {
     let tree = policy_tree(alloc, text)?;
-    policy_of(alloc, text, &tree)
+    let made = policy_of(alloc, text, &tree);
+    after(tree, made)
 }
 
 /// The policies that a file's trees stand for, each with its name, within the limits.
@@ -149,12 +159,15 @@ fn policies_of(
 ) -> Result<Vec<(String, Policy)>, ReadFault>
     requires named { AreNamesOf text.now trees.now names.items }
     requires stands { StandsIn text.now (λ tokens. AllByRecursion (PolicyStands tokens) trees.now) }
-    ensures read { IfOk result (λ named. ArePoliciesOf text.now trees.now (map (λ p. string_bytes p.0) named.items) (map (λ p. p.1) named.items)) }
+    ensures read { IfOk result
+        (λ named. ArePoliciesOf text.now trees.now
+        (map (λ p. string_bytes p.0) named.items) (map (λ p. p.1) named.items)) }
     ensures refused { IfErr result (OrNoMemory (HaveNoPolicies text.now trees.now names.items)) }
 {
-    let repeat = least_repeat_in_file(alloc, text, &names, trees)?;
+    least_fault_is_told();
+    let repeat = repeated_name(alloc, text, &names, trees)?;
     let verdict = judge_policies(alloc, text, trees)?;
-    if let Some(fault) = first_fault(repeat, verdict.fault) {
+    if let Some(fault) = earlier_of(repeat, verdict.fault) {
         return Err(ReadFault::from(fault));
     }
     if !verdict.small {
@@ -166,15 +179,19 @@ fn policies_of(
     Ok(named_of(alloc, text, names, trees)?)
 }
 
-/// The policies of a file, each with its name: the value of its first `@id`, else `policyN` by its place in the file, counted from 0.
+/// The policies of a file, each with its name: the value of its first `@id`, else `policyN` by its place in the file,
+/// counted from 0.
 ///
-/// A file has at most 8,388,608 bytes. Refused: `TooLong` first; then `BadToken` over the whole text; then `Unexpected`, `Slot`, or `TooDeep` at a token
-/// that would open level 65 of an expression, the first met from the left; then `RepeatedKey` of an annotation, of a record or of a policy's name,
-/// `NumberRange`, `UnknownCall` and `Arity`, the least place of the whole file first; then `TooDeep` at 0, where the core expression of some policy is
-/// higher than 1,000 or has over 1,000,000 forms; then `BadId`. All this is judged before any part of a core expression is made.
+/// A file has at most 8,388,608 bytes. Refused: `TooLong` first; then `BadToken` over the whole text; then
+/// `Unexpected`, `Slot`, or `TooDeep` at a token that would open level 65 of an expression, the first met from the
+/// left; then `RepeatedKey` of an annotation, of a record or of a policy's name, `NumberRange`, `UnknownCall` and
+/// `Arity`, the least place of the whole file first; then `TooDeep` at 0, where the core expression of some policy is
+/// higher than 1,000 or has over 1,000,000 forms; then `BadId`. All this is judged before any part of a core
+/// expression is made.
 pub fn parse_policies(alloc: Global, text: &str) -> Result<Vec<(String, Policy)>, ReadFault>
-    ensures read { IfOk result (λ named. IsPolicyFile text.now (map (λ p. string_bytes p.0) named.items) (map (λ p. p.1) named.items)) }
-    ensures refused { IfErr result (IsFileRefused text.now) }
+    ensures read { IfOk result
+        (λ named. IsPolicyFile text.now (map (λ p. string_bytes p.0) named.items) (map (λ p. p.1) named.items)) }
+    ensures refused { IfErr result (OrNoMemory (IsFileRefused text.now)) }
 {
     let trees = policy_trees(alloc, text)?;
     let names = names_of(alloc, text, &trees)?;

@@ -1,14 +1,16 @@
-//! What is told of policies before any of their expressions is made: the first fault of their conditions, and whether they keep to the limits.
+//! What is told of policies before any of their expressions is made: the fault at the least place, and whether they
+//! keep to the limits.
 ghost use Rattle.std.specs.Prelude.{◌≡◌, ◌↔◌, IsTrue, IfOk};
 ghost use Rattle.std.specs.List.{AllByRecursion};
 ghost use Rattle.desugaring.specs.Refused as spec;
+ghost use Rattle.desugaring.specs.Standing.{StandsIn};
 ghost use Rattle.policy_syntax.specs.Stands.{PolicyStands};
-ghost use Rattle.policy_grammar.specs.PolicyText.{repeat_fault};
-ghost use Rattle.policy_grammar.specs.Standing.{StandsIn, TellsPolicy, TellsFile};
+ghost use Rattle.policy_grammar.specs.inner.Standing.{TellsPolicy, TellsFile};
 
 use crate::conditions::judge_conditions;
 use crate::limits::is_small;
-use desugaring::{DesugarFault, earlier_of};
+use crate::repeats::repeated_annotation;
+use desugaring::{DesugarFault, earlier_of, least_fault_is_told};
 use plain::NoMemory;
 use policy_syntax::PolicyTree;
 use std::alloc::Global;
@@ -16,7 +18,7 @@ use std::alloc::Global;
 /// What is told of one policy, or of several.
 #[derive(Clone, Copy)]
 pub(crate) struct Verdict {
-    /// The fault of a condition that stands at the least place.
+    /// The fault at the least place, of annotations that stand again and of conditions.
     pub(crate) fault: Option<DesugarFault>,
     /// Whether each core expression is low enough and has few enough forms.
     pub(crate) small: bool,
@@ -33,7 +35,7 @@ fn both(one: Verdict, other: Verdict) -> Verdict
     }
 }
 
-/// What is told of a policy. Takes memory for the keys of records alone.
+/// What is told of a policy. Takes memory for the keys of annotations and of records alone.
 pub(crate) fn judge_policy(
     alloc: Global,
     text: &str,
@@ -42,10 +44,12 @@ pub(crate) fn judge_policy(
     requires { StandsIn text.now (λ tokens. PolicyStands tokens tree.now) }
     ensures { IfOk result (TellsPolicy text.now tree.now) }
 {
+    least_fault_is_told();
+    let repeat = repeated_annotation(alloc, text, tree)?;
     let judgement = judge_conditions(alloc, text, tree.conditions.as_slice())?;
     let small = is_small(tree, judgement.height, judgement.forms);
     Ok(Verdict {
-        fault: judgement.fault,
+        fault: earlier_of(repeat, judgement.fault),
         small,
     })
 }
@@ -59,6 +63,7 @@ pub(crate) fn judge_policies(
     requires { StandsIn text.now (λ tokens. AllByRecursion (PolicyStands tokens) trees.now) }
     ensures { IfOk result (TellsFile text.now trees.now) }
 {
+    least_fault_is_told();
     let mut verdict = Verdict {
         fault: None,
         small: true,
@@ -68,17 +73,4 @@ pub(crate) fn judge_policies(
         verdict = both(verdict, one);
     }
     Ok(verdict)
-}
-
-/// The fault at the least place, given the least place at which a key or a name stands again, which goes before a condition's fault there.
-pub(crate) fn first_fault(
-    repeat: Option<usize>,
-    fault: Option<DesugarFault>,
-) -> Option<DesugarFault>
-    ensures { result ≡ spec.earlier_of (repeat_fault repeat) fault }
-{
-    match repeat {
-        Some(at) => earlier_of(Some(DesugarFault::RepeatedKey(at)), fault),
-        None => fault,
-    }
 }

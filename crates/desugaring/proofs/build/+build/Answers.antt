@@ -10,8 +10,8 @@ use Rattle.desugaring.specs.Meaning.{path_name, name_of}
 use Rattle.desugaring.specs.Core.{core_of, negated, field, in_entry, in_term, in_access, added, accessed, joined_by, compared, called, function}
 use Rattle.desugaring.specs.declared.leaves.Chain.TheVariants as chain
 use Rattle.policy_tokens.specs.Lexing.{spelling_of}
-use Rattle.desugaring.specs.Standing.{Stands, AllStand, EntryStands, TermStands, AccessStands}
-use Rattle.desugaring.specs.Giving.{Gave}
+use Rattle.desugaring.specs.inner.Standing.{Stands, AllStand, EntryStands, TermStands, AccessStands}
+use Rattle.desugaring.specs.inner.Giving.{Gave}
 use Rattle.desugaring.proofs.Lists.{all-at}
 use Rattle.desugaring.proofs.Gaving.{one, two}
 use Rattle.desugaring.proofs.PartsOf.{of-Uid, of-Call, of-Set, of-Record, of-Member, of-Product, of-Sum, of-Compare, of-Has, of-Like, of-Is, of-IsIn, of-And, of-Or, of-If}

@@ -1,7 +1,7 @@
 use Rattle.std.proofs.Common.{◌≡◌, ◌+◌, ◌*◌, drop, take, map}
 use Rattle.std.specs.List.{fold}
 use Rattle.desugaring.specs.Core.{core_of, field, in_entry, in_term, in_access, added, accessed, joined_by}
-use Rattle.desugaring.specs.Giving.{Gave}
+use Rattle.desugaring.specs.inner.Giving.{Gave}
 use Rattle.desugaring.proofs.build.+build.Given as goal
 
 abbrev pub invariant-build_all-loop-tree : goal.invariant-build_all-loop-tree

@@ -1,10 +1,10 @@
-use Rattle.std.proofs.Common.{rules, ◌≡◌, ◌∙◌, ap, sym, subst, [], map, IfOk}
+use Rattle.std.proofs.Common.{rules, ◌≡◌, ◌∙◌, ap, sym, subst, map, IfOk}
 use Rattle.std.specs.List.{AllByRecursion, fold}
 use Rattle.expression_syntax.specs.declared.tree.ExprTree.{the_lemmas}
 use Rattle.desugaring.specs.Refused.{least}
-use Rattle.desugaring.specs.Repeats.{repeats}
+use Rattle.desugaring.specs.Repeats.{repeat_faults}
 use Rattle.desugaring.specs.Faults.{key_of, function_faults}
-use Rattle.desugaring.specs.Standing.{Stands, AllStand, EntryStands, TermStands, AccessStands}
+use Rattle.desugaring.specs.inner.Standing.{Stands, AllStand, EntryStands, TermStands, AccessStands}
 use Rattle.desugaring.specs.Judged.{judged, judged_negated}
 use Rattle.desugaring.specs.Sums.{nothing, above, beside, paired, called, with_fault, judged_all, judged_chain, judged_term, judged_entry, judged_access, judged_compared}
 use Rattle.desugaring.proofs.Lists.{all-at}
@@ -127,7 +127,7 @@ judge_tree-returns-in_ok-fault-in-Record t c =
     c.above-in-Record.ensures
     ∙ ap above c.with_fault-in-Record.ensures
     ∙ ap (λ r. above (with_fault c.in_ok-fault-in-Record.fault r)) (c.in_ok-row-in-Record.ensures ∙ ap (fold (judged_entry c.args.text.now) nothing) c.as_slice-in-Record.ensures)
-    ∙ ap (λ o. above (with_fault o (fold (judged_entry c.args.text.now) nothing c.in-Record.entries))) (c.in_ok-fault-in-Record.ensures ∙ ap (λ es. least (repeats [] (map (key_of c.args.text.now) es))) c.as_slice-in-Record-2.ensures)
+    ∙ ap (λ o. above (with_fault o (fold (judged_entry c.args.text.now) nothing c.in-Record.entries))) (c.in_ok-fault-in-Record.ensures ∙ ap (λ es. least (repeat_faults (map (key_of c.args.text.now) es))) c.as_slice-in-Record-2.ensures)
     ∙ sym (judged-Record c.args.text.now c.in-Record.entries) ∙ ap (judged c.args.text.now) (sym c.in-Record.is)
 
 pub judge_tree-returns-in_ok-receiver-in-Member : goal.judge_tree-returns-in_ok-receiver-in-Member

@@ -1,6 +1,6 @@
 use Rattle.std.proofs.Common.{subst}
 use Rattle.policy_syntax.specs.Stands.{ValueStands}
-use Rattle.desugaring.proofs.Idents.{text-kind}
+use Rattle.policy_grammar.proofs.Lists.{text-kind}
 use Rattle.policy_grammar.proofs.names.value_of.Goals as goal
 
 pub decode_string-requires-clause-string : goal.decode_string-requires-clause-string

@@ -1,7 +1,6 @@
 use Rattle.std.proofs.Common.{subst, IfErr}
 use Rattle.policy_grammar.specs.CoreOf.{AreNamesOf}
-use Rattle.policy_grammar.specs.PolicyText.{HaveNoPolicies}
-use Rattle.policy_grammar.specs.Standing.{OrNoMemory}
+use Rattle.policy_grammar.specs.PolicyText.{HaveNoPolicies, OrNoMemory}
 use Rattle.policy_grammar.proofs.Refusing.{file-refused}
 use Rattle.policy_grammar.proofs.texts.parse_policies.Goals as goal
 

@@ -1,35 +1,37 @@
-use Rattle.std.proofs.Common.{All, inl, inr, map, refl, sym, subst, ◌∙◌}
-use Rattle.std.specs.List.{AllByRecursion}
-use Rattle.policy_grammar.specs.Conditions.{file_faults}
+use Rattle.std.proofs.Common.{◌≡◌, [], All, inl, inr, map, refl, sym, subst, ◌∙◌}
+use Rattle.std.specs.List.{AllByRecursion, flat_map}
+use Rattle.desugaring.specs.Refused.{least}
+use Rattle.desugaring.specs.Repeats.{repeat_faults}
 use Rattle.policy_grammar.specs.CoreOf.{AreNamesOf}
 use Rattle.policy_grammar.specs.Limits.{IsSmallTree, IsId}
-use Rattle.policy_grammar.specs.PolicyText.{HasNoFault, HaveNoPolicies}
-use Rattle.policy_grammar.specs.Repeats.{TellsLeast, RepeatsInFile}
+use Rattle.policy_grammar.specs.PolicyText.{HaveNoPolicies, tree_faults, file_faults}
+use Rattle.policy_grammar.specs.Repeats.{policy_marks}
 use Rattle.policy_grammar.proofs.Joining.{sound-all}
+use Rattle.policy_grammar.proofs.Lists.{none-right}
 use Rattle.policy_grammar.proofs.Refusing.{refuted, names-long}
 use Rattle.policy_grammar.proofs.Sizes.{small_cores}
-use Rattle.policy_grammar.proofs.Telling.{is_first, has_none, or_no_memory}
+use Rattle.policy_grammar.proofs.Telling.{told-file, or_no_memory}
 use Rattle.policy_grammar.proofs.texts.policies_of.Goals as goal
 
-pub least_repeat_in_file-requires-clause-named : goal.least_repeat_in_file-requires-clause-named
-least_repeat_in_file-requires-clause-named c = subst (AreNamesOf c.args.text.now c.args.trees.now) (sym c.deref.ensures.value) c.requires.named
+pub repeated_name-requires-clause-named : goal.repeated_name-requires-clause-named
+repeated_name-requires-clause-named c = subst (AreNamesOf c.args.text.now c.args.trees.now) (sym c.deref.ensures.value) c.requires.named
 
 pub returns-in-Some-clause-refused : goal.returns-in-Some-clause-refused
 returns-in-Some-clause-refused c =
-    let R = RepeatsInFile c.args.text.now c.args.trees.now c.args.names.items in
-    let faults = file_faults c.args.text.now c.args.trees.now in
-    let least = subst (λ ns. TellsLeast (RepeatsInFile c.args.text.now c.args.trees.now ns) c.in_ok-repeat.repeat) c.deref.ensures.value c.in_ok-repeat.ensures in
+    let again = subst (λ ns. c.in_ok-repeat.repeat ≡ least (repeat_faults (policy_marks ns c.args.trees.now))) c.deref.ensures.value c.in_ok-repeat.ensures in
+    let told = told-file c.least_fault_is_told.ensures.both c.args.text.now c.args.trees.now c.args.names.items c.in_ok-repeat.repeat c.in_ok-verdict.verdict c.earlier_of.result again
+    c.in_ok-verdict.ensures c.earlier_of.ensures in
     or_no_memory (HaveNoPolicies c.args.text.now c.args.trees.now c.args.names.items) c.from.result
-    (inl (is_first R faults c.in_ok-repeat.repeat c.in_ok-verdict.verdict.fault c.first_fault.result least c.in_ok-verdict.ensures.fault c.first_fault.ensures c.in-Some.fault
-    c.from.result c.in-Some.is c.from.ensures))
+    (inl (record { fault = c.in-Some.fault; first = sym told ∙ c.in-Some.is; told = c.from.ensures }))
 
 pub returns-then-not-verdict-clause-refused : goal.returns-then-not-verdict-clause-refused
 returns-then-not-verdict-clause-refused c =
-    let R = RepeatsInFile c.args.text.now c.args.trees.now c.args.names.items in
-    let faults = file_faults c.args.text.now c.args.trees.now in
-    let least = subst (λ ns. TellsLeast (RepeatsInFile c.args.text.now c.args.trees.now ns) c.in_ok-repeat.repeat) c.deref.ensures.value c.in_ok-repeat.ensures in
+    let again = subst (λ ns. c.in_ok-repeat.repeat ≡ least (repeat_faults (policy_marks ns c.args.trees.now))) c.deref.ensures.value c.in_ok-repeat.ensures in
+    let told = told-file c.least_fault_is_told.ensures.both c.args.text.now c.args.trees.now c.args.names.items c.in_ok-repeat.repeat c.in_ok-verdict.verdict c.earlier_of.result again
+    c.in_ok-verdict.ensures c.earlier_of.ensures in
+    let none = c.least_fault_is_told.ensures.none (file_faults c.args.text.now c.args.trees.now c.args.names.items) (sym told ∙ c.in_default.is) in
     inr (
-      has_none R faults c.in_ok-repeat.repeat c.in_ok-verdict.verdict.fault c.first_fault.result least c.in_ok-verdict.ensures.fault c.first_fault.ensures c.in_default.is,
+      none,
       (
         refuted (AllByRecursion (IsSmallTree c.args.text.now) c.args.trees.now) c.in_ok-verdict.verdict.small c.in_ok-verdict.ensures.small c.if-not-verdict.true,
         refl,
@@ -38,11 +40,12 @@ returns-then-not-verdict-clause-refused c =
 
 pub returns-then-not-are_ids-clause-refused : goal.returns-then-not-are_ids-clause-refused
 returns-then-not-are_ids-clause-refused c =
-    let R = RepeatsInFile c.args.text.now c.args.trees.now c.args.names.items in
-    let faults = file_faults c.args.text.now c.args.trees.now in
-    let least = subst (λ ns. TellsLeast (RepeatsInFile c.args.text.now c.args.trees.now ns) c.in_ok-repeat.repeat) c.deref.ensures.value c.in_ok-repeat.ensures in
+    let again = subst (λ ns. c.in_ok-repeat.repeat ≡ least (repeat_faults (policy_marks ns c.args.trees.now))) c.deref.ensures.value c.in_ok-repeat.ensures in
+    let told = told-file c.least_fault_is_told.ensures.both c.args.text.now c.args.trees.now c.args.names.items c.in_ok-repeat.repeat c.in_ok-verdict.verdict c.earlier_of.result again
+    c.in_ok-verdict.ensures c.earlier_of.ensures in
+    let none = c.least_fault_is_told.ensures.none (file_faults c.args.text.now c.args.trees.now c.args.names.items) (sym told ∙ c.in_default.is) in
     inr (
-      has_none R faults c.in_ok-repeat.repeat c.in_ok-verdict.verdict.fault c.first_fault.result least c.in_ok-verdict.ensures.fault c.first_fault.ensures c.in_default.is,
+      none,
       (
         c.in_ok-verdict.ensures.small.0 c.if-not-verdict.false,
         λ ids. refuted (All IsId c.deref-2.result.now) c.are_ids.result c.are_ids.ensures c.if-not-are_ids.true (subst (All IsId) (sym c.deref-2.ensures.value) ids),
@@ -54,22 +57,22 @@ named_of-requires-clause-same c = names-long c.args.text.now c.args.trees.now c.
 
 pub named_of-requires-clause-sound : goal.named_of-requires-clause-sound
 named_of-requires-clause-sound c =
-    let R = RepeatsInFile c.args.text.now c.args.trees.now c.args.names.items in
-    let faults = file_faults c.args.text.now c.args.trees.now in
-    let least = subst (λ ns. TellsLeast (RepeatsInFile c.args.text.now c.args.trees.now ns) c.in_ok-repeat.repeat) c.deref.ensures.value c.in_ok-repeat.ensures in
-    let none = has_none R faults c.in_ok-repeat.repeat c.in_ok-verdict.verdict.fault c.first_fault.result least c.in_ok-verdict.ensures.fault c.first_fault.ensures c.in_default.is in
-    sound-all c.args.text.now c.args.trees.now none.sound
+    let again = subst (λ ns. c.in_ok-repeat.repeat ≡ least (repeat_faults (policy_marks ns c.args.trees.now))) c.deref.ensures.value c.in_ok-repeat.ensures in
+    let told = told-file c.least_fault_is_told.ensures.both c.args.text.now c.args.trees.now c.args.names.items c.in_ok-repeat.repeat c.in_ok-verdict.verdict c.earlier_of.result again
+    c.in_ok-verdict.ensures c.earlier_of.ensures in
+    let none = c.least_fault_is_told.ensures.none (file_faults c.args.text.now c.args.trees.now c.args.names.items) (sym told ∙ c.in_default.is) in
+    sound-all c.args.text.now c.args.trees.now (none-right (repeat_faults (policy_marks c.args.names.items c.args.trees.now)) (flat_map (tree_faults c.args.text.now) c.args.trees.now) none)
 
 pub returns-clause-read : goal.returns-clause-read
 returns-clause-read c =
-    let R = RepeatsInFile c.args.text.now c.args.trees.now c.args.names.items in
-    let faults = file_faults c.args.text.now c.args.trees.now in
-    let least = subst (λ ns. TellsLeast (RepeatsInFile c.args.text.now c.args.trees.now ns) c.in_ok-repeat.repeat) c.deref.ensures.value c.in_ok-repeat.ensures in
-    let none = has_none R faults c.in_ok-repeat.repeat c.in_ok-verdict.verdict.fault c.first_fault.result least c.in_ok-verdict.ensures.fault c.first_fault.ensures c.in_default.is in
+    let again = subst (λ ns. c.in_ok-repeat.repeat ≡ least (repeat_faults (policy_marks ns c.args.trees.now))) c.deref.ensures.value c.in_ok-repeat.ensures in
+    let told = told-file c.least_fault_is_told.ensures.both c.args.text.now c.args.trees.now c.args.names.items c.in_ok-repeat.repeat c.in_ok-verdict.verdict c.earlier_of.result again
+    c.in_ok-verdict.ensures c.earlier_of.ensures in
+    let none = c.least_fault_is_told.ensures.none (file_faults c.args.text.now c.args.trees.now c.args.names.items) (sym told ∙ c.in_default.is) in
     let made = sym c.in_ok-named_of.ensures.names in
     record {
       named = subst (AreNamesOf c.args.text.now c.args.trees.now) made c.requires.named;
-      faultless = subst (λ ns. HasNoFault (RepeatsInFile c.args.text.now c.args.trees.now ns) faults) made none;
+      sound = subst (λ ns. file_faults c.args.text.now c.args.trees.now ns ≡ []) made none;
       cores = c.in_ok-named_of.ensures.cores;
       small = small_cores c.args.text.now c.args.trees.now (map (λ p. p.1) c.in_ok-named_of.field-0.items) c.in_ok-named_of.ensures.cores
           (c.in_ok-verdict.ensures.small.0 c.if-not-verdict.false);

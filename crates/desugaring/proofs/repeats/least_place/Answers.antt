@@ -1,10 +1,11 @@
 use Rattle.std.proofs.Common.{◌++◌, ◌∷◌, [], sym, subst, take, get_or, ◌∙◌, refl}
 use Rattle.std.proofs.lemmas.List.{take_all}
-use Rattle.policy_grammar.specs.Standing.{bare}
-use Rattle.policy_grammar.specs.Repeats.{Mark, TellsLeast, StandsAgain}
-use Rattle.policy_grammar.proofs.Repeating.{Seen, seen-none, seen-new, seen-again, bare-more, was_new, was_old}
-use Rattle.policy_grammar.proofs.repeats.least_repeat.Goals as goal
-use Rattle.policy_grammar.proofs.repeats.least_repeat.Goals.{then-not-branch, else-not-branch}
+use Rattle.desugaring.specs.Repeats.{shown}
+use Rattle.desugaring.specs.Repeats.{Mark, StandsAgain}
+use Rattle.desugaring.specs.inner.Searching.{TellsLeast}
+use Rattle.desugaring.proofs.Repeating.{Seen, seen-none, seen-new, seen-again, shown-more, was_new, was_old}
+use Rattle.desugaring.proofs.repeats.least_place.Goals as goal
+use Rattle.desugaring.proofs.repeats.least_place.Goals.{then-not-branch, else-not-branch}
 
 pub loop-mark-init : goal.loop-mark-init
 loop-mark-init c = seen-none c.new-seen.result c.new-seen.ensures.empty
@@ -12,14 +13,14 @@ loop-mark-init c = seen-none c.new-seen.result c.new-seen.ensures.empty
 pub loop-mark-preserved : goal.loop-mark-preserved
 loop-mark-preserved c =
     let mark = get_or c.args.marks.now c.loop-mark.mark-index (record { name = record { ref_ptr = (0, 0); now = [] }; at = 0 }) in
-    let more = bare-more c.args.marks.now c.loop-mark.mark-index (record { name = record { ref_ptr = (0, 0); now = [] }; at = 0 }) c.loop-mark-test.true in
-    let passed = bare (take c.loop-mark.mark-index c.args.marks.now) in
+    let more = shown-more c.args.marks.now c.loop-mark.mark-index (record { name = record { ref_ptr = (0, 0); now = [] }; at = 0 }) c.loop-mark-test.true in
+    let passed = shown (take c.loop-mark.mark-index c.args.marks.now) in
     let m : Mark = record { name = mark.name.now; at = mark.at } in
     let updates = c.in_ok-insert.ensures.updates in
     let added = c.in_ok-insert.ensures.added in
     subst (λ ms. Seen ms c.insert.new.self c.if-not-branch.least) (sym more) (elim c.if-not-branch.branch [
       | then-not-branch w ↦
-          subst (Seen (passed ++ m ∷ []) c.insert.new.self) (sym (w.least-is ∙ w.earlier-least.ensures))
+          subst (Seen (passed ++ m ∷ []) c.insert.new.self) (sym (w.least-is ∙ w.lesser-least.ensures))
           (seen-again passed m mark.name c.loop-mark.seen c.insert.new.self c.loop-mark.least c.loop-mark.invariant refl (was_old _ _ w.if-not-branch.true added) updates)
       | else-not-branch w ↦
           subst (Seen (passed ++ m ∷ []) c.insert.new.self) (sym w.least-is)
@@ -27,4 +28,4 @@ loop-mark-preserved c =
     ])
 
 pub returns : goal.returns
-returns c = subst (λ ms. TellsLeast (StandsAgain (bare ms)) c.loop-mark.least) (take_all _ c.args.marks.now c.loop-mark-test.false) c.loop-mark.invariant.tells
+returns c = subst (λ ms. TellsLeast (StandsAgain (shown ms)) c.loop-mark.least) (take_all _ c.args.marks.now c.loop-mark-test.false) c.loop-mark.invariant.tells

@@ -1,0 +1,177 @@
+-- The places at which names stand again, as a list and as a relation, and the fault that is told of them.
+use Rattle.std.proofs.Common.{◌≡◌, ◌⊎◌, ℕ, ◌≤◌, ◌<◌, Bool, true, false, cond, List, [], ◌∷◌, ◌++◌, map, filter, Option, Some, None, Contains, min, nat_lt, if◌then◌else◌, refl, sym, ◌∙◌, ap, subst, inl, inr, arith}
+use Rattle.std.specs.Str.{bytes_eq}
+use Rattle.std.proofs.lemmas.Bool.{ltb-true, ltb-false}
+use Rattle.std.proofs.lemmas.Slice.Eq.{bytes_eq-Decides}
+use Rattle.desugaring.specs.declared.fault.DesugarFault.TheVariants.{RepeatedKey}
+use Rattle.desugaring.specs.Refused.{earlier_of, least}
+use Rattle.desugaring.specs.Repeats.{Mark, StandsAgain, places_of, repeats, repeat_faults, RepeatsStandAgain, RepeatsAreTold}
+use Rattle.desugaring.specs.inner.Searching.{IsLeast, TellsLeast, lesser_of, repeat_fault}
+use Rattle.desugaring.proofs.Members.{at_first, further, first_or_further, in_none, in_left, in_right, in_either}
+use Rattle.desugaring.proofs.Repeating.{names, tells-same, tells-both}
+
+-- ---- a list of marks from its front
+
+-- a mark of this name stands here
+abbrev Later : List ℕ → List Mark → ℕ → Type 0
+Later name [] at = ⊥
+Later name (m ∷ ms) at = ((m.name ≡ name) × (at ≡ m.at)) ⊎ Later name ms at
+
+heads : {A : Type 0} (x y : A) (xs ys : List A) → x ∷ xs ≡ y ∷ ys → x ≡ y
+heads x y xs ys e = cc
+
+tails : {A : Type 0} (x y : A) (xs ys : List A) → x ∷ xs ≡ y ∷ ys → xs ≡ ys
+tails x y xs ys e = cc
+
+later-at : (before : List Mark) (mark : Mark) (behind : List Mark) → Later mark.name (before ++ mark ∷ behind) mark.at
+later-at [] mark behind = inl (refl, refl)
+later-at (b ∷ bs) mark behind = inr (later-at bs mark behind)
+
+again-there : (m : Mark) (ms : List Mark) (at : ℕ) → StandsAgain ms at → StandsAgain (m ∷ ms) at
+again-there m ms at again = record {
+  before = m ∷ again.before;
+  mark = again.mark;
+  behind = again.behind;
+  whole = ap (λ xs. m ∷ xs) again.whole;
+  again = further m.name (names again.before) again.mark.name again.again;
+  place = again.place;
+}
+
+split-later : (name : List ℕ) (ms : List Mark) (at : ℕ) → Later name ms at →
+    (before : List Mark) × (mark : Mark) × (behind : List Mark) × (ms ≡ before ++ mark ∷ behind) × (mark.name ≡ name) × (at ≡ mark.at)
+split-later name [] at later = absurd later
+split-later name (m ∷ ms) at later = elim later [
+  | inl here ↦ ([], m, ms, refl, here.0, here.1)
+  | inr more ↦ let s = split-later name ms at more in (m ∷ s.0, s.1, s.2, ap (λ xs. m ∷ xs) s.3, s.4, s.5)
+]
+
+again-here : (m : Mark) (ms : List Mark) (at : ℕ) → Later m.name ms at → StandsAgain (m ∷ ms) at
+again-here m ms at later = let s = split-later m.name ms at later in record {
+  before = m ∷ s.0;
+  mark = s.1;
+  behind = s.2;
+  whole = ap (λ xs. m ∷ xs) s.3;
+  again = subst (λ x. Contains (m.name ∷ names s.0) x) (sym s.4) (at_first m.name (names s.0));
+  place = s.5;
+}
+
+front : (m : Mark) (ms before : List Mark) (mark : Mark) (behind : List Mark) (at : ℕ) → m ∷ ms ≡ before ++ mark ∷ behind →
+    Contains (names before) mark.name → at ≡ mark.at → Later m.name ms at ⊎ StandsAgain ms at
+front m ms [] mark behind at whole again place = in_none mark.name again
+front m ms (b ∷ bs) mark behind at whole again place =
+    let same : m ≡ b = heads m b _ _ whole in
+    let rest : ms ≡ bs ++ mark ∷ behind = tails m b _ _ whole in
+    elim (first_or_further b.name (names bs) mark.name again) [
+      | inl e ↦ inl (subst (λ xs. Later m.name xs at) (sym rest) (subst (λ n. Later n (bs ++ mark ∷ behind) at) (sym (ap (λ x. x.name) same ∙ e))
+          (subst (Later mark.name (bs ++ mark ∷ behind)) (sym place) (later-at bs mark behind))))
+      | inr more ↦ inr (record { before = bs; mark = mark; behind = behind; whole = rest; again = more; place = place })
+    ]
+
+again-front : (m : Mark) (ms : List Mark) (at : ℕ) → StandsAgain (m ∷ ms) at → Later m.name ms at ⊎ StandsAgain ms at
+again-front m ms at again = front m ms again.before again.mark again.behind at again.whole again.again again.place
+
+again-none : (at : ℕ) {G : Type 0} → StandsAgain [] at → G
+again-none at again = nothing again.before again.mark again.behind again.whole where
+  nothing : {G : Type 0} (before : List Mark) (mark : Mark) (behind : List Mark) → [] ≡ before ++ mark ∷ behind → G
+  nothing [] mark behind e = absurd cc
+  nothing (b ∷ bs) mark behind e = absurd cc
+
+-- ---- as a list
+
+abbrev places : List Mark → List ℕ
+places = map (λ m. m.at)
+
+kept-in : (b : Bool) (m : Mark) (rest : List Mark) (at : ℕ) → ((b ≡ true) × (at ≡ m.at)) ⊎ Contains (places rest) at → Contains (places (cond b (m ∷ rest) rest)) at
+kept-in true m rest at (inl here) = subst (Contains (m.at ∷ places rest)) (sym here.1) (at_first m.at (places rest))
+kept-in true m rest at (inr more) = further m.at (places rest) at more
+kept-in false m rest at (inl here) = let no' : false ≡ true = here.0 in absurd cc
+kept-in false m rest at (inr more) = more
+
+kept-of : (b : Bool) (m : Mark) (rest : List Mark) (at : ℕ) → Contains (places (cond b (m ∷ rest) rest)) at → ((b ≡ true) × (at ≡ m.at)) ⊎ Contains (places rest) at
+kept-of true m rest at c = elim (first_or_further m.at (places rest) at c) [ inl e ↦ inl (refl, sym e) | inr more ↦ inr more ]
+kept-of false m rest at c = inr c
+
+in-places : (name : List ℕ) (ms : List Mark) (at : ℕ) → Later name ms at → Contains (places_of name ms) at
+in-places name [] at later = absurd later
+in-places name (m ∷ ms) at later = kept-in (bytes_eq name m.name) m (filter (λ x. bytes_eq name x.name) ms) at (elim later [
+  | inl here ↦ inl ((bytes_eq-Decides name m.name).1 (sym here.0), here.1)
+  | inr more ↦ inr (in-places name ms at more)
+])
+
+of-places : (name : List ℕ) (ms : List Mark) (at : ℕ) → Contains (places_of name ms) at → Later name ms at
+of-places name [] at c = in_none at c
+of-places name (m ∷ ms) at c = elim (kept-of (bytes_eq name m.name) m (filter (λ x. bytes_eq name x.name) ms) at c) [
+  | inl here ↦ inl (sym ((bytes_eq-Decides name m.name).0 here.0), here.1)
+  | inr more ↦ inr (of-places name ms at more)
+]
+
+in-repeats : (ms : List Mark) (at : ℕ) → StandsAgain ms at → Contains (repeats ms) at
+in-repeats [] at again = again-none at again
+in-repeats (m ∷ ms) at again = elim (again-front m ms at again) [
+  | inl later ↦ in_left (places_of m.name ms) (repeats ms) at (in-places m.name ms at later)
+  | inr more ↦ in_right (places_of m.name ms) (repeats ms) at (in-repeats ms at more)
+]
+
+of-repeats : (ms : List Mark) (at : ℕ) → Contains (repeats ms) at → StandsAgain ms at
+of-repeats [] at c = in_none at c
+of-repeats (m ∷ ms) at c = elim (in_either (places_of m.name ms) (repeats ms) at c) [
+  | inl here ↦ again-here m ms at (of-places m.name ms at here)
+  | inr more ↦ again-there m ms at (of-repeats ms at more)
+]
+
+pub repeats_stand_again : RepeatsStandAgain
+repeats_stand_again marks at = (of-repeats marks at, in-repeats marks at)
+
+-- ---- what is told
+
+least_at : List ℕ → Option ℕ
+least_at [] = None
+least_at (p ∷ ps) = lesser_of (Some p) (least_at ps)
+
+lesser_fault : (b : Bool) (p q : ℕ) → nat_lt q p ≡ b → (if b then RepeatedKey q else RepeatedKey p) ≡ RepeatedKey (min p q)
+lesser_fault true p q e = ap RepeatedKey (let low : q < p = ltb-true q p e in omega (arith, low))
+lesser_fault false p q e = ap RepeatedKey (let low : p ≤ q = ltb-false q p e in omega (arith, low))
+
+earlier_fault : (p : ℕ) (o : Option ℕ) → earlier_of (Some (RepeatedKey p)) (repeat_fault o) ≡ repeat_fault (lesser_of (Some p) o)
+earlier_fault p None = refl
+earlier_fault p (Some q) = ap Some (lesser_fault (nat_lt q p) p q refl)
+
+least_fault : (ps : List ℕ) → least (map RepeatedKey ps) ≡ repeat_fault (least_at ps)
+unfolding least_at
+least_fault [] = refl
+least_fault (p ∷ ps) = ap (earlier_of (Some (RepeatedKey p))) (least_fault ps) ∙ earlier_fault p (least_at ps)
+
+tells_first : (p : ℕ) → TellsLeast (λ at. at ≡ p) (Some p)
+tells_first p = record { here = refl; least = λ other e. let same : other ≡ p = e in omega arith }
+
+tells_least : (ps : List ℕ) → TellsLeast (Contains ps) (least_at ps)
+unfolding least_at
+tells_least [] = λ at c. in_none at c
+tells_least (p ∷ ps) =
+    tells-same (λ at. (at ≡ p) ⊎ Contains ps at) (Contains (p ∷ ps)) (lesser_of (Some p) (least_at ps))
+    (λ at either. elim either [ inl e ↦ subst (Contains (p ∷ ps)) (sym e) (at_first p ps) | inr more ↦ further p ps at more ])
+    (λ at c. elim (first_or_further p ps at c) [ inl e ↦ inl (sym e) | inr more ↦ inr more ])
+    (tells-both (λ at. at ≡ p) (Contains ps) (Some p) (least_at ps) (tells_first p) (tells_least ps))
+
+least-same : (P : ℕ → Type 0) (a b : ℕ) → IsLeast P a → IsLeast P b → a ≡ b
+least-same P a b p q = let low : a ≤ b = p.least b q.here in let high : b ≤ a = q.least a p.here in omega arith
+
+tells-one : (P : ℕ → Type 0) (o p : Option ℕ) → TellsLeast P o → TellsLeast P p → o ≡ p
+tells-one P None None a b = refl
+tells-one P None (Some y) a b = absurd (a y b.here)
+tells-one P (Some x) None a b = absurd (b x a.here)
+tells-one P (Some x) (Some y) a b = ap Some (least-same P x y a b)
+
+-- the least place is told
+pub told-at : (marks : List Mark) (o : Option ℕ) → TellsLeast (StandsAgain marks) o → least (repeat_faults marks) ≡ repeat_fault o
+told-at marks o tells =
+    least_fault (repeats marks)
+    ∙ ap repeat_fault (tells-one (StandsAgain marks) (least_at (repeats marks)) o
+    (tells-same (Contains (repeats marks)) (StandsAgain marks) (least_at (repeats marks)) (of-repeats marks) (in-repeats marks) (tells_least (repeats marks))) tells)
+
+pub repeats_are_told : RepeatsAreTold
+repeats_are_told marks others there back =
+    told-at marks (least_at (repeats others))
+    (tells-same (Contains (repeats others)) (StandsAgain marks) (least_at (repeats others)) (λ at c. back at (of-repeats others at c)) (λ at again. in-repeats others at (there at again))
+    (tells_least (repeats others)))
+    ∙ sym (least_fault (repeats others))

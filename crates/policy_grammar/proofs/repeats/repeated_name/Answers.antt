@@ -1,0 +1,19 @@
+use Rattle.std.proofs.Common.{◌≡◌, IfOk, ap, arith, subst, ◌∙◌}
+use Rattle.desugaring.specs.Refused.{least}
+use Rattle.desugaring.specs.Repeats.{repeat_faults, shown}
+use Rattle.policy_grammar.proofs.Doubtful.{doubtful-enough}
+use Rattle.policy_grammar.proofs.Refusing.{names-long}
+use Rattle.policy_grammar.proofs.repeats.repeated_name.Goals as goal
+
+pub meets_place-wide-requires-clause-same : goal.meets_place-wide-requires-clause-same
+meets_place-wide-requires-clause-same c = names-long c.args.text.now c.args.trees.now c.args.names.now c.requires.named
+
+pub doubtful_marks-requires-clause-same : goal.doubtful_marks-requires-clause-same
+doubtful_marks-requires-clause-same c = names-long c.args.text.now c.args.trees.now c.args.names.now c.requires.named
+
+pub returns : goal.returns
+returns c =
+    subst (λ told. IfOk c.least_repeat.result (λ fault. fault ≡ told))
+    (ap (λ ms. least (repeat_faults (shown ms))) c.deref.ensures.value ∙ ap (λ ms. least (repeat_faults ms)) c.in_ok-marks.ensures
+    ∙ doubtful-enough c.repeats_stand_again.ensures.told c.args.text.now c.meets_place-wide.result c.args.names.now c.args.trees.now (omega arith) c.requires.named
+    c.meets_place-wide.ensures) c.least_repeat.ensures
