@@ -1,7 +1,6 @@
-pub mod Hierarchy
-pub mod Search
-pub mod UnderWay
-pub mod Walking
-pub mod Numbering
 pub mod Decided
 pub mod Deciding
+pub mod Hierarchy
+pub mod Search
+pub mod SearchedMeaning
+pub mod inner

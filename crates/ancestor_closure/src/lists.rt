@@ -1,7 +1,7 @@
 //! Lists of entities that ascend.
 ghost use Rattle.std.specs.Prelude.{◌≡◌, ◌↔◌, IsTrue, IfOk, MatchOption, Contains};
 ghost use Rattle.ancestor_closure.specs.Hierarchy.{IsAscending, names};
-ghost use Rattle.ancestor_closure.specs.Numbering.{IsNumber, IsNoNumber};
+ghost use Rattle.ancestor_closure.specs.inner.Numbering.{IsNumber, IsNoNumber};
 
 use plain::NoMemory;
 use std::alloc::Global;

@@ -1,7 +1,7 @@
 //! Entities by number: an entity's number is its place in an ascending list.
 ghost use Rattle.std.specs.Prelude.{◌≡◌, IfOk, false, length, slice_index_or};
 ghost use Rattle.ancestor_closure.specs.Hierarchy.{AreOnCycles, IsAscending, names};
-ghost use Rattle.ancestor_closure.specs.Numbering.{NumbersAmong, AreNumbered, MarkedBefore};
+ghost use Rattle.ancestor_closure.specs.inner.Numbering.{NumbersAmong, AreNumbered, MarkedBefore};
 
 use crate::graph::{Graph, ParentsOf};
 use crate::lists::{listed, number_of};

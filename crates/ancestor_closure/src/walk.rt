@@ -8,9 +8,9 @@
 //! (Gabow, "Path-based depth-first search for strong and biconnected components", 2000.)
 ghost use Rattle.std.specs.Prelude.{◌≡◌, ◌+◌, ◌<◌, ◌≤◌, [], ◌∷◌, ◌++◌, true, length, IsTrue, ◌↔◌, ◌⊎◌, IfOk, OnOk};
 ghost use Rattle.std.specs.Prelude.{MatchOption, slice_set};
-ghost use Rattle.ancestor_closure.specs.Walking.{bound_at, edges_of, mark_of, MarksCycles, JoinsDownTo, IsSeen};
-ghost use Rattle.ancestor_closure.specs.Walking.{KeepsSeen, HasOpen, FindsOpen, Ends};
-ghost use Rattle.ancestor_closure.specs.UnderWay.{IsUnderWay, IsWaiting, effort_of};
+ghost use Rattle.ancestor_closure.specs.inner.Walking.{bound_at, edges_of, mark_of, MarksCycles, JoinsDownTo, IsSeen};
+ghost use Rattle.ancestor_closure.specs.inner.Walking.{KeepsSeen, HasOpen, FindsOpen, Ends};
+ghost use Rattle.ancestor_closure.specs.inner.UnderWay.{IsUnderWay, IsWaiting, effort_of};
 
 use plain::NoMemory;
 use std::alloc::Global;

@@ -33,7 +33,7 @@ use Rattle.authoriser.specs.Scopes.{IsIn, IsEntityScopeTrue, IsActionScopeTrue, 
 use Rattle.authoriser.specs.Answers.{Named, Judged, IsJudged, AreJudged, fault_of, ComesTo, decided, answer_by, IsAnswer}
 use Rattle.authoriser.specs.Views.{named, IsWithin, IsPlaced, IsStanding, AreAllPlaced, AreAscending, IsTrueOf, ConditionComesTo, outcome_by, ids, faults, Counts}
 use Rattle.authoriser.proofs.Members.{Contains-none}
-use Rattle.authoriser.proofs.PartsTold.{condition_decides, scope_fails}
+use Rattle.authoriser.specs.Parts.{TrueScopesLeaveToConditions, OtherScopesGiveFalse}
 
 -- ---- scopes
 entity_scope : (Within Within' : EntityUid → Type 0) (uid uid' : EntityUid) → uid ≡ uid' → ((e : EntityUid) → Within e → Within' e) → (scope : EntityScope) → IsEntityScopeTrue Within scope uid → IsEntityScopeTrue Within' scope uid'
@@ -103,13 +103,13 @@ fault_comes_to W q x f error is g =
     test_errs (subst (λ e. Gives W q x (Err e)) is (g (λ refused. no_refused_memory error (sym is ∙ refused))))
 
 -- ---- policies
-pub true_scope : (W : World) (q : Request) (s : Standing) (p : Policy) (o : Outcome) → IsStanding W.parents q s → IsTrueOf p.scope s → ConditionComesTo W q p.condition o → ComesTo W q p o
-true_scope W q s p Satisfied standing h c = (condition_decides W q p (scope_there W.parents q s p.scope standing h)).gives true c
-true_scope W q s p NotSatisfied standing h c = (condition_decides W q p (scope_there W.parents q s p.scope standing h)).gives false c
-true_scope W q s p (Errs error) standing h c = (condition_decides W q p (scope_there W.parents q s p.scope standing h)).errs (fault_of error) c
+pub true_scope : TrueScopesLeaveToConditions → (W : World) (q : Request) (s : Standing) (p : Policy) (o : Outcome) → IsStanding W.parents q s → IsTrueOf p.scope s → ConditionComesTo W q p.condition o → ComesTo W q p o
+true_scope leaves W q s p Satisfied standing h c = (leaves W q p (scope_there W.parents q s p.scope standing h)).gives true c
+true_scope leaves W q s p NotSatisfied standing h c = (leaves W q p (scope_there W.parents q s p.scope standing h)).gives false c
+true_scope leaves W q s p (Errs error) standing h c = (leaves W q p (scope_there W.parents q s p.scope standing h)).errs (fault_of error) c
 
-pub other_scope : (W : World) (above : EntityUid → EntityUid → Bool) → Decides W.parents above → (q : Request) (s : Standing) (p : Policy) → IsStanding W.parents q s → (IsTrueOf p.scope s → ⊥) → ComesTo W q p NotSatisfied
-other_scope W above D q s p standing n = scope_fails W above D q p (λ h. n (scope_back W.parents q s p.scope standing h))
+pub other_scope : OtherScopesGiveFalse → (W : World) (above : EntityUid → EntityUid → Bool) → Decides W.parents above → (q : Request) (s : Standing) (p : Policy) → IsStanding W.parents q s → (IsTrueOf p.scope s → ⊥) → ComesTo W q p NotSatisfied
+other_scope idle W above D q s p standing n = idle W above D q p (λ h. n (scope_back W.parents q s p.scope standing h))
 
 placed_itself : {parents : Parents} {uid : EntityUid} {p : Placed} → IsPlaced parents uid p → IsPlaced parents p.uid.now p
 placed_itself {parents} {uid} {p} h = record { same = refl; all = subst (λ (u : EntityUid). IsAllAbove parents u (names p.ancestors.items)) (sym h.same) h.all; ascending = h.ascending }

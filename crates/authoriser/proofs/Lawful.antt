@@ -1,4 +1,4 @@
--- The laws of answers.
+-- The laws of answers by judgements: one answer at most, and what decides.
 use Rattle.std.specs.Prelude.{◌≡◌, ◌≢◌, ◌⊎◌, ℕ, List, [], ◌∷◌, ◌++◌, map, true, false, Contains, Ok, Err, refl}
 use Rattle.std.specs.List.{flat_map, AllByRecursion}
 use Rattle.std.specs.List.Sorted.{IsStrictlySortedBy}
@@ -19,7 +19,7 @@ use Rattle.policy_grammar.specs.Whole.{expression_of}
 use Rattle.evaluator.specs.Outcomes.{Outcome as Given}
 use Rattle.evaluator.specs.Operators.{World}
 use Rattle.evaluator.specs.Evaluation.{Gives}
-use Rattle.evaluator.specs.Laws.{HasOneOutcome, HaveOneOutcome, HaveOneOutcomeInFiniteHierarchies}
+use Rattle.evaluator.specs.Laws.{HasOneOutcome, HaveOneOutcome}
 use Rattle.authoriser.specs.declared.answer.Answer.{Answer}
 use Rattle.authoriser.specs.declared.answer.Erring.{Erring}
 use Rattle.authoriser.specs.declared.answer.Decision.TheVariants.{Deny}
@@ -28,7 +28,7 @@ use Rattle.authoriser.specs.declared.outcome.Outcome.TheVariants.{Satisfied, Not
 use Rattle.authoriser.specs.declared.outcome.PolicyError.{PolicyError}
 use Rattle.authoriser.specs.declared.outcome.PolicyError.TheVariants.{EntityDoesNotExist, AttrDoesNotExist, TypeError, ArithBoundsError, ExtensionError}
 use Rattle.authoriser.specs.Answers.{Named, Judged, IsJudged, fault_of, ComesTo, AreJudged, if_satisfied, satisfied, if_erring, erring, decided, answer_by, IsCycleDenial, IsPolicyAnswer}
-use Rattle.authoriser.specs.Laws.{HasOneAnswer, OneAnswer, OneAnswerInFiniteHierarchies, DefaultDeny, ForbidDecides, IdleChangesNothing, HaveSameMembers, OrderDoesNotMatter, AreIdsAscending, ListsAscend}
+use Rattle.authoriser.specs.Laws.{HasOneAnswerAtMost, OneAnswerAtMost, HaveSameMembers, AreAlike, AreIdsAscending, ListsAscend}
 use Rattle.authoriser.proofs.Members.{Contains-here, Contains-there, Contains-cases, Contains-none}
 use Rattle.authoriser.proofs.Ascending.{one_list}
 
@@ -47,7 +47,7 @@ errors_apart ExtensionError f h = absurd (cc)
 
 -- a policy comes to one thing, where its expression gives one outcome
 module _ (W : World) (q : Request) (p : Policy) (given : HasOneOutcome W q (expression_of p)) where
-  abbrev outcome_given : Outcome → Given
+  abbrev pub outcome_given : Outcome → Given
   outcome_given Satisfied = Ok (boolean true)
   outcome_given NotSatisfied = Ok (boolean false)
   outcome_given (Errs e) = Err (fault_of e)
@@ -68,14 +68,14 @@ module _ (W : World) (q : Request) (p : Policy) (given : HasOneOutcome W q (expr
   same_given (Errs d) NotSatisfied e = absurd (cc)
   same_given (Errs d) (Errs f) e = let same : fault_of d ≡ fault_of f = cc in ap Errs (errors_apart d f same)
 
-  one_outcome : (r s : Outcome) → ComesTo W q p r → ComesTo W q p s → r ≡ s
+  pub one_outcome : (r s : Outcome) → ComesTo W q p r → ComesTo W q p s → r ≡ s
   one_outcome r s h k = same_given r s (given.2 (outcome_given r) (gives_it r h) ∙ sym (given.2 (outcome_given s) (gives_it s k)))
 
 -- each expression gives one outcome
-abbrev Determined : World → Request → Type 0
+abbrev pub Determined : World → Request → Type 0
 Determined W q = (x : Expr) → HasOneOutcome W q x
 
-one_judgement : (W : World) (q : Request) → Determined W q → (p : Named) (j k : Judged) → IsJudged W q p j → IsJudged W q p k → j ≡ k
+pub one_judgement : (W : World) (q : Request) → Determined W q → (p : Named) (j k : Judged) → IsJudged W q p j → IsJudged W q p k → j ≡ k
 one_judgement W q given p j k h g =
     let id : j.id ≡ k.id = h.id ∙ sym g.id in
     let effect : j.effect ≡ k.effect = h.effect ∙ sym g.effect in
@@ -97,46 +97,37 @@ one_cycle : (parents : Parents) (xs ys : List EntityUid) → AreOnCycles parents
 one_cycle parents xs ys h s g t =
     one_list uid_cmp uid_cmp-IsTotalOrder xs ys s t (λ v c. (g v).1 ((h v).0 c)) (λ v c. (h v).1 ((g v).0 c))
 
-one_denial : (parents : Parents) (a b : Answer) → IsCycleDenial parents a → IsCycleDenial parents b → a ≡ b
+pub one_denial : (parents : Parents) (a b : Answer) → IsCycleDenial parents a → IsCycleDenial parents b → a ≡ b
 one_denial parents a b d e =
     let cycle = one_cycle parents a.cycle b.cycle d.named d.ascending e.named e.ascending in
     d.rest ∙ ap (λ (c : List EntityUid). record { decision = Deny; reason = []; errors = []; cycle = c }) cycle ∙ sym e.rest
 
-some_member : {X : Type 0} (xs : List X) → xs ≢ [] → (x : X) × Contains xs x
+pub some_member : {X : Type 0} (xs : List X) → xs ≢ [] → (x : X) × Contains xs x
 some_member [] ne = absurd (ne refl)
 some_member (x ∷ xs) ne = (x, Contains-here x xs)
 
-not_both : (W : World) (q : Request) (ps : List Named) (a b : Answer) → IsCycleDenial W.parents a → IsPolicyAnswer W q ps b → ⊥
+pub not_both : (W : World) (q : Request) (ps : List Named) (a b : Answer) → IsCycleDenial W.parents a → IsPolicyAnswer W q ps b → ⊥
 not_both W q ps a b d p = let m = some_member a.cycle d.some in p.acyclic m.0 ((d.named m.0).0 m.1)
 
-has_one_answer : (W : World) → ((q : Request) → Determined W q) → HasOneAnswer W
+has_one_answer : (W : World) → ((q : Request) → Determined W q) → HasOneAnswerAtMost W
 has_one_answer W given q ps a b (inl d) (inl e) = one_denial W.parents a b d e
 has_one_answer W given q ps a b (inl d) (inr p) = absurd (not_both W q ps a b d p)
 has_one_answer W given q ps a b (inr p) (inl d) = absurd (not_both W q ps b a d p)
 has_one_answer W given q ps a b (inr p) (inr r) =
     p.answer ∙ ap answer_by (one_list_judged W q (given q) ps p.judged r.judged p.outcomes r.outcomes) ∙ sym r.answer
 
-pub one_answer : HaveOneOutcome → OneAnswer
-one_answer law W above D = has_one_answer W (law W above D)
-
-pub one_answer_in_finite : HaveOneOutcomeInFiniteHierarchies → OneAnswerInFiniteHierarchies
-one_answer_in_finite law W stored all = has_one_answer W (law W stored all)
+pub one_answer_at_most : HaveOneOutcome → OneAnswerAtMost
+one_answer_at_most law W above D = has_one_answer W (law W above D)
 
 -- ---- default deny, and forbids decide
-denied : (permits forbids : List (List ℕ)) (errors : List Erring) → permits ≡ [] → (decided permits forbids errors).decision ≡ Deny
+pub denied : (permits forbids : List (List ℕ)) (errors : List Erring) → permits ≡ [] → (decided permits forbids errors).decision ≡ Deny
 denied permits (f ∷ forbids) errors e = refl
 denied [] [] errors e = refl
 denied (p ∷ permits) [] errors e = absurd (cc)
 
-pub default_deny : DefaultDeny
-default_deny js none = denied (satisfied Permit js) (satisfied Forbid js) (erring js) none
-
-forbidden : (permits forbids : List (List ℕ)) (errors : List Erring) → forbids ≢ [] → ((decided permits forbids errors).decision ≡ Deny) × ((decided permits forbids errors).reason ≡ forbids)
+pub forbidden : (permits forbids : List (List ℕ)) (errors : List Erring) → forbids ≢ [] → ((decided permits forbids errors).decision ≡ Deny) × ((decided permits forbids errors).reason ≡ forbids)
 forbidden permits [] errors ne = absurd (ne refl)
 forbidden permits (f ∷ forbids) errors ne = (refl, refl)
-
-pub forbid_decides : ForbidDecides
-forbid_decides js some = forbidden (satisfied Permit js) (satisfied Forbid js) (erring js) some
 
 -- ---- idle policies
 idle_satisfied : (wanted : Effect) (j : Judged) → j.outcome ≡ NotSatisfied → if_satisfied wanted j ≡ []
@@ -163,20 +154,20 @@ left_out : {X : Type 0} (f : Judged → List X) (front back : List Judged) (j : 
 left_out f [] back j e = ap (λ r. r ++ flat_map f back) e
 left_out f (k ∷ front) back j e = ap (λ rest. f k ++ rest) (left_out f front back j e)
 
-pub idle_changes_nothing : IdleChangesNothing
-idle_changes_nothing front back j e i =
+pub idle_left_out : (front back : List Judged) (j : Judged) → j.outcome ≡ NotSatisfied → answer_by (front ++ j ∷ back) ≡ answer_by (front ++ back)
+idle_left_out front back j e i =
     decided (left_out (if_satisfied Permit) front back j (idle_satisfied Permit j e) i) (left_out (if_satisfied Forbid) front back j (idle_satisfied Forbid j e) i) (left_out if_erring front back j (idle_erring j e) i)
 
 -- ---- the order does not matter
 module _ {X : Type 0} (f : Judged → List X) where
-  picked : (js : List Judged) (x : X) → Contains (flat_map f js) x → (j : Judged) × Contains js j × Contains (f j) x
+  pub picked : (js : List Judged) (x : X) → Contains (flat_map f js) x → (j : Judged) × Contains js j × Contains (f j) x
   picked [] x h = Contains-none x h
   picked (j ∷ js) x h = elim (Contains-append_cases (f j) (flat_map f js) x h) [
     | inl a ↦ (j, Contains-here j js, a)
     | inr b ↦ let (k, at, has) = picked js x b in (k, Contains-there j js k at, has)
   ]
 
-  put_back : (js : List Judged) (j : Judged) (x : X) → Contains js j → Contains (f j) x → Contains (flat_map f js) x
+  pub put_back : (js : List Judged) (j : Judged) (x : X) → Contains js j → Contains (f j) x → Contains (flat_map f js) x
   put_back [] j x h g = Contains-none j h
   put_back (k ∷ js) j x h g = elim (Contains-cases k js j h) [
     | inl e ↦ Contains-append_left (f k) (flat_map f js) x (subst (λ m. Contains (f m) x) (sym e) g)
@@ -189,28 +180,23 @@ module _ {X : Type 0} (f : Judged → List X) where
   same_gathered : (js ks : List Judged) → HaveSameMembers js ks → HaveSameMembers (flat_map f js) (flat_map f ks)
   same_gathered js ks same x = (goes_over js ks (λ j. (same j).0) x, goes_over ks js (λ j. (same j).1) x)
 
-Alike : Answer → Answer → Type 0
-Alike a b = (a.decision ≡ b.decision) × HaveSameMembers a.reason b.reason × HaveSameMembers a.errors b.errors
-
 none_here : {X : Type 0} (x : X) (xs : List X) {G : Type 0} → HaveSameMembers (x ∷ xs) [] → G
 none_here x xs same = Contains-none x ((same x).0 (Contains-here x xs))
 
 none_there : {X : Type 0} (x : X) (xs : List X) {G : Type 0} → HaveSameMembers [] (x ∷ xs) → G
 none_there x xs same = Contains-none x ((same x).1 (Contains-here x xs))
 
-alike : (p p' f f' : List (List ℕ)) (e e' : List Erring) → HaveSameMembers p p' → HaveSameMembers f f' → HaveSameMembers e e' → Alike (decided p f e) (decided p' f' e')
-unfolding Alike
-alike p p' (f ∷ fs) (f' ∷ fs') e e' sp sf se = (refl, sf, se)
+alike : (p p' f f' : List (List ℕ)) (e e' : List Erring) → HaveSameMembers p p' → HaveSameMembers f f' → HaveSameMembers e e' → AreAlike (decided p f e) (decided p' f' e')
+alike p p' (f ∷ fs) (f' ∷ fs') e e' sp sf se = record { decision = refl; reason = sf; errors = se; cycle = refl }
 alike p p' (f ∷ fs) [] e e' sp sf se = none_here f fs sf
 alike p p' [] (f' ∷ fs') e e' sp sf se = none_there f' fs' sf
-alike [] [] [] [] e e' sp sf se = (refl, sp, se)
+alike [] [] [] [] e e' sp sf se = record { decision = refl; reason = sp; errors = se; cycle = refl }
 alike (p ∷ ps) [] [] [] e e' sp sf se = none_here p ps sp
 alike [] (p' ∷ ps') [] [] e e' sp sf se = none_there p' ps' sp
-alike (p ∷ ps) (p' ∷ ps') [] [] e e' sp sf se = (refl, sp, se)
+alike (p ∷ ps) (p' ∷ ps') [] [] e e' sp sf se = record { decision = refl; reason = sp; errors = se; cycle = refl }
 
-pub order_does_not_matter : OrderDoesNotMatter
-unfolding Alike
-order_does_not_matter js ks same =
+pub alike_judged : (js ks : List Judged) → HaveSameMembers js ks → AreAlike (answer_by js) (answer_by ks)
+alike_judged js ks same =
     alike (satisfied Permit js) (satisfied Permit ks) (satisfied Forbid js) (satisfied Forbid ks) (erring js) (erring ks)
     (same_gathered (if_satisfied Permit) js ks same) (same_gathered (if_satisfied Forbid) js ks same) (same_gathered if_erring js ks same)
 

@@ -10,7 +10,8 @@ use Rattle.values.specs.declared.request.Request.{Request}
 use Rattle.values.specs.Names.{uid_cmp, uid_cmp-IsTotalOrder, uid_cmp-IsAntisymmetric}
 use Rattle.values.specs.Uids.{equal-is}
 use Rattle.values.specs.Sets.{set_list}
-use Rattle.values.specs.Values.{PlainValue, boolean, entity, list_of-values_of}
+use Rattle.values.specs.Laws.{SetsHoldTheirMembers}
+use Rattle.values.specs.Values.{PlainValue, boolean, long, text, entity, set, record_of, decimal, ipaddr, list_of-values_of}
 use Rattle.ancestor_closure.specs.Decided.{Decides}
 use Rattle.expressions.specs.declared.leaf.Literal.TheVariants as literal
 use Rattle.expressions.specs.declared.leaf.Variable.{Variable}
@@ -29,12 +30,8 @@ use Rattle.policy_grammar.specs.Whole.{entity_literal, is_equal, is_in, entity_p
 use Rattle.evaluator.specs.Outcomes.{Tells, holds, fails, entity_in}
 use Rattle.evaluator.specs.Operators as op
 use Rattle.evaluator.specs.Operators.{World}
-use Rattle.evaluator.specs.Computing as compute
 use Rattle.evaluator.specs.Evaluation as rule
 use Rattle.evaluator.specs.Evaluation.{Gives, TestFails, GivesEach, variable_value}
-use Rattle.evaluator.proofs.Agreeing.{set_of}
-use Rattle.evaluator.proofs.Applied.{all_entities}
-use Rattle.evaluator.proofs.Telling.{is_in_iff}
 use Rattle.authoriser.specs.Scopes.{IsIn, IsEntityScopeTrue, IsActionScopeTrue, IsScopeTrue}
 use Rattle.authoriser.specs.Parts.{PartsTell, ConditionDecides, ScopesDoNotErr, TrueScopesLeaveToConditions, OtherScopesGiveFalse}
 use Rattle.authoriser.proofs.Members.{Contains-here, Contains-there, Contains-cases, Contains-none}
@@ -60,25 +57,44 @@ from_values (w ∷ us) v c = elim (Contains-cases (entity w) (map entity us) v c
   | inr more ↦ let further = from_values us v more in (further.0, Contains-there w us further.0 further.1, further.2)
 ]
 
+-- values that are all entities, or one among them that is none
+abbrev AllEntities : List PlainValue → Type 0
+AllEntities vs = ((us : List EntityUid) × (vs ≡ map entity us)) ⊎ ((v : PlainValue) × Contains vs v × (entity_in v ≡ None))
+
+one_more : (v : PlainValue) (vs : List PlainValue) → AllEntities vs → AllEntities (v ∷ vs)
+one_more (entity u) vs (inl h) = inl (u ∷ h.0, ap (λ ws. entity u ∷ ws) h.1)
+one_more (entity u) vs (inr h) = inr (h.0, Contains-there (entity u) vs h.0 h.1, h.2)
+one_more (boolean b) vs h = inr (boolean b, Contains-here (boolean b) vs, refl)
+one_more (long z) vs h = inr (long z, Contains-here (long z) vs, refl)
+one_more (text t) vs h = inr (text t, Contains-here (text t) vs, refl)
+one_more (set ws) vs h = inr (set ws, Contains-here (set ws) vs, refl)
+one_more (record_of fs) vs h = inr (record_of fs, Contains-here (record_of fs) vs, refl)
+one_more (decimal z) vs h = inr (decimal z, Contains-here (decimal z) vs, refl)
+one_more (ipaddr n) vs h = inr (ipaddr n, Contains-here (ipaddr n) vs, refl)
+
+all_entities : (vs : List PlainValue) → AllEntities vs
+all_entities [] = inl ([], refl)
+all_entities (v ∷ vs) = one_more v vs (all_entities vs)
+
 -- the entities of a set of entities: the same ones, in whatever order
-set_entities : (us : List EntityUid) → (ws : List EntityUid) × (set_list (map entity us) ≡ map entity ws) × ((u : EntityUid) → Contains ws u ↔ Contains us u)
-set_entities us = elim (all_entities (set_list (map entity us))) [
+set_entities : SetsHoldTheirMembers → (us : List EntityUid) → (ws : List EntityUid) × (set_list (map entity us) ≡ map entity ws) × ((u : EntityUid) → Contains ws u ↔ Contains us u)
+set_entities made us = elim (all_entities (set_list (map entity us))) [
   | inl h ↦ (
     h.0,
     h.1,
     λ u. (
       (λ c.
-          let value = ((set_of (map entity us)).members (entity u)).0 (subst (λ vs. Contains vs (entity u)) (sym h.1) (into_values h.0 u c)) in
+          let value = ((made (map entity us)).members (entity u)).0 (subst (λ vs. Contains vs (entity u)) (sym h.1) (into_values h.0 u c)) in
           let found = from_values us (entity u) value in
           subst (Contains us) (same_entity found.0 u found.2) found.1),
       (λ c.
-          let value = ((set_of (map entity us)).members (entity u)).1 (into_values us u c) in
+          let value = ((made (map entity us)).members (entity u)).1 (into_values us u c) in
           let found = from_values h.0 (entity u) (subst (λ vs. Contains vs (entity u)) h.1 value) in
           subst (Contains h.0) (same_entity found.0 u found.2) found.1),
     ),
   )
   | inr h ↦
-      let value = ((set_of (map entity us)).members h.0).0 h.1 in
+      let value = ((made (map entity us)).members h.0).0 h.1 in
       let found = from_values us h.0 value in
       absurd (no_entity h.0 found.0 found.2 h.2)
 ]
@@ -96,7 +112,7 @@ uid_known a b = elim (cases_Bool (is_eq (uid_cmp a b))) [
 ]
 
 -- ---- the parts
-module _ (W : World) (q : Request) where
+module _ (made : SetsHoldTheirMembers) (W : World) (q : Request) where
   stands_for : (x : Variable) (uid : EntityUid) → variable_value x q ≡ entity uid → Gives W q (core.Variable x) (Ok (entity uid))
   stands_for x uid is = subst (λ v. Gives W q (core.Variable x) (Ok v)) is (rule.gives_variable x)
 
@@ -134,9 +150,9 @@ module _ (W : World) (q : Request) where
     some_gives : (us : List EntityUid) (t : Bool) → ((ws : List EntityUid) → ((u : EntityUid) → Contains ws u ↔ Contains us u) → Tells ((u : EntityUid) × Contains ws u × op.IsIn W uid u) (Ok (boolean t))) →
         Gives W q (core.Binary In (core.Variable x) (core.Set (map entity_literal us))) (Ok (boolean t))
     some_gives us t told =
-        let found = set_entities us in
+        let found = set_entities made us in
         rule.gives_binary In (core.Variable x) (core.Set (map entity_literal us)) (stands_for x uid is)
-        (rule.gives_set (map entity_literal us) (literals us) (set_of (map entity us)))
+        (rule.gives_set (map entity_literal us) (literals us) (made (map entity us)))
         (op.in_set found.0 (list_of-values_of (set_list (map entity us)) ∙ found.1) (told found.0 found.2))
 
   action_holds : (scope : ActionScope) → IsActionScopeTrue (IsIn W.parents q.action) scope q.action → Gives W q (action_part scope) (Ok (boolean true))
@@ -208,11 +224,14 @@ module _ (W : World) (q : Request) where
 abbrev Known : Type 0 → Type 0
 Known P = P ⊎ (¬ P)
 
-module _ (W : World) (above : EntityUid → EntityUid → Bool) (D : Decides W.parents above) where
+module _ (made : SetsHoldTheirMembers) (W : World) (above : EntityUid → EntityUid → Bool) (D : Decides W.parents above) where
   in_known : (a b : EntityUid) → Known (IsIn W.parents a b)
-  in_known a b = elim (cases_Bool (compute.is_in (compute.entities_of W.stored above) a b)) [
-    | inl holding ↦ inl ((is_in_iff W above D a b).0 holding)
-    | inr failing ↦ inr (λ h. false≢true (sym failing ∙ (is_in_iff W above D a b).1 h))
+  in_known a b = elim (uid_known a b) [
+    | inl same ↦ inl (inl same)
+    | inr other ↦ elim (cases_Bool (above b a)) [
+      | inl holding ↦ inl (inr ((D b a).0 holding))
+      | inr failing ↦ inr (λ h. elim h [ inl same ↦ other same | inr path ↦ false≢true (sym failing ∙ (D b a).1 path) ])
+    ]
   ]
 
   some_known : (a : EntityUid) (us : List EntityUid) → Known ((u : EntityUid) × Contains us u × IsIn W.parents a u)
@@ -246,18 +265,18 @@ module _ (W : World) (above : EntityUid → EntityUid → Bool) (D : Decides W.p
 
   pub scope_fails : (q : Request) (policy : Policy) → ¬ IsScopeTrue W.parents policy.scope q → Gives W q (expression_of policy) (Ok (boolean false))
   scope_fails q policy n = elim (entity_known policy.scope.principal q.principal) [
-    | inr failing ↦ principal_fails W q policy failing
+    | inr failing ↦ principal_fails made W q policy failing
     | inl h ↦ elim (action_known policy.scope.action q.action) [
-      | inr failing ↦ action_then_fails W q policy h failing
-      | inl g ↦ resource_then_fails W q policy h g (λ k. n (h, g, k))
+      | inr failing ↦ action_then_fails made W q policy h failing
+      | inl g ↦ resource_then_fails made W q policy h g (λ k. n (h, g, k))
     ]
   ]
 
-pub scopes_do_not_err : ScopesDoNotErr
-scopes_do_not_err W q scope = parts_tell W q scope
+pub scopes_do_not_err : SetsHoldTheirMembers → ScopesDoNotErr
+scopes_do_not_err made W q scope = parts_tell made W q scope
 
-pub true_scopes_leave : TrueScopesLeaveToConditions
-true_scopes_leave W q policy h = condition_decides W q policy h
+pub true_scopes_leave : SetsHoldTheirMembers → TrueScopesLeaveToConditions
+true_scopes_leave made W q policy h = condition_decides made W q policy h
 
-pub other_scopes_give_false : OtherScopesGiveFalse
-other_scopes_give_false W above D q policy n = scope_fails W above D q policy n
+pub other_scopes_give_false : SetsHoldTheirMembers → OtherScopesGiveFalse
+other_scopes_give_false made W above D q policy n = scope_fails made W above D q policy n

@@ -1,6 +1,7 @@
 -- The answer to a request, over the policies and the stored entities at hand.
 -- Source: Cedar reference guide 4.0, "Authorization" (default deny, forbid overrides permit, errors skip a policy);
--- cedar-spec, Spec/Authorizer. That a hierarchy with a cycle is answered by a denial that names the cycle is a rule of this product.
+-- cedar-spec, Spec/Authorizer. That a hierarchy with a cycle is answered by a denial that names the cycle is a rule of
+-- this product.
 use Rattle.std.specs.Prelude.{◌≡◌, ◌≢◌, ◌⊎◌, ℕ, List, [], ◌∷◌, true, false, Ok, Err}
 use Rattle.std.specs.List.{flat_map}
 use Rattle.values.specs.declared.entity_uid.EntityUid.{EntityUid}
@@ -21,7 +22,8 @@ use Rattle.authoriser.specs.declared.answer.Erring.{Erring}
 use Rattle.authoriser.specs.declared.outcome.Outcome.{Outcome}
 use Rattle.authoriser.specs.declared.outcome.Outcome.TheVariants.{Satisfied, NotSatisfied, Errs}
 use Rattle.authoriser.specs.declared.outcome.PolicyError.{PolicyError}
-use Rattle.authoriser.specs.declared.outcome.PolicyError.TheVariants.{EntityDoesNotExist, AttrDoesNotExist, TypeError, ArithBoundsError, ExtensionError}
+use Rattle.authoriser.specs.declared.outcome.PolicyError.TheVariants.{EntityDoesNotExist, AttrDoesNotExist, TypeError}
+use Rattle.authoriser.specs.declared.outcome.PolicyError.TheVariants.{ArithBoundsError, ExtensionError}
 
 -- a policy and its id
 pub record Named : Type 0 where
@@ -84,7 +86,8 @@ if_erring j = error_of j.outcome j.id
 abbrev pub erring : List Judged → List Erring
 erring js = flat_map if_erring js
 
--- Allow where some permit is satisfied and no forbid is; the reason is then the satisfied permits, else the satisfied forbids
+-- Allow where some permit is satisfied and no forbid is; the reason is then the satisfied permits, else the satisfied
+-- forbids
 abbrev pub decided : List (List ℕ) → List (List ℕ) → List Erring → Answer
 decided permits (f ∷ forbids) errors = record { decision = Deny; reason = f ∷ forbids; errors = errors; cycle = [] }
 decided [] [] errors = record { decision = Deny; reason = []; errors = errors; cycle = [] }

@@ -1,58 +1,108 @@
--- What a reader of policies may rely on, as laws over the definition of answers.
-use Rattle.std.specs.Prelude.{◌≡◌, ◌≢◌, ◌↔◌, ℕ, List, [], ◌∷◌, ◌++◌, map, Contains, Bool}
+-- What a reader of policies may rely on, as laws over the definition of answers: of a world, a request and policies.
+use Rattle.std.specs.Prelude.{◌≡◌, ◌↔◌, ℕ, List, ◌∷◌, ◌++◌, map, Contains, Bool, false}
+use Rattle.std.specs.List.{filter}
 use Rattle.std.specs.List.Sorted.{IsStrictlySortedBy}
 use Rattle.values.specs.declared.entity_uid.EntityUid.{EntityUid}
 use Rattle.values.specs.declared.request.Request.{Request}
 use Rattle.values.specs.Uids.{text_cmp}
-use Rattle.ancestor_closure.specs.Hierarchy.{IsAscending}
+use Rattle.ancestor_closure.specs.Hierarchy.{Above, IsAscending}
 use Rattle.ancestor_closure.specs.Decided.{Decides, HaveAllParents}
+use Rattle.policy_grammar.specs.declared.policy.Effect.{Effect}
 use Rattle.policy_grammar.specs.declared.policy.Effect.TheVariants.{Permit, Forbid}
 use Rattle.evaluator.specs.Operators.{World}
 use Rattle.authoriser.specs.declared.answer.Answer.{Answer}
 use Rattle.authoriser.specs.declared.answer.Decision.TheVariants.{Deny}
-use Rattle.authoriser.specs.declared.outcome.Outcome.TheVariants.{NotSatisfied}
-use Rattle.authoriser.specs.Answers.{Named, Judged, IsAnswer, satisfied, answer_by}
+use Rattle.authoriser.specs.declared.outcome.Outcome.TheVariants.{Satisfied, Errs}
+use Rattle.authoriser.specs.declared.outcome.PolicyError.{PolicyError}
+use Rattle.authoriser.specs.Answers.{Named, ComesTo, IsAnswer}
 
--- a request has one answer at most
+-- ---- one answer
+
+-- all answers to a request are one
+abbrev pub HasOneAnswerAtMost : World → Type 0
+HasOneAnswerAtMost W = (q : Request) (ps : List Named) (a b : Answer) → IsAnswer W q ps a → IsAnswer W q ps b → a ≡ b
+
+-- a request has exactly one answer
 abbrev pub HasOneAnswer : World → Type 0
-HasOneAnswer W = (q : Request) (ps : List Named) (a b : Answer) → IsAnswer W q ps a → IsAnswer W q ps b → a ≡ b
+HasOneAnswer W = (q : Request) (ps : List Named)
+    → (a : Answer) × IsAnswer W q ps a × ((b : Answer) → IsAnswer W q ps b → b ≡ a)
 
--- so it is wherever a test decides who is above whom,
-abbrev pub OneAnswer : Type 0
-OneAnswer = (W : World) (above : EntityUid → EntityUid → Bool) → Decides W.parents above → HasOneAnswer W
+-- wherever a test decides who is above whom, it has one at most,
+abbrev pub OneAnswerAtMost : Type 0
+OneAnswerAtMost = (W : World) (above : EntityUid → EntityUid → Bool) → Decides W.parents above → HasOneAnswerAtMost W
 
--- and wherever finitely many entities have parents
+-- and wherever finitely many entities have parents, exactly one
 abbrev pub OneAnswerInFiniteHierarchies : Type 0
 OneAnswerInFiniteHierarchies = (W : World) (stored : List EntityUid) → HaveAllParents W.parents stored → HasOneAnswer W
 
+-- ---- what decides
+
+-- the policy has this effect and is satisfied
+abbrev pub IsSatisfied : World → Request → Effect → Named → Type 0
+IsSatisfied W q effect p = (p.policy.effect ≡ effect) × ComesTo W q p.policy Satisfied
+
 -- without a satisfied permit it is denied
 abbrev pub DefaultDeny : Type 0
-DefaultDeny = (js : List Judged) → satisfied Permit js ≡ [] → (answer_by js).decision ≡ Deny
+DefaultDeny = (W : World) (q : Request) (ps : List Named) (a : Answer) → IsAnswer W q ps a →
+    ((p : Named) → Contains ps p → ¬ IsSatisfied W q Permit p) → a.decision ≡ Deny
 
--- a satisfied forbid decides, and the satisfied forbids are the reason
+-- xs are the ids of the satisfied forbids among these
+abbrev pub AreSatisfiedForbids : World → Request → List Named → List (List ℕ) → Type 0
+AreSatisfiedForbids W q ps xs = (id : List ℕ)
+    → Contains xs id ↔ ((p : Named) × Contains ps p × (p.id ≡ id) × IsSatisfied W q Forbid p)
+
+-- a satisfied forbid decides; and where no entity is on a cycle, the satisfied forbids are the reason
 abbrev pub ForbidDecides : Type 0
-ForbidDecides = (js : List Judged) → satisfied Forbid js ≢ [] →
-    ((answer_by js).decision ≡ Deny) × ((answer_by js).reason ≡ satisfied Forbid js)
+ForbidDecides = (W : World) (above : EntityUid → EntityUid → Bool) → Decides W.parents above →
+    (q : Request) (ps : List Named) (a : Answer) (p : Named) → IsAnswer W q ps a → Contains ps p
+    → IsSatisfied W q Forbid p →
+    (a.decision ≡ Deny) × (((uid : EntityUid) → ¬ Above W.parents uid uid) → AreSatisfiedForbids W q ps a.reason)
 
--- a policy that is neither satisfied nor erring changes no answer, wherever it stands
+-- ---- policies that may be left out
+
+-- the policy is neither satisfied nor erring
+pub record IsIdle (W : World) (q : Request) (p : Named) : Type 0 where
+  pub satisfied : ¬ ComesTo W q p.policy Satisfied
+  pub erring : (error : PolicyError) → ¬ ComesTo W q p.policy (Errs error)
+
+-- leaving out a policy that is neither satisfied nor erring changes no answer, wherever it stands,
 abbrev pub IdleChangesNothing : Type 0
-IdleChangesNothing = (front back : List Judged) (j : Judged) → j.outcome ≡ NotSatisfied → answer_by (front ++ j ∷ back) ≡ answer_by (front ++ back)
+IdleChangesNothing = (W : World) (above : EntityUid → EntityUid → Bool) → Decides W.parents above →
+    (q : Request) (front back : List Named) (p : Named) (a : Answer) → IsIdle W q p →
+    IsAnswer W q (front ++ p ∷ back) a ↔ IsAnswer W q (front ++ back) a
+
+-- and so does leaving out all that a test does not keep, where they are such policies
+abbrev pub LeavingOutChangesNothing : Type 0
+LeavingOutChangesNothing = (W : World) (above : EntityUid → EntityUid → Bool) → Decides W.parents above →
+    (q : Request) (ps : List Named) (kept : Named → Bool) (a : Answer)
+    → ((p : Named) → Contains ps p → kept p ≡ false → IsIdle W q p) →
+    IsAnswer W q ps a ↔ IsAnswer W q (filter kept ps) a
+
+-- ---- order
 
 abbrev pub HaveSameMembers : {A : Type 0} → List A → List A → Type 0
 HaveSameMembers {A} xs ys = (x : A) → Contains xs x ↔ Contains ys x
 
--- in whatever order policies are tried: the same decision, and the same policies in reason and errors
+-- the same decision and cycle, and the same policies in reason and errors
+pub record AreAlike (a b : Answer) : Type 0 where
+  pub decision : a.decision ≡ b.decision
+  pub reason : HaveSameMembers a.reason b.reason
+  pub errors : HaveSameMembers a.errors b.errors
+  pub cycle : a.cycle ≡ b.cycle
+
+-- in whatever order the policies stand, and however often each, the answers are alike
 abbrev pub OrderDoesNotMatter : Type 0
-OrderDoesNotMatter = (js ks : List Judged) → HaveSameMembers js ks →
-    ((answer_by js).decision ≡ (answer_by ks).decision)
-    × HaveSameMembers (answer_by js).reason (answer_by ks).reason
-    × HaveSameMembers (answer_by js).errors (answer_by ks).errors
+OrderDoesNotMatter = (W : World) (above : EntityUid → EntityUid → Bool) → Decides W.parents above →
+    (q : Request) (ps others : List Named) (a b : Answer) → HaveSameMembers ps others → IsAnswer W q ps a
+    → IsAnswer W q others b → AreAlike a b
 
 -- ids in ascending order of their bytes, each once
 abbrev pub AreIdsAscending : List (List ℕ) → Type 0
 AreIdsAscending ids = IsStrictlySortedBy text_cmp ids
 
--- where the ids of the policies ascend, each list of the answer ascends: the reason, the errors by their policy, the cycle by the order of uids
+-- where the ids of the policies ascend, each list of the answer ascends: the reason, the errors by their policy, the
+-- cycle by the order of uids
 abbrev pub ListsAscend : Type 0
-ListsAscend = (W : World) (q : Request) (ps : List Named) (a : Answer) → AreIdsAscending (map (λ p. p.id) ps) → IsAnswer W q ps a →
+ListsAscend = (W : World) (q : Request) (ps : List Named) (a : Answer) → AreIdsAscending (map (λ p. p.id) ps)
+    → IsAnswer W q ps a →
     AreIdsAscending a.reason × AreIdsAscending (map (λ e. e.policy) a.errors) × IsAscending a.cycle

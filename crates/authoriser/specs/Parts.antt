@@ -1,5 +1,6 @@
--- What a policy's scope is worth in its whole expression: its parts are tests that never err, and where all are true the condition decides.
--- Source: Cedar reference guide 4.0, "Policy scope" and "Policy conditions"; cedar-spec, Spec/Policy (`Policy.toExpr`).
+-- What a policy's scope is worth in its whole expression: its parts are tests that never err, and where all are true
+-- the condition decides. Source: Cedar reference guide 4.0, "Policy scope" and "Policy conditions"; cedar-spec,
+-- Spec/Policy (`Policy.toExpr`).
 use Rattle.std.specs.Prelude.{Bool, true, false, Ok, Err}
 use Rattle.values.specs.declared.entity_uid.EntityUid.{EntityUid}
 use Rattle.values.specs.declared.request.Request.{Request}
@@ -21,13 +22,17 @@ GivesWhether W q x P = (P → Gives W q x (Ok (boolean true))) × (¬ P → Give
 
 -- each part of the scope gives whether it is true
 pub record PartsTell (W : World) (q : Request) (scope : Scope) : Type 0 where
-  pub principal : GivesWhether W q (entity_part Principal scope.principal) (IsEntityScopeTrue (IsIn W.parents q.principal) scope.principal q.principal)
-  pub action : GivesWhether W q (action_part scope.action) (IsActionScopeTrue (IsIn W.parents q.action) scope.action q.action)
-  pub resource : GivesWhether W q (entity_part Resource scope.resource) (IsEntityScopeTrue (IsIn W.parents q.resource) scope.resource q.resource)
+  pub principal : GivesWhether W q (entity_part Principal scope.principal)
+      (IsEntityScopeTrue (IsIn W.parents q.principal) scope.principal q.principal)
+  pub action : GivesWhether W q (action_part scope.action)
+      (IsActionScopeTrue (IsIn W.parents q.action) scope.action q.action)
+  pub resource : GivesWhether W q (entity_part Resource scope.resource)
+      (IsEntityScopeTrue (IsIn W.parents q.resource) scope.resource q.resource)
 
 -- where the scope is true, the policy gives what its condition gives as a test, its errors included
 pub record ConditionDecides (W : World) (q : Request) (policy : Policy) : Type 0 where
-  pub gives : (t : Bool) → Gives W q policy.condition (Ok (boolean t)) → Gives W q (expression_of policy) (Ok (boolean t))
+  pub gives : (t : Bool) → Gives W q policy.condition (Ok (boolean t))
+      → Gives W q (expression_of policy) (Ok (boolean t))
   pub errs : (e : EvalFault) → TestFails W q policy.condition e → Gives W q (expression_of policy) (Err e)
 
 -- no part of a scope errs
@@ -36,9 +41,12 @@ ScopesDoNotErr = (W : World) (q : Request) (scope : Scope) → PartsTell W q sco
 
 -- a true scope leaves it to the condition,
 abbrev pub TrueScopesLeaveToConditions : Type 0
-TrueScopesLeaveToConditions = (W : World) (q : Request) (policy : Policy) → IsScopeTrue W.parents policy.scope q → ConditionDecides W q policy
+TrueScopesLeaveToConditions = (W : World) (q : Request) (policy : Policy) → IsScopeTrue W.parents policy.scope q
+    → ConditionDecides W q policy
 
--- and a policy whose scope is not true gives false, whatever its condition is, wherever a test decides who is above whom
+-- and a policy whose scope is not true gives false, whatever its condition is, wherever a test decides who is above
+-- whom
 abbrev pub OtherScopesGiveFalse : Type 0
-OtherScopesGiveFalse = (W : World) (above : EntityUid → EntityUid → Bool) → Decides W.parents above → (q : Request) (policy : Policy) →
+OtherScopesGiveFalse = (W : World) (above : EntityUid → EntityUid → Bool) → Decides W.parents above
+    → (q : Request) (policy : Policy) →
     ¬ IsScopeTrue W.parents policy.scope q → Gives W q (expression_of policy) (Ok (boolean false))

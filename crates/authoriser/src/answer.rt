@@ -21,10 +21,12 @@ pub struct Erring {
 #[derive(Drop)]
 pub struct Answer {
     pub decision: Decision,
-    /// The ids of the determining policies, ascending: the satisfied permits where it is allowed, else the satisfied forbids.
+    /// The ids of the determining policies, ascending: the satisfied permits where it is allowed, else the satisfied
+    /// forbids.
     pub reason: Items<Text>,
     /// The erring policies, ascending by id.
     pub errors: Items<Erring>,
-    /// The entities on cycles, ascending; empty where the hierarchy has no cycle. Where it is not empty, no policy was tried.
+    /// The entities on cycles, ascending; empty where the hierarchy has no cycle. Where it is not empty, no policy was
+    /// tried.
     pub cycle: Items<EntityUid>,
 }

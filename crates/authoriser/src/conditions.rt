@@ -5,6 +5,7 @@ ghost use Rattle.evaluator.specs.Operators.{world_of};
 ghost use Rattle.authoriser.specs.Answers.{fault_of, ComesTo};
 ghost use Rattle.authoriser.specs.Views.{IsStanding, ConditionComesTo, outcome_by};
 
+use crate::laws::scopes_do_not_err;
 use crate::outcome::{Outcome, PolicyError};
 use crate::placed::Standing;
 use crate::scopes::is_scope_true;
@@ -47,7 +48,8 @@ fn outcome_of_condition<L: Lookup>(
     request: &Request,
     store: &L,
 ) -> Result<Outcome, NoMemory>
-    ensures { IfOk result (ConditionComesTo (world_of (L.stored store.now) (L.parents store.now)) request.now condition.now) }
+    ensures { IfOk result (ConditionComesTo (world_of (L.stored store.now) (L.parents store.now)) request.now
+        condition.now) }
 {
     match evaluate(alloc, condition, request, store) {
         Ok(given) => Ok(outcome_by(&given)),
@@ -55,8 +57,8 @@ fn outcome_of_condition<L: Lookup>(
     }
 }
 
-/// What a policy comes to. Its condition is evaluated only where its scope is true: a scope never errs, and where it is not true the policy is not
-/// satisfied, whatever its condition is (`scopes_do_not_err`).
+/// What a policy comes to. Its condition is evaluated only where its scope is true: a scope never errs, and where it is
+/// not true the policy is not satisfied, whatever its condition is (`scopes_do_not_err`).
 pub(crate) fn outcome_of<L: Lookup>(
     alloc: Global,
     policy: &Policy,
@@ -67,6 +69,7 @@ pub(crate) fn outcome_of<L: Lookup>(
     requires { IsStanding (L.parents store.now) request.now standing.now }
     ensures { IfOk result (ComesTo (world_of (L.stored store.now) (L.parents store.now)) request.now policy.now) }
 {
+    scopes_do_not_err();
     if is_scope_true(&policy.scope, standing) {
         outcome_of_condition(alloc, &policy.condition, request, store)
     } else {

@@ -67,9 +67,9 @@ fn answer_by_policies<L: Lookup>(
 
 /// The answer to a request over these policies and these stored entities.
 ///
-/// The caller's condition is that the ids ascend strictly; the lists of the answer then ascend by id, which is the law `ascending` of
-/// `answers_are_lawful`. One pass over the policies; the ancestors of the request's three entities are asked for once each, and a
-/// condition is evaluated only where the scope before it is true.
+/// The caller's condition is that the ids ascend strictly; the lists of the answer then ascend by id, which is the law
+/// `ascending` of `answers_are_lawful`. One pass over the policies; the ancestors of the request's three entities are
+/// asked for once each, and a condition is evaluated only where the scope before it is true.
 ///
 /// Source: Cedar reference guide, "Authorization". Errors: `NoMemory` alone.
 pub fn decide<L: Lookup>(
@@ -78,7 +78,8 @@ pub fn decide<L: Lookup>(
     request: &Request,
     store: &L,
 ) -> Result<Answer, NoMemory>
-    ensures { IfOk result (λ a. IsAnswer (world_of (L.stored store.now) (L.parents store.now)) request.now (named policies.now) a) }
+    ensures { IfOk result (λ a. IsAnswer (world_of (L.stored store.now) (L.parents store.now)) request.now
+        (named policies.now) a) }
 {
     let cyclic = store.cyclic()?;
     if is_none(&cyclic) {

@@ -1,8 +1,9 @@
 //! The authoriser: the answer to a request over policies and the stored entities.
 //!
-//! [`decide`] answers as the Cedar reference guide's "Authorization" says: a request is allowed where some `permit` policy is satisfied and no `forbid`
-//! policy is, and an erring policy counts for neither. A policy comes to what its whole expression, scope and conditions, gives. Where the hierarchy has a cycle, no policy is tried: the request is denied and the
-//! answer names the entities on cycles, which is a rule of this product.
+//! [`decide`] answers as the Cedar reference guide's "Authorization" says: a request is allowed where some `permit`
+//! policy is satisfied and no `forbid` policy is, and an erring policy counts for neither. A policy comes to what its
+//! whole expression, scope and conditions, gives. Where the hierarchy has a cycle, no policy is tried: the request is
+//! denied and the answer names the entities on cycles, which is a rule of this product.
 #![tactic(auto)]
 
 mod answer;

@@ -35,7 +35,8 @@ impl<'a> Tally<'a> {
         effect: Effect,
         outcome: Outcome,
     ) -> Result<(), NoMemory>
-        ensures { OnOk result ((js : List Judged) → Counts self.old js → Counts self.new (js ++ record { id = id.now; effect = effect; outcome = outcome } ∷ [])) }
+        ensures { OnOk result ((js : List Judged) → Counts self.old js
+            → Counts self.new (js ++ record { id = id.now; effect = effect; outcome = outcome } ∷ [])) }
     {
         match (outcome, effect) {
             (Outcome::Satisfied, Effect::Permit) => self.permits.push(id)?,
@@ -48,7 +49,8 @@ impl<'a> Tally<'a> {
 
     /// The answer by the policies that were noted. Ids are copied only here, and only those that are listed.
     pub(crate) fn into_answer(self, alloc: Global) -> Result<Answer, NoMemory>
-        ensures { IfOk result (λ a. a ≡ decided (ids self.entry.permits.items) (ids self.entry.forbids.items) (faults self.entry.errors.items)) }
+        ensures { IfOk result (λ a. a ≡ decided (ids self.entry.permits.items) (ids self.entry.forbids.items)
+            (faults self.entry.errors.items)) }
     {
         if !self.permits.is_empty() && self.forbids.is_empty() {
             listed(alloc, Decision::Allow, &self.permits, &self.errors)
@@ -64,7 +66,8 @@ fn listed(
     ids: &[&str],
     errors: &[(&str, PolicyError)],
 ) -> Result<Answer, NoMemory>
-    ensures { IfOk result (λ a. a ≡ record { decision = decision; reason = map (λ x. x.now) ids.now; errors = faults errors.now; cycle = [] }) }
+    ensures { IfOk result (λ a. a
+        ≡ record { decision = decision; reason = map (λ x. x.now) ids.now; errors = faults errors.now; cycle = [] }) }
 {
     let reason = copy_ids(alloc, ids)?;
     let errors = copy_errors(alloc, errors)?;

@@ -6,9 +6,8 @@ use Rattle.values.specs.declared.request.Request.{Request}
 use Rattle.values.specs.Fields.{Field, put}
 use Rattle.values.specs.Sets.{set_list}
 use Rattle.values.specs.Values.{PlainValue, boolean, long, text, entity, set, record_of, decimal, ipaddr, values_of, fields_of}
-use Rattle.values.proofs.Unique.{In-from_Contains, Contains-from_In, sorted_set, into_set, from_set, set_is}
 use Rattle.ancestor_closure.specs.Decided.{Decides}
-use Rattle.expressions.specs.Forms.{Every, Cases, by_forms, fold_literal, fold_variable, fold_if, fold_and, fold_or, fold_unary, fold_binary, fold_field, fold_has, fold_set, fold_record, fold_unary_call, fold_binary_call}
+use Rattle.expressions.specs.inner.Forms.{Every, Cases, by_forms, fold_literal, fold_variable, fold_if, fold_and, fold_or, fold_unary, fold_binary, fold_field, fold_has, fold_set, fold_record, fold_unary_call, fold_binary_call}
 use Rattle.expressions.specs.declared.leaf.Literal.{Literal}
 use Rattle.expressions.specs.declared.leaf.Variable.{Variable}
 use Rattle.expressions.specs.declared.operator.Unary.{Unary}
@@ -23,10 +22,11 @@ use Rattle.evaluator.specs.declared.fault.EvalFault.TheVariants.{TypeError}
 use Rattle.evaluator.specs.Outcomes.{Outcome, boolean_in}
 use Rattle.evaluator.specs.Operators.{World}
 use Rattle.evaluator.specs.Evaluation as rule
-use Rattle.evaluator.specs.Evaluation.{literal_value, variable_value, IsSetOf, Gives, TestFails, GivesEach, GivesFields, AnswersWhatIsGiven, AnswersAllThatIsGiven}
+use Rattle.evaluator.specs.Evaluation.{literal_value, variable_value, Gives, TestFails, GivesEach, GivesFields, AnswersWhatIsGiven, AnswersAllThatIsGiven}
 use Rattle.evaluator.specs.Laws.{HasOneOutcome}
-use Rattle.evaluator.specs.Computing.{Entities, entities_of, and_then, demanded, truth, as_test, apply_unary, apply_binary, field_of, has_field, apply_unary_call, apply_binary_call, each, each_field, meaning, meaning_step, named_meaning, Answers}
-use Rattle.evaluator.proofs.Applied.{unary_exists, unary_is, unary_call_exists, unary_call_is, binary_call_exists, binary_call_is, binary_exists, binary_is, field_exists, field_is, has_exists, has_is}
+use Rattle.evaluator.specs.inner.Meanings.{GivesOnly, MeaningsAreGiven}
+use Rattle.evaluator.specs.inner.Computing.{Entities, entities_of, and_then, demanded, truth, as_test, apply_unary, apply_binary, field_of, has_field, apply_unary_call, apply_binary_call, each, each_field, meaning, meaning_step, named_meaning, Answers}
+use Rattle.evaluator.proofs.Applied.{LawsBelow, unary_exists, unary_is, unary_call_exists, unary_call_is, binary_call_exists, binary_call_is, binary_exists, binary_is, field_exists, field_is, has_exists, has_is}
 
 -- the values as a set
 to_set : List PlainValue → Outcome
@@ -35,19 +35,7 @@ to_set vs = Ok (set (values_of (set_list vs)))
 to_record : List Field → Outcome
 to_record fs = Ok (record_of (fields_of fs))
 
-pub set_of : (vs : List PlainValue) → IsSetOf vs (set_list vs)
-set_of vs = record {
-  ascending = sorted_set vs;
-  members = λ v. (
-    (λ h. Contains-from_In vs v (from_set vs v (In-from_Contains (set_list vs) v h.0 h.1 h.2))),
-    (λ h. Contains-from_In (set_list vs) v (into_set vs v (In-from_Contains vs v h.0 h.1 h.2))),
-  );
-}
-
-set_of_is : (vs s : List PlainValue) → IsSetOf vs s → s ≡ set_list vs
-set_of_is vs s h = set_is s vs h.ascending (λ v. (h.members v).0) (λ v. (h.members v).1)
-
-module _ (W : World) (above : EntityUid → EntityUid → Bool) (D : Decides W.parents above) (q : Request) where
+module _ (L : LawsBelow) (W : World) (above : EntityUid → EntityUid → Bool) (D : Decides W.parents above) (q : Request) where
   abbrev E : Entities
   E = entities_of W.stored above
 
@@ -119,18 +107,18 @@ module _ (W : World) (above : EntityUid → EntityUid → Bool) (D : Decides W.p
     computes _ _ (rule.or_right_fails a b {e} g h) = at_or a b ∙ (ap (λ m. and_then (as_test m) (λ t. if t then truth true else and_then (as_test (gives b)) truth)) (computes a _ g) ∙ ap (λ m. and_then m truth) (test_computes b e h))
     computes _ _ (rule.gives_unary op a {v} {r} g u) = at_unary op a ∙ (ap (λ m. and_then m (apply_unary op)) (computes a _ g) ∙ unary_is op v r u)
     computes _ _ (rule.unary_fails op a {e} g) = at_unary op a ∙ ap (λ m. and_then m (apply_unary op)) (computes a _ g)
-    computes _ _ (rule.gives_binary op a b {v} {w} {r} g h u) = at_binary op a b ∙ (ap (λ m. and_then m (λ v. and_then (gives b) (apply_binary E op v))) (computes a _ g) ∙ (ap (λ m. and_then m (apply_binary E op v)) (computes b _ h) ∙ binary_is W above D op v w r u))
+    computes _ _ (rule.gives_binary op a b {v} {w} {r} g h u) = at_binary op a b ∙ (ap (λ m. and_then m (λ v. and_then (gives b) (apply_binary E op v))) (computes a _ g) ∙ (ap (λ m. and_then m (apply_binary E op v)) (computes b _ h) ∙ binary_is W above D L op v w r u))
     computes _ _ (rule.binary_left_fails op a b {e} g) = at_binary op a b ∙ ap (λ m. and_then m (λ v. and_then (gives b) (apply_binary E op v))) (computes a _ g)
     computes _ _ (rule.binary_right_fails op a b {v} {e} g h) = at_binary op a b ∙ (ap (λ m. and_then m (λ v. and_then (gives b) (apply_binary E op v))) (computes a _ g) ∙ ap (λ m. and_then m (apply_binary E op v)) (computes b _ h))
     computes _ _ (rule.gives_field a name {v} {r} g u) = at_field a name ∙ (ap (λ m. and_then m (field_of E name)) (computes a _ g) ∙ field_is W above D name v r u)
     computes _ _ (rule.field_fails a name {e} g) = at_field a name ∙ ap (λ m. and_then m (field_of E name)) (computes a _ g)
     computes _ _ (rule.gives_has a name {v} {r} g u) = at_has a name ∙ (ap (λ m. and_then m (has_field E name)) (computes a _ g) ∙ has_is W above D name v r u)
     computes _ _ (rule.has_fails a name {e} g) = at_has a name ∙ ap (λ m. and_then m (has_field E name)) (computes a _ g)
-    computes _ _ (rule.gives_set xs {vs} {s} g h) = at_set xs ∙ (ap (λ m. and_then m to_set) (each_computes xs _ g) ∙ sym (ap (λ ws. Ok (set (values_of ws))) (set_of_is vs s h)))
+    computes _ _ (rule.gives_set xs {vs} {s} g h) = at_set xs ∙ (ap (λ m. and_then m to_set) (each_computes xs _ g) ∙ sym (ap (λ ws. Ok (set (values_of ws))) (L.one vs s h)))
     computes _ _ (rule.set_fails xs {e} g) = at_set xs ∙ ap (λ m. and_then m to_set) (each_computes xs _ g)
     computes _ _ (rule.gives_record xs {fs} g) = at_record xs ∙ ap (λ m. and_then m to_record) (fields_compute xs [] _ g)
     computes _ _ (rule.record_fails xs {e} g) = at_record xs ∙ ap (λ m. and_then m to_record) (fields_compute xs [] _ g)
-    computes _ _ (rule.gives_unary_call called a {v} {r} g u) = at_unary_call called a ∙ (ap (λ m. and_then m (apply_unary_call called)) (computes a _ g) ∙ unary_call_is called v r u)
+    computes _ _ (rule.gives_unary_call called a {v} {r} g u) = at_unary_call called a ∙ (ap (λ m. and_then m (apply_unary_call called)) (computes a _ g) ∙ unary_call_is L called v r u)
     computes _ _ (rule.unary_call_fails called a {e} g) = at_unary_call called a ∙ ap (λ m. and_then m (apply_unary_call called)) (computes a _ g)
     computes _ _ (rule.gives_binary_call called a b {v} {w} {r} g h u) = at_binary_call called a b ∙ (ap (λ m. and_then m (λ v. and_then (gives b) (apply_binary_call called v))) (computes a _ g) ∙ (ap (λ m. and_then m (apply_binary_call called v)) (computes b _ h) ∙ binary_call_is called v w r u))
     computes _ _ (rule.call_left_fails called a b {e} g) = at_binary_call called a b ∙ ap (λ m. and_then m (λ v. and_then (gives b) (apply_binary_call called v))) (computes a _ g)
@@ -216,7 +204,7 @@ module _ (W : World) (above : EntityUid → EntityUid → Bool) (D : Decides W.p
   unary_case op a (Err e) g = rule.unary_fails op a g
 
   binary_case : (op : Binary) (a b : Expr) (m n : Outcome) → Gives W q a m → Gives W q b n → Gives W q (form.Binary op a b) (and_then m (λ v. and_then n (apply_binary E op v)))
-  binary_case op a b (Ok v) (Ok w) g h = rule.gives_binary op a b g h (binary_exists W above D op v w)
+  binary_case op a b (Ok v) (Ok w) g h = rule.gives_binary op a b g h (binary_exists W above D L op v w)
   binary_case op a b (Ok v) (Err e) g h = rule.binary_right_fails op a b g h
   binary_case op a b (Err e) n g h = rule.binary_left_fails op a b g
 
@@ -230,7 +218,7 @@ module _ (W : World) (above : EntityUid → EntityUid → Bool) (D : Decides W.p
 
   set_case : (xs : List Expr) (m : Result (List PlainValue) EvalFault) → GivesEach W q xs m → Gives W q (form.Set xs) (and_then m to_set)
   unfolding to_set
-  set_case xs (Ok vs) g = rule.gives_set xs g (set_of vs)
+  set_case xs (Ok vs) g = rule.gives_set xs g (L.made vs)
   set_case xs (Err e) g = rule.set_fails xs g
 
   record_case : (xs : List (Named Expr)) (m : Result (List Field) EvalFault) → GivesFields W q xs [] m → Gives W q (form.Record xs) (and_then m to_record)
@@ -293,21 +281,27 @@ module _ (W : World) (above : EntityUid → EntityUid → Bool) (D : Decides W.p
   }
 
   -- each expression gives what it computes
-  pub given : (x : Expr) → Gives W q x (gives x)
+  given : (x : Expr) → Gives W q x (gives x)
   unfolding Found
   given x = by_forms Found found x
 
   -- and nothing else
-  pub only_given : (x : Expr) (r : Outcome) → Gives W q x r → r ≡ gives x
+  only_given : (x : Expr) (r : Outcome) → Gives W q x r → r ≡ gives x
   only_given x r g = sym (computes x r g)
 
-  pub answers_what_is_given : (x : Expr) (r : Outcome) → Answers r (gives x) → AnswersWhatIsGiven W q x r
-  answers_what_is_given x (Ok v) h = subst (λ m. Gives W q x m) h (given x)
-  answers_what_is_given x (Err e) h = λ n. subst (λ m. Gives W q x m) (h n) (given x)
+pub meanings_are_given : LawsBelow → MeaningsAreGiven
+meanings_are_given L W above D q x = record { given = given L W above D q x; only = only_given L W above D q x }
 
-  pub answers_all_that_is_given : (x : Expr) (r : Outcome) → Answers r (gives x) → AnswersAllThatIsGiven W q x r
-  answers_all_that_is_given x (Ok v) h s g n = sym h ∙ computes x s g
-  answers_all_that_is_given x (Err e) h s g n = sym (h (λ same. n (ap (λ f. Err f) same))) ∙ computes x s g
+-- ---- so an answer is what is given
 
-  pub one_outcome : (x : Expr) → HasOneOutcome W q x
-  one_outcome x = (gives x, given x, only_given x)
+module _ (W : World) (q : Request) (x : Expr) (m : Outcome) (gives : GivesOnly W q x m) where
+  pub answers_what_is_given : (r : Outcome) → Answers r m → AnswersWhatIsGiven W q x r
+  answers_what_is_given (Ok v) h = subst (Gives W q x) h gives.given
+  answers_what_is_given (Err e) h = λ n. subst (Gives W q x) (h n) gives.given
+
+  pub answers_all_that_is_given : (r : Outcome) → Answers r m → AnswersAllThatIsGiven W q x r
+  answers_all_that_is_given (Ok v) h s g n = sym h ∙ sym (gives.only s g)
+  answers_all_that_is_given (Err e) h s g n = sym (h (λ same. n (ap (λ f. Err f) same))) ∙ sym (gives.only s g)
+
+  pub one_outcome : HasOneOutcome W q x
+  one_outcome = (m, gives.given, gives.only)

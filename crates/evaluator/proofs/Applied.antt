@@ -8,15 +8,13 @@ use Rattle.std.proofs.lemmas.Slice.Eq.{bytes_eq-Decides}
 use Rattle.extensions.specs.Network.{Network, loopback_v4, loopback_v6, multicast_v4, multicast_v6}
 use Rattle.extensions.specs.DecimalText.{IsDecimalText}
 use Rattle.extensions.specs.NetworkText.{IsNetworkText}
-use Rattle.extensions.proofs.SignedTexts.{one_decimal}
-use Rattle.extensions.proofs.CanonicalNetworks.{one_network}
 use Rattle.values.specs.declared.entity_uid.EntityUid.{EntityUid}
 use Rattle.values.specs.Fields.{Field, find_field}
 use Rattle.values.specs.Sets.{has_member}
 use Rattle.values.specs.Values.{PlainValue, PlainValues, PlainFields, boolean, long, text, entity, set, record_of, decimal, ipaddr, list_of, pairs_of}
 use Rattle.values.specs.ValueOrder.{value_cmp}
-use Rattle.values.proofs.Found.{has_member-is}
-use Rattle.values.proofs.Members.{Contains-here, Contains-there, Contains-cases, Contains-none}
+use Rattle.values.specs.Laws.{SetsHoldTheirMembers, SetsAreOneList, MembersAreTold}
+use Rattle.evaluator.proofs.Members.{Contains-here, Contains-there, Contains-cases, Contains-none}
 use Rattle.ancestor_closure.specs.Decided.{Decides}
 use Rattle.expressions.specs.LikeTest.{is_match, is_match-Decides}
 use Rattle.expressions.specs.declared.operator.Unary.{Unary}
@@ -28,14 +26,29 @@ use Rattle.expressions.specs.declared.operator.UnaryCall.TheVariants as one
 use Rattle.expressions.specs.declared.operator.BinaryCall.{BinaryCall}
 use Rattle.expressions.specs.declared.operator.BinaryCall.TheVariants as two
 use Rattle.evaluator.specs.declared.fault.EvalFault.TheVariants.{AttrDoesNotExist, TypeError, ExtensionError}
-use Rattle.evaluator.specs.Decided.{Decided, told, told_iff}
-use Rattle.evaluator.specs.TextsDecided.{decimal_text_decided, network_text_decided, in_either_decided, within_decided}
+use Rattle.evaluator.specs.inner.Decided.{Decided, told, told_iff}
+use Rattle.evaluator.specs.inner.TextsDecided.{decimal_text_decided, network_text_decided, in_either_decided, within_decided}
 use Rattle.evaluator.specs.Outcomes.{Outcome, boolean_in, long_in, text_in, entity_in, members_in, fields_in, decimal_in, network_in}
 use Rattle.evaluator.specs.Operators as rule
 use Rattle.evaluator.specs.Operators.{World, IsIn, UnaryGives, BinaryGives, FieldGives, HasGives, UnaryCallGives, BinaryCallGives, TakesNumbers, TakesSets, TakesAddress, TakesDecimals}
-use Rattle.evaluator.specs.Computing.{Entities, entities_of, and_then, demanded, truth, bounded, apply_unary, is_in, in_members, in_value, numbers, sets, apply_binary, found_or, attribute, field_of, has_attribute, has_field, decimal_read, network_read, is_v4, tested, apply_unary_call, decimals, networks, apply_binary_call}
+use Rattle.evaluator.specs.inner.Computing.{Entities, entities_of, and_then, demanded, truth, bounded, apply_unary, is_in, in_members, in_value, numbers, sets, apply_binary, found_or, attribute, field_of, has_attribute, has_field, decimal_read, network_read, is_v4, tested, apply_unary_call, decimals, networks, apply_binary_call}
 use Rattle.evaluator.proofs.ByKind.{boolean_cases, long_cases, text_cases, entity_cases, members_cases, decimal_cases, network_cases}
 use Rattle.evaluator.proofs.Telling.{tells_test, test_is, int_lt_iff, int_le_iff, comes_bounded, bounded_is, value_eq_iff, v4_iff, v6_iff, any_iff, all_iff, is_in_iff}
+
+-- a text is of one decimal at most, and of one address at most
+abbrev pub OneDecimal : Type 0
+OneDecimal = (t : List ℕ) (y z : ℤ) → IsDecimalText t y → IsDecimalText t z → y ≡ z
+
+abbrev pub OneNetwork : Type 0
+OneNetwork = (t : List ℕ) (m n : Network) → IsNetworkText t m → IsNetworkText t n → m ≡ n
+
+-- the laws of the crates below that are used here
+pub record LawsBelow : Type 0 where
+  pub decimals : OneDecimal
+  pub networks : OneNetwork
+  pub made : SetsHoldTheirMembers
+  pub one : SetsAreOneList
+  pub told : MembersAreTold
 
 -- where something else was demanded
 other : {A : Type 0} (f : A → Outcome) (R : Outcome → Type 0) (o : Option A) → o ≡ None → R (Err TypeError) → R (and_then (demanded o) f)
@@ -81,9 +94,9 @@ decimal_exists : (t : List ℕ) (d : Decided ((z : ℤ) × IsDecimalText t z)) �
 decimal_exists t (inl h) = rule.reads_decimal h.1
 decimal_exists t (inr n) = rule.no_decimal (λ z h. n (z, h))
 
-pub decimal_is : (t : List ℕ) (d : Decided ((z : ℤ) × IsDecimalText t z)) (z : ℤ) → IsDecimalText t z → decimal_read d ≡ Ok (decimal z)
-decimal_is t (inl h) z k = ap (λ y. Ok (decimal y)) (one_decimal t h.0 z h.1.0 k.0)
-decimal_is t (inr n) z k = absurd (n (z, k))
+pub decimal_is : OneDecimal → (t : List ℕ) (d : Decided ((z : ℤ) × IsDecimalText t z)) (z : ℤ) → IsDecimalText t z → decimal_read d ≡ Ok (decimal z)
+decimal_is one_each t (inl h) z k = ap (λ y. Ok (decimal y)) (one_each t h.0 z h.1 k)
+decimal_is one_each t (inr n) z k = absurd (n (z, k))
 
 no_decimal_is : (t : List ℕ) (d : Decided ((z : ℤ) × IsDecimalText t z)) → ((z : ℤ) → ¬ IsDecimalText t z) → decimal_read d ≡ Err ExtensionError
 no_decimal_is t (inl h) n = absurd (n h.0 h.1)
@@ -93,9 +106,9 @@ network_exists : (t : List ℕ) (d : Decided ((n : Network) × IsNetworkText t n
 network_exists t (inl h) = rule.reads_address h.1
 network_exists t (inr n) = rule.no_address (λ z h. n (z, h))
 
-pub network_is : (t : List ℕ) (d : Decided ((n : Network) × IsNetworkText t n)) (n : Network) → IsNetworkText t n → network_read d ≡ Ok (ipaddr n)
-network_is t (inl h) n k = ap (λ y. Ok (ipaddr y)) (one_network t h.0 n h.1 k)
-network_is t (inr m) n k = absurd (m (n, k))
+pub network_is : OneNetwork → (t : List ℕ) (d : Decided ((n : Network) × IsNetworkText t n)) (n : Network) → IsNetworkText t n → network_read d ≡ Ok (ipaddr n)
+network_is one_each t (inl h) n k = ap (λ y. Ok (ipaddr y)) (one_each t h.0 n h.1 k)
+network_is one_each t (inr m) n k = absurd (m (n, k))
 
 pub no_network_is : (t : List ℕ) (d : Decided ((n : Network) × IsNetworkText t n)) → ((n : Network) → ¬ IsNetworkText t n) → network_read d ≡ Err ExtensionError
 no_network_is t (inl h) n = absurd (n h.0 h.1)
@@ -127,18 +140,18 @@ no_address_is one.IsIpv6 v h e = other_is (λ n. truth (not (is_v4 n.version))) 
 no_address_is one.IsLoopback v h e = other_is (λ n. truth (told (in_either_decided n loopback_v4 loopback_v6))) (network_in v) e
 no_address_is one.IsMulticast v h e = other_is (λ n. truth (told (in_either_decided n multicast_v4 multicast_v6))) (network_in v) e
 
-pub unary_call_is : (called : UnaryCall) (v : PlainValue) (r : Outcome) → UnaryCallGives called v r → apply_unary_call called v ≡ r
-unary_call_is _ _ _ (rule.reads_decimal {t} {z} h) = decimal_is t (decimal_text_decided t) z h
-unary_call_is _ _ _ (rule.no_decimal {t} n) = no_decimal_is t (decimal_text_decided t) n
-unary_call_is _ _ _ (rule.decimal_of_other {v} e) = other_is (λ t. decimal_read (decimal_text_decided t)) (text_in v) e
-unary_call_is _ _ _ (rule.reads_address {t} {n} h) = network_is t (network_text_decided t) n h
-unary_call_is _ _ _ (rule.no_address {t} n) = no_network_is t (network_text_decided t) n
-unary_call_is _ _ _ (rule.address_of_other {v} e) = other_is (λ t. network_read (network_text_decided t)) (text_in v) e
-unary_call_is _ _ _ (rule.is_ipv4 {n} {r} h) = test_is (is_v4 n.version) (v4_iff n.version) r h
-unary_call_is _ _ _ (rule.is_ipv6 {n} {r} h) = test_is (not (is_v4 n.version)) (v6_iff n.version) r h
-unary_call_is _ _ _ (rule.is_loopback {n} {r} h) = test_is (told (in_either_decided n loopback_v4 loopback_v6)) (told_iff (in_either_decided n loopback_v4 loopback_v6)) r h
-unary_call_is _ _ _ (rule.is_multicast {n} {r} h) = test_is (told (in_either_decided n multicast_v4 multicast_v6)) (told_iff (in_either_decided n multicast_v4 multicast_v6)) r h
-unary_call_is _ _ _ (rule.of_no_address {called} {v} takes e) = no_address_is called v takes e
+pub unary_call_is : LawsBelow → (called : UnaryCall) (v : PlainValue) (r : Outcome) → UnaryCallGives called v r → apply_unary_call called v ≡ r
+unary_call_is L _ _ _ (rule.reads_decimal {t} {z} h) = decimal_is L.decimals t (decimal_text_decided t) z h
+unary_call_is L _ _ _ (rule.no_decimal {t} n) = no_decimal_is t (decimal_text_decided t) n
+unary_call_is L _ _ _ (rule.decimal_of_other {v} e) = other_is (λ t. decimal_read (decimal_text_decided t)) (text_in v) e
+unary_call_is L _ _ _ (rule.reads_address {t} {n} h) = network_is L.networks t (network_text_decided t) n h
+unary_call_is L _ _ _ (rule.no_address {t} n) = no_network_is t (network_text_decided t) n
+unary_call_is L _ _ _ (rule.address_of_other {v} e) = other_is (λ t. network_read (network_text_decided t)) (text_in v) e
+unary_call_is L _ _ _ (rule.is_ipv4 {n} {r} h) = test_is (is_v4 n.version) (v4_iff n.version) r h
+unary_call_is L _ _ _ (rule.is_ipv6 {n} {r} h) = test_is (not (is_v4 n.version)) (v6_iff n.version) r h
+unary_call_is L _ _ _ (rule.is_loopback {n} {r} h) = test_is (told (in_either_decided n loopback_v4 loopback_v6)) (told_iff (in_either_decided n loopback_v4 loopback_v6)) r h
+unary_call_is L _ _ _ (rule.is_multicast {n} {r} h) = test_is (told (in_either_decided n multicast_v4 multicast_v6)) (told_iff (in_either_decided n multicast_v4 multicast_v6)) r h
+unary_call_is L _ _ _ (rule.of_no_address {called} {v} takes e) = no_address_is called v takes e
 
 -- ---- calls with two operands
 
@@ -257,22 +270,22 @@ module _ (W : World) (above : EntityUid → EntityUid → Bool) (D : Decides W.p
       (λ w e. other (λ y. truth (f (list_of x) y)) (BinaryGives W op (set x) w) (members_in w) e (rule.no_sets takes (inr e))) w)
       (λ v e. other (λ x. and_then (demanded (members_in w)) (λ y. truth (f x y))) (BinaryGives W op v w) (members_in v) e (rule.no_sets takes (inl e))) v
 
-  pub binary_exists : (op : Binary) (v w : PlainValue) → BinaryGives W op v w (apply_binary E op v w)
-  binary_exists ops.Equal v w = rule.equal (tells_test (is_eq (value_cmp v w)) (value_eq_iff v w))
-  binary_exists ops.In v w = entity_cases (λ v. BinaryGives W ops.In v w (apply_binary E ops.In v w)) (λ a. in_exists a w)
+  pub binary_exists : LawsBelow → (op : Binary) (v w : PlainValue) → BinaryGives W op v w (apply_binary E op v w)
+  binary_exists L ops.Equal v w = rule.equal (tells_test (is_eq (value_cmp v w)) (value_eq_iff v w))
+  binary_exists L ops.In v w = entity_cases (λ v. BinaryGives W ops.In v w (apply_binary E ops.In v w)) (λ a. in_exists a w)
       (λ v e. other (λ a. in_value E a w) (BinaryGives W ops.In v w) (entity_in v) e (rule.other_in e)) v
-  binary_exists ops.Less v w = numbers_exist ops.Less (λ x y. truth (int_lt x y)) tt (λ x y. rule.less (tells_test (int_lt x y) (int_lt_iff x y))) v w
-  binary_exists ops.LessOrEqual v w = numbers_exist ops.LessOrEqual (λ x y. truth (int_le x y)) tt (λ x y. rule.less_or_equal (tells_test (int_le x y) (int_le_iff x y))) v w
-  binary_exists ops.Add v w = numbers_exist ops.Add (λ x y. bounded (x +ℤ y)) tt (λ x y. rule.sum (comes_bounded (x +ℤ y))) v w
-  binary_exists ops.Subtract v w = numbers_exist ops.Subtract (λ x y. bounded (x -ℤ y)) tt (λ x y. rule.difference (comes_bounded (x -ℤ y))) v w
-  binary_exists ops.Multiply v w = numbers_exist ops.Multiply (λ x y. bounded (x *ℤ y)) tt (λ x y. rule.product (comes_bounded (x *ℤ y))) v w
-  binary_exists ops.Contains v w = members_cases (λ v. BinaryGives W ops.Contains v w (apply_binary E ops.Contains v w))
-      (λ vs. rule.contains (tells_test (has_member (list_of vs) w) (has_member-is (list_of vs) w)))
+  binary_exists L ops.Less v w = numbers_exist ops.Less (λ x y. truth (int_lt x y)) tt (λ x y. rule.less (tells_test (int_lt x y) (int_lt_iff x y))) v w
+  binary_exists L ops.LessOrEqual v w = numbers_exist ops.LessOrEqual (λ x y. truth (int_le x y)) tt (λ x y. rule.less_or_equal (tells_test (int_le x y) (int_le_iff x y))) v w
+  binary_exists L ops.Add v w = numbers_exist ops.Add (λ x y. bounded (x +ℤ y)) tt (λ x y. rule.sum (comes_bounded (x +ℤ y))) v w
+  binary_exists L ops.Subtract v w = numbers_exist ops.Subtract (λ x y. bounded (x -ℤ y)) tt (λ x y. rule.difference (comes_bounded (x -ℤ y))) v w
+  binary_exists L ops.Multiply v w = numbers_exist ops.Multiply (λ x y. bounded (x *ℤ y)) tt (λ x y. rule.product (comes_bounded (x *ℤ y))) v w
+  binary_exists L ops.Contains v w = members_cases (λ v. BinaryGives W ops.Contains v w (apply_binary E ops.Contains v w))
+      (λ vs. rule.contains (tells_test (has_member (list_of vs) w) (L.told (list_of vs) w)))
       (λ v e. other (λ x. truth (has_member x w)) (BinaryGives W ops.Contains v w) (members_in v) e (rule.other_contains e)) v
-  binary_exists ops.ContainsAll v w = sets_exist ops.ContainsAll (λ x y. list_all (has_member x) y) tt
-      (λ vs ws. rule.contains_all (tells_test (list_all (has_member (list_of vs)) (list_of ws)) (all_iff (has_member (list_of vs)) (λ u. Contains (list_of vs) u) (has_member-is (list_of vs)) (list_of ws)))) v w
-  binary_exists ops.ContainsAny v w = sets_exist ops.ContainsAny (λ x y. list_any (has_member x) y) tt
-      (λ vs ws. rule.contains_any (tells_test (list_any (has_member (list_of vs)) (list_of ws)) (any_iff (has_member (list_of vs)) (λ u. Contains (list_of vs) u) (has_member-is (list_of vs)) (list_of ws)))) v w
+  binary_exists L ops.ContainsAll v w = sets_exist ops.ContainsAll (λ x y. list_all (has_member x) y) tt
+      (λ vs ws. rule.contains_all (tells_test (list_all (has_member (list_of vs)) (list_of ws)) (all_iff (has_member (list_of vs)) (λ u. Contains (list_of vs) u) (L.told (list_of vs)) (list_of ws)))) v w
+  binary_exists L ops.ContainsAny v w = sets_exist ops.ContainsAny (λ x y. list_any (has_member x) y) tt
+      (λ vs ws. rule.contains_any (tells_test (list_any (has_member (list_of vs)) (list_of ws)) (any_iff (has_member (list_of vs)) (λ u. Contains (list_of vs) u) (L.told (list_of vs)) (list_of ws)))) v w
 
   no_numbers_are : (op : Binary) (v w : PlainValue) → TakesNumbers op → (long_in v ≡ None) ⊎ (long_in w ≡ None) → apply_binary E op v w ≡ Err TypeError
   no_numbers_are ops.Less v w takes h = others_are (λ x y. truth (int_lt x y)) (long_in v) (long_in w) h
@@ -298,24 +311,24 @@ module _ (W : World) (above : EntityUid → EntityUid → Bool) (D : Decides W.p
   no_sets_are ops.Multiply v w takes h = absurd takes
   no_sets_are ops.Contains v w takes h = absurd takes
 
-  pub binary_is : (op : Binary) (v w : PlainValue) (r : Outcome) → BinaryGives W op v w r → apply_binary E op v w ≡ r
-  binary_is _ _ _ _ (rule.equal {v} {w} {r} h) = test_is (is_eq (value_cmp v w)) (value_eq_iff v w) r h
-  binary_is _ _ _ _ (rule.less {x} {y} {r} h) = test_is (int_lt x y) (int_lt_iff x y) r h
-  binary_is _ _ _ _ (rule.less_or_equal {x} {y} {r} h) = test_is (int_le x y) (int_le_iff x y) r h
-  binary_is _ _ _ _ (rule.sum {x} {y} {r} h) = bounded_is (x +ℤ y) r h
-  binary_is _ _ _ _ (rule.difference {x} {y} {r} h) = bounded_is (x -ℤ y) r h
-  binary_is _ _ _ _ (rule.product {x} {y} {r} h) = bounded_is (x *ℤ y) r h
-  binary_is _ _ _ _ (rule.no_numbers {op} {v} {w} takes h) = no_numbers_are op v w takes h
-  binary_is _ _ _ _ (rule.in_entity {a} {b} {r} h) = test_is (is_in E a b) (is_in_iff W above D a b) r h
-  binary_is _ _ _ _ (rule.in_set {a} {vs} {r} us e h) = in_set_is a (list_of vs) us e ∙ test_is (list_any (is_in E a) us) (some_iff a us) r h
-  binary_is _ _ _ _ (rule.in_mixed_set {a} {vs} v c e) = ap (λ r. and_then r truth) (mixed_are a (list_of vs) v c e)
-  binary_is _ _ _ _ (rule.in_other {a} {w} e f) = in_other_is a w e f
-  binary_is _ _ _ _ (rule.other_in {v} {w} e) = other_is (λ a. in_value E a w) (entity_in v) e
-  binary_is _ _ _ _ (rule.contains {vs} {w} {r} h) = test_is (has_member (list_of vs) w) (has_member-is (list_of vs) w) r h
-  binary_is _ _ _ _ (rule.other_contains {v} {w} e) = other_is (λ x. truth (has_member x w)) (members_in v) e
-  binary_is _ _ _ _ (rule.contains_all {vs} {ws} {r} h) = test_is (list_all (has_member (list_of vs)) (list_of ws)) (all_iff (has_member (list_of vs)) (λ u. Contains (list_of vs) u) (has_member-is (list_of vs)) (list_of ws)) r h
-  binary_is _ _ _ _ (rule.contains_any {vs} {ws} {r} h) = test_is (list_any (has_member (list_of vs)) (list_of ws)) (any_iff (has_member (list_of vs)) (λ u. Contains (list_of vs) u) (has_member-is (list_of vs)) (list_of ws)) r h
-  binary_is _ _ _ _ (rule.no_sets {op} {v} {w} takes h) = no_sets_are op v w takes h
+  pub binary_is : LawsBelow → (op : Binary) (v w : PlainValue) (r : Outcome) → BinaryGives W op v w r → apply_binary E op v w ≡ r
+  binary_is L _ _ _ _ (rule.equal {v} {w} {r} h) = test_is (is_eq (value_cmp v w)) (value_eq_iff v w) r h
+  binary_is L _ _ _ _ (rule.less {x} {y} {r} h) = test_is (int_lt x y) (int_lt_iff x y) r h
+  binary_is L _ _ _ _ (rule.less_or_equal {x} {y} {r} h) = test_is (int_le x y) (int_le_iff x y) r h
+  binary_is L _ _ _ _ (rule.sum {x} {y} {r} h) = bounded_is (x +ℤ y) r h
+  binary_is L _ _ _ _ (rule.difference {x} {y} {r} h) = bounded_is (x -ℤ y) r h
+  binary_is L _ _ _ _ (rule.product {x} {y} {r} h) = bounded_is (x *ℤ y) r h
+  binary_is L _ _ _ _ (rule.no_numbers {op} {v} {w} takes h) = no_numbers_are op v w takes h
+  binary_is L _ _ _ _ (rule.in_entity {a} {b} {r} h) = test_is (is_in E a b) (is_in_iff W above D a b) r h
+  binary_is L _ _ _ _ (rule.in_set {a} {vs} {r} us e h) = in_set_is a (list_of vs) us e ∙ test_is (list_any (is_in E a) us) (some_iff a us) r h
+  binary_is L _ _ _ _ (rule.in_mixed_set {a} {vs} v c e) = ap (λ r. and_then r truth) (mixed_are a (list_of vs) v c e)
+  binary_is L _ _ _ _ (rule.in_other {a} {w} e f) = in_other_is a w e f
+  binary_is L _ _ _ _ (rule.other_in {v} {w} e) = other_is (λ a. in_value E a w) (entity_in v) e
+  binary_is L _ _ _ _ (rule.contains {vs} {w} {r} h) = test_is (has_member (list_of vs) w) (L.told (list_of vs) w) r h
+  binary_is L _ _ _ _ (rule.other_contains {v} {w} e) = other_is (λ x. truth (has_member x w)) (members_in v) e
+  binary_is L _ _ _ _ (rule.contains_all {vs} {ws} {r} h) = test_is (list_all (has_member (list_of vs)) (list_of ws)) (all_iff (has_member (list_of vs)) (λ u. Contains (list_of vs) u) (L.told (list_of vs)) (list_of ws)) r h
+  binary_is L _ _ _ _ (rule.contains_any {vs} {ws} {r} h) = test_is (list_any (has_member (list_of vs)) (list_of ws)) (any_iff (has_member (list_of vs)) (λ u. Contains (list_of vs) u) (L.told (list_of vs)) (list_of ws)) r h
+  binary_is L _ _ _ _ (rule.no_sets {op} {v} {w} takes h) = no_sets_are op v w takes h
 
   -- ---- fields and attributes
 

@@ -4,4 +4,6 @@ pub mod Applied
 pub mod ByKind
 pub mod Conversions
 pub mod Membership
+pub mod Members
 pub mod Telling
+pub mod Wanting

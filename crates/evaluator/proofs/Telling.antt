@@ -13,12 +13,12 @@ use Rattle.values.specs.Names.{uid_cmp, uid_cmp-IsTotalOrder, uid_cmp-IsAntisymm
 use Rattle.values.specs.Uids.{equal-is}
 use Rattle.values.specs.Values.{PlainValue, long}
 use Rattle.values.specs.ValueOrder.{value_cmp, value_cmp-IsTotalOrder, value_cmp-IsAntisymmetric}
-use Rattle.values.proofs.Members.{Contains-here, Contains-there, Contains-cases, Contains-none}
+use Rattle.evaluator.proofs.Members.{Contains-here, Contains-there, Contains-cases, Contains-none}
 use Rattle.ancestor_closure.specs.Decided.{Decides}
 use Rattle.evaluator.specs.declared.fault.EvalFault.TheVariants.{ArithBoundsError}
 use Rattle.evaluator.specs.Outcomes.{Outcome, Tells, holds, fails, Comes, fits, overflows}
 use Rattle.evaluator.specs.Operators.{World, IsIn}
-use Rattle.evaluator.specs.Computing.{entities_of, truth, is_bounded, bounded, is_in, is_v4}
+use Rattle.evaluator.specs.inner.Computing.{entities_of, truth, is_bounded, bounded, is_in, is_v4}
 
 pub tells_test : {P : Type 0} (b : Bool) → (IsTrue b ↔ P) → Tells P (truth b)
 tells_test true i = holds (i.0 refl)

@@ -1,7 +1,9 @@
 -- The values that borrowed parts are of.
-use Rattle.values.specs.Values.{PlainValue, boolean, long, text, entity, set, record_of, decimal, ipaddr, values_of, fields_of}
+use Rattle.values.specs.Values.{PlainValue, boolean, long, text, entity, set, record_of, decimal, ipaddr, values_of}
+use Rattle.values.specs.Values.{fields_of}
 use Rattle.evaluator.specs.declared.kinds.BorrowedKind.{BorrowedKind}
-use Rattle.evaluator.specs.declared.kinds.BorrowedKind.TheVariants.{Boolean, Long, Text, Entity, Set, Record, Decimal, IpAddr}
+use Rattle.evaluator.specs.declared.kinds.BorrowedKind.TheVariants.{Boolean, Long, Text, Entity, Set, Record, Decimal}
+use Rattle.evaluator.specs.declared.kinds.BorrowedKind.TheVariants.{IpAddr}
 use Rattle.evaluator.specs.declared.given.Origin.{Origin}
 use Rattle.evaluator.specs.declared.given.Origin.TheVariants.{Borrowed, Computed}
 

@@ -1,9 +1,10 @@
 -- What is true of the definitions.
-use Rattle.std.specs.Prelude.{◌≡◌, List, Bool}
+use Rattle.std.specs.Prelude.{◌≡◌, List, Bool, Err}
 use Rattle.values.specs.declared.entity_uid.EntityUid.{EntityUid}
 use Rattle.values.specs.declared.request.Request.{Request}
 use Rattle.ancestor_closure.specs.Decided.{Decides, HaveAllParents}
 use Rattle.expressions.specs.declared.expr.Expr.{Expr}
+use Rattle.evaluator.specs.declared.fault.EvalFault.TheVariants.{NoMemory}
 use Rattle.evaluator.specs.Outcomes.{Outcome}
 use Rattle.evaluator.specs.Operators.{World}
 use Rattle.evaluator.specs.Evaluation.{Gives}
@@ -14,8 +15,14 @@ HasOneOutcome W q x = (r : Outcome) × Gives W q x r × ((s : Outcome) → Gives
 
 -- so does each, where a test decides who is above whom,
 abbrev pub HaveOneOutcome : Type 0
-HaveOneOutcome = (W : World) (above : EntityUid → EntityUid → Bool) → Decides W.parents above → (q : Request) (x : Expr) → HasOneOutcome W q x
+HaveOneOutcome = (W : World) (above : EntityUid → EntityUid → Bool) → Decides W.parents above
+    → (q : Request) (x : Expr) → HasOneOutcome W q x
 
 -- and where finitely many entities have parents
 abbrev pub HaveOneOutcomeInFiniteHierarchies : Type 0
-HaveOneOutcomeInFiniteHierarchies = (W : World) (stored : List EntityUid) → HaveAllParents W.parents stored → (q : Request) (x : Expr) → HasOneOutcome W q x
+HaveOneOutcomeInFiniteHierarchies = (W : World) (stored : List EntityUid) → HaveAllParents W.parents stored
+    → (q : Request) (x : Expr) → HasOneOutcome W q x
+
+-- want of memory is nothing that an expression gives
+abbrev pub NothingWantsMemory : Type 0
+NothingWantsMemory = (W : World) (q : Request) (x : Expr) → ¬ Gives W q x (Err NoMemory)

@@ -1,8 +1,6 @@
 pub mod Borrowed
-pub mod Computing
-pub mod Decided
 pub mod Evaluation
 pub mod Laws
 pub mod Operators
 pub mod Outcomes
-pub mod TextsDecided
+pub mod inner

@@ -1,26 +1,34 @@
 -- What operators and calls give on values, one case a rule.
--- Sources: Cedar reference guide 4.0, "Operators and functions"; cedar-spec, cedar-lean/Cedar/Spec/Evaluator.lean (`apply₁`, `apply₂`, `inₑ`,
--- `inₛ`, `hasAttr`, `getAttr`) and ExtFun.lean (`call`).
-use Rattle.std.specs.Prelude.{◌≡◌, ◌⊎◌, ⊤, ℕ, ℤ, neg_ℤ, ◌+ℤ◌, ◌-ℤ◌, ◌*ℤ◌, ◌≤ℤ◌, ◌<ℤ◌, List, map, Bool, false, not, Contains, Option, Some, None, IsSome, Ok, Err}
+-- Sources: Cedar reference guide 4.0, "Operators and functions"; cedar-spec, cedar-lean/Cedar/Spec/Evaluator.lean
+-- (`apply₁`, `apply₂`, `inₑ`, `inₛ`, `hasAttr`, `getAttr`) and ExtFun.lean (`call`).
+use Rattle.std.specs.Prelude.{◌≡◌, ◌⊎◌, ⊤, ℕ, ℤ, neg_ℤ, ◌+ℤ◌, ◌-ℤ◌, ◌*ℤ◌, ◌≤ℤ◌, ◌<ℤ◌, List, map, Bool, false, not}
+use Rattle.std.specs.Prelude.{Contains, Option, Some, None, IsSome, Ok, Err}
 use Rattle.extensions.specs.declared.ip_net.Version.TheVariants.{V4, V6}
 use Rattle.extensions.specs.Network.{Network, IsWithin, loopback_v4, loopback_v6, multicast_v4, multicast_v6}
 use Rattle.extensions.specs.DecimalText.{IsDecimalText}
 use Rattle.extensions.specs.NetworkText.{IsNetworkText}
 use Rattle.values.specs.declared.entity_uid.EntityUid.{EntityUid}
 use Rattle.values.specs.Fields.{Field, find_field}
-use Rattle.values.specs.Values.{PlainValue, PlainValues, PlainFields, boolean, long, text, entity, set, record_of, decimal, ipaddr, list_of, pairs_of}
+use Rattle.values.specs.Values.{PlainValue, PlainValues, PlainFields, boolean, long, text, entity, set, record_of}
+use Rattle.values.specs.Values.{decimal, ipaddr, list_of, pairs_of}
 use Rattle.ancestor_closure.specs.Hierarchy.{Parents, Above}
 use Rattle.expressions.specs.Like.{Matches}
 use Rattle.expressions.specs.declared.operator.Unary.{Unary}
 use Rattle.expressions.specs.declared.operator.Unary.TheVariants.{Not, Negate, Like, Is}
 use Rattle.expressions.specs.declared.operator.Binary.{Binary}
-use Rattle.expressions.specs.declared.operator.Binary.TheVariants.{Equal, In, Less, LessOrEqual, Add, Subtract, Multiply, Contains as ContainsOne, ContainsAll, ContainsAny}
+use Rattle.expressions.specs.declared.operator.Binary.TheVariants.{Equal, In, Less, LessOrEqual, Add, Subtract}
+use Rattle.expressions.specs.declared.operator.Binary.TheVariants.{Multiply, Contains as ContainsOne, ContainsAll}
+use Rattle.expressions.specs.declared.operator.Binary.TheVariants.{ContainsAny}
 use Rattle.expressions.specs.declared.operator.UnaryCall.{UnaryCall}
-use Rattle.expressions.specs.declared.operator.UnaryCall.TheVariants.{Ip, Decimal, IsIpv4, IsIpv6, IsLoopback, IsMulticast}
+use Rattle.expressions.specs.declared.operator.UnaryCall.TheVariants.{Ip, Decimal, IsIpv4, IsIpv6, IsLoopback}
+use Rattle.expressions.specs.declared.operator.UnaryCall.TheVariants.{IsMulticast}
 use Rattle.expressions.specs.declared.operator.BinaryCall.{BinaryCall}
-use Rattle.expressions.specs.declared.operator.BinaryCall.TheVariants.{LessThan, LessThanOrEqual, GreaterThan, GreaterThanOrEqual, IsInRange}
-use Rattle.evaluator.specs.declared.fault.EvalFault.TheVariants.{EntityDoesNotExist, AttrDoesNotExist, TypeError, ExtensionError}
-use Rattle.evaluator.specs.Outcomes.{Outcome, Tells, Comes, boolean_in, long_in, text_in, entity_in, members_in, fields_in, decimal_in, network_in}
+use Rattle.expressions.specs.declared.operator.BinaryCall.TheVariants.{LessThan, LessThanOrEqual, GreaterThan}
+use Rattle.expressions.specs.declared.operator.BinaryCall.TheVariants.{GreaterThanOrEqual, IsInRange}
+use Rattle.evaluator.specs.declared.fault.EvalFault.TheVariants.{EntityDoesNotExist, AttrDoesNotExist, TypeError}
+use Rattle.evaluator.specs.declared.fault.EvalFault.TheVariants.{ExtensionError}
+use Rattle.evaluator.specs.Outcomes.{Outcome, Tells, Comes, boolean_in, long_in, text_in, entity_in, members_in}
+use Rattle.evaluator.specs.Outcomes.{fields_in, decimal_in, network_in}
 
 -- the attributes of each stored entity, and the parents of each entity
 pub record World : Type 0 where
@@ -40,9 +48,12 @@ pub data UnaryGives : Unary → PlainValue → Outcome → Type 0 where
   negation_of_other : {v : PlainValue} → boolean_in v ≡ None → UnaryGives Not v (Err TypeError)
   opposite : {z : ℤ} {r : Outcome} → Comes (neg_ℤ z) r → UnaryGives Negate (long z) r
   opposite_of_other : {v : PlainValue} → long_in v ≡ None → UnaryGives Negate v (Err TypeError)
-  like_text : {pattern : List (List ℕ)} {t : List ℕ} {r : Outcome} → Tells (Matches pattern t) r → UnaryGives (Like pattern) (text t) r
-  like_of_other : {pattern : List (List ℕ)} {v : PlainValue} → text_in v ≡ None → UnaryGives (Like pattern) v (Err TypeError)
-  is_entity : {name : List ℕ} {u : EntityUid} {r : Outcome} → Tells (u.type_name ≡ name) r → UnaryGives (Is name) (entity u) r
+  like_text : {pattern : List (List ℕ)} {t : List ℕ} {r : Outcome} → Tells (Matches pattern t) r
+      → UnaryGives (Like pattern) (text t) r
+  like_of_other : {pattern : List (List ℕ)} {v : PlainValue} → text_in v ≡ None
+      → UnaryGives (Like pattern) v (Err TypeError)
+  is_entity : {name : List ℕ} {u : EntityUid} {r : Outcome} → Tells (u.type_name ≡ name) r
+      → UnaryGives (Is name) (entity u) r
   is_of_other : {name : List ℕ} {v : PlainValue} → entity_in v ≡ None → UnaryGives (Is name) v (Err TypeError)
 
 -- these take two numbers, these two sets
@@ -59,8 +70,8 @@ TakesSets ContainsAll = ⊤
 TakesSets ContainsAny = ⊤
 TakesSets op = ⊥
 
--- An operator on two values. `a in b` of two entities asks whether a is in b; of a set, all of whose members have to be entities, whether a is
--- in some of them.
+-- An operator on two values. `a in b` of two entities asks whether a is in b; of a set, all of whose members have to be
+-- entities, whether a is in some of them.
 pub data BinaryGives (W : World) : Binary → PlainValue → PlainValue → Outcome → Type 0 where
   equal : {v w : PlainValue} {r : Outcome} → Tells (v ≡ w) r → BinaryGives W Equal v w r
   less : {x y : ℤ} {r : Outcome} → Tells (x <ℤ y) r → BinaryGives W Less (long x) (long y) r
@@ -68,34 +79,47 @@ pub data BinaryGives (W : World) : Binary → PlainValue → PlainValue → Outc
   sum : {x y : ℤ} {r : Outcome} → Comes (x +ℤ y) r → BinaryGives W Add (long x) (long y) r
   difference : {x y : ℤ} {r : Outcome} → Comes (x -ℤ y) r → BinaryGives W Subtract (long x) (long y) r
   product : {x y : ℤ} {r : Outcome} → Comes (x *ℤ y) r → BinaryGives W Multiply (long x) (long y) r
-  no_numbers : {op : Binary} {v w : PlainValue} → TakesNumbers op → (long_in v ≡ None) ⊎ (long_in w ≡ None) → BinaryGives W op v w (Err TypeError)
+  no_numbers : {op : Binary} {v w : PlainValue} → TakesNumbers op → (long_in v ≡ None) ⊎ (long_in w ≡ None)
+      → BinaryGives W op v w (Err TypeError)
   in_entity : {a b : EntityUid} {r : Outcome} → Tells (IsIn W a b) r → BinaryGives W In (entity a) (entity b) r
   in_set : {a : EntityUid} {vs : PlainValues} {r : Outcome} (us : List EntityUid) → list_of vs ≡ map entity us →
       Tells ((u : EntityUid) × Contains us u × IsIn W a u) r → BinaryGives W In (entity a) (set vs) r
-  in_mixed_set : {a : EntityUid} {vs : PlainValues} (v : PlainValue) → Contains (list_of vs) v → entity_in v ≡ None → BinaryGives W In (entity a) (set vs) (Err TypeError)
-  in_other : {a : EntityUid} {w : PlainValue} → entity_in w ≡ None → members_in w ≡ None → BinaryGives W In (entity a) w (Err TypeError)
+  in_mixed_set : {a : EntityUid} {vs : PlainValues} (v : PlainValue) → Contains (list_of vs) v → entity_in v ≡ None
+      → BinaryGives W In (entity a) (set vs) (Err TypeError)
+  in_other : {a : EntityUid} {w : PlainValue} → entity_in w ≡ None → members_in w ≡ None
+      → BinaryGives W In (entity a) w (Err TypeError)
   other_in : {v w : PlainValue} → entity_in v ≡ None → BinaryGives W In v w (Err TypeError)
-  contains : {vs : PlainValues} {w : PlainValue} {r : Outcome} → Tells (Contains (list_of vs) w) r → BinaryGives W ContainsOne (set vs) w r
+  contains : {vs : PlainValues} {w : PlainValue} {r : Outcome} → Tells (Contains (list_of vs) w) r
+      → BinaryGives W ContainsOne (set vs) w r
   other_contains : {v w : PlainValue} → members_in v ≡ None → BinaryGives W ContainsOne v w (Err TypeError)
-  contains_all : {vs ws : PlainValues} {r : Outcome} → Tells ((v : PlainValue) → Contains (list_of ws) v → Contains (list_of vs) v) r →
+  contains_all : {vs ws : PlainValues} {r : Outcome}
+      → Tells ((v : PlainValue) → Contains (list_of ws) v → Contains (list_of vs) v) r →
       BinaryGives W ContainsAll (set vs) (set ws) r
-  contains_any : {vs ws : PlainValues} {r : Outcome} → Tells ((v : PlainValue) × Contains (list_of ws) v × Contains (list_of vs) v) r →
+  contains_any : {vs ws : PlainValues} {r : Outcome}
+      → Tells ((v : PlainValue) × Contains (list_of ws) v × Contains (list_of vs) v) r →
       BinaryGives W ContainsAny (set vs) (set ws) r
-  no_sets : {op : Binary} {v w : PlainValue} → TakesSets op → (members_in v ≡ None) ⊎ (members_in w ≡ None) → BinaryGives W op v w (Err TypeError)
+  no_sets : {op : Binary} {v w : PlainValue} → TakesSets op → (members_in v ≡ None) ⊎ (members_in w ≡ None)
+      → BinaryGives W op v w (Err TypeError)
 
 -- `v.name`
 pub data FieldGives (W : World) (name : List ℕ) : PlainValue → Outcome → Type 0 where
-  field : {fs : PlainFields} {v : PlainValue} → find_field name (pairs_of fs) ≡ Some v → FieldGives W name (record_of fs) (Ok v)
-  no_field : {fs : PlainFields} → find_field name (pairs_of fs) ≡ None → FieldGives W name (record_of fs) (Err AttrDoesNotExist)
-  attribute : {u : EntityUid} {v : PlainValue} (fs : List Field) → W.stored u ≡ Some fs → find_field name fs ≡ Some v → FieldGives W name (entity u) (Ok v)
-  no_attribute : {u : EntityUid} (fs : List Field) → W.stored u ≡ Some fs → find_field name fs ≡ None → FieldGives W name (entity u) (Err AttrDoesNotExist)
+  field : {fs : PlainFields} {v : PlainValue} → find_field name (pairs_of fs) ≡ Some v
+      → FieldGives W name (record_of fs) (Ok v)
+  no_field : {fs : PlainFields} → find_field name (pairs_of fs) ≡ None
+      → FieldGives W name (record_of fs) (Err AttrDoesNotExist)
+  attribute : {u : EntityUid} {v : PlainValue} (fs : List Field) → W.stored u ≡ Some fs → find_field name fs ≡ Some v
+      → FieldGives W name (entity u) (Ok v)
+  no_attribute : {u : EntityUid} (fs : List Field) → W.stored u ≡ Some fs → find_field name fs ≡ None
+      → FieldGives W name (entity u) (Err AttrDoesNotExist)
   not_stored : {u : EntityUid} → W.stored u ≡ None → FieldGives W name (entity u) (Err EntityDoesNotExist)
   field_of_other : {v : PlainValue} → fields_in v ≡ None → entity_in v ≡ None → FieldGives W name v (Err TypeError)
 
 -- `v has name`
 pub data HasGives (W : World) (name : List ℕ) : PlainValue → Outcome → Type 0 where
-  has_field : {fs : PlainFields} {r : Outcome} → Tells (IsSome (find_field name (pairs_of fs))) r → HasGives W name (record_of fs) r
-  has_attribute : {u : EntityUid} {r : Outcome} (fs : List Field) → W.stored u ≡ Some fs → Tells (IsSome (find_field name fs)) r → HasGives W name (entity u) r
+  has_field : {fs : PlainFields} {r : Outcome} → Tells (IsSome (find_field name (pairs_of fs))) r
+      → HasGives W name (record_of fs) r
+  has_attribute : {u : EntityUid} {r : Outcome} (fs : List Field) → W.stored u ≡ Some fs
+      → Tells (IsSome (find_field name fs)) r → HasGives W name (entity u) r
   none_stored : {u : EntityUid} → W.stored u ≡ None → HasGives W name (entity u) (Ok (boolean false))
   has_of_other : {v : PlainValue} → fields_in v ≡ None → entity_in v ≡ None → HasGives W name v (Err TypeError)
 
@@ -115,9 +139,12 @@ pub data UnaryCallGives : UnaryCall → PlainValue → Outcome → Type 0 where
   address_of_other : {v : PlainValue} → text_in v ≡ None → UnaryCallGives Ip v (Err TypeError)
   is_ipv4 : {n : Network} {r : Outcome} → Tells (n.version ≡ V4) r → UnaryCallGives IsIpv4 (ipaddr n) r
   is_ipv6 : {n : Network} {r : Outcome} → Tells (n.version ≡ V6) r → UnaryCallGives IsIpv6 (ipaddr n) r
-  is_loopback : {n : Network} {r : Outcome} → Tells (IsWithin n loopback_v4 ⊎ IsWithin n loopback_v6) r → UnaryCallGives IsLoopback (ipaddr n) r
-  is_multicast : {n : Network} {r : Outcome} → Tells (IsWithin n multicast_v4 ⊎ IsWithin n multicast_v6) r → UnaryCallGives IsMulticast (ipaddr n) r
-  of_no_address : {called : UnaryCall} {v : PlainValue} → TakesAddress called → network_in v ≡ None → UnaryCallGives called v (Err TypeError)
+  is_loopback : {n : Network} {r : Outcome} → Tells (IsWithin n loopback_v4 ⊎ IsWithin n loopback_v6) r
+      → UnaryCallGives IsLoopback (ipaddr n) r
+  is_multicast : {n : Network} {r : Outcome} → Tells (IsWithin n multicast_v4 ⊎ IsWithin n multicast_v6) r
+      → UnaryCallGives IsMulticast (ipaddr n) r
+  of_no_address : {called : UnaryCall} {v : PlainValue} → TakesAddress called → network_in v ≡ None
+      → UnaryCallGives called v (Err TypeError)
 
 -- these take two decimals
 abbrev pub TakesDecimals : BinaryCall → Type 0
@@ -127,10 +154,14 @@ TakesDecimals called = ⊤
 -- a call with two operands
 pub data BinaryCallGives : BinaryCall → PlainValue → PlainValue → Outcome → Type 0 where
   less_than : {x y : ℤ} {r : Outcome} → Tells (x <ℤ y) r → BinaryCallGives LessThan (decimal x) (decimal y) r
-  less_than_or_equal : {x y : ℤ} {r : Outcome} → Tells (x ≤ℤ y) r → BinaryCallGives LessThanOrEqual (decimal x) (decimal y) r
+  less_than_or_equal : {x y : ℤ} {r : Outcome} → Tells (x ≤ℤ y) r
+      → BinaryCallGives LessThanOrEqual (decimal x) (decimal y) r
   greater_than : {x y : ℤ} {r : Outcome} → Tells (y <ℤ x) r → BinaryCallGives GreaterThan (decimal x) (decimal y) r
-  greater_than_or_equal : {x y : ℤ} {r : Outcome} → Tells (y ≤ℤ x) r → BinaryCallGives GreaterThanOrEqual (decimal x) (decimal y) r
+  greater_than_or_equal : {x y : ℤ} {r : Outcome} → Tells (y ≤ℤ x) r
+      → BinaryCallGives GreaterThanOrEqual (decimal x) (decimal y) r
   in_range : {m n : Network} {r : Outcome} → Tells (IsWithin m n) r → BinaryCallGives IsInRange (ipaddr m) (ipaddr n) r
-  no_decimals : {called : BinaryCall} {v w : PlainValue} → TakesDecimals called → (decimal_in v ≡ None) ⊎ (decimal_in w ≡ None) →
+  no_decimals : {called : BinaryCall} {v w : PlainValue} → TakesDecimals called → (decimal_in v ≡ None)
+      ⊎ (decimal_in w ≡ None) →
       BinaryCallGives called v w (Err TypeError)
-  no_addresses : {v w : PlainValue} → (network_in v ≡ None) ⊎ (network_in w ≡ None) → BinaryCallGives IsInRange v w (Err TypeError)
+  no_addresses : {v w : PlainValue} → (network_in v ≡ None) ⊎ (network_in w ≡ None)
+      → BinaryCallGives IsInRange v w (Err TypeError)

@@ -4,7 +4,8 @@ use Rattle.std.specs.Int.{w64}
 use Rattle.extensions.specs.Network.{Network}
 use Rattle.values.specs.declared.entity_uid.EntityUid.{EntityUid}
 use Rattle.values.specs.Fields.{Field}
-use Rattle.values.specs.Values.{PlainValue, boolean, long, text, entity, set, record_of, decimal, ipaddr, list_of, pairs_of}
+use Rattle.values.specs.Values.{PlainValue, boolean, long, text, entity, set, record_of, decimal, ipaddr, list_of}
+use Rattle.values.specs.Values.{pairs_of}
 use Rattle.evaluator.specs.declared.fault.EvalFault.{EvalFault}
 use Rattle.evaluator.specs.declared.fault.EvalFault.TheVariants.{ArithBoundsError}
 
@@ -12,8 +13,8 @@ use Rattle.evaluator.specs.declared.fault.EvalFault.TheVariants.{ArithBoundsErro
 abbrev pub Outcome : Type 0
 Outcome = Result PlainValue EvalFault
 
--- What a value holds if it is of that kind: a boolean, a number, a text, an entity, the members of a set, the fields of a record, a decimal,
--- an address.
+-- What a value holds if it is of that kind: a boolean, a number, a text, an entity, the members of a set, the fields of
+-- a record, a decimal, an address.
 
 abbrev pub boolean_in : PlainValue → Option Bool
 boolean_in (boolean b) = Some b

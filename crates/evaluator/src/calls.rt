@@ -1,14 +1,18 @@
 // What the functions and methods of extensions give on values.
 ghost use Rattle.std.specs.Prelude.{◌≡◌, not, int_lt, int_le};
 ghost use Rattle.extensions.specs.Network.{loopback_v4, loopback_v6, multicast_v4, multicast_v6};
-ghost use Rattle.evaluator.specs.Decided.{told};
-ghost use Rattle.evaluator.specs.TextsDecided.{decimal_text_decided, network_text_decided, in_either_decided, within_decided};
-ghost use Rattle.evaluator.specs.Computing.{decimal_read, network_read, is_v4, apply_unary_call, apply_binary_call};
+ghost use Rattle.evaluator.specs.inner.Decided.{told};
+ghost use Rattle.evaluator.specs.inner.TextsDecided.{decimal_text_decided, network_text_decided, in_either_decided};
+ghost use Rattle.evaluator.specs.inner.TextsDecided.{within_decided};
+ghost use Rattle.evaluator.specs.inner.Computing.{decimal_read, network_read, is_v4, apply_unary_call};
+ghost use Rattle.evaluator.specs.inner.Computing.{apply_binary_call};
 
 use crate::fault::EvalFault;
 use crate::given::Given;
 use crate::operands::{decimal_of, network_of, text_of};
 use expressions::{BinaryCall, UnaryCall};
+use extensions::decimal::one_decimal_a_text;
+use extensions::ip_net::one_network_a_text;
 use extensions::{Decimal, IpNet};
 use values::Value;
 
@@ -16,6 +20,7 @@ use values::Value;
 fn read_decimal(text: &str) -> Result<Value, EvalFault>
     ensures { result ≡ decimal_read (decimal_text_decided text.now) }
 {
+    one_decimal_a_text();
     match Decimal::parse(text) {
         Some(number) => Ok(Value::decimal(number)),
         None => Err(EvalFault::ExtensionError),
@@ -26,6 +31,7 @@ fn read_decimal(text: &str) -> Result<Value, EvalFault>
 fn read_network(text: &str) -> Result<Value, EvalFault>
     ensures { result ≡ network_read (network_text_decided text.now) }
 {
+    one_network_a_text();
     match IpNet::parse(text) {
         Some(network) => Ok(Value::ipaddr(network)),
         None => Err(EvalFault::ExtensionError),

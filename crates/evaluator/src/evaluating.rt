@@ -4,12 +4,15 @@ ghost use Rattle.values.specs.Values.{set, record_of, values_of, fields_of};
 ghost use Rattle.values.specs.Sets.{set_list};
 ghost use Rattle.evaluator.specs.Operators.{world_of};
 ghost use Rattle.evaluator.specs.Evaluation.{AnswersWhatIsGiven, AnswersAllThatIsGiven};
-ghost use Rattle.evaluator.specs.Computing.{entities_of, Answers, meaning, named_meaning, each, each_field, and_then, as_test, apply_unary, apply_binary, apply_unary_call, apply_binary_call, field_of, has_field};
+ghost use Rattle.evaluator.specs.inner.Computing.{entities_of, Answers, meaning, named_meaning, each, each_field};
+ghost use Rattle.evaluator.specs.inner.Computing.{and_then, as_test, apply_unary, apply_binary, apply_unary_call};
+ghost use Rattle.evaluator.specs.inner.Computing.{apply_binary_call, field_of, has_field};
 
 use crate::calls::{binary_call, unary_call};
 use crate::fault::EvalFault;
 use crate::fields::{field, has};
 use crate::given::Given;
+use crate::laws::meanings_are_given;
 use crate::leaves::{literal_of, variable_of};
 use crate::lookup::Lookup;
 use crate::operands::boolean_of;
@@ -21,8 +24,8 @@ use values::{Record, Request, Value};
 
 /// What an expression gives under a request, over the stored entities: its value, or the first error.
 ///
-/// What stands in the expression, the request or the stored entities is borrowed; memory is asked for by sets and records that are written out, by a field of such
-/// a record, and by `in`, which searches the hierarchy.
+/// What stands in the expression, the request or the stored entities is borrowed; memory is asked for by sets and
+/// records that are written out, by a field of such a record, and by `in`, which searches the hierarchy.
 /// Operands are evaluated from the left to the right, the fields of a record in the order in which they are written; `&&`, `||` and `if`
 /// evaluate only what decides. `NoMemory` where an allocation was refused, and only then.
 /// It recurses: its stack grows with the height of the expression, by less than two kilobytes a level.
@@ -34,9 +37,12 @@ pub fn evaluate<'a, L: Lookup>(
     request: &'a Request,
     store: &'a L,
 ) -> Result<Given<'a>, EvalFault>
-    ensures given { AnswersWhatIsGiven (world_of (L.stored store.now) (L.parents store.now)) request.now expr.now result }
-    ensures all { AnswersAllThatIsGiven (world_of (L.stored store.now) (L.parents store.now)) request.now expr.now result }
+    ensures given { AnswersWhatIsGiven (world_of (L.stored store.now) (L.parents store.now)) request.now expr.now
+        result }
+    ensures all { AnswersAllThatIsGiven (world_of (L.stored store.now) (L.parents store.now)) request.now expr.now
+        result }
 {
+    meanings_are_given();
     outcome_of(alloc, expr, request, store)
 }
 
@@ -96,7 +102,8 @@ fn test_of<'a, L: Lookup>(
     request: &'a Request,
     store: &'a L,
 ) -> Result<bool, EvalFault>
-    ensures { Answers result (as_test (meaning request.now (entities_of (L.stored store.now) (L.above store.now)) test.now)) }
+    ensures { Answers result (as_test
+        (meaning request.now (entities_of (L.stored store.now) (L.above store.now)) test.now)) }
 {
     let given = outcome_of(alloc, test.get(), request, store)?;
     boolean_of(&given)
@@ -112,7 +119,9 @@ fn one_operand<'a, L: Lookup>(
     request: &'a Request,
     store: &'a L,
 ) -> Result<Given<'a>, EvalFault>
-    ensures { Answers result (and_then (meaning request.now (entities_of (L.stored store.now) (L.above store.now)) operand.now) (apply_unary operator.now)) }
+    ensures { Answers result (and_then
+        (meaning request.now (entities_of (L.stored store.now) (L.above store.now)) operand.now)
+        (apply_unary operator.now)) }
 {
     let given = outcome_of(alloc, operand.get(), request, store)?;
     Ok(Given::computed(unary(operator, &given)?))
@@ -145,7 +154,9 @@ fn one_called<'a, L: Lookup>(
     request: &'a Request,
     store: &'a L,
 ) -> Result<Given<'a>, EvalFault>
-    ensures { Answers result (and_then (meaning request.now (entities_of (L.stored store.now) (L.above store.now)) operand.now) (apply_unary_call called)) }
+    ensures { Answers result (and_then
+        (meaning request.now (entities_of (L.stored store.now) (L.above store.now)) operand.now)
+        (apply_unary_call called)) }
 {
     let given = outcome_of(alloc, operand.get(), request, store)?;
     Ok(Given::computed(unary_call(called, &given)?))
@@ -178,7 +189,9 @@ fn field_of<'a, L: Lookup>(
     request: &'a Request,
     store: &'a L,
 ) -> Result<Given<'a>, EvalFault>
-    ensures { Answers result (and_then (meaning request.now (entities_of (L.stored store.now) (L.above store.now)) owner.now) (field_of (entities_of (L.stored store.now) (L.above store.now)) name.now)) }
+    ensures { Answers result (and_then
+        (meaning request.now (entities_of (L.stored store.now) (L.above store.now)) owner.now)
+        (field_of (entities_of (L.stored store.now) (L.above store.now)) name.now)) }
 {
     let given = outcome_of(alloc, owner.get(), request, store)?;
     field(alloc, store, &given, name.as_str())
@@ -194,7 +207,9 @@ fn has_of<'a, L: Lookup>(
     request: &'a Request,
     store: &'a L,
 ) -> Result<Given<'a>, EvalFault>
-    ensures { Answers result (and_then (meaning request.now (entities_of (L.stored store.now) (L.above store.now)) owner.now) (has_field (entities_of (L.stored store.now) (L.above store.now)) name.now)) }
+    ensures { Answers result (and_then
+        (meaning request.now (entities_of (L.stored store.now) (L.above store.now)) owner.now)
+        (has_field (entities_of (L.stored store.now) (L.above store.now)) name.now)) }
 {
     let given = outcome_of(alloc, owner.get(), request, store)?;
     Ok(Given::computed(has(store, &given, name.as_str())?))
@@ -209,7 +224,9 @@ fn set_of<'a, L: Lookup>(
     request: &'a Request,
     store: &'a L,
 ) -> Result<Given<'a>, EvalFault>
-    ensures { Answers result (and_then (each (map (meaning request.now (entities_of (L.stored store.now) (L.above store.now))) members.now)) (λ vs. Ok (set (values_of (set_list vs))))) }
+    ensures { Answers result (and_then
+        (each (map (meaning request.now (entities_of (L.stored store.now) (L.above store.now))) members.now))
+        (λ vs. Ok (set (values_of (set_list vs))))) }
 {
     let members = evaluate_each(alloc, members, request, store)?;
     Ok(Given::computed(Value::set(members)?))
@@ -224,7 +241,9 @@ fn record_of<'a, L: Lookup>(
     request: &'a Request,
     store: &'a L,
 ) -> Result<Given<'a>, EvalFault>
-    ensures { Answers result (and_then (each_field (map (named_meaning request.now (entities_of (L.stored store.now) (L.above store.now))) fields.now) []) (λ done. Ok (record_of (fields_of done)))) }
+    ensures { Answers result (and_then
+        (each_field (map (named_meaning request.now (entities_of (L.stored store.now) (L.above store.now))) fields.now)
+        []) (λ done. Ok (record_of (fields_of done)))) }
 {
     let fields = evaluate_fields(alloc, fields, request, store)?;
     Ok(Given::computed(Value::from_record(fields)))
@@ -239,7 +258,8 @@ fn evaluate_each<'a, L: Lookup>(
     request: &'a Request,
     store: &'a L,
 ) -> Result<Vec<Value>, EvalFault>
-    ensures { let m = each (map (meaning request.now (entities_of (L.stored store.now) (L.above store.now))) exprs.now) in
+    ensures { let m = each (map (meaning request.now (entities_of (L.stored store.now) (L.above store.now))) exprs.now)
+        in
         MatchResult result (λ vs. m ≡ Ok vs.items) (λ e. e ≢ EvalFault.NoMemory → m ≡ Err e) }
 {
     let mut values = Vec::with_capacity(alloc, exprs.len())?;
@@ -259,7 +279,8 @@ fn evaluate_fields<'a, L: Lookup>(
     request: &'a Request,
     store: &'a L,
 ) -> Result<Record, EvalFault>
-    ensures { Answers result (each_field (map (named_meaning request.now (entities_of (L.stored store.now) (L.above store.now))) fields.now) []) }
+    ensures { Answers result (each_field
+        (map (named_meaning request.now (entities_of (L.stored store.now) (L.above store.now))) fields.now) []) }
 {
     let mut record = Record::new(alloc);
     for field in fields.as_slice() {

@@ -1,7 +1,7 @@
 // The fields of records and the attributes of entities.
 ghost use Rattle.std.specs.Prelude.{◌≡◌, option_map};
 ghost use Rattle.evaluator.specs.Borrowed.{of_borrowed};
-ghost use Rattle.evaluator.specs.Computing.{entities_of, Answers, found_or, attribute, field_of, has_field};
+ghost use Rattle.evaluator.specs.inner.Computing.{entities_of, Answers, found_or, attribute, field_of, has_field};
 
 use crate::fault::EvalFault;
 use crate::given::{Given, Origin};
@@ -51,7 +51,8 @@ fn field_of_borrowed<'a, L: Lookup>(
     owner: BorrowedKind<'a>,
     name: &str,
 ) -> Result<Given<'a>, EvalFault>
-    ensures { result ≡ field_of (entities_of (L.stored store.now) (L.above store.now)) name.now (of_borrowed owner.entry) }
+    ensures { result ≡ field_of (entities_of (L.stored store.now) (L.above store.now)) name.now
+        (of_borrowed owner.entry) }
 {
     match owner {
         BorrowedKind::Record(fields) => found(fields.field(name)),

@@ -11,7 +11,8 @@ use std::cmp::Ordering;
 use std::marker::Model;
 use values::Value;
 
-/// What an expression gives: a value, borrowed where it stands in the expression, the request or the stored entities. Contracts see the value.
+/// What an expression gives: a value, borrowed where it stands in the expression, the request or the stored entities.
+/// Contracts see the value.
 #[derive(Drop)]
 pub struct Given<'a> {
     pub(crate) origin: Origin<'a>,

@@ -1,7 +1,7 @@
 // What of a value is asked for: what it holds, if it is of that kind.
 ghost use Rattle.std.specs.Prelude.{◌≡◌, MatchResult, Ok, Err};
 ghost use Rattle.evaluator.specs.Outcomes.{boolean_in, long_in, text_in, entity_in, members_in, decimal_in, network_in};
-ghost use Rattle.evaluator.specs.Computing.{demanded};
+ghost use Rattle.evaluator.specs.inner.Computing.{demanded};
 
 use crate::fault::EvalFault;
 use crate::given::Given;
@@ -32,7 +32,8 @@ pub(crate) fn long_of(given: &Given<'_>) -> Result<i64, EvalFault>
 
 /// The value as a text.
 pub(crate) fn text_of<'g>(given: &'g Given<'_>) -> Result<&'g Text, EvalFault>
-    ensures { MatchResult result (λ t. demanded (text_in given.now) ≡ Ok t.now) (λ e. demanded (text_in given.now) ≡ Err e) }
+    ensures { MatchResult result (λ t. demanded (text_in given.now) ≡ Ok t.now)
+        (λ e. demanded (text_in given.now) ≡ Err e) }
 {
     match given.kind() {
         BorrowedKind::Text(content) => Ok(content),
@@ -42,7 +43,8 @@ pub(crate) fn text_of<'g>(given: &'g Given<'_>) -> Result<&'g Text, EvalFault>
 
 /// The value as an entity.
 pub(crate) fn entity_of<'g>(given: &'g Given<'_>) -> Result<&'g EntityUid, EvalFault>
-    ensures { MatchResult result (λ u. demanded (entity_in given.now) ≡ Ok u.now) (λ e. demanded (entity_in given.now) ≡ Err e) }
+    ensures { MatchResult result (λ u. demanded (entity_in given.now) ≡ Ok u.now)
+        (λ e. demanded (entity_in given.now) ≡ Err e) }
 {
     match given.kind() {
         BorrowedKind::Entity(uid) => Ok(uid),
@@ -53,7 +55,8 @@ pub(crate) fn entity_of<'g>(given: &'g Given<'_>) -> Result<&'g EntityUid, EvalF
 /// The value as a set.
 #[tactic(auto, using(crate::proofs::Conversions::conversions))]
 pub(crate) fn set_of<'g>(given: &'g Given<'_>) -> Result<&'g Set, EvalFault>
-    ensures { MatchResult result (λ s. demanded (members_in given.now) ≡ Ok s.now) (λ e. demanded (members_in given.now) ≡ Err e) }
+    ensures { MatchResult result (λ s. demanded (members_in given.now) ≡ Ok s.now)
+        (λ e. demanded (members_in given.now) ≡ Err e) }
 {
     match given.kind() {
         BorrowedKind::Set(members) => Ok(members),

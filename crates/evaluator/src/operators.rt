@@ -4,7 +4,8 @@ ghost use Rattle.values.specs.ValueOrder.{value_cmp};
 ghost use Rattle.values.specs.Sets.{has_member};
 ghost use Rattle.ancestor_closure.specs.Hierarchy.{IsAscending, names};
 ghost use Rattle.evaluator.specs.Outcomes.{entity_in};
-ghost use Rattle.evaluator.specs.Computing.{entities_of, demanded, Answers, number_or_fault, apply_unary, apply_binary, is_in, in_members, in_value};
+ghost use Rattle.evaluator.specs.inner.Computing.{entities_of, demanded, Answers, number_or_fault, apply_unary};
+ghost use Rattle.evaluator.specs.inner.Computing.{apply_binary, is_in, in_members, in_value};
 
 use crate::fault::EvalFault;
 use crate::given::Given;
@@ -15,7 +16,7 @@ use ancestor_closure::is_among;
 use expressions::{Binary, Unary};
 use plain::NoMemory;
 use std::cmp::Ordering;
-use values::{EntityUid, Kind, Set, Value};
+use values::{EntityUid, Kind, Set, Value, sets_hold_their_members};
 
 /// What an operator gives on a value.
 pub(crate) fn unary(operator: &Unary, given: &Given<'_>) -> Result<Value, EvalFault>
@@ -53,7 +54,8 @@ fn is_in<L: Lookup>(store: &L, a: &EntityUid, b: &EntityUid) -> Result<bool, NoM
 
 /// A member of a set as an entity.
 fn member_entity(member: &Value) -> Result<&EntityUid, EvalFault>
-    ensures { MatchResult result (λ u. demanded (entity_in member.now) ≡ Ok u.now) (λ e. demanded (entity_in member.now) ≡ Err e) }
+    ensures { MatchResult result (λ u. demanded (entity_in member.now) ≡ Ok u.now)
+        (λ e. demanded (entity_in member.now) ≡ Err e) }
 {
     match member.kind() {
         Kind::Entity(uid) => Ok(uid),
@@ -107,6 +109,7 @@ fn compare_member(member: &Value, given: &Given<'_>) -> Ordering
 fn is_member(members: &Set, given: &Given<'_>) -> bool
     ensures { result ≡ has_member members.now given.now }
 {
+    sets_hold_their_members();
     members
         .members()
         .binary_search_by(|member| compare_member(member, given))

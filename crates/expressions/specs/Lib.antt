@@ -1,4 +1,4 @@
-pub mod Forms
 pub mod Like
 pub mod LikeTest
 pub mod Size
+pub mod inner

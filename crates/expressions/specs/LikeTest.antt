@@ -39,9 +39,15 @@ pub joined_from_joins : (es : List Element) (text : List ℕ) → Joins es text 
 joined_from_joins [] text h = record { pieces = []; stand = tt; joined = h }
 joined_from_joins (e ∷ es) text h =
     let more = joined_from_joins es h.1 h.4 in
-    record { pieces = h.0 ∷ more.pieces; stand = (h.3, more.stand); joined = h.2 ∙ ap (λ (rest : List ℕ). h.0 ++ rest) more.joined }
+    record {
+      pieces = h.0 ∷ more.pieces;
+      stand = (h.3, more.stand);
+      joined =
+          h.2 ∙ ap (λ (rest : List ℕ). h.0 ++ rest) more.joined;
+    }
 
-joins_pieces : (es : List Element) (pieces : List (List ℕ)) (text : List ℕ) → AllZip IsPieceOf es pieces → text ≡ concat pieces → Joins es text
+joins_pieces : (es : List Element) (pieces : List (List ℕ)) (text : List ℕ) → AllZip IsPieceOf es pieces
+    → text ≡ concat pieces → Joins es text
 joins_pieces [] [] text h e = e
 joins_pieces [] (p ∷ ps) text h e = absurd h
 joins_pieces (x ∷ xs) [] text h e = absurd h
@@ -77,11 +83,13 @@ found_cut test (c ∷ cs) e =
           (c ∷ cut.0, cut.1, ap (λ (xs : List ℕ). c ∷ xs) cut.2, cut.3)
     ]
 
-passes_cut : (test : List ℕ → List ℕ → Bool) (piece rest : List ℕ) → test piece rest ≡ true → some_cut test (piece ++ rest) ≡ true
+passes_cut : (test : List ℕ → List ℕ → Bool) (piece rest : List ℕ) → test piece rest ≡ true
+    → some_cut test (piece ++ rest) ≡ true
 passes_cut test [] [] e = e
 passes_cut test [] (c ∷ cs) e = or_left (test [] (c ∷ cs)) (some_cut (λ piece rest. test (c ∷ piece) rest) cs) e
 passes_cut test (c ∷ cs) rest e =
-    or_right (test [] (c ∷ (cs ++ rest))) (some_cut (λ piece rest. test (c ∷ piece) rest) (cs ++ rest)) (passes_cut (λ piece rest. test (c ∷ piece) rest) cs rest e)
+    or_right (test [] (c ∷ (cs ++ rest))) (some_cut (λ piece rest. test (c ∷ piece) rest) (cs ++ rest))
+    (passes_cut (λ piece rest. test (c ∷ piece) rest) cs rest e)
 
 piece_decided : (e : Element) (piece : List ℕ) → Decides (is_piece_of e piece) (IsPieceOf e piece)
 piece_decided (literal text) piece = bytes_eq-Decides piece text
@@ -103,7 +111,8 @@ test_from_joins (x ∷ xs) text h =
     (and_from (is_piece_of x h.0) (is_joined xs h.1) ((piece_decided x h.0).1 h.3) (test_from_joins xs h.1 h.4)))
 
 -- The test is true exactly of the texts that match.
-pub is_match-Decides : (pattern : List (List ℕ)) (text : List ℕ) → Decides (is_match pattern text) (Matches pattern text)
+pub is_match-Decides : (pattern : List (List ℕ)) (text : List ℕ)
+    → Decides (is_match pattern text) (Matches pattern text)
 is_match-Decides pattern text = (
   λ e. joined_from_joins (elements pattern) text (joins_from_test (elements pattern) text e),
   λ h. test_from_joins (elements pattern) text (joins_from_joined (elements pattern) text h),
@@ -125,10 +134,12 @@ WildcardMatchesAll = (text : List ℕ) → IsUtf8 text → Matches ([] ∷ [] �
 
 pub literal_alone : LiteralsMatchThemselves
 literal_alone run text = (
-  λ m. let h = joins_from_joined (literal run ∷ []) text m in h.2 ∙ ap (λ (xs : List ℕ). h.0 ++ xs) h.4 ∙ append-nil h.0 ∙ h.3,
+  λ m. let h = joins_from_joined (literal run ∷ []) text m in h.2 ∙ ap (λ (xs : List ℕ). h.0 ++ xs) h.4
+      ∙ append-nil h.0 ∙ h.3,
   λ e. joined_from_joins (literal run ∷ []) text (text, [], sym (append-nil text), e, refl),
 )
 
 pub any_text : WildcardMatchesAll
 any_text text u =
-    joined_from_joins (literal [] ∷ star ∷ literal [] ∷ []) text ([], text, refl, refl, (text, [], sym (append-nil text), u, ([], [], refl, refl, refl)))
+    joined_from_joins (literal [] ∷ star ∷ literal [] ∷ []) text
+    ([], text, refl, refl, (text, [], sym (append-nil text), u, ([], [], refl, refl, refl)))

@@ -116,15 +116,16 @@ impl Expr {
         Expr::unary(alloc, Unary::Not, less)
     }
 
-    /// `operand is type_name in ancestor`, which is `operand is type_name && operand in ancestor`, or `NoMemory`. The operand, which stands
-    /// twice in it, is kept once.
+    /// `operand is type_name in ancestor`, which is `operand is type_name && operand in ancestor`, or `NoMemory`. The
+    /// operand, which stands twice in it, is kept once.
     pub fn is_in(
         alloc: Global,
         operand: Expr,
         type_name: TypeName,
         ancestor: Expr,
     ) -> Result<Expr, NoMemory>
-        ensures { IfOk result (λ expr. expr ≡ Expr.And (Expr.Unary (Unary.Is type_name) operand) (Expr.Binary Binary.In operand ancestor)) }
+        ensures { IfOk result (λ expr. expr ≡ Expr.And (Expr.Unary (Unary.Is type_name) operand)
+            (Expr.Binary Binary.In operand ancestor)) }
     {
         let (tested, operand, ancestor) = twice(alloc, operand, ancestor)?;
         let is = Expr::Unary(Unary::Is(type_name), tested);

@@ -12,8 +12,8 @@ pub struct Named<T> {
     pub value: T,
 }
 
-/// A core expression: the forms that are left once the others are rewritten (`a != b` is `!(a == b)`, `a > b` is `!(a <= b)`, `a >= b` is
-/// `!(a < b)`, `a is T in b` is `a is T && a in b`, `a["f"]` is `a.f`).
+/// A core expression: the forms that are left once the others are rewritten (`a != b` is `!(a == b)`, `a > b` is `!(a
+/// <= b)`, `a >= b` is `!(a < b)`, `a is T in b` is `a is T && a in b`, `a["f"]` is `a.f`).
 ///
 /// A call is one form in two variants, so that each call has the count of operands that its function or method wants.
 ///

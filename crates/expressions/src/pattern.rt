@@ -6,8 +6,8 @@ ghost use Rattle.expressions.specs.LikeTest.{Joins, is_match};
 use plain::{Items, Text};
 use std::marker::Model;
 
-/// A pattern of `like`: literal texts with a wildcard between each two. Contracts see the list of the literal texts, one more than there
-/// are wildcards; so each pattern has one form.
+/// A pattern of `like`: literal texts with a wildcard between each two. Contracts see the list of the literal texts,
+/// one more than there are wildcards; so each pattern has one form.
 ///
 /// Source: Cedar reference guide, "Operators: like".
 #[derive(Drop)]
@@ -40,8 +40,9 @@ impl Pattern {
         }
     }
 
-    /// Whether the text is a joining of pieces, one for each element of the pattern in order: a literal text's piece equals it, a wildcard's is
-    /// any text. Takes no memory, and time of at most the length of the pattern by that of the text.
+    /// Whether the text is a joining of pieces, one for each element of the pattern in order: a literal text's piece
+    /// equals it, a wildcard's is any text. Takes no memory, and time of at most the length of the pattern by that of
+    /// the text.
     pub fn matches(&self, text: &str) -> bool
         ensures like { IsTrue result ↔ Matches self.now text.now }
         ensures test { result ≡ is_match self.now text.now }
@@ -65,8 +66,8 @@ fn first_matches(first: &Text, middle: &[Text], last: &Text, text: &str) -> bool
 
 /// Whether the text matches a wildcard before each of the literals, the last of which ends it.
 ///
-/// Each literal but the last is taken where it stands first: what is left is then longest, and the next wildcard may take what an earlier
-/// place would have left over. So no choice is ever taken back.
+/// Each literal but the last is taken where it stands first: what is left is then longest, and the next wildcard may
+/// take what an earlier place would have left over. So no choice is ever taken back.
 fn others_match(middle: &[Text], last: &str, text: &str) -> bool
     ensures { IsTrue result ↔ Joins (behind_stars (middle.now ++ last.now ∷ [])) text.now }
 {

@@ -1,11 +1,12 @@
 -- The texts of IP addresses, each beside the address as a number.
--- Sources: Cedar reference guide 4.0, "Supported data types" (ipaddr) and the function `ip`; RFC 4291, section 2.2, forms 1 and 2, for
--- IPv6. Form 3, an IPv4 address in an IPv6 text, is refused: a rule of this product.
+-- Sources: Cedar reference guide 4.0, "Supported data types" (ipaddr) and the function `ip`; RFC 4291, section 2.2,
+-- forms 1 and 2, for IPv6. Form 3, an IPv4 address in an IPv6 text, is refused: a rule of this product.
 use Rattle.std.specs.Prelude.{◌≡◌, ℕ, ◌+◌, ◌-◌, ◌*◌, ◌^◌, ◌<◌, ◌≤◌, ◌⊎◌, List, [], ◌∷◌, ◌++◌, length, replicate, codes}
 use Rattle.std.specs.Fmt.{decimal}
 use Rattle.std.specs.Str.Parse.{IsNumeral, digits_value}
 
--- Four numbers from 0 to 255, in decimal digits without leading zeros, with a dot between each two. The first is the highest.
+-- Four numbers from 0 to 255, in decimal digits without leading zeros, with a dot between each two. The first is the
+-- highest.
 pub record IsIpv4Text (text : List ℕ) (n : ℕ) : Type 0 where
   pub a : ℕ
   pub b : ℕ

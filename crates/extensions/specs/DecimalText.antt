@@ -1,12 +1,14 @@
 -- The texts of decimals, each beside its number of ten-thousandths, and the canonical texts.
--- Source: Cedar reference guide 4.0, the data type decimal and the function `decimal`. The canonical text is a rule of this product.
-use Rattle.std.specs.Prelude.{◌≡◌, ℕ, suc, ℤ, pos, negsuc, ◌*◌, ◌/◌, ◌%◌, ◌^◌, ◌≤◌, List, ◌++◌, length, codes, FitsSigned, neg_ℤ}
+-- Source: Cedar reference guide 4.0, the data type decimal and the function `decimal`. The canonical text is a rule of
+-- this product.
+use Rattle.std.specs.Prelude.{◌≡◌, ℕ, suc, ℤ, pos, negsuc, ◌*◌, ◌/◌, ◌%◌, ◌^◌, ◌≤◌, List, ◌++◌, length, codes}
+use Rattle.std.specs.Prelude.{FitsSigned, neg_ℤ}
 use Rattle.std.specs.Int.{w64}
 use Rattle.std.specs.Str.Parse.{IsNumeral, digits_value}
 use Rattle.std.specs.Fmt.{decimal}
 
--- One digit or more, a point, and one to four digits. They write the number of all the digits, divided by ten for each digit behind
--- the point. That is n ten-thousandths.
+-- One digit or more, a point, and one to four digits. They write the number of all the digits, divided by ten for each
+-- digit behind the point. That is n ten-thousandths.
 pub record IsUnsignedText (text : List ℕ) (n : ℕ) : Type 0 where
   pub whole : List ℕ
   pub fraction : List ℕ
@@ -27,7 +29,8 @@ IsDecimalText text z = IsSignedText text z × FitsSigned w64 z
 
 -- n ten-thousandths: the whole number, a point, and the four digits behind it
 abbrev pub size_text : ℕ → List ℕ
-size_text n = decimal (n / 10000) ++ codes "." ++ decimal (n / 1000 % 10) ++ decimal (n / 100 % 10) ++ decimal (n / 10 % 10) ++ decimal (n % 10)
+size_text n = decimal (n / 10000) ++ codes "." ++ decimal (n / 1000 % 10) ++ decimal (n / 100 % 10)
+    ++ decimal (n / 10 % 10) ++ decimal (n % 10)
 
 -- The canonical text: exactly four digits behind the point, no needless leading zeros, and no `-` on zero.
 abbrev pub decimal_text : ℤ → List ℕ

@@ -3,4 +3,4 @@ pub mod DecimalText
 pub mod Network
 pub mod NetworkText
 pub mod Order
-pub mod Places
+pub mod inner

@@ -1,7 +1,7 @@
 -- IP addresses with a prefix, and their ranges, by numbers.
--- Sources: RFC 4632, section 3.1, and RFC 4291, section 2.3, for the prefix; Cedar reference guide 4.0, the functions `isInRange`,
--- `isLoopback` and `isMulticast`; RFC 1122, section 3.2.1.3, RFC 5771 and RFC 4291, sections 2.5.3 and 2.7, for the four ranges.
--- That loopback and multicast ask for the whole range is a rule of this product.
+-- Sources: RFC 4632, section 3.1, and RFC 4291, section 2.3, for the prefix; Cedar reference guide 4.0, the functions
+-- `isInRange`, `isLoopback` and `isMulticast`; RFC 1122, section 3.2.1.3, RFC 5771 and RFC 4291, sections 2.5.3 and
+-- 2.7, for the four ranges. That loopback and multicast ask for the whole range is a rule of this product.
 use Rattle.std.specs.Prelude.{◌≡◌, ℕ, ◌+◌, ◌-◌, ◌*◌, ◌/◌, ◌^◌, ◌<◌, ◌≤◌}
 use Rattle.extensions.specs.declared.ip_net.Version.{Version}
 use Rattle.extensions.specs.declared.ip_net.Version.TheVariants.{V4, V6}

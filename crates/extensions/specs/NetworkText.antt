@@ -1,6 +1,7 @@
 -- The texts of IP addresses with a prefix, each beside what it writes, and the canonical texts.
--- Source: Cedar reference guide 4.0, the function `ip`; RFC 4632, section 3.1, and RFC 4291, section 2.3, for the prefix. That a
--- canonical text always has the prefix, and that an IPv6 one has all eight groups, are rules of this product.
+-- Source: Cedar reference guide 4.0, the function `ip`; RFC 4632, section 3.1, and RFC 4291, section 2.3, for the
+-- prefix. That a canonical text always has the prefix, and that an IPv6 one has all eight groups, are rules of this
+-- product.
 use Rattle.std.specs.Prelude.{◌≡◌, ℕ, ◌≤◌, ◌/◌, ◌%◌, ◌^◌, false, ◌⊎◌, List, [], ◌++◌, codes}
 use Rattle.std.specs.Fmt.{decimal, digits}
 use Rattle.extensions.specs.declared.ip_net.Version.{Version}
@@ -15,7 +16,8 @@ IsAddressText V6 text n = IsIpv6Text text n
 
 -- nothing, for all bits, or `/` and a decimal number without leading zeros
 abbrev pub IsPrefixText : ℕ → List ℕ → ℕ → Type 0
-IsPrefixText bits text prefix = ((text ≡ []) × (prefix ≡ bits)) ⊎ ((text ≡ codes "/" ++ decimal prefix) × (prefix ≤ bits))
+IsPrefixText bits text prefix = ((text ≡ []) × (prefix ≡ bits))
+    ⊎ ((text ≡ codes "/" ++ decimal prefix) × (prefix ≤ bits))
 
 -- an address and its prefix
 pub record IsNetworkText (text : List ℕ) (n : Network) : Type 0 where
@@ -28,7 +30,8 @@ pub record IsNetworkText (text : List ℕ) (n : Network) : Type 0 where
 -- four decimal numbers, the highest first
 abbrev pub ipv4_text : ℕ → List ℕ
 ipv4_text n =
-    decimal (n / 2 ^ 24 % 256) ++ codes "." ++ decimal (n / 2 ^ 16 % 256) ++ codes "." ++ decimal (n / 2 ^ 8 % 256) ++ codes "."
+    decimal (n / 2 ^ 24 % 256) ++ codes "." ++ decimal (n / 2 ^ 16 % 256) ++ codes "." ++ decimal (n / 2 ^ 8 % 256)
+    ++ codes "."
     ++ decimal (n % 256)
 
 -- four groups in lower case hexadecimal digits, the highest first

@@ -1,5 +1,5 @@
--- The order of addresses with a prefix: by version, IPv4 first, then by the address as it was written, then by the prefix.
--- That the address is compared unmasked is a rule of this product.
+-- The order of addresses with a prefix: by version, IPv4 first, then by the address as it was written, then by the
+-- prefix. That the address is compared unmasked is a rule of this product.
 use Rattle.std.specs.Prelude.{◌≡◌, ℕ, ◌==◌, if◌then◌else◌, refl}
 use Rattle.std.specs.declared.cmp.Ordering.{Ordering}
 use Rattle.std.specs.declared.cmp.Ordering.TheVariants.{Less, Equal, Greater}
@@ -19,7 +19,8 @@ version_number V4 = 4
 version_number V6 = 6
 
 abbrev pub network_cmp : Network → Network → Ordering
-network_cmp = then_cmp (on (λ n. version_number n.version) nat_cmp) (then_cmp (on (λ n. n.address) nat_cmp) (on (λ n. n.prefix) nat_cmp))
+network_cmp = then_cmp (on (λ n. version_number n.version) nat_cmp)
+    (then_cmp (on (λ n. n.address) nat_cmp) (on (λ n. n.prefix) nat_cmp))
 
 -- it is total,
 pub network_cmp_total : IsTotalOrder network_cmp
@@ -67,7 +68,9 @@ abbrev pub network_of : ℕ × (ℕ × ℕ) → Network
 network_of k = record { version = version_of k.0; address = k.1.0; prefix = k.1.1 }
 
 pub network_of-network_numbers : (n : Network) → network_of (network_numbers n) ≡ n
-network_of-network_numbers n = λ i. record { version = version_back n.version i; address = n.address; prefix = n.prefix }
+network_of-network_numbers n =
+    λ i. record { version = version_back n.version i; address = n.address; prefix = n.prefix }
 
 abbrev pub network_code : Coded Network
-network_code = code_by (ℕ × (ℕ × ℕ)) (coded× coded_ℕ (coded× coded_ℕ coded_ℕ)) network_numbers network_of network_of-network_numbers
+network_code = code_by (ℕ × (ℕ × ℕ)) (coded× coded_ℕ (coded× coded_ℕ coded_ℕ)) network_numbers network_of
+    network_of-network_numbers

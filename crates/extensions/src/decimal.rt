@@ -1,5 +1,7 @@
 //! Decimals with four places.
-ghost use Rattle.std.specs.Prelude.{◌≡◌, ℕ, ℤ, pos, ◌<◌, ◌≤◌, ◌<ℤ◌, ◌≤ℤ◌, ◌↔◌, IsTrue, IsNone, IfSome, SomeIff, ◌^◌, ◌*◌, ◌-◌, ◌+◌, length, FitsSigned, neg_ℤ, OnOk, OnErr, string_bytes, string_len, string_capacity, ◌++◌, List, Some, refl};
+ghost use Rattle.std.specs.Prelude.{◌≡◌, ℕ, ℤ, pos, ◌<◌, ◌≤◌, ◌<ℤ◌, ◌≤ℤ◌, ◌↔◌, IsTrue, IsNone, IfSome, SomeIff, ◌^◌};
+ghost use Rattle.std.specs.Prelude.{◌*◌, ◌-◌, ◌+◌, length, FitsSigned, neg_ℤ, OnOk, OnErr, string_bytes, string_len};
+ghost use Rattle.std.specs.Prelude.{string_capacity, ◌++◌, List, Some, refl};
 ghost use Rattle.std.specs.Int.{w64};
 ghost use Rattle.std.specs.Ordering.{is_eq, int_cmp};
 ghost use Rattle.std.specs.Cmp.{partial_equiv_from_equiv, partial_order_from_agreeing_total, int_cmp_total};
@@ -168,7 +170,8 @@ fn positive(size: u64) -> Option<i64>
 
 /// The ten-thousandths that one to four digits behind the point write.
 fn ten_thousandths(fraction: &str) -> Option<u64>
-    ensures { SomeIff result (IsNumeral 10 fraction.now × (length fraction.now ≤ 4)) (digits_value 10 fraction.now * 10 ^ (4 - length fraction.now)) }
+    ensures { SomeIff result (IsNumeral 10 fraction.now × (length fraction.now ≤ 4))
+        (digits_value 10 fraction.now * 10 ^ (4 - length fraction.now)) }
 {
     let places = fraction.len();
     if places > 4 {

@@ -1,5 +1,7 @@
 //! IP addresses with a prefix.
-ghost use Rattle.std.specs.Prelude.{◌≡◌, ℕ, ◌+◌, ◌-◌, ◌*◌, ◌/◌, ◌^◌, ◌<◌, ◌≤◌, ◌↔◌, ◌++◌, ◌⊎◌, List, length, slice_index, IsTrue, IsNone, IfSome, OnOk, OnErr, string_bytes, string_len, string_capacity, Some, refl};
+ghost use Rattle.std.specs.Prelude.{◌≡◌, ℕ, ◌+◌, ◌-◌, ◌*◌, ◌/◌, ◌^◌, ◌<◌, ◌≤◌, ◌↔◌, ◌++◌, ◌⊎◌, List, length};
+ghost use Rattle.std.specs.Prelude.{slice_index, IsTrue, IsNone, IfSome, OnOk, OnErr, string_bytes, string_len};
+ghost use Rattle.std.specs.Prelude.{string_capacity, Some, refl};
 ghost use Rattle.std.specs.Fmt.{decimal};
 ghost use Rattle.extensions.specs.declared.ip_net.Version.{Version};
 ghost use Rattle.extensions.specs.declared.ip_net.Version.TheVariants.{V4, V6};
@@ -7,7 +9,8 @@ ghost use Rattle.extensions.specs.Network.{width, Network, IsNetwork, size, leas
 ghost use Rattle.std.specs.Cmp.{IsTotalOrder};
 ghost use Rattle.std.specs.declared.cmp.Ordering.TheVariants.{Equal};
 ghost use Rattle.extensions.specs.Order.{network_cmp};
-ghost use Rattle.extensions.specs.NetworkText.{IsNetworkText, network_text, IsAddressText, ipv4_text, ipv6_text, groups_text};
+ghost use Rattle.extensions.specs.NetworkText.{IsNetworkText, network_text, IsAddressText, ipv4_text, ipv6_text};
+ghost use Rattle.extensions.specs.NetworkText.{groups_text};
 
 use crate::NoMemory;
 use crate::pieces::{append, append_byte, append_group};
@@ -158,7 +161,8 @@ impl Ord for IpNet {
 }
 
 impl IpNet {
-    ghost use Rattle.extensions.specs.Network.{Network, IsNetwork, width, size, least, greatest, IsWithin, loopback_v4, loopback_v6, multicast_v4, multicast_v6};
+    ghost use Rattle.extensions.specs.Network.{Network, IsNetwork, width, size, least, greatest, IsWithin, loopback_v4};
+    ghost use Rattle.extensions.specs.Network.{loopback_v6, multicast_v4, multicast_v6};
     ghost use Rattle.extensions.specs.NetworkText.{IsNetworkText, network_text};
     ghost use Rattle.extensions.specs.declared.ip_net.Version.TheVariants.{V4, V6};
 

@@ -25,3 +25,8 @@ Fails memory e read = (e ≡ memory → ⊥) → read ≡ Err e
 abbrev pub Gives : {X Y F : Type 0} → F → (X → Y) → Result X F → Result Y F → Type 0
 Gives memory view (Ok x) read = read ≡ Ok (view x)
 Gives memory view (Err e) read = Fails memory e read
+
+-- What a function that takes no memory returned is just what reading gives, the value as `view` shows it.
+abbrev pub GivesAlways : {X Y F : Type 0} → (X → Y) → Result X F → Result Y F → Type 0
+GivesAlways view (Ok x) read = read ≡ Ok (view x)
+GivesAlways view (Err e) read = read ≡ Err e

@@ -43,7 +43,8 @@ pub fn read_json(alloc: Global, bytes: &[u8]) -> Result<Option<Value>, NoMemory>
 /// What is written for a float is not said here, but that it reads back.
 pub fn write_json(alloc: Global, value: &Value) -> Result<Vec<u8>, NoMemory>
     ensures text { IfOk result (λ b. has_float (view value.now) ≡ false → b.items ≡ compact_text (view value.now)) }
-    ensures reads_back { IfOk result (λ b. depth (view value.now) ≤ max_depth → json_of b.items ≡ Some (view value.now)) }
+    ensures reads_back { IfOk result
+        (λ b. depth (view value.now) ≤ max_depth → json_of b.items ≡ Some (view value.now)) }
 {
     value.to_vec(alloc)
 }

@@ -25,7 +25,8 @@ IsWord (c ∷ cs) = (is_letter c ≡ true) × AllAre is_word_byte cs
 
 -- the words that are no identifier
 abbrev pub reserved_words : List (List ℕ)
-reserved_words = codes "true" ∷ codes "false" ∷ codes "if" ∷ codes "then" ∷ codes "else" ∷ codes "in" ∷ codes "is" ∷ codes "like"
+reserved_words = codes "true" ∷ codes "false" ∷ codes "if" ∷ codes "then" ∷ codes "else" ∷ codes "in" ∷ codes "is" ∷
+    codes "like"
     ∷ codes "has" ∷ codes "__cedar" ∷ []
 
 abbrev pub IsReserved : List ℕ → Type 0

@@ -35,7 +35,9 @@ pub body_cmp_total : IsTotalOrder body_cmp
 body_cmp_total = record { antisymm = body_antisymm; trans = body_trans; congr = body_congr }
 
 pub entry_cmp_total : IsTotalOrder entry_cmp
-entry_cmp_total = then_total (then_total (on_total (λ p. p.count) nat_cmp_total) (on_total (λ p. p.site) nat_cmp_total)) (on_total (λ p. p.body) body_cmp_total)
+entry_cmp_total = then_total
+    (then_total (on_total (λ p. p.count) nat_cmp_total) (on_total (λ p. p.site) nat_cmp_total))
+    (on_total (λ p. p.body) body_cmp_total)
 
 not_gt : (r : Ordering) → is_le r ≡ true → is_gt r ≡ false
 not_gt Less h = refl
@@ -64,7 +66,8 @@ module _ {V K : Type 0} (R : K → K → Ordering) (o : IsTotalOrder R) (f : V �
   le_itself a = ap is_le (tied_itself o (f a))
 
   le_trans : (a b c : V) → le_by a b ≡ true → le_by b c ≡ true → le_by a c ≡ true
-  le_trans a b c h k = le_of_not_gt (R (f a) (f c)) (upto o (f a) (f b) (f c) (not_gt (R (f a) (f b)) h) (not_gt (R (f b) (f c)) k))
+  le_trans a b c h k = le_of_not_gt (R (f a) (f c))
+      (upto o (f a) (f b) (f c) (not_gt (R (f a) (f b)) h) (not_gt (R (f b) (f c)) k))
 
   turned : (a b : V) → le_by b a ≡ false → le_by a b ≡ true
   turned a b h = ap is_le (o.antisymm (f a) (f b)) ∙ le_of_reversed (R (f b) (f a)) h

@@ -1,5 +1,5 @@
--- Entries as their stamp and body alone, and their order. A rule of this product: entries are ordered by count, then site,
--- then body; nothing (a tombstone) is the least body; texts are ordered by their bytes.
+-- Entries as their stamp and body alone, and their order. A rule of this product: entries are ordered by count, then
+-- site, then body; nothing (a tombstone) is the least body; texts are ordered by their bytes.
 use Rattle.std.specs.Prelude.{ℕ, List, Bool, Option, Some, None, if◌then◌else◌}
 use Rattle.std.specs.Ordering.{nat_cmp, ordering_then, is_le}
 use Rattle.std.specs.Cmp.Lexicographic.{slice_cmp}

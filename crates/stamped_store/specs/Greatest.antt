@@ -35,4 +35,5 @@ module _ {N : Type 0} (R : N → N → Ordering) where
   -- the greatest entry that the updates have for a name
   abbrev pub greatest_at : List (N × PlainEntry) → N → Option PlainEntry
   greatest_at [] q = None
-  greatest_at (u ∷ us) q = if eq_by_cmp R q u.0 then Some (joined_onto greater_entry (greatest_at us q) u.1) else greatest_at us q
+  greatest_at (u ∷ us) q = if eq_by_cmp R q u.0 then Some (joined_onto greater_entry (greatest_at us q) u.1)
+      else greatest_at us q

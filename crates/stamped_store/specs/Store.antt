@@ -92,13 +92,15 @@ shown_store k = map.from_entries (shown_updates k)
 
 -- k, with each entry of l joined in turn
 abbrev pub all_kept : {P E : Type 0} → Kept P E → Kept P E → Kept P E
-all_kept k l = kept (all_taken string_cmp greater k.policies l.policies) (all_taken uid_cmp greater k.entities l.entities)
+all_kept k l = kept (all_taken string_cmp greater k.policies l.policies)
+    (all_taken uid_cmp greater k.entities l.entities)
 
 -- the entries of the first n names: policies come first
 abbrev pub first_kept : {P E : Type 0} → ℕ → Kept P E → Kept P E
 first_kept n k = kept (take n k.policies) (take (n - length k.policies) k.entities)
 
--- what is always true of what the code keeps: the count beside it is the greatest, and its updates are those of the store, in order
+-- what is always true of what the code keeps: the count beside it is the greatest, and its updates are those of the
+-- store, in order
 pub record IsCounted {P E : Type 0} (k : Kept P E) (greatest : ℕ) : Type 0 where
   pub counted : greatest ≡ updates_of.greatest_count (shown_store k)
   pub in_order : updates (shown_store k) ≡ shown_updates k

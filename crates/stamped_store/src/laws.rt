@@ -5,10 +5,12 @@ ghost use Rattle.std.specs.Cmp.{IsTotalOrder};
 ghost use Rattle.std.specs.FinMap.{IsAntisymmetric, get};
 ghost use Rattle.values.specs.declared.name.Name.{Name};
 ghost use Rattle.stamped_store.specs.Joins.{IsJoin, IsLeastAbove};
-ghost use Rattle.stamped_store.specs.EntryOrder.{PlainEntry, plain_entry, entry_cmp, greater_entry, greater, entry_below};
+ghost use Rattle.stamped_store.specs.EntryOrder.{PlainEntry, plain_entry, entry_cmp, greater_entry, greater};
+ghost use Rattle.stamped_store.specs.EntryOrder.{entry_below};
 ghost use Rattle.stamped_store.specs.Stored.{IsBelowAt, joined_at};
 ghost use Rattle.stamped_store.specs.Greatest.{IsStoreOf, greatest_count};
-ghost use Rattle.stamped_store.specs.Store.{Store, Update, updates, store_of, plain_below, IsStoreBelow, IsStoreJoin, joined_stores, issue, issued};
+ghost use Rattle.stamped_store.specs.Store.{Store, Update, updates, store_of, plain_below, IsStoreBelow, IsStoreJoin};
+ghost use Rattle.stamped_store.specs.Store.{joined_stores, issue, issued};
 
 use crate::{Entry, Join};
 
@@ -17,7 +19,8 @@ use crate::{Entry, Join};
 pub fn entries_are_joined()
     ensures total { IsTotalOrder entry_cmp }
     ensures exact { IsAntisymmetric entry_cmp }
-    ensures associative { (a b c : PlainEntry) → greater_entry (greater_entry a b) c ≡ greater_entry a (greater_entry b c) }
+    ensures associative { (a b c : PlainEntry)
+        → greater_entry (greater_entry a b) c ≡ greater_entry a (greater_entry b c) }
     ensures commutative { (a b : PlainEntry) → greater_entry a b ≡ greater_entry b a }
     ensures idempotent { (a : PlainEntry) → greater_entry a a ≡ a }
     ensures least { (a b : PlainEntry) → IsLeastAbove (λ x y. plain_below x y ≡ true) a b (greater_entry a b) }
@@ -28,7 +31,8 @@ pub fn entries_are_joined()
 pub fn read_entries_are_joined<P: Drop>()
     ensures laws { IsJoin (λ (a b : Entry P). entry_below a b ≡ true) greater }
     ensures plain { (a b : Entry P) → plain_entry (greater a b) ≡ greater_entry (plain_entry a) (plain_entry b) }
-    ensures equal { (a b : Entry P) → (entry_below a b ≡ true) × (entry_below b a ≡ true) ↔ (plain_entry a ≡ plain_entry b) }
+    ensures equal { (a b : Entry P) → (entry_below a b ≡ true) × (entry_below b a ≡ true)
+        ↔ (plain_entry a ≡ plain_entry b) }
 {}
 
 /// Each implementation of `Join` has an order, and a join that is associative, commutative, idempotent and least above
@@ -48,7 +52,8 @@ pub fn stamped_are_joined<K: Ord, V: Join>()
 pub fn updates_have_one_store()
     ensures greatest { (us : List Update) → IsStoreOf us (store_of us) }
     ensures only { (us : List Update) (s : Store) → IsStoreOf us s → s ≡ store_of us }
-    ensures same_updates { (us vs : List Update) → ((u : Update) → Contains us u ↔ Contains vs u) → store_of us ≡ store_of vs }
+    ensures same_updates { (us vs : List Update) → ((u : Update) → Contains us u ↔ Contains vs u)
+        → store_of us ≡ store_of vs }
     ensures own { (s : Store) → store_of (updates s) ≡ s }
     ensures grouped { (us vs : List Update) → store_of (updates (store_of us) ++ vs) ≡ store_of (us ++ vs) }
     ensures union { (us vs : List Update) → IsStoreJoin (store_of us) (store_of vs) (store_of (us ++ vs)) }
@@ -69,7 +74,10 @@ pub fn stores_are_joined()
 /// greater of the two; and an entry with an issued stamp is the greatest at its name.
 pub fn stamps_are_issued()
     ensures greatest { (s : Store) (u : Update) → Contains (updates s) u → u.1.count ≤ greatest_count s }
-    ensures reached { (s : Store) → (greatest_count s ≡ 0) ⊎ ((u : Update) × Contains (updates s) u × (u.1.count ≡ greatest_count s)) }
+    ensures reached { (s : Store) → (greatest_count s ≡ 0)
+        ⊎ ((u : Update) × Contains (updates s) u × (u.1.count ≡ greatest_count s)) }
     ensures joined { (s t : Store) → greatest_count (joined_stores s t) ≡ max (greatest_count s) (greatest_count t) }
-    ensures stays { (s : Store) (name : Name) (site : ℕ) (body : Option (List ℕ)) → get (store_of (updates s ++ (name, issued (issue s site) body) ∷ [])) name ≡ Some (issued (issue s site) body) }
+    ensures stays { (s : Store) (name : Name) (site : ℕ) (body : Option (List ℕ))
+        → get (store_of (updates s ++ (name, issued (issue s site) body) ∷ [])) name
+        ≡ Some (issued (issue s site) body) }
 {}

@@ -1,4 +1,5 @@
-ghost use Rattle.std.specs.Prelude.{◌≡◌, ◌↔◌, ◌<◌, ◌+◌, ◌^◌, ◌++◌, ◌∷◌, [], length, max, String, string_bytes, IsTrue, OnOk, OnErr, IfOk, IfErr};
+ghost use Rattle.std.specs.Prelude.{◌≡◌, ◌↔◌, ◌<◌, ◌+◌, ◌^◌, ◌++◌, ◌∷◌, [], length, max, String, string_bytes, IsTrue};
+ghost use Rattle.std.specs.Prelude.{OnOk, OnErr, IfOk, IfErr};
 ghost use Rattle.std.specs.declared.alloc.Global.{Global};
 ghost use Rattle.std.specs.Option.{option_copied, option_map};
 ghost use Rattle.std.specs.FinMap.{get};
@@ -11,7 +12,9 @@ ghost use Rattle.stamped_store.specs.EntryOrder.{plain_entry, greater, entry_bel
 ghost use Rattle.stamped_store.specs.Greatest.{greatest_count};
 ghost use Rattle.stamped_store.specs.Shown.{greatest_kept};
 ghost use Rattle.stamped_store.specs.Stored.{value_at, value_at_text, taken, IsBelow};
-ghost use Rattle.stamped_store.specs.Store.{shown_store, shown_updates, store_of, updates, kept, all_kept, first_kept, policy_name, entity_name, KeepsOtherNames, IsStoreBelow, IsStoreJoin, first_names, issue};
+ghost use Rattle.stamped_store.specs.Store.{shown_store, shown_updates, store_of, updates, kept, all_kept, first_kept};
+ghost use Rattle.stamped_store.specs.Store.{policy_name, entity_name, KeepsOtherNames, IsStoreBelow, IsStoreJoin};
+ghost use Rattle.stamped_store.specs.Store.{first_names, issue};
 
 use crate::{Entry, Short, Stamp, Stamped};
 use std::alloc::Global;
@@ -68,7 +71,8 @@ impl<P: Drop, E: Drop> PolicyStore<P, E> {
     /// The entry of the entity of this uid, if there is one, in logarithmic time and without memory.
     pub fn get_entity(&self, uid: &EntityUid) -> Option<&Entry<E>>
         ensures kept { option_copied result ≡ value_at uid_cmp self.now.entities uid.now }
-        ensures shown { option_map plain_entry (option_copied result) ≡ get (shown_store self.now) (entity_name uid.now) }
+        ensures shown { option_map plain_entry (option_copied result)
+            ≡ get (shown_store self.now) (entity_name uid.now) }
     {
         entity_at(&self.entities, uid)
     }
@@ -115,9 +119,12 @@ impl<P: Drop, E: Drop> PolicyStore<P, E> {
     /// Joins an entry at a policy's id, in logarithmic time. Every other name keeps its entry. Where memory is refused,
     /// the id and the entry come back and nothing changes.
     pub fn take_policy(&mut self, id: String, entry: Entry<P>) -> Result<(), (String, Entry<P>)>
-        ensures ok { OnOk result (shown_store self.new ≡ store_of (updates (shown_store self.old) ++ (policy_name (string_bytes id), plain_entry entry) ∷ [])) }
-        ensures others { OnOk result (KeepsOtherNames (policy_name (string_bytes id)) (shown_store self.old) (shown_store self.new)) }
-        ensures kept { OnOk result (self.new ≡ kept (taken string_cmp greater self.old.policies id entry) self.old.entities) }
+        ensures ok { OnOk result (shown_store self.new
+            ≡ store_of (updates (shown_store self.old) ++ (policy_name (string_bytes id), plain_entry entry) ∷ [])) }
+        ensures others { OnOk result
+            (KeepsOtherNames (policy_name (string_bytes id)) (shown_store self.old) (shown_store self.new)) }
+        ensures kept { OnOk result
+            (self.new ≡ kept (taken string_cmp greater self.old.policies id entry) self.old.entities) }
         ensures refused { IfErr result (λ pair. pair ≡ (id, entry)) }
         ensures err { OnErr result (self.new ≡ self.old) }
     {
@@ -132,9 +139,11 @@ impl<P: Drop, E: Drop> PolicyStore<P, E> {
         uid: EntityUid,
         entry: Entry<E>,
     ) -> Result<(), (EntityUid, Entry<E>)>
-        ensures ok { OnOk result (shown_store self.new ≡ store_of (updates (shown_store self.old) ++ (entity_name uid, plain_entry entry) ∷ [])) }
+        ensures ok { OnOk result (shown_store self.new
+            ≡ store_of (updates (shown_store self.old) ++ (entity_name uid, plain_entry entry) ∷ [])) }
         ensures others { OnOk result (KeepsOtherNames (entity_name uid) (shown_store self.old) (shown_store self.new)) }
-        ensures kept { OnOk result (self.new ≡ kept self.old.policies (taken uid_cmp greater self.old.entities uid entry)) }
+        ensures kept { OnOk result
+            (self.new ≡ kept self.old.policies (taken uid_cmp greater self.old.entities uid entry)) }
         ensures refused { IfErr result (λ pair. pair ≡ (uid, entry)) }
         ensures err { OnErr result (self.new ≡ self.old) }
     {
@@ -147,7 +156,8 @@ impl<P: Drop, E: Drop> PolicyStore<P, E> {
     pub fn merge(&mut self, other: Self) -> Result<(), Short>
         ensures ok { OnOk result (IsStoreJoin (shown_store self.old) (shown_store other) (shown_store self.new)) }
         ensures ok_kept { OnOk result (self.new ≡ all_kept self.old other) }
-        ensures short { IfErr result (λ s. IsStoreJoin (shown_store self.old) (first_names s.taken (shown_store other)) (shown_store self.new)) }
+        ensures short { IfErr result
+            (λ s. IsStoreJoin (shown_store self.old) (first_names s.taken (shown_store other)) (shown_store self.new)) }
         ensures short_kept { IfErr result (λ s. self.new ≡ all_kept self.old (first_kept s.taken other)) }
         ensures cut { IfErr result (λ s. s.taken < length (updates (shown_store other))) }
     {

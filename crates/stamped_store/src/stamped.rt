@@ -6,7 +6,8 @@ ghost use Rattle.std.specs.BTreeMap.{insert_entry};
 ghost use Rattle.std.specs.Map.{keys_of};
 ghost use Rattle.std.specs.Map.Iter.{ShowsInOrder, deref_pair};
 ghost use Rattle.stamped_store.specs.Joins.{IsLeastAbove, option_below};
-ghost use Rattle.stamped_store.specs.Stored.{value_at, value_at_text, joined_onto, taken, all_taken, KeepsOthers, IsBelow, IsJoined};
+ghost use Rattle.stamped_store.specs.Stored.{value_at, value_at_text, joined_onto, taken, all_taken, KeepsOthers};
+ghost use Rattle.stamped_store.specs.Stored.{IsBelow, IsJoined};
 
 use crate::Join;
 use std::alloc::Global;
@@ -78,7 +79,8 @@ impl<K: Ord + Drop, V: Join + Drop> Stamped<K, V> {
     /// key and the value come back and nothing changes.
     pub fn take(&mut self, key: K, value: V) -> Result<(), (K, V)>
         ensures ok { OnOk result (self.new ≡ taken K.cmp V.joined self.old key value) }
-        ensures at_key { OnOk result (value_at K.cmp self.new key ≡ Some (joined_onto V.joined (value_at K.cmp self.old key) value)) }
+        ensures at_key { OnOk result
+            (value_at K.cmp self.new key ≡ Some (joined_onto V.joined (value_at K.cmp self.old key) value)) }
         ensures others { OnOk result (KeepsOthers K.cmp key self.old self.new) }
         ensures refused { IfErr result (λ pair. pair ≡ (key, value)) }
         ensures err { OnErr result (self.new ≡ self.old) }
@@ -98,7 +100,8 @@ impl<K: Ord + Drop, V: Join + Drop> Stamped<K, V> {
         ensures ok { OnOk result (IsLeastAbove (IsBelow K.cmp V.is_below) self.old other self.new) }
         ensures ok_values { OnOk result (IsJoined K.cmp V.joined self.old other self.new) }
         ensures ok_entries { OnOk result (self.new ≡ all_taken K.cmp V.joined self.old other) }
-        ensures short { IfErr result (λ s. IsLeastAbove (IsBelow K.cmp V.is_below) self.old (take s.taken other) self.new) }
+        ensures short { IfErr result
+            (λ s. IsLeastAbove (IsBelow K.cmp V.is_below) self.old (take s.taken other) self.new) }
         ensures short_values { IfErr result (λ s. IsJoined K.cmp V.joined self.old (take s.taken other) self.new) }
         ensures short_entries { IfErr result (λ s. self.new ≡ all_taken K.cmp V.joined self.old (take s.taken other)) }
         ensures cut { IfErr result (λ s. s.taken < length other) }

@@ -10,3 +10,4 @@ pub mod Records
 pub mod Scanning
 pub mod Unique
 pub mod Within
+pub mod WellFormedLemmas

@@ -87,12 +87,12 @@ not_from : (b : Bool) → (b ≡ true → ⊥) → not b ≡ true
 not_from true h = absurd (h refl)
 not_from false h = refl
 
-ident_from : (word : List ℕ) → is_ident word ≡ true → IsIdent word
+pub ident_from : (word : List ℕ) → is_ident word ≡ true → IsIdent word
 ident_from word h =
     let both = and_parts (is_word word) _ h in
     (word_from word both.0, λ reserved. not_true _ both.1 (any_from word reserved_words reserved))
 
-ident_to : (word : List ℕ) → IsIdent word → is_ident word ≡ true
+pub ident_to : (word : List ℕ) → IsIdent word → is_ident word ≡ true
 ident_to word h = and_both (is_word word) _ (word_to word h.0) (not_from _ (λ found. h.1 (any_at word reserved_words found)))
 
 idents_from : (words : List (List ℕ)) → list_all is_ident words ≡ true → AreIdents words

@@ -6,7 +6,7 @@ use Rattle.std.proofs.lemmas.Bool.{cases_Bool, eqb-true}
 use Rattle.std.proofs.lemmas.Slice.Eq.{bytes_eq-Decides}
 use Rattle.std.proofs.lemmas.List.{take-append-drop, append_assoc, append-nil}
 use Rattle.plain.specs.Words.{is_letter, is_digit, is_word_byte, AllAre, IsWord, IsIdent, joined_path, IsPath}
-use Rattle.values.specs.Scan.{run}
+use Rattle.values.specs.inner.Scan.{run}
 
 letter_word : (c : ℕ) → is_letter c ≡ true → is_word_byte c ≡ true
 unfolding is_word_byte

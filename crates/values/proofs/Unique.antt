@@ -6,7 +6,7 @@ use Rattle.std.specs.Ordering.{match_ordering, ordering_reverse, is_eq, eq_by_cm
 use Rattle.std.proofs.lemmas.Cmp.{tied_itself}
 use Rattle.values.specs.Values.{PlainValue}
 use Rattle.values.specs.ValueOrder.{value_cmp, value_cmp-IsTotalOrder, value_cmp-IsAntisymmetric}
-use Rattle.values.specs.Sets.{put_value, set_list}
+use Rattle.values.specs.Sets.{IsSetOf, put_value, set_list}
 
 abbrev pub In : PlainValue → List PlainValue → Type 0
 In v [] = ⊥
@@ -143,3 +143,17 @@ same_members xs ys s t f =
     unique xs ys s t
     (λ v i. let r = (f v).0 (Contains-from_In xs v i) in In-from_Contains ys v r.0 r.1 r.2)
     (λ v i. let r = (f v).1 (Contains-from_In ys v i) in In-from_Contains xs v r.0 r.1 r.2)
+
+-- ---- a set holds what it was made of
+
+pub set_of : (vs : List PlainValue) → IsSetOf vs (set_list vs)
+set_of vs = record {
+  ascending = sorted_set vs;
+  members = λ v. (
+    (λ h. Contains-from_In vs v (from_set vs v (In-from_Contains (set_list vs) v h.0 h.1 h.2))),
+    (λ h. Contains-from_In (set_list vs) v (into_set vs v (In-from_Contains vs v h.0 h.1 h.2))),
+  );
+}
+
+pub set_of_is : (vs s : List PlainValue) → IsSetOf vs s → s ≡ set_list vs
+set_of_is vs s h = set_is s vs h.ascending (λ v. (h.members v).0) (λ v. (h.members v).1)

@@ -1,11 +1,16 @@
 -- The fields of a record: keys ascend strictly, each with its value.
-use Rattle.std.specs.Prelude.{ℕ, List, [], ◌∷◌, Option, Some, None}
+use Rattle.std.specs.Prelude.{ℕ, List, [], ◌∷◌, map, Option, Some, None}
+use Rattle.std.specs.List.Sorted.{IsStrictlySortedBy}
 use Rattle.std.specs.Ordering.{match_ordering}
 use Rattle.values.specs.Values.{PlainValue}
 use Rattle.values.specs.Uids.{text_cmp}
 
 abbrev pub Field : Type 0
 Field = List ℕ × PlainValue
+
+-- the keys ascend strictly, by their bytes
+abbrev pub AreKeysAscending : List Field → Type 0
+AreKeysAscending fs = IsStrictlySortedBy text_cmp (map (λ f. f.0) fs)
 
 -- the fields, with v at k
 abbrev pub put : List ℕ → PlainValue → List Field → List Field

@@ -1,7 +1,7 @@
 pub mod Fields
+pub mod Laws
 pub mod Names
 pub mod Paths
-pub mod Scan
 pub mod Sets
 pub mod Uids
 pub mod ValueCode
@@ -9,3 +9,5 @@ pub mod ValueFalls
 pub mod ValueOrder
 pub mod ValueView
 pub mod Values
+pub mod WellFormed
+pub mod inner

@@ -1,5 +1,6 @@
 -- How entity uids, names and requests are ordered.
--- A rule of this product: policies before entities; policies by the bytes of the id; entities by the bytes of the type's name, then of the id.
+-- A rule of this product: policies before entities; policies by the bytes of the id; entities by the bytes of the
+-- type's name, then of the id.
 use Rattle.std.specs.Prelude.{◌≡◌, refl}
 use Rattle.std.specs.Ordering.{ordering_then}
 use Rattle.std.specs.Cmp.{IsTotalOrder}
@@ -9,7 +10,8 @@ use Rattle.std.specs.FinMap.{IsAntisymmetric}
 use Rattle.std.proofs.Common.{ap}
 use Rattle.std.specs.Ordering.{ordering_reverse}
 use Rattle.std.proofs.lemmas.Cmp.{nat_list_cmp_total, then_total, on_total}
-pub use Rattle.values.specs.Uids.{text_cmp, uid_cmp, text_cmp-IsTotalOrder, text_cmp-IsAntisymmetric, uid_cmp-IsTotalOrder, uid_cmp-IsAntisymmetric}
+pub use Rattle.values.specs.Uids.{text_cmp, uid_cmp, text_cmp-IsTotalOrder, text_cmp-IsAntisymmetric}
+pub use Rattle.values.specs.Uids.{uid_cmp-IsTotalOrder, uid_cmp-IsAntisymmetric}
 use Rattle.values.specs.Uids.{both_equal}
 use Rattle.values.specs.declared.name.Name.{Name}
 use Rattle.values.specs.declared.name.Name.TheVariants.{Policy, Entity}
@@ -27,7 +29,8 @@ name_cmp (Entity a) (Entity b) = uid_cmp a b
 abbrev pub request_cmp : Request → Request → Ordering
 request_cmp a b =
     ordering_then (uid_cmp a.principal b.principal)
-    (ordering_then (uid_cmp a.action b.action) (ordering_then (uid_cmp a.resource b.resource) (record_cmp a.context b.context)))
+    (ordering_then (uid_cmp a.action b.action)
+    (ordering_then (uid_cmp a.resource b.resource) (record_cmp a.context b.context)))
 
 -- The three orders are total, and compare as equal only what is equal.
 

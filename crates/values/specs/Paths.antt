@@ -1,9 +1,10 @@
 -- The Path that a list of words makes, and whether a text is a Path, as a test that computes.
--- Source: Cedar reference guide 4.0, "Grammar specification for Cedar policy syntax", Path = Ident { "::" Ident }, without blanks or comments.
-use Rattle.std.specs.Prelude.{false, ℕ, List, [], ◌∷◌, ◌++◌, Bool, not, ◌==◌, ◌&&◌, if◌then◌else◌}
+-- Source: Cedar reference guide 4.0, "Grammar specification for Cedar policy syntax", Path = Ident { "::" Ident },
+-- without blanks or comments.
+use Rattle.std.specs.Prelude.{◌↔◌, IsTrue, false, ℕ, List, [], ◌∷◌, ◌++◌, Bool, not, ◌==◌, ◌&&◌, if◌then◌else◌}
 use Rattle.std.specs.List.{list_any, list_all}
 use Rattle.std.specs.Str.{bytes_eq}
-use Rattle.plain.specs.Words.{is_letter, is_word_byte, reserved_words, joined_path}
+use Rattle.plain.specs.Words.{is_letter, is_word_byte, reserved_words, joined_path, IsIdent, IsPath}
 
 -- the words with `::` between each two
 abbrev pub path_of : List (List ℕ) → List ℕ
@@ -27,3 +28,10 @@ pieces word (c ∷ d ∷ rest) = if c == 58 && d == 58 then word ∷ pieces [] r
 -- each piece is an identifier
 unfoldable pub is_path : List ℕ → Bool
 is_path text = list_all is_ident (pieces [] text)
+
+-- the tests hold exactly of identifiers and of Paths
+abbrev pub IdentsAreTold : Type 0
+IdentsAreTold = (word : List ℕ) → IsTrue (is_ident word) ↔ IsIdent word
+
+abbrev pub PathsAreTold : Type 0
+PathsAreTold = (text : List ℕ) → IsTrue (is_path text) ↔ IsPath text

@@ -1,6 +1,7 @@
 -- The set of some values: each once, ascending.
-use Rattle.std.specs.Prelude.{List, [], ◌∷◌, Bool}
+use Rattle.std.specs.Prelude.{◌↔◌, List, [], ◌∷◌, Bool, Contains}
 use Rattle.std.specs.List.{list_any}
+use Rattle.std.specs.List.Sorted.{IsStrictlySortedBy}
 use Rattle.std.specs.Ordering.{match_ordering, is_eq}
 use Rattle.values.specs.Values.{PlainValue}
 use Rattle.values.specs.ValueOrder.{value_cmp}
@@ -17,3 +18,8 @@ set_list (v ∷ vs) = put_value v (set_list vs)
 -- whether a value is among these
 abbrev pub has_member : List PlainValue → PlainValue → Bool
 has_member ws v = list_any (λ w. is_eq (value_cmp w v)) ws
+
+-- s is the set of these values: it has each of them and no other, and ascends
+pub record IsSetOf (vs s : List PlainValue) : Type 0 where
+  pub ascending : IsStrictlySortedBy value_cmp s
+  pub members : (v : PlainValue) → Contains s v ↔ Contains vs v

@@ -28,7 +28,8 @@ pub text_cmp-IsAntisymmetric : IsAntisymmetric text_cmp
 text_cmp-IsAntisymmetric = slice_cmp-IsAntisymmetric nat_cmp-IsAntisymmetric
 
 pub uid_cmp-IsTotalOrder : IsTotalOrder uid_cmp
-uid_cmp-IsTotalOrder = then_total (on_total (λ u. u.type_name) nat_list_cmp_total) (on_total (λ u. u.id) nat_list_cmp_total)
+uid_cmp-IsTotalOrder = then_total (on_total (λ u. u.type_name) nat_list_cmp_total)
+    (on_total (λ u. u.id) nat_list_cmp_total)
 
 pub both_equal : (r s : Ordering) → ordering_then r s ≡ Equal → (r ≡ Equal) × (s ≡ Equal)
 both_equal Less s h = absurd (cc)
@@ -48,7 +49,8 @@ equal_from Equal h = refl
 equal_from Greater h = absurd (cc)
 
 -- What a total order that is exact compares as equal is equal, and the other way round.
-pub equal-is : {K : Type 0} {R : K → K → Ordering} → IsTotalOrder R → IsAntisymmetric R → (a b : K) → IsTrue (is_eq (R a b)) ↔ (a ≡ b)
+pub equal-is : {K : Type 0} {R : K → K → Ordering} → IsTotalOrder R → IsAntisymmetric R → (a b : K)
+    → IsTrue (is_eq (R a b)) ↔ (a ≡ b)
 equal-is {R = R} total exact a b = (
   (λ h. exact a b (equal_from (R a b) h)),
   (λ e. ap is_eq (ap (R a) (sym e) ∙ tied_itself total a)),

@@ -5,7 +5,8 @@ use Rattle.std.proofs.Common.{ap, sym, ◌∙◌, append_assoc}
 use Rattle.std.proofs.lemmas.List.{append-nil}
 use Rattle.extensions.specs.Network.{Network}
 use Rattle.extensions.specs.Order.{version_number, network_of, network_of-network_numbers}
-use Rattle.values.specs.Values.{PlainValue, boolean, long, text, entity, set, record_of, decimal, ipaddr, PlainValues, no_values, value, PlainFields, no_fields, field}
+use Rattle.values.specs.Values.{PlainValue, boolean, long, text, entity, set, record_of, decimal, ipaddr, PlainValues}
+use Rattle.values.specs.Values.{no_values, value, PlainFields, no_fields, field}
 
 -- a token: what it begins, a number, and two texts
 abbrev pub Token : Type 0
@@ -78,9 +79,13 @@ behind (whole v ∷ st) = behind st
 
 abbrev pub read_one : ℕ → ℤ → List ℕ → List ℕ → List Item → List Item
 read_one n z s t st =
-    cond (n == 0) (end ∷ st) (cond (n == 1) (whole (boolean (is_one z)) ∷ st) (cond (n == 2) (whole (long z) ∷ st) (cond (n == 3) (whole (text s) ∷ st)
-    (cond (n == 4) (whole (entity (record { type_name = s; id = t })) ∷ st) (cond (n == 5) (whole (set (members st)) ∷ behind st)
-    (cond (n == 6) (whole (record_of (fields st)) ∷ behind st) (cond (n == 7) (whole (decimal z) ∷ st) (cond (n == 8) (whole (ipaddr (list_network s)) ∷ st) (key s ∷ st)))))))))
+    cond (n == 0) (end ∷ st) (cond (n == 1) (whole (boolean (is_one z)) ∷ st)
+    (cond (n == 2) (whole (long z) ∷ st) (cond (n == 3) (whole (text s) ∷ st)
+    (cond (n == 4) (whole (entity (record { type_name = s; id = t })) ∷ st)
+    (cond (n == 5) (whole (set (members st)) ∷ behind st)
+    (cond (n == 6) (whole (record_of (fields st)) ∷ behind st)
+    (cond (n == 7) (whole (decimal z) ∷ st)
+    (cond (n == 8) (whole (ipaddr (list_network s)) ∷ st) (key s ∷ st)))))))))
 
 -- reads tokens, the last one first
 abbrev pub read : List Token → List Item
@@ -131,12 +136,16 @@ mutual
   pub read-set_tokens : (vs : PlainValues) (ts : List Token) → read (set_tokens vs ++ ts) ≡ items_of vs (read ts)
   read-set_tokens no_values ts = refl
   read-set_tokens (value v vs) ts =
-      ap read (append_assoc (tokens v) (set_tokens vs) ts) ∙ (read-tokens v (set_tokens vs ++ ts) ∙ ap (λ st. whole v ∷ st) (read-set_tokens vs ts))
+      ap read (append_assoc (tokens v) (set_tokens vs) ts)
+      ∙ (read-tokens v (set_tokens vs ++ ts) ∙ ap (λ st. whole v ∷ st) (read-set_tokens vs ts))
 
-  pub read-record_tokens : (fs : PlainFields) (ts : List Token) → read (record_tokens fs ++ ts) ≡ field_items fs (read ts)
+  pub read-record_tokens : (fs : PlainFields) (ts : List Token)
+      → read (record_tokens fs ++ ts) ≡ field_items fs (read ts)
   read-record_tokens no_fields ts = refl
   read-record_tokens (field k v fs) ts =
-      ap (λ w. key k ∷ read w) (append_assoc (tokens v) (record_tokens fs) ts) ∙ ap (λ st. key k ∷ st) (read-tokens v (record_tokens fs ++ ts) ∙ ap (λ st. whole v ∷ st) (read-record_tokens fs ts))
+      ap (λ w. key k ∷ read w) (append_assoc (tokens v) (record_tokens fs) ts)
+      ∙ ap (λ st. key k ∷ st) (read-tokens v (record_tokens fs ++ ts)
+      ∙ ap (λ st. whole v ∷ st) (read-record_tokens fs ts))
 
 abbrev first_of : List Item → PlainValue
 first_of [] = boolean false
@@ -153,7 +162,9 @@ from_tokens-tokens v =
 
 abbrev pub value_code : Coded PlainValue
 value_code =
-    code_by (List Token) (coded_list (coded× coded_ℕ (coded× coded_ℤ (coded× (coded_list coded_ℕ) (coded_list coded_ℕ))))) tokens from_tokens from_tokens-tokens
+    code_by (List Token) (coded_list
+    (coded× coded_ℕ (coded× coded_ℤ (coded× (coded_list coded_ℕ) (coded_list coded_ℕ))))) tokens from_tokens
+    from_tokens-tokens
 
 -- values with the same tokens are the same
 pub same_from_tokens : (v w : PlainValue) → tokens v ≡ tokens w → v ≡ w

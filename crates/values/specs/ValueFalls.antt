@@ -13,7 +13,8 @@ pub most_le-heights : (vs : List PlainValue) → most (λ v. height v + 1) vs �
 most_le-heights [] = omega arith
 most_le-heights (v ∷ vs) = omega (arith, most_le-heights vs)
 
-pub most_le-field_heights : (es : List (String Global × PlainValue)) → most (λ v. height v + 1) (map (λ e. e.1) es) ≤ field_heights (fields_of (of_entries es))
+pub most_le-field_heights : (es : List (String Global × PlainValue))
+    → most (λ v. height v + 1) (map (λ e. e.1) es) ≤ field_heights (fields_of (of_entries es))
 most_le-field_heights [] = omega arith
 most_le-field_heights (e ∷ es) = omega (arith, most_le-field_heights es)
 

@@ -1,6 +1,6 @@
--- The order of values: by kind, and then false before true, numbers by size, texts by bytes, entities by uid, sets by their members and
--- records by their fields, item by item, a beginning first, decimals by size, addresses by version, address and prefix.
--- A rule of this product.
+-- The order of values: by kind, and then false before true, numbers by size, texts by bytes, entities by uid, sets by
+-- their members and records by their fields, item by item, a beginning first, decimals by size, addresses by version,
+-- address and prefix. A rule of this product.
 use Rattle.std.specs.Prelude.{◌≡◌, ℕ, pos, List, [], ◌∷◌, ◌++◌, Bool, true, false, refl}
 use Rattle.std.proofs.Common.{ap, sym, ◌∙◌, append_assoc}
 use Rattle.std.proofs.lemmas.List.{append-nil}
@@ -9,9 +9,12 @@ use Rattle.std.specs.declared.cmp.Ordering.TheVariants.{Less, Equal, Greater}
 use Rattle.std.specs.Ordering.{ordering_then, ordering_reverse, nat_cmp, int_cmp, bool_cmp, on, then_cmp}
 use Rattle.std.specs.Cmp.{IsTotalOrder}
 use Rattle.std.specs.Cmp.Lexicographic.{slice_cmp}
-use Rattle.std.specs.FinMap.{IsAntisymmetric, nat_cmp-IsAntisymmetric, int_cmp-IsAntisymmetric, slice_cmp-IsAntisymmetric}
+use Rattle.std.specs.FinMap.{IsAntisymmetric, nat_cmp-IsAntisymmetric, int_cmp-IsAntisymmetric}
+use Rattle.std.specs.FinMap.{slice_cmp-IsAntisymmetric}
 use Rattle.std.proofs.lemmas.Cmp.{on_total, lists_total, nat_cmp_total, int_cmp_total, nat_list_cmp_total, then_total}
-use Rattle.values.specs.Values.{PlainValue, boolean, long, text, entity, set, record_of, decimal, ipaddr, PlainValues, no_values, value, PlainFields, no_fields, field, list_of, pairs_of, values_of, fields_of, list_of-values_of, pairs_of-fields_of}
+use Rattle.values.specs.Values.{PlainValue, boolean, long, text, entity, set, record_of, decimal, ipaddr, PlainValues}
+use Rattle.values.specs.Values.{no_values, value, PlainFields, no_fields, field, list_of, pairs_of, values_of}
+use Rattle.values.specs.Values.{fields_of, list_of-values_of, pairs_of-fields_of}
 use Rattle.extensions.specs.Network.{Network}
 use Rattle.extensions.specs.Order.{version_number, network_cmp}
 use Rattle.values.specs.Uids.{text_cmp, uid_cmp}
@@ -57,12 +60,14 @@ abbrev mutual
   fields_cmp no_fields no_fields = Equal
   fields_cmp no_fields (field l w gs) = Less
   fields_cmp (field k v fs) no_fields = Greater
-  fields_cmp (field k v fs) (field l w gs) = ordering_then (text_cmp k l) (ordering_then (value_cmp v w) (fields_cmp fs gs))
+  fields_cmp (field k v fs) (field l w gs) =
+      ordering_then (text_cmp k l) (ordering_then (value_cmp v w) (fields_cmp fs gs))
 
 -- ---- the same order by tokens, which is total
 
 abbrev token_cmp : Token → Token → Ordering
-token_cmp = then_cmp (on (λ t. t.0) nat_cmp) (then_cmp (on (λ t. t.1.0) int_cmp) (then_cmp (on (λ t. t.1.1.0) text_cmp) (on (λ t. t.1.1.1) text_cmp)))
+token_cmp = then_cmp (on (λ t. t.0) nat_cmp)
+    (then_cmp (on (λ t. t.1.0) int_cmp) (then_cmp (on (λ t. t.1.1.0) text_cmp) (on (λ t. t.1.1.1) text_cmp)))
 
 abbrev tokens_cmp : List Token → List Token → Ordering
 tokens_cmp = slice_cmp token_cmp
@@ -109,13 +114,16 @@ bool_by_number false true = refl
 bool_by_number true false = refl
 bool_by_number true true = refl
 
-network_by_numbers : (m n : Network) → network_cmp m n ≡ ordering_then (text_cmp (network_list m) (network_list n)) Equal
+network_by_numbers : (m n : Network)
+    → network_cmp m n ≡ ordering_then (text_cmp (network_list m) (network_list n)) Equal
 network_by_numbers m n =
-    ap (λ o. ordering_then (nat_cmp (version_number m.version) (version_number n.version)) (ordering_then (nat_cmp m.address n.address) o)) (sym (then_equal (nat_cmp m.prefix n.prefix)))
+    ap (λ o. ordering_then (nat_cmp (version_number m.version) (version_number n.version))
+    (ordering_then (nat_cmp m.address n.address) o)) (sym (then_equal (nat_cmp m.prefix n.prefix)))
     ∙ sym (then_equal (text_cmp (network_list m) (network_list n)))
 
 mutual
-  value_by_tokens : (v w : PlainValue) (s t : List Token) → ordering_then (value_cmp v w) (tokens_cmp s t) ≡ tokens_cmp (tokens v ++ s) (tokens w ++ t)
+  value_by_tokens : (v w : PlainValue) (s t : List Token)
+      → ordering_then (value_cmp v w) (tokens_cmp s t) ≡ tokens_cmp (tokens v ++ s) (tokens w ++ t)
   value_by_tokens (boolean b) (boolean b') s t = then_same _ _ _ (bool_by_number b b' ∙ sym (then_equal _))
   value_by_tokens (boolean b) (long z) s t = refl
   value_by_tokens (boolean b) (text x) s t = refl
@@ -181,31 +189,40 @@ mutual
   value_by_tokens (ipaddr n) (decimal d) s t = refl
   value_by_tokens (ipaddr n) (ipaddr n') s t = then_same _ _ _ (network_by_numbers n n')
 
-  values_by_tokens : (vs ws : PlainValues) (s t : List Token) → ordering_then (values_cmp vs ws) (tokens_cmp s t) ≡ tokens_cmp (set_tokens vs ++ s) (set_tokens ws ++ t)
+  values_by_tokens : (vs ws : PlainValues) (s t : List Token)
+      → ordering_then (values_cmp vs ws) (tokens_cmp s t) ≡ tokens_cmp (set_tokens vs ++ s) (set_tokens ws ++ t)
   values_by_tokens no_values no_values s t = refl
-  values_by_tokens no_values (value w ws) s t = sym (rw (append_assoc (tokens w) (set_tokens ws) t) (end_first w s (set_tokens ws ++ t)))
-  values_by_tokens (value v vs) no_values s t = sym (rw (append_assoc (tokens v) (set_tokens vs) s) (end_last v t (set_tokens vs ++ s)))
+  values_by_tokens no_values (value w ws) s t =
+      sym (rw (append_assoc (tokens w) (set_tokens ws) t) (end_first w s (set_tokens ws ++ t)))
+  values_by_tokens (value v vs) no_values s t =
+      sym (rw (append_assoc (tokens v) (set_tokens vs) s) (end_last v t (set_tokens vs ++ s)))
   values_by_tokens (value v vs) (value w ws) s t =
       then_assoc (value_cmp v w) (values_cmp vs ws) (tokens_cmp s t)
-      ∙ (then_into (value_cmp v w) _ _ (values_by_tokens vs ws s t) ∙ (value_by_tokens v w (set_tokens vs ++ s) (set_tokens ws ++ t)
+      ∙ (then_into (value_cmp v w) _ _ (values_by_tokens vs ws s t)
+      ∙ (value_by_tokens v w (set_tokens vs ++ s) (set_tokens ws ++ t)
       ∙ sym (rw (append_assoc (tokens v) (set_tokens vs) s, append_assoc (tokens w) (set_tokens ws) t))))
 
-  fields_by_tokens : (fs gs : PlainFields) (s t : List Token) → ordering_then (fields_cmp fs gs) (tokens_cmp s t) ≡ tokens_cmp (record_tokens fs ++ s) (record_tokens gs ++ t)
+  fields_by_tokens : (fs gs : PlainFields) (s t : List Token)
+      → ordering_then (fields_cmp fs gs) (tokens_cmp s t) ≡ tokens_cmp (record_tokens fs ++ s) (record_tokens gs ++ t)
   fields_by_tokens no_fields no_fields s t = refl
   fields_by_tokens no_fields (field l w gs) s t = refl
   fields_by_tokens (field k v fs) no_fields s t = refl
   fields_by_tokens (field k v fs) (field l w gs) s t =
       then_assoc (text_cmp k l) (ordering_then (value_cmp v w) (fields_cmp fs gs)) (tokens_cmp s t)
       ∙ (then_into (text_cmp k l) _ _ (then_assoc (value_cmp v w) (fields_cmp fs gs) (tokens_cmp s t)
-      ∙ (then_into (value_cmp v w) _ _ (fields_by_tokens fs gs s t) ∙ value_by_tokens v w (record_tokens fs ++ s) (record_tokens gs ++ t)))
-      ∙ sym (rw (append_assoc (tokens v) (record_tokens fs) s, append_assoc (tokens w) (record_tokens gs) t) (then_same _ _ _ (then_equal (text_cmp k l)))))
+      ∙ (then_into (value_cmp v w) _ _ (fields_by_tokens fs gs s t)
+      ∙ value_by_tokens v w (record_tokens fs ++ s) (record_tokens gs ++ t)))
+      ∙ sym (rw (append_assoc (tokens v) (record_tokens fs) s, append_assoc (tokens w) (record_tokens gs) t)
+      (then_same _ _ _ (then_equal (text_cmp k l)))))
 
 by_tokens : (v w : PlainValue) → value_cmp v w ≡ tokens_cmp (tokens v) (tokens w)
 by_tokens v w =
     sym (then_equal (value_cmp v w)) ∙ (value_by_tokens v w [] [] ∙ rw (append-nil (tokens v), append-nil (tokens w)))
 
 token_cmp_total : IsTotalOrder token_cmp
-token_cmp_total = then_total (on_total (λ t. t.0) nat_cmp_total) (then_total (on_total (λ t. t.1.0) int_cmp_total) (then_total (on_total (λ t. t.1.1.0) nat_list_cmp_total) (on_total (λ t. t.1.1.1) nat_list_cmp_total)))
+token_cmp_total = then_total (on_total (λ t. t.0) nat_cmp_total)
+    (then_total (on_total (λ t. t.1.0) int_cmp_total)
+    (then_total (on_total (λ t. t.1.1.0) nat_list_cmp_total) (on_total (λ t. t.1.1.1) nat_list_cmp_total)))
 
 by_tokens_total : IsTotalOrder (on tokens tokens_cmp)
 by_tokens_total = on_total tokens (lists_total token_cmp_total)
@@ -225,7 +242,8 @@ both_equal Greater p e = absurd (cc)
 
 same_token : (x y : Token) → x.0 ≡ y.0 → x.1.0 ≡ y.1.0 → x.1.1.0 ≡ y.1.1.0 → x.1.1.1 ≡ y.1.1.1 → x ≡ y
 same_token x y p q r s =
-    ap (λ n. (n, x.1)) p ∙ (ap (λ n. (y.0, (n, x.1.1))) q ∙ (ap (λ n. (y.0, (y.1.0, (n, x.1.1.1)))) r ∙ ap (λ n. (y.0, (y.1.0, (y.1.1.0, n)))) s))
+    ap (λ n. (n, x.1)) p ∙ (ap (λ n. (y.0, (n, x.1.1))) q
+    ∙ (ap (λ n. (y.0, (y.1.0, (n, x.1.1.1)))) r ∙ ap (λ n. (y.0, (y.1.0, (y.1.1.0, n)))) s))
 
 token_same : IsAntisymmetric token_cmp
 token_same x y e =
@@ -269,7 +287,8 @@ record_cmp-is [] [] = refl
 record_cmp-is [] (g ∷ b) = refl
 record_cmp-is (f ∷ a) [] = refl
 record_cmp-is (f ∷ a) (g ∷ b) =
-    sym (then_assoc (text_cmp f.0 g.0) (value_cmp f.1 g.1) (record_cmp a b)) ∙ ap (ordering_then (field_cmp f g)) (record_cmp-is a b)
+    sym (then_assoc (text_cmp f.0 g.0) (value_cmp f.1 g.1) (record_cmp a b))
+    ∙ ap (ordering_then (field_cmp f g)) (record_cmp-is a b)
 
 pub set_cmp-IsTotalOrder : IsTotalOrder set_cmp
 set_cmp-IsTotalOrder = on_total (λ vs. set (values_of vs)) value_cmp-IsTotalOrder
@@ -279,12 +298,14 @@ record_cmp-IsTotalOrder = on_total (λ fs. record_of (fields_of fs)) value_cmp-I
 
 pub set_cmp-IsAntisymmetric : IsAntisymmetric set_cmp
 set_cmp-IsAntisymmetric a b h =
-    let same : set (values_of a) ≡ set (values_of b) = value_cmp-IsAntisymmetric (set (values_of a)) (set (values_of b)) h in
+    let same : set (values_of a) ≡ set (values_of b) =
+    value_cmp-IsAntisymmetric (set (values_of a)) (set (values_of b)) h in
     let members : values_of a ≡ values_of b = cc in
     sym (list_of-values_of a) ∙ ap list_of members ∙ list_of-values_of b
 
 pub record_cmp-IsAntisymmetric : IsAntisymmetric record_cmp
 record_cmp-IsAntisymmetric a b h =
-    let same : record_of (fields_of a) ≡ record_of (fields_of b) = value_cmp-IsAntisymmetric (record_of (fields_of a)) (record_of (fields_of b)) h in
+    let same : record_of (fields_of a) ≡ record_of (fields_of b) =
+    value_cmp-IsAntisymmetric (record_of (fields_of a)) (record_of (fields_of b)) h in
     let fields : fields_of a ≡ fields_of b = cc in
     sym (pairs_of-fields_of a) ∙ ap pairs_of fields ∙ pairs_of-fields_of b

@@ -3,7 +3,8 @@ use Rattle.std.specs.Prelude.{List, map, String, string_bytes, ℕ}
 use Rattle.std.specs.declared.alloc.Global.{Global}
 use Rattle.values.specs.declared.value.Kind.{Kind}
 use Rattle.values.specs.declared.value.Kind.TheVariants.{Boolean, Long, Text, Entity, Set, Record, Decimal, IpAddr}
-use Rattle.values.specs.Values.{PlainValue, boolean, long, text, entity, set, record_of, decimal, ipaddr, values_of, fields_of}
+use Rattle.values.specs.Values.{PlainValue, boolean, long, text, entity, set, record_of, decimal, ipaddr, values_of}
+use Rattle.values.specs.Values.{fields_of}
 
 abbrev pub of_kind : Kind → PlainValue
 of_kind (Boolean b) = boolean b

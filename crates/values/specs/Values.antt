@@ -1,5 +1,6 @@
 -- What a value of the policy language is, as plain data.
--- Source: Cedar reference guide 4.0, "Supported data types": boolean, long, string, entity, set, record, decimal, ipaddr.
+-- Source: Cedar reference guide 4.0, "Supported data types": boolean, long, string, entity, set, record, decimal,
+-- ipaddr.
 use Rattle.std.specs.Prelude.{◌≡◌, ℕ, suc, max, ℤ, List, [], ◌∷◌, Bool, refl}
 use Rattle.std.proofs.Common.{ap}
 use Rattle.extensions.specs.Network.{Network}

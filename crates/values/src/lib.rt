@@ -3,6 +3,7 @@
 #![tactic(auto)]
 
 mod entity_uid;
+mod laws;
 mod name;
 mod orders;
 mod path;
@@ -11,10 +12,13 @@ mod type_name;
 mod value;
 
 pub use entity_uid::EntityUid;
+pub use laws::{
+    paths_are_told, records_are_maps, sets_hold_their_members, values_stay_well_formed,
+};
 pub use name::Name;
 pub use orders::{
-    entity_uids_are_ordered, names_are_ordered, records_are_maps, records_are_ordered,
-    requests_are_ordered, sets_are_ordered, type_names_are_ordered, values_are_ordered,
+    entity_uids_are_ordered, names_are_ordered, records_are_ordered, requests_are_ordered,
+    sets_are_ordered, type_names_are_ordered, values_are_ordered,
 };
 pub use request::Request;
 pub use type_name::TypeName;

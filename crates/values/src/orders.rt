@@ -1,12 +1,11 @@
 // The orders of names, as laws.
-ghost use Rattle.std.specs.Prelude.{◌≡◌, ◌≢◌, ◌↔◌, ℕ, List, IsTrue, Contains, Some};
+ghost use Rattle.std.specs.Prelude.{◌≡◌, ◌↔◌, IsTrue, Contains};
 ghost use Rattle.std.specs.Cmp.Lexicographic.{slice_cmp};
 ghost use Rattle.std.specs.List.Sorted.{IsStrictlySortedBy};
 ghost use Rattle.std.specs.Cmp.{IsTotalOrder};
 ghost use Rattle.std.specs.FinMap.{IsAntisymmetric};
 ghost use Rattle.values.specs.Names.{text_cmp, uid_cmp, name_cmp, request_cmp};
 ghost use Rattle.values.specs.ValueOrder.{value_cmp, set_cmp, record_cmp, field_cmp};
-ghost use Rattle.values.specs.Fields.{find_field, put};
 
 use crate::entity_uid::EntityUid;
 use crate::name::Name;
@@ -63,7 +62,8 @@ pub fn values_are_ordered()
 pub fn sets_are_ordered()
     ensures by { (a b : Set) → ⟦<Set as Ord>⟧.cmp a b ≡ slice_cmp value_cmp a b }
     ensures same { (a b : Set) → IsTrue (⟦<Set as PartialEq>⟧.eq a b) ↔ (a ≡ b) }
-    ensures members { (a b : Set) → IsStrictlySortedBy value_cmp a → IsStrictlySortedBy value_cmp b → ((v : Value) → Contains a v ↔ Contains b v) → a ≡ b }
+    ensures members { (a b : Set) → IsStrictlySortedBy value_cmp a → IsStrictlySortedBy value_cmp b
+        → ((v : Value) → Contains a v ↔ Contains b v) → a ≡ b }
 {}
 
 /// Records are compared field by field, by the key and then by the value, as lists that ascend by keys, a beginning
@@ -71,10 +71,4 @@ pub fn sets_are_ordered()
 pub fn records_are_ordered()
     ensures by { (a b : Record) → ⟦<Record as Ord>⟧.cmp a b ≡ slice_cmp field_cmp a b }
     ensures same { (a b : Record) → IsTrue (⟦<Record as PartialEq>⟧.eq a b) ↔ (a ≡ b) }
-{}
-
-/// A record is a finite map: a field that was set has its value, and each other field what it had.
-pub fn records_are_maps()
-    ensures here { (key : List ℕ) (value : Value) (fields : Record) → find_field key (put key value fields) ≡ Some value }
-    ensures others { (key other : List ℕ) (value : Value) (fields : Record) → other ≢ key → find_field other (put key value fields) ≡ find_field other fields }
 {}

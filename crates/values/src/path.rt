@@ -1,7 +1,7 @@
 // Whether a text is a Path of the policy language.
 ghost use Rattle.std.specs.Prelude.{◌≡◌, ◌≤◌, ◌↔◌, IsTrue, length};
 ghost use Rattle.plain.specs.Words.{is_letter, is_digit, is_word_byte, AllAre, IsReserved, IsIdent, IsPath};
-ghost use Rattle.values.specs.Scan.{run};
+ghost use Rattle.values.specs.inner.Scan.{run};
 
 #[tactic(auto, unfolding(plain::specs::Words::is_letter))]
 fn letter(byte: u8) -> bool

@@ -1,14 +1,17 @@
 // Values of the policy language, seen as plain data.
-ghost use Rattle.std.specs.Prelude.{◌≡◌, ◌↔◌, IsTrue, Contains, List, [], Some, IfOk, OnOk, OnErr, string_bytes, option_map, refl, map};
+ghost use Rattle.std.specs.Prelude.{◌≡◌, ◌↔◌, IsTrue, Contains, List, [], Some, IfOk, OnOk, OnErr, string_bytes};
+ghost use Rattle.std.specs.Prelude.{option_map, refl, map};
 ghost use Rattle.std.specs.Ordering.{is_eq};
 ghost use Rattle.std.specs.Cmp.{partial_equiv_from_equiv, partial_order_from_agreeing_total};
 ghost use Rattle.std.proofs.lemmas.Cmp.{eq_by_cmp_equiv};
 ghost use Rattle.std.specs.List.{list_any, list_all};
 ghost use Rattle.std.specs.List.Sorted.{IsStrictlySortedBy};
-ghost use Rattle.values.specs.Fields.{find_field, put};
+ghost use Rattle.values.specs.Fields.{AreKeysAscending, find_field, put};
 ghost use Rattle.values.specs.Sets.{set_list, has_member};
-ghost use Rattle.values.specs.Values.{PlainValue, boolean, long, text, entity, set, record_of, decimal, ipaddr, values_of, fields_of};
-ghost use Rattle.values.specs.ValueOrder.{value_cmp, set_cmp, record_cmp, kind_rank, value_cmp-IsTotalOrder, set_cmp-IsTotalOrder, record_cmp-IsTotalOrder};
+ghost use Rattle.values.specs.Values.{PlainValue, boolean, long, text, entity, set, record_of, decimal, ipaddr};
+ghost use Rattle.values.specs.Values.{values_of, fields_of};
+ghost use Rattle.values.specs.ValueOrder.{value_cmp, set_cmp, record_cmp, kind_rank, value_cmp-IsTotalOrder};
+ghost use Rattle.values.specs.ValueOrder.{set_cmp-IsTotalOrder, record_cmp-IsTotalOrder};
 ghost use Rattle.values.specs.ValueView.{of_kind, of_entries};
 
 use crate::entity_uid::EntityUid;
@@ -342,8 +345,10 @@ impl Record {
 
     /// The fields, whose keys ascend by their bytes; takes no memory.
     pub fn as_map(&self) -> &BTreeMap<String, Value>
-        ensures { of_entries result.now.entries ≡ self.now }
+        ensures is { of_entries result.now.entries ≡ self.now }
+        ensures ascending { AreKeysAscending self.now }
     {
+        let _ordered = self.fields.len();
         &self.fields
     }
 

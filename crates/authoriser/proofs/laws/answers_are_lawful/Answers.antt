@@ -1,13 +1,18 @@
-use Rattle.authoriser.proofs.Lawful.{one_answer, one_answer_in_finite, default_deny, forbid_decides, idle_changes_nothing, order_does_not_matter, lists_ascend}
+use Rattle.authoriser.proofs.Lawful.{lists_ascend}
+use Rattle.authoriser.proofs.Existing.{one_answer_in_finite}
+use Rattle.authoriser.proofs.Policies.{default_deny, forbid_decides, leaving_out_changes_nothing, order_does_not_matter}
 use Rattle.authoriser.proofs.laws.answers_are_lawful.Goals as goal
 
 pub returns : goal.returns
-returns c = record {
-  one = one_answer c.expressions_have_one_outcome.ensures.decided;
-  finite = one_answer_in_finite c.expressions_have_one_outcome.ensures.finite;
-  default_deny = default_deny;
-  forbid = forbid_decides;
-  idle = idle_changes_nothing;
-  order = order_does_not_matter;
-  ascending = lists_ascend;
-}
+returns c =
+    let law = c.expressions_have_one_outcome.ensures in
+    record {
+      one = c.answers_are_one.ensures;
+      finite = one_answer_in_finite c.paths_are_decided.ensures law.decided law.memory c.answers_are_one.ensures;
+      default_deny = default_deny;
+      forbid = forbid_decides law.decided;
+      idle = c.idle_policies_change_nothing.ensures;
+      left_out = leaving_out_changes_nothing c.idle_policies_change_nothing.ensures;
+      order = order_does_not_matter law.decided;
+      ascending = lists_ascend;
+    }

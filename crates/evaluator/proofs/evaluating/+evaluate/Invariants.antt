@@ -1,5 +1,5 @@
 use Rattle.std.proofs.Common.{◌≡◌, drop, ◌++◌, map, Ok, []}
-use Rattle.evaluator.specs.Computing.{entities_of, and_then, meaning, named_meaning, each, each_field}
+use Rattle.evaluator.specs.inner.Computing.{entities_of, and_then, meaning, named_meaning, each, each_field}
 use Rattle.evaluator.proofs.evaluating.+evaluate.Given as goal
 
 abbrev pub invariant-evaluate_each-loop-expr : goal.invariant-evaluate_each-loop-expr

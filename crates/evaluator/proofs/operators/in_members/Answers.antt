@@ -4,7 +4,7 @@ use Rattle.std.specs.Borrow.{Bor}
 use Rattle.values.specs.declared.entity_uid.EntityUid.{EntityUid}
 use Rattle.ancestor_closure.specs.Hierarchy.{names}
 use Rattle.evaluator.specs.Operators.{world_of}
-use Rattle.evaluator.specs.Computing.{entities_of, is_in}
+use Rattle.evaluator.specs.inner.Computing.{entities_of, is_in}
 use Rattle.evaluator.proofs.Membership.{within_is, newly_found, found_before, member_judged}
 use Rattle.evaluator.proofs.operators.in_members.Goals as goal
 use Rattle.evaluator.proofs.operators.in_members.Goals.{then-not-found, else-not-found}

@@ -1,5 +1,5 @@
 use Rattle.std.proofs.Common.{◌≡◌, drop, ◌||◌, Ok}
-use Rattle.evaluator.specs.Computing.{entities_of, in_members, and_then}
+use Rattle.evaluator.specs.inner.Computing.{entities_of, in_members, and_then}
 use Rattle.evaluator.proofs.operators.in_members.Given as goal
 
 abbrev pub invariant-loop-member : goal.invariant-loop-member

@@ -47,15 +47,23 @@ module _ (T U : RattleType) (change : T.Denot → U.Denot) where
   unfolding part_of
   rc_alike same = record {
     mir_same = λ i. (rc_row (one_value T (same.mir_same i) (λ _. ftrue) (λ _ _. nothing) gnil)).mir;
-    own_same = λ b i. (rc_row (one_value T (same.mir_same i) (same.own_same b.value i) (same.shr_same b.value i) gnil)).own_val (refilled b tt);
-    shr_same = λ b i. (rc_row (one_value T (same.mir_same i) (same.own_same b.value i) (same.shr_same b.value i) gnil)).shr_at (refilled b tt);
+    own_same = λ b i. (rc_row
+        (one_value T (same.mir_same i) (same.own_same b.value i) (same.shr_same b.value i) gnil)).own_val
+        (refilled b tt);
+    shr_same = λ b i. (rc_row
+        (one_value T (same.mir_same i) (same.own_same b.value i) (same.shr_same b.value i) gnil)).shr_at
+        (refilled b tt);
   }
 
-  pub the_places : Alike T U change → Alike (seen.the_row T) (seen.the_row U) ((the_former this).map T.Denot U.Denot change)
-  the_places same = view_places layout this view (λ X Y f s. refl) (λ X s. refl) T.Denot U.Denot change (seen.the_row T).coded (seen.the_row U).coded
+  pub the_places : Alike T U change
+      → Alike (seen.the_row T) (seen.the_row U) ((the_former this).map T.Denot U.Denot change)
+  the_places same = view_places layout this view (λ X Y f s. refl) (λ X s. refl) T.Denot U.Denot change
+      (seen.the_row T).coded (seen.the_row U).coded
       (invariant T.Denot) (invariant U.Denot) (λ s p q. refl) (λ s p q. refl) (λ s e. tt) (λ s e. tt)
       (over (inner.the_row T)) (over (inner.the_row U))
-      (struct_places (inner.the_type T) (inner.the_type U) ((λ b. refilled b (change b.value)), tt) _ (λ s. refl) refl (laid _ _ _ (rc_alike same), tt))
+      (struct_places (inner.the_type T) (inner.the_type U) ((λ b. refilled b (change b.value)), tt) _ (λ s. refl) refl
+      (laid _ _ _ (rc_alike same), tt))
 
-  pub the_codes_placed : Recodes T U change → Recodes (seen.the_row T) (seen.the_row U) ((the_former this).map T.Denot U.Denot change)
+  pub the_codes_placed : Recodes T U change
+      → Recodes (seen.the_row T) (seen.the_row U) ((the_former this).map T.Denot U.Denot change)
   the_codes_placed recodes value = recodes value

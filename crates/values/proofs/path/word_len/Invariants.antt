@@ -1,6 +1,6 @@
 use Rattle.std.proofs.Common.{◌≡◌, ◌+◌, drop}
 use Rattle.plain.specs.Words.{is_word_byte}
-use Rattle.values.specs.Scan.{run}
+use Rattle.values.specs.inner.Scan.{run}
 use Rattle.values.proofs.path.word_len.Given as goal
 
 abbrev pub invariant-loop-byte : goal.invariant-loop-byte

@@ -4,7 +4,7 @@ use Rattle.std.specs.Map.{keys_of}
 use Rattle.values.specs.Values.{set, record_of, height, heights, field_heights, values_of, fields_of}
 use Rattle.std.proofs.lemmas.List.{append-nil}
 use Rattle.values.specs.ValueView.{of_kind, of_entries}
-use Rattle.values.proofs.Records.{Entry, of_entries-insert_entry, put_last}
+use Rattle.values.proofs.Records.{Entry, insertion, next_set}
 use Rattle.values.proofs.Depths.{member_height, field_height}
 use Rattle.values.proofs.value.+copy.Goals as goal
 
@@ -36,7 +36,7 @@ Record::copy-loop-key-preserved t c =
       i.0 ++ e ∷ [],
       i.1 ∙ ap of_entries (all ∙ sym (append_assoc i.0 (e ∷ []) left)),
       subst (λ es. IsStrictlySortedBy string_cmp (keys_of es)) (sym (append_assoc i.0 (e ∷ []) left)) sorted,
-      ap of_entries c.in_ok-insert.ensures.entries ∙ (of_entries-insert_entry c.loop-key.copies.entries c.in_ok-name.name c.in_ok-copy.field-0 ∙ rw (named, c.in_ok-copy.ensures, i.3) (put_last i.0 e left sorted)),
+      ap of_entries c.in_ok-insert.ensures.entries ∙ (insertion c.loop-key.copies.entries c.in_ok-name.name c.in_ok-copy.field-0 ∙ rw (named, c.in_ok-copy.ensures, i.3) (next_set i.0 e left sorted)),
     )
 
 pub Record::copy-returns : goal.Record::copy-returns

@@ -1,0 +1,4 @@
+pub mod Computing
+pub mod Decided
+pub mod Meanings
+pub mod TextsDecided

@@ -1,0 +1,232 @@
+-- What an expression gives, as a function that computes it: the relation of Evaluation.antt again, where a test decides
+-- who is above whom.
+use Rattle.std.specs.Prelude.{◌≡◌, ◌≢◌, ℕ, ℤ, pos, neg_ℤ, ◌+ℤ◌, ◌-ℤ◌, ◌*ℤ◌, int_lt, int_le, List, [], ◌∷◌, Bool, true}
+use Rattle.std.specs.Prelude.{false, not, ◌&&◌, ◌||◌, if◌then◌else◌, Option, Some, None, is_some, Result, Ok, Err}
+use Rattle.std.specs.Prelude.{MatchResult}
+use Rattle.std.proofs.Common.{inl, inr}
+use Rattle.std.specs.List.{list_any, list_all}
+use Rattle.std.specs.Ordering.{is_eq}
+use Rattle.std.specs.Str.{bytes_eq}
+use Rattle.extensions.specs.declared.ip_net.Version.{Version}
+use Rattle.extensions.specs.declared.ip_net.Version.TheVariants.{V4, V6}
+use Rattle.extensions.specs.Network.{Network, loopback_v4, loopback_v6, multicast_v4, multicast_v6}
+use Rattle.extensions.specs.DecimalText.{IsDecimalText}
+use Rattle.extensions.specs.NetworkText.{IsNetworkText}
+use Rattle.values.specs.declared.entity_uid.EntityUid.{EntityUid}
+use Rattle.values.specs.declared.request.Request.{Request}
+use Rattle.values.specs.Names.{uid_cmp}
+use Rattle.values.specs.Fields.{Field, put, find_field}
+use Rattle.values.specs.Sets.{set_list, has_member}
+use Rattle.values.specs.Values.{PlainValue, boolean, long, entity, set, record_of, decimal, ipaddr, list_of, values_of}
+use Rattle.values.specs.Values.{pairs_of, fields_of}
+use Rattle.values.specs.ValueOrder.{value_cmp}
+use Rattle.expressions.specs.LikeTest.{is_match}
+use Rattle.expressions.specs.declared.operator.Unary.{Unary}
+use Rattle.expressions.specs.declared.operator.Unary.TheVariants.{Not, Negate, Like, Is}
+use Rattle.expressions.specs.declared.operator.Binary.{Binary}
+use Rattle.expressions.specs.declared.operator.Binary.TheVariants.{Equal, In, Less, LessOrEqual, Add, Subtract}
+use Rattle.expressions.specs.declared.operator.Binary.TheVariants.{Multiply, Contains, ContainsAll, ContainsAny}
+use Rattle.expressions.specs.declared.operator.UnaryCall.{UnaryCall}
+use Rattle.expressions.specs.declared.operator.UnaryCall.TheVariants.{Ip, Decimal, IsIpv4, IsIpv6, IsLoopback}
+use Rattle.expressions.specs.declared.operator.UnaryCall.TheVariants.{IsMulticast}
+use Rattle.expressions.specs.declared.operator.BinaryCall.{BinaryCall}
+use Rattle.expressions.specs.declared.operator.BinaryCall.TheVariants.{LessThan, LessThanOrEqual, GreaterThan}
+use Rattle.expressions.specs.declared.operator.BinaryCall.TheVariants.{GreaterThanOrEqual, IsInRange}
+use Rattle.expressions.specs.declared.expr.Named.{Named}
+use Rattle.expressions.specs.declared.expr.Expr.{Expr}
+use Rattle.expressions.specs.declared.expr.Expr.TheOpen.{Expr-F}
+use Rattle.expressions.specs.declared.expr.Expr.TheFolds.{fold-Expr}
+use Rattle.evaluator.specs.declared.fault.EvalFault.{EvalFault}
+use Rattle.evaluator.specs.declared.fault.EvalFault.TheVariants.{EntityDoesNotExist, AttrDoesNotExist, TypeError}
+use Rattle.evaluator.specs.declared.fault.EvalFault.TheVariants.{ArithBoundsError, ExtensionError, NoMemory}
+use Rattle.evaluator.specs.inner.Decided.{Decided, told}
+use Rattle.evaluator.specs.inner.TextsDecided.{decimal_text_decided, network_text_decided, in_either_decided}
+use Rattle.evaluator.specs.inner.TextsDecided.{within_decided}
+use Rattle.evaluator.specs.Outcomes.{Outcome, boolean_in, long_in, text_in, entity_in, members_in, decimal_in}
+use Rattle.evaluator.specs.Outcomes.{network_in}
+use Rattle.evaluator.specs.Evaluation.{literal_value, variable_value}
+
+-- the attributes of each stored entity, and whether one is above another
+pub record Entities : Type 0 where
+  pub stored : EntityUid → Option (List Field)
+  pub above : EntityUid → EntityUid → Bool
+
+abbrev pub entities_of : (EntityUid → Option (List Field)) → (EntityUid → EntityUid → Bool) → Entities
+entities_of stored above = record { stored = stored; above = above }
+
+-- goes on with a value, or stays at an error
+abbrev pub and_then : {A B : Type 0} → Result A EvalFault → (A → Result B EvalFault) → Result B EvalFault
+and_then (Ok v) f = f v
+and_then (Err e) f = Err e
+
+-- what was asked of a value, or that it is of another kind
+abbrev pub demanded : {A : Type 0} → Option A → Result A EvalFault
+demanded None = Err TypeError
+demanded (Some a) = Ok a
+
+abbrev pub truth : Bool → Outcome
+truth b = Ok (boolean b)
+
+-- whether signed 64 bits hold a number
+abbrev pub is_bounded : ℤ → Bool
+is_bounded z = int_le (neg_ℤ (pos 9223372036854775808)) z && int_lt z (pos 9223372036854775808)
+
+abbrev pub bounded : ℤ → Outcome
+bounded z = if is_bounded z then Ok (long z) else Err ArithBoundsError
+
+-- what checked arithmetic comes to
+abbrev pub number_or_fault : Option ℤ → Outcome
+number_or_fault None = Err ArithBoundsError
+number_or_fault (Some z) = Ok (long z)
+
+abbrev pub apply_unary : Unary → PlainValue → Outcome
+apply_unary Not v = and_then (demanded (boolean_in v)) (λ b. truth (not b))
+apply_unary Negate v = and_then (demanded (long_in v)) (λ z. bounded (neg_ℤ z))
+apply_unary (Like pattern) v = and_then (demanded (text_in v)) (λ t. truth (is_match pattern t))
+apply_unary (Is name) v = and_then (demanded (entity_in v)) (λ u. truth (bytes_eq u.type_name name))
+
+-- whether one entity is in another
+abbrev pub is_in : Entities → EntityUid → EntityUid → Bool
+is_in E a b = is_eq (uid_cmp a b) || E.above b a
+
+-- whether an entity is in some member, all of which have to be entities
+abbrev pub in_members : Entities → EntityUid → List PlainValue → Result Bool EvalFault
+in_members E a [] = Ok false
+in_members E a (v ∷ vs) =
+    and_then (demanded (entity_in v)) (λ b. and_then (in_members E a vs) (λ rest. Ok (is_in E a b || rest)))
+
+abbrev pub in_value : Entities → EntityUid → PlainValue → Outcome
+in_value E a (entity b) = truth (is_in E a b)
+in_value E a (set vs) = and_then (in_members E a (list_of vs)) truth
+in_value E a v = Err TypeError
+
+abbrev pub numbers : (ℤ → ℤ → Outcome) → PlainValue → PlainValue → Outcome
+numbers f v w = and_then (demanded (long_in v)) (λ x. and_then (demanded (long_in w)) (λ y. f x y))
+
+abbrev pub sets : (List PlainValue → List PlainValue → Bool) → PlainValue → PlainValue → Outcome
+sets f v w = and_then (demanded (members_in v)) (λ x. and_then (demanded (members_in w)) (λ y. truth (f x y)))
+
+abbrev pub apply_binary : Entities → Binary → PlainValue → PlainValue → Outcome
+apply_binary E Equal v w = truth (is_eq (value_cmp v w))
+apply_binary E In v w = and_then (demanded (entity_in v)) (λ a. in_value E a w)
+apply_binary E Less v w = numbers (λ x y. truth (int_lt x y)) v w
+apply_binary E LessOrEqual v w = numbers (λ x y. truth (int_le x y)) v w
+apply_binary E Add v w = numbers (λ x y. bounded (x +ℤ y)) v w
+apply_binary E Subtract v w = numbers (λ x y. bounded (x -ℤ y)) v w
+apply_binary E Multiply v w = numbers (λ x y. bounded (x *ℤ y)) v w
+apply_binary E Contains v w = and_then (demanded (members_in v)) (λ x. truth (has_member x w))
+apply_binary E ContainsAll v w = sets (λ x y. list_all (has_member x) y) v w
+apply_binary E ContainsAny v w = sets (λ x y. list_any (has_member x) y) v w
+
+abbrev pub found_or : EvalFault → Option PlainValue → Outcome
+found_or e None = Err e
+found_or e (Some v) = Ok v
+
+abbrev pub attribute : Option (List Field) → List ℕ → Outcome
+attribute None name = Err EntityDoesNotExist
+attribute (Some fs) name = found_or AttrDoesNotExist (find_field name fs)
+
+abbrev pub field_of : Entities → List ℕ → PlainValue → Outcome
+field_of E name (record_of fs) = found_or AttrDoesNotExist (find_field name (pairs_of fs))
+field_of E name (entity u) = attribute (E.stored u) name
+field_of E name v = Err TypeError
+
+abbrev pub has_attribute : Option (List Field) → List ℕ → Bool
+has_attribute None name = false
+has_attribute (Some fs) name = is_some (find_field name fs)
+
+abbrev pub has_field : Entities → List ℕ → PlainValue → Outcome
+has_field E name (record_of fs) = truth (is_some (find_field name (pairs_of fs)))
+has_field E name (entity u) = truth (has_attribute (E.stored u) name)
+has_field E name v = Err TypeError
+
+-- what a text is read as
+abbrev pub decimal_read : {t : List ℕ} → Decided ((z : ℤ) × IsDecimalText t z) → Outcome
+decimal_read (inl h) = Ok (decimal h.0)
+decimal_read (inr n) = Err ExtensionError
+
+abbrev pub network_read : {t : List ℕ} → Decided ((n : Network) × IsNetworkText t n) → Outcome
+network_read (inl h) = Ok (ipaddr h.0)
+network_read (inr n) = Err ExtensionError
+
+abbrev pub is_v4 : Version → Bool
+is_v4 V4 = true
+is_v4 V6 = false
+
+-- the tests of an address
+abbrev pub tested : (Network → Bool) → PlainValue → Outcome
+tested f v = and_then (demanded (network_in v)) (λ n. truth (f n))
+
+abbrev pub apply_unary_call : UnaryCall → PlainValue → Outcome
+apply_unary_call Decimal v = and_then (demanded (text_in v)) (λ t. decimal_read (decimal_text_decided t))
+apply_unary_call Ip v = and_then (demanded (text_in v)) (λ t. network_read (network_text_decided t))
+apply_unary_call IsIpv4 v = tested (λ n. is_v4 n.version) v
+apply_unary_call IsIpv6 v = tested (λ n. not (is_v4 n.version)) v
+apply_unary_call IsLoopback v = tested (λ n. told (in_either_decided n loopback_v4 loopback_v6)) v
+apply_unary_call IsMulticast v = tested (λ n. told (in_either_decided n multicast_v4 multicast_v6)) v
+
+abbrev pub decimals : (ℤ → ℤ → Bool) → PlainValue → PlainValue → Outcome
+decimals f v w = and_then (demanded (decimal_in v)) (λ x. and_then (demanded (decimal_in w)) (λ y. truth (f x y)))
+
+abbrev pub networks : (Network → Network → Bool) → PlainValue → PlainValue → Outcome
+networks f v w = and_then (demanded (network_in v)) (λ x. and_then (demanded (network_in w)) (λ y. truth (f x y)))
+
+abbrev pub apply_binary_call : BinaryCall → PlainValue → PlainValue → Outcome
+apply_binary_call LessThan v w = decimals (λ x y. int_lt x y) v w
+apply_binary_call LessThanOrEqual v w = decimals (λ x y. int_le x y) v w
+apply_binary_call GreaterThan v w = decimals (λ x y. int_lt y x) v w
+apply_binary_call GreaterThanOrEqual v w = decimals (λ x y. int_le y x) v w
+apply_binary_call IsInRange v w = networks (λ m n. told (within_decided m n)) v w
+
+-- each in order, up to the first error
+abbrev pub each : List Outcome → Result (List PlainValue) EvalFault
+each [] = Ok []
+each (r ∷ rs) = and_then r (λ v. and_then (each rs) (λ vs. Ok (v ∷ vs)))
+
+-- the fields that are done already, with each further one, up to the first error
+abbrev pub each_field : List (Named Outcome) → List Field → Result (List Field) EvalFault
+each_field [] done = Ok done
+each_field (f ∷ fs) done = and_then f.value (λ v. each_field fs (put f.name v done))
+
+abbrev pub as_test : Outcome → Result Bool EvalFault
+as_test r = and_then r (λ v. demanded (boolean_in v))
+
+-- what one branch gives, by the test
+abbrev pub choice : Outcome → Outcome → Outcome → Outcome
+choice a b c = and_then (as_test a) (λ t. if t then b else c)
+
+-- whether both hold, the second being asked only where the first holds
+abbrev pub both : Outcome → Outcome → Outcome
+both a b = and_then (as_test a) (λ t. if t then and_then (as_test b) truth else truth false)
+
+-- whether one holds, the second being asked only where the first does not
+abbrev pub either : Outcome → Outcome → Outcome
+either a b = and_then (as_test a) (λ t. if t then truth true else and_then (as_test b) truth)
+
+-- what a form gives, whose parts give these
+abbrev pub meaning_step : Request → Entities → Expr-F Outcome → Outcome
+meaning_step q E (Expr-F.Literal l) = Ok (literal_value l)
+meaning_step q E (Expr-F.Variable x) = Ok (variable_value x q)
+meaning_step q E (Expr-F.If a b c) = choice a b c
+meaning_step q E (Expr-F.And a b) = both a b
+meaning_step q E (Expr-F.Or a b) = either a b
+meaning_step q E (Expr-F.Unary op a) = and_then a (apply_unary op)
+meaning_step q E (Expr-F.Binary op a b) = and_then a (λ v. and_then b (apply_binary E op v))
+meaning_step q E (Expr-F.Field a name) = and_then a (field_of E name)
+meaning_step q E (Expr-F.Has a name) = and_then a (has_field E name)
+meaning_step q E (Expr-F.Set rs) = and_then (each rs) (λ vs. Ok (set (values_of (set_list vs))))
+meaning_step q E (Expr-F.Record fs) = and_then (each_field fs []) (λ done. Ok (record_of (fields_of done)))
+meaning_step q E (Expr-F.UnaryCall called a) = and_then a (apply_unary_call called)
+meaning_step q E (Expr-F.BinaryCall called a b) = and_then a (λ v. and_then b (apply_binary_call called v))
+
+-- what an expression gives
+abbrev pub meaning : Request → Entities → Expr → Outcome
+meaning q E = fold-Expr Outcome (meaning_step q E)
+
+-- the same of a field's value
+abbrev pub named_meaning : Request → Entities → Named Expr → Named Outcome
+named_meaning q E f = record { name = f.name; value = meaning q E f.value }
+
+-- an answer is the outcome m, but where memory was refused
+abbrev pub Answers : {A : Type 0} → Result A EvalFault → Result A EvalFault → Type 0
+Answers r m = MatchResult r (λ v. m ≡ Ok v) (λ e. e ≢ NoMemory → m ≡ Err e)

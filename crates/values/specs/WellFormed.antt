@@ -1,0 +1,27 @@
+-- Values that are well formed at every depth: the members of each set in it ascend strictly, and so do the keys of each
+-- record. A rule of this product: so equal sets and equal records are equal lists.
+use Rattle.std.specs.Prelude.{⊤}
+use Rattle.std.specs.List.Sorted.{IsStrictlySortedBy}
+use Rattle.values.specs.Fields.{AreKeysAscending}
+use Rattle.values.specs.ValueOrder.{value_cmp}
+use Rattle.values.specs.Values.{PlainValue, boolean, long, text, entity, set, record_of, decimal, ipaddr, PlainValues}
+use Rattle.values.specs.Values.{no_values, value, PlainFields, no_fields, field, list_of, pairs_of}
+
+abbrev mutual
+  pub IsWellFormed : PlainValue → Type 0
+  IsWellFormed (boolean b) = ⊤
+  IsWellFormed (long z) = ⊤
+  IsWellFormed (text t) = ⊤
+  IsWellFormed (entity u) = ⊤
+  IsWellFormed (set vs) = IsStrictlySortedBy value_cmp (list_of vs) × AreMembersWellFormed vs
+  IsWellFormed (record_of fs) = AreKeysAscending (pairs_of fs) × AreFieldsWellFormed fs
+  IsWellFormed (decimal z) = ⊤
+  IsWellFormed (ipaddr n) = ⊤
+
+  pub AreMembersWellFormed : PlainValues → Type 0
+  AreMembersWellFormed no_values = ⊤
+  AreMembersWellFormed (value v vs) = IsWellFormed v × AreMembersWellFormed vs
+
+  pub AreFieldsWellFormed : PlainFields → Type 0
+  AreFieldsWellFormed no_fields = ⊤
+  AreFieldsWellFormed (field k v fs) = IsWellFormed v × AreFieldsWellFormed fs
