@@ -1,10 +1,9 @@
--- Reading an array of entities, as a loop does that keeps the uids it has met in a set.
-use Rattle.std.proofs.Common.{◌≡◌, ◌∙◌, ℕ, suc, ◌+◌, ◌<◌, Bool, true, false, not, cond, List, [], ◌∷◌, ◌++◌, length, map, take, drop, get_or, Option, Some, Result, Ok, Err, refl, sym, ap, add-one, arith}
+-- Reading an array of entities, as a loop does that puts each into a map.
+use Rattle.std.proofs.Common.{◌≡◌, ◌∙◌, ℕ, suc, ◌+◌, ◌<◌, Bool, true, false, not, List, [], ◌∷◌, length, map, take, drop, get_or, Option, Some, Result, Ok, Err, refl, sym, ap, add-one, arith}
 use Rattle.std.proofs.Math.Seq.{drop-cons}
-use Rattle.std.specs.Prelude.{⊤, ◌||◌}
+use Rattle.std.specs.Prelude.{⊤}
 use Rattle.std.specs.List.{list_any}
 use Rattle.std.proofs.lemmas.List.{take-map}
-use Rattle.std.proofs.lemmas.List.Folds.{list_any-append}
 use Rattle.serde_json.specs.Data.{Data}
 use Rattle.serde_json.specs.View.{view, items_view}
 use Rattle.serde_json.specs.declared.value.Value.{Value}
@@ -68,23 +67,10 @@ pub at_fault : (ds : List Data) (k : ℕ) (d : Data) (memory e : Refusal) → Fa
 unfolding entity_at
 at_fault ds k d memory e fails other = rw (fails other) refl
 
-either : (b c : Bool) → cond b true c ≡ (c || (b || false))
-either true true = refl
-either true false = refl
-either false true = refl
-either false false = refl
-
--- one more entity
-pub among_more : (u : EntityUid) (es : List BareEntity) (e : BareEntity) (old new : Bool) → new ≡ cond (is_same e.uid u) true old → old ≡ is_among u es → new ≡ is_among u (es ++ e ∷ [])
-among_more u es e old new is was = is ∙ either (is_same e.uid u) old ∙ ap (λ (b : Bool). b || (is_same e.uid u || false)) was ∙ sym (list_any-append (λ x. is_same x.uid u) es (e ∷ []))
-
-flip : (a b : Bool) → a ≡ not b → not a ≡ b
-flip a true h = rw h refl
-flip a false h = rw h refl
-
--- whether the set had the uid
-pub had : (uid : EntityUid) (ds : List Data) (es : List BareEntity) (added old : Bool) → added ≡ not old → old ≡ is_among uid es → is_before uid ds ≡ is_among uid es → is_before uid ds ≡ not added
-had uid ds es added old is was same = same ∙ sym was ∙ sym (flip added old is)
+-- whether the map had the uid
+pub had : (uid : EntityUid) (ds : List Data) (es : List BareEntity) (has first : Bool) → has ≡ not first → has ≡ is_among uid es → is_before uid ds ≡ is_among uid es →
+    is_before uid ds ≡ not first
+had uid ds es has first is was same = same ∙ sym was ∙ is
 
 -- ---- the JSON that is left
 

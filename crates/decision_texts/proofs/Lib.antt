@@ -1,9 +1,10 @@
-pub mod BareLemmas
+pub mod DecidedLemmas
 pub mod EntitiesLemmas
 pub mod LineLemmas
 pub mod NameLemmas
 pub mod OrderLemmas
 pub mod OutcomeLemmas
-pub mod PathLemmas
 pub mod RefusalLemmas
 pub mod StoreLemmas
+pub mod RequestLemmas
+pub mod FaultLemmas

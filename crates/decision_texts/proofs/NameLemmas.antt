@@ -18,63 +18,13 @@ use Rattle.std.proofs.lemmas.Map.Views.{Contains-from_any}
 use Rattle.std.proofs.lemmas.Slice.Eq.{bytes_eq-Decides}
 use Rattle.std.proofs.lemmas.Slice.Zip.{AllZip-long}
 use Rattle.policy_grammar.specs.declared.policy.Policy.{Policy}
-use Rattle.policy_grammar.specs.CoreOf.{IsCoreOf}
 use Rattle.policy_grammar.specs.PolicyText.{IsPolicyFile}
-use Rattle.policy_grammar.specs.Repeats.{Mark, StandsAgain, Nowhere, start_of, policy_marks}
-use Rattle.policy_grammar.proofs.Refusing.{names-long}
+use Rattle.policy_grammar.specs.Unique.{EachIsNamed, NamesDiffer}
 use Rattle.values.specs.Names.{text_cmp}
 use Rattle.authoriser.specs.Answers.{Named}
 use Rattle.authoriser.specs.Laws.{AreIdsAscending}
 use Rattle.authoriser.proofs.Ascending.{one_list}
 use Rattle.decision_texts.specs.Decisions.{named_policies, IsInOrder}
-
--- ---- names of which none stands again differ
-
-abbrev marked : List Mark → List (List ℕ)
-marked = map (λ m. m.name)
-
-bytes_same : (xs ys : List ℕ) → bytes_eq xs ys ≡ true → xs ≡ ys
-bytes_same xs ys = (bytes_eq-Decides xs ys).0
-
--- a name that some mark before has stands again
-again : (before : List Mark) (mark : Mark) (behind : List Mark) → list_any (bytes_eq mark.name) (marked before) ≡ true → StandsAgain (before ++ mark ∷ behind) mark.at
-again before mark behind found = record {
-  before = before;
-  mark = mark;
-  behind = behind;
-  whole = refl;
-  again = Contains-from_any bytes_same mark.name (marked before) found;
-  place = refl;
-}
-
--- so none before has it
-new : (before : List Mark) (mark : Mark) (behind : List Mark) → Nowhere (StandsAgain (before ++ mark ∷ behind)) → list_any (bytes_eq mark.name) (marked before) ≡ false
-new before mark behind none = elim (cases_Bool (list_any (bytes_eq mark.name) (marked before))) [
-  | inl found ↦ absurd (none mark.at (again before mark behind found))
-  | inr other ↦ other
-]
-
-differ : (before behind : List Mark) → Nowhere (StandsAgain (before ++ behind)) → IsDistinct bytes_eq (marked before) → IsDistinct bytes_eq (marked (before ++ behind))
-differ before [] none distinct = subst (λ ms. IsDistinct bytes_eq (marked ms)) (sym (append-nil before)) distinct
-differ before (mark ∷ behind) none distinct =
-    let whole : (before ++ mark ∷ []) ++ behind ≡ before ++ mark ∷ behind = append_assoc before (mark ∷ []) behind in
-    let more : IsDistinct bytes_eq (marked (before ++ mark ∷ [])) =
-    subst (IsDistinct bytes_eq) (sym (map-append (λ m. m.name) before (mark ∷ [])))
-    (IsDistinct-push nat_list_eq_equiv (marked before) mark.name distinct (new before mark behind none)) in
-    subst (λ ms. IsDistinct bytes_eq (marked ms)) whole (differ (before ++ mark ∷ []) behind (subst (λ ms. Nowhere (StandsAgain ms)) (sym whole) none) more)
-
-no_names : IsDistinct bytes_eq []
-unfolding IsDistinct
-no_names = tt
-
--- ---- the names of a file's policies
-
--- each name with the place of its policy
-marked_names : {T : Type 0} (start : T → ℕ) (names : List (List ℕ)) (trees : List T) → length names ≡ length trees →
-    marked (map (λ named. record { name = named.0; at = start named.1 }) (zip names trees)) ≡ names
-marked_names start [] trees long = refl
-marked_names start (name ∷ names) [] long = absurd (omega arith)
-marked_names start (name ∷ names) (tree ∷ trees) long = ap (λ (ns : List (List ℕ)). name ∷ ns) (marked_names start names trees (omega arith))
 
 abbrev ids : List Named → List (List ℕ)
 ids = map (λ p. p.id)
@@ -88,13 +38,10 @@ ids_named (name ∷ names) (policy ∷ policies) long = ap (λ (ns : List (List 
 abbrev pub HaveOwnNames : List Named → Type 0
 HaveOwnNames policies = IsDistinct bytes_eq (ids policies)
 
-pub own_names : (text : List ℕ) (names : List (List ℕ)) (policies : List Policy) → IsPolicyFile text names policies → HaveOwnNames (named_policies names policies)
-own_names text names policies file =
-    let named : length names ≡ length file.trees = names-long text file.trees names file.are.named in
-    let cores : length policies ≡ length file.trees = AllZip-long (IsCoreOf text) file.trees policies file.are.cores in
-    let marks = policy_marks names file.trees in
-    subst (IsDistinct bytes_eq) (marked_names start_of names file.trees named ∙ sym (ids_named names policies (named ∙ sym cores)))
-    (differ [] marks (λ at stands. file.are.faultless.distinct at (inl stands)) no_names)
+pub own_names : EachIsNamed → NamesDiffer → (text : List ℕ) (names : List (List ℕ)) (policies : List Policy) → IsPolicyFile text names policies
+    → HaveOwnNames (named_policies names policies)
+own_names each differ text names policies file =
+    subst (IsDistinct bytes_eq) (sym (ids_named names policies (each text names policies file))) (differ text names policies file)
 
 -- ---- one order
 

@@ -1,26 +1,24 @@
 -- Three texts have one outcome.
 use Rattle.std.proofs.Common.{◌≡◌, ◌∙◌, ℕ, List, map, Option, Some, None, Result, Ok, Err, MatchOption, inl, inr, sym, ap, subst, arith, codes}
-use Rattle.std.specs.Prelude.{◌≢◌, ⊤}
 use Rattle.serde_json.specs.Data.{Data}
-use Rattle.serde_json.specs.Find.{get, as_str}
+use Rattle.serde_json.specs.Find.{get}
 use Rattle.json_words.specs.Json.{json_of}
 use Rattle.values.specs.declared.entity_uid.EntityUid.{EntityUid}
 use Rattle.values.specs.declared.request.Request.{Request}
 use Rattle.policy_grammar.specs.declared.fault.ReadFault.{ReadFault}
-use Rattle.policy_grammar.specs.declared.fault.ReadFault.TheVariants.{NoMemory}
 use Rattle.policy_grammar.specs.declared.policy.Policy.{Policy}
-use Rattle.policy_grammar.specs.PolicyText.{IsUidText, IsUidRefused, IsFileRefused}
-use Rattle.policy_grammar.specs.Unique.{HasOneReading, IsFileOf}
+use Rattle.policy_grammar.specs.PolicyText.{IsFileRefused}
+use Rattle.policy_grammar.specs.Unique.{HasOneReading, IsFileOf, EachIsNamed, NamesDiffer}
+use Rattle.uid_json.specs.Uids.{NamesEntity}
+use Rattle.uid_json.specs.Laws.{OneName}
 use Rattle.authoriser.specs.declared.answer.Answer.{Answer}
 use Rattle.authoriser.specs.Answers.{Named, IsAnswer}
 use Rattle.authoriser.specs.Laws.{OneAnswerInFiniteHierarchies, ListsAscend}
 use Rattle.decision_texts.specs.declared.refusal.Refusal.{Refusal}
-use Rattle.decision_texts.specs.declared.bare.ShapeFault.TheVariants.{BadShape}
 use Rattle.decision_texts.specs.declared.bare.BareEntity.{BareEntity}
-use Rattle.decision_texts.specs.Bare.{uid_of, entities_of}
-use Rattle.decision_texts.specs.Requests.{Names, NamesNone, StatesRequest, StatesNoRequest, IsNoUidText}
+use Rattle.decision_texts.specs.Bare.{entities_of}
+use Rattle.decision_texts.specs.Requests.{StatesRequest}
 use Rattle.decision_texts.specs.Lines.{answer_line}
-use Rattle.decision_texts.specs.Refusals.{no_memory}
 use Rattle.decision_texts.specs.Decisions.{ArePoliciesOf, IsFileFault, refusal_by, world_in, named_policies, IsAnswerTo, ArePoliciesRefused}
 use Rattle.decision_texts.specs.Outcomes.{OneLine, NotBoth, OneRefusal, ListsOfLinesAscend}
 use Rattle.decision_texts.proofs.StoreLemmas.{all_parents}
@@ -28,7 +26,9 @@ use Rattle.decision_texts.proofs.NameLemmas.{HaveOwnNames, own_names, one_order,
 
 -- the laws of what the texts are made of
 pub record Laws : Type 0 where
-  pub uids : HasOneReading IsUidText IsUidRefused
+  pub names : OneName
+  pub each : EachIsNamed
+  pub differ : NamesDiffer
   pub files : HasOneReading IsFileOf IsFileRefused
   pub answers : OneAnswerInFiniteHierarchies
 
@@ -43,57 +43,35 @@ ok_or_err r x y h g = cc
 
 -- ---- policies
 
-file_or_fault : Laws → (bytes : List ℕ) (names : List (List ℕ)) (cores : List Policy) (fault : ReadFault) → ArePoliciesOf bytes names cores → IsFileFault bytes fault →
-    fault ≡ NoMemory
+file_or_fault : Laws → (bytes : List ℕ) (names : List (List ℕ)) (cores : List Policy) (fault : ReadFault) → ArePoliciesOf bytes names cores
+    → IsFileFault bytes fault → ⊥
 file_or_fault laws bytes names cores fault are (inl long) = let over = long.0 in let short = are.file.derives.short in absurd (omega arith)
-file_or_fault laws bytes names cores fault are (inr (inl bad)) = absurd (bad.1 are.utf8)
+file_or_fault laws bytes names cores fault are (inr (inl bad)) = bad.1 are.utf8
 file_or_fault laws bytes names cores fault are (inr (inr due)) = laws.files.not_both bytes (names, cores) fault are.file due.2
 
-fault_same : Laws → (bytes : List ℕ) (fault other : ReadFault) → IsFileFault bytes fault → IsFileFault bytes other → fault ≢ NoMemory → other ≢ NoMemory → fault ≡ other
-fault_same laws bytes fault other (inl a) (inl b) told heard = a.1 ∙ sym b.1
-fault_same laws bytes fault other (inl a) (inr (inl b)) told heard = let over = a.0 in let short = b.0 in absurd (omega arith)
-fault_same laws bytes fault other (inl a) (inr (inr b)) told heard = let over = a.0 in let short = b.0 in absurd (omega arith)
-fault_same laws bytes fault other (inr (inl a)) (inl b) told heard = let over = b.0 in let short = a.0 in absurd (omega arith)
-fault_same laws bytes fault other (inr (inl a)) (inr (inl b)) told heard = a.2 ∙ sym b.2
-fault_same laws bytes fault other (inr (inl a)) (inr (inr b)) told heard = absurd (a.1 b.1)
-fault_same laws bytes fault other (inr (inr a)) (inl b) told heard = let over = b.0 in let short = a.0 in absurd (omega arith)
-fault_same laws bytes fault other (inr (inr a)) (inr (inl b)) told heard = absurd (b.1 a.1)
-fault_same laws bytes fault other (inr (inr a)) (inr (inr b)) told heard = laws.files.one_refusal bytes fault other a.2 b.2 told heard
+fault_same : Laws → (bytes : List ℕ) (fault other : ReadFault) → IsFileFault bytes fault → IsFileFault bytes other → fault ≡ other
+fault_same laws bytes fault other (inl a) (inl b) = a.1 ∙ sym b.1
+fault_same laws bytes fault other (inl a) (inr (inl b)) = let over = a.0 in let short = b.0 in absurd (omega arith)
+fault_same laws bytes fault other (inl a) (inr (inr b)) = let over = a.0 in let short = b.0 in absurd (omega arith)
+fault_same laws bytes fault other (inr (inl a)) (inl b) = let over = b.0 in let short = a.0 in absurd (omega arith)
+fault_same laws bytes fault other (inr (inl a)) (inr (inl b)) = a.2 ∙ sym b.2
+fault_same laws bytes fault other (inr (inl a)) (inr (inr b)) = absurd (a.1 b.1)
+fault_same laws bytes fault other (inr (inr a)) (inl b) = let over = b.0 in let short = a.0 in absurd (omega arith)
+fault_same laws bytes fault other (inr (inr a)) (inr (inl b)) = absurd (b.1 a.1)
+fault_same laws bytes fault other (inr (inr a)) (inr (inr b)) = laws.files.one_refusal bytes fault other a.2 b.2
 
--- a refusal that is not for want of memory has a fault that isn't
-told_of : (fault : ReadFault) (refusal : Refusal) → refusal ≡ refusal_by fault → refusal ≢ no_memory → fault ≢ NoMemory
-told_of fault refusal is told same = told (is ∙ ap refusal_by same)
-
--- policies that are read are refused for want of memory alone
-read_or_refused : Laws → (bytes : List ℕ) (names : List (List ℕ)) (cores : List Policy) (refusal : Refusal) → ArePoliciesOf bytes names cores →
-    ArePoliciesRefused bytes refusal → refusal ≡ no_memory
-read_or_refused laws bytes names cores refusal are refused = refused.is ∙ ap refusal_by (file_or_fault laws bytes names cores refused.fault are refused.due)
+-- policies that are read are not refused
+read_or_refused : Laws → (bytes : List ℕ) (names : List (List ℕ)) (cores : List Policy) (refusal : Refusal) → ArePoliciesOf bytes names cores
+    → ArePoliciesRefused bytes refusal → ⊥
+read_or_refused laws bytes names cores refusal are refused = file_or_fault laws bytes names cores refused.fault are refused.due
 
 -- ---- requests
 
--- what a value names, by its text where it is a string
-abbrev NamesBy : Data → Option (List ℕ) → EntityUid → Type 0
-NamesBy d text uid = MatchOption text (uid_of d ≡ Ok uid) (λ bytes. IsUidText bytes uid)
-
-abbrev NamesNoneBy : Data → Option (List ℕ) → Type 0
-NamesNoneBy d text = MatchOption text (uid_of d ≡ Err BadShape) IsNoUidText
-
-uid_same : Laws → (d : Data) (o : Option (List ℕ)) (u v : EntityUid) → NamesBy d o u → NamesBy d o v → u ≡ v
-uid_same laws d None u v a b = ok_same (uid_of d) u v a b
-uid_same laws d (Some text) u v a b = laws.uids.one_value text u v a b
-
-uid_or_none : Laws → (d : Data) (o : Option (List ℕ)) (u : EntityUid) → NamesBy d o u → NamesNoneBy d o → ⊥
-uid_or_none laws d None u names none = ok_or_err (uid_of d) u BadShape names none
-uid_or_none laws d (Some text) u names none = none.told (laws.uids.not_both text u none.fault names none.refused)
-
 -- what stands at a key, if anything does
-found_same : Laws → (found : Option Data) (u v : EntityUid) → MatchOption found ⊥ (λ d. Names d u) → MatchOption found ⊥ (λ d. Names d v) → u ≡ v
+found_same : Laws → (found : Option Data) (u v : EntityUid) → MatchOption found ⊥ (λ d. NamesEntity d u) → MatchOption found ⊥ (λ d. NamesEntity d v)
+    → u ≡ v
 found_same laws None u v a b = absurd a
-found_same laws (Some d) u v a b = uid_same laws d (as_str d) u v a b
-
-found_or_none : Laws → (found : Option Data) (u : EntityUid) → MatchOption found ⊥ (λ d. Names d u) → MatchOption found ⊤ NamesNone → ⊥
-found_or_none laws None u names none = names
-found_or_none laws (Some d) u names none = uid_or_none laws d (as_str d) u names none
+found_same laws (Some d) u v a b = laws.names d u v a b
 
 asked_same : Laws → (json : Option Data) (q r : Request) → MatchOption json ⊥ (λ d. StatesRequest d q) → MatchOption json ⊥ (λ d. StatesRequest d r) → q ≡ r
 asked_same laws None q r a b = absurd a
@@ -104,23 +82,14 @@ asked_same laws (Some d) q r a b =
     let context : q.context ≡ r.context = a.nothing_known ∙ sym b.nothing_known in
     λ i. record { principal = principal i; action = action i; resource = resource i; context = context i }
 
-states_or_not : Laws → (d : Data) (q : Request) → StatesRequest d q → StatesNoRequest d → ⊥
-states_or_not laws d q states (inl none) = found_or_none laws (get (codes "principal") d) q.principal states.principal none
-states_or_not laws d q states (inr (inl none)) = found_or_none laws (get (codes "action") d) q.action states.action none
-states_or_not laws d q states (inr (inr (inl none))) = found_or_none laws (get (codes "resource") d) q.resource states.resource none
-states_or_not laws d q states (inr (inr (inr full))) = let empty = states.context in absurd (cc)
-
-asked_or_not : Laws → (json : Option Data) (q : Request) → MatchOption json ⊥ (λ d. StatesRequest d q) → MatchOption json ⊤ StatesNoRequest → ⊥
-asked_or_not laws None q states none = states
-asked_or_not laws (Some d) q states none = states_or_not laws d q states none
-
 -- ---- answers
 
 answer_same : Laws → (policies : List Named) (stored : List BareEntity) (asked : Request) (a b : Answer) → HaveOwnNames policies →
     IsAnswerTo policies stored asked a → IsAnswerTo policies stored asked b → a ≡ b
 answer_same laws policies stored asked a b own x y =
     let order : x.ordered ≡ y.ordered = one_order policies x.ordered y.ordered own x.order y.order in
-    laws.answers (world_in stored) (map (λ e. e.uid) stored) (all_parents stored) asked y.ordered a b (subst (λ ps. IsAnswer (world_in stored) asked ps a) order x.is) y.is
+    let one = laws.answers (world_in stored) (map (λ e. e.uid) stored) (all_parents stored) asked y.ordered in
+    one.2 a (subst (λ ps. IsAnswer (world_in stored) asked ps a) order x.is) ∙ sym (one.2 b y.is)
 
 -- ---- outcomes
 
@@ -132,28 +101,28 @@ one_line laws policies entities request line other x y =
     let moved = subst (λ (f : List (List ℕ) × List Policy). IsAnswerTo (named_policies f.0 f.1) y.stored y.asked x.answer) file
     (subst (λ (es : List BareEntity). IsAnswerTo (named_policies x.names x.cores) es y.asked x.answer) stored
     (subst (λ (q : Request). IsAnswerTo (named_policies x.names x.cores) x.stored q x.answer) asked x.answers)) in
-    let own = own_names policies y.names y.cores y.file.file in
+    let own = own_names laws.each laws.differ policies y.names y.cores y.file.file in
     x.line_is ∙ ap answer_line (answer_same laws (named_policies y.names y.cores) y.stored y.asked x.answer y.answer own moved y.answers) ∙ sym y.line_is
 
 pub not_both : Laws → NotBoth
 not_both laws policies entities request line refusal x (inl refused) = read_or_refused laws policies x.names x.cores refusal x.file refused
-not_both laws policies entities request line refusal x (inr (inl refused)) = absurd (ok_or_err (entities_of entities) x.stored refusal x.array refused.is)
-not_both laws policies entities request line refusal x (inr (inr refused)) = absurd (asked_or_not laws (json_of request) x.asked x.question refused.none)
+not_both laws policies entities request line refusal x (inr (inl refused)) = ok_or_err (entities_of entities) x.stored refusal x.array refused.is
+not_both laws policies entities request line refusal x (inr (inr refused)) = refused.none x.asked x.question
 
 pub one_refusal : Laws → OneRefusal
-one_refusal laws policies entities request refusal other (inl a) (inl b) told heard =
-    a.is ∙ ap refusal_by (fault_same laws policies a.fault b.fault a.due b.due (told_of a.fault refusal a.is told) (told_of b.fault other b.is heard)) ∙ sym b.is
-one_refusal laws policies entities request refusal other (inl a) (inr (inl b)) told heard = absurd (told (read_or_refused laws policies b.names b.cores refusal b.file a))
-one_refusal laws policies entities request refusal other (inl a) (inr (inr b)) told heard = absurd (told (read_or_refused laws policies b.names b.cores refusal b.file a))
-one_refusal laws policies entities request refusal other (inr (inl a)) (inl b) told heard = absurd (heard (read_or_refused laws policies a.names a.cores other a.file b))
-one_refusal laws policies entities request refusal other (inr (inl a)) (inr (inl b)) told heard = err_same (entities_of entities) refusal other a.is b.is
-one_refusal laws policies entities request refusal other (inr (inl a)) (inr (inr b)) told heard = absurd (ok_or_err (entities_of entities) b.stored refusal b.array a.is)
-one_refusal laws policies entities request refusal other (inr (inr a)) (inl b) told heard = absurd (heard (read_or_refused laws policies a.names a.cores other a.file b))
-one_refusal laws policies entities request refusal other (inr (inr a)) (inr (inl b)) told heard = absurd (ok_or_err (entities_of entities) a.stored other a.array b.is)
-one_refusal laws policies entities request refusal other (inr (inr a)) (inr (inr b)) told heard = a.is ∙ sym b.is
+one_refusal laws policies entities request refusal other (inl a) (inl b) =
+    a.is ∙ ap refusal_by (fault_same laws policies a.fault b.fault a.due b.due) ∙ sym b.is
+one_refusal laws policies entities request refusal other (inl a) (inr (inl b)) = absurd (read_or_refused laws policies b.names b.cores refusal b.file a)
+one_refusal laws policies entities request refusal other (inl a) (inr (inr b)) = absurd (read_or_refused laws policies b.names b.cores refusal b.file a)
+one_refusal laws policies entities request refusal other (inr (inl a)) (inl b) = absurd (read_or_refused laws policies a.names a.cores other a.file b)
+one_refusal laws policies entities request refusal other (inr (inl a)) (inr (inl b)) = err_same (entities_of entities) refusal other a.is b.is
+one_refusal laws policies entities request refusal other (inr (inl a)) (inr (inr b)) = absurd (ok_or_err (entities_of entities) b.stored refusal b.array a.is)
+one_refusal laws policies entities request refusal other (inr (inr a)) (inl b) = absurd (read_or_refused laws policies a.names a.cores other a.file b)
+one_refusal laws policies entities request refusal other (inr (inr a)) (inr (inl b)) = absurd (ok_or_err (entities_of entities) a.stored other a.array b.is)
+one_refusal laws policies entities request refusal other (inr (inr a)) (inr (inr b)) = a.is ∙ sym b.is
 
-pub lines_ascend : ListsAscend → ListsOfLinesAscend
-lines_ascend law policies entities request line x =
+pub lines_ascend : Laws → ListsAscend → ListsOfLinesAscend
+lines_ascend laws law policies entities request line x =
     let named = named_policies x.names x.cores in
-    law (world_in x.stored) x.asked x.answers.ordered x.answer (ids_ascend named x.answers.ordered (own_names policies x.names x.cores x.file.file) x.answers.order)
+    law (world_in x.stored) x.asked x.answers.ordered x.answer (ids_ascend named x.answers.ordered (own_names laws.each laws.differ policies x.names x.cores x.file.file) x.answers.order)
     x.answers.is

@@ -1,50 +1,29 @@
 -- Entities as JSON where no schema is at hand.
--- Source: Cedar reference guide 4.0, "Entities and context: JSON format": uid, attrs, parents, tags; a uid is {"type", "id"}, or that under `__entity`.
--- Rules of this product: without a schema an entity has no attributes and no tags; absent `attrs`, `parents` and `tags` are empty, and null is not absent;
--- other keys of an entity are ignored, those of a uid are not; an entity stands once in its array.
-use Rattle.std.specs.Prelude.{◌&&◌, Bool, true, false, not, ℕ, List, [], ◌∷◌, take, codes, Option, Some, None, Result, Ok, Err}
+-- Source: Cedar reference guide 4.0, "Entities and context: JSON format": uid, attrs, parents, tags; a uid is {"type",
+-- "id"}, or that under `__entity`. Rules of this product: without a schema an entity has no attributes and no tags;
+-- absent `attrs`, `parents` and `tags` are empty, and null is not absent; other keys of an entity are ignored, those of
+-- a uid are not; an entity stands once in its array.
+use Rattle.std.specs.Prelude.{◌&&◌, Bool, true, false, not, ℕ, List, [], ◌∷◌, take, codes, Option, Some, None, Result}
+use Rattle.std.specs.Prelude.{Ok, Err}
 use Rattle.std.specs.List.{list_any}
 use Rattle.serde_json.specs.Data.{Data, Items}
 use Rattle.serde_json.specs.Find.{get, as_array}
-use Rattle.json_words.specs.Json.{json_of, text_at}
+use Rattle.json_words.specs.Json.{json_of}
 use Rattle.json_words.specs.Keys.{has_only}
 use Rattle.json_words.specs.Each.{each, list_of}
 use Rattle.json_words.specs.Gives.{◌>>=◌, or_fault, demand}
 use Rattle.values.specs.declared.entity_uid.EntityUid.{EntityUid}
+use Rattle.uid_json.specs.Uids.{uid_in}
 use Rattle.ancestor_closure.specs.Decided.{is_same}
 use Rattle.decision_texts.specs.declared.refusal.Refusal.{Refusal}
 use Rattle.decision_texts.specs.declared.bare.ShapeFault.{ShapeFault}
 use Rattle.decision_texts.specs.declared.bare.ShapeFault.TheVariants.{BadShape}
 use Rattle.decision_texts.specs.declared.bare.BareEntity.{BareEntity}
-use Rattle.decision_texts.specs.Paths.{is_path}
 use Rattle.decision_texts.specs.Refusals.{bad_shape}
 
--- the type name that a text is: a Path without blanks or comments
-unfoldable pub type_name_of : List ℕ → Result (List ℕ) ShapeFault
-type_name_of text = do
-  path ← demand BadShape (is_path text)
-  Ok text
-
--- {"type": a type name, "id": any text}, and no other key
-unfoldable pub plain_uid : Data → Result EntityUid ShapeFault
-plain_uid d = do
-  shape ← demand BadShape (has_only (codes "type" ∷ codes "id" ∷ []) d)
-  name ← or_fault BadShape (text_at (codes "type") d)
-  id ← or_fault BadShape (text_at (codes "id") d)
-  type_name ← type_name_of name
-  Ok (record { type_name = type_name; id = id })
-
--- what stands under `__entity`, with no other key, or the value itself
-abbrev pub under_entity : Data → Option Data → Result Data ShapeFault
-under_entity d None = Ok d
-under_entity d (Some inner) = do
-  alone ← demand BadShape (has_only (codes "__entity" ∷ []) d)
-  Ok inner
-
-unfoldable pub uid_of : Data → Result EntityUid ShapeFault
-uid_of d = do
-  inner ← under_entity d (get (codes "__entity") d)
-  plain_uid inner
+-- the uid that a value is
+abbrev pub uid_of : Data → Result EntityUid ShapeFault
+uid_of d = or_fault BadShape (uid_in d)
 
 -- an object with no members, or nothing
 abbrev pub is_absent_or_empty : Option Data → Bool
@@ -87,7 +66,8 @@ placed place (Err fault) = Err (bad_shape place)
 unfoldable pub entity_at : List Data → ℕ → Data → Result BareEntity Refusal
 entity_at ds place d = do
   entity ← placed (Some place) (entity_of d)
-  first ← demand (bad_shape (Some place)) (not (list_any (λ earlier. names entity.uid (entity_of earlier)) (take place ds)))
+  first ← demand (bad_shape (Some place))
+      (not (list_any (λ earlier. names entity.uid (entity_of earlier)) (take place ds)))
   Ok entity
 
 -- the entities of an array, or the first fault with its place

@@ -1,7 +1,8 @@
 -- What three texts come to: the line of an answer, or the first refusal.
--- Rules of this product: the policies are judged before the entities, the entities before the request; a file that is too long is refused before it is
--- asked whether it is UTF-8, and bytes that are not UTF-8 are a bad token at place 0.
-use Rattle.std.specs.Prelude.{◌≡◌, ◌⊎◌, ◌≤◌, ◌<◌, ℕ, List, [], ◌∷◌, length, if◌then◌else◌, Option, Some, None, Ok, Err, IsPermutation}
+-- Rules of this product: the policies are judged before the entities, the entities before the request; a file that is
+-- too long is refused before it is asked whether it is UTF-8, and bytes that are not UTF-8 are a bad token at place 0.
+use Rattle.std.specs.Prelude.{◌≡◌, ◌⊎◌, ◌≤◌, ◌<◌, ℕ, List, [], ◌∷◌, length, if◌then◌else◌, Option, Some, None, Ok, Err}
+use Rattle.std.specs.Prelude.{IsPermutation}
 use Rattle.std.specs.List.{list_any}
 use Rattle.std.specs.List.Sorted.{IsSortedByKey}
 use Rattle.std.specs.Ordering.{nat_cmp}
@@ -50,7 +51,8 @@ pub record ArePoliciesRefused (bytes : List ℕ) (refusal : Refusal) : Type 0 wh
   pub due : IsFileFault bytes fault
   pub is : refusal ≡ refusal_by fault
 
--- ---- the entities: each is stored without attributes and has the parents that it states; no other entity is stored, and none has parents
+-- ---- the entities: each is stored without attributes and has the parents that it states; no other entity is stored,
+-- and none has parents
 
 abbrev pub parents_in : List BareEntity → Parents
 parents_in [] = no_parents
@@ -67,7 +69,8 @@ world_in es = world_of (stored_in es) (parents_in es)
 abbrev pub named_policies : List (List ℕ) → List Policy → List Named
 named_policies [] policies = []
 named_policies (name ∷ names) [] = []
-named_policies (name ∷ names) (policy ∷ policies) = record { id = name; policy = policy } ∷ named_policies names policies
+named_policies (name ∷ names) (policy ∷ policies) =
+    record { id = name; policy = policy } ∷ named_policies names policies
 
 -- the same policies, ascending by name
 pub record IsInOrder (policies ordered : List Named) : Type 0 where
@@ -75,16 +78,11 @@ pub record IsInOrder (policies ordered : List Named) : Type 0 where
   pub ascending : IsSortedByKey (λ p. p.id) (slice_cmp nat_cmp) ordered
 
 -- the answer to the request over these policies, tried in the order of their names, and these entities
-pub record IsAnswerTo (policies : List Named) (stored : List BareEntity) (asked : Request) (answer : Answer) : Type 0 where
+pub record IsAnswerTo (policies : List Named) (stored : List BareEntity) (asked : Request) (answer : Answer) : Type
+    0 where
   pub ordered : List Named
   pub order : IsInOrder policies ordered
   pub is : IsAnswer (world_in stored) asked ordered answer
-
--- the line of that answer
-pub record IsLineTo (policies : List Named) (stored : List BareEntity) (asked : Request) (line : List ℕ) : Type 0 where
-  pub answer : Answer
-  pub answers : IsAnswerTo policies stored asked answer
-  pub line_is : line ≡ answer_line answer
 
 -- ---- the three texts
 

@@ -1,8 +1,7 @@
 pub mod Refusals
-pub mod Paths
 pub mod Bare
 pub mod Requests
 pub mod Lines
 pub mod Decisions
-pub mod Stores
 pub mod Outcomes
+pub mod inner

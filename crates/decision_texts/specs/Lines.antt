@@ -3,13 +3,14 @@ use Rattle.std.specs.Prelude.{ℕ, List, map, codes}
 use Rattle.serde_json.specs.Data.{Data, string, object, array, no_members, member}
 use Rattle.serde_json.specs.View.{items_of}
 use Rattle.serde_json.specs.Written.{compact_text}
-use Rattle.values.specs.declared.entity_uid.EntityUid.{EntityUid}
+use Rattle.uid_json.specs.Uids.{uid_json}
 use Rattle.authoriser.specs.declared.answer.Answer.{Answer}
 use Rattle.authoriser.specs.declared.answer.Decision.{Decision}
 use Rattle.authoriser.specs.declared.answer.Decision.TheVariants.{Allow, Deny}
 use Rattle.authoriser.specs.declared.answer.Erring.{Erring}
 use Rattle.authoriser.specs.declared.outcome.PolicyError.{PolicyError}
-use Rattle.authoriser.specs.declared.outcome.PolicyError.TheVariants.{EntityDoesNotExist, AttrDoesNotExist, TypeError, ArithBoundsError, ExtensionError}
+use Rattle.authoriser.specs.declared.outcome.PolicyError.TheVariants.{EntityDoesNotExist, AttrDoesNotExist, TypeError}
+use Rattle.authoriser.specs.declared.outcome.PolicyError.TheVariants.{ArithBoundsError, ExtensionError}
 
 abbrev pub decision_word : Decision → List ℕ
 decision_word Allow = codes "Allow"
@@ -22,11 +23,9 @@ error_word TypeError = codes "typeError"
 error_word ArithBoundsError = codes "arithBoundsError"
 error_word ExtensionError = codes "extensionError"
 
-abbrev pub uid_json : EntityUid → Data
-uid_json uid = object (member (codes "id") (string uid.id) (member (codes "type") (string uid.type_name) no_members))
-
 abbrev pub erring_json : Erring → Data
-erring_json e = object (member (codes "error") (string (error_word e.error)) (member (codes "policy") (string e.policy) no_members))
+erring_json e = object (member (codes "error") (string (error_word e.error))
+    (member (codes "policy") (string e.policy) no_members))
 
 abbrev pub each_json : {X : Type 0} → (X → Data) → List X → Data
 each_json f xs = array (items_of (map f xs))
@@ -39,7 +38,8 @@ under_keys cycle decision errors reason = object (member (codes "cycle") cycle
     (member (codes "reason") reason no_members))))
 
 abbrev pub answer_json : Answer → Data
-answer_json a = under_keys (each_json uid_json a.cycle) (decision_word a.decision) (each_json erring_json a.errors) (each_json (λ id. string id) a.reason)
+answer_json a = under_keys (each_json uid_json a.cycle) (decision_word a.decision) (each_json erring_json a.errors)
+    (each_json (λ id. string id) a.reason)
 
 -- {"cycle":[],"decision":"Allow","errors":[],"reason":["policy0"]}
 unfoldable pub answer_line : Answer → List ℕ

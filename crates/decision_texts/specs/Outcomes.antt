@@ -1,27 +1,30 @@
 -- That three texts come to one thing: one line, or one refusal, and never both.
--- A rule of this product: what texts come to follows from the texts alone. Only want of memory may come at any call, whatever the texts.
-use Rattle.std.specs.Prelude.{◌≡◌, ◌≢◌, ℕ, List, map}
+-- A rule of this product: what texts come to follows from the texts alone. Only want of memory may come at any call,
+-- whatever the texts.
+use Rattle.std.specs.Prelude.{◌≡◌, ℕ, List, map}
 use Rattle.ancestor_closure.specs.Hierarchy.{IsAscending}
 use Rattle.authoriser.specs.Laws.{AreIdsAscending}
 use Rattle.decision_texts.specs.declared.refusal.Refusal.{Refusal}
-use Rattle.decision_texts.specs.Refusals.{no_memory}
 use Rattle.decision_texts.specs.Decisions.{IsDecided, IsRefused}
 
 -- three texts have one line at most
 abbrev pub OneLine : Type 0
-OneLine = (policies entities request line other : List ℕ) → IsDecided policies entities request line → IsDecided policies entities request other → line ≡ other
+OneLine = (policies entities request line other : List ℕ) → IsDecided policies entities request line
+    → IsDecided policies entities request other → line ≡ other
 
--- texts that are decided are not refused, want of memory aside
+-- texts that are decided are not refused
 abbrev pub NotBoth : Type 0
-NotBoth = (policies entities request line : List ℕ) (refusal : Refusal) → IsDecided policies entities request line →
-    IsRefused policies entities request refusal → refusal ≡ no_memory
+NotBoth = (policies entities request line : List ℕ) (refusal : Refusal) → IsDecided policies entities request line
+    → IsRefused policies entities request refusal → ⊥
 
--- three texts have one refusal at most, want of memory aside
+-- three texts have one refusal at most
 abbrev pub OneRefusal : Type 0
-OneRefusal = (policies entities request : List ℕ) (refusal other : Refusal) → IsRefused policies entities request refusal →
-    IsRefused policies entities request other → refusal ≢ no_memory → other ≢ no_memory → refusal ≡ other
+OneRefusal = (policies entities request : List ℕ) (refusal other : Refusal)
+    → IsRefused policies entities request refusal
+    → IsRefused policies entities request other → refusal ≡ other
 
 -- the lists of a line's answer ascend: the reason, the errors by their policy, the cycle by the order of uids
 abbrev pub ListsOfLinesAscend : Type 0
 ListsOfLinesAscend = (policies entities request line : List ℕ) (decided : IsDecided policies entities request line) →
-    AreIdsAscending decided.answer.reason × AreIdsAscending (map (λ e. e.policy) decided.answer.errors) × IsAscending decided.answer.cycle
+    AreIdsAscending decided.answer.reason × AreIdsAscending (map (λ e. e.policy) decided.answer.errors)
+    × IsAscending decided.answer.cycle

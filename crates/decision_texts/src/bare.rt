@@ -1,15 +1,14 @@
 ghost use Rattle.std.specs.Prelude.{◌≡◌, option_map};
-ghost use Rattle.json_words.specs.Json.{text_at as text_in};
 ghost use Rattle.serde_json.specs.View.{view, items_view};
-ghost use Rattle.json_words.specs.Gives.{Gives, or_fault};
+ghost use Rattle.json_words.specs.Gives.{Gives};
 ghost use Rattle.decision_texts.specs.declared.bare.ShapeFault.TheVariants as ShapeFault;
-ghost use Rattle.decision_texts.specs.Bare.{type_name_of, plain_uid, uid_of, is_absent_or_empty, is_bare, uids_of, parents_of, entity_of};
+ghost use Rattle.decision_texts.specs.Bare.{uid_of, is_absent_or_empty, is_bare, uids_of, parents_of, entity_of};
 
-use json_words::{only_keys, text_at};
-use plain::{Items, NoMemory, Text};
+use json_words::only_keys;
+use plain::{Items, NoMemory};
 use serde_json::Value;
 use std::alloc::{AllocFailed, Global};
-use values::{EntityUid, TypeName};
+use values::EntityUid;
 
 /// Why a value is not read.
 #[derive(Clone, Copy, Debug, PartialEq, Eq)]
@@ -47,64 +46,25 @@ pub struct BareEntity {
     pub parents: Items<EntityUid>,
 }
 
-/// The type name that a text is.
-fn read_type_name(alloc: Global, text: &str) -> Result<TypeName, ShapeFault>
-    ensures { Gives ShapeFault.NoMemory (λ t. t) result (type_name_of text.now) }
-{
-    match TypeName::parse(alloc, text)? {
-        Some(name) => Ok(name),
-        None => Err(ShapeFault::BadShape),
-    }
-}
-
-fn read_text<'v>(value: &'v Value, key: &str) -> Result<&'v str, ShapeFault>
-    ensures { Gives ShapeFault.NoMemory (λ s. s.now) result (or_fault ShapeFault.BadShape (text_in key.now (view value.now))) }
-{
-    match text_at(value, key) {
-        Some(text) => Ok(text),
-        None => Err(ShapeFault::BadShape),
-    }
-}
-
-#[tactic(auto, unfolding(crate::specs::Bare::plain_uid))]
-fn read_plain_uid(alloc: Global, value: &Value) -> Result<EntityUid, ShapeFault>
-    ensures { Gives ShapeFault.NoMemory (λ u. u) result (plain_uid (view value.now)) }
-{
-    if !only_keys(value, &["type", "id"]) {
-        return Err(ShapeFault::BadShape);
-    }
-    let type_name = read_text(value, "type")?;
-    let id = read_text(value, "id")?;
-    let type_name = read_type_name(alloc, type_name)?;
-    let id = Text::from_str(alloc, id)?;
-    Ok(EntityUid { type_name, id })
-}
-
 /// A uid, also under `__entity`.
-#[tactic(auto, unfolding(crate::specs::Bare::uid_of))]
 pub(crate) fn read_uid(alloc: Global, value: &Value) -> Result<EntityUid, ShapeFault>
     ensures { Gives ShapeFault.NoMemory (λ u. u) result (uid_of (view value.now)) }
 {
-    match value.get("__entity") {
-        None => read_plain_uid(alloc, value),
-        Some(inner) => {
-            if !only_keys(value, &["__entity"]) {
-                return Err(ShapeFault::BadShape);
-            }
-            read_plain_uid(alloc, inner)
-        }
+    match uid_json::read_uid(alloc, value)? {
+        Some(uid) => Ok(uid),
+        None => Err(ShapeFault::BadShape),
     }
 }
 
 fn read_uids(alloc: Global, values: &[Value]) -> Result<Items<EntityUid>, ShapeFault>
     ensures { Gives ShapeFault.NoMemory (λ us. us) result (uids_of (items_view values.now)) }
 {
-    let mut uids = Items::new(alloc);
+    let mut uids = Vec::with_capacity(alloc, values.len())?;
     for value in values {
         let uid = read_uid(alloc, value)?;
         uids.push(uid)?;
     }
-    Ok(uids)
+    Ok(Items::from_vec(uids))
 }
 
 fn read_parents(alloc: Global, parents: Option<&Value>) -> Result<Items<EntityUid>, ShapeFault>

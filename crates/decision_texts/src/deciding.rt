@@ -1,9 +1,10 @@
 ghost use Rattle.std.specs.Prelude.{◌≡◌, map, string_bytes, IfOk, IfErr};
 ghost use Rattle.authoriser.specs.Views.{named};
 ghost use Rattle.decision_texts.specs.Refusals.{no_memory};
-ghost use Rattle.decision_texts.specs.Decisions.{named_policies, IsInOrder, IsAnswerTo, IsLineTo, IsDecided, IsRefused};
+ghost use Rattle.decision_texts.specs.Decisions.{named_policies, IsInOrder, IsDecided, IsRefused};
+ghost use Rattle.decision_texts.specs.inner.Stores.{world_held, IsAnswerIn, IsLineIn};
 
-use crate::entity_file::{EntityFile, read_entities, refusal_at};
+use crate::entity_file::{read_entities, refusal_at};
 use crate::lines::answer_line;
 use crate::policies::{read_policies, refusal_by};
 use crate::refusal::Refusal;
@@ -20,7 +21,8 @@ fn referred<'p>(
     alloc: Global,
     policies: &'p [(String, Policy)],
 ) -> Result<Vec<(&'p str, &'p Policy)>, NoMemory>
-    ensures { IfOk result (λ refs. named refs.items ≡ named_policies (map (λ p. string_bytes p.0) policies.now) (map (λ p. p.1) policies.now)) }
+    ensures { IfOk result (λ refs. named refs.items ≡ named_policies (map (λ p. string_bytes p.0) policies.now)
+        (map (λ p. p.1) policies.now)) }
 {
     let mut refs = Vec::with_capacity(alloc, policies.len())?;
     for (id, policy) in policies {
@@ -34,10 +36,11 @@ fn in_order<'p>(
     alloc: Global,
     policies: &'p [(String, Policy)],
 ) -> Result<Vec<(&'p str, &'p Policy)>, NoMemory>
-    ensures { IfOk result (λ refs. IsInOrder (named_policies (map (λ p. string_bytes p.0) policies.now) (map (λ p. p.1) policies.now)) (named refs.items)) }
+    ensures { IfOk result (λ refs. IsInOrder
+        (named_policies (map (λ p. string_bytes p.0) policies.now) (map (λ p. p.1) policies.now)) (named refs.items)) }
 {
     let mut refs = referred(alloc, policies)?;
-    refs.sort_unstable_by_key(|p| p.0);
+    refs.sort_by_key(|p| p.0)?;
     Ok(refs)
 }
 
@@ -45,34 +48,39 @@ fn in_order<'p>(
 fn answer_to(
     alloc: Global,
     policies: &[(String, Policy)],
-    file: EntityFile,
+    store: &BareStore,
     request: &Request,
 ) -> Result<Answer, NoMemory>
-    ensures { IfOk result (IsAnswerTo (named_policies (map (λ p. string_bytes p.0) policies.now) (map (λ p. p.1) policies.now)) file.entities request.now) }
+    ensures { IfOk result (IsAnswerIn
+        (named_policies (map (λ p. string_bytes p.0) policies.now) (map (λ p. p.1) policies.now))
+        (world_held store.now) request.now) }
 {
     let ordered = in_order(alloc, policies)?;
-    let store = BareStore::of(alloc, file)?;
-    decide(alloc, &ordered, request, &store)
+    decide(alloc, &ordered, request, store)
 }
 
 /// The line of the answer to a request over these policies and entities.
 fn line_to(
     alloc: Global,
     policies: &[(String, Policy)],
-    file: EntityFile,
+    store: &BareStore,
     request: &Request,
 ) -> Result<Vec<u8>, NoMemory>
-    ensures { IfOk result (λ line. IsLineTo (named_policies (map (λ p. string_bytes p.0) policies.now) (map (λ p. p.1) policies.now)) file.entities request.now line.items) }
+    ensures { IfOk result (λ line. IsLineIn
+        (named_policies (map (λ p. string_bytes p.0) policies.now) (map (λ p. p.1) policies.now))
+        (world_held store.now) request.now line.items) }
 {
-    let answer = answer_to(alloc, policies, file, request)?;
+    let answer = answer_to(alloc, policies, store, request)?;
     answer_line(alloc, &answer)
 }
 
 /// The line of the answer to a request, over a file of policies and an array of entities, or the first refusal.
 ///
-/// No schema is at hand: no type and no action is declared, an entity has no attributes, and the request's context is empty. Refused in this order:
-/// the policies (10 to 19, at a byte), the entities (30, at the place in the array, from 0, or without a place where there is no array), the request
-/// (30, without a place). `NoMemory` (1) may come at any point.
+/// No schema is at hand: no type and no action is declared, an entity has no attributes, and the request's context is
+/// empty. Refused in this order: the policies (10 to 19, at a byte), the entities (30, at the place in the array, from
+/// 0, or without a place where there is no array), the request (30, without a place). `NoMemory` (1) may come at any
+/// point.
+#[tactic(auto, using(crate::proofs::DecidedLemmas::decided, crate::proofs::DecidedLemmas::request_refused, crate::proofs::FaultLemmas::told))]
 pub fn decide_texts(
     alloc: Global,
     policies: &[u8],
@@ -80,16 +88,17 @@ pub fn decide_texts(
     request: &[u8],
 ) -> Result<Vec<u8>, Refusal>
     ensures decided { IfOk result (λ line. IsDecided policies.now entities.now request.now line.items) }
-    ensures refused { IfErr result (λ refusal. (refusal ≡ no_memory → ⊥) → IsRefused policies.now entities.now request.now refusal) }
+    ensures refused { IfErr result
+        (λ refusal. (refusal ≡ no_memory → ⊥) → IsRefused policies.now entities.now request.now refusal) }
 {
     let policies = match read_policies(alloc, policies) {
         Ok(policies) => policies,
         Err(fault) => return Err(refusal_by(fault)),
     };
-    let entities = read_entities(alloc, entities)?;
+    let store = read_entities(alloc, entities)?;
     let request = match read_request(alloc, request) {
         Ok(request) => request,
         Err(fault) => return Err(refusal_at(None, fault)),
     };
-    Ok(line_to(alloc, &policies, entities, &request)?)
+    Ok(line_to(alloc, &policies, &store, &request)?)
 }

@@ -1,32 +1,20 @@
 //! The entities of a file.
 ghost use Rattle.std.specs.Prelude.{◌≡◌, Some, option_map};
-ghost use Rattle.std.specs.BTreeSet.{contains};
-ghost use Rattle.std.specs.List.{list_any};
-ghost use Rattle.values.specs.declared.entity_uid.EntityUid.{EntityUid};
-ghost use Rattle.values.specs.Names.{uid_cmp};
-ghost use Rattle.ancestor_closure.specs.Decided.{is_same};
 ghost use Rattle.serde_json.specs.Find.{as_array};
 ghost use Rattle.serde_json.specs.View.{view, items_view};
 ghost use Rattle.json_words.specs.Gives.{Gives};
 ghost use Rattle.decision_texts.specs.Refusals.{no_memory, refusal_at};
 ghost use Rattle.decision_texts.specs.Bare.{entity_of, placed, entities_in, entities_of};
+ghost use Rattle.decision_texts.specs.inner.Stores.{GivesStore};
 
 use crate::bare::{BareEntity, ShapeFault, read_entity};
 use crate::refusal::Refusal;
+use crate::store::{BareStore, put};
+use ancestor_closure::graph::Edges;
 use json_words::read_json;
-use plain::Items;
 use serde_json::Value;
 use std::alloc::Global;
-use std::collections::{BTreeSet, VecDeque};
-use values::EntityUid;
-
-/// The entities of an array in its order, and the set of their uids.
-#[derive(Drop)]
-pub(crate) struct EntityFile {
-    pub(crate) entities: Items<BareEntity>,
-    pub(crate) uids: BTreeSet<EntityUid>,
-    ghost all: { (q : EntityUid) → contains uid_cmp uids q ≡ list_any (λ e. is_same e.uid q) entities },
-}
+use std::collections::{BTreeMap, VecDeque};
 
 /// A fault of shape as a refusal at a place.
 pub(crate) fn refusal_at(place: Option<usize>, fault: ShapeFault) -> Refusal
@@ -49,13 +37,12 @@ fn read_entity_at(alloc: Global, value: &Value, place: usize) -> Result<BareEnti
 }
 
 /// The entities of an array, each the only one of its uid. The JSON of each is given up before the next is read.
-fn read_array(alloc: Global, values: Vec<Value>) -> Result<EntityFile, Refusal>
-    ensures { Gives no_memory (λ f. f.entities) result (entities_in (items_view values.items)) }
+fn read_array(alloc: Global, values: Vec<Value>) -> Result<BareStore, Refusal>
+    ensures { GivesStore result (entities_in (items_view values.items)) }
 {
     let count = values.len();
     let mut rest = VecDeque::from_vec(values);
-    let mut entities = Items::new(alloc);
-    let mut uids: BTreeSet<EntityUid> = BTreeSet::new(alloc);
+    let mut edges: Edges = BTreeMap::new(alloc);
     for place in 0..count {
         let Some(value) = rest.pop_front() else {
             unreachable!();
@@ -63,13 +50,11 @@ fn read_array(alloc: Global, values: Vec<Value>) -> Result<EntityFile, Refusal>
         let read = read_entity_at(alloc, &value, place);
         drop(value);
         let entity = read?;
-        let uid = entity.uid.copy()?;
-        if !uids.insert(uid)? {
+        if !put(&mut edges, entity)? {
             return Err(Refusal::bad_shape(Some(place)));
         }
-        entities.push(entity)?;
     }
-    Ok(EntityFile { entities, uids })
+    Ok(BareStore::of(alloc, edges))
 }
 
 /// The items of an array.
@@ -84,8 +69,8 @@ fn into_array(value: Value) -> Option<Vec<Value>>
 
 /// The entities of a file.
 #[tactic(auto, unfolding(crate::specs::Bare::entities_of))]
-pub(crate) fn read_entities(alloc: Global, text: &[u8]) -> Result<EntityFile, Refusal>
-    ensures { Gives no_memory (λ f. f.entities) result (entities_of text.now) }
+pub(crate) fn read_entities(alloc: Global, text: &[u8]) -> Result<BareStore, Refusal>
+    ensures { GivesStore result (entities_of text.now) }
 {
     let Some(value) = read_json(alloc, text)? else {
         return Err(Refusal::bad_shape(None));

@@ -1,13 +1,16 @@
 ghost use Rattle.std.specs.Prelude.{◌≡◌, IfOk};
 ghost use Rattle.serde_json.specs.Data.{string};
 ghost use Rattle.serde_json.specs.View.{view};
-ghost use Rattle.decision_texts.specs.Lines.{decision_word, error_word, uid_json, erring_json, each_json, under_keys, answer_json, answer_line};
+ghost use Rattle.uid_json.specs.Uids.{uid_json};
+ghost use Rattle.decision_texts.specs.Lines.{decision_word, error_word, erring_json, each_json, under_keys};
+ghost use Rattle.decision_texts.specs.Lines.{answer_json, answer_line};
 
 use authoriser::{Answer, Decision, Erring, PolicyError};
 use json_words::write_json;
 use plain::{NoMemory, Text};
 use serde_json::{Value, json};
 use std::alloc::Global;
+use uid_json::uid_value;
 use values::EntityUid;
 
 fn decision_word(decision: Decision) -> &'static str
@@ -29,12 +32,6 @@ fn error_word(error: PolicyError) -> &'static str
         PolicyError::ArithBoundsError => "arithBoundsError",
         PolicyError::ExtensionError => "extensionError",
     }
-}
-
-fn uid_value(alloc: Global, uid: &EntityUid) -> Result<Value, NoMemory>
-    ensures { IfOk result (λ v. view v ≡ uid_json uid.now) }
-{
-    json!(in alloc; {"id": uid.id.as_str(), "type": uid.type_name.as_str()})
 }
 
 fn erring_value(alloc: Global, erring: &Erring) -> Result<Value, NoMemory>

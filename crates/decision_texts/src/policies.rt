@@ -1,4 +1,5 @@
 ghost use Rattle.std.specs.Prelude.{◌≡◌, IfOk, IfErr, map, string_bytes};
+ghost use Rattle.policy_grammar.specs.PolicyText.{OrNoMemory};
 ghost use Rattle.decision_texts.specs.Decisions.{ArePoliciesOf, IsFileFault, refusal_by};
 
 use crate::refusal::Refusal;
@@ -21,8 +22,9 @@ pub(crate) fn refusal_by(fault: ReadFault) -> Refusal
 
 /// The policies of a file with their names, in the file's order.
 pub(crate) fn read_policies(alloc: Global, bytes: &[u8]) -> Result<Vec<(String, Policy)>, ReadFault>
-    ensures read { IfOk result (λ named. ArePoliciesOf bytes.now (map (λ p. string_bytes p.0) named.items) (map (λ p. p.1) named.items)) }
-    ensures refused { IfErr result (IsFileFault bytes.now) }
+    ensures read { IfOk result
+        (λ named. ArePoliciesOf bytes.now (map (λ p. string_bytes p.0) named.items) (map (λ p. p.1) named.items)) }
+    ensures refused { IfErr result (OrNoMemory (IsFileFault bytes.now)) }
 {
     if bytes.len() > MOST_FILE_BYTES {
         return Err(ReadFault::TooLong);

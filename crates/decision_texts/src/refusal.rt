@@ -12,7 +12,8 @@ use std::alloc::{AllocFailed, Global};
 pub struct Refusal {
     /// The number: 1 for want of memory, 10 to 19 for policies, 30 for entities and requests.
     pub code: u8,
-    /// Where: a byte of the policies' text, or an entity's place in its array; both from 0. None where there is no such place.
+    /// Where: a byte of the policies' text, or an entity's place in its array; both from 0. None where there is no such
+    /// place.
     pub place: Option<usize>,
     /// The number of the refusal inside, where one stands in another.
     pub within: Option<u8>,

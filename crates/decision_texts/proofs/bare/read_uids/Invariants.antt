@@ -5,4 +5,4 @@ use Rattle.decision_texts.specs.Bare.{uid_of}
 use Rattle.decision_texts.proofs.bare.read_uids.Given as goal
 
 abbrev pub invariant-loop-value : goal.invariant-loop-value
-invariant-loop-value l = each (λ i d. uid_of d) 0 (map view (take l.value-index l.values)) ≡ Ok l.uids
+invariant-loop-value l = each (λ i d. uid_of d) 0 (map view (take l.value-index l.values)) ≡ Ok l.uids.items

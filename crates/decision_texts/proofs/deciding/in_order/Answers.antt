@@ -5,6 +5,6 @@ use Rattle.decision_texts.proofs.deciding.in_order.Goals as goal
 
 pub returns : goal.returns
 returns c = record {
-  same = rw (← c.in_ok-refs.ensures) (IsPermutation-map _ _ _ c.sort_unstable_by_key.ensures.permutation);
-  ascending = named_ascend c.sort_unstable_by_key.new.self.items (c.sort_unstable_by_key.ensures.sorted (λ p. p.0) (answers_always _ _ _ (λ f a r f' k. search rules)));
+  same = rw (← c.in_ok-refs.ensures) (IsPermutation-map _ _ _ c.in_ok-sort_by_key.ensures.permutation);
+  ascending = named_ascend c.sort_by_key.new.self.items (c.in_ok-sort_by_key.ensures.sorted (λ p. p.0) (answers_always _ _ _ (λ f a r f' k. search rules)));
 }

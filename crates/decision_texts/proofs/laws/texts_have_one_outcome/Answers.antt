@@ -4,7 +4,9 @@ use Rattle.decision_texts.proofs.laws.texts_have_one_outcome.Goals as goal
 pub returns-clause-one_line : goal.returns-clause-one_line
 returns-clause-one_line c =
     one_line (record {
-      uids = c.texts_have_one_reading.ensures.uid;
+      names = c.names_read_back.ensures.name;
+      each = c.file_names_differ.ensures.each;
+      differ = c.file_names_differ.ensures.differ;
       files = c.texts_have_one_reading.ensures.file;
       answers = c.answers_are_lawful.ensures.finite;
     })
@@ -12,7 +14,9 @@ returns-clause-one_line c =
 pub returns-clause-not_both : goal.returns-clause-not_both
 returns-clause-not_both c =
     not_both (record {
-      uids = c.texts_have_one_reading.ensures.uid;
+      names = c.names_read_back.ensures.name;
+      each = c.file_names_differ.ensures.each;
+      differ = c.file_names_differ.ensures.differ;
       files = c.texts_have_one_reading.ensures.file;
       answers = c.answers_are_lawful.ensures.finite;
     })
@@ -20,10 +24,19 @@ returns-clause-not_both c =
 pub returns-clause-one_refusal : goal.returns-clause-one_refusal
 returns-clause-one_refusal c =
     one_refusal (record {
-      uids = c.texts_have_one_reading.ensures.uid;
+      names = c.names_read_back.ensures.name;
+      each = c.file_names_differ.ensures.each;
+      differ = c.file_names_differ.ensures.differ;
       files = c.texts_have_one_reading.ensures.file;
       answers = c.answers_are_lawful.ensures.finite;
     })
 
 pub returns-clause-ascending : goal.returns-clause-ascending
-returns-clause-ascending c = lines_ascend c.answers_are_lawful.ensures.ascending
+returns-clause-ascending c =
+    lines_ascend (record {
+      names = c.names_read_back.ensures.name;
+      each = c.file_names_differ.ensures.each;
+      differ = c.file_names_differ.ensures.differ;
+      files = c.texts_have_one_reading.ensures.file;
+      answers = c.answers_are_lawful.ensures.finite;
+    }) c.answers_are_lawful.ensures.ascending

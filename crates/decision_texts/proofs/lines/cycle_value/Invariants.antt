@@ -1,6 +1,6 @@
 use Rattle.std.proofs.Common.{◌≡◌, map, take}
 use Rattle.serde_json.specs.View.{view}
-use Rattle.decision_texts.specs.Lines.{uid_json}
+use Rattle.uid_json.specs.Uids.{uid_json}
 use Rattle.decision_texts.proofs.lines.cycle_value.Given as goal
 
 abbrev pub invariant-loop-uid : goal.invariant-loop-uid

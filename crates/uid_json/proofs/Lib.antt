@@ -1,0 +1,3 @@
+mod FoundLemmas
+mod NameLemmas
+mod UidLemmas

@@ -1,0 +1,16 @@
+ghost use Rattle.uid_json.specs.Laws.{OneUid, OneName, UidsAreFound, WrittenIsRead};
+
+use policy_grammar::texts_have_one_reading;
+use values::paths_are_told;
+
+/// That a JSON value names one entity at most, that `uid_in` finds it, and that a name that was written is read back:
+/// it does nothing, and its clauses are laws of the definitions.
+pub fn names_read_back()
+    ensures one { OneUid }
+    ensures name { OneName }
+    ensures found { UidsAreFound }
+    ensures back { WrittenIsRead }
+{
+    paths_are_told();
+    texts_have_one_reading();
+}

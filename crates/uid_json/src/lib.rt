@@ -1,0 +1,13 @@
+//! The names of entities as JSON: read in both spellings that Cedar has for them, and written in each.
+//!
+//! Entities, requests, messages and the service's bodies name entities in this one way, so its meaning stands here,
+//! below them all, with no fault of theirs: a value that is no name is None.
+#![tactic(auto)]
+
+mod laws;
+mod names;
+mod uids;
+
+pub use laws::names_read_back;
+pub use names::read_name;
+pub use uids::{entity_value, read_uid, uid_value};

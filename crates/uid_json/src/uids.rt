@@ -1,0 +1,73 @@
+ghost use Rattle.std.specs.Prelude.{◌≡◌, IfOk};
+ghost use Rattle.serde_json.specs.View.{view};
+ghost use Rattle.uid_json.specs.Uids.{IsPlainUid, IsUid, IsRead, uid_in, uid_json, entity_json};
+
+use crate::laws::names_read_back;
+use json_words::{only_keys, text_at};
+use plain::{NoMemory, Text};
+use serde_json::{Value, json};
+use std::alloc::Global;
+use values::{EntityUid, TypeName};
+
+/// The name that an object of a type and an id states.
+fn read_plain_uid(alloc: Global, value: &Value) -> Result<Option<EntityUid>, NoMemory>
+    ensures { IfOk result (IsRead (IsPlainUid (view value.now))) }
+{
+    if !only_keys(value, &["type", "id"]) {
+        return Ok(None);
+    }
+    let Some(type_name) = text_at(value, "type") else {
+        return Ok(None);
+    };
+    let Some(id) = text_at(value, "id") else {
+        return Ok(None);
+    };
+    let Some(type_name) = TypeName::parse(alloc, type_name)? else {
+        return Ok(None);
+    };
+    let id = Text::from_str(alloc, id)?;
+    Ok(Some(EntityUid { type_name, id }))
+}
+
+/// The name that a value states in one of the two spellings.
+#[tactic(auto, using(crate::proofs::UidLemmas::plain, crate::proofs::UidLemmas::under_entity))]
+fn read_either(alloc: Global, value: &Value) -> Result<Option<EntityUid>, NoMemory>
+    ensures { IfOk result (IsRead (IsUid (view value.now))) }
+{
+    match value.get("__entity") {
+        None => read_plain_uid(alloc, value),
+        Some(inner) => {
+            if !only_keys(value, &["__entity"]) {
+                return Ok(None);
+            }
+            read_plain_uid(alloc, inner)
+        }
+    }
+}
+
+/// The entity that a value names, as `{"type": .., "id": ..}` or as that under `__entity`, or None where it is no such
+/// name: another shape, another key, or a type that is no Path. Fails for memory alone.
+#[tactic(auto, using(crate::proofs::FoundLemmas::same))]
+pub fn read_uid(alloc: Global, value: &Value) -> Result<Option<EntityUid>, NoMemory>
+    ensures names { IfOk result (IsRead (IsUid (view value.now))) }
+    ensures found { IfOk result (λ o. o ≡ uid_in (view value.now)) }
+{
+    names_read_back();
+    read_either(alloc, value)
+}
+
+/// The name of an entity as JSON: `{"id":"alice","type":"User"}`. Fails for memory alone.
+pub fn uid_value(alloc: Global, uid: &EntityUid) -> Result<Value, NoMemory>
+    ensures { IfOk result (λ v. view v ≡ uid_json uid.now) }
+{
+    json!(in alloc; {"id": uid.id.as_str(), "type": uid.type_name.as_str()})
+}
+
+/// The name of an entity where it stands as a value: `{"__entity":{"id":"alice","type":"User"}}`. Fails for memory
+/// alone.
+pub fn entity_value(alloc: Global, uid: &EntityUid) -> Result<Value, NoMemory>
+    ensures { IfOk result (λ v. view v ≡ entity_json uid.now) }
+{
+    let name = uid_value(alloc, uid)?;
+    json!(in alloc; {"__entity": name})
+}
