@@ -1,4 +1,10 @@
 pub mod AddLemmas
+pub mod DecidedLemmas
+pub mod FollowLemmas
+pub mod FoundLemmas
 pub mod NamingLemmas
+pub mod OnceLemmas
+pub mod OutcomeLemmas
 pub mod RecordLemmas
+pub mod ShapeLemmas
 pub mod SpreadLemmas

@@ -54,39 +54,39 @@ not_false : (b : Bool) → not b ≡ false → b ≡ true
 not_false true h = refl
 not_false false h = absurd (true≢false h)
 
-module _ (ns : List NamespaceOf) (names : BTreeSet (String Global)) (t : TellsRecords ns names) where
-  no_shape : (n : NamespaceOf) (r : Raw) → are_records_of (λ q. has_name names q) (scope_in ns) n ≡ true → StandsAsRecord n r → means_now (λ q. has_name names q) (scope_in ns) n.name r ≡ true → ⊥
+module _ (ns : List NamespaceOf) (names : List ℕ → Bool) (t : TellsRecords ns names) where
+  no_shape : (n : NamespaceOf) (r : Raw) → are_records_of names (scope_in ns) n ≡ true → StandsAsRecord n r → means_now names (scope_in ns) n.name r ≡ true → ⊥
   no_shape n r h (inl (e, there, is)) m =
-      let both = and_parts (are_shapes (λ q. has_name names q) (scope_in ns) n.name n.entity_types) _ h in
-      let one = all_at (λ x. is_record_at (λ q. has_name names q) (scope_in ns) n.name x.shape) n.entity_types e both.0 there in
-      not_true _ (ap (λ (o : Option Raw). is_record_at (λ q. has_name names q) (scope_in ns) n.name o) (sym is) ∙ one) m
+      let both = and_parts (are_shapes names (scope_in ns) n.name n.entity_types) _ h in
+      let one = all_at (λ x. is_record_at names (scope_in ns) n.name x.shape) n.entity_types e both.0 there in
+      not_true _ (ap (λ (o : Option Raw). is_record_at names (scope_in ns) n.name o) (sym is) ∙ one) m
   no_shape n r h (inr (a, there, (u, applies, is))) m =
-      let both = and_parts (are_shapes (λ q. has_name names q) (scope_in ns) n.name n.entity_types) _ h in
-      let one = all_at (λ x. is_record_in (λ q. has_name names q) (scope_in ns) n.name x.applies_to) n.actions a both.1 there in
-      let used = ap (λ (o : Option UseOf). is_record_in (λ q. has_name names q) (scope_in ns) n.name o) (sym applies) ∙ one in
-      not_true _ (ap (λ (o : Option Raw). is_record_at (λ q. has_name names q) (scope_in ns) n.name o) (sym is) ∙ used) m
+      let both = and_parts (are_shapes names (scope_in ns) n.name n.entity_types) _ h in
+      let one = all_at (λ x. is_record_in names (scope_in ns) n.name x.applies_to) n.actions a both.1 there in
+      let used = ap (λ (o : Option UseOf). is_record_in names (scope_in ns) n.name o) (sym applies) ∙ one in
+      not_true _ (ap (λ (o : Option Raw). is_record_at names (scope_in ns) n.name o) (sym is) ∙ used) m
 
-  pub all_records : are_records (λ q. has_name names q) (scope_in ns) ns ≡ true → SomeIsNoRecord ns → ⊥
-  all_records h s = no_shape s.namespace s.type (all_at (λ n. are_records_of (λ q. has_name names q) (scope_in ns) n) ns s.namespace h s.stated) s.stands (t.complete s.namespace.name s.type s.means)
+  pub all_records : are_records names (scope_in ns) ns ≡ true → SomeIsNoRecord ns → ⊥
+  all_records h s = no_shape s.namespace s.type (all_at (λ n. are_records_of names (scope_in ns) n) ns s.namespace h s.stated) s.stands (t.complete s.namespace.name s.type s.means)
 
-  none_there : (n : NamespaceOf) → Contains ns n → (o : Option Raw) → ((r : Raw) → o ≡ Some r → StandsAsRecord n r) → is_record_at (λ q. has_name names q) (scope_in ns) n.name o ≡ false → SomeIsNoRecord ns
+  none_there : (n : NamespaceOf) → Contains ns n → (o : Option Raw) → ((r : Raw) → o ≡ Some r → StandsAsRecord n r) → is_record_at names (scope_in ns) n.name o ≡ false → SomeIsNoRecord ns
   none_there n here None stands h = absurd (true≢false h)
   none_there n here (Some r) stands h = record { namespace = n; type = r; stated = here; stands = stands r refl; means = t.sound n.name r (not_false _ h) }
 
-  no_context : (n : NamespaceOf) → Contains ns n → (a : ActionOf) → Contains n.actions a → (o : Option UseOf) → a.applies_to ≡ o → is_record_in (λ q. has_name names q) (scope_in ns) n.name o ≡ false → SomeIsNoRecord ns
+  no_context : (n : NamespaceOf) → Contains ns n → (a : ActionOf) → Contains n.actions a → (o : Option UseOf) → a.applies_to ≡ o → is_record_in names (scope_in ns) n.name o ≡ false → SomeIsNoRecord ns
   no_context n here a there None e h = absurd (true≢false h)
   no_context n here a there (Some u) e h = none_there n here u.context (λ r is. inr (a, there, (u, e, is))) h
 
-  in_namespace : (n : NamespaceOf) → Contains ns n → (b : Bool) → are_shapes (λ q. has_name names q) (scope_in ns) n.name n.entity_types ≡ b
-      → (b && are_contexts (λ q. has_name names q) (scope_in ns) n.name n.actions) ≡ false → SomeIsNoRecord ns
+  in_namespace : (n : NamespaceOf) → Contains ns n → (b : Bool) → are_shapes names (scope_in ns) n.name n.entity_types ≡ b
+      → (b && are_contexts names (scope_in ns) n.name n.actions) ≡ false → SomeIsNoRecord ns
   in_namespace n here false e h =
-      let x = some_not (λ y. is_record_at (λ q. has_name names q) (scope_in ns) n.name y.shape) n.entity_types e in
+      let x = some_not (λ y. is_record_at names (scope_in ns) n.name y.shape) n.entity_types e in
       none_there n here x.0.shape (λ r is. inl (x.0, x.1, is)) x.2
   in_namespace n here true e h =
-      let x = some_not (λ y. is_record_in (λ q. has_name names q) (scope_in ns) n.name y.applies_to) n.actions h in
+      let x = some_not (λ y. is_record_in names (scope_in ns) n.name y.applies_to) n.actions h in
       no_context n here x.0 x.1 x.0.applies_to refl x.2
 
-  pub some_record : are_records (λ q. has_name names q) (scope_in ns) ns ≡ false → SomeIsNoRecord ns
+  pub some_record : are_records names (scope_in ns) ns ≡ false → SomeIsNoRecord ns
   some_record h =
-      let x = some_not (λ n. are_records_of (λ q. has_name names q) (scope_in ns) n) ns h in
-      in_namespace x.0 x.1 (are_shapes (λ q. has_name names q) (scope_in ns) x.0.name x.0.entity_types) refl x.2
+      let x = some_not (λ n. are_records_of names (scope_in ns) n) ns h in
+      in_namespace x.0 x.1 (are_shapes names (scope_in ns) x.0.name x.0.entity_types) refl x.2

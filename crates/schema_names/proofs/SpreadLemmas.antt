@@ -19,6 +19,7 @@ use Rattle.schema_file.specs.StatedViews.{common_view, namespace_view}
 use Rattle.json_words.proofs.EachSame.{cut}
 use Rattle.values.proofs.Members.{Contains-here, Contains-there}
 use Rattle.schema_names.proofs.AddLemmas.{name_added}
+use Rattle.schema_names.proofs.FollowLemmas.{found_so, all_found}
 
 abbrev Names : Type 0
 Names = BTreeSet (String Global)
@@ -73,14 +74,6 @@ stays_record s c t means = record {
   );
 }
 
--- what is found is so
-pub found_so : (ns : List NamespaceOf) (known : Names) (own : Option (List ℕ)) (r : Raw) → IsSound ns known → means_now (λ q. has_name known q) (scope_in ns) own r ≡ true → MeansNoRecord ns own r
-found_so ns known own r h m = by (common_meant (scope_in ns) own r) refl m
-  where
-    by : (o : Option (List ℕ)) → common_meant (scope_in ns) own r ≡ o → means_by o (λ q. has_name known q) (is_no_record (scope_in ns) own r) ≡ true → MeansNoRecord ns own r
-    by (Some q) e there = let n = h q there in named own r n.common (e ∙ ap (λ (p : List ℕ). Some p) (sym n.is)) n.declared n.means
-    by None e there = form own r e there
-
 grown : (old new : ℕ) (here added : Bool) → new ≡ old + (if added then 1 else 0) → added ≡ not here → here ≡ false → old < new
 grown old new here added len is none = let more = ap (λ (b : Bool). old + cond b 1 0) (is ∙ ap not none) in omega (arith, len, more)
 
@@ -98,7 +91,7 @@ spreads_one s c old new text added t none means updates len is = record {
       common = c;
       declared = among c (zero, omega arith, refl);
       is = (bytes_eq-Decides c.name q).0 y;
-      means = found_so ns old c.own c.type h (subst (λ (x : Scope). means_now (λ p. has_name old p) x c.own c.type ≡ true) e means);
+      means = found_so ns (λ q. has_name old q) c.own c.type h (subst (λ (x : Scope). means_now (λ p. has_name old p) x c.own c.type ≡ true) e means);
     }
     added_so ns e among h q known (inr n) =
         let here = name_added old new text (string_bytes text) (string_bytes text) c.name refl refl t updates q in
@@ -120,13 +113,8 @@ grown_of s cs old new r apart = at r.grows
     at (inl p) = absurd (apart (ap (λ (t : Names). btree_set_len t) p.0))
     at (inr lt) = lt
 
-all_found : (ns : List NamespaceOf) (known : Names) → IsSettled (scope_in ns) known (commons_declared ns) → (own : Option (List ℕ)) (r : Raw) → MeansNoRecord ns own r
-    → means_now (λ q. has_name known q) (scope_in ns) own r ≡ true
-all_found ns known settled _ _ (form own r e n) = rw e n
-all_found ns known settled _ _ (named own r c e here m) = rw e (settled c here (all_found ns known settled c.own c.type m))
-
-pub tells : (ns : List NamespaceOf) (known : Names) → IsSound ns known → IsSettled (scope_in ns) known (commons_declared ns) → TellsRecords ns known
-tells ns known so settled = record { sound = λ own r m. found_so ns known own r so m; complete = all_found ns known settled }
+pub tells : (ns : List NamespaceOf) (known : Names) → IsSound ns known → IsSettled (scope_in ns) known (commons_declared ns) → TellsRecords ns (λ q. has_name known q)
+tells ns known so settled = record { sound = λ own r m. found_so ns (λ q. has_name known q) own r so m; complete = all_found ns (λ q. has_name known q) settled }
 
 -- ---- one of the common types
 

@@ -1,4 +1,5 @@
 pub mod FoundViews
+pub mod Laws
 pub mod Naming
 pub mod Qualifying
 pub mod Records

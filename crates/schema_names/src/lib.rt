@@ -4,9 +4,13 @@
 
 mod declaring;
 mod joining;
+mod laws;
 mod naming;
 mod qualifying;
 mod records;
 
+pub use laws::{
+    files_name_their_own, not_both, one_file, one_refusal, shapes_are_records, some_outcome,
+};
 pub use naming::read_named;
 pub use qualifying::{Found, FoundAction, FoundEntityType, FoundUse};

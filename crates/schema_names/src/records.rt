@@ -4,7 +4,7 @@ ghost use Rattle.std.specs.Prelude.{false};
 ghost use Rattle.std.specs.BTreeSet.{btree_set_len};
 ghost use Rattle.schema_types.specs.Views.{raw_view};
 ghost use Rattle.schema_types.specs.Names.{found, or_entity, built_in as built_in_of};
-ghost use Rattle.schema_types.specs.inner.NamesViews.{scope_of};
+ghost use Rattle.schema_types.specs.NamesViews.{scope_of};
 ghost use Rattle.schema_file.specs.StatedViews.{common_view, entity_type_view, use_view, action_view, namespace_view};
 ghost use Rattle.schema_names.specs.Records.{common_meant, SomeIsNoRecord};
 ghost use Rattle.schema_names.specs.Qualifying.{common_in, commons_declared};
@@ -338,7 +338,7 @@ fn no_records(
     stated: &[StatedNamespace],
 ) -> Result<BTreeSet<String>, NoMemory>
     requires { Declares (map namespace_view stated.now) names.now }
-    ensures { IfOk result (λ known. TellsRecords (map namespace_view stated.now) known) }
+    ensures { IfOk result (λ known. TellsRecords (map namespace_view stated.now) (λ q. has_name known q)) }
 {
     let listed = list_all(alloc, stated)?;
     let order = order_of(alloc, names, stated, &listed)?;

@@ -7,7 +7,8 @@ use Rattle.schema_types.specs.declared.qualified.QualifiedType.{QualifiedType}
 use Rattle.schema_types.specs.Cedar.{CedarFields, no_fields, field}
 use Rattle.schema_types.specs.QualifiedViews.{qualified_view, qualified_fields_view}
 use Rattle.schema_types.specs.CedarViews.{cedar_view, cedar_fields_view}
-use Rattle.schema_types.specs.inner.Table.{Knowledge, written_in, fields_in}
+use Rattle.schema_types.specs.Knowledge.{Knowledge}
+use Rattle.schema_types.specs.inner.Table.{written_in, fields_in}
 
 abbrev pub Field : Type 0
 Field = List ℕ × CedarType × Bool

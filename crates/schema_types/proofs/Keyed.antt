@@ -7,7 +7,8 @@ use Rattle.std.specs.Str.{bytes_eq}
 use Rattle.std.proofs.lemmas.Map.Text.{is_eq-slice_cmp}
 use Rattle.serde_json.specs.Data.{Data, null, boolean, number, string, array, object, Members, no_members, member, depth, members_depth}
 use Rattle.serde_json.specs.Find.{get, get_member}
-use Rattle.schema_types.specs.TypeShape.{type_of, type_at, fields_at, attributes_of, formed, type_rule}
+use Rattle.schema_types.specs.TypeShape.{type_of, type_at, fields_at, attributes_of, formed}
+use Rattle.schema_types.specs.inner.TypeRule.{type_rule}
 
 by_order : {A : Type 0} (o : Ordering) (b : Bool) (later here : Option A) → is_eq o ≡ b → cond b here later ≡ match_ordering o later here later
 by_order Less true later here e = absurd cc

@@ -1,7 +1,9 @@
 pub mod CedarWalk
+pub mod ClosedLemmas
+pub mod CyclicEnds
 pub mod Keyed
 pub mod NameLemmas
-pub mod NamesSized
+pub mod NamesClosed
 pub mod OneEnd
 pub mod QualifiedWalk
 pub mod Rounds

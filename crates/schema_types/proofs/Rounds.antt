@@ -10,13 +10,16 @@ use Rattle.schema_types.specs.Qualified as qualified
 use Rattle.schema_types.specs.Qualified.{Qualified}
 use Rattle.schema_types.specs.WrittenOut as written
 use Rattle.schema_types.specs.WrittenOut.{Declarations, Declares, WrittenOut, HasNoEnd}
-use Rattle.schema_types.specs.inner.Table.{Extent, KnownType, Knowledge, size_in, written_in, IsWithin, Stands, IsTable, AreSettled, all_known}
-use Rattle.schema_types.specs.inner.TableViews.{known_view, knowledge, Adds, KeepsTable, Steps, Rounds}
-use Rattle.schema_types.specs.inner.Written.{AreWritten}
+use Rattle.schema_types.specs.Knowledge.{Extent, KnownType, Knowledge, Stands, IsTable}
+use Rattle.schema_types.specs.inner.Table.{fits, size_in, written_in, built_of, AreSettled, all_known}
+use Rattle.schema_types.specs.TableViews.{known_view, knowledge}
+use Rattle.schema_types.specs.inner.Rounds.{Adds, KeepsTable, Steps, Rounds}
+use Rattle.schema_types.specs.Knowledge.{AreWritten}
 use Rattle.schema_types.specs.Outcome.{SomeHasNoEnd}
 use Rattle.schema_types.specs.QualifiedViews.{qualified_view, found_common_view}
 use Rattle.schema_types.specs.declared.qualified.FoundCommon.{FoundCommon}
 use Rattle.json_words.proofs.EachSame.{cut}
+use Rattle.schema_types.proofs.Sizes.{within, fits_small, fits_large}
 use Rattle.schema_types.proofs.Tables.{sound, has_size, known_or, none_some}
 
 abbrev Map : Type 0
@@ -26,6 +29,12 @@ some_is : {A : Type 0} (x y : A) → (let o : Option A = Some x in o) ≡ Some y
 some_is x y e = cc
 
 -- ---- one step
+
+built_small : (known : Knowledge) (s : Extent) (r : Qualified) → fits s ≡ true → built_of known s r ≡ written_in known r
+built_small known s r e = rw e refl
+
+built_large : (known : Knowledge) (s : Extent) (r : Qualified) → fits s ≡ false → built_of known s r ≡ None
+built_large known s r e = rw e refl
 
 stands_at : (commons : Declarations) (d : List ℕ × Qualified) (old new : Map) → Declares commons d.0 d.1 → IsTable commons (knowledge old) → (a : Adds d old new) → (q : List ℕ) (k : KnownType) (b : Bool) → bytes_eq d.0 q ≡ b
     → cond b (Some a.added) (knowledge old q) ≡ Some k → Stands commons q k
@@ -38,7 +47,10 @@ stands_at commons d old new here h a q k true same e =
       type = f.type;
       is_written = written.common d.0 d.1 f.type here f.is_written;
       size_is = f.size_is;
-      at_hand = λ w. a.at_hand w ∙ f.at_hand w;
+      at_hand = λ small.
+          let fit = fits_small a.added.size f.type f.size_is small in
+          a.whole ∙ built_small (knowledge old) a.added.size d.1 fit ∙ f.at_hand (within a.added.size fit);
+      unbuilt = λ large. a.whole ∙ built_large (knowledge old) a.added.size d.1 (fits_large a.added.size f.type f.size_is large);
     } in subst (λ (x : KnownType). Stands commons q x) is (subst (λ (x : List ℕ). Stands commons x a.added) key at_d)
 
 step_sound : (commons : Declarations) (d : List ℕ × Qualified) (old new : Map) → Declares commons d.0 d.1 → IsTable commons (knowledge old) → Steps d old new → IsTable commons (knowledge new)
@@ -142,13 +154,13 @@ no_end commons known settled lacks =
 -- ---- what an insertion adds
 
 pub added_at : (name : List ℕ) (r : Qualified) (old new : Map) (key : String Global) (k : Known) (o : Option Known) → string_bytes key ≡ name
-    → (is_some (get_by_text old name) ≡ false) → Updates string_cmp old new key (Some k) → btree_map_len new ≡ btree_map_len old + (if is_some o then 0 else 1) → o ≡ get string_cmp old key → size_in (knowledge old) r ≡ Some (known_view k).size → (IsWithin (known_view k).size → (known_view k).whole ≡ written_in (knowledge old) r)
+    → (is_some (get_by_text old name) ≡ false) → Updates string_cmp old new key (Some k) → btree_map_len new ≡ btree_map_len old + (if is_some o then 0 else 1) → o ≡ get string_cmp old key → size_in (knowledge old) r ≡ Some (known_view k).size → (known_view k).whole ≡ built_of (knowledge old) (known_view k).size r
     → Steps (name, r) old new
-added_at name r old new key k o named absent updates len was size at_hand = inr (record {
+added_at name r old new key k o named absent updates len was size whole = inr (record {
   longer = let gone : is_some o ≡ false = ap (λ (x : Option Known). is_some x) was ∙ ap (λ (bs : List ℕ). is_some (get_by_text old bs)) named ∙ absent in let more = ap (λ (b : Bool). btree_map_len old + cond b 0 1) gone in omega (arith, len, more);
   added = known_view k;
   size = size;
-  at_hand = at_hand;
+  whole = whole;
   known = λ q. known_at q;
 })
   where

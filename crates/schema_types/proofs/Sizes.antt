@@ -1,11 +1,12 @@
 -- Which tables hold each type whole.
-use Rattle.std.proofs.Common.{◌≡◌, ◌∙◌, ◌⊎◌, inl, inr, ℕ, List, [], ◌∷◌, Bool, true, false, refl, sym, ap, arith, subst, true≢false, ltb-true, ltb-false}
+use Rattle.std.proofs.Common.{◌≡◌, ◌∙◌, ◌⊎◌, inl, inr, ℕ, List, [], ◌∷◌, Some, Bool, true, false, refl, sym, ap, arith, subst, true≢false, ltb-true, ltb-false}
 use Rattle.std.specs.Prelude.{◌&&◌, nat_lt}
 use Rattle.schema_types.specs.Qualified.{Qualified}
 use Rattle.schema_types.specs.Cedar.{Cedar, IsTooLarge}
 use Rattle.schema_types.specs.WrittenOut.{Declarations, Declares}
-use Rattle.schema_types.specs.inner.Table.{Extent, size_of, Knowledge, IsWithin, is_small_at, all_small}
-use Rattle.schema_types.specs.inner.Written.{AreWritten, AreWhole}
+use Rattle.schema_types.specs.Knowledge.{Extent, size_of, Knowledge}
+use Rattle.schema_types.specs.inner.Table.{IsWithin, fits, size_in, IsCounted, is_small_at, all_small}
+use Rattle.schema_types.specs.Knowledge.{AreWritten, AreWhole}
 use Rattle.schema_types.specs.Outcome.{SomeIsTooLarge}
 
 first_true : (a b : Bool) → (a && b) ≡ true → a ≡ true
@@ -34,6 +35,20 @@ pub not_large : (s : Extent) (t : Cedar) → s ≡ size_of t → IsWithin s → 
 not_large s t is w (inl many) = let a = ap (λ (x : Extent). x.parts) is in absurd (omega (arith, a, many, w.0))
 not_large s t is w (inr far) = let a = ap (λ (x : Extent). x.deep) is in absurd (omega (arith, a, far, w.1))
 
+pub fits_small : (s : Extent) (t : Cedar) → s ≡ size_of t → (IsTooLarge t → ⊥) → fits s ≡ true
+fits_small s t is small = by (fits s) refl
+  where
+    by : (b : Bool) → fits s ≡ b → fits s ≡ true
+    by true e = e
+    by false e = absurd (small (too_large s t is (one_false _ _ e)))
+
+pub fits_large : (s : Extent) (t : Cedar) → s ≡ size_of t → IsTooLarge t → fits s ≡ false
+fits_large s t is large = by (fits s) refl
+  where
+    by : (b : Bool) → fits s ≡ b → fits s ≡ false
+    by true e = absurd (not_large s t is (within s e) large)
+    by false e = e
+
 small_at : (known : Knowledge) (ds : Declarations) → all_small known ds ≡ true → (q : List ℕ) (r : Qualified) → Declares ds q r → is_small_at (known q) ≡ true
 small_at known [] all q r here = absurd here
 small_at known (d ∷ ds) all q r (inl p) = subst (λ x. is_small_at (known x) ≡ true) p.0 (first_true _ _ all)
@@ -43,7 +58,7 @@ pub are_whole : (commons : Declarations) (known : Knowledge) → AreWritten comm
 are_whole commons known w all = λ q r here k at.
     let s = w.table q k at in
     let small = sym (ap is_small_at at) ∙ small_at known commons all q r here in
-    (s.type, s.is_written, s.at_hand (within k.size small), not_large k.size s.type s.size_is (within k.size small))
+    (s.type, s.is_written, s.at_hand (not_large k.size s.type s.size_is (within k.size small)), not_large k.size s.type s.size_is (within k.size small))
 
 large_at : (known : Knowledge) (ds : Declarations) → all_small known ds ≡ false → (q : List ℕ) × (r : Qualified) × Declares ds q r × (is_small_at (known q) ≡ false)
 large_at known [] lacks = absurd (true≢false lacks)
@@ -73,3 +88,7 @@ large_left known d ds large = rw large refl
 
 pub small_left : (known : Knowledge) (d : List ℕ × Qualified) (ds : Declarations) → is_small_at (known d.0) ≡ true → all_small known (d ∷ ds) ≡ all_small known ds
 small_left known d ds small = rw small refl
+
+-- a type whose size is known to be within was counted
+pub counted : (known : Knowledge) (r : Qualified) (s : Extent) → Some s ≡ size_in known r → true ≡ fits s → IsCounted known r
+counted known r s is small = record { size = s; is = sym is; small = sym small }

@@ -6,7 +6,9 @@ use Rattle.schema_types.specs.Cedar as cedar
 use Rattle.schema_types.specs.Cedar.{Cedar, CedarFields}
 use Rattle.schema_types.specs.WrittenOut as written
 use Rattle.schema_types.specs.WrittenOut.{Declarations, Declares, WrittenOut, FieldsWrittenOut, HasNoEnd}
-use Rattle.schema_types.specs.inner.Table.{Extent, size_of, KnownType, Knowledge, leaf_size, no_size, above, beside, size_in, sizes_in, written_in, fields_in, IsWithin, IsTable, AreSettled}
+use Rattle.schema_types.specs.Knowledge.{Extent, size_of, KnownType, Knowledge, IsTable}
+use Rattle.schema_types.specs.inner.Table.{IsWithin, leaf_size, no_size, above, beside, size_in, sizes_in, written_in, fields_in, AreSettled}
+use Rattle.schema_types.proofs.Sizes.{not_large}
 
 -- ---- nothing that a settled table lacks has an end
 
@@ -127,7 +129,7 @@ mutual
         type = f.type;
         is_written = f.is_written;
         size_is = sym p.2 ∙ f.size_is;
-        at_hand = λ w. name_written known q p.0 f.type p.1 (f.at_hand (subst IsWithin (sym p.2) w));
+        at_hand = λ w. name_written known q p.0 f.type p.1 (f.at_hand (not_large p.0.size f.type f.size_is (subst IsWithin (sym p.2) w)));
       }
 
   sound_fields : (commons : Declarations) (known : Knowledge) → IsTable commons known → (total : Extent) (rs : QualifiedFields) (s : Extent) → IsCapped total → sizes_in known total rs ≡ Some s → FieldsFound commons known total rs s

@@ -3,8 +3,10 @@ use Rattle.std.proofs.Common.{◌≡◌, ◌∙◌, true, false, Option, Some, N
 use Rattle.schema_types.specs.Qualified.{Qualified}
 use Rattle.schema_types.specs.Cedar.{Cedar, IsTooLarge}
 use Rattle.schema_types.specs.WrittenOut.{Declarations, WrittenOut}
-use Rattle.schema_types.specs.inner.Table.{Extent, Knowledge, IsTable, size_in, written_in}
-use Rattle.schema_types.specs.inner.Whole.{fits, HasSize, IsWhole, IsLarge}
+use Rattle.schema_types.specs.Knowledge.{Extent, Knowledge, IsTable}
+use Rattle.schema_types.specs.inner.Table.{size_in, written_in}
+use Rattle.schema_types.specs.inner.Table.{fits, HasSize}
+use Rattle.schema_types.specs.Outcome.{IsWhole, IsLarge}
 use Rattle.schema_types.proofs.Tables.{sound, none_some}
 use Rattle.schema_types.proofs.Sizes.{within, too_large, not_large, one_false}
 

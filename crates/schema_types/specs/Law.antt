@@ -1,9 +1,9 @@
 -- Laws of writing out.
-use Rattle.std.specs.Prelude.{◌≡◌, ℕ, List}
+use Rattle.std.specs.Prelude.{◌≡◌, ◌⊎◌, ℕ, List}
 use Rattle.schema_types.specs.Qualified.{Qualified}
 use Rattle.schema_types.specs.Cedar.{Cedar}
 use Rattle.schema_types.specs.WrittenOut.{Declarations, Declares, WrittenOut, HasNoEnd}
-use Rattle.schema_types.specs.Mentions.{Leads}
+use Rattle.schema_types.specs.Mentions.{IsClosed, Leads}
 
 -- no name is declared twice
 abbrev pub AreOnce : Declarations → Type 0
@@ -18,3 +18,13 @@ OneWritten =
 -- a common type that leads back to itself has no end
 abbrev pub CyclesHaveNoEnd : Type 0
 CyclesHaveNoEnd = (commons : Declarations) → AreOnce commons → (q : List ℕ) → Leads commons q q → HasNoEnd commons q
+
+-- each common type that is named is declared
+abbrev pub AreClosed : Declarations → Type 0
+AreClosed commons = (q : List ℕ) (r : Qualified) → Declares commons q r → IsClosed commons r
+
+-- and the other way, where that is so: one without an end leads to one that leads back to itself
+abbrev pub EndlessAreCyclic : Type 0
+EndlessAreCyclic =
+    (commons : Declarations) → AreClosed commons → (q : List ℕ) (r : Qualified) → Declares commons q r
+    → HasNoEnd commons q → (p : List ℕ) × ((q ≡ p) ⊎ Leads commons q p) × Leads commons p p

@@ -21,6 +21,10 @@ abbrev mutual
   FieldsMention qualified.no_fields q = ⊥
   FieldsMention (qualified.field k r b rs) q = Mentions r q ⊎ FieldsMention rs q
 
+-- each name of a common type in it is declared
+abbrev pub IsClosed : Declarations → Qualified → Type 0
+IsClosed commons r = (q : List ℕ) → Mentions r q → (s : Qualified) × Declares commons q s
+
 -- one or more steps lead from the one common type to the other, each to a name that stands in what is declared
 pub data Leads (commons : Declarations) : List ℕ → List ℕ → Type 0 where
   step : (p q : List ℕ) (r : Qualified) → Declares commons p r → Mentions r q → Leads commons p q

@@ -2,11 +2,10 @@
 -- Source: Cedar reference guide, "Schema JSON format": types `String`, `Long`, `Boolean`, `Set`, `Record`, `Entity`,
 -- `Extension`, `EntityOrCommon`, names of common types. Rules of this product: other keys are refused, `annotations`
 -- has any value, null at an optional key is as missing.
-use Rattle.std.specs.Prelude.{option_map, ℕ, List, Bool, true, false, codes, Option, Some, None, Result, Ok, Err}
+use Rattle.std.specs.Prelude.{ℕ, List, Bool, true, false, codes, Option, Some, None, Result, Ok, Err}
 use Rattle.std.specs.Prelude.{if◌then◌else◌}
 use Rattle.std.specs.Str.{bytes_eq}
 use Rattle.serde_json.specs.Data.{Data, null, boolean, number, string, array, object, Members, no_members, member}
-use Rattle.serde_json.specs.Find.{get}
 use Rattle.json_words.specs.Gives.{◌>>=◌, or_fault, demand}
 use Rattle.json_words.specs.Keys.{has_only}
 use Rattle.values.specs.Paths.{is_path}
@@ -133,9 +132,3 @@ unfoldable mutual
     required ← required_in d
     fs ← fields_in ms
     Ok (raw.field k t required fs)
-
--- The same rule, over what stands at the keys of the value.
-abbrev pub type_rule : Bool → Data → Result Raw SchemaFault
-type_rule is_attribute d =
-    formed is_attribute d (option_map (type_of false) (get (codes "element") d))
-    (option_map attributes_of (get (codes "attributes") d))

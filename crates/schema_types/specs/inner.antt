@@ -1,5 +1,3 @@
-pub mod NamesViews
+pub mod Rounds
 pub mod Table
-pub mod TableViews
-pub mod Whole
-pub mod Written
+pub mod TypeRule

@@ -1,11 +1,13 @@
 //! Types written out.
 ghost use Rattle.std.specs.Prelude.{◌≡◌, IfOk};
 
-use plain::{Boxed, Items, NoMemory, Text};
-use std::alloc::Global;
+use plain::{Items, NoMemory, Shared, Text};
 use values::TypeName;
 
 /// A type of the policy language, with no name of a common type left in it.
+///
+/// What is inside a type is kept once and held by each of its copies, so that however often a common type is used, it
+/// takes memory once.
 ///
 /// Source: Cedar reference guide, "Schema JSON format".
 #[derive(Drop)]
@@ -16,17 +18,16 @@ pub enum CedarType {
     Decimal,
     Ipaddr,
     /// A set of values of one type.
-    Set(Boxed<CedarType>),
+    Set(Shared<CedarType>),
     /// Each key with its type, and whether it is required; the keys ascend by bytes.
-    Record(Items<(Text, CedarType, bool)>),
+    Record(Shared<Items<(Text, CedarType, bool)>>),
     /// Entities of one type.
     Entity(TypeName),
 }
 
 impl CedarType {
-    /// The same type, or `NoMemory`.
-    #[cycle(copy)]
-    pub fn copy(&self, alloc: Global) -> Result<CedarType, NoMemory>
+    /// The same type, or `NoMemory`; memory is taken for the name of an entity type alone.
+    pub fn copy(&self) -> Result<CedarType, NoMemory>
         ensures { IfOk result (λ ty. ty ≡ self.now) }
     {
         match self {
@@ -35,32 +36,9 @@ impl CedarType {
             CedarType::Boolean => Ok(CedarType::Boolean),
             CedarType::Decimal => Ok(CedarType::Decimal),
             CedarType::Ipaddr => Ok(CedarType::Ipaddr),
-            CedarType::Set(element) => Ok(CedarType::Set(copy_boxed(element, alloc)?)),
-            CedarType::Record(fields) => Ok(CedarType::Record(copy_fields(fields, alloc)?)),
+            CedarType::Set(element) => Ok(CedarType::Set(element.share()?)),
+            CedarType::Record(fields) => Ok(CedarType::Record(fields.share()?)),
             CedarType::Entity(name) => Ok(CedarType::Entity(name.copy()?)),
         }
     }
-}
-
-#[cycle(copy)]
-fn copy_boxed(ty: &Boxed<CedarType>, alloc: Global) -> Result<Boxed<CedarType>, NoMemory>
-    ensures { IfOk result (λ copied. copied ≡ ty.now) }
-{
-    Boxed::new(alloc, ty.get().copy(alloc)?)
-}
-
-#[cycle(copy)]
-fn copy_fields(
-    fields: &Items<(Text, CedarType, bool)>,
-    alloc: Global,
-) -> Result<Items<(Text, CedarType, bool)>, NoMemory>
-    ensures { IfOk result (λ copies. copies ≡ fields.now) }
-{
-    let mut copies = Vec::with_capacity(alloc, fields.len())?;
-    for field in fields.as_slice() {
-        let name = field.0.copy()?;
-        let ty = field.1.copy(alloc)?;
-        copies.push((name, ty, field.2))?;
-    }
-    Ok(Items::from_vec(copies))
 }

@@ -1,35 +1,40 @@
 //! The common types of a schema, each written out.
-ghost use Rattle.std.specs.Prelude.{◌≡◌, ◌<◌, ◌^◌, OnOk, IfOk, MatchResult, map, option_map, is_some, false, true};
+ghost use Rattle.std.specs.Prelude.{◌≡◌, ◌≢◌, ◌<◌, ◌^◌, OnOk, IfOk, MatchResult, map, option_map, is_some, Some, false};
+ghost use Rattle.std.specs.Prelude.{true};
 ghost use Rattle.std.specs.BTreeMap.{btree_map_len};
-ghost use Rattle.schema_types.specs.inner.Table.{IsWithin as Within, AreSettled, all_known, is_small_at, all_small};
-ghost use Rattle.schema_types.specs.inner.Table.{written_in};
 ghost use Rattle.schema_types.specs.CedarViews.{cedar_view};
-ghost use Rattle.schema_types.specs.inner.Written.{AreWritten, AreWhole, MayRefuse, MayBeTooLarge};
-ghost use Rattle.schema_types.specs.inner.TableViews.{size_view, knowledge, KeepsTable, Steps, Rounds};
-ghost use Rattle.schema_types.specs.QualifiedViews.{qualified_view};
-ghost use Rattle.schema_types.specs.QualifiedViews.{found_common_view};
+ghost use Rattle.schema_types.specs.Knowledge.{AreWritten, AreWhole};
+ghost use Rattle.schema_types.specs.inner.Table.{size_in, built_of, AreSettled, all_known, is_small_at, all_small};
+ghost use Rattle.schema_types.specs.Outcome.{CommonsRefused, SizesRefused};
+ghost use Rattle.schema_types.specs.TableViews.{size_view, knowledge};
+ghost use Rattle.schema_types.specs.inner.Rounds.{KeepsTable, Steps, Rounds};
+ghost use Rattle.schema_types.specs.QualifiedViews.{qualified_view, found_common_view};
+ghost use Rattle.schema_types.specs.declared.fault.SchemaFault.TheVariants as SchemaFault;
 
 use crate::order::order_of;
-use crate::size::size_of;
+use crate::size::{is_within, size_of};
 use crate::write::write;
 use crate::{CedarType, FoundCommon, Known, QualifiedType, SchemaFault, Size, Table};
 use plain::NoMemory;
 use std::alloc::Global;
 use std::collections::BTreeMap;
 
+/// A type of a size that was counted, unless it is too large: then nothing is built.
+#[tactic(auto, using(crate::proofs::Sizes::counted))]
 fn write_within(
     alloc: Global,
     ty: &QualifiedType,
     size: Size,
     table: &Table,
 ) -> Result<Option<CedarType>, NoMemory>
-    ensures { IfOk result (λ o. Within (size_view size) → option_map cedar_view o
-        ≡ written_in (knowledge table.now) (qualified_view ty.now)) }
+    requires { Some (size_view size) ≡ size_in (knowledge table.now) (qualified_view ty.now) }
+    ensures { IfOk result (λ o. option_map cedar_view o
+        ≡ built_of (knowledge table.now) (size_view size) (qualified_view ty.now)) }
 {
-    if size.parts <= 10000 && size.deep <= 64 {
-        return write(alloc, ty, table);
+    if !is_within(size) {
+        return Ok(None);
     }
-    Ok(None)
+    write(alloc, ty, table)
 }
 
 /// Adds what a name stands for, once each name in that is known.
@@ -132,7 +137,7 @@ fn are_all_known(commons: &[FoundCommon], table: &Table) -> bool
 /// Refused where a type leads back to itself.
 pub fn write_commons(alloc: Global, commons: &[FoundCommon]) -> Result<Table, SchemaFault>
     ensures { MatchResult result (λ table. AreWritten (map found_common_view commons.now) (knowledge table))
-        (λ refused. MayRefuse (map found_common_view commons.now) refused) }
+        (λ f. f ≢ SchemaFault.NoMemory → CommonsRefused (map found_common_view commons.now) f) }
 {
     let mut table = BTreeMap::new(alloc);
     let order = order_of(alloc, commons)?;
@@ -148,7 +153,7 @@ fn is_small(name: &str, table: &Table) -> bool
     ensures { result ≡ is_small_at (knowledge table.now name.now) }
 {
     match table.get(name) {
-        Some(known) => known.size.parts <= 10000 && known.size.deep <= 64,
+        Some(known) => is_within(known.size),
         None => true,
     }
 }
@@ -168,7 +173,7 @@ fn are_all_small(commons: &[FoundCommon], table: &Table) -> bool
 pub fn demand_sizes(commons: &[FoundCommon], table: &Table) -> Result<(), SchemaFault>
     requires { AreWritten (map found_common_view commons.now) (knowledge table.now) }
     ensures { MatchResult result (λ u. AreWhole (map found_common_view commons.now) (knowledge table.now))
-        (λ refused. MayBeTooLarge (map found_common_view commons.now) refused) }
+        (λ f. SizesRefused (map found_common_view commons.now) f) }
 {
     if !are_all_small(commons, table) {
         return Err(SchemaFault::TypeTooLarge);

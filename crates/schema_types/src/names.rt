@@ -8,7 +8,7 @@ ghost use Rattle.schema_types.specs.QualifiedViews.{qualified_view, qualified_fi
 ghost use Rattle.schema_types.specs.Names.{is_qualified as is_in_namespace, full_name, as_declared, found};
 ghost use Rattle.schema_types.specs.Names.{built_in as built_in_of, any_named, entity_named, common_named};
 ghost use Rattle.schema_types.specs.Names.{qualified_of, fields_of};
-ghost use Rattle.schema_types.specs.inner.NamesViews.{scope_of};
+ghost use Rattle.schema_types.specs.NamesViews.{scope_of};
 ghost use Rattle.schema_types.specs.declared.fault.SchemaFault.TheVariants as SchemaFault;
 
 use crate::{QualifiedType, RawType, SchemaFault};

@@ -1,11 +1,18 @@
 //! How large a type is when it is written out.
 ghost use Rattle.std.specs.Prelude.{◌≡◌, option_map};
 ghost use Rattle.schema_types.specs.inner.Table.{leaf_size, no_size as none_of, above as above_of, beside as beside_of};
-ghost use Rattle.schema_types.specs.inner.Table.{size_in, sizes_in};
-ghost use Rattle.schema_types.specs.inner.TableViews.{size_view, knowledge};
+ghost use Rattle.schema_types.specs.inner.Table.{fits, size_in, sizes_in};
+ghost use Rattle.schema_types.specs.TableViews.{size_view, knowledge};
 ghost use Rattle.schema_types.specs.QualifiedViews.{qualified_view, qualified_fields_view};
 
 use crate::{QualifiedType, Size, Table};
+
+/// Whether a type of this size is not too large.
+pub(crate) fn is_within(size: Size) -> bool
+    ensures { result ≡ fits (size_view size) }
+{
+    size.parts <= 10000 && size.deep <= 64
+}
 
 fn leaf() -> Size
     ensures { size_view result ≡ leaf_size }

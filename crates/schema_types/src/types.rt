@@ -1,9 +1,10 @@
 //! The type that JSON states.
 ghost use Rattle.std.specs.Prelude.{◌≡◌, option_map};
 ghost use Rattle.serde_json.specs.View.{view, members_view};
-ghost use Rattle.json_words.specs.Gives.{Gives};
+ghost use Rattle.json_words.specs.Gives.{Gives, GivesAlways};
 ghost use Rattle.schema_types.specs.Views.{raw_view, fields_view};
-ghost use Rattle.schema_types.specs.TypeShape.{type_of, type_rule, attributes_of, required_in, fields_in, type_name};
+ghost use Rattle.schema_types.specs.TypeShape.{type_of, attributes_of, required_in, fields_in, type_name};
+ghost use Rattle.schema_types.specs.inner.TypeRule.{type_rule};
 ghost use Rattle.schema_types.specs.TypeShape.{name_in, reserved_type, entity_or_common};
 ghost use Rattle.schema_types.specs.TypeShape.{extension_named as extension_of};
 ghost use Rattle.schema_types.specs.declared.fault.SchemaFault.TheVariants as SchemaFault;
@@ -84,7 +85,7 @@ fn extension_named(word: &str) -> Option<RawType>
 
 /// Whether an attribute is required, as it is where nothing is said.
 fn is_required(value: &Value) -> Result<bool, SchemaFault>
-    ensures { Gives SchemaFault.NoMemory (λ b. b) result (required_in (view value.now)) }
+    ensures { GivesAlways (λ b. b) result (required_in (view value.now)) }
 {
     truth_or(true, optional(value, "required"))
 }

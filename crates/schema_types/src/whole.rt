@@ -1,24 +1,20 @@
 //! Types written out in full.
-ghost use Rattle.std.specs.Prelude.{◌≡◌, MatchResult};
+ghost use Rattle.std.specs.Prelude.{◌≡◌, ◌≢◌, MatchResult};
 ghost use Rattle.schema_types.specs.QualifiedViews.{qualified_view};
 ghost use Rattle.schema_types.specs.CedarViews.{cedar_view};
 ghost use Rattle.schema_types.specs.WrittenOut.{Declarations};
-ghost use Rattle.schema_types.specs.inner.Table.{IsTable};
-ghost use Rattle.schema_types.specs.inner.TableViews.{size_view, knowledge};
-ghost use Rattle.schema_types.specs.inner.Whole.{fits, HasSize, IsWhole, MayRefuseType};
+ghost use Rattle.schema_types.specs.Knowledge.{AreWritten};
+ghost use Rattle.schema_types.specs.TableViews.{knowledge};
+ghost use Rattle.schema_types.specs.Outcome.{IsWhole, TypeRefused};
+ghost use Rattle.schema_types.specs.Mentions.{IsClosed};
+ghost use Rattle.schema_types.specs.declared.fault.SchemaFault.TheVariants as SchemaFault;
 
-use crate::size::size_of;
+use crate::size::{is_within, size_of};
 use crate::write::write;
-use crate::{CedarType, QualifiedType, SchemaFault, Size, Table};
+use crate::{CedarType, QualifiedType, SchemaFault, Table};
 use std::alloc::Global;
 
-fn is_within(size: Size) -> bool
-    ensures { result ≡ fits (size_view size) }
-{
-    size.parts <= 10000 && size.deep <= 64
-}
-
-/// A type, written out in full.
+/// A type whose common types are all declared, written out in full.
 ///
 /// Refused where it is too large.
 pub fn write_whole(
@@ -27,10 +23,10 @@ pub fn write_whole(
     table: &Table,
 ) -> Result<CedarType, SchemaFault>
     ghost commons: { Declarations }
-    requires table { IsTable commons (knowledge table.now) }
-    requires sized { HasSize (knowledge table.now) (qualified_view ty.now) }
+    requires table { AreWritten commons (knowledge table.now) }
+    requires closed { IsClosed commons (qualified_view ty.now) }
     ensures { MatchResult result (λ t. IsWhole commons (qualified_view ty.now) (cedar_view t))
-        (λ f. MayRefuseType commons (qualified_view ty.now) f) }
+        (λ f. f ≢ SchemaFault.NoMemory → TypeRefused commons (qualified_view ty.now) f) }
 {
     let Some(size) = size_of(ty, table) else {
         return Err(SchemaFault::TypeTooLarge);

@@ -9,7 +9,7 @@ use Rattle.values.specs.declared.entity_uid.EntityUid.{EntityUid}
 use Rattle.values.specs.Names.{uid_cmp}
 use Rattle.schema_types.specs.declared.names.Names.{Names}
 use Rattle.schema_types.specs.Names.{full_name}
-use Rattle.schema_types.specs.inner.NamesViews.{scope_of, is_action_of}
+use Rattle.schema_types.specs.NamesViews.{scope_of, is_action_of}
 use Rattle.schema_file.specs.Stated.{NamespaceOf}
 use Rattle.schema_names.specs.Qualifying.{CommonOf, common_in, action_type, uid_of, commons_declared}
 use Rattle.schema_names.specs.Qualifying.{entity_types_declared, actions_declared, scope_in, is_action_in}

@@ -53,11 +53,11 @@ pub record Spreads (s : Scope) (cs : List CommonOf) (old new : BTreeSet (String 
   pub grows : ((new ≡ old) × IsSettled s old cs) ⊎ (btree_set_len old < btree_set_len new)
 
 -- the set has the common types that mean no record, and so tells it of each type
-pub record TellsRecords (ns : List NamespaceOf) (known : BTreeSet (String Global)) : Type 0 where
-  pub sound : (own : Option (List ℕ)) (r : Raw) → means_now (λ q. has_name known q) (scope_in ns) own r ≡ true
+pub record TellsRecords (ns : List NamespaceOf) (known : List ℕ → Bool) : Type 0 where
+  pub sound : (own : Option (List ℕ)) (r : Raw) → means_now known (scope_in ns) own r ≡ true
       → MeansNoRecord ns own r
   pub complete : (own : Option (List ℕ)) (r : Raw) → MeansNoRecord ns own r
-      → means_now (λ q. has_name known q) (scope_in ns) own r ≡ true
+      → means_now known (scope_in ns) own r ≡ true
 
 -- ---- shapes and contexts
 

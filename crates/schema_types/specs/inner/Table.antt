@@ -1,27 +1,12 @@
--- What is known of the common types that were written out so far.
-use Rattle.std.specs.Prelude.{◌≡◌, ⊤, ◌&&◌, ℕ, ◌+◌, ◌≤◌, min, max, List, [], ◌∷◌, Bool, true, Option, Some, None}
-use Rattle.std.specs.Prelude.{option_map, is_some, option_and_then, nat_lt}
+-- How the size of a type, and the type itself, come from what is known of the common types in it.
+use Rattle.std.specs.Prelude.{◌≡◌, ⊤, ◌&&◌, ◌+◌, min, max, [], ◌∷◌, Bool, true, Option, Some, None}
+use Rattle.std.specs.Prelude.{◌≤◌, option_map, is_some, option_and_then, nat_lt, if◌then◌else◌}
 use Rattle.schema_types.specs.Qualified as qualified
 use Rattle.schema_types.specs.Qualified.{Qualified, QualifiedFields}
 use Rattle.schema_types.specs.Cedar as cedar
-use Rattle.schema_types.specs.Cedar.{Cedar, CedarFields, parts, deep}
-use Rattle.schema_types.specs.WrittenOut.{Declarations, WrittenOut}
-
--- a size, each part of it counted to one beyond its limit
-pub record Extent : Type 0 where
-  pub parts : ℕ
-  pub deep : ℕ
-
-abbrev pub size_of : Cedar → Extent
-size_of t = record { parts = min (cedar.parts t) 10001; deep = min (cedar.deep t) 65 }
-
--- a name's size and type; no type that is too large is built
-pub record KnownType : Type 0 where
-  pub size : Extent
-  pub whole : Option Cedar
-
-abbrev pub Knowledge : Type 0
-Knowledge = List ℕ → Option KnownType
+use Rattle.schema_types.specs.Cedar.{Cedar, CedarFields}
+use Rattle.schema_types.specs.WrittenOut.{Declarations}
+use Rattle.schema_types.specs.Knowledge.{Extent, KnownType, Knowledge}
 
 abbrev pub leaf_size : Extent
 leaf_size = record { parts = 1; deep = 1 }
@@ -73,18 +58,25 @@ unfoldable mutual
   fields_in known (qualified.field k r required rs) =
       option_and_then (λ t. option_map (cedar.field k t required) (fields_in known rs)) (written_in known r)
 
+-- ---- what is not too large
+
 abbrev pub IsWithin : Extent → Type 0
 IsWithin s = (s.parts ≤ 10000) × (s.deep ≤ 64)
 
--- what is known of a name is so
-pub record Stands (commons : Declarations) (q : List ℕ) (k : KnownType) : Type 0 where
-  pub type : Cedar
-  pub is_written : WrittenOut commons (qualified.common q) type
-  pub size_is : k.size ≡ size_of type
-  pub at_hand : IsWithin k.size → k.whole ≡ Some type
+abbrev pub fits : Extent → Bool
+fits s = nat_lt s.parts 10001 && nat_lt s.deep 65
 
-abbrev pub IsTable : Declarations → Knowledge → Type 0
-IsTable commons known = (q : List ℕ) (k : KnownType) → known q ≡ Some k → Stands commons q k
+-- the type was counted, and is not too large
+pub record IsCounted (known : Knowledge) (r : Qualified) : Type 0 where
+  pub size : Extent
+  pub is : size_in known r ≡ Some size
+  pub small : fits size ≡ true
+
+-- what is built of a type of this size
+abbrev pub built_of : Knowledge → Extent → Qualified → Option Cedar
+built_of known s r = if fits s then written_in known r else None
+
+-- ---- tables
 
 -- no further name can be written out
 abbrev pub AreSettled : Knowledge → Declarations → Type 0
@@ -97,8 +89,13 @@ all_known known (d ∷ ds) = is_some (known d.0) && all_known known ds
 
 abbrev pub is_small_at : Option KnownType → Bool
 is_small_at None = true
-is_small_at (Some k) = nat_lt k.size.parts 10001 && nat_lt k.size.deep 65
+is_small_at (Some k) = fits k.size
 
 abbrev pub all_small : Knowledge → Declarations → Bool
 all_small known [] = true
 all_small known (d ∷ ds) = is_small_at (known d.0) && all_small known ds
+
+-- each common type that the type names is known
+pub record HasSize (known : Knowledge) (r : Qualified) : Type 0 where
+  pub size : Extent
+  pub is : size_in known r ≡ Some size

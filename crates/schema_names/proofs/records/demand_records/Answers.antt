@@ -11,12 +11,12 @@ returns-then-not-branch c =
     let ns = map namespace_view c.args.stated.now in
     inr (
       refl,
-      some_record ns c.in_ok-known.known c.in_ok-known.ensures
+      some_record ns (λ q. has_name c.in_ok-known.known q) c.in_ok-known.ensures
           (ap (λ (s : Scope). are_records (λ q. has_name c.in_ok-known.known q) s ns) (sym c.requires.scope) ∙ sym c.in_ok-are_records.ensures ∙ c.if-not-branch.true),
     )
 
 pub returns : goal.returns
 returns c =
     let ns = map namespace_view c.args.stated.now in
-    all_records ns c.in_ok-known.known c.in_ok-known.ensures
+    all_records ns (λ q. has_name c.in_ok-known.known q) c.in_ok-known.ensures
     (ap (λ (s : Scope). are_records (λ q. has_name c.in_ok-known.known q) s ns) (sym c.requires.scope) ∙ sym c.in_ok-are_records.ensures ∙ c.if-not-branch.false)

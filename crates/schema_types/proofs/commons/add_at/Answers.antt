@@ -1,6 +1,6 @@
 use Rattle.std.proofs.Common.{ℕ, List, subst}
 use Rattle.schema_types.specs.QualifiedViews.{qualified_view, found_common_view}
-use Rattle.schema_types.specs.inner.TableViews.{Steps}
+use Rattle.schema_types.specs.inner.Rounds.{Steps}
 use Rattle.schema_types.proofs.Rounds.{kept_at}
 use Rattle.schema_types.proofs.commons.add_at.Goals as goal
 

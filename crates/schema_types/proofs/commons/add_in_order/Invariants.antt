@@ -1,5 +1,5 @@
 use Rattle.std.proofs.Common.{map}
-use Rattle.schema_types.specs.inner.TableViews.{KeepsTable}
+use Rattle.schema_types.specs.inner.Rounds.{KeepsTable}
 use Rattle.schema_types.specs.QualifiedViews.{found_common_view}
 use Rattle.schema_types.proofs.commons.add_in_order.Given as goal
 

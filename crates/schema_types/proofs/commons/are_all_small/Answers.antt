@@ -2,7 +2,7 @@ use Rattle.std.proofs.Common.{◌≡◌, ◌∙◌, ◌+◌, ℕ, List, map, dro
 use Rattle.std.proofs.lemmas.List.{drop_all}
 use Rattle.schema_types.specs.declared.qualified.FoundCommon.{FoundCommon}
 use Rattle.schema_types.specs.inner.Table.{all_small, is_small_at}
-use Rattle.schema_types.specs.inner.TableViews.{knowledge}
+use Rattle.schema_types.specs.TableViews.{knowledge}
 use Rattle.schema_types.specs.QualifiedViews.{found_common_view}
 use Rattle.json_words.proofs.EachSame.{cut}
 use Rattle.schema_types.proofs.Sizes.{large_left, small_left}

@@ -1,6 +1,6 @@
 use Rattle.std.proofs.Common.{◌≡◌, map, drop}
 use Rattle.schema_types.specs.inner.Table.{all_small}
-use Rattle.schema_types.specs.inner.TableViews.{knowledge}
+use Rattle.schema_types.specs.TableViews.{knowledge}
 use Rattle.schema_types.specs.QualifiedViews.{found_common_view}
 use Rattle.schema_types.proofs.commons.are_all_small.Given as goal
 

@@ -2,7 +2,7 @@ use Rattle.std.proofs.Common.{◌+◌, ℕ, List, map, drop, sym, subst}
 use Rattle.std.proofs.lemmas.List.{drop_all}
 use Rattle.schema_types.specs.declared.qualified.FoundCommon.{FoundCommon}
 use Rattle.schema_types.specs.QualifiedViews.{qualified_view}
-use Rattle.schema_types.specs.inner.TableViews.{Rounds, Steps}
+use Rattle.schema_types.specs.inner.Rounds.{Rounds, Steps}
 use Rattle.schema_types.specs.QualifiedViews.{found_common_view}
 use Rattle.json_words.proofs.EachSame.{cut}
 use Rattle.schema_types.proofs.Rounds.{round_none, round_step}

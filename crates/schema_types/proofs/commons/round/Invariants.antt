@@ -1,6 +1,6 @@
 use Rattle.std.proofs.Common.{map, drop, BTreeMap, String, Global}
 use Rattle.schema_types.specs.declared.table.Known.{Known}
-use Rattle.schema_types.specs.inner.TableViews.{Rounds}
+use Rattle.schema_types.specs.inner.Rounds.{Rounds}
 use Rattle.schema_types.specs.QualifiedViews.{found_common_view}
 use Rattle.schema_types.proofs.commons.round.Given as goal
 

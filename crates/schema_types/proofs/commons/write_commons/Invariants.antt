@@ -1,7 +1,7 @@
 use Rattle.std.proofs.Common.{◌-◌, ◌^◌, map}
 use Rattle.std.specs.BTreeMap.{btree_map_len}
-use Rattle.schema_types.specs.inner.Table.{IsTable}
-use Rattle.schema_types.specs.inner.TableViews.{knowledge}
+use Rattle.schema_types.specs.Knowledge.{IsTable}
+use Rattle.schema_types.specs.TableViews.{knowledge}
 use Rattle.schema_types.specs.QualifiedViews.{found_common_view}
 use Rattle.schema_types.proofs.commons.write_commons.Given as goal
 

@@ -1,6 +1,6 @@
 use Rattle.std.proofs.Common.{◌∙◌, refl}
 use Rattle.std.proofs.lemmas.Result.{err_from_is_err_and}
-use Rattle.schema_types.specs.inner.NamesViews.{scope_of}
+use Rattle.schema_types.specs.NamesViews.{scope_of}
 use Rattle.schema_types.proofs.QualifiedWalk.{goes, ends, all_found}
 use Rattle.schema_types.proofs.names.+resolve.Goals as goal
 

@@ -1,7 +1,7 @@
 use Rattle.std.proofs.Common.{◌≡◌, drop}
 use Rattle.schema_types.specs.Views.{fields_view}
 use Rattle.schema_types.specs.Names.{fields_of}
-use Rattle.schema_types.specs.inner.NamesViews.{scope_of}
+use Rattle.schema_types.specs.NamesViews.{scope_of}
 use Rattle.schema_types.proofs.QualifiedWalk.{with_front}
 use Rattle.schema_types.proofs.names.+resolve.Given as goal
 

@@ -1,6 +1,6 @@
 use Rattle.std.proofs.Common.{◌≡◌, drop}
 use Rattle.schema_types.specs.inner.Table.{no_size, sizes_in}
-use Rattle.schema_types.specs.inner.TableViews.{size_view, knowledge}
+use Rattle.schema_types.specs.TableViews.{size_view, knowledge}
 use Rattle.schema_types.specs.QualifiedViews.{qualified_fields_view}
 use Rattle.schema_types.proofs.size.+size_of.Given as goal
 

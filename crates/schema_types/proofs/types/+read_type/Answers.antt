@@ -36,7 +36,7 @@ read_fields-returns-in_err-required t c =
     let p = err_from_is_err_and c.from_residual-in_err-required.result c.from_residual-in_err-required.ensures.1 in
     let e : Entry = (c.in-Some.key.now, c.in-Some.member.now) in
     let here = c.loop-key.invariant.so_far ∙ ap (λ (es : List Entry). with_front c.loop-key.fields.items (fields_in (members_view es))) c.in-Some.ensures.steps in
-    rw (p.1, p.2) (required_ends e c.next.new.self c.loop-key.fields.items (raw_view c.in_ok-field.field) _ c.in_err-required.field-0.0 c.in_ok-field.ensures c.in_err-required.ensures here)
+    rw (p.1, p.2) (required_ends e c.next.new.self c.loop-key.fields.items (raw_view c.in_ok-field.field) _ c.in_err-required.field-0.0 c.in_ok-field.ensures (λ other. c.in_err-required.ensures) here)
 
 pub read_fields-loop-key-preserved : goal.read_fields-loop-key-preserved
 read_fields-loop-key-preserved t c =

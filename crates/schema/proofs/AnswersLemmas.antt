@@ -1,0 +1,151 @@
+-- What was made answers as it is to.
+use Rattle.std.proofs.Common.{◌≡◌, ◌∙◌, ℕ, List, [], ◌∷◌, map, Option, Some, None, refl, sym, ap, subst, inl, inr}
+use Rattle.std.specs.Prelude.{Contains, IsTrue, IsSome, ◌↔◌, option_map}
+use Rattle.std.specs.BTreeMap.{BTreeMap, get, keys, IsOrdered}
+use Rattle.std.specs.BTreeSet.{BTreeSet}
+use Rattle.std.specs.Map.{keys_of}
+use Rattle.std.specs.List.Sorted.{IsStrictlySortedBy}
+use Rattle.std.proofs.lemmas.Map.Views.{btree_map_contains_key_iff, btree_map_get_iff}
+use Rattle.values.specs.declared.entity_uid.EntityUid.{EntityUid}
+use Rattle.values.specs.Names.{uid_cmp, text_cmp, uid_cmp-IsTotalOrder, uid_cmp-IsAntisymmetric}
+use Rattle.ancestor_closure.specs.Hierarchy.{Above, IsAscending, IsAllAbove}
+use Rattle.ancestor_closure.specs.Deciding.{Contains-here, Contains-there, Contains-cases, Contains-none}
+use Rattle.schema_types.specs.Cedar.{Cedar}
+use Rattle.schema_types.specs.CedarViews.{cedar_view}
+use Rattle.schema_types.specs.declared.cedar.CedarType.{CedarType}
+use Rattle.schema_names.specs.Qualifying.{FoundEntityType, FoundSchema}
+use Rattle.schema.specs.declared.parts.Place.{Place}
+use Rattle.schema.specs.declared.parts.Environment.{Environment}
+use Rattle.schema.specs.declared.parts.EntityDecl.{EntityDecl}
+use Rattle.schema.specs.declared.reading.Types.{Types}
+use Rattle.schema.specs.declared.reading.Hierarchies.{Hierarchies}
+use Rattle.schema.specs.Schemas.{EnvironmentOf, Answers, IsShape, IsAction, IsEnvironment, IsPlace, IsRecordOf, action_parents, type_parents, type_uid, place_cmp}
+use Rattle.schema.specs.Views.{environment_view, shape_in, is_in, may_have_in}
+use Rattle.schema.specs.inner.Making.{Places, AreShapes, ArePlaces, AreAncestors, AreTypesAbove, environment_of}
+use Rattle.schema.specs.inner.Reading.{AreTypesOf, AreHierarchiesOf}
+use Rattle.schema.proofs.PlaceLemmas.{place_cmp-IsTotalOrder, place_cmp-IsAntisymmetric}
+use Rattle.schema.proofs.HierarchyLemmas.{is_declared}
+
+some_of : {A : Type 0} (o : Option A) → IsSome o → (x : A) × (o ≡ Some x)
+some_of None h = absurd cc
+some_of (Some x) h = (x, refl)
+
+map_some : {A B : Type 0} (f : A → B) (o : Option A) → IsSome o → IsSome (option_map f o)
+map_some f None h = absurd cc
+map_some f (Some x) h = refl
+
+from_map : {A B : Type 0} (f : A → B) (o : Option A) (y : B) → option_map f o ≡ Some y → (x : A) × (o ≡ Some x) × (f x ≡ y)
+from_map f None y e = absurd cc
+from_map f (Some x) y e = (x, refl, cc)
+
+not_none : {A : Type 0} {G : Type 0} (x : A) → None ≡ Some x → G
+not_none x e = absurd cc
+
+is_none : {A : Type 0} {G : Type 0} (o : Option A) → o ≡ None → IsSome o → G
+is_none None e h = absurd cc
+is_none (Some x) e h = absurd cc
+
+contains_map : {A B : Type 0} (f : A → B) (xs : List A) (y : B) → Contains (map f xs) y → (x : A) × Contains xs x × (f x ≡ y)
+contains_map f [] y h = Contains-none y h
+contains_map f (x ∷ xs) y h = elim (Contains-cases (f x) (map f xs) y h) [
+  | inl same ↦ (x, Contains-here x xs, same)
+  | inr later ↦ let found = contains_map f xs y later in (found.0, Contains-there x xs found.0 found.1, found.2)
+]
+
+-- ---- shapes
+
+module _ (s : FoundSchema) (shapes : BTreeMap (List ℕ) EntityDecl) (are : AreShapes s.commons s.entity_types shapes) where
+  pub shape_found : (n : List ℕ) (t : Cedar) → shape_in shapes n ≡ Some t → IsShape s n t
+  shape_found n t e =
+      let at = from_map (λ d. cedar_view d.shape) (get text_cmp shapes n) t e in
+      elim (are.sound n at.0 at.1) [
+        | inl m ↦ (m.0, m.1, m.2.0, subst (λ (x : Cedar). IsRecordOf s.commons m.0.shape x) at.2 m.2.1)
+        | inr none ↦ not_none at.0 none
+      ]
+
+  pub shape_there : (e : FoundEntityType) → Contains s.entity_types e → IsSome (shape_in shapes e.name)
+  shape_there e h = map_some (λ d. cedar_view d.shape) (get text_cmp shapes e.name) (are.all e.name (e, h, refl))
+
+-- ---- actions
+
+module _ (s : FoundSchema) (ancestors : BTreeMap EntityUid (List EntityUid)) (are : AreAncestors (action_parents s) s.actions ancestors) where
+  pub ancestors_found : (u : EntityUid) (us : List EntityUid) → get uid_cmp ancestors u ≡ Some us → IsAction s u × IsAscending us × IsAllAbove (action_parents s) u us
+  ancestors_found u us e = elim (are.sound u us e) [
+    | inl m ↦ ((m.0, m.1, m.2.0), m.2.1, m.2.2)
+    | inr none ↦ not_none us none
+  ]
+
+  pub ancestors_there : (u : EntityUid) → IsAction s u → IsSome (get uid_cmp ancestors u)
+  ancestors_there u a = are.all u a
+
+  pub actions_are : (u : EntityUid) → Contains (keys ancestors) u ↔ IsAction s u
+  actions_are u =
+      let iff = btree_map_contains_key_iff uid_cmp-IsTotalOrder uid_cmp-IsAntisymmetric ancestors u in
+      ((λ h. let at = some_of (get uid_cmp ancestors u) (iff.1 h) in (ancestors_found u at.0 at.1).0), (λ a. iff.0 (ancestors_there u a)))
+
+-- ---- types above types
+
+module _ (s : FoundSchema) (above : BTreeMap (List ℕ) (BTreeSet (List ℕ))) (are : AreTypesAbove (type_parents s) s.entity_types above) where
+  parent_at : (child parent : List ℕ) (o : Option (BTreeSet (List ℕ))) → get text_cmp above child ≡ o
+      → IsTrue (is_in o parent) ↔ Above (type_parents s) (type_uid parent) (type_uid child)
+  parent_at child parent None e = (
+    (λ h. cc),
+    (λ h.
+        let found = is_declared s.entity_types (type_uid child) (type_uid parent) h in
+        is_none (get text_cmp above child) e (are.all child (found.0, found.1, ap (λ (u : EntityUid). u.type_name) found.2))),
+  )
+  parent_at child parent (Some names) e = elim (are.sound child names e) [
+    | inl m ↦ m.2.1 parent
+    | inr none ↦ not_none names none
+  ]
+
+  pub parents_are : (child parent : List ℕ) → IsTrue (may_have_in above child parent) ↔ Above (type_parents s) (type_uid parent) (type_uid child)
+  parents_are child parent = parent_at child parent (get text_cmp above child) refl
+
+-- ---- environments
+
+places_are : (es : List (Place × CedarType)) → map (λ e. e.place) (map environment_view (map environment_of es)) ≡ keys_of es
+places_are [] = refl
+places_are (e ∷ es) = ap (λ (ps : List Place). e.0 ∷ ps) (places_are es)
+
+module _ (s : FoundSchema) (places : Places) (are : ArePlaces s.commons s.actions places) (ordered : IsOrdered place_cmp places) where
+  environment_at : (p : Place) (c : CedarType) → get place_cmp places p ≡ Some c → IsEnvironment s (environment_view (environment_of (p, c)))
+  environment_at p c e = elim (are.sound p c e) [
+    | inl m ↦
+        let (u, applies, may) = m.2 in
+        (u, record { action = m.0; declared = m.1; is = may.0.0; applies = applies; principal = may.0.1; resource = may.0.2 }, may.1)
+    | inr none ↦ not_none c none
+  ]
+
+  pub environments_are : (e : EnvironmentOf) → Contains (map environment_view (map environment_of places.entries)) e → IsEnvironment s e
+  environments_are e h =
+      let seen = contains_map environment_view (map environment_of places.entries) e h in
+      let made = contains_map environment_of places.entries seen.0 seen.1 in
+      let at = (btree_map_get_iff place_cmp-IsTotalOrder place_cmp-IsAntisymmetric places ordered made.0.0 made.0.1).1 made.1 in
+      subst (λ (x : EnvironmentOf). IsEnvironment s x) (ap environment_view made.2 ∙ seen.2) (environment_at made.0.0 made.0.1 at)
+
+  pub all_environments : (p : Place) → IsPlace s p → Contains (map (λ e. e.place) (map environment_view (map environment_of places.entries))) p
+  all_environments p (u, a) =
+      subst (λ (ps : List Place). Contains ps p) (sym (places_are places.entries))
+      ((btree_map_contains_key_iff place_cmp-IsTotalOrder place_cmp-IsAntisymmetric places p).0
+      (are.all p (a.action, a.declared, (u, a.applies, (a.is, a.principal, a.resource)))))
+
+  pub environments_ascend : IsStrictlySortedBy place_cmp (map (λ e. e.place) (map environment_view (map environment_of places.entries)))
+  environments_ascend = subst (λ (ps : List Place). IsStrictlySortedBy place_cmp ps) (sym (places_are places.entries)) ordered
+
+-- ---- all together
+
+pub made_answers : (s : FoundSchema) (label : List ℕ) (t : Types) (h : Hierarchies) → AreTypesOf s.commons s t → AreHierarchiesOf s h
+    → Answers s (record { label = label; environments = map environment_view t.environments; actions = h.actions; shape = shape_in t.shapes; ancestors = λ u. get uid_cmp h.ancestors u; may_have_parent = may_have_in h.above })
+made_answers s label t h types hierarchies = record {
+  shapes = shape_found s t.shapes types.shapes;
+  all_shapes = shape_there s t.shapes types.shapes;
+  actions = λ u. subst (λ (us : List EntityUid). Contains us u ↔ IsAction s u) (sym hierarchies.actions) (actions_are s h.ancestors hierarchies.ancestors u);
+  actions_ascend = subst (λ (us : List EntityUid). IsAscending us) (sym hierarchies.actions) hierarchies.ascending;
+  ancestors = ancestors_found s h.ancestors hierarchies.ancestors;
+  all_ancestors = ancestors_there s h.ancestors hierarchies.ancestors;
+  parents = parents_are s h.above hierarchies.above;
+  environments = subst (λ (es : List Environment). (e : EnvironmentOf) → Contains (map environment_view es) e → IsEnvironment s e) (sym types.environments) (environments_are s types.places types.are types.ordered);
+  all_environments = subst (λ (es : List Environment). (p : Place) → IsPlace s p → Contains (map (λ e. e.place) (map environment_view es)) p) (sym types.environments) (all_environments s types.places types.are types.ordered);
+  environments_ascend = subst (λ (es : List Environment). IsStrictlySortedBy place_cmp (map (λ e. e.place) (map environment_view es))) (sym types.environments) (environments_ascend s types.places types.are types.ordered);
+}

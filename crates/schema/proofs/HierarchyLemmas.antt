@@ -1,0 +1,110 @@
+-- Hierarchies of actions and of entity types.
+use Rattle.std.proofs.Common.{◌≡◌, ◌∙◌, Bool, true, false, cond, ℕ, List, [], ◌∷◌, map, Option, Some, None, refl, sym, ap, subst, inl, inr}
+use Rattle.std.specs.Prelude.{Contains, ◌⊎◌, ◌||◌, option_copied, slice_get}
+use Rattle.std.specs.Borrow.{Bor}
+use Rattle.std.specs.Ordering.{is_eq}
+use Rattle.std.specs.BTreeSet.{BTreeSet, contains}
+use Rattle.std.specs.Cmp.{tied_itself}
+use Rattle.std.proofs.lemmas.Map.Views.{tells_apart}
+use Rattle.values.specs.declared.entity_uid.EntityUid.{EntityUid}
+use Rattle.values.specs.Names.{uid_cmp, text_cmp, text_cmp-IsTotalOrder, text_cmp-IsAntisymmetric}
+use Rattle.ancestor_closure.specs.Hierarchy.{Parents, Path, Above, IsAllAbove, AreOnCycles, names, no_parents, with_parents}
+use Rattle.ancestor_closure.specs.Deciding.{Contains-here, Contains-there, Contains-cases, Contains-none, any_from, any_at, same_uid}
+use Rattle.schema_names.specs.Qualifying.{FoundEntityType}
+use Rattle.schema.specs.Schemas.{type_uid, with_types}
+use Rattle.schema.specs.inner.Making.{HasCycle, AreTypes, IsTypesAbove, has_type}
+
+-- ---- cycles
+
+first_found : (parents : Parents) (xs : List (Bor EntityUid)) → AreOnCycles parents (names xs) → (x : Bor EntityUid) → Some x ≡ slice_get xs 0 → HasCycle parents
+first_found parents [] all x e = absurd cc
+first_found parents (y ∷ ys) all x e = (y.now, (all y.now).0 (Contains-here y.now (names ys)))
+
+pub cycle_found : (parents : Parents) (xs ys : List (Bor EntityUid)) → AreOnCycles parents (names xs) → ys ≡ xs → (r : Option (Bor (Bor EntityUid))) (x : Bor (Bor EntityUid))
+    → option_copied r ≡ slice_get ys 0 → r ≡ Some x → HasCycle parents
+cycle_found parents xs ys all same r x value is = first_found parents xs all x.now (sym (ap option_copied is) ∙ value ∙ ap (λ (zs : List (Bor EntityUid)). slice_get zs 0) same)
+
+none_found : (parents : Parents) (xs : List (Bor EntityUid)) → AreOnCycles parents (names xs) → None ≡ slice_get xs 0 → HasCycle parents → ⊥
+none_found parents [] all e h = Contains-none h.0 ((all h.0).1 h.1)
+none_found parents (y ∷ ys) all e h = cc
+
+pub cycle_none : (parents : Parents) (xs ys : List (Bor EntityUid)) → AreOnCycles parents (names xs) → ys ≡ xs → (r : Option (Bor (Bor EntityUid)))
+    → option_copied r ≡ slice_get ys 0 → r ≡ None → HasCycle parents → ⊥
+cycle_none parents xs ys all same r value is = none_found parents xs all (sym (ap option_copied is) ∙ value ∙ ap (λ (zs : List (Bor EntityUid)). slice_get zs 0) same)
+
+-- ---- types as points of a hierarchy
+
+types_in : (ns : List (List ℕ)) (a : EntityUid) → Contains (map type_uid ns) a → a.id ≡ []
+types_in [] a h = Contains-none a h
+types_in (n ∷ ns) a h = elim (Contains-cases (type_uid n) (map type_uid ns) a h) [
+  | inl same ↦ ap (λ (u : EntityUid). u.id) (sym same)
+  | inr later ↦ types_in ns a later
+]
+
+types_at : (ns : List (List ℕ)) (old : List EntityUid) (a : EntityUid) → (Contains old a → a.id ≡ []) → (b : Bool) → Contains (cond b (map type_uid ns) old) a → a.id ≡ []
+types_at ns old a before true h = types_in ns a h
+types_at ns old a before false h = before h
+
+pub types_are_types : (parents : Parents) (es : List FoundEntityType) → AreTypes parents → AreTypes (with_types parents es)
+types_are_types parents [] are = are
+types_are_types parents (e ∷ es) are =
+    types_are_types (with_parents parents (type_uid e.name) (map type_uid e.parents)) es
+    (λ u a. types_at e.parents (parents u) a (are u a) (is_eq (uid_cmp (type_uid e.name) u)))
+
+pub none_are_types : AreTypes no_parents
+none_are_types u a h = Contains-none a h
+
+last_is_type : (parents : Parents) → AreTypes parents → (b : EntityUid) (through : List EntityUid) (a : EntityUid) → Path parents b through a → a.id ≡ []
+last_is_type parents are b [] a h = are b a h
+last_is_type parents are b (c ∷ cs) a h = last_is_type parents are c cs a h.1
+
+uid_from : (a : EntityUid) (n : List ℕ) → a.type_name ≡ n → a.id ≡ [] → a ≡ type_uid n
+uid_from a n names ids i = record { type_name = names i; id = ids i }
+
+pub types_above : (parents : Parents) → AreTypes parents → (n : List ℕ) (us : List EntityUid) (s : BTreeSet (List ℕ))
+    → IsAllAbove parents (type_uid n) us → ((q : List ℕ) → contains text_cmp s q ≡ has_type us q) → IsTypesAbove parents n s
+types_above parents are n us s all has q = (
+  (λ h.
+      let at = any_at (λ u. is_eq (text_cmp u.type_name q)) us (sym (has q) ∙ h) in
+      let above = (all at.0).0 at.1 in
+      subst (λ (u : EntityUid). Above parents u (type_uid n))
+      (uid_from at.0 q (tells_apart text_cmp-IsAntisymmetric at.0.type_name q at.2) (last_is_type parents are (type_uid n) above.0 at.0 above.1)) above),
+  (λ h. has q ∙ any_from (λ u. is_eq (text_cmp u.type_name q)) us (type_uid q) ((all (type_uid q)).1 h) (ap is_eq (tied_itself text_cmp-IsTotalOrder q))),
+)
+
+-- ---- who has parents
+
+declared_at : (e : FoundEntityType) (old : List EntityUid) (u a : EntityUid) (b : Bool) → is_eq (uid_cmp (type_uid e.name) u) ≡ b
+    → Contains (cond b (map type_uid e.parents) old) a → (type_uid e.name ≡ u) ⊎ Contains old a
+declared_at e old u a true same h = inl (same_uid (type_uid e.name) u same)
+declared_at e old u a false apart h = inr h
+
+pub has_parent : (parents : Parents) (es : List FoundEntityType) (u a : EntityUid) → Contains (with_types parents es u) a
+    → ((e : FoundEntityType) × Contains es e × (type_uid e.name ≡ u)) ⊎ Contains (parents u) a
+has_parent parents [] u a h = inr h
+has_parent parents (e ∷ es) u a h = elim (has_parent (with_parents parents (type_uid e.name) (map type_uid e.parents)) es u a h) [
+  | inl found ↦ inl (found.0, Contains-there e es found.0 found.1, found.2)
+  | inr before ↦ elim (declared_at e (parents u) u a (is_eq (uid_cmp (type_uid e.name) u)) refl before) [
+    | inl same ↦ inl (e, Contains-here e es, same)
+    | inr older ↦ inr older
+  ]
+]
+
+first_edge : (parents : Parents) (b : EntityUid) (through : List EntityUid) (a : EntityUid) → Path parents b through a → (c : EntityUid) × Contains (parents b) c
+first_edge parents b [] a h = (a, h)
+first_edge parents b (c ∷ cs) a h = (c, h.0)
+
+-- what has something above it is declared
+pub is_declared : (es : List FoundEntityType) (b a : EntityUid) → Above (with_types no_parents es) a b → (e : FoundEntityType) × Contains es e × (type_uid e.name ≡ b)
+is_declared es b a h =
+    let edge = first_edge (with_types no_parents es) b h.0 a h.1 in
+    elim (has_parent no_parents es b edge.0 edge.1) [
+      | inl found ↦ found
+      | inr none ↦ Contains-none edge.0 none
+    ]
+
+-- one more type in a set
+pub or_step : (b c r whole : Bool) → (c || (b || r)) ≡ whole → (cond b true c || r) ≡ whole
+or_step true true r whole e = e
+or_step true false r whole e = e
+or_step false c r whole e = e

@@ -1,0 +1,83 @@
+-- Whether a file with each name found is sound.
+use Rattle.std.proofs.Common.{ℕ, List, sym, subst, inl, inr}
+use Rattle.schema_types.specs.Qualified as qualified
+use Rattle.schema_types.specs.Qualified.{Qualified}
+use Rattle.schema_types.specs.Cedar.{Cedar}
+use Rattle.schema_types.specs.WrittenOut as written
+use Rattle.schema_types.specs.WrittenOut.{Declarations, Declares, WrittenOut}
+use Rattle.schema_types.specs.Knowledge.{Knowledge, AreWritten, AreWhole}
+use Rattle.schema_types.specs.Outcome.{SomeHasNoEnd, SomeIsTooLarge, CommonsRefused, SizesRefused, TypeRefused, IsLarge}
+use Rattle.schema_types.specs.Outcome as outcome
+use Rattle.schema_types.specs.declared.fault.SchemaFault.{SchemaFault}
+use Rattle.schema_types.specs.declared.fault.SchemaFault.TheVariants.{ActionCycle}
+use Rattle.schema_names.specs.Qualifying.{FoundSchema}
+use Rattle.schema_names.specs.Laws.{IsShapeOrContext}
+use Rattle.schema.specs.Schemas.{SomeActionIsOnCycle, SomeTypeIsTooLarge, StandsIn, IsWritten, IsSound, IsUnsound}
+use Rattle.schema.specs.Schemas as schemas
+use Rattle.schema.specs.declared.reading.Types.{Types}
+use Rattle.schema.specs.inner.Reading.{AreTypesOf, TypesRefused, EdgesRefused}
+
+-- every common type ends where all are written
+pub all_end : (commons : Declarations) (known : Knowledge) → AreWritten commons known → SomeHasNoEnd commons → ⊥
+all_end commons known are endless =
+    let at = are.all endless.name endless.type endless.declared in
+    let stands = are.table endless.name at.0 at.1 in
+    endless.no_end stands.type stands.is_written
+
+commons_fault : (s : FoundSchema) (f : SchemaFault) → CommonsRefused s.commons f → IsUnsound s f
+commons_fault s _ (outcome.cycle endless) = schemas.type_cycle endless
+
+pub commons_refused : (s : FoundSchema) (f : SchemaFault) → CommonsRefused s.commons f → IsUnsound s f
+commons_refused s f h = commons_fault s f h
+
+edges_fault : (s : FoundSchema) → (SomeHasNoEnd s.commons → ⊥) → SomeActionIsOnCycle s → IsUnsound s ActionCycle
+edges_fault s ends cycle = schemas.action_cycle ends cycle
+
+pub edges_refused : (s : FoundSchema) (f : SchemaFault) → (SomeHasNoEnd s.commons → ⊥) → EdgesRefused s f → IsUnsound s f
+edges_refused s f ends h = subst (λ (g : SchemaFault). IsUnsound s g) (sym h.0) (edges_fault s ends h.1)
+
+declared_of : (commons : Declarations) (q : List ℕ) (t : Cedar) → WrittenOut commons (qualified.common q) t → (r : Qualified) × Declares commons q r
+declared_of commons _ _ (written.common q r t d w) = (r, d)
+
+sizes_fault : (s : FoundSchema) (f : SchemaFault) → (SomeHasNoEnd s.commons → ⊥) → (SomeActionIsOnCycle s → ⊥) → SizesRefused s.commons f → IsUnsound s f
+sizes_fault s _ ends no_cycle (outcome.large_common large) =
+    let declared = declared_of s.commons large.name large.type large.is_written in
+    schemas.too_large ends no_cycle (record {
+      type = qualified.common large.name;
+      whole = large.type;
+      stands = schemas.common large.name declared.0 declared.1;
+      is_written = large.is_written;
+      too_large = large.too_large;
+    })
+
+pub sizes_refused : (s : FoundSchema) (f : SchemaFault) → (SomeHasNoEnd s.commons → ⊥) → (SomeActionIsOnCycle s → ⊥) → SizesRefused s.commons f → IsUnsound s f
+sizes_refused s f ends no_cycle h = sizes_fault s f ends no_cycle h
+
+type_fault : (s : FoundSchema) (r : Qualified) (f : SchemaFault) → (SomeHasNoEnd s.commons → ⊥) → (SomeActionIsOnCycle s → ⊥) → IsShapeOrContext s r → TypeRefused s.commons r f → IsUnsound s f
+type_fault s r _ ends no_cycle is (outcome.large_type large) =
+    schemas.too_large ends no_cycle (record {
+      type = r;
+      whole = large.type;
+      stands = schemas.shape_or_context r is;
+      is_written = large.is_written;
+      too_large = large.large;
+    })
+
+pub types_refused : (s : FoundSchema) (f : SchemaFault) → (SomeHasNoEnd s.commons → ⊥) → (SomeActionIsOnCycle s → ⊥) → TypesRefused s.commons s f → IsUnsound s f
+types_refused s f ends no_cycle h = type_fault s h.0 f ends no_cycle h.1 h.2
+
+-- each shape and each context was written out
+pub records_written : (s : FoundSchema) (t : Types) → AreTypesOf s.commons s t → (r : Qualified) → IsShapeOrContext s r → IsWritten s.commons r
+records_written s t are r (inl e) = are.shapes.told e.0 e.1 r e.2
+records_written s t are r (inr a) = are.are.told a.0 a.1 a.2.0 a.2.1 r a.2.2
+
+module _ (s : FoundSchema) (known : Knowledge) (are : AreWritten s.commons known) (whole : AreWhole s.commons known) (records : (r : Qualified) → IsShapeOrContext s r → IsWritten s.commons r) where
+  stands_written : (r : Qualified) → StandsIn s r → IsWritten s.commons r
+  stands_written _ (schemas.common q r d) =
+      let at = are.all q r d in
+      let it = whole q r d at.0 at.1 in
+      (it.0, it.1, it.3)
+  stands_written _ (schemas.shape_or_context r is) = records r is
+
+  pub is_sound : (SomeActionIsOnCycle s → ⊥) → IsSound s
+  is_sound no_cycle = record { no_cycle = no_cycle; is_written = stands_written }

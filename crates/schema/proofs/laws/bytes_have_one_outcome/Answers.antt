@@ -1,0 +1,12 @@
+use Rattle.schema.proofs.OutcomeLemmas.{never_both, one_cause_only}
+use Rattle.schema.proofs.OneSchemaLemmas.{one_schema}
+use Rattle.schema.proofs.laws.bytes_have_one_outcome.Goals as goal
+
+pub returns-clause-not_both : goal.returns-clause-not_both
+returns-clause-not_both c = never_both c.one_written.ensures c.one_file.ensures c.not_both.ensures
+
+pub returns-clause-one_refusal : goal.returns-clause-one_refusal
+returns-clause-one_refusal c = one_cause_only c.one_file.ensures c.not_both.ensures c.one_refusal.ensures
+
+pub returns-clause-one_schema : goal.returns-clause-one_schema
+returns-clause-one_schema c = one_schema c.one_written.ensures c.ascending_lists_are_one.ensures c.one_file.ensures

@@ -1,0 +1,4 @@
+pub mod Outcomes
+pub mod Schemas
+pub mod Views
+pub mod inner

@@ -1,0 +1,59 @@
+-- What code knows of a schema on the way to it.
+use Rattle.std.specs.Prelude.{◌≡◌, ℕ, List, map}
+use Rattle.std.specs.BTreeMap.{keys}
+use Rattle.std.specs.BTreeMap as tree
+use Rattle.sha2.specs.Sha256.{sha256}
+use Rattle.hex.specs.Hex.{encode_lower}
+use Rattle.ancestor_closure.specs.Hierarchy.{Parents, IsAscending}
+use Rattle.schema_types.specs.Qualified.{Qualified}
+use Rattle.schema_types.specs.WrittenOut.{Declarations}
+use Rattle.schema_types.specs.Mentions.{IsClosed}
+use Rattle.schema_types.specs.Outcome.{TypeRefused}
+use Rattle.schema_types.specs.declared.fault.SchemaFault.{SchemaFault}
+use Rattle.schema_types.specs.declared.fault.SchemaFault.TheVariants.{ActionCycle}
+use Rattle.schema_names.specs.Qualifying.{FoundSchema}
+use Rattle.schema_names.specs.Laws.{IsShapeOrContext}
+use Rattle.schema.specs.declared.reading.Types.{Types}
+use Rattle.schema.specs.declared.reading.Hierarchies.{Hierarchies}
+use Rattle.schema.specs.Schemas.{StatedSchema, action_parents, type_parents, SomeActionIsOnCycle, IsWritten, place_cmp}
+use Rattle.schema.specs.Schemas.{Answers, IsSound}
+use Rattle.schema.specs.inner.Making.{AreShapes, ArePlaces, Places, environment_of, AreAncestors, AreTypesAbove}
+
+-- these are the edges of the actions, and none is above itself
+pub record AreEdges (s : FoundSchema) (parents : Parents) : Type 0 where
+  pub are : parents ≡ action_parents s
+  pub no_cycle : SomeActionIsOnCycle s → ⊥
+
+abbrev pub EdgesRefused : FoundSchema → SchemaFault → Type 0
+EdgesRefused s f = (f ≡ ActionCycle) × SomeActionIsOnCycle s
+
+pub record AreTypesOf (commons : Declarations) (s : FoundSchema) (t : Types) : Type 0 where
+  pub shapes : AreShapes commons s.entity_types t.shapes
+  pub places : Places
+  pub are : ArePlaces commons s.actions places
+  pub environments : t.environments ≡ map environment_of places.entries
+  pub ordered : tree.IsOrdered place_cmp places
+
+-- some shape or context is too large
+abbrev pub TypesRefused : Declarations → FoundSchema → SchemaFault → Type 0
+TypesRefused commons s f = (r : Qualified) × IsShapeOrContext s r × TypeRefused commons r f
+
+-- each name of a common type in a shape or a context is declared
+abbrev pub AreTypesClosed : Declarations → FoundSchema → Type 0
+AreTypesClosed commons s = (r : Qualified) → IsShapeOrContext s r → IsClosed commons r
+
+pub record AreHierarchiesOf (s : FoundSchema) (h : Hierarchies) : Type 0 where
+  pub ancestors : AreAncestors (action_parents s) s.actions h.ancestors
+  pub actions : h.actions ≡ keys h.ancestors
+  pub ascending : IsAscending (keys h.ancestors)
+  pub above : AreTypesAbove (type_parents s) s.entity_types h.above
+
+pub record IsMadeOf (bytes : List ℕ) (s : FoundSchema) (v : StatedSchema) : Type 0 where
+  pub label : v.label ≡ encode_lower (sha256 bytes)
+  pub is_written : (r : Qualified) → IsShapeOrContext s r → IsWritten s.commons r
+  pub answers : Answers s v
+
+pub record IsSoundlyMade (bytes : List ℕ) (s : FoundSchema) (v : StatedSchema) : Type 0 where
+  pub label : v.label ≡ encode_lower (sha256 bytes)
+  pub sound : IsSound s
+  pub answers : Answers s v

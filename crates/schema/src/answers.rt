@@ -1,0 +1,74 @@
+//! What a schema answers.
+use crate::parts::{EntityDecl, Environment};
+use plain::{Items, Text};
+use std::collections::{BTreeMap, BTreeSet};
+use values::{EntityUid, TypeName};
+
+/// A schema: entity types with their shapes, actions, and environments. Look-ups take no memory, and logarithmic time.
+///
+/// Contracts see what the look-ups answer: `schema_view`.
+#[derive(Drop)]
+pub struct Schema {
+    pub(crate) label: Text,
+    pub(crate) environments: Items<Environment>,
+    pub(crate) actions: Items<EntityUid>,
+    pub(crate) shapes: BTreeMap<TypeName, EntityDecl>,
+    pub(crate) ancestors: BTreeMap<EntityUid, Items<EntityUid>>,
+    /// The types above each type.
+    pub(crate) above: BTreeMap<TypeName, BTreeSet<TypeName>>,
+}
+
+impl Schema {
+    ghost use Rattle.std.specs.Prelude.{◌≡◌, map, option_map};
+    ghost use Rattle.schema_types.specs.CedarViews.{cedar_view};
+    ghost use Rattle.schema.specs.Views.{environment_view, schema_view};
+
+    /// The environments, ascending by the action, then by the principal's type, then by the resource's.
+    pub fn environments(&self) -> &[Environment]
+        ensures { map environment_view result.now ≡ (schema_view self.now).environments }
+    {
+        self.environments.as_slice()
+    }
+
+    /// The actions, ascending.
+    pub fn actions(&self) -> &[EntityUid]
+        ensures { result.now ≡ (schema_view self.now).actions }
+    {
+        self.actions.as_slice()
+    }
+
+    /// The entity type of this name, where it is declared.
+    pub fn entity_type(&self, name: &TypeName) -> Option<&EntityDecl>
+        ensures { option_map (λ d. cedar_view d.now.shape) result ≡ (schema_view self.now).shape name.now }
+    {
+        self.shapes.get(name)
+    }
+
+    /// The actions above an action, ascending; None where it is not declared.
+    pub fn action_ancestors(&self, uid: &EntityUid) -> Option<&[EntityUid]>
+        ensures { option_map (λ us. us.now) result ≡ (schema_view self.now).ancestors uid.now }
+    {
+        match self.ancestors.get(uid) {
+            Some(above) => Some(above.as_slice()),
+            None => None,
+        }
+    }
+
+    /// Whether an entity of the child's type may have a parent of the other: whether one or more steps by
+    /// `memberOfTypes` lead there.
+    pub fn may_have_parent(&self, child: &TypeName, parent: &TypeName) -> bool
+        ensures { result ≡ (schema_view self.now).may_have_parent child.now parent.now }
+    {
+        match self.above.get(child) {
+            Some(above) => above.contains(parent),
+            None => false,
+        }
+    }
+
+    /// The label: 64 lower case hexadecimal digits, SHA-256 of the bytes that were read.
+    pub fn label(&self) -> &str
+        ensures { result.now ≡ (schema_view self.now).label }
+    {
+        self.label.as_str()
+    }
+}

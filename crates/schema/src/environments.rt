@@ -1,0 +1,168 @@
+//! The environments of a schema.
+ghost use Rattle.std.specs.Prelude.{◌≡◌, ◌≢◌, IfOk, OnOk, MatchResult, map, option_map};
+ghost use Rattle.std.specs.BTreeMap.{IsOrdered};
+ghost use Rattle.schema_types.specs.QualifiedViews.{qualified_view};
+ghost use Rattle.schema_types.specs.WrittenOut.{Declarations};
+ghost use Rattle.schema_types.specs.Knowledge.{AreWritten};
+ghost use Rattle.schema_types.specs.TableViews.{knowledge};
+ghost use Rattle.schema_types.specs.declared.fault.SchemaFault.TheVariants as SchemaFault;
+ghost use Rattle.schema_names.specs.FoundViews.{found_use_view, found_action_view};
+ghost use Rattle.schema.specs.Schemas.{place_cmp};
+ghost use Rattle.schema.specs.inner.Making.{place_of, environment_of, IsClosedAt};
+ghost use Rattle.schema.specs.inner.Making.{IsRefusedAt, AddsPlace, AddsResources};
+ghost use Rattle.schema.specs.inner.Making.{AddsPrincipals, AddsUse, AddsAction, IsContextClosed, IsContextRefused};
+ghost use Rattle.schema.specs.inner.Making.{AreContextsClosed, SomeContextIsRefused, ArePlaces};
+
+use crate::maps::put;
+use crate::parts::{Environment, Place};
+use crate::shapes::make_record;
+use plain::{Items, NoMemory, Shared};
+use schema_names::{FoundAction, FoundUse};
+use schema_types::{CedarType, SchemaFault, Table};
+use std::alloc::Global;
+use std::collections::BTreeMap;
+use values::{EntityUid, TypeName};
+
+fn make_place(
+    action: &EntityUid,
+    principal: &TypeName,
+    resource: &TypeName,
+) -> Result<Place, NoMemory>
+    ensures { IfOk result (λ p. p ≡ place_of action.now principal.now resource.now) }
+{
+    let action = action.copy()?;
+    let principal = principal.copy()?;
+    let resource = resource.copy()?;
+    Ok(Place {
+        action,
+        principal,
+        resource,
+    })
+}
+
+/// Adds one place with the type of its context.
+fn add_place(
+    action: &EntityUid,
+    principal: &TypeName,
+    resource: &TypeName,
+    context: &Shared<CedarType>,
+    places: &mut BTreeMap<Place, Shared<CedarType>>,
+) -> Result<(), NoMemory>
+    ensures { OnOk result (AddsPlace action.now context.now principal.now resource.now places.old places.new) }
+{
+    let place = make_place(action, principal, resource)?;
+    let context = context.share()?;
+    put(places, place, context)?;
+    Ok(())
+}
+
+/// Adds the places of a principal's type.
+fn add_resources(
+    action: &EntityUid,
+    principal: &TypeName,
+    resources: &[TypeName],
+    context: &Shared<CedarType>,
+    places: &mut BTreeMap<Place, Shared<CedarType>>,
+) -> Result<(), NoMemory>
+    ensures { OnOk result (AddsResources action.now context.now resources.now principal.now places.old places.new) }
+{
+    for resource in resources {
+        add_place(action, principal, resource, context, places)?;
+    }
+    Ok(())
+}
+
+/// Adds the places of each type of principals with each type of resources.
+fn add_principals(
+    action: &EntityUid,
+    principals: &[TypeName],
+    resources: &[TypeName],
+    context: &Shared<CedarType>,
+    places: &mut BTreeMap<Place, Shared<CedarType>>,
+) -> Result<(), NoMemory>
+    ensures { OnOk result (AddsPrincipals action.now context.now resources.now principals.now places.old places.new) }
+{
+    for principal in principals {
+        add_resources(action, principal, resources, context, places)?;
+    }
+    Ok(())
+}
+
+/// Adds the places to which an action applies.
+///
+/// Refused where the type of its context is too large.
+fn add_use(
+    alloc: Global,
+    action: &EntityUid,
+    applied: &FoundUse,
+    table: &Table,
+    places: &mut BTreeMap<Place, Shared<CedarType>>,
+) -> Result<(), SchemaFault>
+    ghost commons: { Declarations }
+    requires table { AreWritten commons (knowledge table.now) }
+    requires closed { IsClosedAt commons (option_map qualified_view applied.now.context) }
+    ensures { MatchResult result (λ u. AddsUse commons action.now (found_use_view applied.now) places.old places.new)
+        (λ f. f ≢ SchemaFault.NoMemory → IsRefusedAt commons (option_map qualified_view applied.now.context) f) }
+{
+    let context = make_record(alloc, &applied.context, table)?;
+    let shared = Shared::new(alloc, context)?;
+    let principals = applied.principals.as_slice();
+    let resources = applied.resources.as_slice();
+    add_principals(action, principals, resources, &shared, places)?;
+    Ok(())
+}
+
+/// Adds the places of an action; there are none where it says to nothing that it applies.
+fn add_action(
+    alloc: Global,
+    action: &FoundAction,
+    table: &Table,
+    places: &mut BTreeMap<Place, Shared<CedarType>>,
+) -> Result<(), SchemaFault>
+    ghost commons: { Declarations }
+    requires table { AreWritten commons (knowledge table.now) }
+    requires closed { IsContextClosed commons (found_action_view action.now) }
+    ensures { MatchResult result (λ u. AddsAction commons (found_action_view action.now) places.old places.new)
+        (λ f. f ≢ SchemaFault.NoMemory → IsContextRefused commons (found_action_view action.now) f) }
+{
+    match &action.applies_to {
+        Some(applied) => add_use(alloc, &action.uid, applied, table, places),
+        None => Ok(()),
+    }
+}
+
+/// The places of all actions, each with the type of its context.
+///
+/// Refused where one of these types is too large.
+pub(crate) fn make_places(
+    alloc: Global,
+    actions: &[FoundAction],
+    table: &Table,
+) -> Result<BTreeMap<Place, Shared<CedarType>>, SchemaFault>
+    ghost commons: { Declarations }
+    requires table { AreWritten commons (knowledge table.now) }
+    requires closed { AreContextsClosed commons (map found_action_view actions.now) }
+    ensures { MatchResult result (λ places. ArePlaces commons (map found_action_view actions.now) places)
+        (λ f. f ≢ SchemaFault.NoMemory → SomeContextIsRefused commons (map found_action_view actions.now) f) }
+{
+    let mut places = BTreeMap::new(alloc);
+    for action in actions {
+        add_action(alloc, action, table, &mut places)?;
+    }
+    Ok(places)
+}
+
+/// The entries of a map as environments, in order.
+pub(crate) fn listed(
+    alloc: Global,
+    places: BTreeMap<Place, Shared<CedarType>>,
+) -> Result<Items<Environment>, NoMemory>
+    ensures items { IfOk result (λ es. es ≡ map environment_of places.entries) }
+    ensures ordered { IsOrdered place_cmp places }
+{
+    let mut environments = Items::new(alloc);
+    for (place, context) in places {
+        environments.push(Environment { place, context })?;
+    }
+    Ok(environments)
+}

@@ -1,0 +1,229 @@
+//! The hierarchies of actions and of entity types.
+ghost use Rattle.std.specs.Prelude.{◌≡◌, ◌≢◌, ℕ, List, IfOk, OnOk, MatchResult, map};
+ghost use Rattle.std.specs.BTreeMap.{keys};
+ghost use Rattle.std.specs.BTreeSet.{contains};
+ghost use Rattle.values.specs.Names.{uid_cmp, text_cmp};
+ghost use Rattle.ancestor_closure.specs.Hierarchy.{IsAllAbove, IsAscending, names, no_parents, with_parents};
+ghost use Rattle.ancestor_closure.specs.contracts.searched.SearchedAncestry.TheImpl as searched;
+ghost use Rattle.schema_types.specs.declared.fault.SchemaFault.TheVariants as SchemaFault;
+ghost use Rattle.schema_names.specs.FoundViews.{found_action_view, found_entity_type_view};
+ghost use Rattle.schema.specs.Schemas.{with_actions, with_types, type_uid};
+ghost use Rattle.schema.specs.inner.Making.{HasCycle, AddsAncestors, AreAncestors, AreTypes, AddsTypes, AreTypesAbove};
+ghost use Rattle.schema.specs.inner.Making.{has_type};
+
+use crate::maps::put;
+use ancestor_closure::{Ancestry, Hierarchy, Searched};
+use plain::{Items, NoMemory, Text};
+use schema_names::{FoundAction, FoundEntityType};
+use schema_types::SchemaFault;
+use std::alloc::Global;
+use std::collections::{BTreeMap, BTreeSet};
+use values::{EntityUid, TypeName};
+
+fn copy_uids(alloc: Global, uids: &[EntityUid]) -> Result<Vec<EntityUid>, NoMemory>
+    ensures { IfOk result (λ copies. copies.items ≡ uids.now) }
+{
+    let mut copies = Vec::new(alloc);
+    for uid in uids {
+        copies.push(uid.copy()?)?;
+    }
+    Ok(copies)
+}
+
+/// Copies of what references lead to.
+fn copy_all(alloc: Global, uids: &[&EntityUid]) -> Result<Items<EntityUid>, NoMemory>
+    ensures { IfOk result (λ copies. copies ≡ names uids.now) }
+{
+    let mut copies = Vec::new(alloc);
+    for uid in uids {
+        copies.push(uid.copy()?)?;
+    }
+    Ok(Items::from_vec(copies))
+}
+
+/// An entity type as a point of a hierarchy: the uid of that type whose id is empty.
+fn type_uid(alloc: Global, name: &TypeName) -> Result<EntityUid, NoMemory>
+    ensures { IfOk result (λ u. u ≡ type_uid name.now) }
+{
+    let type_name = name.copy()?;
+    let id = Text::from_str(alloc, "")?;
+    Ok(EntityUid { type_name, id })
+}
+
+fn type_uids(alloc: Global, types: &[TypeName]) -> Result<Vec<EntityUid>, NoMemory>
+    ensures { IfOk result (λ uids. uids.items ≡ map type_uid types.now) }
+{
+    let mut uids = Vec::new(alloc);
+    for name in types {
+        uids.push(type_uid(alloc, name)?)?;
+    }
+    Ok(uids)
+}
+
+/// Gives an action its parents.
+fn set_action(alloc: Global, edges: &mut Searched, action: &FoundAction) -> Result<(), NoMemory>
+    ensures { OnOk result (searched.parents-value.it edges.new
+        ≡ with_parents (searched.parents-value.it edges.old) action.now.uid action.now.parents) }
+{
+    let parents = copy_uids(alloc, action.parents.as_slice())?;
+    let uid = action.uid.copy()?;
+    edges.set_parents(uid, parents)?;
+    Ok(())
+}
+
+/// The hierarchy of actions.
+pub(crate) fn action_edges(alloc: Global, actions: &[FoundAction]) -> Result<Searched, NoMemory>
+    ensures { IfOk result (λ s. searched.parents-value.it s
+        ≡ with_actions no_parents (map found_action_view actions.now)) }
+{
+    let mut edges = Searched::new(alloc);
+    for action in actions {
+        set_action(alloc, &mut edges, action)?;
+    }
+    Ok(edges)
+}
+
+/// Gives an entity type its parents.
+fn set_type(
+    alloc: Global,
+    edges: &mut Searched,
+    entity_type: &FoundEntityType,
+) -> Result<(), NoMemory>
+    ensures { OnOk result (searched.parents-value.it edges.new
+        ≡ with_parents (searched.parents-value.it edges.old) (type_uid entity_type.now.name)
+        (map type_uid entity_type.now.parents)) }
+{
+    let parents = type_uids(alloc, entity_type.parents.as_slice())?;
+    let uid = type_uid(alloc, &entity_type.name)?;
+    edges.set_parents(uid, parents)?;
+    Ok(())
+}
+
+/// The hierarchy of entity types.
+pub(crate) fn type_edges(
+    alloc: Global,
+    entity_types: &[FoundEntityType],
+) -> Result<Searched, NoMemory>
+    ensures { IfOk result (λ s. searched.parents-value.it s
+        ≡ with_types no_parents (map found_entity_type_view entity_types.now)) }
+{
+    let mut edges = Searched::new(alloc);
+    for entity_type in entity_types {
+        set_type(alloc, &mut edges, entity_type)?;
+    }
+    Ok(edges)
+}
+
+/// Refuses a hierarchy in which something is above itself.
+pub(crate) fn demand_no_cycle(edges: &Searched) -> Result<(), SchemaFault>
+    ensures { MatchResult result (λ u. HasCycle (searched.parents-value.it edges.now) → ⊥)
+        (λ f. f ≢ SchemaFault.NoMemory
+        → (f ≡ SchemaFault.ActionCycle) × HasCycle (searched.parents-value.it edges.now)) }
+{
+    let found = edges.cyclic()?;
+    match found.first() {
+        Some(_) => Err(SchemaFault::ActionCycle),
+        None => Ok(()),
+    }
+}
+
+/// All that is above a uid, ascending.
+fn all_above(alloc: Global, edges: &Searched, uid: &EntityUid) -> Result<Items<EntityUid>, NoMemory>
+    ensures all { IfOk result (λ found. IsAllAbove (searched.parents-value.it edges.now) uid.now found) }
+    ensures ascending { IfOk result (λ found. IsAscending found) }
+{
+    let found = edges.ancestors(uid)?;
+    copy_all(alloc, found.as_slice())
+}
+
+/// Gives an action its ancestors.
+fn add_ancestors(
+    alloc: Global,
+    edges: &Searched,
+    action: &FoundAction,
+    ancestors: &mut BTreeMap<EntityUid, Items<EntityUid>>,
+) -> Result<(), NoMemory>
+    ensures { OnOk result (AddsAncestors (searched.parents-value.it edges.now) (found_action_view action.now)
+        ancestors.old ancestors.new) }
+{
+    let above = all_above(alloc, edges, &action.uid)?;
+    let uid = action.uid.copy()?;
+    put(ancestors, uid, above)?;
+    Ok(())
+}
+
+/// The ancestors of actions, by their uids.
+pub(crate) fn make_ancestors(
+    alloc: Global,
+    edges: &Searched,
+    actions: &[FoundAction],
+) -> Result<BTreeMap<EntityUid, Items<EntityUid>>, NoMemory>
+    ensures { IfOk result (λ ancestors. AreAncestors (searched.parents-value.it edges.now)
+        (map found_action_view actions.now) ancestors) }
+{
+    let mut ancestors = BTreeMap::new(alloc);
+    for action in actions {
+        add_ancestors(alloc, edges, action, &mut ancestors)?;
+    }
+    Ok(ancestors)
+}
+
+/// The keys of a map, ascending.
+pub(crate) fn uids_of(
+    alloc: Global,
+    ancestors: &BTreeMap<EntityUid, Items<EntityUid>>,
+) -> Result<Items<EntityUid>, NoMemory>
+    ensures items { IfOk result (λ uids. uids ≡ keys ancestors.now) }
+    ensures ascending { IsAscending (keys ancestors.now) }
+{
+    let _ordered = ancestors.len();
+    let uids: Vec<&EntityUid> = ancestors.keys().collect(alloc)?;
+    copy_all(alloc, uids.as_slice())
+}
+
+/// The types of some uids.
+fn types_of(alloc: Global, uids: &[&EntityUid]) -> Result<BTreeSet<TypeName>, NoMemory>
+    ensures { IfOk result (λ s. (q : List ℕ) → contains text_cmp s q ≡ has_type (names uids.now) q) }
+{
+    let mut types = BTreeSet::new(alloc);
+    for uid in uids {
+        types.insert(uid.type_name.copy()?)?;
+    }
+    Ok(types)
+}
+
+/// Gives an entity type the types above it.
+fn add_types(
+    alloc: Global,
+    edges: &Searched,
+    entity_type: &FoundEntityType,
+    above: &mut BTreeMap<TypeName, BTreeSet<TypeName>>,
+) -> Result<(), NoMemory>
+    requires { AreTypes (searched.parents-value.it edges.now) }
+    ensures { OnOk result (AddsTypes (searched.parents-value.it edges.now) (found_entity_type_view entity_type.now)
+        above.old above.new) }
+{
+    let uid = type_uid(alloc, &entity_type.name)?;
+    let found = edges.ancestors(&uid)?;
+    let types = types_of(alloc, found.as_slice())?;
+    let name = entity_type.name.copy()?;
+    put(above, name, types)?;
+    Ok(())
+}
+
+/// The types above entity types, by their names.
+pub(crate) fn make_types_above(
+    alloc: Global,
+    edges: &Searched,
+    entity_types: &[FoundEntityType],
+) -> Result<BTreeMap<TypeName, BTreeSet<TypeName>>, NoMemory>
+    requires { AreTypes (searched.parents-value.it edges.now) }
+    ensures { IfOk result (λ above. AreTypesAbove (searched.parents-value.it edges.now)
+        (map found_entity_type_view entity_types.now) above) }
+{
+    let mut above = BTreeMap::new(alloc);
+    for entity_type in entity_types {
+        add_types(alloc, edges, entity_type, &mut above)?;
+    }
+    Ok(above)
+}

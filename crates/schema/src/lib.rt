@@ -1,0 +1,18 @@
+//! The schema that bytes state: which entity types and actions there are, of what shape, above each other how, and in
+//! which environments requests stand.
+#![tactic(auto)]
+
+mod answers;
+mod environments;
+mod hierarchies;
+mod label;
+mod laws;
+mod maps;
+mod parts;
+mod reading;
+mod shapes;
+
+pub use answers::Schema;
+pub use laws::bytes_have_one_outcome;
+pub use parts::{EntityDecl, Environment, Place};
+pub use reading::read_schema;

@@ -1,0 +1,18 @@
+//! Maps that are filled.
+ghost use Rattle.std.specs.Prelude.{Some, OnOk};
+ghost use Rattle.std.specs.BTreeMap.{Updates};
+
+use plain::NoMemory;
+use std::collections::BTreeMap;
+
+/// Gives a key its value, whether it had one or not.
+pub(crate) fn put<K: Ord + Drop, V: Drop>(
+    map: &mut BTreeMap<K, V>,
+    key: K,
+    value: V,
+) -> Result<(), NoMemory>
+    ensures { OnOk result (Updates K.cmp map.old map.new key (Some value)) }
+{
+    map.insert(key, value)?;
+    Ok(())
+}

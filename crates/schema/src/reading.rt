@@ -1,0 +1,152 @@
+//! From bytes to a schema.
+ghost use Rattle.std.specs.Prelude.{◌≢◌, IfOk, MatchResult};
+ghost use Rattle.ancestor_closure.specs.contracts.searched.SearchedAncestry.TheImpl as searched;
+ghost use Rattle.schema_types.specs.WrittenOut.{Declarations};
+ghost use Rattle.schema_types.specs.Knowledge.{AreWritten};
+ghost use Rattle.schema_types.specs.TableViews.{knowledge};
+ghost use Rattle.schema_types.specs.declared.fault.SchemaFault.TheVariants as SchemaFault;
+ghost use Rattle.schema_names.specs.FoundViews.{found_view};
+ghost use Rattle.schema_names.specs.Laws.{NamesItsOwn};
+ghost use Rattle.schema.specs.Schemas.{IsSchemaOf, RefusedFor, IsUnsound};
+ghost use Rattle.schema.specs.Views.{schema_view};
+ghost use Rattle.schema.specs.inner.Reading.{AreEdges, AreTypesClosed, AreTypesOf};
+ghost use Rattle.schema.specs.inner.Reading.{AreHierarchiesOf, TypesRefused, IsMadeOf};
+ghost use Rattle.schema.specs.inner.Reading.{EdgesRefused, IsSoundlyMade};
+
+use crate::answers::Schema;
+use crate::environments::{listed, make_places};
+use crate::hierarchies::{
+    action_edges, demand_no_cycle, make_ancestors, make_types_above, type_edges, uids_of,
+};
+use crate::label::label_of;
+use crate::parts::{EntityDecl, Environment};
+use crate::shapes::make_shapes;
+use ancestor_closure::Searched;
+use plain::{Items, NoMemory};
+use schema_names::{Found, files_name_their_own, read_named};
+use schema_types::{SchemaFault, Table, demand_sizes, write_commons};
+use std::alloc::Global;
+use std::collections::{BTreeMap, BTreeSet};
+use values::{EntityUid, TypeName};
+
+/// Shapes and environments.
+#[derive(Drop)]
+struct Types {
+    shapes: BTreeMap<TypeName, EntityDecl>,
+    environments: Items<Environment>,
+}
+
+/// Actions, the actions above each, and the types above each entity type.
+#[derive(Drop)]
+struct Hierarchies {
+    actions: Items<EntityUid>,
+    ancestors: BTreeMap<EntityUid, Items<EntityUid>>,
+    above: BTreeMap<TypeName, BTreeSet<TypeName>>,
+}
+
+/// The hierarchy of actions, in which none is above itself.
+fn demand_edges(alloc: Global, found: &Found) -> Result<Searched, SchemaFault>
+    ensures { MatchResult result (λ s. AreEdges (found_view found.now) (searched.parents-value.it s))
+        (λ f. f ≢ SchemaFault.NoMemory → EdgesRefused (found_view found.now) f) }
+{
+    let actions = found.actions.as_slice();
+    let edges = action_edges(alloc, actions)?;
+    demand_no_cycle(&edges)?;
+    Ok(edges)
+}
+
+/// The shapes and the environments of a file whose common types were written out.
+///
+/// Refused where a type is too large.
+fn make_types(alloc: Global, found: &Found, table: &Table) -> Result<Types, SchemaFault>
+    ghost commons: { Declarations }
+    requires written { AreWritten commons (knowledge table.now) }
+    requires closed { AreTypesClosed commons (found_view found.now) }
+    ensures { MatchResult result (λ t. AreTypesOf commons (found_view found.now) t)
+        (λ f. f ≢ SchemaFault.NoMemory → TypesRefused commons (found_view found.now) f) }
+{
+    let entity_types = found.entity_types.as_slice();
+    let actions = found.actions.as_slice();
+    let shapes = make_shapes(alloc, entity_types, table)?;
+    let places = make_places(alloc, actions, table)?;
+    let environments = listed(alloc, places)?;
+    Ok(Types {
+        shapes,
+        environments,
+    })
+}
+
+/// The hierarchies of a file, whose actions have these edges.
+fn make_hierarchies(alloc: Global, found: &Found, edges: &Searched) -> Result<Hierarchies, NoMemory>
+    requires { AreEdges (found_view found.now) (searched.parents-value.it edges.now) }
+    ensures { IfOk result (λ h. AreHierarchiesOf (found_view found.now) h) }
+{
+    let actions = found.actions.as_slice();
+    let entity_types = found.entity_types.as_slice();
+    let ancestors = make_ancestors(alloc, edges, actions)?;
+    let uids = uids_of(alloc, &ancestors)?;
+    let types = type_edges(alloc, entity_types)?;
+    let above = make_types_above(alloc, &types, entity_types)?;
+    Ok(Hierarchies {
+        actions: uids,
+        ancestors,
+        above,
+    })
+}
+
+/// The schema of bytes that state this file, once its actions and its common types were seen to be sound.
+fn make_schema(
+    alloc: Global,
+    bytes: &[u8],
+    found: &Found,
+    edges: &Searched,
+    table: &Table,
+) -> Result<Schema, SchemaFault>
+    requires written { AreWritten (found_view found.now).commons (knowledge table.now) }
+    requires own { NamesItsOwn (found_view found.now) }
+    requires edges { AreEdges (found_view found.now) (searched.parents-value.it edges.now) }
+    ensures { MatchResult result (λ s. IsMadeOf bytes.now (found_view found.now) (schema_view s))
+        (λ f. f ≢ SchemaFault.NoMemory
+        → TypesRefused (found_view found.now).commons (found_view found.now) f) }
+{
+    let types = make_types(alloc, found, table)?;
+    let hierarchies = make_hierarchies(alloc, found, edges)?;
+    let label = label_of(alloc, bytes)?;
+    Ok(Schema {
+        label,
+        environments: types.environments,
+        actions: hierarchies.actions,
+        shapes: types.shapes,
+        ancestors: hierarchies.ancestors,
+        above: hierarchies.above,
+    })
+}
+
+/// The schema of bytes that state this file.
+///
+/// Refused where a common type leads back to itself, then where an action is above itself, and then where a type is too
+/// large.
+fn sound_schema(alloc: Global, bytes: &[u8], found: &Found) -> Result<Schema, SchemaFault>
+    requires { NamesItsOwn (found_view found.now) }
+    ensures { MatchResult result (λ s. IsSoundlyMade bytes.now (found_view found.now) (schema_view s))
+        (λ f. f ≢ SchemaFault.NoMemory → IsUnsound (found_view found.now) f) }
+{
+    let commons = found.commons.as_slice();
+    let table = write_commons(alloc, commons)?;
+    let edges = demand_edges(alloc, found)?;
+    demand_sizes(commons, &table)?;
+    make_schema(alloc, bytes, found, &edges, &table)
+}
+
+/// The schema that bytes state.
+///
+/// Refused for the first of these: the bytes are no JSON; the JSON has not the shape of a schema; a name is declared
+/// nowhere; a common type leads back to itself; an action is above itself; a type, written out in full, is too large.
+pub fn read_schema(alloc: Global, bytes: &[u8]) -> Result<Schema, SchemaFault>
+    ensures { MatchResult result (λ s. IsSchemaOf bytes.now (schema_view s))
+        (λ f. f ≢ SchemaFault.NoMemory → RefusedFor bytes.now f) }
+{
+    files_name_their_own();
+    let found = read_named(alloc, bytes)?;
+    sound_schema(alloc, bytes, &found)
+}

@@ -1,0 +1,89 @@
+//! Shapes and contexts, written out.
+ghost use Rattle.std.specs.Prelude.{◌≡◌, ◌≢◌, Some, MatchResult, map, option_map};
+ghost use Rattle.schema_types.specs.QualifiedViews.{qualified_view};
+ghost use Rattle.schema_types.specs.Cedar.{record_of, no_fields};
+ghost use Rattle.schema_types.specs.CedarViews.{cedar_view};
+ghost use Rattle.schema_types.specs.WrittenOut.{Declarations};
+ghost use Rattle.schema_types.specs.Knowledge.{AreWritten};
+ghost use Rattle.schema_types.specs.TableViews.{knowledge};
+ghost use Rattle.schema_types.specs.declared.fault.SchemaFault.TheVariants as SchemaFault;
+ghost use Rattle.schema_names.specs.FoundViews.{found_entity_type_view};
+ghost use Rattle.schema.specs.inner.Making.{IsClosedAt, IsMade, IsRefusedAt, AddsShape, AddsShapes, AreShapesClosed};
+ghost use Rattle.schema.specs.inner.Making.{SomeShapeIsRefused, AreShapes};
+
+use crate::maps::put;
+use crate::parts::EntityDecl;
+use plain::{Items, Shared};
+use schema_names::FoundEntityType;
+use schema_types::{CedarType, QualifiedType, SchemaFault, Table, write_whole};
+use std::alloc::Global;
+use std::collections::BTreeMap;
+use values::TypeName;
+
+/// The record without attributes.
+fn no_attributes(alloc: Global) -> Result<CedarType, SchemaFault>
+    ensures { MatchResult result (λ t. cedar_view t ≡ record_of no_fields) (λ f. f ≡ SchemaFault.NoMemory) }
+{
+    let fields = Shared::new(alloc, Items::new(alloc))?;
+    Ok(CedarType::Record(fields))
+}
+
+/// A shape or a context, written out; where there is none, a record without attributes.
+///
+/// Refused where it is too large.
+pub(crate) fn make_record(
+    alloc: Global,
+    ty: &Option<QualifiedType>,
+    table: &Table,
+) -> Result<CedarType, SchemaFault>
+    ghost commons: { Declarations }
+    requires table { AreWritten commons (knowledge table.now) }
+    requires closed { IsClosedAt commons (option_map qualified_view ty.now) }
+    ensures { MatchResult result (λ t. IsMade commons (option_map qualified_view ty.now) (cedar_view t))
+        (λ f. f ≢ SchemaFault.NoMemory → IsRefusedAt commons (option_map qualified_view ty.now) f) }
+{
+    match ty {
+        Some(ty) => write_whole(alloc, ty, table),
+        None => no_attributes(alloc),
+    }
+}
+
+/// Gives an entity type its shape.
+fn add_shape(
+    alloc: Global,
+    entity_type: &FoundEntityType,
+    table: &Table,
+    shapes: &mut BTreeMap<TypeName, EntityDecl>,
+) -> Result<(), SchemaFault>
+    ghost commons: { Declarations }
+    requires table { AreWritten commons (knowledge table.now) }
+    requires closed { IsClosedAt commons (option_map qualified_view entity_type.now.shape) }
+    ensures { MatchResult result (λ u. AddsShape commons (found_entity_type_view entity_type.now) shapes.old shapes.new)
+        (λ f. f ≢ SchemaFault.NoMemory → IsRefusedAt commons (option_map qualified_view entity_type.now.shape) f) }
+{
+    let shape = make_record(alloc, &entity_type.shape, table)?;
+    let name = entity_type.name.copy()?;
+    put(shapes, name, EntityDecl { shape })?;
+    Ok(())
+}
+
+/// The shapes of entity types, by their names.
+///
+/// Refused where one is too large.
+pub(crate) fn make_shapes(
+    alloc: Global,
+    entity_types: &[FoundEntityType],
+    table: &Table,
+) -> Result<BTreeMap<TypeName, EntityDecl>, SchemaFault>
+    ghost commons: { Declarations }
+    requires table { AreWritten commons (knowledge table.now) }
+    requires closed { AreShapesClosed commons (map found_entity_type_view entity_types.now) }
+    ensures { MatchResult result (λ shapes. AreShapes commons (map found_entity_type_view entity_types.now) shapes)
+        (λ f. f ≢ SchemaFault.NoMemory → SomeShapeIsRefused commons (map found_entity_type_view entity_types.now) f) }
+{
+    let mut shapes = BTreeMap::new(alloc);
+    for entity_type in entity_types {
+        add_shape(alloc, entity_type, table, &mut shapes)?;
+    }
+    Ok(shapes)
+}

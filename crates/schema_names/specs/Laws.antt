@@ -1,0 +1,55 @@
+-- Laws of a file with each name found.
+use Rattle.std.specs.Prelude.{◌≡◌, ◌⊎◌, ℕ, List, Contains, map, Some}
+use Rattle.schema_types.specs.Qualified.{Qualified}
+use Rattle.schema_types.specs.Cedar.{Cedar, CedarFields, record_of}
+use Rattle.schema_types.specs.WrittenOut.{WrittenOut}
+use Rattle.schema_types.specs.Mentions.{IsClosed}
+use Rattle.schema_types.specs.Law.{AreOnce, AreClosed}
+use Rattle.schema_types.specs.declared.fault.SchemaFault.{SchemaFault}
+use Rattle.schema_file.specs.Once.{AreApart}
+use Rattle.schema_names.specs.Qualifying.{FoundEntityType, FoundUse, FoundAction, FoundSchema}
+use Rattle.schema_names.specs.Naming.{StatesNamed, NamingRefused}
+
+-- no common type, no entity type and no action is declared twice
+pub record DeclaresOnce (s : FoundSchema) : Type 0 where
+  pub commons : AreOnce s.commons
+  pub entity_types : AreApart (map (λ e. e.name) s.entity_types)
+  pub actions : AreApart (map (λ a. a.uid) s.actions)
+
+-- r is the shape of an entity type, or the context of an action
+abbrev pub IsShapeOrContext : FoundSchema → Qualified → Type 0
+IsShapeOrContext s r =
+    ((e : FoundEntityType) × Contains s.entity_types e × (e.shape ≡ Some r))
+    ⊎ ((a : FoundAction) × Contains s.actions a × ((u : FoundUse) × (a.applies_to ≡ Some u) × (u.context ≡ Some r)))
+
+-- each common type that is named is declared
+pub record NamesItsOwn (s : FoundSchema) : Type 0 where
+  pub commons : AreClosed s.commons
+  pub records : (r : Qualified) → IsShapeOrContext s r → IsClosed s.commons r
+
+abbrev pub FilesNameTheirOwn : Type 0
+FilesNameTheirOwn = (bytes : List ℕ) (s : FoundSchema) → StatesNamed bytes s → NamesItsOwn s
+
+-- a shape or a context that is written out is a record
+abbrev pub ShapesAreRecords : Type 0
+ShapesAreRecords =
+    (bytes : List ℕ) (s : FoundSchema) → StatesNamed bytes s → (r : Qualified) → IsShapeOrContext s r → (t : Cedar)
+    → WrittenOut s.commons r t → (fs : CedarFields) × (t ≡ record_of fs)
+
+-- ---- bytes state one file, or are refused for one cause, and never both
+
+pub data Outcome (bytes : List ℕ) : Type 0 where
+  states : (s : FoundSchema) → StatesNamed bytes s → Outcome bytes
+  refused : (f : SchemaFault) → NamingRefused bytes f → Outcome bytes
+
+abbrev pub SomeOutcome : Type 0
+SomeOutcome = (bytes : List ℕ) → Outcome bytes
+
+abbrev pub OneFile : Type 0
+OneFile = (bytes : List ℕ) (s t : FoundSchema) → StatesNamed bytes s → StatesNamed bytes t → s ≡ t
+
+abbrev pub OneRefusal : Type 0
+OneRefusal = (bytes : List ℕ) (f g : SchemaFault) → NamingRefused bytes f → NamingRefused bytes g → f ≡ g
+
+abbrev pub NotBoth : Type 0
+NotBoth = (bytes : List ℕ) (s : FoundSchema) (f : SchemaFault) → StatesNamed bytes s → NamingRefused bytes f → ⊥

@@ -1,0 +1,33 @@
+//! Laws of a file with each name found.
+ghost use Rattle.schema_names.specs.Laws.{FilesNameTheirOwn, ShapesAreRecords, SomeOutcome, OneFile, OneRefusal};
+ghost use Rattle.schema_names.specs.Laws.{NotBoth};
+
+/// Each common type that a file names is declared there.
+pub fn files_name_their_own()
+    ensures { FilesNameTheirOwn }
+{}
+
+/// A shape or a context that is written out is a record.
+pub fn shapes_are_records()
+    ensures { ShapesAreRecords }
+{}
+
+/// Bytes state a file or are refused.
+pub fn some_outcome()
+    ensures { SomeOutcome }
+{}
+
+/// Bytes state one file at most.
+pub fn one_file()
+    ensures { OneFile }
+{}
+
+/// Bytes are refused for one cause at most.
+pub fn one_refusal()
+    ensures { OneRefusal }
+{}
+
+/// Bytes that state a file are not refused.
+pub fn not_both()
+    ensures { NotBoth }
+{}
