@@ -1,6 +1,8 @@
 -- What the parser says of the first bytes of a reply, as facts on the reply.
-use Rattle.std.proofs.Common.{◌≡◌, ℕ, ◌+◌, ◌-◌, ◌<◌, ◌≤◌, inl, inr, List, [], ◌∷◌, ◌++◌, length, map, take, drop, sym, ap, ◌∙◌, subst, arith, append_assoc, length-append}
-use Rattle.std.specs.List.{slice_range, flat_map}
+use Rattle.std.proofs.Common.{◌≡◌, ℕ, ◌+◌, ◌-◌, ◌<◌, ◌≤◌, inl, inr, Bool, true, false, if◌then◌else◌, nat_le, codes, List, [], ◌∷◌, ◌++◌, length, map, take, drop, refl, sym, ap, ◌∙◌, subst, arith, append_assoc, length-append}
+use Rattle.std.specs.List.{slice_range, flat_map, list_any}
+use Rattle.std.specs.Str.Parse.{digits_value}
+use Rattle.std.proofs.lemmas.Bool.Decides.{nat_tests}
 use Rattle.std.proofs.lemmas.List.{take-append-drop, take_all, length-take, length-map}
 use Rattle.std.proofs.Math.Seq.{drop-append_seam, take-append-add}
 use Rattle.httparse.specs.Grammar.{ResponseHead, lf, print_end, print_blank, print_reason, print_version, print_field, print_section, print_response, ReadsResponse, HasNoResponse, NeverHasResponse}
@@ -10,9 +12,10 @@ use Rattle.httparse.specs.Spans.{IsResponseAt, IsResponseWithin, ResponseExceeds
 use Rattle.httparse.proofs.GrammarLemmas.{ReadsResponse-append, response_unique}
 use Rattle.httparse.proofs.RunLemmas.{length-slice_range}
 use Rattle.http_streams.specs.inner.Cuts.{IsReplyAt}
-use Rattle.http_streams.specs.Fetch.{AdmitsReply, HasNoAdmittedReply, IsBadReply, length_of, reply_length}
-use Rattle.http_streams.specs.declared.fields.Announced.TheVariants.{Size}
-use Rattle.http_streams.specs.declared.TheConstants.{MAX_HEAD, MAX_FIELDS}
+use Rattle.http_streams.specs.Fetch.{AdmitsReply, HasNoAdmittedReply, IsBadReply, IsUnfinishedReply, length_by, length_of, reply_length}
+use Rattle.http_streams.specs.Fields.{announced, is_digits, is_named, values_named}
+use Rattle.http_streams.specs.declared.fields.Announced.TheVariants.{Size, TooLong, NoNumber}
+use Rattle.http_streams.specs.declared.TheConstants.{MAX_HEAD, MAX_FIELDS, MAX_REPLY}
 use Rattle.http_streams.proofs.CutLemmas.{length_end, length_fields, slice-drop}
 
 pub seen_more : (buf : List ℕ) (n : ℕ) (h : ResponseHead) (rest : List ℕ) → ReadsResponse (take n buf) h rest
@@ -115,3 +118,38 @@ module _ (buf seen : List ℕ) (e : seen ≡ take MAX_HEAD buf) (headers : List 
           status_is = at.code;
         };
       }
+
+-- ---- how long less than a reply may be
+
+if_size : (a b : Bool) (k n : ℕ) → (if a then (if b then Size k else TooLong) else NoNumber) ≡ Size n → (b ≡ true) × (k ≡ n)
+if_size true true k n e = (refl, (let same : k ≡ n = cc in same))
+if_size true false k n e = absurd (cc)
+if_size false b k n e = absurd (cc)
+
+le_of : (k most : ℕ) → nat_le k most ≡ true → k ≤ most
+le_of k most is = grind (arith, nat_tests)
+
+announced_fits : (most n : ℕ) (v : List ℕ) → announced most v ≡ Size n → n ≤ most
+announced_fits most n v e =
+    let found = if_size (is_digits v) (nat_le (digits_value 10 v) most) (digits_value 10 v) n e in
+    subst (λ (k : ℕ). k ≤ most) found.1 (le_of (digits_value 10 v) most found.0)
+
+by_fits : (n : ℕ) (vs : List (List ℕ)) → length_by vs ≡ Size n → n ≤ MAX_REPLY
+by_fits n [] e = absurd (cc)
+by_fits n (v ∷ []) e = announced_fits MAX_REPLY n v e
+by_fits n (v ∷ w ∷ vs) e = absurd (cc)
+
+unless_coded : (coded : Bool) (n : ℕ) (vs : List (List ℕ)) → (if coded then NoNumber else length_by vs) ≡ Size n → n ≤ MAX_REPLY
+unless_coded true n vs e = absurd (cc)
+unless_coded false n vs e = by_fits n vs e
+
+size_fits : (n : ℕ) (h : ResponseHead) → length_of h ≡ Size n → n ≤ MAX_REPLY
+size_fits n h e =
+    let ps = map name_and_value h.fields in
+    unless_coded (list_any (is_named (codes "transfer-encoding")) ps) n (values_named (codes "content-length") ps) e
+
+pub unfinished_short : (bytes : List ℕ) → IsUnfinishedReply bytes → length bytes < MAX_HEAD + MAX_REPLY
+unfinished_short bytes (inl none) = omega (arith, ap length none)
+unfinished_short bytes (inr (inl cut)) =
+    omega (arith, ap length cut.admits.reads.1, length-append (print_response cut.head) cut.rest, cut.admits.short, cut.short, size_fits cut.size cut.head cut.framed)
+unfinished_short bytes (inr (inr part)) = omega (arith, part.short)

@@ -53,6 +53,11 @@ module _ {S : Type 0} (answers : Answering S) where
     out_is = e.out_is;
   }
 
+  pub status-append : {old new : S} {bytes out rest : List ℕ} {last : Bool} (e : Exchanges answers old bytes last out new rest)
+      (more : List ℕ) → (Exchanges-append e more).status ≡ e.status
+  unfolding Exchanges-append
+  status-append e more = refl
+
   pub Serves-append : (n : ℕ) (old new : S) (bytes rest out more : List ℕ) → Serves answers n old bytes rest out new
       → Serves answers n old (bytes ++ more) (rest ++ more) out new
   Serves-append zero old new bytes rest out more x = (ap (λ (t : List ℕ). t ++ more) x.0, x.1, x.2)

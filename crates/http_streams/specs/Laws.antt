@@ -1,23 +1,29 @@
 -- Laws of the replies to a stream.
-use Rattle.std.specs.Prelude.{◌≡◌, ℕ, ◌⊎◌, true, List, ◌++◌}
+use Rattle.std.specs.Prelude.{◌≡◌, ◌≢◌, ◌≤◌, ℕ, ◌⊎◌, Bool, List, [], ◌++◌, length, true}
 use Rattle.httparse.specs.Grammar.{EndsInTarget, NeverHasRequest}
 use Rattle.http_streams.specs.Fetch.{IsBadReply, IsUnfinishedReply, ReadsReply}
 use Rattle.http_streams.specs.Replies.{error_line, reply_text}
-use Rattle.http_streams.specs.Stream.{Answering, Ends, Rests, Serves, Stops}
+use Rattle.http_streams.specs.Stream.{Answering, Ends, Exchanges, Rests, Serves, Stops}
+use Rattle.http_streams.specs.declared.TheConstants.{MAX_HEAD}
 use Rattle.http_streams.specs.declared.status.Status.{Status}
-use Rattle.http_streams.specs.declared.status.Status.TheVariants.{BadRequest}
+use Rattle.http_streams.specs.declared.status.Status.TheVariants.{BadRequest, ServiceUnavailable}
 
 -- a rest on which a reader may answer either way: it ends inside a target that is no text
 pub record IsCorner (rest : List ℕ) : Type 0 where
   pub target : EndsInTarget rest
   pub never : NeverHasRequest rest
+  pub short : length rest ≤ MAX_HEAD
 
 module _ {S : Type 0} (answers : Answering S) where
-  -- there is one answer to each request in each state
-  abbrev pub IsFunction : Type 0
-  IsFunction =
-      (old : S) (m t b : List ℕ) (st st2 : Status) (x x2 : List ℕ) (new new2 : S) → answers old m t b st x new
-      → answers old m t b st2 x2 new2 → (st ≡ st2) × (x ≡ x2) × (new ≡ new2)
+  -- the answers, but those that memory was refused (503)
+  abbrev pub in_memory : Answering S
+  in_memory old m t b status x new = answers old m t b status x new × (status ≢ ServiceUnavailable)
+
+  -- states that are the same have one answer to a request, which leaves states that are the same
+  abbrev pub HasOneAnswer : (S → S → Type 0) → Type 0
+  HasOneAnswer same =
+      (old old2 : S) (m t b : List ℕ) (st st2 : Status) (x x2 : List ℕ) (new new2 : S) → same old old2
+      → answers old m t b st x new → answers old2 m t b st2 x2 new2 → (st ≡ st2) × (x ≡ x2) × same new new2
 
   -- the stream was read to its end and answered, or to a reply that ends it
   abbrev pub AnswersAll : S → List ℕ → List ℕ → S → Type 0
@@ -31,11 +37,11 @@ module _ {S : Type 0} (answers : Answering S) where
       (n : ℕ) × (rest : List ℕ) × Serves answers n old stream rest out new × IsCorner rest
       × (more ≡ out ++ reply_text true BadRequest (error_line 400))
 
-  -- two answers to one stream, however it was cut, leave one state, and are the same but in the corner
-  abbrev pub AgreeOn : S → List ℕ → List ℕ → List ℕ → S → S → Type 0
-  AgreeOn old stream out more new other =
-      (new ≡ other)
-      × ((out ≡ more) ⊎ DiffersInCorner old stream out more new ⊎ DiffersInCorner old stream more out new)
+  -- two answers to one stream, however it was cut, leave states that are the same, and are equal but in the corner
+  abbrev pub AgreeOn : (S → S → Type 0) → S → S → List ℕ → List ℕ → List ℕ → S → S → Type 0
+  AgreeOn same old old2 stream out more new new2 =
+      same new new2
+      × ((out ≡ more) ⊎ DiffersInCorner old stream out more new ⊎ DiffersInCorner old2 stream more out new2)
 
   -- a fault came after some first bytes of the stream
   abbrev pub StopsIn : S → List ℕ → List ℕ → S → Type 0
@@ -48,6 +54,23 @@ module _ {S : Type 0} (answers : Answering S) where
       ((back : List ℕ) × (more ≡ out ++ back))
       ⊎ ((n : ℕ) × (rest : List ℕ) × Serves answers n old stream rest more new × IsCorner rest
       × (back : List ℕ) × (out ++ back ≡ more ++ reply_text true BadRequest (error_line 400)))
+
+-- some requests were answered in memory and the next by 503, which stands behind their replies, but for what is unsent
+pub record LacksMemory {S : Type 0} (answers : Answering S) (old : S) (stream out unsent : List ℕ) : Type 0 where
+  pub count : ℕ
+  pub mid : S
+  pub rest : List ℕ
+  pub before : List ℕ
+  pub served : Serves (in_memory answers) count old stream rest before mid
+  pub last : Bool
+  pub sent : List ℕ
+  pub new : S
+  pub later : List ℕ
+  pub refused : Exchanges answers mid rest last (sent ++ unsent) new later
+  pub is : refused.status ≡ ServiceUnavailable
+  pub back : List ℕ
+  pub joined : out ≡ before ++ sent ++ back
+  pub whole_or_last : (unsent ≡ []) ⊎ (back ≡ [])
 
 -- ---- the reply at the front of a stream
 

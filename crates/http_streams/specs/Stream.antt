@@ -1,6 +1,7 @@
 -- The replies to a stream of requests (RFC 9112, sections 2.2, 6.3 and 9.3: one after the other, in order).
-use Rattle.std.specs.Prelude.{◌≡◌, ℕ, suc, zero, ◌⊎◌, Bool, true, false, List, [], ◌++◌}
+use Rattle.std.specs.Prelude.{◌≡◌, ℕ, suc, zero, ◌⊎◌, Bool, true, false, Option, List, [], ◌++◌}
 use Rattle.httparse.specs.Grammar.{RequestHead}
+use Rattle.http_streams.specs.Devices.{EndsByOneRead}
 use Rattle.http_streams.specs.Replies.{error_line, reply_text}
 use Rattle.http_streams.specs.Request.{ReadsWhole, IsRefused, IsUnfinished, closes_of}
 use Rattle.http_streams.specs.Status.{code}
@@ -75,3 +76,14 @@ module _ {S : Type 0} (answers : Answering S) where
     pub serves : Serves count old bytes rest before mid
     pub halts : Halts mid rest last new
     pub joined : out ≡ before ++ last
+
+module _ {S R : Type 0} (answers : Answering S) (left : R → Option (List ℕ)) (reads : R → List ℕ → R → Type 0) where
+  -- all that had come before the last read was answered, and nothing of it ended the stream
+  pub record KeepsUp (old : S) (first last : R) (bytes out : List ℕ) : Type 0 where
+    pub front : List ℕ
+    pub sent : List ℕ
+    pub more : List ℕ
+    pub state : S
+    pub answered : Rests answers old front sent state
+    pub read : EndsByOneRead left reads first last bytes front
+    pub joined : out ≡ sent ++ more

@@ -1,18 +1,17 @@
 //! What is read and not yet answered.
 ghost use Rattle.std.specs.Prelude.{◌≡◌, ◌≤◌, ◌<◌, ◌++◌, ℕ, List, [], true, false, Err, take, drop, length, IfOk, OnOk};
-ghost use Rattle.std.specs.Prelude.{OnErr, IsTrue, IsFalse, vec_len};
+ghost use Rattle.std.specs.Prelude.{OnErr, IsTrue, IsFalse, vec_len, ◌+◌};
+ghost use Rattle.std.specs.Vec.{vec_capacity};
 ghost use Rattle.std.specs.Io.KnownBytes.{Consumes, IsAtEnd, Keeps};
 ghost use Rattle.http_streams.specs.Devices.{HasFailed};
 
 use crate::devices::Source;
-use crate::{MAX_FIELDS, MAX_HEAD};
+use crate::reply::HEAD_ROOM;
+use crate::{MAX_FIELDS, MAX_HEAD, MAX_READ, REPLY_ROOM};
 use httparse::spans::{EMPTY_HEADER_SPAN, HeaderSpan};
 use std::alloc::{AllocError, Global};
 
-/// The most bytes that one read takes.
-const CHUNK: usize = 16_384;
-
-/// Why no bytes came.
+/// Why no bytes came. Nothing is read then.
 #[derive(Clone, Copy)]
 pub(crate) enum ReadFault {
     Read,
@@ -28,9 +27,20 @@ pub(crate) fn room_for_heads(alloc: Global) -> Result<Vec<HeaderSpan>, AllocErro
 
 /// Room for the bytes of one read.
 pub(crate) fn room_for_reads(alloc: Global) -> Result<Vec<u8>, AllocError>
-    ensures { IfOk result (λ room. 0 < vec_len room) }
+    ensures some { IfOk result (λ room. 0 < vec_len room) }
+    ensures most { IfOk result (λ room. vec_len room ≤ MAX_READ) }
 {
-    vec![in alloc; 0u8; CHUNK]
+    vec![in alloc; 0u8; MAX_READ]
+}
+
+/// Room for the longest head of a reply, with room for a short body behind it.
+pub(crate) fn room_for_replies(alloc: Global) -> Result<Vec<u8>, AllocError>
+    ensures head { IfOk result (λ text. HEAD_ROOM ≤ vec_len text) }
+    ensures body { IfOk result (λ text. HEAD_ROOM + REPLY_ROOM ≤ vec_capacity text) }
+{
+    let mut text = Vec::with_capacity(alloc, HEAD_ROOM + REPLY_ROOM)?;
+    text.resize(HEAD_ROOM, 0)?;
+    Ok(text)
 }
 
 /// As much as a head may have.
@@ -70,7 +80,7 @@ pub(crate) fn drop_front(bytes: &mut Vec<u8>, count: usize)
     bytes.truncate(left);
 }
 
-/// Reads once, and says whether bytes came.
+/// Reads once, and says whether bytes came. Room for them is made first, so that none is lost.
 pub(crate) fn read_more<R: Source>(
     reader: &mut R,
     chunk: &mut [u8],
@@ -79,19 +89,23 @@ pub(crate) fn read_more<R: Source>(
     requires { 0 < length chunk.old }
     ensures ok { IfOk result (λ more. (bytes : List ℕ) × Consumes (R.left reader.old) (R.left reader.new) bytes
         × (buffer.new.items ≡ buffer.old.items ++ bytes) × (IsTrue more → 0 < length bytes)
-        × (IsFalse more → (bytes ≡ []) × IsAtEnd (R.left reader.new))) }
-    ensures err { OnErr result ((bytes : List ℕ) × Consumes (R.left reader.old) (R.left reader.new) bytes) }
-    ensures lost { result ≡ Err ReadFault.Read → Keeps (R.left reader.old) (R.left reader.new)
-        × (buffer.new.items ≡ buffer.old.items) }
-    ensures read { result ≡ Err ReadFault.Read → HasFailed (R.failed reader.old) (R.failed reader.new) }
+        × (IsFalse more → (bytes ≡ []) × IsAtEnd (R.left reader.new))
+        × (length bytes ≤ length chunk.old) × R.reads reader.old bytes reader.new) }
     ensures count { OnOk result (R.failed reader.new ≡ R.failed reader.old) }
+    ensures len { length chunk.new ≡ length chunk.old }
+    ensures lost { OnErr result (Keeps (R.left reader.old) (R.left reader.new) × (buffer.new.items ≡ buffer.old.items)) }
+    ensures read { result ≡ Err ReadFault.Read → HasFailed (R.failed reader.old) (R.failed reader.new) }
+    ensures memory { result ≡ Err ReadFault.NoMemory → reader.new ≡ reader.old }
 {
+    let Ok(()) = buffer.reserve(chunk.len()) else {
+        return Err(ReadFault::NoMemory);
+    };
     match reader.read(chunk) {
         Ok(0) => Ok(false),
-        Ok(n) => match buffer.extend_from_slice(&chunk[..n]) {
-            Ok(()) => Ok(true),
-            Err(_) => Err(ReadFault::NoMemory),
-        },
+        Ok(n) => {
+            buffer.extend_from_slice(&chunk[..n]).unwrap();
+            Ok(true)
+        }
         Err(_) => Err(ReadFault::Read),
     }
 }

@@ -1,6 +1,6 @@
 //! Readers and writers that count their failures.
-ghost use Rattle.std.specs.Prelude.{◌≡◌, ◌≤◌, ◌<◌, ℕ, List, Option, IfOk, OnOk, OnErr, ◌++◌, length};
-ghost use Rattle.std.specs.Io.KnownBytes.{Appends, ReadConsumes, WriteAppends};
+ghost use Rattle.std.specs.Prelude.{◌≡◌, ◌≤◌, ◌<◌, ℕ, List, Option, IfOk, OnOk, OnErr, ◌++◌, length, take};
+ghost use Rattle.std.specs.Io.KnownBytes.{Appends, Consumes, ReadConsumes, WriteAppends};
 ghost use Rattle.http_streams.specs.Devices.{CountsFailure, HasFailed};
 
 use std::io::{Read, Write};
@@ -17,10 +17,14 @@ pub trait Source {
     // How often it failed, up to `u64::MAX`.
     ghost failed: { Self → ℕ };
 
+    // One call of `read` led from the first state to the second, and gave these bytes.
+    ghost reads: { Self → List ℕ → Self → Type 0 };
+
     /// Reads once. No bytes in a buffer with room are the end of the input.
     fn read(&mut self, buf: &mut [u8]) -> Result<usize, DeviceFailed>
         ensures bound { IfOk result (λ n. n ≤ length buf.new) }
         ensures bytes { ReadConsumes (left self.old) (left self.new) result buf.new }
+        ensures call { IfOk result (λ n. reads self.old (take n buf.new) self.new) }
         ensures failures { CountsFailure result (failed self.old) (failed self.new) };
 
     /// How often it failed.
@@ -68,6 +72,9 @@ impl<R: Read> Source for Counted<R> {
     ghost left = { λ s. R.remaining s.inner };
 
     ghost failed = { λ s. s.failures };
+
+    ghost reads = { λ old bytes new. Consumes (R.remaining old.inner) (R.remaining new.inner) bytes
+        × (new.failures ≡ old.failures) };
 
     fn read(&mut self, buf: &mut [u8]) -> Result<usize, DeviceFailed> {
         match self.inner.read(buf) {

@@ -1,9 +1,9 @@
 //! Sends one request and reads its reply.
-ghost use Rattle.std.specs.Prelude.{◌≡◌, ◌≢◌, ◌≤◌, ◌<◌, ◌⊎◌, ℕ, List, ◌++◌, Err, IfOk, OnOk, OnErr, length};
+ghost use Rattle.std.specs.Prelude.{◌≡◌, ◌≢◌, ◌≤◌, ℕ, List, ◌++◌, Err, IfOk, OnOk, OnErr, length};
 ghost use Rattle.std.specs.Prelude.{map, take, slice_range, decimal, All};
 ghost use Rattle.std.specs.Io.KnownBytes.{Appends, Consumes, IsAtEnd};
 ghost use Rattle.httparse.specs.Spans.{IsHeaderWithin, IsResponseOf, IsResponseWithin, header_bytes};
-ghost use Rattle.http_streams.specs.Devices.{HasFailed};
+ghost use Rattle.http_streams.specs.Devices.{EndsByOneRead, HasFailed};
 ghost use Rattle.http_streams.specs.inner.Cuts.{IsReplyCut};
 ghost use Rattle.http_streams.specs.Fetch.{IsBadReply, IsUnfinishedReply, ReadsReply, body_bytes};
 ghost use Rattle.http_streams.specs.Fetch.{length_field, reply_length, request_start, request_text};
@@ -32,7 +32,7 @@ pub struct Ask<'a> {
 /// Why there is no reply.
 #[derive(Clone, Copy)]
 pub enum FetchFault {
-    /// The reader failed, or gave `u64::MAX` bytes.
+    /// The reader failed.
     Read,
     /// The writer failed.
     Write,
@@ -69,17 +69,21 @@ pub fn fetch<R: Source, W: Sink>(
     writer: &mut W,
     ask: &Ask<'_>,
 ) -> Result<(u16, Vec<u8>), FetchFault>
-    // The request was written, and what was read begins with this reply.
-    ensures ok { IfOk result (λ reply. (bytes : List ℕ) × (rest : List ℕ)
+    // The request was written, and what was read begins with this reply. Nothing was read behind it: before the last
+    // read less than a reply had come.
+    ensures ok { IfOk result (λ reply. (bytes : List ℕ) × (front : List ℕ) × (rest : List ℕ)
         × Consumes (R.left reader.old) (R.left reader.new) bytes
         × Appends (W.holds writer.old) (W.holds writer.new) (request_text ask.now)
-        × ReadsReply bytes reply.0 reply.1.items rest) }
+        × ReadsReply bytes reply.0 reply.1.items rest
+        × IsUnfinishedReply front × EndsByOneRead R.left R.reads reader.old reader.new bytes front) }
 
-    // The request was written, and what was read begins no reply that can be read.
-    ensures bad { result ≡ Err FetchFault.BadReply → (bytes : List ℕ)
+    // The request was written, and what was read begins no reply that can be read. That wasn't known before the last
+    // read.
+    ensures bad { result ≡ Err FetchFault.BadReply → (bytes : List ℕ) × (front : List ℕ)
         × Consumes (R.left reader.old) (R.left reader.new) bytes
         × Appends (W.holds writer.old) (W.holds writer.new) (request_text ask.now)
-        × IsBadReply bytes }
+        × IsBadReply bytes
+        × IsUnfinishedReply front × EndsByOneRead R.left R.reads reader.old reader.new bytes front }
 
     // The request was written, and the input is at its end, with less than a reply.
     ensures ended { result ≡ Err FetchFault.Ended → (bytes : List ℕ)
@@ -87,12 +91,11 @@ pub fn fetch<R: Source, W: Sink>(
         × Appends (W.holds writer.old) (W.holds writer.new) (request_text ask.now)
         × IsUnfinishedReply bytes × IsAtEnd (R.left reader.new) }
 
-    // The request was written, less than a reply came, and the reader says that it failed, or `u64::MAX` bytes came.
+    // The request was written, less than a reply came, and the reader says that it failed.
     ensures read { result ≡ Err FetchFault.Read → (bytes : List ℕ)
         × Consumes (R.left reader.old) (R.left reader.new) bytes
         × Appends (W.holds writer.old) (W.holds writer.new) (request_text ask.now)
-        × IsUnfinishedReply bytes
-        × (HasFailed (R.failed reader.old) (R.failed reader.new) ⊎ (u64.MAX ≤ length bytes)) }
+        × IsUnfinishedReply bytes × HasFailed (R.failed reader.old) (R.failed reader.new) }
 
     // The writer says that it failed, a first part of the request went out, and nothing was read.
     ensures write { result ≡ Err FetchFault.Write → (reader.new ≡ reader.old)
@@ -102,6 +105,10 @@ pub fn fetch<R: Source, W: Sink>(
     ensures err { OnErr result ((bytes : List ℕ) × (front : List ℕ) × (back : List ℕ)
         × Consumes (R.left reader.old) (R.left reader.new) bytes
         × (request_text ask.now ≡ front ++ back) × Appends (W.holds writer.old) (W.holds writer.new) front) }
+
+    // No failure of a device is passed over.
+    ensures reads { result ≢ Err FetchFault.Read → R.failed reader.new ≡ R.failed reader.old }
+    ensures writes { result ≢ Err FetchFault.Write → W.failed writer.new ≡ W.failed writer.old }
 {
     match send(alloc, writer, ask) {
         Ok(()) => {}
@@ -183,6 +190,7 @@ fn send<W: Sink>(alloc: Global, writer: &mut W, ask: &Ask<'_>) -> Result<(), Sen
     ensures err { OnErr result ((front : List ℕ) × (back : List ℕ) × (request_text ask.now ≡ front ++ back)
         × Appends (W.holds writer.old) (W.holds writer.new) front) }
     ensures write { result ≡ Err SendFault.Write → HasFailed (W.failed writer.old) (W.failed writer.new) }
+    ensures count { result ≢ Err SendFault.Write → W.failed writer.new ≡ W.failed writer.old }
 {
     let Ok(text) = request_text(alloc, ask) else {
         return Err(SendFault::NoMemory);
@@ -259,16 +267,19 @@ fn keep_body(bytes: &mut Vec<u8>, parts: &ReplyParts)
 
 /// Reads one reply.
 fn read_reply<R: Source>(alloc: Global, reader: &mut R) -> Result<(u16, Vec<u8>), FetchFault>
-    ensures ok { IfOk result (λ reply. (bytes : List ℕ) × (rest : List ℕ)
-        × Consumes (R.left reader.old) (R.left reader.new) bytes × ReadsReply bytes reply.0 reply.1.items rest) }
-    ensures bad { result ≡ Err FetchFault.BadReply → (bytes : List ℕ)
-        × Consumes (R.left reader.old) (R.left reader.new) bytes × IsBadReply bytes }
+    ensures ok { IfOk result (λ reply. (bytes : List ℕ) × (front : List ℕ) × (rest : List ℕ)
+        × Consumes (R.left reader.old) (R.left reader.new) bytes × ReadsReply bytes reply.0 reply.1.items rest
+        × IsUnfinishedReply front × EndsByOneRead R.left R.reads reader.old reader.new bytes front) }
+    ensures bad { result ≡ Err FetchFault.BadReply → (bytes : List ℕ) × (front : List ℕ)
+        × Consumes (R.left reader.old) (R.left reader.new) bytes × IsBadReply bytes
+        × IsUnfinishedReply front × EndsByOneRead R.left R.reads reader.old reader.new bytes front }
     ensures ended { result ≡ Err FetchFault.Ended → (bytes : List ℕ)
         × Consumes (R.left reader.old) (R.left reader.new) bytes
         × IsUnfinishedReply bytes × IsAtEnd (R.left reader.new) }
     ensures read { result ≡ Err FetchFault.Read → (bytes : List ℕ)
         × Consumes (R.left reader.old) (R.left reader.new) bytes × IsUnfinishedReply bytes
-        × (HasFailed (R.failed reader.old) (R.failed reader.new) ⊎ (u64.MAX ≤ length bytes)) }
+        × HasFailed (R.failed reader.old) (R.failed reader.new) }
+    ensures count { result ≢ Err FetchFault.Read → R.failed reader.new ≡ R.failed reader.old }
     ensures write { result ≢ Err FetchFault.Write }
     ensures err { OnErr result ((bytes : List ℕ) × Consumes (R.left reader.old) (R.left reader.new) bytes) }
 {
@@ -276,7 +287,7 @@ fn read_reply<R: Source>(alloc: Global, reader: &mut R) -> Result<(u16, Vec<u8>)
         return Err(FetchFault::NoMemory);
     };
     let mut buffer = Vec::new(alloc);
-    for turn in 0..u64::MAX {
+    'turns: loop {
         match read_more(reader, &mut chunk, &mut buffer) {
             Ok(true) => {}
             Ok(false) => return Err(FetchFault::Ended),
@@ -292,5 +303,4 @@ fn read_reply<R: Source>(alloc: Global, reader: &mut R) -> Result<(u16, Vec<u8>)
             ReplyCut::Unfinished => {}
         }
     }
-    Err(FetchFault::Read)
 }

@@ -25,6 +25,9 @@ pub const MAX_FIELDS: usize = 64;
 /// The most bytes of a request's body.
 pub const MAX_BODY: usize = 8_388_608;
 
+/// The most bytes that one read takes.
+pub const MAX_READ: usize = 16_384;
+
 /// The most bytes of the body of a reply that is fetched.
 pub const MAX_REPLY: usize = 67_108_864;
 

@@ -1,5 +1,5 @@
 //! Devices over memory, which read or take stated pieces and fail at one stated call.
-ghost use Rattle.std.specs.Prelude.{◌≡◌, ◌<◌, Some, IfSome, min, ◌++◌, take, drop, []};
+ghost use Rattle.std.specs.Prelude.{◌≡◌, ◌<◌, ◌+◌, ◌-◌, ◌^◌, Some, IfSome, min, ◌++◌, take, drop, []};
 
 use crate::devices::{DeviceFailed, Sink, Source};
 use std::alloc::Global;
@@ -17,7 +17,11 @@ pub struct Plan<'a> {
 
 impl<'a> Plan<'a> {
     /// A plan of which no call was made yet.
-    pub fn new(pieces: &'a [usize], fails_at: Option<u64>) -> Plan<'a> {
+    pub fn new(pieces: &'a [usize], fails_at: Option<u64>) -> Plan<'a>
+        ensures pieces { result.pieces ≡ pieces.entry }
+        ensures fails_at { result.fails_at ≡ fails_at }
+        ensures calls { result.calls ≡ 0 }
+    {
         Plan {
             pieces,
             fails_at,
@@ -27,7 +31,8 @@ impl<'a> Plan<'a> {
 
     /// How much the next call moves, at least one byte, or `None` where it fails.
     fn next_call(&mut self) -> Option<usize>
-        ensures { IfSome result (λ n. 0 < n) }
+        ensures moves { IfSome result (λ n. 0 < n) }
+        ensures calls { self.new.calls ≡ min (self.old.calls + 1) u64.MAX }
     {
         let call = self.calls;
         self.calls = call.saturating_add(1);
@@ -56,7 +61,9 @@ pub struct Fed<'a> {
 impl<'a> Fed<'a> {
     /// A reader of all these bytes.
     pub fn new(bytes: &'a [u8], plan: Plan<'a>) -> Fed<'a>
-        ensures { result.rest.now ≡ bytes.now }
+        ensures bytes { result.rest ≡ bytes.entry }
+        ensures plan { result.plan ≡ plan.entry }
+        ensures failures { result.failures ≡ 0 }
     {
         Fed {
             rest: bytes,
@@ -77,6 +84,10 @@ impl Source for Fed<'_> {
     ghost left = { λ s. Some s.rest.now };
 
     ghost failed = { λ s. s.failures };
+
+    // The call is counted, and what it gave is off the front of the rest.
+    ghost reads = { λ old bytes new. (old.rest.now ≡ bytes ++ new.rest.now)
+        × (new.plan.calls ≡ min (old.plan.calls + 1) (2 ^ 64 - 1)) × (new.failures ≡ old.failures) };
 
     fn read(&mut self, buf: &mut [u8]) -> Result<usize, DeviceFailed> {
         let Some(most) = self.plan.next_call() else {
@@ -106,7 +117,9 @@ pub struct Kept<'a> {
 impl<'a> Kept<'a> {
     /// A writer that took nothing yet.
     pub fn new(alloc: Global, plan: Plan<'a>) -> Kept<'a>
-        ensures { result.bytes.items ≡ [] }
+        ensures bytes { result.bytes.items ≡ [] }
+        ensures plan { result.plan ≡ plan.entry }
+        ensures failures { result.failures ≡ 0 }
     {
         Kept {
             bytes: Vec::new(alloc),

@@ -4,20 +4,23 @@ ghost use Rattle.std.specs.Prelude.{None, OnOk, OnErr, IfOk, IfSome, vec_len};
 ghost use Rattle.std.specs.Vec.{vec_capacity};
 ghost use Rattle.std.specs.Io.KnownBytes.{Appends, Consumes, IsAtEnd};
 ghost use Rattle.http_streams.specs.Devices.{HasFailed};
+ghost use Rattle.http_streams.specs.declared.TheConstants.{REPLY_ROOM};
 ghost use Rattle.http_streams.specs.Replies.{error_line, reply_text};
 ghost use Rattle.http_streams.specs.Request.{IsUnfinished, IsWholeAt};
 ghost use Rattle.http_streams.specs.Status.{code};
-ghost use Rattle.http_streams.specs.Stream.{Ends, Exchanges, Halts, Rests, Serves, Stops};
+ghost use Rattle.http_streams.specs.Stream.{Ends, Exchanges, Halts, KeepsUp, Rests, Serves, Stops};
 
-use crate::buffers::{ReadFault, drop_front, read_more, room_for_heads, room_for_reads};
+use crate::MAX_HEAD;
+use crate::buffers::{
+    ReadFault, drop_front, read_more, room_for_heads, room_for_reads, room_for_replies,
+};
 use crate::cut::{Cut, Parts, cut_request};
 use crate::devices::{DeviceFailed, Sink, Source, write_all};
 use crate::reply::{HEAD_ROOM, REFUSAL_ROOM, put_head, put_refusal};
 use crate::service::Service;
 use crate::status::Status;
-use crate::{MAX_HEAD, REPLY_ROOM};
 use httparse::spans::HeaderSpan;
-use std::alloc::{AllocError, Global};
+use std::alloc::Global;
 
 /// Why a stream was not answered to its end.
 #[derive(Clone, Copy)]
@@ -26,8 +29,8 @@ pub enum StreamFault {
     Read,
     /// The writer failed.
     Write,
-    /// Memory was refused before anything was read, for what was read, or for the room of a reply, before its
-    /// request was handed to the service.
+    /// Memory was refused, before anything was read or for what was to be read next. No reply takes any, but for what
+    /// the service asks.
     NoMemory,
 }
 
@@ -39,38 +42,50 @@ pub fn serve<S: Service, R: Source, W: Sink>(
     reader: &mut R,
     writer: &mut W,
 ) -> Result<(), StreamFault>
-    // What was written is the replies to what was read, and the input is at its end or the last reply ended the stream.
+    // What was written is the replies to what was read. The input is at its end, or the last reply ended the stream
+    // and nothing was read behind it.
     ensures ok { OnOk result ((bytes : List ℕ) × (out : List ℕ)
         × Consumes (R.left reader.old) (R.left reader.new) bytes
         × Appends (W.holds writer.old) (W.holds writer.new) out
         × ((Rests S.answers service.old bytes out service.new × IsAtEnd (R.left reader.new))
-        ⊎ Ends S.answers service.old bytes out service.new)) }
+        ⊎ (Ends S.answers service.old bytes out service.new
+        × KeepsUp S.answers R.left R.reads service.old reader.old reader.new bytes out))) }
+    ensures count { OnOk result
+        ((R.failed reader.new ≡ R.failed reader.old) × (W.failed writer.new ≡ W.failed writer.old)) }
 
-    // The same after a read that failed, of the bytes till then: the device says so, or `u64::MAX` bytes came.
+    // After a read that failed the bytes till then are answered. The device says so, or `u64::MAX` bytes came.
     ensures read { result ≡ Err StreamFault.Read → (bytes : List ℕ) × (out : List ℕ)
         × Consumes (R.left reader.old) (R.left reader.new) bytes
         × Appends (W.holds writer.old) (W.holds writer.new) out
         × Rests S.answers service.old bytes out service.new
-        × (HasFailed (R.failed reader.old) (R.failed reader.new) ⊎ (u64.MAX ≤ length bytes)) }
+        × (HasFailed (R.failed reader.old) (R.failed reader.new) ⊎ (u64.MAX ≤ length bytes))
+        × (W.failed writer.new ≡ W.failed writer.old) }
 
-    // After want of memory some requests are answered in full, and nothing else went out.
-    ensures memory { result ≡ Err StreamFault.NoMemory → (bytes : List ℕ) × (out : List ℕ) × (rest : List ℕ) × (n : ℕ)
+    // After want of memory all that was read is answered: memory is asked for before bytes are read, and no reply
+    // takes any.
+    ensures memory { result ≡ Err StreamFault.NoMemory → (bytes : List ℕ) × (out : List ℕ)
         × Consumes (R.left reader.old) (R.left reader.new) bytes
         × Appends (W.holds writer.old) (W.holds writer.new) out
-        × Serves S.answers n service.old bytes rest out service.new }
+        × Rests S.answers service.old bytes out service.new
+        × (R.failed reader.new ≡ R.failed reader.old) × (W.failed writer.new ≡ W.failed writer.old) }
 
-    // After any fault some requests are answered, and of one more reply a first part may have gone out.
-    ensures stops { OnErr result ((bytes : List ℕ) × (out : List ℕ)
+    // After a write that failed some requests are answered, and of one more reply a first part may have gone out. All
+    // that had come before the last read was answered.
+    ensures write { result ≡ Err StreamFault.Write → (bytes : List ℕ) × (out : List ℕ)
         × Consumes (R.left reader.old) (R.left reader.new) bytes
         × Appends (W.holds writer.old) (W.holds writer.new) out
-        × Stops S.answers service.old bytes out service.new) }
-    ensures write { result ≡ Err StreamFault.Write → HasFailed (W.failed writer.old) (W.failed writer.new) }
+        × Stops S.answers service.old bytes out service.new
+        × KeepsUp S.answers R.left R.reads service.old reader.old reader.new bytes out
+        × HasFailed (W.failed writer.old) (W.failed writer.new) × (R.failed reader.new ≡ R.failed reader.old) }
 {
-    let (Ok(mut room), Ok(mut chunk)) = (room_for_heads(alloc), room_for_reads(alloc)) else {
+    let (Ok(mut room), Ok(mut chunk), Ok(mut text)) = (
+        room_for_heads(alloc),
+        room_for_reads(alloc),
+        room_for_replies(alloc),
+    ) else {
         return Err(StreamFault::NoMemory);
     };
     let mut buffer = Vec::new(alloc);
-    let mut text = Vec::new(alloc);
     for turn in 0..u64::MAX {
         match read_more(reader, &mut chunk, &mut buffer) {
             Ok(true) => {}
@@ -81,20 +96,10 @@ pub fn serve<S: Service, R: Source, W: Sink>(
         match answer_all(service, writer, &buffer, &mut room, &mut text) {
             Ok(Some(count)) => drop_front(&mut buffer, count),
             Ok(None) => return Ok(()),
-            Err(fault) => return Err(fault),
+            Err(_) => return Err(StreamFault::Write),
         }
     }
     Err(StreamFault::Read)
-}
-
-/// Makes the text as long as the head of a reply may be, with room for a short body behind it. Its memory is
-/// kept from one reply to the next.
-fn make_room(text: &mut Vec<u8>) -> Result<(), AllocError>
-    ensures len { OnOk result (vec_len text.new ≡ HEAD_ROOM) }
-    ensures room { OnOk result (vec_len text.new + REPLY_ROOM ≤ vec_capacity text.new) }
-{
-    text.resize(HEAD_ROOM, 0)?;
-    text.reserve(REPLY_ROOM)
 }
 
 /// Puts the head of a reply before the body that the text has, and says where it begins.
@@ -102,11 +107,14 @@ fn finish(text: &mut Vec<u8>, last: bool, status: Status) -> usize
     requires { HEAD_ROOM ≤ vec_len text.old }
     ensures start { result ≤ vec_len text.new }
     ensures text { drop result text.new.items ≡ reply_text last status (drop HEAD_ROOM text.old.items) }
+    ensures len { vec_len text.new ≡ vec_len text.old }
+    ensures capacity { vec_capacity text.new ≡ vec_capacity text.old }
 {
     put_head(text.as_mut_slice(), HEAD_ROOM, last, status)
 }
 
-/// Answers one request, by one write where the writer takes it whole.
+/// Answers one request, by one write where the writer takes it whole. Room for its head and a short body is there, so
+/// that only the service may ask for memory.
 fn answer<S: Service, W: Sink>(
     service: &mut S,
     writer: &mut W,
@@ -115,8 +123,10 @@ fn answer<S: Service, W: Sink>(
     text: &mut Vec<u8>,
 ) -> Result<(), DeviceFailed>
     requires whole { IsWholeAt bytes.now parts.now }
-    requires len { vec_len text.old ≡ HEAD_ROOM }
-    requires room { vec_len text.old + REPLY_ROOM ≤ vec_capacity text.old }
+    requires head { HEAD_ROOM ≤ vec_len text.old }
+    requires room { HEAD_ROOM + REPLY_ROOM ≤ vec_capacity text.old }
+    ensures head { HEAD_ROOM ≤ vec_len text.new }
+    ensures room { HEAD_ROOM + REPLY_ROOM ≤ vec_capacity text.new }
     ensures ok { OnOk result ((out : List ℕ) × Appends (W.holds writer.old) (W.holds writer.new) out
         × Exchanges S.answers service.old bytes.now parts.now.closes out service.new (drop parts.now.end bytes.now)) }
     ensures err { OnErr result ((out : List ℕ) × Appends (W.holds writer.old) (W.holds writer.new) out
@@ -124,6 +134,7 @@ fn answer<S: Service, W: Sink>(
     ensures write { OnErr result (HasFailed (W.failed writer.old) (W.failed writer.new)) }
     ensures count { OnOk result (W.failed writer.new ≡ W.failed writer.old) }
 {
+    text.truncate(HEAD_ROOM);
     let method = parts.method.of(bytes);
     let target = parts.target.of(bytes);
     let body = &bytes[parts.body..parts.end];
@@ -158,40 +169,35 @@ fn answer_all<S: Service, W: Sink>(
     bytes: &[u8],
     room: &mut [HeaderSpan],
     text: &mut Vec<u8>,
-) -> Result<Option<usize>, StreamFault>
-    requires { MAX_HEAD ≤ length room.old }
+) -> Result<Option<usize>, DeviceFailed>
+    requires heads { MAX_HEAD ≤ length room.old }
+    requires head { HEAD_ROOM ≤ vec_len text.old }
+    requires room { HEAD_ROOM + REPLY_ROOM ≤ vec_capacity text.old }
+    ensures head { HEAD_ROOM ≤ vec_len text.new }
+    ensures room { HEAD_ROOM + REPLY_ROOM ≤ vec_capacity text.new }
     ensures open { IfOk result (λ found. IfSome found (λ at. (at ≤ length bytes.now) × IsUnfinished (drop at bytes.now)
         × ((out : List ℕ) × (n : ℕ) × Appends (W.holds writer.old) (W.holds writer.new) out
         × Serves S.answers n service.old bytes.now (drop at bytes.now) out service.new))) }
     ensures closed { result ≡ Ok None → (out : List ℕ) × Appends (W.holds writer.old) (W.holds writer.new) out
         × Ends S.answers service.old bytes.now out service.new }
-    ensures memory { result ≡ Err StreamFault.NoMemory → (out : List ℕ) × (rest : List ℕ) × (n : ℕ)
-        × Appends (W.holds writer.old) (W.holds writer.new) out
-        × Serves S.answers n service.old bytes.now rest out service.new }
     ensures err { OnErr result ((out : List ℕ) × Appends (W.holds writer.old) (W.holds writer.new) out
         × Stops S.answers service.old bytes.now out service.new) }
-    ensures write { result ≡ Err StreamFault.Write → HasFailed (W.failed writer.old) (W.failed writer.new) }
-    ensures read { result ≢ Err StreamFault.Read }
+    ensures write { OnErr result (HasFailed (W.failed writer.old) (W.failed writer.new)) }
     ensures count { OnOk result (W.failed writer.new ≡ W.failed writer.old) }
 {
     let mut at = 0;
     'requests: loop {
         let rest = &bytes[at..];
         match cut_request(rest, room) {
-            Cut::Whole(parts) => {
-                let Ok(()) = make_room(text) else {
-                    return Err(StreamFault::NoMemory);
-                };
-                match answer(service, writer, rest, &parts, text) {
-                    Ok(()) if parts.closes => return Ok(None),
-                    Ok(()) => at += parts.end,
-                    Err(_) => return Err(StreamFault::Write),
-                }
-            }
+            Cut::Whole(parts) => match answer(service, writer, rest, &parts, text) {
+                Ok(()) if parts.closes => return Ok(None),
+                Ok(()) => at += parts.end,
+                Err(failed) => return Err(failed),
+            },
             Cut::Refused(status) => {
                 return match refuse(writer, status) {
                     Ok(()) => Ok(None),
-                    Err(_) => Err(StreamFault::Write),
+                    Err(failed) => Err(failed),
                 };
             }
             Cut::Unfinished => return Ok(Some(at)),

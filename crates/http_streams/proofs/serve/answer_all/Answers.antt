@@ -3,16 +3,16 @@ use Rattle.std.proofs.lemmas.List.{drop-drop, take_rest}
 use Rattle.http_streams.specs.Request.{IsRefused}
 use Rattle.http_streams.specs.Stream.{Exchanges}
 use Rattle.std.proofs.KnownBytes.{Appends-nil, Appends-trans}
-use Rattle.http_streams.proofs.StreamLemmas.{Serves-none, Serves-push, Ends-after, Ends-now, Stops-after, Stops-from, Stops-now, Exchanges-at, Halts-at}
+use Rattle.http_streams.proofs.StreamLemmas.{Serves-none, Serves-push, Ends-after, Ends-now, Stops-after, Stops-now, Exchanges-at, Halts-at}
 use Rattle.http_streams.proofs.serve.answer_all.Goals as goal
 
 pub requests-init : goal.requests-init
-requests-init g c = (omega arith, ([], 0, Appends-nil _, Serves-none g.S.Service.answers _ _), refl)
+requests-init g c = (omega arith, ([], 0, Appends-nil _, Serves-none g.S.Service.answers _ _), refl, c.requires.head, c.requires.room)
 
-pub returns-in-Ok-answer-clause-closed : goal.returns-in-Ok-answer-clause-closed
-returns-in-Ok-answer-clause-closed g c _ =
+pub returns-in-Ok-clause-closed : goal.returns-in-Ok-clause-closed
+returns-in-Ok-clause-closed g c _ =
     let so_far = c.requests.invariant.1 in
-    let done = c.in-Ok-answer.ensures.ok in
+    let done = c.in-Ok.ensures.ok in
     let last = Exchanges-at g.S.Service.answers (take_rest c.args.bytes.now c.requests.at) c.if-parts.true done.2 in (
       so_far.0 ++ done.0,
       Appends-trans _ _ _ _ _ so_far.2 done.1,
@@ -25,14 +25,16 @@ requests-preserved g c =
     let at = c.requests.at in
     let end = c.in-Whole.parts.end in
     let so_far = c.requests.invariant.1 in
-    let done = c.in-Ok-answer.ensures.ok in
+    let done = c.in-Ok-2.ensures.ok in
     let next = Exchanges-at g.S.Service.answers (take_rest bytes at) c.if-parts.false done.2 in
     let rest = ap (drop end) (take_rest bytes at) ∙ drop-drop end at bytes in
     let last = subst (λ (t : List ℕ). Exchanges g.S.Service.answers c.requests.service (drop at bytes) false done.0 c.answer.new.service t) rest next in
     let all = Serves-push g.S.Service.answers so_far.1 _ _ _ _ _ _ _ _ so_far.3 last in (
       omega (arith, c.in-Whole.ensures.ordered.1, ap length (take_rest bytes at), length-drop at bytes, c.requests.invariant.0),
       (so_far.0 ++ done.0, all.0, Appends-trans _ _ _ _ _ so_far.2 done.1, all.1),
-      c.in-Ok-answer.ensures.count ∙ c.requests.invariant.2,
+      c.in-Ok-2.ensures.count ∙ c.requests.invariant.2,
+      c.in-Ok-2.ensures.head,
+      c.in-Ok-2.ensures.room,
     )
 
 pub returns-in-Err-clause-err : goal.returns-in-Err-clause-err
@@ -65,13 +67,3 @@ returns-in-Err-refuse-clause-err g c =
       Stops-after g.S.Service.answers so_far.1 _ _ _ _ _ _ _ so_far.3
           (Stops-now g.S.Service.answers _ _ _ _ (inr (inr (done.1, inr (c.in-Refused.status, refused, sym done.2, refl))))),
     )
-
-pub returns-in_default-clause-err : goal.returns-in_default-clause-err
-returns-in_default-clause-err g c =
-    let so_far = c.requests.invariant.1 in
-    (so_far.0, so_far.2, Stops-from g.S.Service.answers so_far.1 _ _ _ _ _ so_far.3)
-
-pub returns-in_default-clause-memory : goal.returns-in_default-clause-memory
-returns-in_default-clause-memory g c _ =
-    let so_far = c.requests.invariant.1 in
-    (so_far.0, drop c.requests.at c.args.bytes.now, so_far.1, so_far.2, so_far.3)

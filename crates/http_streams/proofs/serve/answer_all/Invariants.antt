@@ -1,5 +1,8 @@
-use Rattle.std.proofs.Common.{◌≡◌, ℕ, ◌-◌, ◌≤◌, List, length, drop}
+use Rattle.std.proofs.Common.{◌≡◌, ℕ, ◌+◌, ◌-◌, ◌≤◌, List, length, drop, vec_len}
 use Rattle.std.specs.Io.KnownBytes.{Appends}
+use Rattle.std.specs.Vec.{vec_capacity}
+use Rattle.http_streams.specs.declared.TheConstants.{REPLY_ROOM}
+use Rattle.http_streams.specs.declared.reply.TheConstants.{HEAD_ROOM}
 use Rattle.http_streams.specs.Stream.{Serves}
 use Rattle.http_streams.proofs.serve.answer_all.Given as goal
 
@@ -9,6 +12,8 @@ invariant-requests g l =
     × ((out : List ℕ) × (n : ℕ) × Appends (g.W.Sink.holds l.fn.writer) (g.W.Sink.holds l.writer) out
     × Serves g.S.Service.answers n l.fn.service l.bytes (drop l.at l.bytes) out l.service)
     × (g.W.Sink.failed l.writer ≡ g.W.Sink.failed l.fn.writer)
+    × (HEAD_ROOM ≤ vec_len l.text)
+    × (HEAD_ROOM + REPLY_ROOM ≤ vec_capacity l.text)
 
 abbrev pub decreases-requests : goal.decreases-requests
 decreases-requests g l = length l.bytes - l.at

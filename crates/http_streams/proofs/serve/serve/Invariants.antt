@@ -1,18 +1,24 @@
-use Rattle.std.proofs.Common.{◌≡◌, ℕ, ◌<◌, ◌≤◌, List, length, vec_len}
+use Rattle.std.proofs.Common.{◌≡◌, ℕ, ◌+◌, ◌<◌, ◌≤◌, List, length, vec_len}
 use Rattle.std.specs.Io.KnownBytes.{Appends, Consumes}
-use Rattle.http_streams.specs.declared.TheConstants.{MAX_HEAD}
+use Rattle.std.specs.Vec.{vec_capacity}
+use Rattle.http_streams.specs.declared.TheConstants.{MAX_HEAD, MAX_READ, REPLY_ROOM}
+use Rattle.http_streams.specs.declared.reply.TheConstants.{HEAD_ROOM}
 use Rattle.http_streams.specs.Stream.{IsSilent, Serves}
 use Rattle.http_streams.proofs.serve.serve.Given as goal
 
 abbrev pub invariant-loop-turn : goal.invariant-loop-turn
-invariant-loop-turn g l =
-    (MAX_HEAD ≤ vec_len l.room)
-    × IsSilent l.buffer.items
-    × (g.R.Source.failed l.reader ≡ g.R.Source.failed l.fn.reader)
-    × (g.W.Sink.failed l.writer ≡ g.W.Sink.failed l.fn.writer)
-    × ((bytes : List ℕ) × (out : List ℕ) × (n : ℕ)
-    × Consumes (g.R.Source.left l.fn.reader) (g.R.Source.left l.reader) bytes
-    × Appends (g.W.Sink.holds l.fn.writer) (g.W.Sink.holds l.writer) out
-    × Serves g.S.Service.answers n l.fn.service bytes l.buffer.items out l.service
-    × (l.turn ≤ length bytes))
-    × (0 < vec_len l.chunk)
+invariant-loop-turn g l = record {
+  heads : MAX_HEAD ≤ vec_len l.room;
+  some : 0 < vec_len l.chunk;
+  most : vec_len l.chunk ≤ MAX_READ;
+  head : HEAD_ROOM ≤ vec_len l.text;
+  room : HEAD_ROOM + REPLY_ROOM ≤ vec_capacity l.text;
+  silent : IsSilent l.buffer.items;
+  read_count : g.R.Source.failed l.reader ≡ g.R.Source.failed l.fn.reader;
+  write_count : g.W.Sink.failed l.writer ≡ g.W.Sink.failed l.fn.writer;
+  so_far : (bytes : List ℕ) × (out : List ℕ) × (n : ℕ)
+      × Consumes (g.R.Source.left l.fn.reader) (g.R.Source.left l.reader) bytes
+      × Appends (g.W.Sink.holds l.fn.writer) (g.W.Sink.holds l.writer) out
+      × Serves g.S.Service.answers n l.fn.service bytes l.buffer.items out l.service
+      × (l.turn ≤ length bytes);
+}

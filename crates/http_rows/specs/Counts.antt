@@ -1,0 +1,16 @@
+-- What the program's service answers (a rule of this program).
+use Rattle.std.specs.Prelude.{◌≡◌, ℕ, ◌+◌, ◌-◌, ◌^◌, ◌⊎◌, min, List, [], ◌∷◌}
+use Rattle.http_rows.specs.declared.serving.Counter.{Counter}
+use Rattle.http_streams.specs.declared.status.Status.{Status}
+use Rattle.http_streams.specs.declared.status.Status.TheVariants as Statuses
+
+-- the body, or the target where there is none
+abbrev pub said : List ℕ → List ℕ → List ℕ
+said target [] = target
+said target (b ∷ body) = b ∷ body
+
+-- each request is counted, and answered by what it says, or by 503
+abbrev pub counts : Counter → List ℕ → List ℕ → List ℕ → Status → List ℕ → Counter → Type 0
+counts old method target body status reply new =
+    (new.requests ≡ min (old.requests + 1) (2 ^ 64 - 1))
+    × ((status ≡ Statuses.ServiceUnavailable) ⊎ ((status ≡ Statuses.Ok) × (reply ≡ said target body)))
