@@ -7,8 +7,12 @@ top=$(cd "$(dirname "${BASH_SOURCE[0]}")/.." && pwd)
 program=${PROGRAM:-$top/crates/bench/out/bench}
 [ -x "$program" ] || (cd "$top/crates/bench" && rt run >/dev/null)
 
+collected() {
+    sed -n 's/.*Collected *: *\([0-9]*\).*/\1/p'
+}
+
 instructions() {
-    valgrind --tool=callgrind --callgrind-out-file=/dev/null "$program" "$1" 2>&1 >/dev/null | sed -n 's/.*Collected *: *\([0-9]*\).*/\1/p'
+    valgrind --tool=callgrind --callgrind-out-file=/dev/null "$program" "$1" 2>&1 >/dev/null | collected
 }
 
 memory() {

@@ -16,37 +16,12 @@ trap 'rm -rf "$folder"' EXIT
 sizes=("$@")
 [ ${#sizes[@]} -gt 0 ] || sizes=("10 1000" "1000 1000" "100000 1000" "10 100000" "1000 100000" "100000 100000")
 
-make_inputs() {
-    python3 - "$folder" "$1" "$2" <<'P'
-import json, os, sys
-condition = os.environ.get('CONDITION', '')
-folder, policies, entities = sys.argv[1], int(sys.argv[2]), int(sys.argv[3])
-with open(folder + '/policies.cedar', 'w') as out:
-    for n in range(policies):
-        effect = 'forbid' if n % 7 == 3 else 'permit'
-        part = f'principal in Group::"g{n % 100}"' if n % 10 == 0 else f'principal == User::"u{n}"'
-        if condition:
-            out.write(f'{effect}(principal, action, resource) when {{ {condition} }};\n')
-        else:
-            out.write(f'{effect}({part}, action == Action::"view", resource);\n')
-groups = max(1, entities // 10)
-def uid(kind, n):
-    return {'type': kind, 'id': f'{"g" if kind == "Group" else "u"}{n}'}
-with open(folder + '/entities.json', 'w') as out:
-    stored = [{'uid': uid('Group', n), 'parents': [uid('Group', n // 2)] if n else []} for n in range(groups)]
-    stored += [{'uid': uid('User', n), 'parents': [uid('Group', n % groups)]} for n in range(entities - groups)]
-    json.dump(stored, out)
-with open(folder + '/request.json', 'w') as out:
-    json.dump({'principal': 'User::"u5"', 'action': 'Action::"view"', 'resource': 'Doc::"d"'}, out)
-P
-}
-
 cost=seconds
 [ -z "${INSTRUCTIONS:-}" ] || cost=millions
 printf '%9s %9s %10s %10s %9s %9s  %s\n' policies entities MB-pol MB-ent "$cost" MB-peak answer
 for size in "${sizes[@]}"; do
     read -r policies entities <<<"$size"
-    make_inputs "$policies" "$entities"
+    python3 "$top/bench/inputs.py" "$folder" "$policies" "$entities"
     words=("$program" decide --policies "$folder/policies.cedar" --entities "$folder/entities.json" --request "$folder/request.json")
     /usr/bin/time -o "$folder/time" -f '%e %M' "${words[@]}" >"$folder/answer" 2>&1 || true
     read -r seconds memory < <(tail -1 "$folder/time")

@@ -95,7 +95,7 @@ class Progress:
             if crate not in self.began and os.path.isdir(f"{self.room}/crates/{crate}/out"):
                 self.began[crate] = now
         going = [f"{it} ({minutes(now - self.began[it])})" for it in self.began if it not in self.proved]
-        text = f"{len(self.proved)} of {len(self.crates)} crates proved; at work: {', '.join(going) or 'nothing yet'}"
+        text = f"{len(self.proved)} of {len(self.crates)} crates proved; at work: {', '.join(going) or 'the next one'}"
         if text != self.last:
             print(f"  {minutes(now - self.start):>6}  {text}", file=sys.stderr, flush=True)
             self.last = text

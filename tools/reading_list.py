@@ -3,7 +3,7 @@
 
     tools/reading_list.py [--names] [--check FILE] [CRATE MODULE NAME ..]
 
-Without words it starts at the contract of the program, `cedar_site::run::run`. It walks names: from those that the contract cites to those that their
+Without words it starts at the contract of the program's runs, `site_commands::run`. It walks names: from those that the contract cites to those that their
 definitions cite, over the `use` lines of specs/, and leaves out what no definition on the way names (lemmas, helpers of proofs). A file counts with the
 lines of those of its definitions that are reached, and of the comments above them. Types that are declared in code count with their file.
 With --names it prints the reached names of each file; --check FILE compares the list with the one that stands in a document between the lines
@@ -14,7 +14,7 @@ import re
 import sys
 
 TOP = os.path.dirname(os.path.dirname(os.path.abspath(__file__)))
-START = ("cedar_site", ["Runs", "IsRun"])
+START = ("site_commands", ["Runs", "IsRun"])
 HEAD = re.compile(r"^(?:(?:abbrev|unfoldable|opaque|pub|data|record|mutual|infixl|infixr|infix)\s+)*(?:\d+\s+)?([^\s:(){},=]+)")
 WORD = re.compile(r"[^\s(){}\[\],;.]+")
 

@@ -1,5 +1,6 @@
-//! A hierarchy of a shape, asked one question. KIND is `SHAPE-QUESTION`: a `chain`, a `tree` of 16 children each, `layers` of ten entities that
-//! each have the ten of the next layer as parents, or one `cycle`; `ancestors`, `is_ancestor` or `cyclic`.
+//! A hierarchy of a shape, asked one question. KIND is `SHAPE-QUESTION`: a `chain`, a `tree` of 16 children each,
+//! `layers` of ten entities that each have the ten of the next layer as parents, or one `cycle`; `ancestors`,
+//! `is_ancestor` or `cyclic`.
 use ancestor_closure::{Ancestry, Hierarchy, Searched};
 use plain::{NoMemory, Text};
 use std::alloc::{AllocError, Global};
@@ -43,32 +44,46 @@ fn fill(alloc: Global, hierarchy: &mut Searched, shape: &str, size: u32) -> Resu
     Ok(())
 }
 
-// How many entities the answer names.
-fn asked(
-    alloc: Global,
+fn above(hierarchy: &Searched, uid: &EntityUid) -> Result<usize, NoMemory> {
+    let found = hierarchy.ancestors(uid)?;
+    Ok(found.len())
+}
+
+fn on_cycles(hierarchy: &Searched) -> Result<usize, NoMemory> {
+    let found = hierarchy.cyclic()?;
+    Ok(found.len())
+}
+
+// How many entities the answer names; none where memory is refused.
+fn asked(hierarchy: &Searched, question: &str, first: &EntityUid, last: &EntityUid) -> usize {
+    match question {
+        "cyclic" => on_cycles(hierarchy).unwrap_or(0),
+        "ancestors" => above(hierarchy, first).unwrap_or(0),
+        _ => usize::from(hierarchy.is_ancestor(last, first).unwrap_or(false)),
+    }
+}
+
+fn all_asked(
     hierarchy: &Searched,
     question: &str,
-    size: u32,
-) -> Result<usize, NoMemory> {
-    let first = entity(alloc, 0)?;
-    match question {
-        "cyclic" => Ok(hierarchy.cyclic()?.len()),
-        "ancestors" => Ok(hierarchy.ancestors(&first)?.len()),
-        _ => {
-            let last = entity(alloc, size.saturating_sub(1))?;
-            Ok(usize::from(hierarchy.is_ancestor(&last, &first)?))
-        }
+    first: &EntityUid,
+    last: &EntityUid,
+    times: u32,
+) -> usize {
+    let mut count: usize = 0;
+    for _ in 0..times {
+        count = count.saturating_add(asked(hierarchy, question, first, last));
     }
+    count
 }
 
 /// How many entities all answers name.
 pub fn named(alloc: Global, kind: &str, size: u32, times: u32) -> Result<u32, NoMemory> {
     let (shape, question) = kind.split_once('-').unwrap_or((kind, ""));
+    let first = entity(alloc, 0)?;
+    let last = entity(alloc, size.saturating_sub(1))?;
     let mut hierarchy = Searched::new(alloc);
     fill(alloc, &mut hierarchy, shape, size)?;
-    let mut count: usize = 0;
-    for _ in 0..times {
-        count = count.saturating_add(asked(alloc, &hierarchy, question, size)?);
-    }
+    let count = all_asked(&hierarchy, question, &first, &last, times);
     Ok(u32::try_from(count).unwrap_or(u32::MAX))
 }

@@ -1,10 +1,10 @@
 //! Work of one crate at a given size, for the scripts under `bench/`, which count what it costs.
 //!
-//! Each argument is `CRATE/KIND/SIZE/TIMES`, and for each the program prints it and a number that the work comes to. TIMES is how often the
-//! crate is asked: 0 makes what is asked about and no more, so that the difference is the asking's own.
+//! Each argument is `CRATE/KIND/SIZE/TIMES`, and for each the program prints it and a number that the work comes to.
+//! TIMES is how often the crate is asked: 0 makes what is asked about and no more, so that the difference is the
+//! asking's own.
 #![tactic(auto)]
 
-mod conditions;
 mod hierarchies;
 mod policies;
 mod sets;
@@ -30,7 +30,6 @@ fn counted(alloc: Global, measure: &str) -> Result<u32, NoMemory> {
         "ancestor_closure" => hierarchies::named(alloc, kind, size, times),
         "stamped_store" => stores::counted(alloc, kind, size, times),
         "policy_grammar" => policies::read(alloc, kind, size, times),
-        "evaluator" => conditions::held(alloc, kind, size, times),
         _ => Ok(0),
     }
 }

@@ -1,36 +1,37 @@
-//! A file of policies. KIND is `policies` (with scopes), `named` (each with an `@id` and another annotation), `conditions` (with comments and
-//! conditions), `actions` (one policy whose head lists so many), `annotations` (one policy with so many), or a text of which the lexer has the
-//! most work: `string`, `escapes`, `comment`, `comments`, `colons`, `word`, `words`, `number`, `blanks`, `unclosed`.
+//! A file of policies. KIND is `policies` (with scopes), `named` (each with an `@id` and another annotation),
+//! `conditions` (with comments and conditions), `actions` (one policy whose head lists so many), `annotations` (one
+//! policy with so many), or a text of which the lexer has the most work: `string`, `escapes`, `comment`, `comments`,
+//! `colons`, `word`, `words`, `number`, `blanks`, `unclosed`.
 use plain::NoMemory;
 use policy_grammar::parse_policies;
 use std::alloc::Global;
 
-const POLICY: &str =
-    "permit(principal in Group::\"staff\", action == Action::\"view\", resource is Document);\n";
+const POLICIES: &str =
+    "¦permit(principal in Group::\"staff\", action == Action::\"view\", resource is Document);\n¦";
+
+const ANNOTATIONS: &str =
+    "¦¦permit(principal in Group::\"staff\", action == Action::\"view\", resource is Document);\n";
 
 const CONDITIONS: &str =
-    "// Staff may see what is not private.\npermit(principal, action, resource) when { resource.owner == principal || context.level >= 42 && !(resource.name like \"a\\*b*\") }\nunless { resource has \"private\" && resource.tags.contains(\"caf\\u{e9}\") };\n";
+    "¦// Staff may see what is not private.\npermit(principal, action, resource) when { resource.owner == principal || context.level >= 42 && !(resource.name like \"a\\*b*\") }\nunless { resource has \"private\" && resource.tags.contains(\"caf\\u{e9}\") };\n¦";
 
-/// What stands before, what is repeated, and what stands behind.
-fn parts_of(kind: &str) -> (&'static str, &'static str, &'static str) {
+/// What stands before, what is repeated, and what stands behind, with `¦` between.
+fn parts_of(kind: &str) -> &'static str {
     match kind {
-        "conditions" => ("", CONDITIONS, ""),
-        "actions" => (
-            "permit(principal, action in [A::\"\"",
-            ",A::\"\"",
-            "], resource);",
-        ),
-        "string" => ("\"", "a", "\""),
-        "escapes" => ("\"", "\\u{10ffff}", "\""),
-        "comment" => ("//", "a", ""),
-        "comments" => ("", "//\n", ""),
-        "colons" => ("", ":", ""),
-        "word" => ("", "a", ""),
-        "words" => ("", "a ", ""),
-        "number" => ("", "1", ""),
-        "blanks" => ("", "\u{3000}", ""),
-        "unclosed" => ("\"", "a", ""),
-        _ => ("", POLICY, ""),
+        "conditions" => CONDITIONS,
+        "actions" => "permit(principal, action in [A::\"\"¦,A::\"\"¦], resource);",
+        "string" => "\"¦a¦\"",
+        "escapes" => "\"¦\\u{10ffff}¦\"",
+        "comment" => "//¦a¦",
+        "comments" => "¦//\n¦",
+        "colons" => "¦:¦",
+        "word" => "¦a¦",
+        "words" => "¦a ¦",
+        "number" => "¦1¦",
+        "blanks" => "¦\u{3000}¦",
+        "unclosed" => "\"¦a¦",
+        "annotations" => ANNOTATIONS,
+        _ => POLICIES,
     }
 }
 
@@ -47,19 +48,14 @@ fn push_numbered(alloc: Global, text: &mut String, kind: &str, place: u32) -> Re
 }
 
 fn push_text(alloc: Global, text: &mut String, kind: &str, count: u32) -> Result<(), NoMemory> {
-    let (before, part, behind) = parts_of(kind);
+    let (before, rest) = parts_of(kind).split_once('¦').unwrap_or(("", ""));
+    let (part, behind) = rest.split_once('¦').unwrap_or(("", ""));
     text.push_str(before)?;
     for place in 0..count {
         push_numbered(alloc, text, kind, place)?;
-        if kind != "annotations" {
-            text.push_str(part)?;
-        }
+        text.push_str(part)?;
     }
-    text.push_str(if kind == "annotations" {
-        POLICY
-    } else {
-        behind
-    })
+    text.push_str(behind)
 }
 
 /// How many policies all readings find; a refusal counts as its number.

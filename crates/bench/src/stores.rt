@@ -1,5 +1,5 @@
-//! A store of so many policies. KIND is `fill` (one store alone), `two` (two stores), `merge` (two, the second merged into the first), `get` (each name
-//! looked up), `below` (compared with the second) or `iter` (gone over).
+//! A store of so many policies. KIND is `fill` (one store alone), `two` (two stores), `merge` (two, the second merged
+//! into the first), `get` (each name looked up), `below` (compared with the second) or `iter` (gone over).
 use plain::{NoMemory, Text};
 use stamped_store::{Entry, PolicyStore, ReadText, Stamp};
 use std::alloc::{AllocError, Global};
@@ -9,7 +9,7 @@ type Policies = PolicyStore<u32, u32>;
 /// The id of a policy: numbers are spread so that ids come in no order.
 fn id_of(alloc: Global, number: u32) -> Result<String, NoMemory> {
     let spread = u64::from(number).wrapping_mul(0x9E37_79B9_7F4A_7C15);
-    format!(in alloc; "policy{spread:x}")
+    format!(in alloc; "policy{spread}")
 }
 
 fn put(alloc: Global, store: &mut Policies, number: u32, count: u64) -> Result<(), NoMemory> {

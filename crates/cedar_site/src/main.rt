@@ -1,15 +1,7 @@
 //! The program: one request, decided over a file of policies and a file of entities.
 #![tactic(auto)]
 
-mod host;
-mod line;
-mod report;
-mod run;
-mod stream;
-
-use crate::host::SystemHost;
-use crate::report::FAILED;
-use crate::run::run;
+use site_commands::{FAILED, SystemHost, run};
 use std::env;
 use std::process::ExitCode;
 

@@ -11,7 +11,7 @@ use ancestor_closure::{Ancestry, Searched};
 use evaluator::{EvalFault, Given, Lookup, evaluate};
 use extensions::IpNet;
 use plain::{NoMemory, Text};
-use policy_grammar::parse_policy;
+use policy_grammar::{Policy, parse_policy};
 use std::alloc::{AllocError, Global};
 use std::collections::BTreeMap;
 use values::{EntityUid, Record, Request, TypeName, Value};
@@ -22,7 +22,8 @@ struct Site {
     hierarchy: Searched,
     attributes: BTreeMap<EntityUid, Record>,
     // One that is not stored has no parents.
-    ghost alone: { (uid : EntityUid) → get uid_cmp attributes uid ≡ None → searched.parents-value.it hierarchy uid ≡ [] },
+    ghost alone: { (uid : EntityUid) → get uid_cmp attributes uid ≡ None
+        → searched.parents-value.it hierarchy uid ≡ [] },
 }
 
 impl Ancestry for Site {
@@ -110,21 +111,58 @@ fn stored(alloc: Global) -> Result<Site, NoMemory> {
     Ok(site)
 }
 
-fn context(alloc: Global) -> Result<Record, NoMemory> {
-    let mut context = Record::new(alloc);
+/// A set of Alice and nine more users.
+fn friends(alloc: Global) -> Result<Value, NoMemory> {
+    let mut friends = Vec::new(alloc);
+    friends.push(Value::entity(uid(alloc, "User", "alice")?))?;
+    for number in 0..9 {
+        let id = format!(in alloc; "user {number}")?;
+        friends.push(Value::entity(uid(alloc, "User", id.as_str())?))?;
+    }
+    Value::set(friends)
+}
+
+fn put_text(alloc: Global, fields: &mut Record, number: u32) -> Result<(), NoMemory> {
+    let name = format!(in alloc; "text {number}")?;
+    let value = Value::text(Text::from_str(alloc, name.as_str())?);
+    put(alloc, fields, name.as_str(), value)
+}
+
+fn fill_context(alloc: Global, fields: &mut Record, texts: u32) -> Result<(), NoMemory> {
     match IpNet::parse("10.1.2.3") {
-        Some(source) => put(alloc, &mut context, "src", Value::ipaddr(source))?,
+        Some(source) => put(alloc, fields, "src", Value::ipaddr(source))?,
         None => return Err(AllocError),
     }
+    put(alloc, fields, "a", Value::long(1))?;
+    put(alloc, fields, "friends", friends(alloc)?)?;
+    for number in 0..texts {
+        put_text(alloc, fields, number)?;
+    }
+    Ok(())
+}
+
+/// Where the request comes from, the number 1, ten friends, and so many texts.
+fn context(alloc: Global, texts: u32) -> Result<Record, NoMemory> {
+    let mut context = Record::new(alloc);
+    fill_context(alloc, &mut context, texts)?;
     Ok(context)
 }
 
-/// Alice would view document d, from 10.1.2.3.
-fn request(alloc: Global) -> Result<Request, NoMemory> {
+// Generic, so that what waits for what is read next is one step of the proof.
+fn beside<A: Drop, B>(kept: A, read: Result<B, NoMemory>) -> Result<(A, B), NoMemory> {
+    match read {
+        Ok(read) => Ok((kept, read)),
+        Err(fault) => Err(fault),
+    }
+}
+
+/// Alice would view document d, with so many texts in the context.
+fn request(alloc: Global, texts: u32) -> Result<Request, NoMemory> {
     let principal = uid(alloc, "User", "alice")?;
-    let action = uid(alloc, "Action", "view")?;
-    let resource = uid(alloc, "Doc", "d")?;
-    let context = context(alloc)?;
+    let (principal, action) = beside(principal, uid(alloc, "Action", "view"))?;
+    let (named, resource) = beside((principal, action), uid(alloc, "Doc", "d"))?;
+    let ((named, resource), context) = beside((named, resource), context(alloc, texts))?;
+    let (principal, action) = named;
     Ok(Request {
         principal,
         action,
@@ -148,18 +186,69 @@ fn told(found: &Result<Given<'_>, EvalFault>) -> &'static str {
     }
 }
 
-/// What the condition of a policy gives, in a word.
-fn given(alloc: Global, policy: &str, request: &Request, site: &Site) -> &'static str {
-    match parse_policy(alloc, policy) {
-        Ok(policy) => told(&evaluate(alloc, &policy.condition, request, site)),
-        Err(_) => "no condition",
+/// What the condition gives, in a word, the last of so many times.
+fn last_told(
+    alloc: Global,
+    policy: &Policy,
+    request: &Request,
+    site: &Site,
+    times: u32,
+) -> &'static str {
+    let mut word = "not asked";
+    for _ in 0..times {
+        word = told(&evaluate(alloc, &policy.condition, request, site));
     }
+    word
+}
+
+/// What the condition of a policy gives, in a word.
+fn given(alloc: Global, policy: &str, request: &Request, site: &Site, times: u32) -> &'static str {
+    let read = parse_policy(alloc, policy);
+    let word = match &read {
+        Ok(policy) => last_told(alloc, policy, request, site, times),
+        Err(_) => "no condition",
+    };
+    drop(read);
+    word
+}
+
+fn over_site(
+    alloc: Global,
+    policy: &str,
+    request: &Request,
+    times: u32,
+) -> Result<&'static str, NoMemory> {
+    let site = stored(alloc)?;
+    Ok(given(alloc, policy, request, &site, times))
+}
+
+fn over_request(
+    alloc: Global,
+    policy: &str,
+    texts: u32,
+    times: u32,
+) -> Result<&'static str, NoMemory> {
+    let request = request(alloc, texts)?;
+    over_site(alloc, policy, &request, times)
+}
+
+fn asked(alloc: Global, condition: &str, texts: u32, times: u32) -> Result<&'static str, NoMemory> {
+    let policy = policy_when(alloc, condition)?;
+    over_request(alloc, policy.as_str(), texts, times)
 }
 
 /// What a condition gives over these entities.
 pub fn attributes(alloc: Global, condition: &str) -> Result<String, NoMemory> {
-    let policy = policy_when(alloc, condition)?;
-    let request = request(alloc)?;
-    let site = stored(alloc)?;
-    String::from_str(alloc, given(alloc, policy.as_str(), &request, &site))
+    let word = asked(alloc, condition, 0, 1)?;
+    String::from_str(alloc, word)
+}
+
+/// What a condition gives that is asked so often, with so many texts in the context: `TIMES TEXTS CONDITION`.
+pub fn repeated(alloc: Global, written: &str) -> Result<String, NoMemory> {
+    let (times, rest) = written.split_once(' ').unwrap_or((written, ""));
+    let (texts, condition) = rest.split_once(' ').unwrap_or((rest, ""));
+    let times = times.parse::<u32>().unwrap_or(0);
+    let texts = texts.parse::<u32>().unwrap_or(0);
+    let word = asked(alloc, condition, texts, times)?;
+    String::from_str(alloc, word)
 }

@@ -48,7 +48,7 @@ pub fn text_of(alloc: Global, bytes: &[u8]) -> Result<String, NoMemory> {
 }
 
 /// A text within quotes, with what JSON escapes.
-fn quoted(alloc: Global, content: &str) -> Result<String, NoMemory> {
+pub fn quoted(alloc: Global, content: &str) -> Result<String, NoMemory> {
     let value = Value::String(String::from_str(alloc, content)?);
     let bytes = write_json(alloc, &value)?;
     text_of(alloc, &bytes)
@@ -68,10 +68,18 @@ fn uid(alloc: Global, text: &str) -> Result<String, NoMemory> {
     }
 }
 
+// Generic, so that what is let go is one step of the proof.
+fn fault_of<T: Drop>(read: Result<T, ReadFault>) -> Option<ReadFault> {
+    match read {
+        Ok(_) => None,
+        Err(fault) => Some(fault),
+    }
+}
+
 fn policy(alloc: Global, text: &str) -> Result<String, NoMemory> {
-    match parse_policy(alloc, text) {
-        Ok(_) => String::from_str(alloc, "ok"),
-        Err(fault) => refused(alloc, fault),
+    match fault_of(parse_policy(alloc, text)) {
+        None => String::from_str(alloc, "ok"),
+        Some(fault) => refused(alloc, fault),
     }
 }
 

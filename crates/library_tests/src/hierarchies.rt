@@ -50,13 +50,28 @@ fn push_ids(all: &mut String, found: &[&EntityUid]) -> Result<(), NoMemory> {
     Ok(())
 }
 
+fn push_above(
+    alloc: Global,
+    hierarchy: &Searched,
+    all: &mut String,
+    id: &str,
+) -> Result<(), NoMemory> {
+    let uid = entity(alloc, id)?;
+    let found = hierarchy.ancestors(&uid)?;
+    push_ids(all, &found)
+}
+
+fn push_cyclic(hierarchy: &Searched, all: &mut String) -> Result<(), NoMemory> {
+    all.push_str("| ")?;
+    let found = hierarchy.cyclic()?;
+    push_ids(all, &found)
+}
+
 // The entities above one, and behind a bar those on cycles.
 fn shown(alloc: Global, hierarchy: &Searched, id: &str) -> Result<String, NoMemory> {
     let mut all = String::new(alloc);
-    let uid = entity(alloc, id)?;
-    push_ids(&mut all, &hierarchy.ancestors(&uid)?)?;
-    all.push_str("| ")?;
-    push_ids(&mut all, &hierarchy.cyclic()?)?;
+    push_above(alloc, hierarchy, &mut all, id)?;
+    push_cyclic(hierarchy, &mut all)?;
     Ok(all)
 }
 
@@ -139,13 +154,26 @@ fn asked(alloc: Global, hierarchy: &Searched, row: &str) -> Result<(bool, bool),
     Ok((above, cycle))
 }
 
-fn answers(rt: &impl Abort, alloc: Global, hierarchy: &Searched) -> Result<(), NoMemory> {
-    assert!(rt; asked(alloc, hierarchy, "g2 u")? == (true, true));
-    assert!(rt; asked(alloc, hierarchy, "g1 u")? == (true, true));
-    assert!(rt; asked(alloc, hierarchy, "u g2")? == (false, false));
-    assert!(rt; asked(alloc, hierarchy, "g2 w")? == (false, false));
-    assert!(rt; asked(alloc, hierarchy, "u u")? == (false, true));
+fn is_answered(
+    rt: &impl Abort,
+    alloc: Global,
+    hierarchy: &Searched,
+    row: &str,
+    expected: (bool, bool),
+) -> Result<(), NoMemory> {
+    let found = asked(alloc, hierarchy, row)?;
+    assert!(rt; found == expected, "{row}");
     Ok(())
+}
+
+fn answers(rt: &impl Abort, alloc: Global, hierarchy: &Searched) -> Result<(), NoMemory> {
+    for row in ["g2 u", "g1 u"] {
+        is_answered(rt, alloc, hierarchy, row, (true, true))?;
+    }
+    for row in ["u g2", "g2 w"] {
+        is_answered(rt, alloc, hierarchy, row, (false, false))?;
+    }
+    is_answered(rt, alloc, hierarchy, "u u", (false, true))
 }
 
 // Of u below g1, g1 below g2.

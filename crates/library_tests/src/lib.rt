@@ -1,9 +1,7 @@
-//! Calls of the libraries by value, which no row of text can say: memory that is refused, orders, copies, hierarchies and stores that change.
-//! Tests alone: a crate that has tests of its own is proved twice by the gate.
+//! Calls of the libraries by value, which no row of text can say: memory that is refused, orders, copies, hierarchies
+//! and stores that change. Tests alone: a crate that has tests of its own is proved twice by the gate.
 #![tactic(auto)]
 
-#[cfg(test)]
-mod core_forms;
 #[cfg(test)]
 mod extension_texts;
 #[cfg(test)]

@@ -33,14 +33,6 @@ fn copies_names(rt: HostRuntime) -> Result<(), NoMemory> {
     is_name_copied(&rt, &policy(rt.alloc(), "zebra")?)
 }
 
-#[test]
-fn compares_names(rt: HostRuntime) -> Result<(), NoMemory> {
-    let alice = entity(rt.alloc(), "alice")?;
-    assert!(rt; alice < entity(rt.alloc(), "bob")?);
-    assert!(rt; policy(rt.alloc(), "zebra")? < alice);
-    Ok(())
-}
-
 fn text(alloc: Global, content: &str) -> Result<Value, NoMemory> {
     Ok(Value::text(Text::from_str(alloc, content)?))
 }
@@ -122,14 +114,22 @@ fn copied(value: &Value, alloc: Global) -> Result<Value, NoMemory> {
     }
 }
 
-// A value is equal to its copy, and below the next one.
+fn is_copied(rt: &impl Abort, alloc: Global, value: &Value) -> Result<(), NoMemory> {
+    let copy = copied(value, alloc)?;
+    assert!(rt; copy == *value);
+    Ok(())
+}
+
+fn is_below(rt: &impl Abort, alloc: Global, value: &Value, place: u8) -> Result<(), NoMemory> {
+    let next = value_had(alloc, place)?;
+    assert!(rt; *value < next && *value != next);
+    is_copied(rt, alloc, &next)
+}
+
+// A value is below the next one, which is equal to its copy.
 fn is_below_the_next(rt: &impl Abort, alloc: Global, place: u8) -> Result<(), NoMemory> {
     let value = value_had(alloc, place)?;
-    let copy = copied(&value, alloc)?;
-    assert!(rt; copy == value, "{place}");
-    let next = value_had(alloc, place.saturating_add(1))?;
-    assert!(rt; value < next && value != next, "{place}");
-    Ok(())
+    is_below(rt, alloc, &value, place.saturating_add(1))
 }
 
 // Whichever allocation is refused, once: each value stays as it was, and its copy is had at the second try.
@@ -160,13 +160,21 @@ fn request_copied(request: &Request, alloc: Global) -> Result<Request, NoMemory>
     }
 }
 
+fn is_request_copied(rt: &impl Abort, alloc: Global, request: &Request) -> Result<(), NoMemory> {
+    let copy = request_copied(request, alloc)?;
+    assert!(rt; copy == *request);
+    Ok(())
+}
+
+fn request_had(alloc: Global) -> Result<Request, NoMemory> {
+    match asked(alloc) {
+        Ok(request) => Ok(request),
+        Err(_) => asked(alloc),
+    }
+}
+
 #[test]
 fn requests_are_copied_under_refused_memory(rt: HostRuntime) -> Result<(), NoMemory> {
-    let request = match asked(rt.alloc()) {
-        Ok(request) => request,
-        Err(_) => asked(rt.alloc())?,
-    };
-    let copy = request_copied(&request, rt.alloc())?;
-    assert!(rt; copy == request);
-    Ok(())
+    let request = request_had(rt.alloc())?;
+    is_request_copied(&rt, rt.alloc(), &request)
 }

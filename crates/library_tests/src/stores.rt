@@ -1,7 +1,6 @@
 use plain::{NoMemory, Text};
-use stamped_store::{Entry, Join, PolicyStore, ReadText, Stamp, Stamped, laws};
+use stamped_store::{Entry, PolicyStore, ReadText, Stamp, Stamped, laws};
 use std::alloc::{AllocError, Global};
-use std::cmp::Ordering;
 use std::process::Abort;
 use values::{EntityUid, TypeName};
 
@@ -164,7 +163,8 @@ fn joined_entities(store: &Store, uids: &[EntityUid]) -> usize {
     joined
 }
 
-// Of a store whose entries have count 1, where one of three policies and two entities with count 9 was merged: exactly the entries of the first names are joined.
+// Of a store whose entries have count 1, where one of three policies and two entities with count 9 was merged: exactly
+// the entries of the first names are joined.
 fn is_joined_up_to(rt: &impl Abort, store: &Store, uids: &[EntityUid], taken: usize) {
     let policies = joined_policies(store);
     assert!(rt; policies == taken.min(3));
@@ -187,7 +187,8 @@ fn merge_five(
     Ok(())
 }
 
-// Where memory is refused in a merge, exactly the entries of the first names are joined. A refusal before that ends the test.
+// Where memory is refused in a merge, exactly the entries of the first names are joined. A refusal before that ends the
+// test.
 fn merged(rt: &impl Abort, alloc: Global, policies: &str, entities: &str) -> Result<(), NoMemory> {
     let uids = [uid(alloc, "x")?, uid(alloc, "y")?];
     let mut store = filled(alloc, (1, 1, PERMIT), policies, entities)?;
@@ -272,18 +273,6 @@ fn a_map_joins_its_values(rt: HostRuntime) -> Result<(), NoMemory> {
     assert!(rt; !right.below(&left));
     assert!(rt; left.merge(right).is_ok());
     has_both(&rt, &left, &q);
-    Ok(())
-}
-
-#[test]
-fn entries_are_ordered(rt: HostRuntime) -> Result<(), NoMemory> {
-    let less = entry(rt.alloc(), (7, 3, FORBID))?;
-    let mut joined = entry(rt.alloc(), (7, 3, ""))?;
-    assert!(rt; joined.partial_cmp(&less) == Some(Ordering::Less));
-    assert!(rt; joined != less);
-    assert!(rt; joined.below(&less));
-    joined.join(less);
-    assert!(rt; text_of(&joined) == FORBID);
     Ok(())
 }
 

@@ -1,0 +1,48 @@
+-- Want of memory among the refusals.
+use Rattle.std.proofs.Common.{◌≡◌, ◌⊎◌, inl, inr, ℕ, zero, suc, List, Option, None, Some, refl}
+use Rattle.decision_texts.specs.declared.refusal.Refusal.{Refusal}
+use Rattle.decision_texts.specs.Refusals.{no_memory}
+use Rattle.decision_texts.specs.Decisions.{IsRefused}
+use Rattle.site_commands.specs.Events.{Event}
+use Rattle.site_commands.specs.Reports.{IsRefusalTold, IsMemoryTold}
+use Rattle.site_commands.specs.Runs.{IsJudged}
+
+one_or : (n : ℕ) → (n ≡ 1) ⊎ (n ≡ 1 → ⊥)
+one_or zero = inr (λ e. absurd cc)
+one_or (suc zero) = inl refl
+one_or (suc (suc n)) = inr (λ e. absurd cc)
+
+none_or : (o : Option ℕ) → (o ≡ None) ⊎ (o ≡ None → ⊥)
+none_or None = inl refl
+none_or (Some n) = inr (λ e. absurd cc)
+
+made_of : (r : Refusal) → r.code ≡ 1 → r.place ≡ None → r.within ≡ None → r ≡ no_memory
+made_of r c p w = λ i. record { code = c i; place = p i; within = w i }
+
+by_parts : (r : Refusal) → (r.code ≡ 1) ⊎ (r.code ≡ 1 → ⊥) → (r.place ≡ None) ⊎ (r.place ≡ None → ⊥) → (r.within ≡ None) ⊎ (r.within ≡ None → ⊥)
+    → (r ≡ no_memory) ⊎ (r ≡ no_memory → ⊥)
+by_parts r (inr c) p w = inr (λ e. c (λ i. (e i).code))
+by_parts r (inl c) (inr p) w = inr (λ e. p (λ i. (e i).place))
+by_parts r (inl c) (inl p) (inr w) = inr (λ e. w (λ i. (e i).within))
+by_parts r (inl c) (inl p) (inl w) = inl (made_of r c p w)
+
+-- a refusal is want of memory, or another
+is_no_memory : (r : Refusal) → (r ≡ no_memory) ⊎ (r ≡ no_memory → ⊥)
+is_no_memory r = by_parts r (one_or r.code) (none_or r.place) (none_or r.within)
+
+judged : (policies entities request : List ℕ) (refusal : Refusal) (events : List Event) (end : ℕ)
+    → (refusal ≡ no_memory) ⊎ (refusal ≡ no_memory → ⊥)
+    → ((refusal ≡ no_memory → ⊥) → IsRefused policies entities request refusal)
+    → IsRefusalTold refusal events end ⊎ IsMemoryTold events end
+    → IsJudged policies entities request events end
+judged policies entities request refusal events end which due (inr told) = inr (inr told)
+judged policies entities request refusal events end (inl is) due (inl told) = inr (inr (inl (rw (← is) told)))
+judged policies entities request refusal events end (inr other) due (inl told) = inr (inl (refusal, due other, told))
+
+-- what texts are refused for is told, or that memory was refused
+pub judged_refused : (policies entities request : List ℕ) (refusal : Refusal) (end : ℕ)
+    → ((refusal ≡ no_memory → ⊥) → IsRefused policies entities request refusal)
+    → (events : List Event) → IsRefusalTold refusal events end ⊎ IsMemoryTold events end
+    → IsJudged policies entities request events end
+judged_refused policies entities request refusal end due events told =
+    judged policies entities request refusal events end (is_no_memory refusal) due told

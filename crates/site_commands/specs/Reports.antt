@@ -1,0 +1,66 @@
+-- What a run writes on which stream, and the status that it ends with. Both are rules of this product; an answer's line
+-- and a refusal's line are defined where texts are decided.
+use Rattle.std.specs.Prelude.{◌≡◌, ◌⊎◌, ℕ, Bool, true, false, List, [], ◌∷◌, ◌++◌, if◌then◌else◌, codes}
+use Rattle.clap.specs.Words.{kind_of}
+use Rattle.clap.specs.declared.error.Error.{Error}
+use Rattle.clap.specs.declared.error.ErrorKind.{ErrorKind}
+use Rattle.clap.specs.declared.error.ErrorKind.TheVariants.{DisplayHelp, DisplayVersion}
+use Rattle.decision_texts.specs.declared.refusal.Refusal.{Refusal}
+use Rattle.decision_texts.specs.Refusals.{error_line, no_memory}
+use Rattle.site_commands.specs.declared.line.LineFault.{LineFault}
+use Rattle.site_commands.specs.declared.line.LineFault.TheVariants.{Words, Incomplete}
+use Rattle.site_commands.specs.declared.stream.Stream.{Stream}
+use Rattle.site_commands.specs.declared.stream.Stream.TheVariants.{Answers, Faults}
+use Rattle.site_commands.specs.Events.{Event, wrote, printed}
+
+-- a line, and its end: a line feed
+abbrev pub ended : List ℕ → List ℕ
+ended line = line ++ 10 ∷ []
+
+-- a run that writes ends with this status where the stream took all, and with 3 where it failed
+abbrev pub status_after : Bool → ℕ → ℕ
+status_after done status = if done then status else 3
+
+-- one line is written on this stream, and the run ends with this status, or with 3
+abbrev pub IsTold : Stream → List ℕ → ℕ → List Event → ℕ → Type 0
+IsTold stream line status events end = (done : Bool)
+    × (events ≡ wrote stream (ended line) done ∷ [])
+    × (end ≡ status_after done status)
+
+-- an answer's line goes to standard output, and the run ends with 0
+abbrev pub IsAnswerTold : List ℕ → List Event → ℕ → Type 0
+IsAnswerTold line = IsTold Answers line 0
+
+-- a refusal's line goes to standard error, and the run ends with 1
+abbrev pub IsRefusalTold : Refusal → List Event → ℕ → Type 0
+IsRefusalTold refusal = IsTold Faults (error_line refusal) 1
+
+-- the line that tells of want of memory, letter by letter, since it is written where no memory is left to make it
+abbrev pub no_memory_line : List ℕ
+no_memory_line = codes "{\"error\":{\"code\":1,\"place\":null,\"within\":null}}"
+
+-- that memory was refused is told as a refusal is, by the line that is made for it or by the one that needs no making
+abbrev pub IsMemoryTold : List Event → ℕ → Type 0
+IsMemoryTold events end = IsRefusalTold no_memory events end ⊎ IsTold Faults no_memory_line 1 events end
+
+-- the name of a file that can't be read goes to standard error, and the run ends with 3
+abbrev pub IsFileTold : List ℕ → List Event → ℕ → Type 0
+IsFileTold name = IsTold Faults (codes "fault: " ++ name) 3
+
+-- help is asked for
+abbrev pub is_help : ErrorKind → Bool
+is_help DisplayHelp = true
+is_help DisplayVersion = true
+is_help _ = false
+
+-- help goes to standard output, and the run ends with 0; every other fault of the words to standard error, and the run
+-- ends with 2
+abbrev pub IsErrorTold : Error → List Event → ℕ → Type 0
+IsErrorTold error events end = (done : Bool)
+    × (events ≡ printed (if is_help (kind_of error) then Answers else Faults) error done ∷ [])
+    × (end ≡ status_after done (if is_help (kind_of error) then 0 else 2))
+
+-- words that are no command; of those that lack an option nothing is written
+abbrev pub IsFaultTold : LineFault → List Event → ℕ → Type 0
+IsFaultTold (Words error) events end = IsErrorTold error events end
+IsFaultTold Incomplete events end = (events ≡ []) × (end ≡ 2)

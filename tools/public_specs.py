@@ -1,0 +1,201 @@
+#!/usr/bin/env python3
+"""Tells which modules of specs/ public contracts rest on, so that specs/inner/ holds the others and only these.
+
+    tools/public_specs.py [--top FOLDER] [--names] [CRATE ..]
+
+A public contract is a clause of a function, of a method or of a trait, or a ghost member (`view`, `invariant`, `from_gives` ..), of what a crate's
+lib.rt gives out. From the names that these cite it walks as tools/reading_list.py does. It prints each module outside specs/inner/ that none reaches,
+and each inside that one reaches; its status is 1 where there is any. Standard library alone.
+"""
+import os
+import re
+import sys
+
+HERE = os.path.dirname(os.path.abspath(__file__))
+sys.path.insert(0, HERE)
+import reading_list  # noqa: E402
+from reading_list import WORD, Module, Walk  # noqa: E402
+
+
+def blocks(text, at):
+    """The text between the brace at a place and the one that closes it, and the place behind."""
+    depth, end = 0, at
+    while end < len(text):
+        if text[end] == "{":
+            depth += 1
+        elif text[end] == "}":
+            depth -= 1
+            if depth == 0:
+                return text[at + 1 : end], end + 1
+        end += 1
+    return text[at + 1 :], len(text)
+
+
+def without_comments(text):
+    return re.sub(r"(?m)//.*$", "", text)
+
+
+def given_out(crate):
+    """The names that a crate's root gives out; None where it is a program."""
+    path = f"{reading_list.TOP}/crates/{crate}/src/lib.rt"
+    if not os.path.isfile(path):
+        return None
+    with open(path, encoding="utf-8") as file:
+        text = without_comments(file.read())
+    names = set()
+    for found in re.finditer(r"(?m)^pub use ([^;]+);", text):
+        rest = found[1]
+        inside = re.search(r"\{(.*)\}", rest, re.S)
+        for name in (inside[1].split(",") if inside else [rest.split("::")[-1]]):
+            name = name.strip().split(" as ")[0].strip()
+            if name:
+                names.add(name.split("::")[-1])
+    names |= declared_in(text)
+    for module in re.findall(r"(?m)^pub mod (\w+);", text):
+        with open(f"{reading_list.TOP}/crates/{crate}/src/{module}.rt", encoding="utf-8") as file:
+            names |= declared_in(without_comments(file.read()))
+    return names
+
+
+def declared_in(text):
+    """The public items of a file."""
+    return set(re.findall(r"(?m)^pub (?:const )?(?:fn|struct|enum|trait|const|type) (\w+)", text))
+
+
+ITEM = re.compile(
+    r"(?m)^(?P<pub>pub(?:\(crate\))? )?(?:(?P<kind>fn|trait|impl)\b(?P<head>[^{;]*?)(?=\{|\n\s*(?:requires|ensures|where)\b|;))"
+)
+
+
+def imports_of(text):
+    """What the `ghost use` lines of a file bring."""
+    module = Module.__new__(Module)
+    module.imports, module.items = {}, {}
+    for found in re.finditer(r"ghost use ([^;]+);", text):
+        module.add_import("use " + " ".join(found[1].split()))
+    return module.imports
+
+
+def clauses(text):
+    """The texts of the clauses and ghost members in a piece of code."""
+    for found in re.finditer(r"(?:\b(?:requires|ensures|measure)\b(?: \w+)? ?|\bghost \w+(?:: |\s*=\s*))(?=\{)", text):
+        yield blocks(text, found.end())[0]
+
+
+def functions(text, only_public):
+    """Each function with what stands before its body."""
+    for found in re.finditer(r"(?m)^\s*(pub(?:\(crate\))? )?(?:const )?fn (\w+)", text):
+        if only_public and found[1] != "pub ":
+            continue
+        at = found.end()
+        while at < len(text) and text[at] not in "{;":
+            # a clause's braces are not the body's
+            word = re.match(r"\b(?:requires|ensures|measure)\b(?: \w+)? ?(?=\{)", text[at:])
+            if word and not text[at - 1].isalnum():
+                at = blocks(text, at + word.end())[1]
+            else:
+                at += 1
+        yield found[2], text[found.start() : at]
+
+
+def public_texts(crate, names):
+    """The clauses that are public, each with the file's imports."""
+    top = f"{reading_list.TOP}/crates/{crate}/src"
+    for folder, _, files in os.walk(top):
+        for file in sorted(files):
+            if not file.endswith(".rt"):
+                continue
+            with open(f"{folder}/{file}", encoding="utf-8") as it:
+                text = without_comments(it.read())
+            text = re.sub(r"(?s)#\[cfg\(test\)\].*", "", text)
+            imports = imports_of(text)
+            at = 0
+            outside = ""
+            for found in re.finditer(r"(?m)^(?:pub(?:\(crate\))? )?(?:unsafe )?(impl|trait|struct|enum)\b([^{;]*)", text):
+                if found.start() < at:
+                    continue
+                brace = text.find("{", found.end() - 1)
+                if brace < 0:
+                    continue
+                # a `where` with clauses does not occur on these
+                body, end = blocks(text, brace)
+                outside += text[at : found.start()]
+                at = end
+                head = found[2]
+                words = set(re.findall(r"\w+", head))
+                kind = found[1]
+                if names is not None and not words & names:
+                    continue
+                if kind == "impl" and " for " in head:
+                    subject = set(re.findall(r"\w+", head.split(" for ")[1]))
+                    if names is not None and not subject & names:
+                        continue
+                    yield from ((it, imports) for it in clauses(body))
+                elif kind == "impl":
+                    for _, piece in functions(body, True):
+                        yield from ((it, imports) for it in clauses(piece))
+                elif kind == "trait":
+                    yield from ((it, imports) for it in clauses(body))
+                else:
+                    yield from ((it, imports) for it in clauses(body))
+            outside += text[at:]
+            for name, piece in functions(outside, True):
+                if names is None or name in names:
+                    yield from ((it, imports) for it in clauses(piece))
+
+
+def visit_clause(walk, text, imports):
+    code = re.sub(r"(?m)--.*$", "", text)
+    for word in set(WORD.findall(code)) | set(re.findall(r"◌[^\s]*◌", code)):
+        if word in imports:
+            crate, module, real = imports[word]
+            behind = re.findall(rf"(?<![\w.]){re.escape(word)}\.(\w[^\s(){{}}\[\],;.]*)", code)
+            for each in [real] if real else behind:
+                walk.visit(crate, module, each)
+    for shown, to in imports.items():
+        if "◌" in shown and all(part in code for part in shown.split("◌") if part):
+            walk.visit(to[0], to[1], to[2] or shown)
+
+
+def modules_of(crate):
+    top = f"{reading_list.TOP}/crates/{crate}/specs"
+    for folder, _, files in os.walk(top):
+        for file in sorted(files):
+            if file.endswith(".antt") and file != "Lib.antt":
+                yield f"{folder}/{file}"
+
+
+def main(words):
+    if "--top" in words:
+        at = words.index("--top")
+        reading_list.TOP = os.path.abspath(words[at + 1])
+        del words[at : at + 2]
+    names = "--names" in words
+    crates = [it for it in words if not it.startswith("--")] or reading_list.crates_in_order()
+    walk = Walk()
+    for crate in reading_list.crates_in_order():
+        for text, imports in public_texts(crate, given_out(crate)):
+            visit_clause(walk, text, imports)
+    status = 0
+    for crate in crates:
+        for path in modules_of(crate):
+            short = os.path.relpath(path, reading_list.TOP)
+            if "/formers" in short or short.endswith("/specs/inner.antt"):
+                continue
+            inner = "/specs/inner/" in short
+            reached = sorted(walk.reached.get(path, {}))
+            if inner and reached:
+                print(f"{short}: public contracts rest on {', '.join(reached)}")
+                status = 1
+            elif not inner and not reached:
+                print(f"{short}: no public contract rests on it")
+                status = 1
+            if names and reached and not inner:
+                module = walk.modules[path]
+                rest = sorted(set(module.items) - set(reached))
+                print(f"    {short}: {len(reached)} of {len(module.items)} reached; not: {', '.join(rest)}")
+    return status
+
+
+if __name__ == "__main__":
+    sys.exit(main(sys.argv[1:]))
