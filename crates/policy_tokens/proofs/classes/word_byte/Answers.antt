@@ -1,34 +1,30 @@
--- The table is held against the definition at each of the 256 bytes, by computing.
-use Rattle.std.proofs.Common.{◌≡◌, ℕ, zero, suc, ◌<◌, Bool, true, false, ◌&&◌, not, nat_eq, get_or, List, refl, arith, inl, inr}
-use Rattle.std.specs.Bool.{beq}
+-- The table has the definition's value for each byte: both lists of 256 values are computed and are one.
+use Rattle.std.proofs.Common.{◌≡◌, ℕ, zero, suc, ◌<◌, Bool, List, [], ◌∷◌, not, nat_eq, get_or, refl, arith, inl, inr}
 use Rattle.std.proofs.lemmas.Bool.{cases_eq}
 use Rattle.plain.specs.Words.{is_letter, is_digit, is_word_byte}
 use Rattle.policy_tokens.specs.declared.classes.TheConstants.{WORD_BYTES}
 use Rattle.policy_tokens.proofs.classes.word_byte.Goals as goal
 
--- the two tests agree below n
-agree_below : (ℕ → Bool) → (ℕ → Bool) → ℕ → Bool
-agree_below f g zero = true
-agree_below f g (suc n) = beq (f n) (g n) && agree_below f g n
+-- what a test says of the numbers below n, the greatest first
+said : (ℕ → Bool) → ℕ → List Bool
+said test zero = []
+said test (suc n) = test n ∷ said test n
 
-both_of : (x y rest : Bool) → (beq x y && rest) ≡ true → (x ≡ y) × (rest ≡ true)
-both_of true true rest h = (refl, h)
-both_of true false rest h = cc
-both_of false true rest h = cc
-both_of false false rest h = (refl, h)
+first : (x y : Bool) (xs ys : List Bool) → x ∷ xs ≡ y ∷ ys → x ≡ y
+first x y xs ys h = cc
 
-agree_at : (f g : ℕ → Bool) (n : ℕ) → agree_below f g n ≡ true → (b : ℕ) → b < n → f b ≡ g b
-unfolding agree_below
-agree_at f g zero h b lt = absurd (omega arith)
-agree_at f g (suc n) h b lt =
-    let both = both_of (f n) (g n) (agree_below f g n) h in
-    elim (cases_eq b n) [ inl same ↦ rw same both.0 | inr other ↦ agree_at f g n both.1 b (omega arith) ]
+later : (x y : Bool) (xs ys : List Bool) → x ∷ xs ≡ y ∷ ys → xs ≡ ys
+later x y xs ys h = cc
 
-from_table : (table : List ℕ) (b : ℕ) → b < 256
-    → agree_below (λ k. not (nat_eq (get_or table k 0) 58)) is_word_byte 256 ≡ true
-    → not (nat_eq (get_or table b 0) 58) ≡ is_word_byte b
-from_table table b lt h = agree_at _ _ 256 h b lt
+-- tests that say the same of all numbers below n say it of each
+of_each : (n : ℕ) (test other : ℕ → Bool) → said test n ≡ said other n → (number : ℕ) → number < n → test number ≡ other number
+unfolding said
+of_each zero test other alike number below = absurd (omega arith)
+of_each (suc n) test other alike number below = elim (cases_eq number n) [
+  | inl last ↦ rw last (first (test n) (other n) (said test n) (said other n) alike)
+  | inr before ↦ of_each n test other (later (test n) (other n) (said test n) (said other n) alike) number (omega arith)
+]
 
 pub returns : goal.returns
-unfolding agree_below is_word_byte is_letter is_digit
-returns c = from_table WORD_BYTES c.args.byte (omega arith) refl
+unfolding said is_word_byte is_letter is_digit
+returns c = of_each 256 (λ k. not (nat_eq (get_or WORD_BYTES k 0) 58)) is_word_byte refl c.args.byte (omega arith)
