@@ -1,4 +1,4 @@
--- Bytes state one schema or are refused for one cause.
+-- Bytes state one schema at most, or are refused for one cause at most, and never both.
 use Rattle.std.specs.Prelude.{◌≡◌, ℕ, List}
 use Rattle.schema_types.specs.declared.fault.SchemaFault.{SchemaFault}
 use Rattle.schema.specs.Schemas.{StatedSchema, IsSchemaOf, RefusedFor}
