@@ -42,9 +42,12 @@ unfolding loop_from
 seen_stop ks p n finish ts rest w h e =
     ap (λ o. and_then o (λ more. pure (finish more))) (chose (sees ks ts) _ _ ts h ∙ ap (λ o. and_then o (λ a. λ us. and_then (loop_from (λ s a. s) (λ s. ks) (λ s. p) n (tt {0}) us) (λ more. pure (a ∷ more)))) e)
 
--- the turns that are left
-pub one_more : {X : Type 0} {x : X} (f : ℕ → X) (n at : ℕ) → at < n → x ≡ f (n - at) → x ≡ f (suc (n - (at + 1)))
-one_more f n at below e = let turn : n - at ≡ suc (n - (at + 1)) = omega arith in e ∙ ap f turn
+-- before the end one turn at least is left, and the others behind it
+turns_left : (end at : ℕ) → at < end → end - at ≡ suc (end - (at + 1))
+turns_left end at below = omega arith
+
+pub next_turn : {X : Type 0} {x : X} (end at : ℕ) → at < end → (left : ℕ → X) → x ≡ left (end - at) → x ≡ left (suc (end - (at + 1)))
+next_turn {X} {x} end at below left e = subst (λ turns. x ≡ left turns) (turns_left end at below) e
 
 pub no_more : {X : Type 0} {x : X} (f : ℕ → X) (n at : ℕ) → n ≤ at → x ≡ f (n - at) → x ≡ f 0
 no_more f n at done e = let none : n - at ≡ 0 = omega arith in e ∙ ap f none
@@ -67,7 +70,7 @@ module _ {S A B : Type 0} (ks : Kinds) (p : Parser A) (f : S → List A → B) (
   pub turned : (s' : S) (a : A) (mid : List Token) → x ≡ gathered ks p (end - at) (f s) ts → at < end → true ≡ sees ks ts → p ts ≡ Read a mid
       → ((more : List A) → f s (a ∷ more) ≡ f s' more) → x ≡ gathered ks p (end - (at + 1)) (f s') mid
   turned s' a mid e below seen r law =
-      one_more (λ n. gathered ks p n (f s) ts) end at below e
+      next_turn end at below (λ n. gathered ks p n (f s) ts) e
       ∙ seen_read ks p (end - (at + 1)) (f s) ts mid a (sym seen) r
       ∙ ap (λ finish. gathered ks p (end - (at + 1)) finish mid) (fun_ext law)
 
@@ -80,7 +83,7 @@ module _ {S A B : Type 0} (ks : Kinds) (p : Parser A) (f : S → List A → B) (
 
   pub stopped : (fault : Halt) (rest : List Token) → x ≡ gathered ks p (end - at) (f s) ts → at < end → true ≡ sees ks ts → Gives (p ts) (Err fault) rest → Gives x (Err fault) rest
   stopped fault rest e below seen g =
-      instead x (gathered ks p (suc (end - (at + 1))) (f s) ts) (Err fault) rest (one_more (λ n. gathered ks p n (f s) ts) end at below e)
+      instead x (gathered ks p (suc (end - (at + 1))) (f s) ts) (Err fault) rest (next_turn end at below (λ n. gathered ks p n (f s) ts) e)
       (seen_err ks p (end - (at + 1)) (f s) ts rest fault (sym seen) g)
 
 pub begun : {S A B : Type 0} (ks : Kinds) (p : Parser A) (f : S → List A → B) (end : ℕ) (s : S) (ts : List Token) → end ≡ length ts → gathered ks p (length ts) (f s) ts ≡ gathered ks p (end - 0) (f s) ts

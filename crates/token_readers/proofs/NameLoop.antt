@@ -13,7 +13,7 @@ use Rattle.token_readers.specs.Reads.{sees}
 use Rattle.token_readers.specs.Reading.{Parser, Outcome, Read, Stop, Why, Unexpected, TooDeep, and_then, pure, loop_from, ◌>>=◌}
 use Rattle.token_readers.specs.Parsing.{piece, is_text, ends, beginning, last_of}
 use Rattle.token_readers.specs.Parsing.{name_by, name_behind}
-use Rattle.token_readers.proofs.Gathered.{one_more, no_more}
+use Rattle.token_readers.proofs.Gathered.{next_turn, no_more}
 use Rattle.token_readers.proofs.UidLoop.{steps, step_seen, step_unseen, step_ended}
 
 abbrev pub path_named : Token → List Token → Name
@@ -95,12 +95,12 @@ module _ (x : Outcome Name) (end at : ℕ) (first : Token) (more ts : List Token
   pub turned : (more' : List Token) (t : Token) (mid : List Token) → x ≡ taken (end - at) first more ts → at < end → true ≡ sees (only k.Colons) ts → piece ts ≡ Read t mid → is_text t ≡ false → more' ≡ more ++ t ∷ []
       → x ≡ taken (end - (at + 1)) first more' mid
   turned more' t mid e below seen r word put =
-      one_more (λ n. taken n first more ts) end at below e
+      next_turn end at below (λ n. taken n first more ts) e
       ∙ word_goes_on (end - (at + 1)) first t more ts mid (sym seen) r word
       ∙ ap (λ z. taken (end - (at + 1)) first z mid) (sym put)
 
   pub ended : (t : Token) (mid : List Token) → x ≡ taken (end - at) first more ts → at < end → true ≡ sees (only k.Colons) ts → piece ts ≡ Read t mid → is_text t ≡ true → x ≡ Read (uid_named first more t) mid
-  ended t mid e below seen r text = one_more (λ n. taken n first more ts) end at below e ∙ text_ends (end - (at + 1)) first t more ts mid (sym seen) r text
+  ended t mid e below seen r text = next_turn end at below (λ n. taken n first more ts) e ∙ text_ends (end - (at + 1)) first t more ts mid (sym seen) r text
 
   stopped_by : (fault : Halt) (rest : List Token) → x ≡ taken (suc (end - (at + 1))) first more ts → true ≡ sees (only k.Colons) ts → Gives (piece ts) (Err fault) rest → Gives x (Err fault) rest
   stopped_by halt.NoMemory rest e seen g = tt
@@ -108,7 +108,7 @@ module _ (x : Outcome Name) (end at : ℕ) (first : Token) (more ts : List Token
   stopped_by halt.TooDeep rest e seen g = e ∙ stops_one (end - (at + 1)) first more ts rest TooDeep (sym seen) g
 
   pub stopped : (fault : Halt) (rest : List Token) → x ≡ taken (end - at) first more ts → at < end → true ≡ sees (only k.Colons) ts → Gives (piece ts) (Err fault) rest → Gives x (Err fault) rest
-  stopped fault rest e below seen g = stopped_by fault rest (one_more (λ n. taken n first more ts) end at below e) seen g
+  stopped fault rest e below seen g = stopped_by fault rest (next_turn end at below (λ n. taken n first more ts) e) seen g
 
   pub bare : x ≡ taken (end - at) first more ts → false ≡ sees (only k.Colons) ts → x ≡ Read (path_named first more) ts
   bare e seen = e ∙ none_comes (end - at) first more ts (sym seen)

@@ -12,7 +12,7 @@ use Rattle.token_readers.specs.Reads.{sees}
 use Rattle.token_readers.specs.Reading.{Parser, Outcome, Read, Stop, Why, Unexpected, TooDeep, and_then, pure, refuse, take, take_if, loop_from, ◌>>=◌}
 use Rattle.token_readers.specs.Parsing.{uid_behind, piece, pieces, is_text, ended_by, goes_on, ends, beginning, last_of, finished}
 use Rattle.token_readers.proofs.Forms.{took, left}
-use Rattle.token_readers.proofs.Gathered.{one_more, no_more}
+use Rattle.token_readers.proofs.Gathered.{next_turn, no_more}
 
 abbrev named : Token → List Token → Token → UidTree
 named first more id = record { path = record { first = first; more = more }; id = id }
@@ -129,12 +129,12 @@ module _ (x : Outcome UidTree) (end at : ℕ) (first : Token) (more ts : List To
   pub turned : (more' : List Token) (t : Token) (mid : List Token) → x ≡ taken (end - at) first more ts → at < end → piece ts ≡ Read t mid → is_text t ≡ false → more' ≡ more ++ t ∷ []
       → x ≡ taken (end - (at + 1)) first more' mid
   turned more' t mid e below r word put =
-      one_more (λ n. taken n first more ts) end at below e
+      next_turn end at below (λ n. taken n first more ts) e
       ∙ word_goes_on (end - (at + 1)) first t more ts mid r word
       ∙ ap (λ z. taken (end - (at + 1)) first z mid) (sym put)
 
   pub ended : (t : Token) (mid : List Token) → x ≡ taken (end - at) first more ts → at < end → piece ts ≡ Read t mid → is_text t ≡ true → x ≡ Read (named first more t) mid
-  ended t mid e below r text = one_more (λ n. taken n first more ts) end at below e ∙ text_ends (end - (at + 1)) first t more ts mid r text
+  ended t mid e below r text = next_turn end at below (λ n. taken n first more ts) e ∙ text_ends (end - (at + 1)) first t more ts mid r text
 
   stopped_by : (fault : Halt) (rest : List Token) → x ≡ taken (suc (end - (at + 1))) first more ts → Gives (piece ts) (Err fault) rest → Gives x (Err fault) rest
   stopped_by halt.NoMemory rest e g = tt
@@ -142,7 +142,7 @@ module _ (x : Outcome UidTree) (end at : ℕ) (first : Token) (more ts : List To
   stopped_by halt.TooDeep rest e g = e ∙ stops_by (sees (only k.Colons) ts) (end - (at + 1)) first more ts rest TooDeep refl g
 
   pub stopped : (fault : Halt) (rest : List Token) → x ≡ taken (end - at) first more ts → at < end → Gives (piece ts) (Err fault) rest → Gives x (Err fault) rest
-  stopped fault rest e below g = stopped_by fault rest (one_more (λ n. taken n first more ts) end at below e) g
+  stopped fault rest e below g = stopped_by fault rest (next_turn end at below (λ n. taken n first more ts) e) g
 
   pub ran_out : x ≡ taken (end - at) first more ts → end ≤ at → x ≡ Stop Unexpected ts
   unfolding loop_from
