@@ -8,3 +8,5 @@ pub mod RefusalLemmas
 pub mod StoreLemmas
 pub mod RequestLemmas
 pub mod FaultLemmas
+pub mod Placing
+pub mod LineOrRefusal

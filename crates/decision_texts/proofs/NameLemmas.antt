@@ -1,6 +1,6 @@
 -- The policies of a file have different names, so that they ascend by name in one way.
-use Rattle.std.proofs.Common.{◌≡◌, ◌∙◌, ℕ, ◌+◌, ◌<◌, true, false, List, [], ◌∷◌, ◌++◌, map, length, get_or, Contains, IsPermutation, inl, inr, refl, sym, ap, subst, arith, append_assoc, append-nil}
-use Rattle.std.specs.List.{list_any, zip, IsDistinct, AllByRecursion}
+use Rattle.std.proofs.Common.{◌≡◌, ◌∙◌, ℕ, ◌+◌, ◌<◌, true, false, List, [], ◌∷◌, map, length, get_or, Contains, IsPermutation, refl, sym, ap, subst, arith}
+use Rattle.std.specs.List.{IsDistinct, AllByRecursion}
 use Rattle.std.specs.List.Sorted.{IsStrictlySortedBy}
 use Rattle.std.specs.Ordering.{nat_cmp, is_lt, is_eq, ordering_reverse}
 use Rattle.std.specs.declared.cmp.Ordering.{Ordering}
@@ -8,23 +8,20 @@ use Rattle.std.specs.declared.cmp.Ordering.TheVariants.{Less, Equal, Greater}
 use Rattle.std.specs.Cmp.{IsTotalOrder}
 use Rattle.std.specs.Cmp.Lexicographic.{slice_cmp}
 use Rattle.std.specs.Str.{bytes_eq}
-use Rattle.std.proofs.lemmas.Bool.{cases_Bool}
 use Rattle.std.proofs.lemmas.Cmp.{on_total, nat_list_cmp_total, nat_list_eq_equiv}
-use Rattle.std.proofs.lemmas.List.{get_or-map, length-map, map-append}
+use Rattle.std.proofs.lemmas.List.{get_or-map, length-map}
 use Rattle.std.proofs.lemmas.List.Sorted.{IsPermutation-map, IsPermutation-sym, Contains-permutation}
-use Rattle.std.proofs.lemmas.Map.Keys.{IsDistinct-push, IsDistinct-IsPermutation, apart_from_distinct, sorted_from_all_adjacent}
+use Rattle.std.proofs.lemmas.Map.Keys.{IsDistinct-IsPermutation, apart_from_distinct, sorted_from_all_adjacent}
 use Rattle.std.proofs.lemmas.Map.Text.{is_eq-slice_cmp}
-use Rattle.std.proofs.lemmas.Map.Views.{Contains-from_any}
-use Rattle.std.proofs.lemmas.Slice.Eq.{bytes_eq-Decides}
-use Rattle.std.proofs.lemmas.Slice.Zip.{AllZip-long}
 use Rattle.policy_grammar.specs.declared.policy.Policy.{Policy}
 use Rattle.policy_grammar.specs.PolicyText.{IsPolicyFile}
 use Rattle.policy_grammar.specs.Unique.{EachIsNamed, NamesDiffer}
 use Rattle.values.specs.Names.{text_cmp}
 use Rattle.authoriser.specs.Answers.{Named}
 use Rattle.authoriser.specs.Laws.{AreIdsAscending}
-use Rattle.authoriser.proofs.Ascending.{one_list}
+use Rattle.plain.proofs.Ascending.{one_list}
 use Rattle.decision_texts.specs.Decisions.{named_policies, IsInOrder}
+use Rattle.decision_texts.proofs.Placing.{has_order}
 
 abbrev ids : List Named → List (List ℕ)
 ids = map (λ p. p.id)
@@ -95,3 +92,19 @@ ids_rise (p ∷ ps) h = (less_ids p ps h.0, ids_rise ps h.1)
 
 pub ids_ascend : (policies ordered : List Named) → HaveOwnNames policies → IsInOrder policies ordered → AreIdsAscending (ids ordered)
 ids_ascend policies ordered own order = ids_rise ordered (rise policies ordered own order)
+
+-- ---- some order
+
+not_both_ways : (o p : Ordering) → o ≡ ordering_reverse p → is_lt p ≡ true → is_lt o ≡ false
+not_both_ways o Less e less = ap is_lt e
+not_both_ways o Equal e less = absurd (cc)
+not_both_ways o Greater e less = absurd (cc)
+
+one_way : (p q : Named) → is_lt (by_name p q) ≡ true → is_lt (by_name q p) ≡ false
+one_way p q less = not_both_ways (by_name q p) (by_name p q) (by_name_total.antisymm q p) less
+
+-- policies ascend by name in some order
+pub some_order : (policies : List Named) → (ordered : List Named) × IsInOrder policies ordered
+some_order policies =
+    let found = has_order (λ p q. is_lt (by_name p q)) one_way policies in
+    (found.0, record { same = found.1; ascending = found.2 })

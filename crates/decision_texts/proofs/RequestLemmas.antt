@@ -1,5 +1,5 @@
 -- What states no request.
-use Rattle.std.proofs.Common.{◌≡◌, true, false, ℕ, List, Option, Some, None, MatchOption}
+use Rattle.std.proofs.Common.{◌≡◌, false}
 use Rattle.std.specs.Prelude.{codes}
 use Rattle.serde_json.specs.Data.{Data}
 use Rattle.serde_json.specs.Find.{get}

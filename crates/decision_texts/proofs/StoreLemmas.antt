@@ -9,7 +9,7 @@ use Rattle.values.specs.declared.entity_uid.EntityUid.{EntityUid}
 use Rattle.values.specs.Names.{uid_cmp, uid_cmp-IsTotalOrder, uid_cmp-IsAntisymmetric}
 use Rattle.values.specs.Fields.{Field}
 use Rattle.values.specs.Uids.{equal-is}
-use Rattle.values.proofs.Members.{Contains-here, Contains-there, Contains-none}
+use Rattle.plain.proofs.Members.{Contains-here, Contains-there, Contains-none}
 use Rattle.ancestor_closure.specs.Decided.{is_same, HaveAllParents}
 use Rattle.ancestor_closure.specs.Search.{parents_of, items_or_none}
 use Rattle.evaluator.specs.Operators.{world_of}

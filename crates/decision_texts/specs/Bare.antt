@@ -3,7 +3,7 @@
 -- "id"}, or that under `__entity`. Rules of this product: without a schema an entity has no attributes and no tags;
 -- absent `attrs`, `parents` and `tags` are empty, and null is not absent; other keys of an entity are ignored, those of
 -- a uid are not; an entity stands once in its array.
-use Rattle.std.specs.Prelude.{◌&&◌, Bool, true, false, not, ℕ, List, [], ◌∷◌, take, codes, Option, Some, None, Result}
+use Rattle.std.specs.Prelude.{◌&&◌, Bool, true, false, not, ℕ, List, [], take, codes, Option, Some, None, Result}
 use Rattle.std.specs.Prelude.{Ok, Err}
 use Rattle.std.specs.List.{list_any}
 use Rattle.serde_json.specs.Data.{Data, Items}

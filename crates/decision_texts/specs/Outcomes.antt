@@ -1,7 +1,7 @@
--- That three texts come to one thing: one line, or one refusal, and never both.
+-- That three texts come to exactly one thing: one line or one refusal, and never both.
 -- A rule of this product: what texts come to follows from the texts alone. Only want of memory may come at any call,
 -- whatever the texts.
-use Rattle.std.specs.Prelude.{◌≡◌, ℕ, List, map}
+use Rattle.std.specs.Prelude.{◌≡◌, ◌⊎◌, ℕ, List, map}
 use Rattle.ancestor_closure.specs.Hierarchy.{IsAscending}
 use Rattle.authoriser.specs.Laws.{AreIdsAscending}
 use Rattle.decision_texts.specs.declared.refusal.Refusal.{Refusal}
@@ -22,6 +22,11 @@ abbrev pub OneRefusal : Type 0
 OneRefusal = (policies entities request : List ℕ) (refusal other : Refusal)
     → IsRefused policies entities request refusal
     → IsRefused policies entities request other → refusal ≡ other
+
+-- three texts have a line or a refusal
+abbrev pub LineOrRefusal : Type 0
+LineOrRefusal = (policies entities request : List ℕ) → ((line : List ℕ) × IsDecided policies entities request line)
+    ⊎ ((refusal : Refusal) × IsRefused policies entities request refusal)
 
 -- the lists of a line's answer ascend: the reason, the errors by their policy, the cycle by the order of uids
 abbrev pub ListsOfLinesAscend : Type 0

@@ -1,16 +1,18 @@
 // Laws of the definitions.
-ghost use Rattle.decision_texts.specs.Outcomes.{OneLine, NotBoth, OneRefusal, ListsOfLinesAscend};
+ghost use Rattle.decision_texts.specs.Outcomes.{OneLine, NotBoth, OneRefusal, LineOrRefusal};
+ghost use Rattle.decision_texts.specs.Outcomes.{ListsOfLinesAscend};
 
 use authoriser::answers_are_lawful;
 use policy_grammar::{file_names_differ, texts_have_one_reading};
 use uid_json::names_read_back;
 
-/// That three texts come to one line at most, to one refusal at most, and never to both, and that the lists of an
-/// answer's line ascend. It does nothing; its clauses are laws of the definitions.
+/// That three texts come to exactly one thing, a line or a refusal, and that the lists of an answer's line ascend. It
+/// does nothing; its clauses are laws of the definitions.
 pub fn texts_have_one_outcome()
     ensures one_line { OneLine }
     ensures not_both { NotBoth }
     ensures one_refusal { OneRefusal }
+    ensures some { LineOrRefusal }
     ensures ascending { ListsOfLinesAscend }
 {
     names_read_back();

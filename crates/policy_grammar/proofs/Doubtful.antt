@@ -1,5 +1,5 @@
 -- Names by places are all different: which policies' names may stand twice.
-use Rattle.std.proofs.Common.{◌≡◌, ◌⊎◌, ℕ, zero, suc, ◌+◌, ◌<◌, ◌≤◌, ◌^◌, ◌&&◌, ◌||◌, ◌==◌, Bool, true, false, List, [], ◌∷◌, ◌++◌, length, drop, get_or, map, Option, Some, None, Contains, codes, find, refl, sym, ◌∙◌, ap, subst, inl, inr, arith, add-one}
+use Rattle.std.proofs.Common.{◌≡◌, ◌⊎◌, ℕ, suc, ◌+◌, ◌<◌, ◌≤◌, ◌^◌, ◌&&◌, ◌||◌, ◌==◌, Bool, true, false, List, [], ◌∷◌, ◌++◌, length, drop, get_or, Option, Some, None, codes, find, refl, sym, ◌∙◌, ap, inl, inr, arith, add-one}
 use Rattle.std.specs.Prelude.{is_some}
 use Rattle.std.specs.List.{AllZip, enumerate_from, starts_with}
 use Rattle.std.specs.Fmt.{decimal}
@@ -7,93 +7,12 @@ use Rattle.std.proofs.Math.Seq.{drop-cons}
 use Rattle.std.proofs.lemmas.Fmt.{decimal_injective}
 use Rattle.desugaring.specs.Refused.{least}
 use Rattle.desugaring.specs.Repeats.{Mark, StandsAgain, repeat_faults, RepeatsAreTold}
+use Rattle.desugaring.proofs.AgainFront.{Later, again-there, again-here, again-front, again-none}
 use Rattle.policy_syntax.specs.declared.tree.Annotation.{Annotation}
 use Rattle.policy_syntax.specs.declared.tree.PolicyTree.{PolicyTree}
 use Rattle.policy_grammar.specs.CoreOf.{is_id, IsNameBy, IsNameOf, AreNamesOf}
 use Rattle.policy_grammar.specs.Repeats.{policy_marks, start_of}
 use Rattle.policy_grammar.specs.inner.Standing.{has_id, looks_placed, meets_place, kept, doubtful_marks}
-
--- ---- members of a list
-
-module _ {X : Type 0} where
-  Contains-here : (x : X) (xs : List X) → Contains (x ∷ xs) x
-  Contains-here x xs = (0, omega arith, refl)
-
-  Contains-there : (x : X) (xs : List X) (y : X) → Contains xs y → Contains (x ∷ xs) y
-  Contains-there x xs y (i, below, e) = (suc i, omega arith, e)
-
-  Contains-cases : (x : X) (xs : List X) (y : X) → Contains (x ∷ xs) y → (x ≡ y) ⊎ Contains xs y
-  Contains-cases x xs y (zero, below, e) = inl e
-  Contains-cases x xs y (suc i, below, e) = inr (i, omega arith, e)
-
-  Contains-none : (y : X) {G : Type 0} → Contains [] y → G
-  Contains-none y (i, below, e) = absurd (omega arith)
-
--- ---- a list of marks from its front
-
--- a mark of this name stands here
-abbrev Later : List ℕ → List Mark → ℕ → Type 0
-Later name [] at = ⊥
-Later name (m ∷ ms) at = ((m.name ≡ name) × (at ≡ m.at)) ⊎ Later name ms at
-
-heads : {A : Type 0} (x y : A) (xs ys : List A) → x ∷ xs ≡ y ∷ ys → x ≡ y
-heads x y xs ys e = cc
-
-tails : {A : Type 0} (x y : A) (xs ys : List A) → x ∷ xs ≡ y ∷ ys → xs ≡ ys
-tails x y xs ys e = cc
-
-later-at : (before : List Mark) (mark : Mark) (behind : List Mark) → Later mark.name (before ++ mark ∷ behind) mark.at
-later-at [] mark behind = inl (refl, refl)
-later-at (b ∷ bs) mark behind = inr (later-at bs mark behind)
-
-again-there : (m : Mark) (ms : List Mark) (at : ℕ) → StandsAgain ms at → StandsAgain (m ∷ ms) at
-again-there m ms at again = record {
-  before = m ∷ again.before;
-  mark = again.mark;
-  behind = again.behind;
-  whole = ap (λ xs. m ∷ xs) again.whole;
-  again = Contains-there m.name (map (λ x. x.name) again.before) again.mark.name again.again;
-  place = again.place;
-}
-
-split-later : (name : List ℕ) (ms : List Mark) (at : ℕ) → Later name ms at →
-    (before : List Mark) × (mark : Mark) × (behind : List Mark) × (ms ≡ before ++ mark ∷ behind) × (mark.name ≡ name) × (at ≡ mark.at)
-split-later name [] at later = absurd later
-split-later name (m ∷ ms) at later = elim later [
-  | inl here ↦ ([], m, ms, refl, here.0, here.1)
-  | inr more ↦ let s = split-later name ms at more in (m ∷ s.0, s.1, s.2, ap (λ xs. m ∷ xs) s.3, s.4, s.5)
-]
-
-again-here : (m : Mark) (ms : List Mark) (at : ℕ) → Later m.name ms at → StandsAgain (m ∷ ms) at
-again-here m ms at later = let s = split-later m.name ms at later in record {
-  before = m ∷ s.0;
-  mark = s.1;
-  behind = s.2;
-  whole = ap (λ xs. m ∷ xs) s.3;
-  again = subst (λ x. Contains (m.name ∷ map (λ y. y.name) s.0) x) (sym s.4) (Contains-here m.name (map (λ y. y.name) s.0));
-  place = s.5;
-}
-
-front : (m : Mark) (ms before : List Mark) (mark : Mark) (behind : List Mark) (at : ℕ) → m ∷ ms ≡ before ++ mark ∷ behind →
-    Contains (map (λ x. x.name) before) mark.name → at ≡ mark.at → Later m.name ms at ⊎ StandsAgain ms at
-front m ms [] mark behind at whole again place = Contains-none mark.name again
-front m ms (b ∷ bs) mark behind at whole again place =
-    let same : m ≡ b = heads m b _ _ whole in
-    let rest : ms ≡ bs ++ mark ∷ behind = tails m b _ _ whole in
-    elim (Contains-cases b.name (map (λ x. x.name) bs) mark.name again) [
-      | inl e ↦ inl (subst (λ xs. Later m.name xs at) (sym rest) (subst (λ n. Later n (bs ++ mark ∷ behind) at) (sym (ap (λ x. x.name) same ∙ e))
-          (subst (Later mark.name (bs ++ mark ∷ behind)) (sym place) (later-at bs mark behind))))
-      | inr more ↦ inr (record { before = bs; mark = mark; behind = behind; whole = rest; again = more; place = place })
-    ]
-
-again-front : (m : Mark) (ms : List Mark) (at : ℕ) → StandsAgain (m ∷ ms) at → Later m.name ms at ⊎ StandsAgain ms at
-again-front m ms at again = front m ms again.before again.mark again.behind at again.whole again.again again.place
-
-again-none : (at : ℕ) {G : Type 0} → StandsAgain [] at → G
-again-none at again = nothing again.before again.mark again.behind again.whole where
-  nothing : {G : Type 0} (before : List Mark) (mark : Mark) (behind : List Mark) → [] ≡ before ++ mark ∷ behind → G
-  nothing [] mark behind e = absurd cc
-  nothing (b ∷ bs) mark behind e = absurd cc
 
 -- ---- marks that are kept
 
@@ -119,6 +38,9 @@ again-keeps-more true m ms at again = again-there m ms at again
 again-keeps-more false m ms at again = again
 
 -- ---- names that differ
+
+tails : {A : Type 0} (x y : A) (xs ys : List A) → x ∷ xs ≡ y ∷ ys → xs ≡ ys
+tails x y xs ys e = cc
 
 or_true : (b : Bool) → (b || true) ≡ true
 or_true true = refl

@@ -9,3 +9,4 @@ pub mod Refusing
 pub mod Cores
 pub mod Readings
 pub mod Differing
+pub mod Answering

@@ -128,13 +128,18 @@ module _ {A : Type 0} (L K : Lang A) (most : ℕ) (text : List ℕ) (laws : Laws
   read-unread : (x : A) (why : ReadFault) → Derives L most text x → IsUnread L K most text why → ⊥
   read-unread x why a unread = not_unread x why a (view L K most text why unread)
 
-pub uid_reading : Laws → HasOneTree grammar.uid → HasOneAnswer grammar.uid → HasOneReading IsUidText IsUidRefused
-uid_reading laws trees answers = record {
+-- each text has a value or a refusal
+abbrev IsAnswered : {A : Type 0} → (List ℕ → A → Type 0) → (List ℕ → ReadFault → Type 0) → Type 0
+IsAnswered {A} Stands Refused = (text : List ℕ) → ((x : A) × Stands text x) ⊎ ((why : ReadFault) × Refused text why)
+
+pub uid_reading : Laws → HasOneTree grammar.uid → HasOneAnswer grammar.uid → IsAnswered IsUidText IsUidRefused → HasOneReading IsUidText IsUidRefused
+uid_reading laws trees answers each = record {
   one_value = λ text u v a b. uid-same laws.values text b.tree u v
       (subst (λ t. IsUidOf text t u) (derives-same grammar.uid grammar.uid most_policy_bytes text laws trees answers a.tree b.tree a.derives b.derives) a.is) b.is;
   not_both = λ text u why a refused. read-unread grammar.uid grammar.uid most_policy_bytes text laws trees answers a.tree why a.derives refused;
   one_refusal = λ text why other a b. unread-same grammar.uid grammar.uid most_policy_bytes text laws trees answers why other
       (view grammar.uid grammar.uid most_policy_bytes text why a) (view grammar.uid grammar.uid most_policy_bytes text other b);
+  some = each;
 }
 
 some-same : {A : Type 0} {x y : A} → Some x ≡ Some y → x ≡ y
@@ -187,12 +192,14 @@ policy_refusal laws trees answers text why other (inr a) (inr b) =
     no_policy-same text b.0 why other
     (subst (λ t. HasNoPolicy text t why) (derives-same (grammar.policy nesting_limit) (at_any grammar.policy) most_policy_bytes text laws trees answers a.0 b.0 a.1 b.1) a.2) b.2
 
-pub policy_reading : Laws → HasOneTree (grammar.policy nesting_limit) → HasOneAnswerWithin (grammar.policy nesting_limit) (at_any grammar.policy) → HasOneReading IsPolicyText IsPolicyRefused
-policy_reading laws trees answers = record {
+pub policy_reading : Laws → HasOneTree (grammar.policy nesting_limit) → HasOneAnswerWithin (grammar.policy nesting_limit) (at_any grammar.policy) → IsAnswered IsPolicyText IsPolicyRefused
+    → HasOneReading IsPolicyText IsPolicyRefused
+policy_reading laws trees answers each = record {
   one_value = λ text p q a b. core-same laws.values text b.tree p q
       (subst (λ t. IsPolicyOf text t p) (derives-same (grammar.policy nesting_limit) (at_any grammar.policy) most_policy_bytes text laws trees answers a.tree b.tree a.derives b.derives) a.is).core b.is.core;
   not_both = policy_both laws trees answers;
   one_refusal = policy_refusal laws trees answers;
+  some = each;
 }
 
 files_over_or_not : (text : List ℕ) (trees : List PolicyTree) (names : List (List ℕ)) (why : ReadFault) → AllByRecursion (IsSmallTree text) trees → All IsId names →
@@ -261,9 +268,11 @@ file_value laws trees answers text f g a b =
     let are = subst (λ ts. ArePoliciesOf text ts f.0 f.1) same a.are in
     ap (λ (ns : List (List ℕ)). both ns f.1) (names-same laws.values text b.trees f.0 g.0 are.named b.are.named) ∙ ap (both g.0) (cores-same laws.values text b.trees f.1 g.1 are.cores b.are.cores)
 
-pub file_reading : Laws → HasOneTree (grammar.policies nesting_limit) → HasOneAnswerWithin (grammar.policies nesting_limit) (at_any grammar.policies) → HasOneReading IsFileOf IsFileRefused
-file_reading laws trees answers = record {
+pub file_reading : Laws → HasOneTree (grammar.policies nesting_limit) → HasOneAnswerWithin (grammar.policies nesting_limit) (at_any grammar.policies) → IsAnswered IsFileOf IsFileRefused
+    → HasOneReading IsFileOf IsFileRefused
+file_reading laws trees answers each = record {
   one_value = file_value laws trees answers;
   not_both = file_both laws trees answers;
   one_refusal = file_refusal laws trees answers;
+  some = each;
 }

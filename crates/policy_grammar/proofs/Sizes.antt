@@ -15,7 +15,7 @@ use Rattle.expressions.specs.declared.expr.Expr.{Expr}
 use Rattle.expressions.specs.declared.expr.Expr.TheVariants as core
 use Rattle.expressions.specs.Size as size
 use Rattle.expressions.specs.Size.{height_step, forms_step, greatest, total, capped}
-use Rattle.expressions.specs.inner.Forms.{fold_literal, fold_variable, fold_and, fold_unary, fold_binary, fold_set}
+use Rattle.expressions.proofs.Forms.{fold_literal, fold_variable, fold_and, fold_unary, fold_binary, fold_set}
 use Rattle.token_readers.specs.declared.tree.UidTree.{UidTree}
 use Rattle.policy_syntax.specs.declared.tree.PartTree.{PartTree}
 use Rattle.policy_syntax.specs.declared.tree.PartTree.TheVariants as part

@@ -1,5 +1,5 @@
 -- That a text is read in one way, which fault is told, and that a file's names differ.
-use Rattle.std.specs.Prelude.{◌≡◌, ℕ, List, length, Some}
+use Rattle.std.specs.Prelude.{◌≡◌, ◌⊎◌, ℕ, List, length, Some}
 use Rattle.std.specs.List.{IsDistinct}
 use Rattle.std.specs.Str.{bytes_eq}
 use Rattle.policy_grammar.specs.declared.policy.Policy.{Policy}
@@ -9,12 +9,14 @@ use Rattle.desugaring.specs.Refused.{at, IsLeastOf}
 use Rattle.policy_grammar.specs.Faults.{place_of}
 use Rattle.policy_grammar.specs.PolicyText.{IsPolicyFile, IsToldOf}
 
--- A text stands for one value at most; one that stands for a value is not refused; and it has one refusal at most.
+-- A text stands for one value at most; one that stands for a value is not refused; it has one refusal at most; and it
+-- stands for a value or is refused. So it comes to exactly one thing.
 pub record HasOneReading {A : Type 0} (Stands : List ℕ → A → Type 0) (Refused : List ℕ → ReadFault → Type 0) :
     Type 0 where
   pub one_value : (text : List ℕ) (x y : A) → Stands text x → Stands text y → x ≡ y
   pub not_both : (text : List ℕ) (x : A) (why : ReadFault) → Stands text x → Refused text why → ⊥
   pub one_refusal : (text : List ℕ) (why other : ReadFault) → Refused text why → Refused text other → why ≡ other
+  pub some : (text : List ℕ) → ((x : A) × Stands text x) ⊎ ((why : ReadFault) × Refused text why)
 
 -- a file's names and policies as one value
 abbrev pub IsFileOf : List ℕ → (List (List ℕ) × List Policy) → Type 0

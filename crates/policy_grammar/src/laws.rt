@@ -4,10 +4,11 @@ ghost use Rattle.policy_grammar.specs.PolicyText.{IsFileRefused};
 ghost use Rattle.policy_grammar.specs.Unique.{HasOneReading, IsFileOf, ToldIsLeast, EachIsNamed, NamesDiffer};
 
 use desugaring::least_fault_is_told;
-use policy_syntax::reading_is_unique;
+use policy_syntax::{reading_is_unique, trees_stand_in_tokens};
 use policy_tokens::{lexing_is_unique, strings_have_one_meaning};
 
-/// That a text is read in one way: it does nothing, and its clauses are laws of the definitions.
+/// That each text comes to exactly one thing, what it stands for or a refusal: it does nothing, and its clauses are
+/// laws of the definitions.
 pub fn texts_have_one_reading()
     ensures uid { HasOneReading IsUidText IsUidRefused }
     ensures policy { HasOneReading IsPolicyText IsPolicyRefused }
@@ -16,6 +17,8 @@ pub fn texts_have_one_reading()
     lexing_is_unique();
     strings_have_one_meaning();
     reading_is_unique();
+    trees_stand_in_tokens();
+    least_fault_is_told();
 }
 
 /// That the fault told of a tree or a file is the one at the least place: it does nothing, and its clause is a law of

@@ -11,6 +11,7 @@ use Rattle.policy_syntax.specs.declared.tree.ActionTree.TheVariants as action
 use Rattle.policy_syntax.specs.declared.tree.Condition.{Condition}
 use Rattle.policy_syntax.specs.declared.tree.PolicyTree.{PolicyTree}
 use Rattle.token_readers.specs.Kinds.{only}
+use Rattle.token_readers.specs.Lang.{Lang}
 pub use Rattle.expression_syntax.specs.Stands.{TokenStands, PathStands, UidStands, ExprStands}
 use Rattle.policy_syntax.specs.Grammar.{words, effects, condition_words}
 
@@ -44,3 +45,9 @@ pub record PolicyStands (ts : List Token) (p : PolicyTree) : Type 0 where
   pub action : ActionStands ts p.action
   pub resource : PartStands ts p.resource
   pub conditions : AllByRecursion (ConditionStands ts) p.conditions
+
+-- ## Laws
+
+-- What tokens derive is made of them.
+abbrev pub IsMadeOfTokens : {A : Type 0} → Lang A → (List Token → A → Type 0) → Type 0
+IsMadeOfTokens L Stands = (ts : List Token) (x : _) → L ts x → Stands ts x

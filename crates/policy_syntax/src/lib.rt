@@ -12,6 +12,6 @@ mod scope;
 mod tree;
 
 pub use expression_syntax::{ExprTree, PathTree, SyntaxFault, UidTree};
-pub use laws::reading_is_unique;
+pub use laws::{reading_is_unique, trees_stand_in_tokens};
 pub use read::{read_policies, read_policy, read_uid};
 pub use tree::{ActionTree, Annotation, Condition, PartTree, PolicyTree};

@@ -48,7 +48,7 @@ number_longest c cs l j v more t e =
 joined : (n c : ℕ) (cs : List ℕ) → c ∷ cs ≡ (c ∷ take n cs) ++ drop n cs
 joined n c cs = ap (λ (x : List ℕ). c ∷ x) (sym (take-append-drop n cs))
 
-word_found : (c : ℕ) (cs : List ℕ) → is_letter c ≡ true → IsFirst (record { kind = kind_of_word (c ∷ take (run is_word_byte cs) cs); len = suc (run is_word_byte cs) }) (c ∷ cs)
+pub word_found : (c : ℕ) (cs : List ℕ) → is_letter c ≡ true → IsFirst (record { kind = kind_of_word (c ∷ take (run is_word_byte cs) cs); len = suc (run is_word_byte cs) }) (c ∷ cs)
 word_found c cs l =
     let n = run is_word_byte cs in
     let long = run_within is_word_byte cs in
@@ -63,7 +63,7 @@ word_found c cs l =
       len = omega arith;
     }
 
-number_found : (c : ℕ) (cs : List ℕ) → is_digit c ≡ true → IsFirst (record { kind = Number; len = suc (run is_digit cs) }) (c ∷ cs)
+pub number_found : (c : ℕ) (cs : List ℕ) → is_digit c ≡ true → IsFirst (record { kind = Number; len = suc (run is_digit cs) }) (c ∷ cs)
 number_found c cs l =
     let n = run is_digit cs in
     let long = run_within is_digit cs in

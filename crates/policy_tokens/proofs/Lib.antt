@@ -11,6 +11,10 @@ pub mod Ends
 pub mod GapTells
 pub mod Joining
 pub mod Unique
+pub mod SomeGap
+pub mod SomeEscape
+pub mod SomeToken
+pub mod SomeWay
 pub mod OneWay
 pub mod Spelled
 pub mod WordKinds

@@ -6,10 +6,13 @@
 -- comment ends before a line feed or a carriage return; a line end may stand in a string; the longest token is taken;
 -- `__cedar` is reserved.
 --
--- A text is the list of its bytes in UTF-8, and a place is a number of bytes from the text's start.
+-- A text is the list of its bytes in UTF-8, and a place is a number of bytes from the text's start. `codes "if"` is the
+-- list of the numbers of these characters, and `code "i"` the number of this one.
+use Prim.Native.Char.{code}
 use Rattle.std.specs.Prelude.{◌≡◌, ◌≢◌, ℕ, ◌+◌, ◌-◌, ◌*◌, ◌≤◌, ◌<◌, Bool, true, false, not, ◌==◌, ◌||◌, nat_eq, nat_lt}
 use Rattle.std.specs.Prelude.{if◌then◌else◌, List, [], ◌∷◌, ◌++◌, length, take, drop, Option, Some, None, codes}
-use Rattle.std.specs.Prelude.{encode_utf8}
+use Rattle.std.specs.Prelude.{◌⊎◌, encode_utf8}
+use Rattle.std.specs.List.{AllByRecursion}
 use Rattle.std.specs.Str.{bytes_eq, IsCharBoundary}
 use Rattle.std.specs.Char.{is_whitespace, IsScalar, digit_value}
 use Rattle.plain.specs.Words.{is_digit, AllAre, IsWord}
@@ -98,19 +101,34 @@ IsNumber [] = ⊥
 IsNumber (c ∷ cs) = (is_digit c ≡ true) × AllAre is_digit cs
 
 -- ## Strings
+--
+-- A string is a quote, then bytes that stand for themselves and escapes, then a quote. The escapes are
+--
+--     \n  \r  \t  \\  \0  \'  \"    a letter or mark: what `escapes` says that it stands for
+--     \*                            a star, which is no wildcard in a pattern
+--     \x7F                          two hexadecimal digits, up to 7F: the character of that number
+--     \u{10FFFF}                    one to six hexadecimal digits: the Unicode scalar value of that number
 
 abbrev pub quote : ℕ
-quote = 34
+quote = code "\""
 
 abbrev pub backslash : ℕ
-backslash = 92
+backslash = code "\\"
 
--- what a letter or mark after a backslash stands for: `\n \r \t \\ \0 \' \"`
+-- the letters and marks that make an escape behind a backslash, each with the character that it stands for there
+abbrev pub escapes : List (ℕ × ℕ)
+escapes = (code "n", code "\n") ∷ (code "r", code "\r") ∷ (code "t", code "\t") ∷ (code "\\", code "\\")
+    ∷ (code "0", code "\0") ∷ (code "'", code "'") ∷ (code "\"", code "\"") ∷ []
+
+-- what a table says that a letter or mark stands for
+abbrev pub meant_in : List (ℕ × ℕ) → ℕ → Option ℕ
+meant_in [] c = None
+meant_in ((d, meant) ∷ table) c = if nat_eq c d then Some meant else meant_in table c
+
 abbrev pub escaped : ℕ → Option ℕ
-escaped c = if nat_eq c 110 then Some 10
-    else (if nat_eq c 114 then Some 13 else (if nat_eq c 116 then Some 9 else (if nat_eq c 92 then Some 92
-    else (if nat_eq c 48 then Some 0 else (if nat_eq c 39 then Some 39 else (if nat_eq c 34 then Some 34 else None))))))
+escaped c = meant_in escapes c
 
+-- a hexadecimal digit, of either case
 unfoldable pub is_hex : ℕ → Bool
 is_hex c = nat_lt (digit_value c) 16
 
@@ -119,18 +137,17 @@ abbrev pub hex_after : ℕ → List ℕ → ℕ
 hex_after n [] = n
 hex_after n (d ∷ ds) = hex_after (n * 16 + digit_value d) ds
 
--- The bytes are an escape, and stand for this: a letter or mark; `\*`; `\x` and two hexadecimal digits up to 7F; `\u{`
--- and one to six hexadecimal digits of a Unicode scalar value and `}`.
+-- The bytes are an escape, of one of these four forms, and stand for this piece.
 pub data IsEscape : Piece → List ℕ → Type 0 where
   letter : {p : Piece} {w : List ℕ} (c meant : ℕ) → escaped c ≡ Some meant → w ≡ backslash ∷ c ∷ []
       → p ≡ piece.Char meant → IsEscape p w
-  star : {p : Piece} {w : List ℕ} → w ≡ backslash ∷ codes "*" → p ≡ piece.Star → IsEscape p w
+  star : {p : Piece} {w : List ℕ} → w ≡ codes "\\*" → p ≡ piece.Star → IsEscape p w
   short : {p : Piece} {w : List ℕ} (high low : ℕ) → digit_value high < 8 → digit_value low < 16 →
-      w ≡ backslash ∷ codes "x" ++ high ∷ low ∷ [] → p ≡ piece.Char (digit_value high * 16 + digit_value low)
+      w ≡ codes "\\x" ++ high ∷ low ∷ [] → p ≡ piece.Char (digit_value high * 16 + digit_value low)
       → IsEscape p w
   long : {p : Piece} {w : List ℕ} (digits : List ℕ) → 1 ≤ length digits → length digits ≤ 6 → AllAre is_hex digits
       → IsScalar (hex_after 0 digits) →
-      w ≡ backslash ∷ codes "u{" ++ (digits ++ codes "}") → p ≡ piece.Char (hex_after 0 digits) → IsEscape p w
+      w ≡ codes "\\u{" ++ (digits ++ codes "}") → p ≡ piece.Char (hex_after 0 digits) → IsEscape p w
 
 -- The bytes between two quotes are these pieces: bytes that stand for themselves, and escapes.
 pub data IsBody : List Piece → List ℕ → Type 0 where
@@ -178,7 +195,7 @@ NoToken text = (k : Kind) (w more : List ℕ) → IsToken k w → text ≡ w ++ 
 
 -- neither a line feed nor a carriage return
 unfoldable pub in_line : ℕ → Bool
-in_line c = not ((c == 10) || (c == 13))
+in_line c = not ((c == code "\n") || (c == code "\r"))
 
 -- the text's end, or the end of a line
 abbrev pub EndsLine : List ℕ → Type 0
@@ -258,3 +275,12 @@ BadIsNotLexed = (text : List ℕ) (at : ℕ) (ts : List Token) → IsBadAt text 
 -- and is bad at no other place.
 abbrev pub OneBadPlace : Type 0
 OneBadPlace = (text : List ℕ) (at other : ℕ) → IsBadAt text at → IsBadAt text other → at ≡ other
+
+-- Each text has tokens, or a place at which none begins.
+abbrev pub EachIsLexedOrBad : Type 0
+EachIsLexedOrBad = (text : List ℕ) → ((ts : List Token) × IsLexed text ts) ⊎ ((at : ℕ) × IsBadAt text at)
+
+-- What is written where a token stands spells its kind.
+abbrev pub EachIsSpelled : Type 0
+EachIsSpelled = (text : List ℕ) (ts : List Token) → IsLexed text ts
+    → AllByRecursion (λ t. IsToken t.kind (spelling_of text t)) ts

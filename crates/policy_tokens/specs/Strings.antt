@@ -1,6 +1,7 @@
 -- What a string of a policy stands for: its value, or the literal texts of a pattern.
 -- Source: Cedar reference guide 4.0, "Data types: String" (escape sequences) and "Operators: like" (`*` is any run of
 -- characters, `\*` a star).
+use Prim.Native.Char.{code}
 use Rattle.std.specs.Prelude.{◌≡◌, ℕ, Bool, true, false, ◌==◌, if◌then◌else◌, List, [], ◌∷◌, ◌++◌, codes, encode_utf8}
 use Rattle.policy_tokens.specs.declared.piece.Piece.{Piece}
 use Rattle.policy_tokens.specs.declared.piece.Piece.TheVariants.{Byte, Char, Star}
@@ -35,7 +36,7 @@ pub record IsStringOf (value spelling : List ℕ) : Type 0 where
 
 -- A `*` that stands for itself in the text is the wildcard of a pattern; one that an escape makes is a literal star.
 abbrev pub is_wildcard : Piece → Bool
-is_wildcard (Byte b) = b == 42
+is_wildcard (Byte b) = b == code "*"
 is_wildcard (Char c) = false
 is_wildcard Star = false
 

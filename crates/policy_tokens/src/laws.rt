@@ -1,14 +1,18 @@
 // Laws of the definitions.
 ghost use Rattle.policy_tokens.specs.Lexing.{OneLexing, BadIsNotLexed, OneBadPlace};
+ghost use Rattle.policy_tokens.specs.Lexing.{EachIsLexedOrBad, EachIsSpelled};
 ghost use Rattle.policy_tokens.specs.Idents.{IdentsByKind, ReservedByKind, IdentsAreTokens};
 ghost use Rattle.policy_tokens.specs.Strings.{HasValue, OneValue, HasPattern, OnePattern};
 
-/// That a text has its tokens in one way: it does nothing, and its clauses are laws of the
+/// That each text has its tokens in one way, or exactly one place at which none begins, and that
+/// tokens are spelled as their kinds say: it does nothing, and its clauses are laws of the
 /// definitions.
 pub fn lexing_is_unique()
     ensures one_list { OneLexing }
     ensures not_both { BadIsNotLexed }
     ensures one_place { OneBadPlace }
+    ensures some { EachIsLexedOrBad }
+    ensures spelled { EachIsSpelled }
 {}
 
 /// That the kinds of tokens tell identifiers and reserved words: it does nothing, and its clauses

@@ -9,6 +9,7 @@ use Rattle.token_readers.specs.Gives.{Gives}
 use Rattle.token_readers.specs.Reading.{Parser, Read, Stop, Why, Unexpected, TooDeep}
 use Rattle.token_readers.specs.Reads.{Begins, BreaksAt, GoesOn, HasOneTree, HasOneAnswerWithin, ReadsWithin, ReadsFrontWithin, OpensNextLevel, refusal_of}
 use Rattle.token_readers.proofs.Rules.{Rule, Levels, Opens}
+use Rattle.token_readers.proofs.Firm.{Firm}
 use Rattle.token_readers.proofs.Whole as whole
 use Rattle.token_readers.proofs.Whole.{Limited, opened_at}
 
@@ -83,7 +84,7 @@ module _ {A : Type 0} (G : ℕ → Lang A) (P : ℕ → Parser A) (ks : Kinds)
       → ReadsWithin (G (suc n)) (at_any G) ts (Err (refusal_of e (length ts - length rest) rest))
   halted_read n = whole.halted_read (G (suc n)) (at_any G) (P (suc n)) ks (levels (suc n) (suc n)) (rule n n (omega arith)) refl (alive n) (limited n)
 
-  pub front_read : (n : ℕ) (ts rest : List Token) (r : Result A Halt) → Gives (P (suc n) ts) r rest
+  pub front_read : (n : ℕ) → Firm (G (suc n)) (P (suc n)) → (ts rest : List Token) (r : Result A Halt) → Gives (P (suc n) ts) r rest
       → ReadsFrontWithin (G (suc n)) (at_any G) ts r rest
   front_read n = whole.front_read (G (suc n)) (at_any G) (P (suc n)) ks (levels (suc n) (suc n)) (rule n n (omega arith)) refl (alive n) (limited n)
 

@@ -3,10 +3,11 @@
 --   Sets, KindLemmas                 sets of kinds, first and follow sets among them
 --   Rules, Forms, More, Many, Steps, Openings
 --                                    a rule for each form of production: what a parser reads is what its language derives
+--   Firm                             a reader stops for a token at no place at which a tree ends
 --   Gathered, LoopEnds               loops of the code, beside the repetition that they read
 --   Whole, Depths                    of any rule: the exits of a reader, and the laws of one tree and one answer
 --   StandsLemmas                     a tree is made of the tokens that derive it
---   NameRules, UidLoop, NameLoop, NamesExact
+--   NameRules, UidLoop, NameLoop, NamesFirm, NamesExact
 --                                    names, by these
 pub mod Sets
 pub mod Rules
@@ -15,6 +16,7 @@ pub mod More
 pub mod Many
 pub mod Steps
 pub mod Openings
+pub mod Firm
 pub mod Gathered
 pub mod Whole
 pub mod Depths
@@ -24,4 +26,5 @@ pub mod NameRules
 pub mod UidLoop
 pub mod NameLoop
 pub mod StandsLemmas
+pub mod NamesFirm
 pub mod NamesExact

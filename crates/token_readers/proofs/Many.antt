@@ -17,7 +17,7 @@ looped next L s ts [] = ts ≡ []
 looped next L s ts (x ∷ xs) = (front : List Token) × (back : List Token) × (ts ≡ front ++ back) × L s front x × looped next L (next s x) back xs
 
 -- one turn, where n more may follow
-abbrev turn : {S A : Type 0} → (S → A → S) → (S → Kinds) → (S → Parser A) → ℕ → S → Parser (List A)
+abbrev pub turn : {S A : Type 0} → (S → A → S) → (S → Kinds) → (S → Parser A) → ℕ → S → Parser (List A)
 turn next ks p n s = p s >>= (λ a. loop_from next ks p n (next s a) >>= (λ more. pure (a ∷ more)))
 
 module _ {S A : Type 0} (next : S → A → S) (ks : S → Kinds) (p : S → Parser A) where
@@ -36,13 +36,13 @@ module _ {S A : Type 0} (next : S → A → S) (ks : S → Kinds) (p : S → Par
       let e = nothing_read (r.value ∷ s.value) xs s.mid rest s.second in
       record { head = r.value; tail = s.value; mid = r.mid; one = r.first; others = s.first ∙ ap (Read s.value) e.1; all = e.0 }
 
-  record TurnStops (n : ℕ) (st : S) (ts : List Token) (w : Why) (rest : List Token) : Type 0 where
-    head : A
-    mid : List Token
-    one : p st ts ≡ Read head mid
-    others : loop_from next ks p n (next st head) mid ≡ Stop w rest
+  pub record TurnStops (n : ℕ) (st : S) (ts : List Token) (w : Why) (rest : List Token) : Type 0 where
+    pub head : A
+    pub mid : List Token
+    pub one : p st ts ≡ Read head mid
+    pub others : loop_from next ks p n (next st head) mid ≡ Stop w rest
 
-  turn_stops : (n : ℕ) (st : S) (ts : List Token) (w : Why) (rest : List Token) → turn next ks p n st ts ≡ Stop w rest → (p st ts ≡ Stop w rest) ⊎ TurnStops n st ts w rest
+  pub turn_stops : (n : ℕ) (st : S) (ts : List Token) (w : Why) (rest : List Token) → turn next ks p n st ts ≡ Stop w rest → (p st ts ≡ Stop w rest) ⊎ TurnStops n st ts w rest
   turn_stops n st ts w rest h = elim (stop_either (p st ts) (λ a. loop_from next ks p n (next st a) >>= (λ more. pure (a ∷ more))) w rest h) [
     | inl s ↦ inl s
     | inr s ↦ elim (stop_either (loop_from next ks p n (next st s.value) s.mid) (λ more. pure (s.value ∷ more)) w rest s.second) [
@@ -75,7 +75,7 @@ module _ {S A : Type 0} (next : S → A → S) (L : S → Lang A) where
   loop_begins st front (inr b) = b
 
 -- a piece isn't empty
-some_token : (ks : Kinds) (ts : List Token) → sees ks ts ≡ true → 0 < length ts
+pub some_token : (ks : Kinds) (ts : List Token) → sees ks ts ≡ true → 0 < length ts
 some_token ks [] h = absurd (cc)
 some_token ks (t ∷ ts) h = omega arith
 
@@ -99,7 +99,7 @@ module _ {S A : Type 0} (next : S → A → S) (L K : S → Lang A) (p q : S →
     | inr c ↦ none next L st ts rest xs c.1
   ]
 
-  unseen : (st : S) (front : List Token) (xs : List A) (rest : List Token) → looped next L st front xs → sees js rest ≡ false → sees is (front ++ rest) ≡ false
+  pub unseen : (st : S) (front : List Token) (xs : List A) (rest : List Token) → looped next L st front xs → sees js rest ≡ false → sees is (front ++ rest) ≡ false
   unseen st front [] rest d h = ap (λ z. sees is (z ++ rest)) d ∙ unseen_within is js rest ij h
   unseen st front (x ∷ xs) rest d h = ap (λ z. sees is (z ++ rest)) d.2 ∙ ap (sees is) (append_assoc d.0 d.1 rest) ∙ sees_apart (ks st) is d.0 (d.1 ++ rest) (ki st) (starts st d.0 x d.3)
 
@@ -118,7 +118,7 @@ module _ {S A : Type 0} (next : S → A → S) (L K : S → Lang A) (p q : S →
       ∙ ap (λ o. and_then o (λ a. loop_from next ks p n (next st a) >>= (λ more. pure (a ∷ more)))) ((l st d.0 (starts st d.0 x d.3)).complete d.0 x (d.1 ++ rest) d.3 (unseen (next st x) d.1 xs rest d.4 h))
       ∙ ap (λ o. and_then o (λ more. pure (x ∷ more))) (complete_many n (next st x) d.1 xs rest small d.4 h)
 
-  viable_many : (n : ℕ) (st : S) (ts : List Token) (w : Why) (rest : List Token) → loop_from next ks p n st ts ≡ Stop w rest → Stops (looped next L st) ts rest
+  pub viable_many : (n : ℕ) (st : S) (ts : List Token) (w : Why) (rest : List Token) → loop_from next ks p n st ts ≡ Stop w rest → Stops (looped next L st) ts rest
   unfolding loop_from
   viable_many zero st ts w rest h = absurd (not_stop [] w ts rest h)
   viable_many (suc n) st ts w rest h = elim (choice (sees (ks st) ts) (turn next ks p n st) (pure []) ts (Stop w rest) h) [
@@ -225,7 +225,7 @@ many_to : {A : Type 0} (L : Lang A) (ts : List Token) (xs : List A) → looped (
 many_to L ts [] d = d
 many_to L ts (x ∷ xs) d = (d.0, d.1, d.2, d.3, many_to L d.1 xs d.4)
 
-many_from : {A : Type 0} (L : Lang A) (ts : List Token) (xs : List A) → lang.many L ts xs → looped (λ s a. s) (λ s. L) (tt {0}) ts xs
+pub many_from : {A : Type 0} (L : Lang A) (ts : List Token) (xs : List A) → lang.many L ts xs → looped (λ s a. s) (λ s. L) (tt {0}) ts xs
 many_from L ts [] d = d
 many_from L ts (x ∷ xs) d = (d.0, d.1, d.2, d.3, many_from L d.1 xs d.4)
 

@@ -31,11 +31,11 @@ after_name = only k.Colons
 abbrev pub path_word : Lang Token
 path_word = lang.◌>>◌ (lang.one k.Colons) (lang.of identifiers)
 
-word_rule : (D : Levels) → Rule path_word path_word r.path_word r.path_word none D
+pub word_rule : (D : Levels) → Rule path_word path_word r.path_word r.path_word none D
 unfolding r.path_word
 word_rule D = behind k.Colons none D (of identifiers none D) (begin_of identifiers k.Ident refl)
 
-abbrev path_tail : Token → Lang PathTree
+abbrev pub path_tail : Token → Lang PathTree
 path_tail first = lang.◌>>=◌ (lang.many path_word) (λ more. lang.empty (record { first = first; more = more }))
 
 alive_tail : (first : Token) → Begins (path_tail first) []
@@ -69,8 +69,11 @@ abbrev pub closed : Bool → Token → List Token → Lang UidTree
 closed true first ts = lang.empty (uid_of first ts)
 closed false first ts = lang.never
 
+abbrev pub behind_first : Token → Lang UidTree
+behind_first first = lang.◌>>=◌ segments (λ ts. closed (ends false ts) first ts)
+
 abbrev pub factored : Lang UidTree
-factored = lang.◌>>=◌ (lang.of identifiers) (λ first. lang.◌>>=◌ segments (λ ts. closed (ends false ts) first ts))
+factored = lang.◌>>=◌ (lang.of identifiers) behind_first
 
 -- one more segment behind the others
 pub snoc : (st : Bool) (front piece : List Token) (x : Token) (xs : List Token) → looped ended_by segment st front xs → ends st xs ≡ false → segment false piece x → looped ended_by segment st (front ++ piece) (xs ++ x ∷ [])
@@ -127,23 +130,23 @@ pub starts_segment : (st : Bool) → Starts (segment st) (goes_on st)
 starts_segment false = starts_one k.Colons (λ _. lang.of pieces)
 starts_segment true = λ ts a d. absurd d
 
-goes_apart : (st : Bool) → apart (goes_on st) none ≡ true
+pub goes_apart : (st : Bool) → apart (goes_on st) none ≡ true
 unfolding same_kind
 goes_apart false = refl
 goes_apart true = refl
 
-goes_within : (st : Bool) → within (goes_on st) (only k.Colons) ≡ true
+pub goes_within : (st : Bool) → within (goes_on st) (only k.Colons) ≡ true
 unfolding same_kind
 goes_within false = refl
 goes_within true = refl
 
-leads_closed : (b : Bool) (first : Token) (ts : List Token) → Leads (closed b first ts) (only k.Colons) after_name
+pub leads_closed : (b : Bool) (first : Token) (ts : List Token) → Leads (closed b first ts) (only k.Colons) after_name
 unfolding same_kind
 leads_closed true first ts = leads_empty (uid_of first ts) (only k.Colons) after_name refl
 leads_closed false first ts = λ front a rest d h. absurd d
 
 module _ (D : Levels) where
-  piece_at : (st : Bool) (ts : List Token) → sees (goes_on st) ts ≡ true → Rule (segment st) (segment st) piece piece none D
+  pub piece_at : (st : Bool) (ts : List Token) → sees (goes_on st) ts ≡ true → Rule (segment st) (segment st) piece piece none D
   unfolding piece
   piece_at false ts h = behind k.Colons none D (of pieces none D) (begin_of pieces k.Ident refl)
   piece_at true ts h = absurd (unseen ts h)
@@ -152,16 +155,19 @@ module _ (D : Levels) where
   unfolding same_kind
   segments_rule = repeated ended_by segment segment (λ st. piece) (λ st. piece) goes_on none (only k.Colons) D piece_at starts_segment goes_apart refl goes_within false
 
-  closed_rule : (b : Bool) (first : Token) (ts : List Token) → Rule (closed b first ts) (closed b first ts) (finished b first ts) (finished b first ts) after_name D
+  pub closed_rule : (b : Bool) (first : Token) (ts : List Token) → Rule (closed b first ts) (closed b first ts) (finished b first ts) (finished b first ts) after_name D
   closed_rule true first ts = nothing (uid_of first ts) after_name D
   closed_rule false first ts = refused after_name D
 
+  pub behind_first_rule : (first : Token) → Rule (behind_first first) (behind_first first) (r.uid_behind first) (r.uid_behind first) after_name D
+  unfolding r.uid_behind
+  behind_first_rule first =
+      both segments segments _ _ _ _ _ _ (only k.Colons) after_name D segments_rule (λ ts. closed_rule (ends false ts) first ts) (λ ts. leads_closed (ends false ts) first ts) (on first) (on first)
+
   factored_rule : Rule factored factored r.uid r.uid after_name D
-  unfolding r.uid r.uid_behind
+  unfolding r.uid
   factored_rule =
-      seq (of identifiers none D)
-      (λ first. both segments segments _ _ _ _ _ _ (only k.Colons) after_name D segments_rule (λ ts. closed_rule (ends false ts) first ts) (λ ts. leads_closed (ends false ts) first ts) (on first) (on first))
-      (λ first. free _ after_name)
+      seq (of identifiers none D) behind_first_rule (λ first. free _ after_name)
       (λ first. on first [] [] refl)
 
 -- ---- the factored form is the production
@@ -320,7 +326,7 @@ from_uid ts u j =
       };
     }
 
-same_uid : Same factored g.uid
+pub same_uid : Same factored g.uid
 same_uid = record { to = to_uid; from = from_uid }
 
 pub uid_rule : (D : Levels) → Rule g.uid g.uid r.uid r.uid after_name D

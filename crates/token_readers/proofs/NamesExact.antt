@@ -12,6 +12,7 @@ use Rattle.token_readers.specs.Reading.{Read}
 use Rattle.token_readers.specs.Reads.{HasOneTree, HasOneAnswer, Reads, ReadsFront, refusal_of}
 use Rattle.token_readers.proofs.Rules.{Levels}
 use Rattle.token_readers.proofs.NameRules.{after_name, path_rule, alive_path, uid_rule, alive_uid}
+use Rattle.token_readers.proofs.NamesFirm.{firm_path, firm_uid}
 use Rattle.token_readers.proofs.Whole as whole
 use Rattle.token_readers.proofs.Whole.{Limited}
 
@@ -22,13 +23,13 @@ flat_path : Limited g.path g.path r.path
 flat_path = whole.flat g.path r.path after_name level (path_rule level) tt alive_path tt
 
 pub path_front : (ts rest : List Token) (x : Result PathTree Halt) → Gives (r.path ts) x rest → ReadsFront g.path ts x rest
-path_front = whole.front_read g.path g.path r.path after_name level (path_rule level) tt alive_path flat_path
+path_front = whole.front_read g.path g.path r.path after_name level (path_rule level) tt alive_path flat_path (firm_path level)
 
 flat_uid : Limited g.uid g.uid r.uid
 flat_uid = whole.flat g.uid r.uid after_name level (uid_rule level) tt alive_uid tt
 
 pub uid_front : (ts rest : List Token) (x : Result UidTree Halt) → Gives (r.uid ts) x rest → ReadsFront g.uid ts x rest
-uid_front = whole.front_read g.uid g.uid r.uid after_name level (uid_rule level) tt alive_uid flat_uid
+uid_front = whole.front_read g.uid g.uid r.uid after_name level (uid_rule level) tt alive_uid flat_uid (firm_uid level)
 
 -- ---- a whole list
 

@@ -20,6 +20,12 @@ opening_one k M alive t h =
     let b = alive t in
     record { more = b.more; value = b.value; derived = record { front = t ∷ []; back = b.more; value = t; whole = refl; first = (refl, h); second = b.derived } }
 
+-- and so does each token that may come first
+pub opening_of : {A : Type 0} (ks : Kinds) (M : Token → Lang A) → ((t : Token) → Begins (M t) []) → Opening (lang.◌>>=◌ (lang.of ks) M) ks
+opening_of ks M alive t h =
+    let b = alive t in
+    record { more = b.more; value = b.value; derived = record { front = t ∷ []; back = b.more; value = t; whole = refl; first = (refl, h); second = b.derived } }
+
 pub opening_then : {A B : Type 0} (L : Lang A) (M : A → Lang B) (ks : Kinds) → Opening L ks → ((a : A) → Begins (M a) []) → Opening (lang.◌>>=◌ L M) ks
 opening_then L M ks opening alive t h = begin_front L M (on_alive L M alive) (t ∷ []) (opening t h)
 

@@ -11,6 +11,7 @@ use Rattle.token_readers.specs.Lang.{Lang}
 use Rattle.token_readers.specs.Reading.{Parser, Outcome, Read, Stop, Why, Unexpected, TooDeep}
 use Rattle.token_readers.specs.Gives.{Gives}
 use Rattle.token_readers.specs.Reads.{Begins, StopsBefore, BreaksAt, GoesOn, IsRefusedWithin, ComesToWithin, ReadsWithin, ReadsFrontWithin, AnsweredWithin, HasOneTree, HasOneAnswerWithin, is_slot, sees, refusal_by, refusal_at, refusal_of}
+use Rattle.token_readers.proofs.Firm.{Firm}
 use Rattle.token_readers.proofs.Rules.{Rule, Levels, Keeps, Opens}
 
 -- ---- there is one place where a list leaves a language
@@ -264,15 +265,20 @@ module _ {A : Type 0} (L K : Lang A) (p : Parser A) (ks : Kinds) (D : Levels) (r
 
   -- ---- the front of a list
 
-  pub front_read : (ts rest : List Token) (r : Result A Halt) → Gives (p ts) r rest → ReadsFrontWithin L K ts r rest
-  front_read ts rest (Ok x) g =
+  -- where reading stops for a token, no tree ends
+  no_tree : Firm L p → (ts rest : List Token) (place : ℕ) (b : BreaksAt L ts place rest) → p ts ≡ Stop Unexpected rest → (x : A) → L b.front x → ⊥
+  no_tree firm ts [] place b e = b.stops
+  no_tree firm ts (t ∷ more) place b e = λ x. firm.at b.front t more x (ap p (sym b.whole) ∙ e)
+
+  pub front_read : Firm L p → (ts rest : List Token) (r : Result A Halt) → Gives (p ts) r rest → ReadsFrontWithin L K ts r rest
+  front_read firm ts rest (Ok x) g =
       let s = rule.sound ts x rest g in
       record { front = s.front; whole = s.whole; derived = s.derived; ends = past_by s.front rest x (ap p (sym s.whole) ∙ g) }
-  front_read ts rest (Err halt.NoMemory) g = tt
-  front_read ts rest (Err halt.Unexpected) g =
+  front_read firm ts rest (Err halt.NoMemory) g = tt
+  front_read firm ts rest (Err halt.Unexpected) g =
       let breaks = breaks_stop L p ks D rule equal alive Unexpected ts rest g in
-      (breaks, bad_by breaks.front rest (ap p (sym breaks.whole) ∙ g))
-  front_read ts rest (Err halt.TooDeep) g =
+      (breaks, bad_by breaks.front rest (ap p (sym breaks.whole) ∙ g), no_tree firm ts rest (length ts - length rest) breaks g)
+  front_read firm ts rest (Err halt.TooDeep) g =
       let breaks = breaks_stop L p ks D rule equal alive TooDeep ts rest g in
       (breaks, deep_by breaks.front rest (ap p (sym breaks.whole) ∙ g))
 

@@ -96,12 +96,13 @@ pub record Takes {A : Type 0} (L K : Lang A) (ts : List Token) (tree : A) (rest 
   pub ends : GoesOn K front rest → ⊥
 
 -- What a reader answers that stops behind a tree, or at the first token with which nothing goes on, and what is left
--- then: L and K as for whole lists.
+-- then: L and K as for whole lists. A token is unexpected only where those before it are no tree; where they are one,
+-- that tree is the answer.
 abbrev pub ReadsFrontWithin : {A : Type 0} → Lang A → Lang A → List Token → Result A Halt → List Token → Type 0
 ReadsFrontWithin L K ts (Ok tree) rest = Takes L K ts tree rest
 ReadsFrontWithin L K ts (Err halt.NoMemory) rest = Unit {0}
 ReadsFrontWithin L K ts (Err halt.Unexpected) rest =
-    (b : BreaksAt L ts (length ts - length rest) rest) × (GoesOn K b.front rest → ⊥)
+    (b : BreaksAt L ts (length ts - length rest) rest) × (GoesOn K b.front rest → ⊥) × ((x : _) → L b.front x → ⊥)
 ReadsFrontWithin L K ts (Err halt.TooDeep) rest =
     (b : BreaksAt L ts (length ts - length rest) rest) × GoesOn K b.front rest
 

@@ -1,4 +1,5 @@
 -- What the parts of the lexer tell one another.
+use Prim.Native.Char.{code}
 use Rattle.std.specs.Prelude.{◌≡◌, ℕ, suc, Bool, true, not, ◌&&◌, ◌||◌, ◌==◌, if◌then◌else◌, List, [], ◌∷◌, ◌++◌}
 use Rattle.std.specs.Prelude.{length, drop, Option, Some, None, encode_utf8}
 use Rattle.std.specs.Char.{is_whitespace}
@@ -10,7 +11,8 @@ use Rattle.policy_tokens.specs.declared.token.Found.{Found}
 use Rattle.policy_tokens.specs.declared.piece.Piece.{Piece}
 use Rattle.policy_tokens.specs.declared.piece.Piece.TheVariants.{Byte, Char, Star}
 use Rattle.policy_tokens.specs.declared.piece.Escape.{Escape}
-use Rattle.policy_tokens.specs.Lexing.{listed, singles, pairs, IsEscape, IsBody, IsLongest, NoToken, IsGap, NoGap}
+use Rattle.policy_tokens.specs.Lexing.{backslash, listed, singles, pairs, IsEscape, IsBody, IsLongest, NoToken, IsGap}
+use Rattle.policy_tokens.specs.Lexing.{NoGap}
 use Rattle.policy_tokens.specs.Strings.{bytes_of, is_wildcard}
 
 -- how many of the first pass the test
@@ -95,13 +97,13 @@ kind_with k Star = StarText
 
 -- Whether a byte between quotes stands for itself; in a pattern a star doesn't.
 unfoldable pub is_plain : Bool → ℕ → Bool
-is_plain in_pattern c = not ((c == 92) || (in_pattern && (c == 42)))
+is_plain in_pattern c = not ((c == backslash) || (in_pattern && (c == code "*")))
 
 -- the character that an escape stands for
 abbrev pub character_of : Piece → ℕ
-character_of (Byte b) = 42
+character_of (Byte b) = code "*"
 character_of (Char c) = c
-character_of Star = 42
+character_of Star = code "*"
 
 -- no wildcard among the pieces of a pattern
 abbrev pub is_literal : Bool → List Piece → Bool
@@ -110,7 +112,7 @@ is_literal in_pattern ps = not (in_pattern && list_any is_wildcard ps)
 -- a body's end, or a wildcard of a pattern
 abbrev pub EndsLiteral : Bool → List ℕ → Type 0
 EndsLiteral in_pattern [] = Unit {0}
-EndsLiteral in_pattern (c ∷ cs) = (in_pattern ≡ true) × (c ≡ 42)
+EndsLiteral in_pattern (c ∷ cs) = (in_pattern ≡ true) × (c ≡ code "*")
 
 -- The front of a body, of so many bytes, stands for this value; what follows is a body too.
 pub record IsRead (in_pattern : Bool) (value : List ℕ) (len : ℕ) (body : List ℕ) : Type 0 where

@@ -1,3 +1,4 @@
+use Rattle.decision_texts.proofs.LineOrRefusal.{line_or_refusal}
 use Rattle.decision_texts.proofs.OutcomeLemmas.{one_line, not_both, one_refusal, lines_ascend}
 use Rattle.decision_texts.proofs.laws.texts_have_one_outcome.Goals as goal
 
@@ -27,6 +28,15 @@ returns-clause-one_refusal c =
       names = c.names_read_back.ensures.name;
       each = c.file_names_differ.ensures.each;
       differ = c.file_names_differ.ensures.differ;
+      files = c.texts_have_one_reading.ensures.file;
+      answers = c.answers_are_lawful.ensures.finite;
+    })
+
+pub returns-clause-some : goal.returns-clause-some
+returns-clause-some c =
+    line_or_refusal (record {
+      found = c.names_read_back.ensures.found;
+      uids = c.texts_have_one_reading.ensures.uid;
       files = c.texts_have_one_reading.ensures.file;
       answers = c.answers_are_lawful.ensures.finite;
     })

@@ -1,3 +1,4 @@
+use Rattle.policy_grammar.proofs.Answering.{uid_answered, policy_answered, file_answered}
 use Rattle.policy_grammar.proofs.Readings.{uid_reading, policy_reading, file_reading}
 use Rattle.policy_grammar.proofs.laws.texts_have_one_reading.Goals as goal
 
@@ -9,6 +10,12 @@ returns-clause-uid c =
       one_place = c.lexing_is_unique.ensures.one_place;
       values = c.strings_have_one_meaning.ensures.one_value;
     }) c.reading_is_unique.ensures.one_uid c.reading_is_unique.ensures.uid_answer
+    (uid_answered (record {
+      some = c.lexing_is_unique.ensures.some;
+      spelled = c.lexing_is_unique.ensures.spelled;
+      values = c.strings_have_one_meaning.ensures.some_value;
+      none = c.least_fault_is_told.ensures.none;
+    }) c.reading_is_unique.ensures.uid_answer c.trees_stand_in_tokens.ensures.uid)
 
 pub returns-clause-policy : goal.returns-clause-policy
 returns-clause-policy c =
@@ -18,6 +25,12 @@ returns-clause-policy c =
       one_place = c.lexing_is_unique.ensures.one_place;
       values = c.strings_have_one_meaning.ensures.one_value;
     }) c.reading_is_unique.ensures.one_policy c.reading_is_unique.ensures.policy_answer
+    (policy_answered (record {
+      some = c.lexing_is_unique.ensures.some;
+      spelled = c.lexing_is_unique.ensures.spelled;
+      values = c.strings_have_one_meaning.ensures.some_value;
+      none = c.least_fault_is_told.ensures.none;
+    }) c.reading_is_unique.ensures.policy_answer c.trees_stand_in_tokens.ensures.policy)
 
 pub returns-clause-file : goal.returns-clause-file
 returns-clause-file c =
@@ -27,3 +40,9 @@ returns-clause-file c =
       one_place = c.lexing_is_unique.ensures.one_place;
       values = c.strings_have_one_meaning.ensures.one_value;
     }) c.reading_is_unique.ensures.one_list c.reading_is_unique.ensures.list_answer
+    (file_answered (record {
+      some = c.lexing_is_unique.ensures.some;
+      spelled = c.lexing_is_unique.ensures.spelled;
+      values = c.strings_have_one_meaning.ensures.some_value;
+      none = c.least_fault_is_told.ensures.none;
+    }) c.reading_is_unique.ensures.list_answer c.trees_stand_in_tokens.ensures.list)
