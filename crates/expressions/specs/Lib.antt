@@ -1,4 +1,3 @@
 pub mod Like
 pub mod LikeTest
 pub mod Size
-pub mod inner

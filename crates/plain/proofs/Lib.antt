@@ -1,0 +1,5 @@
+-- Facts about lists that several crates need. All files here are meant to be imported by the crates above.
+--   Members     members of lists, and the tests for a member of a list of texts
+--   Ascending   two ascending lists with the same members are one
+pub mod Members
+pub mod Ascending
