@@ -1,6 +1,10 @@
 pub mod AddressText
+pub mod Decided
+pub mod Deciding
+pub mod DecidingTexts
 pub mod DecimalText
 pub mod Network
 pub mod NetworkText
 pub mod Order
+pub mod TextsDecided
 pub mod inner

@@ -8,6 +8,7 @@ ghost use Rattle.std.specs.Cmp.{partial_equiv_from_equiv, partial_order_from_agr
 ghost use Rattle.std.proofs.lemmas.Cmp.{eq_by_cmp_equiv};
 ghost use Rattle.std.specs.Str.Parse.{IsNumeral, digits_value};
 ghost use Rattle.extensions.specs.DecimalText.{IsDecimalText, IsUnsignedText, decimal_text, size_text};
+ghost use Rattle.extensions.specs.TextsDecided.{decimal_of};
 
 use crate::NoMemory;
 use crate::pieces::{append, append_digit, append_whole};
@@ -207,6 +208,11 @@ fn number(text: &str) -> Option<u64>
 /// A text writes one decimal at most.
 pub fn one_decimal_a_text()
     ensures { (text : List ℕ) (y z : ℤ) → IsDecimalText text y → IsDecimalText text z → y ≡ z }
+{}
+
+/// The number of a text is found by a function, exactly where the text is a decimal's.
+pub fn decimal_texts_are_decided()
+    ensures { (text : List ℕ) (z : ℤ) → (decimal_of text ≡ Some z) ↔ IsDecimalText text z }
 {}
 
 /// The canonical text of a decimal is a text of it.

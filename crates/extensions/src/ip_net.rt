@@ -5,12 +5,14 @@ ghost use Rattle.std.specs.Prelude.{string_capacity, Some, refl};
 ghost use Rattle.std.specs.Fmt.{decimal};
 ghost use Rattle.extensions.specs.declared.ip_net.Version.{Version};
 ghost use Rattle.extensions.specs.declared.ip_net.Version.TheVariants.{V4, V6};
-ghost use Rattle.extensions.specs.Network.{width, Network, IsNetwork, size, least, greatest};
+ghost use Rattle.extensions.specs.Network.{width, Network, IsNetwork, size, least, greatest, IsWithin};
 ghost use Rattle.std.specs.Cmp.{IsTotalOrder};
 ghost use Rattle.std.specs.declared.cmp.Ordering.TheVariants.{Equal};
 ghost use Rattle.extensions.specs.Order.{network_cmp};
 ghost use Rattle.extensions.specs.NetworkText.{IsNetworkText, network_text, IsAddressText, ipv4_text, ipv6_text};
 ghost use Rattle.extensions.specs.NetworkText.{groups_text};
+ghost use Rattle.extensions.specs.Decided.{told};
+ghost use Rattle.extensions.specs.TextsDecided.{network_of, within_decided};
 
 use crate::NoMemory;
 use crate::pieces::{append, append_byte, append_group};
@@ -406,6 +408,13 @@ pub fn canonical_network_reads_back()
 /// A text writes one network at most.
 pub fn one_network_a_text()
     ensures { (text : List ℕ) (m n : Network) → IsNetworkText text m → IsNetworkText text n → m ≡ n }
+{}
+
+/// The network of a text is found by a function, exactly where the text is an address's; and a test tells whether a
+/// range lies in another.
+pub fn network_texts_are_decided()
+    ensures texts { (text : List ℕ) (n : Network) → (network_of text ≡ Some n) ↔ IsNetworkText text n }
+    ensures ranges { (a b : Network) → IsTrue (told (within_decided a b)) ↔ IsWithin a b }
 {}
 
 /// The order of networks is total, and only a network itself ties with it.

@@ -9,13 +9,16 @@ use Rattle.values.specs.Sets.{set_list}
 use Rattle.values.specs.Uids.{text_cmp}
 use Rattle.values.specs.ValueOrder.{value_cmp}
 use Rattle.values.specs.WellFormed.{IsWellFormed, AreMembersWellFormed, AreFieldsWellFormed}
-use Rattle.values.proofs.Members.{Contains-here, Contains-there}
+use Rattle.plain.proofs.Members.{Contains-here, Contains-there}
 use Rattle.values.proofs.Puts.{put_ascending}
 use Rattle.values.proofs.Unique.{set_of}
 
-all_members : (vs : List PlainValue) → ((v : PlainValue) → Contains vs v → IsWellFormed v) → AreMembersWellFormed (values_of vs)
+pub all_members : (vs : List PlainValue) → ((v : PlainValue) → Contains vs v → IsWellFormed v) → AreMembersWellFormed (values_of vs)
 all_members [] h = tt
 all_members (v ∷ vs) h = (h v (Contains-here v vs), all_members vs (λ w inside. h w (Contains-there v vs w inside)))
+
+pub set_is_well_formed : (vs : List PlainValue) → IsStrictlySortedBy value_cmp vs → AreMembersWellFormed (values_of vs) → IsWellFormed (set (values_of vs))
+set_is_well_formed vs s h = (subst (IsStrictlySortedBy value_cmp) (sym (list_of-values_of vs)) s, h)
 
 pub set_well_formed : (vs : List PlainValue) → ((v : PlainValue) → Contains vs v → IsWellFormed v) → IsWellFormed (set (values_of (set_list vs)))
 set_well_formed vs h =
@@ -24,7 +27,7 @@ set_well_formed vs h =
       all_members (set_list vs) (λ v inside. h v ((is.members v).0 inside)),
     )
 
-one_member : (vs : List PlainValue) → AreMembersWellFormed (values_of vs) → (v : PlainValue) → Contains vs v → IsWellFormed v
+pub one_member : (vs : List PlainValue) → AreMembersWellFormed (values_of vs) → (v : PlainValue) → Contains vs v → IsWellFormed v
 one_member [] h v (k, lt, e) = absurd (omega arith)
 one_member (w ∷ vs) h v (zero, lt, e) = subst IsWellFormed e h.0
 one_member (w ∷ vs) h v (suc k, lt, e) = one_member vs h.1 v (k, omega arith, e)
@@ -40,6 +43,10 @@ all_put k v (f ∷ fs) h w =
       | Equal ↦ (w, h.1)
       | Greater ↦ (h.0, all_put k v fs h.1 w)
     ]
+
+pub none_well_formed : IsWellFormed (record_of (fields_of []))
+unfolding IsStrictlySortedBy
+none_well_formed = (tt, tt)
 
 pub put_well_formed : (k : List ℕ) (v : PlainValue) (fs : List Field) → IsWellFormed (record_of (fields_of fs)) → IsWellFormed v → IsWellFormed (record_of (fields_of (put k v fs)))
 put_well_formed k v fs h w =

@@ -13,6 +13,7 @@ ghost use Rattle.values.specs.Values.{values_of, fields_of};
 ghost use Rattle.values.specs.ValueOrder.{value_cmp, set_cmp, record_cmp, kind_rank, value_cmp-IsTotalOrder};
 ghost use Rattle.values.specs.ValueOrder.{set_cmp-IsTotalOrder, record_cmp-IsTotalOrder};
 ghost use Rattle.values.specs.ValueView.{of_kind, of_entries};
+ghost use Rattle.values.specs.WellFormed.{IsWellFormed, AreMembersWellFormed};
 
 use crate::entity_uid::EntityUid;
 use extensions::{Decimal, IpNet};
@@ -23,6 +24,7 @@ use std::collections::BTreeMap;
 use std::marker::Model;
 
 /// A value of the policy language. Contracts see plain data: a value is equal to another exactly where that data is.
+/// The data is well formed at every depth: `stays_well_formed` says so of a value at hand.
 #[cycle(value)]
 #[derive(Drop)]
 pub struct Value {
@@ -77,6 +79,10 @@ impl Model for Value {
 
     ghost view = { λ a. of_kind a.kind };
 
+    ghost use Rattle.values.specs.WellFormed.{IsWellFormed};
+
+    ghost invariant = { λ a. IsWellFormed (of_kind a.kind) };
+
     ghost size = { height };
 
     ghost use Rattle.values.specs.ValueFalls.{deep_le-height};
@@ -91,6 +97,7 @@ impl Model for Set {
     ghost use Rattle.values.specs.Values.{PlainValue, heights, values_of};
     ghost use Rattle.values.specs.ValueCode.{value_code};
     ghost use Rattle.values.specs.ValueOrder.{value_cmp};
+    ghost use Rattle.values.specs.WellFormed.{AreMembersWellFormed};
 
     ghost Value = { List PlainValue };
 
@@ -98,7 +105,8 @@ impl Model for Set {
 
     ghost view = { λ a. a.members.items };
 
-    ghost invariant = { λ a. IsStrictlySortedBy value_cmp a.members.items };
+    ghost invariant = { λ a. IsStrictlySortedBy value_cmp a.members.items
+        × AreMembersWellFormed (values_of a.members.items) };
 
     ghost size = { λ vs. heights (values_of vs) };
 
@@ -121,6 +129,11 @@ impl Model for Record {
     ghost use Rattle.values.specs.ValueView.{of_entries};
 
     ghost view = { λ a. of_entries a.fields.entries };
+
+    ghost use Rattle.values.specs.Values.{record_of};
+    ghost use Rattle.values.specs.WellFormed.{IsWellFormed};
+
+    ghost invariant = { λ a. IsWellFormed (record_of (fields_of (of_entries a.fields.entries))) };
 
     ghost size = { λ fs. field_heights (fields_of fs) };
 
@@ -178,6 +191,7 @@ impl Value {
     pub fn from_set(members: Set) -> Value
         ensures { result ≡ set (values_of members) }
     {
+        members.stays_well_formed();
         Value {
             kind: Kind::Set(members),
         }
@@ -187,6 +201,7 @@ impl Value {
     pub fn from_record(fields: Record) -> Value
         ensures { result ≡ record_of (fields_of fields) }
     {
+        fields.stays_well_formed();
         Value {
             kind: Kind::Record(fields),
         }
@@ -208,6 +223,14 @@ impl Value {
         Value {
             kind: Kind::IpAddr(network),
         }
+    }
+
+    /// The value is well formed at every depth: in each set the members ascend strictly, in each record the keys. It
+    /// does nothing; its contract is the law.
+    pub fn stays_well_formed(&self)
+        ensures { IsWellFormed self.now }
+    {
+        let _kind = &self.kind;
     }
 
     /// What the value is, by reference; takes no memory.
@@ -266,10 +289,18 @@ impl Set {
         ensures members { IfOk result (λ s. (v : Value) → Contains s v ↔ Contains values.items v) }
         ensures ascending { IfOk result (λ s. IsStrictlySortedBy value_cmp s) }
     {
+        all_well_formed(&values);
         let mut members = values;
         members.sort()?;
         members.dedup();
         Ok(Set { members })
+    }
+
+    /// The set is well formed at every depth. It does nothing; its contract is the law.
+    pub fn stays_well_formed(&self)
+        ensures { IsWellFormed (set (values_of self.now)) }
+    {
+        let _members = &self.members;
     }
 
     /// The members, which ascend strictly; takes no memory.
@@ -332,6 +363,7 @@ impl Record {
         ensures ok { OnOk result (self.new ≡ put key value self.old) }
         ensures err { OnErr result (self.new ≡ self.old) }
     {
+        value.stays_well_formed();
         drop(self.fields.insert(key.into_string(), value)?);
         Ok(())
     }
@@ -341,6 +373,13 @@ impl Record {
         ensures { option_map (λ v. v.now) result ≡ find_field key.now self.now }
     {
         self.fields.get(key)
+    }
+
+    /// The record is well formed at every depth. It does nothing; its contract is the law.
+    pub fn stays_well_formed(&self)
+        ensures { IsWellFormed (record_of (fields_of self.now)) }
+    {
+        let _fields = &self.fields;
     }
 
     /// The fields, whose keys ascend by their bytes; takes no memory.
@@ -363,6 +402,15 @@ impl Record {
             drop(copies.insert(name, value.copy(alloc)?)?);
         }
         Ok(Record { fields: copies })
+    }
+}
+
+// Values are well formed, each by itself.
+fn all_well_formed(values: &[Value])
+    ensures { AreMembersWellFormed (values_of values.now) }
+{
+    for value in values {
+        value.stays_well_formed();
     }
 }
 

@@ -3,7 +3,7 @@ use Rattle.std.specs.Prelude.{nat_eq}
 use Rattle.std.specs.List.{list_any}
 use Rattle.std.specs.Cmp.Lexicographic.{pointwise}
 use Rattle.plain.specs.Words.{reserved_words}
-use Rattle.values.proofs.Members.{texts_any}
+use Rattle.plain.proofs.Members.{texts_any}
 use Rattle.values.proofs.path.is_reserved.Goals as goal
 
 pub returns : goal.returns
