@@ -7,7 +7,7 @@ use Rattle.values.specs.Fields.{Field, put}
 use Rattle.values.specs.Sets.{set_list}
 use Rattle.values.specs.Values.{PlainValue, boolean, long, text, entity, set, record_of, decimal, ipaddr, values_of, fields_of}
 use Rattle.ancestor_closure.specs.Decided.{Decides}
-use Rattle.expressions.specs.inner.Forms.{Every, Cases, by_forms, fold_literal, fold_variable, fold_if, fold_and, fold_or, fold_unary, fold_binary, fold_field, fold_has, fold_set, fold_record, fold_unary_call, fold_binary_call}
+use Rattle.expressions.proofs.Forms.{Every, Cases, by_forms, fold_literal, fold_variable, fold_if, fold_and, fold_or, fold_unary, fold_binary, fold_field, fold_has, fold_set, fold_record, fold_unary_call, fold_binary_call}
 use Rattle.expressions.specs.declared.leaf.Literal.{Literal}
 use Rattle.expressions.specs.declared.leaf.Variable.{Variable}
 use Rattle.expressions.specs.declared.operator.Unary.{Unary}
@@ -22,7 +22,7 @@ use Rattle.evaluator.specs.declared.fault.EvalFault.TheVariants.{TypeError}
 use Rattle.evaluator.specs.Outcomes.{Outcome, boolean_in}
 use Rattle.evaluator.specs.Operators.{World}
 use Rattle.evaluator.specs.Evaluation as rule
-use Rattle.evaluator.specs.Evaluation.{literal_value, variable_value, Gives, TestFails, GivesEach, GivesFields, AnswersWhatIsGiven, AnswersAllThatIsGiven}
+use Rattle.evaluator.specs.Evaluation.{literal_value, variable_value, HasOperands, put_each, Gives, TestFails, GivesEach, AnswersWhatIsGiven, AnswersAllThatIsGiven}
 use Rattle.evaluator.specs.Laws.{HasOneOutcome}
 use Rattle.evaluator.specs.inner.Meanings.{GivesOnly, MeaningsAreGiven}
 use Rattle.evaluator.specs.inner.Computing.{Entities, entities_of, and_then, demanded, truth, as_test, apply_unary, apply_binary, field_of, has_field, apply_unary_call, apply_binary_call, each, each_field, meaning, meaning_step, named_meaning, Answers}
@@ -34,6 +34,28 @@ to_set vs = Ok (set (values_of (set_list vs)))
 
 to_record : List Field → Outcome
 to_record fs = Ok (record_of (fields_of fs))
+
+-- where the operands err, so does what goes on with their values
+one_errs : (f : PlainValue → Outcome) (m : Outcome) (e : EvalFault) → each (m ∷ []) ≡ Err e → and_then m f ≡ Err e
+one_errs f (Ok v) e h = absurd (cc)
+one_errs f (Err d) e h = let same : d ≡ e = cc in ap (λ g. Err g) same
+
+two_err : (f : PlainValue → PlainValue → Outcome) (m n : Outcome) (e : EvalFault) → each (m ∷ n ∷ []) ≡ Err e → and_then m (λ v. and_then n (f v)) ≡ Err e
+two_err f (Ok v) (Ok w) e h = absurd (cc)
+two_err f (Ok v) (Err d) e h = let same : d ≡ e = cc in ap (λ g. Err g) same
+two_err f (Err d) n e h = let same : d ≡ e = cc in ap (λ g. Err g) same
+
+-- what goes on alike with each value goes on alike
+goes_on : {A B : Type 0} (m : Result A EvalFault) (f g : A → Result B EvalFault) → ((v : A) → f v ≡ g v) → and_then m f ≡ and_then m g
+goes_on (Ok v) f g h = h v
+goes_on (Err e) f g h = refl
+
+-- a field's value, and then those of the others
+one_field : (x : Named Expr) (xs : List (Named Expr)) (done : List Field) (m : Outcome) (n : Result (List PlainValue) EvalFault) →
+    and_then m (λ v. and_then n (λ vs. Ok (put_each xs vs (put x.name v done)))) ≡ and_then (and_then m (λ v. and_then n (λ vs. Ok (v ∷ vs)))) (λ vs. Ok (put_each (x ∷ xs) vs done))
+one_field x xs done (Ok v) (Ok vs) = refl
+one_field x xs done (Ok v) (Err e) = refl
+one_field x xs done (Err e) n = refl
 
 module _ (L : LawsBelow) (W : World) (above : EntityUid → EntityUid → Bool) (D : Decides W.parents above) (q : Request) where
   abbrev E : Entities
@@ -83,13 +105,40 @@ module _ (L : LawsBelow) (W : World) (above : EntityUid → EntityUid → Bool) 
   at_binary_call : (called : BinaryCall) (a b : Expr) → gives (form.BinaryCall called a b) ≡ and_then (gives a) (λ v. and_then (gives b) (apply_binary_call called v))
   at_binary_call = fold_binary_call Outcome (meaning_step q E)
 
+  values : List (Named Expr) → Result (List PlainValue) EvalFault
+  values xs = each (map gives (map (λ x. x.value) xs))
+
+  -- the fields, by their values
+  fields_by_values : (xs : List (Named Expr)) (done : List Field) → each_field (map (named_meaning q E) xs) done ≡ and_then (values xs) (λ vs. Ok (put_each xs vs done))
+  unfolding values
+  fields_by_values [] done = refl
+  fields_by_values (x ∷ xs) done =
+      goes_on (gives x.value) (λ v. each_field (map (named_meaning q E) xs) (put x.name v done)) (λ v. and_then (values xs) (λ vs. Ok (put_each xs vs (put x.name v done))))
+      (λ v. fields_by_values xs (put x.name v done))
+      ∙ one_field x xs done (gives x.value) (values xs)
+
+  at_record_of_values : (xs : List (Named Expr)) → gives (form.Record xs) ≡ and_then (and_then (values xs) (λ vs. Ok (put_each xs vs []))) to_record
+  at_record_of_values xs = at_record xs ∙ ap (λ m. and_then m to_record) (fields_by_values xs [])
+
+  -- where the operands of a form err, so does the form
+  operands_err : (x : Expr) (xs : List Expr) (e : EvalFault) → HasOperands x xs → each (map gives xs) ≡ Err e → gives x ≡ Err e
+  unfolding to_set to_record values
+  operands_err _ _ e (rule.of_unary op a) h = at_unary op a ∙ one_errs (apply_unary op) (gives a) e h
+  operands_err _ _ e (rule.of_binary op a b) h = at_binary op a b ∙ two_err (apply_binary E op) (gives a) (gives b) e h
+  operands_err _ _ e (rule.of_field a name) h = at_field a name ∙ one_errs (field_of E name) (gives a) e h
+  operands_err _ _ e (rule.of_has a name) h = at_has a name ∙ one_errs (has_field E name) (gives a) e h
+  operands_err _ _ e (rule.of_set xs) h = at_set xs ∙ ap (λ m. and_then m to_set) h
+  operands_err _ _ e (rule.of_record xs) h = at_record_of_values xs ∙ ap (λ m. and_then (and_then m (λ vs. Ok (put_each xs vs []))) to_record) h
+  operands_err _ _ e (rule.of_unary_call called a) h = at_unary_call called a ∙ one_errs (apply_unary_call called) (gives a) e h
+  operands_err _ _ e (rule.of_binary_call called a b) h = at_binary_call called a b ∙ two_err (apply_binary_call called) (gives a) (gives b) e h
+
   -- ---- what the relation gives, the function computes
 
   no_boolean_is : (v : PlainValue) → boolean_in v ≡ None → demanded (boolean_in v) ≡ Err TypeError
   no_boolean_is v e = ap demanded e
 
   mutual
-    unfolding to_set to_record
+    unfolding to_set to_record values
 
     computes : (x : Expr) (r : Outcome) → Gives W q x r → gives x ≡ r
     computes _ _ (rule.gives_literal l) = at_literal l
@@ -105,24 +154,15 @@ module _ (L : LawsBelow) (W : World) (above : EntityUid → EntityUid → Bool) 
     computes _ _ (rule.or_false a b {t} g h) = at_or a b ∙ (ap (λ m. and_then (as_test m) (λ t. if t then truth true else and_then (as_test (gives b)) truth)) (computes a _ g) ∙ ap (λ m. and_then (as_test m) truth) (computes b _ h))
     computes _ _ (rule.or_left_fails a b {e} g) = at_or a b ∙ ap (λ m. and_then m (λ t. if t then truth true else and_then (as_test (gives b)) truth)) (test_computes a e g)
     computes _ _ (rule.or_right_fails a b {e} g h) = at_or a b ∙ (ap (λ m. and_then (as_test m) (λ t. if t then truth true else and_then (as_test (gives b)) truth)) (computes a _ g) ∙ ap (λ m. and_then m truth) (test_computes b e h))
+    computes _ _ (rule.operand_fails {x} {xs} {e} has g) = operands_err x xs e has (each_computes xs (Err e) g)
     computes _ _ (rule.gives_unary op a {v} {r} g u) = at_unary op a ∙ (ap (λ m. and_then m (apply_unary op)) (computes a _ g) ∙ unary_is op v r u)
-    computes _ _ (rule.unary_fails op a {e} g) = at_unary op a ∙ ap (λ m. and_then m (apply_unary op)) (computes a _ g)
     computes _ _ (rule.gives_binary op a b {v} {w} {r} g h u) = at_binary op a b ∙ (ap (λ m. and_then m (λ v. and_then (gives b) (apply_binary E op v))) (computes a _ g) ∙ (ap (λ m. and_then m (apply_binary E op v)) (computes b _ h) ∙ binary_is W above D L op v w r u))
-    computes _ _ (rule.binary_left_fails op a b {e} g) = at_binary op a b ∙ ap (λ m. and_then m (λ v. and_then (gives b) (apply_binary E op v))) (computes a _ g)
-    computes _ _ (rule.binary_right_fails op a b {v} {e} g h) = at_binary op a b ∙ (ap (λ m. and_then m (λ v. and_then (gives b) (apply_binary E op v))) (computes a _ g) ∙ ap (λ m. and_then m (apply_binary E op v)) (computes b _ h))
     computes _ _ (rule.gives_field a name {v} {r} g u) = at_field a name ∙ (ap (λ m. and_then m (field_of E name)) (computes a _ g) ∙ field_is W above D name v r u)
-    computes _ _ (rule.field_fails a name {e} g) = at_field a name ∙ ap (λ m. and_then m (field_of E name)) (computes a _ g)
     computes _ _ (rule.gives_has a name {v} {r} g u) = at_has a name ∙ (ap (λ m. and_then m (has_field E name)) (computes a _ g) ∙ has_is W above D name v r u)
-    computes _ _ (rule.has_fails a name {e} g) = at_has a name ∙ ap (λ m. and_then m (has_field E name)) (computes a _ g)
     computes _ _ (rule.gives_set xs {vs} {s} g h) = at_set xs ∙ (ap (λ m. and_then m to_set) (each_computes xs _ g) ∙ sym (ap (λ ws. Ok (set (values_of ws))) (L.one vs s h)))
-    computes _ _ (rule.set_fails xs {e} g) = at_set xs ∙ ap (λ m. and_then m to_set) (each_computes xs _ g)
-    computes _ _ (rule.gives_record xs {fs} g) = at_record xs ∙ ap (λ m. and_then m to_record) (fields_compute xs [] _ g)
-    computes _ _ (rule.record_fails xs {e} g) = at_record xs ∙ ap (λ m. and_then m to_record) (fields_compute xs [] _ g)
+    computes _ _ (rule.gives_record xs {vs} g) = at_record_of_values xs ∙ ap (λ m. and_then (and_then m (λ vs. Ok (put_each xs vs []))) to_record) (each_computes (map (λ x. x.value) xs) _ g)
     computes _ _ (rule.gives_unary_call called a {v} {r} g u) = at_unary_call called a ∙ (ap (λ m. and_then m (apply_unary_call called)) (computes a _ g) ∙ unary_call_is L called v r u)
-    computes _ _ (rule.unary_call_fails called a {e} g) = at_unary_call called a ∙ ap (λ m. and_then m (apply_unary_call called)) (computes a _ g)
     computes _ _ (rule.gives_binary_call called a b {v} {w} {r} g h u) = at_binary_call called a b ∙ (ap (λ m. and_then m (λ v. and_then (gives b) (apply_binary_call called v))) (computes a _ g) ∙ (ap (λ m. and_then m (apply_binary_call called v)) (computes b _ h) ∙ binary_call_is called v w r u))
-    computes _ _ (rule.call_left_fails called a b {e} g) = at_binary_call called a b ∙ ap (λ m. and_then m (λ v. and_then (gives b) (apply_binary_call called v))) (computes a _ g)
-    computes _ _ (rule.call_right_fails called a b {v} {e} g h) = at_binary_call called a b ∙ (ap (λ m. and_then m (λ v. and_then (gives b) (apply_binary_call called v))) (computes a _ g) ∙ ap (λ m. and_then m (apply_binary_call called v)) (computes b _ h))
 
     test_computes : (x : Expr) (e : EvalFault) → TestFails W q x e → as_test (gives x) ≡ Err e
     test_computes _ _ (rule.test_errs {a} {e} g) = ap as_test (computes a _ g)
@@ -133,11 +173,6 @@ module _ (L : LawsBelow) (W : World) (above : EntityUid → EntityUid → Bool) 
     each_computes _ _ (rule.each_more {x} {xs} {v} {vs} g h) = ap (λ m. and_then m (λ v. and_then (each (map gives xs)) (λ vs. Ok (v ∷ vs)))) (computes x _ g) ∙ ap (λ m. and_then m (λ vs. Ok (v ∷ vs))) (each_computes xs _ h)
     each_computes _ _ (rule.each_fails {x} {xs} {e} g) = ap (λ m. and_then m (λ v. and_then (each (map gives xs)) (λ vs. Ok (v ∷ vs)))) (computes x _ g)
     each_computes _ _ (rule.each_fails_later {x} {xs} {v} {e} g h) = ap (λ m. and_then m (λ v. and_then (each (map gives xs)) (λ vs. Ok (v ∷ vs)))) (computes x _ g) ∙ ap (λ m. and_then m (λ vs. Ok (v ∷ vs))) (each_computes xs _ h)
-
-    fields_compute : (xs : List (Named Expr)) (done : List Field) (r : Result (List Field) EvalFault) → GivesFields W q xs done r → each_field (map (named_meaning q E) xs) done ≡ r
-    fields_compute _ _ _ rule.fields_none = refl
-    fields_compute _ _ _ (rule.fields_more {x} {xs} {done} {v} {r} g h) = ap (λ m. and_then m (λ v. each_field (map (named_meaning q E) xs) (put x.name v done))) (computes x.value _ g) ∙ fields_compute xs (put x.name v done) r h
-    fields_compute _ _ _ (rule.fields_fail {x} {xs} {done} {e} g) = ap (λ m. and_then m (λ v. each_field (map (named_meaning q E) xs) (put x.name v done))) (computes x.value _ g)
 
   -- ---- what the function computes, the relation gives
 
@@ -201,49 +236,45 @@ module _ (L : LawsBelow) (W : World) (above : EntityUid → EntityUid → Bool) 
 
   unary_case : (op : Unary) (a : Expr) (m : Outcome) → Gives W q a m → Gives W q (form.Unary op a) (and_then m (apply_unary op))
   unary_case op a (Ok v) g = rule.gives_unary op a g (unary_exists op v)
-  unary_case op a (Err e) g = rule.unary_fails op a g
+  unary_case op a (Err e) g = rule.operand_fails (rule.of_unary op a) (rule.each_fails g)
 
   binary_case : (op : Binary) (a b : Expr) (m n : Outcome) → Gives W q a m → Gives W q b n → Gives W q (form.Binary op a b) (and_then m (λ v. and_then n (apply_binary E op v)))
   binary_case op a b (Ok v) (Ok w) g h = rule.gives_binary op a b g h (binary_exists W above D L op v w)
-  binary_case op a b (Ok v) (Err e) g h = rule.binary_right_fails op a b g h
-  binary_case op a b (Err e) n g h = rule.binary_left_fails op a b g
+  binary_case op a b (Ok v) (Err e) g h = rule.operand_fails (rule.of_binary op a b) (rule.each_fails_later g (rule.each_fails h))
+  binary_case op a b (Err e) n g h = rule.operand_fails (rule.of_binary op a b) (rule.each_fails g)
 
   field_case : (a : Expr) (name : List ℕ) (m : Outcome) → Gives W q a m → Gives W q (form.Field a name) (and_then m (field_of E name))
   field_case a name (Ok v) g = rule.gives_field a name g (field_exists W above D name v)
-  field_case a name (Err e) g = rule.field_fails a name g
+  field_case a name (Err e) g = rule.operand_fails (rule.of_field a name) (rule.each_fails g)
 
   has_case : (a : Expr) (name : List ℕ) (m : Outcome) → Gives W q a m → Gives W q (form.Has a name) (and_then m (has_field E name))
   has_case a name (Ok v) g = rule.gives_has a name g (has_exists W above D name v)
-  has_case a name (Err e) g = rule.has_fails a name g
+  has_case a name (Err e) g = rule.operand_fails (rule.of_has a name) (rule.each_fails g)
 
   set_case : (xs : List Expr) (m : Result (List PlainValue) EvalFault) → GivesEach W q xs m → Gives W q (form.Set xs) (and_then m to_set)
   unfolding to_set
   set_case xs (Ok vs) g = rule.gives_set xs g (L.made vs)
-  set_case xs (Err e) g = rule.set_fails xs g
+  set_case xs (Err e) g = rule.operand_fails (rule.of_set xs) g
 
-  record_case : (xs : List (Named Expr)) (m : Result (List Field) EvalFault) → GivesFields W q xs [] m → Gives W q (form.Record xs) (and_then m to_record)
+  record_case : (xs : List (Named Expr)) (m : Result (List PlainValue) EvalFault) → GivesEach W q (map (λ x. x.value) xs) m →
+      Gives W q (form.Record xs) (and_then (and_then m (λ vs. Ok (put_each xs vs []))) to_record)
   unfolding to_record
-  record_case xs (Ok fs) g = rule.gives_record xs g
-  record_case xs (Err e) g = rule.record_fails xs g
+  record_case xs (Ok vs) g = rule.gives_record xs g
+  record_case xs (Err e) g = rule.operand_fails (rule.of_record xs) g
 
   unary_call_case : (called : UnaryCall) (a : Expr) (m : Outcome) → Gives W q a m → Gives W q (form.UnaryCall called a) (and_then m (apply_unary_call called))
   unary_call_case called a (Ok v) g = rule.gives_unary_call called a g (unary_call_exists called v)
-  unary_call_case called a (Err e) g = rule.unary_call_fails called a g
+  unary_call_case called a (Err e) g = rule.operand_fails (rule.of_unary_call called a) (rule.each_fails g)
 
   binary_call_case : (called : BinaryCall) (a b : Expr) (m n : Outcome) → Gives W q a m → Gives W q b n → Gives W q (form.BinaryCall called a b) (and_then m (λ v. and_then n (apply_binary_call called v)))
   binary_call_case called a b (Ok v) (Ok w) g h = rule.gives_binary_call called a b g h (binary_call_exists called v w)
-  binary_call_case called a b (Ok v) (Err e) g h = rule.call_right_fails called a b g h
-  binary_call_case called a b (Err e) n g h = rule.call_left_fails called a b g
+  binary_call_case called a b (Ok v) (Err e) g h = rule.operand_fails (rule.of_binary_call called a b) (rule.each_fails_later g (rule.each_fails h))
+  binary_call_case called a b (Err e) n g h = rule.operand_fails (rule.of_binary_call called a b) (rule.each_fails g)
 
   each_case : (x : Expr) (xs : List Expr) (m : Outcome) (n : Result (List PlainValue) EvalFault) → Gives W q x m → GivesEach W q xs n → GivesEach W q (x ∷ xs) (and_then m (λ v. and_then n (λ vs. Ok (v ∷ vs))))
   each_case x xs (Ok v) (Ok vs) g h = rule.each_more g h
   each_case x xs (Ok v) (Err e) g h = rule.each_fails_later g h
   each_case x xs (Err e) n g h = rule.each_fails g
-
-  fields_case : (x : Named Expr) (xs : List (Named Expr)) (done : List Field) (m : Outcome) (n : List Field → Result (List Field) EvalFault) → Gives W q x.value m →
-      ((more : List Field) → GivesFields W q xs more (n more)) → GivesFields W q (x ∷ xs) done (and_then m (λ v. n (put x.name v done)))
-  fields_case x xs done (Ok v) n g h = rule.fields_more g (h (put x.name v done))
-  fields_case x xs done (Err e) n g h = rule.fields_fail g
 
   Found : Expr → Type 0
   Found x = Gives W q x (gives x)
@@ -253,10 +284,10 @@ module _ (L : LawsBelow) (W : World) (above : EntityUid → EntityUid → Bool) 
   found_each [] h = rule.each_none
   found_each (x ∷ xs) h = each_case x xs (gives x) (each (map gives xs)) h.0 (found_each xs h.1)
 
-  found_fields : (xs : List (Named Expr)) (done : List Field) → Every (λ x. Found x.value) xs → GivesFields W q xs done (each_field (map (named_meaning q E) xs) done)
-  unfolding Found
-  found_fields [] done h = rule.fields_none
-  found_fields (x ∷ xs) done h = fields_case x xs done (gives x.value) (λ more. each_field (map (named_meaning q E) xs) more) h.0 (λ more. found_fields xs more h.1)
+  found_values : (xs : List (Named Expr)) → Every (λ x. Found x.value) xs → GivesEach W q (map (λ x. x.value) xs) (values xs)
+  unfolding Found values
+  found_values [] h = rule.each_none
+  found_values (x ∷ xs) h = each_case x.value (map (λ y. y.value) xs) (gives x.value) (values xs) h.0 (found_values xs h.1)
 
   by_equation : {x : Expr} {m : Outcome} → gives x ≡ m → Gives W q x m → Found x
   unfolding Found
@@ -275,7 +306,7 @@ module _ (L : LawsBelow) (W : World) (above : EntityUid → EntityUid → Bool) 
     field = λ a name g. by_equation (at_field a name) (field_case a name _ g);
     has = λ a name g. by_equation (at_has a name) (has_case a name _ g);
     set = λ xs h. by_equation (at_set xs) (set_case xs _ (found_each xs h));
-    record_form = λ xs h. by_equation (at_record xs) (record_case xs _ (found_fields xs [] h));
+    record_form = λ xs h. by_equation (at_record_of_values xs) (record_case xs _ (found_values xs h));
     unary_call = λ called a g. by_equation (at_unary_call called a) (unary_call_case called a _ g);
     binary_call = λ called a b g h. by_equation (at_binary_call called a b) (binary_call_case called a b _ _ g h);
   }

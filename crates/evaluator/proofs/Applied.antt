@@ -14,7 +14,7 @@ use Rattle.values.specs.Sets.{has_member}
 use Rattle.values.specs.Values.{PlainValue, PlainValues, PlainFields, boolean, long, text, entity, set, record_of, decimal, ipaddr, list_of, pairs_of}
 use Rattle.values.specs.ValueOrder.{value_cmp}
 use Rattle.values.specs.Laws.{SetsHoldTheirMembers, SetsAreOneList, MembersAreTold}
-use Rattle.evaluator.proofs.Members.{Contains-here, Contains-there, Contains-cases, Contains-none}
+use Rattle.plain.proofs.Members.{Contains-here, Contains-there, Contains-cases, Contains-none}
 use Rattle.ancestor_closure.specs.Decided.{Decides}
 use Rattle.expressions.specs.LikeTest.{is_match, is_match-Decides}
 use Rattle.expressions.specs.declared.operator.Unary.{Unary}
@@ -26,14 +26,14 @@ use Rattle.expressions.specs.declared.operator.UnaryCall.TheVariants as one
 use Rattle.expressions.specs.declared.operator.BinaryCall.{BinaryCall}
 use Rattle.expressions.specs.declared.operator.BinaryCall.TheVariants as two
 use Rattle.evaluator.specs.declared.fault.EvalFault.TheVariants.{AttrDoesNotExist, TypeError, ExtensionError}
-use Rattle.evaluator.specs.inner.Decided.{Decided, told, told_iff}
-use Rattle.evaluator.specs.inner.TextsDecided.{decimal_text_decided, network_text_decided, in_either_decided, within_decided}
-use Rattle.evaluator.specs.Outcomes.{Outcome, boolean_in, long_in, text_in, entity_in, members_in, fields_in, decimal_in, network_in}
+use Rattle.extensions.specs.Decided.{Decided, told}
+use Rattle.extensions.specs.TextsDecided.{decimal_text_decided, network_text_decided, in_either_decided, within_decided}
+use Rattle.evaluator.specs.Outcomes.{Outcome, Tells, boolean_in, long_in, text_in, entity_in, members_in, fields_in, decimal_in, network_in}
 use Rattle.evaluator.specs.Operators as rule
-use Rattle.evaluator.specs.Operators.{World, IsIn, UnaryGives, BinaryGives, FieldGives, HasGives, UnaryCallGives, BinaryCallGives, TakesNumbers, TakesSets, TakesAddress, TakesDecimals}
+use Rattle.evaluator.specs.Operators.{World, IsIn, UnaryGives, BinaryGives, FieldGives, HasGives, UnaryCallGives, BinaryCallGives, NumbersGive, TakesNumbers, TakesSets, IsTested, TakesAddress, AreCompared, TakesDecimals}
 use Rattle.evaluator.specs.inner.Computing.{Entities, entities_of, and_then, demanded, truth, bounded, apply_unary, is_in, in_members, in_value, numbers, sets, apply_binary, found_or, attribute, field_of, has_attribute, has_field, decimal_read, network_read, is_v4, tested, apply_unary_call, decimals, networks, apply_binary_call}
 use Rattle.evaluator.proofs.ByKind.{boolean_cases, long_cases, text_cases, entity_cases, members_cases, decimal_cases, network_cases}
-use Rattle.evaluator.proofs.Telling.{tells_test, test_is, int_lt_iff, int_le_iff, comes_bounded, bounded_is, value_eq_iff, v4_iff, v6_iff, any_iff, all_iff, is_in_iff}
+use Rattle.evaluator.proofs.Telling.{told_iff, tells_test, test_is, int_lt_iff, int_le_iff, comes_bounded, bounded_is, value_eq_iff, v4_iff, v6_iff, any_iff, all_iff, is_in_iff}
 
 -- a text is of one decimal at most, and of one address at most
 abbrev pub OneDecimal : Type 0
@@ -125,12 +125,12 @@ unary_call_exists one.Decimal v = text_cases (λ v. UnaryCallGives one.Decimal v
 unary_call_exists one.Ip v = text_cases (λ v. UnaryCallGives one.Ip v (apply_unary_call one.Ip v))
     (λ t. network_exists t (network_text_decided t))
     (λ v e. other (λ t. network_read (network_text_decided t)) (UnaryCallGives one.Ip v) (text_in v) e (rule.address_of_other e)) v
-unary_call_exists one.IsIpv4 v = tested_exists one.IsIpv4 (λ n. is_v4 n.version) tt (λ n. rule.is_ipv4 (tells_test (is_v4 n.version) (v4_iff n.version))) v
-unary_call_exists one.IsIpv6 v = tested_exists one.IsIpv6 (λ n. not (is_v4 n.version)) tt (λ n. rule.is_ipv6 (tells_test (not (is_v4 n.version)) (v6_iff n.version))) v
+unary_call_exists one.IsIpv4 v = tested_exists one.IsIpv4 (λ n. is_v4 n.version) tt (λ n. rule.of_address tt (tells_test (is_v4 n.version) (v4_iff n.version))) v
+unary_call_exists one.IsIpv6 v = tested_exists one.IsIpv6 (λ n. not (is_v4 n.version)) tt (λ n. rule.of_address tt (tells_test (not (is_v4 n.version)) (v6_iff n.version))) v
 unary_call_exists one.IsLoopback v = tested_exists one.IsLoopback (λ n. told (in_either_decided n loopback_v4 loopback_v6)) tt
-    (λ n. rule.is_loopback (tells_test (told (in_either_decided n loopback_v4 loopback_v6)) (told_iff (in_either_decided n loopback_v4 loopback_v6)))) v
+    (λ n. rule.of_address tt (tells_test (told (in_either_decided n loopback_v4 loopback_v6)) (told_iff (in_either_decided n loopback_v4 loopback_v6)))) v
 unary_call_exists one.IsMulticast v = tested_exists one.IsMulticast (λ n. told (in_either_decided n multicast_v4 multicast_v6)) tt
-    (λ n. rule.is_multicast (tells_test (told (in_either_decided n multicast_v4 multicast_v6)) (told_iff (in_either_decided n multicast_v4 multicast_v6)))) v
+    (λ n. rule.of_address tt (tells_test (told (in_either_decided n multicast_v4 multicast_v6)) (told_iff (in_either_decided n multicast_v4 multicast_v6)))) v
 
 no_address_is : (called : UnaryCall) (v : PlainValue) → TakesAddress called → network_in v ≡ None → apply_unary_call called v ≡ Err TypeError
 no_address_is one.Ip v h e = absurd h
@@ -140,6 +140,14 @@ no_address_is one.IsIpv6 v h e = other_is (λ n. truth (not (is_v4 n.version))) 
 no_address_is one.IsLoopback v h e = other_is (λ n. truth (told (in_either_decided n loopback_v4 loopback_v6))) (network_in v) e
 no_address_is one.IsMulticast v h e = other_is (λ n. truth (told (in_either_decided n multicast_v4 multicast_v6))) (network_in v) e
 
+of_address_is : (called : UnaryCall) → TakesAddress called → (n : Network) (r : Outcome) → Tells (IsTested called n) r → apply_unary_call called (ipaddr n) ≡ r
+of_address_is one.Ip h n r t = absurd h
+of_address_is one.Decimal h n r t = absurd h
+of_address_is one.IsIpv4 h n r t = test_is (is_v4 n.version) (v4_iff n.version) r t
+of_address_is one.IsIpv6 h n r t = test_is (not (is_v4 n.version)) (v6_iff n.version) r t
+of_address_is one.IsLoopback h n r t = test_is (told (in_either_decided n loopback_v4 loopback_v6)) (told_iff (in_either_decided n loopback_v4 loopback_v6)) r t
+of_address_is one.IsMulticast h n r t = test_is (told (in_either_decided n multicast_v4 multicast_v6)) (told_iff (in_either_decided n multicast_v4 multicast_v6)) r t
+
 pub unary_call_is : LawsBelow → (called : UnaryCall) (v : PlainValue) (r : Outcome) → UnaryCallGives called v r → apply_unary_call called v ≡ r
 unary_call_is L _ _ _ (rule.reads_decimal {t} {z} h) = decimal_is L.decimals t (decimal_text_decided t) z h
 unary_call_is L _ _ _ (rule.no_decimal {t} n) = no_decimal_is t (decimal_text_decided t) n
@@ -147,10 +155,7 @@ unary_call_is L _ _ _ (rule.decimal_of_other {v} e) = other_is (λ t. decimal_re
 unary_call_is L _ _ _ (rule.reads_address {t} {n} h) = network_is L.networks t (network_text_decided t) n h
 unary_call_is L _ _ _ (rule.no_address {t} n) = no_network_is t (network_text_decided t) n
 unary_call_is L _ _ _ (rule.address_of_other {v} e) = other_is (λ t. network_read (network_text_decided t)) (text_in v) e
-unary_call_is L _ _ _ (rule.is_ipv4 {n} {r} h) = test_is (is_v4 n.version) (v4_iff n.version) r h
-unary_call_is L _ _ _ (rule.is_ipv6 {n} {r} h) = test_is (not (is_v4 n.version)) (v6_iff n.version) r h
-unary_call_is L _ _ _ (rule.is_loopback {n} {r} h) = test_is (told (in_either_decided n loopback_v4 loopback_v6)) (told_iff (in_either_decided n loopback_v4 loopback_v6)) r h
-unary_call_is L _ _ _ (rule.is_multicast {n} {r} h) = test_is (told (in_either_decided n multicast_v4 multicast_v6)) (told_iff (in_either_decided n multicast_v4 multicast_v6)) r h
+unary_call_is L _ _ _ (rule.of_address {called} {n} {r} takes h) = of_address_is called takes n r h
 unary_call_is L _ _ _ (rule.of_no_address {called} {v} takes e) = no_address_is called v takes e
 
 -- ---- calls with two operands
@@ -170,10 +175,10 @@ networks_exist v w = network_cases (λ v. BinaryCallGives two.IsInRange v w (net
     (λ v e. other (λ x. and_then (demanded (network_in w)) (λ y. truth (told (within_decided x y)))) (BinaryCallGives two.IsInRange v w) (network_in v) e (rule.no_addresses (inl e))) v
 
 pub binary_call_exists : (called : BinaryCall) (v w : PlainValue) → BinaryCallGives called v w (apply_binary_call called v w)
-binary_call_exists two.LessThan v w = decimals_exist two.LessThan (λ x y. int_lt x y) tt (λ x y. rule.less_than (tells_test (int_lt x y) (int_lt_iff x y))) v w
-binary_call_exists two.LessThanOrEqual v w = decimals_exist two.LessThanOrEqual (λ x y. int_le x y) tt (λ x y. rule.less_than_or_equal (tells_test (int_le x y) (int_le_iff x y))) v w
-binary_call_exists two.GreaterThan v w = decimals_exist two.GreaterThan (λ x y. int_lt y x) tt (λ x y. rule.greater_than (tells_test (int_lt y x) (int_lt_iff y x))) v w
-binary_call_exists two.GreaterThanOrEqual v w = decimals_exist two.GreaterThanOrEqual (λ x y. int_le y x) tt (λ x y. rule.greater_than_or_equal (tells_test (int_le y x) (int_le_iff y x))) v w
+binary_call_exists two.LessThan v w = decimals_exist two.LessThan (λ x y. int_lt x y) tt (λ x y. rule.of_decimals tt (tells_test (int_lt x y) (int_lt_iff x y))) v w
+binary_call_exists two.LessThanOrEqual v w = decimals_exist two.LessThanOrEqual (λ x y. int_le x y) tt (λ x y. rule.of_decimals tt (tells_test (int_le x y) (int_le_iff x y))) v w
+binary_call_exists two.GreaterThan v w = decimals_exist two.GreaterThan (λ x y. int_lt y x) tt (λ x y. rule.of_decimals tt (tells_test (int_lt y x) (int_lt_iff y x))) v w
+binary_call_exists two.GreaterThanOrEqual v w = decimals_exist two.GreaterThanOrEqual (λ x y. int_le y x) tt (λ x y. rule.of_decimals tt (tells_test (int_le y x) (int_le_iff y x))) v w
 binary_call_exists two.IsInRange v w = networks_exist v w
 
 no_decimals_are : (called : BinaryCall) (v w : PlainValue) → TakesDecimals called → (decimal_in v ≡ None) ⊎ (decimal_in w ≡ None) → apply_binary_call called v w ≡ Err TypeError
@@ -183,11 +188,15 @@ no_decimals_are two.GreaterThan v w takes h = others_are (λ x y. truth (int_lt 
 no_decimals_are two.GreaterThanOrEqual v w takes h = others_are (λ x y. truth (int_le y x)) (decimal_in v) (decimal_in w) h
 no_decimals_are two.IsInRange v w takes h = absurd takes
 
+of_decimals_is : (called : BinaryCall) → TakesDecimals called → (x y : ℤ) (r : Outcome) → Tells (AreCompared called x y) r → apply_binary_call called (decimal x) (decimal y) ≡ r
+of_decimals_is two.LessThan h x y r t = test_is (int_lt x y) (int_lt_iff x y) r t
+of_decimals_is two.LessThanOrEqual h x y r t = test_is (int_le x y) (int_le_iff x y) r t
+of_decimals_is two.GreaterThan h x y r t = test_is (int_lt y x) (int_lt_iff y x) r t
+of_decimals_is two.GreaterThanOrEqual h x y r t = test_is (int_le y x) (int_le_iff y x) r t
+of_decimals_is two.IsInRange h x y r t = absurd h
+
 pub binary_call_is : (called : BinaryCall) (v w : PlainValue) (r : Outcome) → BinaryCallGives called v w r → apply_binary_call called v w ≡ r
-binary_call_is _ _ _ _ (rule.less_than {x} {y} {r} h) = test_is (int_lt x y) (int_lt_iff x y) r h
-binary_call_is _ _ _ _ (rule.less_than_or_equal {x} {y} {r} h) = test_is (int_le x y) (int_le_iff x y) r h
-binary_call_is _ _ _ _ (rule.greater_than {x} {y} {r} h) = test_is (int_lt y x) (int_lt_iff y x) r h
-binary_call_is _ _ _ _ (rule.greater_than_or_equal {x} {y} {r} h) = test_is (int_le y x) (int_le_iff y x) r h
+binary_call_is _ _ _ _ (rule.of_decimals {called} {x} {y} {r} takes h) = of_decimals_is called takes x y r h
 binary_call_is _ _ _ _ (rule.in_range {m} {n} {r} h) = test_is (told (within_decided m n)) (told_iff (within_decided m n)) r h
 binary_call_is _ _ _ _ (rule.no_decimals {called} {v} {w} takes h) = no_decimals_are called v w takes h
 binary_call_is _ _ _ _ (rule.no_addresses {v} {w} h) = others_are (λ x y. truth (told (within_decided x y))) (network_in v) (network_in w) h
@@ -274,11 +283,11 @@ module _ (W : World) (above : EntityUid → EntityUid → Bool) (D : Decides W.p
   binary_exists L ops.Equal v w = rule.equal (tells_test (is_eq (value_cmp v w)) (value_eq_iff v w))
   binary_exists L ops.In v w = entity_cases (λ v. BinaryGives W ops.In v w (apply_binary E ops.In v w)) (λ a. in_exists a w)
       (λ v e. other (λ a. in_value E a w) (BinaryGives W ops.In v w) (entity_in v) e (rule.other_in e)) v
-  binary_exists L ops.Less v w = numbers_exist ops.Less (λ x y. truth (int_lt x y)) tt (λ x y. rule.less (tells_test (int_lt x y) (int_lt_iff x y))) v w
-  binary_exists L ops.LessOrEqual v w = numbers_exist ops.LessOrEqual (λ x y. truth (int_le x y)) tt (λ x y. rule.less_or_equal (tells_test (int_le x y) (int_le_iff x y))) v w
-  binary_exists L ops.Add v w = numbers_exist ops.Add (λ x y. bounded (x +ℤ y)) tt (λ x y. rule.sum (comes_bounded (x +ℤ y))) v w
-  binary_exists L ops.Subtract v w = numbers_exist ops.Subtract (λ x y. bounded (x -ℤ y)) tt (λ x y. rule.difference (comes_bounded (x -ℤ y))) v w
-  binary_exists L ops.Multiply v w = numbers_exist ops.Multiply (λ x y. bounded (x *ℤ y)) tt (λ x y. rule.product (comes_bounded (x *ℤ y))) v w
+  binary_exists L ops.Less v w = numbers_exist ops.Less (λ x y. truth (int_lt x y)) tt (λ x y. rule.of_numbers (tells_test (int_lt x y) (int_lt_iff x y))) v w
+  binary_exists L ops.LessOrEqual v w = numbers_exist ops.LessOrEqual (λ x y. truth (int_le x y)) tt (λ x y. rule.of_numbers (tells_test (int_le x y) (int_le_iff x y))) v w
+  binary_exists L ops.Add v w = numbers_exist ops.Add (λ x y. bounded (x +ℤ y)) tt (λ x y. rule.of_numbers (comes_bounded (x +ℤ y))) v w
+  binary_exists L ops.Subtract v w = numbers_exist ops.Subtract (λ x y. bounded (x -ℤ y)) tt (λ x y. rule.of_numbers (comes_bounded (x -ℤ y))) v w
+  binary_exists L ops.Multiply v w = numbers_exist ops.Multiply (λ x y. bounded (x *ℤ y)) tt (λ x y. rule.of_numbers (comes_bounded (x *ℤ y))) v w
   binary_exists L ops.Contains v w = members_cases (λ v. BinaryGives W ops.Contains v w (apply_binary E ops.Contains v w))
       (λ vs. rule.contains (tells_test (has_member (list_of vs) w) (L.told (list_of vs) w)))
       (λ v e. other (λ x. truth (has_member x w)) (BinaryGives W ops.Contains v w) (members_in v) e (rule.other_contains e)) v
@@ -293,31 +302,24 @@ module _ (W : World) (above : EntityUid → EntityUid → Bool) (D : Decides W.p
   no_numbers_are ops.Add v w takes h = others_are (λ x y. bounded (x +ℤ y)) (long_in v) (long_in w) h
   no_numbers_are ops.Subtract v w takes h = others_are (λ x y. bounded (x -ℤ y)) (long_in v) (long_in w) h
   no_numbers_are ops.Multiply v w takes h = others_are (λ x y. bounded (x *ℤ y)) (long_in v) (long_in w) h
-  no_numbers_are ops.Equal v w takes h = absurd takes
-  no_numbers_are ops.In v w takes h = absurd takes
-  no_numbers_are ops.Contains v w takes h = absurd takes
-  no_numbers_are ops.ContainsAll v w takes h = absurd takes
-  no_numbers_are ops.ContainsAny v w takes h = absurd takes
+  no_numbers_are op v w takes h = absurd takes
+
+  of_numbers_is : (op : Binary) (x y : ℤ) (r : Outcome) → NumbersGive op x y r → apply_binary E op (long x) (long y) ≡ r
+  of_numbers_is ops.Less x y r h = test_is (int_lt x y) (int_lt_iff x y) r h
+  of_numbers_is ops.LessOrEqual x y r h = test_is (int_le x y) (int_le_iff x y) r h
+  of_numbers_is ops.Add x y r h = bounded_is (x +ℤ y) r h
+  of_numbers_is ops.Subtract x y r h = bounded_is (x -ℤ y) r h
+  of_numbers_is ops.Multiply x y r h = bounded_is (x *ℤ y) r h
+  of_numbers_is op x y r h = absurd h
 
   no_sets_are : (op : Binary) (v w : PlainValue) → TakesSets op → (members_in v ≡ None) ⊎ (members_in w ≡ None) → apply_binary E op v w ≡ Err TypeError
   no_sets_are ops.ContainsAll v w takes h = others_are (λ x y. truth (list_all (has_member x) y)) (members_in v) (members_in w) h
   no_sets_are ops.ContainsAny v w takes h = others_are (λ x y. truth (list_any (has_member x) y)) (members_in v) (members_in w) h
-  no_sets_are ops.Equal v w takes h = absurd takes
-  no_sets_are ops.In v w takes h = absurd takes
-  no_sets_are ops.Less v w takes h = absurd takes
-  no_sets_are ops.LessOrEqual v w takes h = absurd takes
-  no_sets_are ops.Add v w takes h = absurd takes
-  no_sets_are ops.Subtract v w takes h = absurd takes
-  no_sets_are ops.Multiply v w takes h = absurd takes
-  no_sets_are ops.Contains v w takes h = absurd takes
+  no_sets_are op v w takes h = absurd takes
 
   pub binary_is : LawsBelow → (op : Binary) (v w : PlainValue) (r : Outcome) → BinaryGives W op v w r → apply_binary E op v w ≡ r
   binary_is L _ _ _ _ (rule.equal {v} {w} {r} h) = test_is (is_eq (value_cmp v w)) (value_eq_iff v w) r h
-  binary_is L _ _ _ _ (rule.less {x} {y} {r} h) = test_is (int_lt x y) (int_lt_iff x y) r h
-  binary_is L _ _ _ _ (rule.less_or_equal {x} {y} {r} h) = test_is (int_le x y) (int_le_iff x y) r h
-  binary_is L _ _ _ _ (rule.sum {x} {y} {r} h) = bounded_is (x +ℤ y) r h
-  binary_is L _ _ _ _ (rule.difference {x} {y} {r} h) = bounded_is (x -ℤ y) r h
-  binary_is L _ _ _ _ (rule.product {x} {y} {r} h) = bounded_is (x *ℤ y) r h
+  binary_is L _ _ _ _ (rule.of_numbers {op} {x} {y} {r} h) = of_numbers_is op x y r h
   binary_is L _ _ _ _ (rule.no_numbers {op} {v} {w} takes h) = no_numbers_are op v w takes h
   binary_is L _ _ _ _ (rule.in_entity {a} {b} {r} h) = test_is (is_in E a b) (is_in_iff W above D a b) r h
   binary_is L _ _ _ _ (rule.in_set {a} {vs} {r} us e h) = in_set_is a (list_of vs) us e ∙ test_is (list_any (is_in E a) us) (some_iff a us) r h

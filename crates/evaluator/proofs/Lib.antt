@@ -4,6 +4,5 @@ pub mod Applied
 pub mod ByKind
 pub mod Conversions
 pub mod Membership
-pub mod Members
 pub mod Telling
 pub mod Wanting

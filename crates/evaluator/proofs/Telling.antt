@@ -6,6 +6,7 @@ use Rattle.std.proofs.lemmas.Int.{ints}
 use Rattle.std.specs.Int.{w64}
 use Rattle.std.specs.List.{list_any, list_all}
 use Rattle.std.specs.Ordering.{is_eq}
+use Rattle.extensions.specs.Decided.{Decided, told}
 use Rattle.extensions.specs.declared.ip_net.Version.{Version}
 use Rattle.extensions.specs.declared.ip_net.Version.TheVariants.{V4, V6}
 use Rattle.values.specs.declared.entity_uid.EntityUid.{EntityUid}
@@ -13,12 +14,16 @@ use Rattle.values.specs.Names.{uid_cmp, uid_cmp-IsTotalOrder, uid_cmp-IsAntisymm
 use Rattle.values.specs.Uids.{equal-is}
 use Rattle.values.specs.Values.{PlainValue, long}
 use Rattle.values.specs.ValueOrder.{value_cmp, value_cmp-IsTotalOrder, value_cmp-IsAntisymmetric}
-use Rattle.evaluator.proofs.Members.{Contains-here, Contains-there, Contains-cases, Contains-none}
+use Rattle.plain.proofs.Members.{Contains-here, Contains-there, Contains-cases, Contains-none}
 use Rattle.ancestor_closure.specs.Decided.{Decides}
 use Rattle.evaluator.specs.declared.fault.EvalFault.TheVariants.{ArithBoundsError}
 use Rattle.evaluator.specs.Outcomes.{Outcome, Tells, holds, fails, Comes, fits, overflows}
 use Rattle.evaluator.specs.Operators.{World, IsIn}
 use Rattle.evaluator.specs.inner.Computing.{entities_of, truth, is_bounded, bounded, is_in, is_v4}
+
+pub told_iff : {P : Type 0} (d : Decided P) → IsTrue (told d) ↔ P
+told_iff (inl p) = ((λ t. p), (λ p. refl))
+told_iff (inr n) = ((λ t. absurd (false≢true t)), (λ p. absurd (n p)))
 
 pub tells_test : {P : Type 0} (b : Bool) → (IsTrue b ↔ P) → Tells P (truth b)
 tells_test true i = holds (i.0 refl)

@@ -1,21 +1,20 @@
 -- No expression gives want of memory.
 use Rattle.std.specs.Prelude.{ℕ, ℤ, List, Result, Ok, Err}
 use Rattle.values.specs.declared.request.Request.{Request}
-use Rattle.values.specs.Fields.{Field}
 use Rattle.values.specs.Values.{PlainValue}
 use Rattle.expressions.specs.declared.operator.Unary.{Unary}
 use Rattle.expressions.specs.declared.operator.Binary.{Binary}
+use Rattle.expressions.specs.declared.operator.Binary.TheVariants.{Less, LessOrEqual, Add, Subtract, Multiply}
 use Rattle.expressions.specs.declared.operator.UnaryCall.{UnaryCall}
 use Rattle.expressions.specs.declared.operator.BinaryCall.{BinaryCall}
-use Rattle.expressions.specs.declared.expr.Named.{Named}
 use Rattle.expressions.specs.declared.expr.Expr.{Expr}
 use Rattle.evaluator.specs.declared.fault.EvalFault.{EvalFault}
 use Rattle.evaluator.specs.declared.fault.EvalFault.TheVariants.{EntityDoesNotExist, AttrDoesNotExist, TypeError, ArithBoundsError, ExtensionError, NoMemory}
 use Rattle.evaluator.specs.Outcomes.{Outcome, Tells, holds, fails, Comes, fits, overflows}
 use Rattle.evaluator.specs.Operators as op
-use Rattle.evaluator.specs.Operators.{World, UnaryGives, BinaryGives, FieldGives, HasGives, UnaryCallGives, BinaryCallGives}
+use Rattle.evaluator.specs.Operators.{World, UnaryGives, NumbersGive, BinaryGives, FieldGives, HasGives, UnaryCallGives, BinaryCallGives}
 use Rattle.evaluator.specs.Evaluation as rule
-use Rattle.evaluator.specs.Evaluation.{Gives, TestFails, GivesEach, GivesFields}
+use Rattle.evaluator.specs.Evaluation.{Gives, TestFails, GivesEach}
 use Rattle.evaluator.specs.Laws.{NothingWantsMemory}
 
 -- an error of the language
@@ -50,14 +49,18 @@ of_unary _ _ _ (op.like_of_other e) = tt
 of_unary _ _ _ (op.is_entity {name} {u} {r} h) = told r h
 of_unary _ _ _ (op.is_of_other e) = tt
 
+of_numbers : (o : Binary) (x y : ℤ) (r : Outcome) → NumbersGive o x y r → IsProper r
+of_numbers Less x y r h = told r h
+of_numbers LessOrEqual x y r h = told r h
+of_numbers Add x y r h = comes _ r h
+of_numbers Subtract x y r h = comes _ r h
+of_numbers Multiply x y r h = comes _ r h
+of_numbers o x y r h = absurd h
+
 module _ (W : World) where
   of_binary : (o : Binary) (v w : PlainValue) (r : Outcome) → BinaryGives W o v w r → IsProper r
   of_binary _ _ _ _ (op.equal {v} {w} {r} h) = told r h
-  of_binary _ _ _ _ (op.less {x} {y} {r} h) = told r h
-  of_binary _ _ _ _ (op.less_or_equal {x} {y} {r} h) = told r h
-  of_binary _ _ _ _ (op.sum {x} {y} {r} h) = comes _ r h
-  of_binary _ _ _ _ (op.difference {x} {y} {r} h) = comes _ r h
-  of_binary _ _ _ _ (op.product {x} {y} {r} h) = comes _ r h
+  of_binary _ _ _ _ (op.of_numbers {op = o} {x} {y} {r} h) = of_numbers o x y r h
   of_binary _ _ _ _ (op.no_numbers takes h) = tt
   of_binary _ _ _ _ (op.in_entity {a} {b} {r} h) = told r h
   of_binary _ _ _ _ (op.in_set {a} {vs} {r} us e h) = told r h
@@ -91,17 +94,11 @@ of_unary_call _ _ _ (op.decimal_of_other e) = tt
 of_unary_call _ _ _ (op.reads_address h) = tt
 of_unary_call _ _ _ (op.no_address n) = tt
 of_unary_call _ _ _ (op.address_of_other e) = tt
-of_unary_call _ _ _ (op.is_ipv4 {n} {r} h) = told r h
-of_unary_call _ _ _ (op.is_ipv6 {n} {r} h) = told r h
-of_unary_call _ _ _ (op.is_loopback {n} {r} h) = told r h
-of_unary_call _ _ _ (op.is_multicast {n} {r} h) = told r h
+of_unary_call _ _ _ (op.of_address {called} {n} {r} takes h) = told r h
 of_unary_call _ _ _ (op.of_no_address takes e) = tt
 
 of_binary_call : (called : BinaryCall) (v w : PlainValue) (r : Outcome) → BinaryCallGives called v w r → IsProper r
-of_binary_call _ _ _ _ (op.less_than {x} {y} {r} h) = told r h
-of_binary_call _ _ _ _ (op.less_than_or_equal {x} {y} {r} h) = told r h
-of_binary_call _ _ _ _ (op.greater_than {x} {y} {r} h) = told r h
-of_binary_call _ _ _ _ (op.greater_than_or_equal {x} {y} {r} h) = told r h
+of_binary_call _ _ _ _ (op.of_decimals {called} {x} {y} {r} takes h) = told r h
 of_binary_call _ _ _ _ (op.in_range {m} {n} {r} h) = told r h
 of_binary_call _ _ _ _ (op.no_decimals takes h) = tt
 of_binary_call _ _ _ _ (op.no_addresses h) = tt
@@ -122,24 +119,15 @@ module _ (W : World) (q : Request) where
     proper _ _ (rule.or_false a b {t} g h) = tt
     proper _ _ (rule.or_left_fails a b {e} f) = no_test a e f
     proper _ _ (rule.or_right_fails a b {e} g f) = no_test b e f
+    proper _ _ (rule.operand_fails {x} {xs} {e} has g) = proper_each xs (Err e) g
     proper _ _ (rule.gives_unary o a {v} {r} g u) = of_unary o v r u
-    proper _ _ (rule.unary_fails o a {e} g) = proper a (Err e) g
     proper _ _ (rule.gives_binary o a b {v} {w} {r} g h u) = of_binary W o v w r u
-    proper _ _ (rule.binary_left_fails o a b {e} g) = proper a (Err e) g
-    proper _ _ (rule.binary_right_fails o a b {v} {e} g h) = proper b (Err e) h
     proper _ _ (rule.gives_field a name {v} {r} g u) = of_field W name v r u
-    proper _ _ (rule.field_fails a name {e} g) = proper a (Err e) g
     proper _ _ (rule.gives_has a name {v} {r} g u) = of_has W name v r u
-    proper _ _ (rule.has_fails a name {e} g) = proper a (Err e) g
     proper _ _ (rule.gives_set xs g h) = tt
-    proper _ _ (rule.set_fails xs {e} g) = proper_each xs (Err e) g
     proper _ _ (rule.gives_record xs g) = tt
-    proper _ _ (rule.record_fails xs {e} g) = proper_fields xs _ (Err e) g
     proper _ _ (rule.gives_unary_call called a {v} {r} g u) = of_unary_call called v r u
-    proper _ _ (rule.unary_call_fails called a {e} g) = proper a (Err e) g
     proper _ _ (rule.gives_binary_call called a b {v} {w} {r} g h u) = of_binary_call called v w r u
-    proper _ _ (rule.call_left_fails called a b {e} g) = proper a (Err e) g
-    proper _ _ (rule.call_right_fails called a b {v} {e} g h) = proper b (Err e) h
 
     no_test : (x : Expr) (e : EvalFault) → TestFails W q x e → IsError e
     no_test _ _ (rule.test_errs {a} {e} g) = proper a (Err e) g
@@ -150,11 +138,6 @@ module _ (W : World) (q : Request) where
     proper_each _ _ (rule.each_more g h) = tt
     proper_each _ _ (rule.each_fails {x} {xs} {e} g) = proper x (Err e) g
     proper_each _ _ (rule.each_fails_later {x} {xs} {v} {e} g h) = proper_each xs (Err e) h
-
-    proper_fields : (xs : List (Named Expr)) (done : List Field) (r : Result (List Field) EvalFault) → GivesFields W q xs done r → IsProper r
-    proper_fields _ _ _ rule.fields_none = tt
-    proper_fields _ _ _ (rule.fields_more {x} {xs} {done} {v} {r} g h) = proper_fields xs _ r h
-    proper_fields _ _ _ (rule.fields_fail {x} {xs} {done} {e} g) = proper x.value (Err e) g
 
 pub nothing_wants_memory : NothingWantsMemory
 nothing_wants_memory W q x g = proper W q x (Err NoMemory) g

@@ -3,7 +3,8 @@
 -- cedar-spec, cedar-lean/Cedar/Spec/Evaluator.lean (`evaluate`). Operands are evaluated from the left to the right, and
 -- only then judged. A rule of this product: the fields of a record are evaluated in the order in which they are
 -- written.
-use Rattle.std.specs.Prelude.{◌≡◌, ◌≢◌, ℕ, List, [], ◌∷◌, Bool, true, false, None, Result, Ok, Err, MatchResult}
+use Rattle.std.specs.Prelude.{◌≡◌, ◌≢◌, ℕ, List, [], ◌∷◌, map, Bool, true, false, None, Result, Ok, Err}
+use Rattle.std.specs.Prelude.{MatchResult}
 use Rattle.values.specs.declared.request.Request.{Request}
 use Rattle.values.specs.Fields.{Field, put}
 use Rattle.values.specs.Sets.{IsSetOf}
@@ -37,6 +38,23 @@ variable_value Action q = entity q.action
 variable_value Resource q = entity q.resource
 variable_value Context q = record_of (fields_of q.context)
 
+-- The operands of a form that wants the values of them all, in the order in which they are evaluated. `if`, `&&` and
+-- `||` want only what decides; a literal and a variable have none.
+pub data HasOperands : Expr → List Expr → Type 0 where
+  of_unary : (op : Unary) (a : Expr) → HasOperands (form.Unary op a) (a ∷ [])
+  of_binary : (op : Binary) (a b : Expr) → HasOperands (form.Binary op a b) (a ∷ b ∷ [])
+  of_field : (a : Expr) (name : List ℕ) → HasOperands (form.Field a name) (a ∷ [])
+  of_has : (a : Expr) (name : List ℕ) → HasOperands (form.Has a name) (a ∷ [])
+  of_set : (xs : List Expr) → HasOperands (form.Set xs) xs
+  of_record : (xs : List (Named Expr)) → HasOperands (form.Record xs) (map (λ x. x.value) xs)
+  of_unary_call : (called : UnaryCall) (a : Expr) → HasOperands (form.UnaryCall called a) (a ∷ [])
+  of_binary_call : (called : BinaryCall) (a b : Expr) → HasOperands (form.BinaryCall called a b) (a ∷ b ∷ [])
+
+-- the fields, with each of these set to its value, one after the other
+abbrev pub put_each : List (Named Expr) → List PlainValue → List Field → List Field
+put_each (x ∷ xs) (v ∷ vs) done = put_each xs vs (put x.name v done)
+put_each xs vs done = done
+
 mutual
   -- the expression gives r
   pub data Gives (W : World) (q : Request) : Expr → Outcome → Type 0 where
@@ -59,37 +77,25 @@ mutual
     or_left_fails : (a b : Expr) {e : EvalFault} → TestFails W q a e → Gives W q (form.Or a b) (Err e)
     or_right_fails : (a b : Expr) {e : EvalFault} → Gives W q a (Ok (boolean false)) → TestFails W q b e
         → Gives W q (form.Or a b) (Err e)
+    -- the first operand that errs decides, whatever stands behind it
+    operand_fails : {x : Expr} {xs : List Expr} {e : EvalFault} → HasOperands x xs → GivesEach W q xs (Err e)
+        → Gives W q x (Err e)
     gives_unary : (op : Unary) (a : Expr) {v : PlainValue} {r : Outcome} → Gives W q a (Ok v) → UnaryGives op v r
         → Gives W q (form.Unary op a) r
-    unary_fails : (op : Unary) (a : Expr) {e : EvalFault} → Gives W q a (Err e) → Gives W q (form.Unary op a) (Err e)
     gives_binary : (op : Binary) (a b : Expr) {v w : PlainValue} {r : Outcome} → Gives W q a (Ok v)
         → Gives W q b (Ok w) → BinaryGives W op v w r → Gives W q (form.Binary op a b) r
-    binary_left_fails : (op : Binary) (a b : Expr) {e : EvalFault} → Gives W q a (Err e) → Gives W q (form.Binary op a b) (Err e)
-    binary_right_fails : (op : Binary) (a b : Expr) {v : PlainValue} {e : EvalFault} → Gives W q a (Ok v)
-        → Gives W q b (Err e) → Gives W q (form.Binary op a b) (Err e)
     gives_field : (a : Expr) (name : List ℕ) {v : PlainValue} {r : Outcome} → Gives W q a (Ok v)
         → FieldGives W name v r → Gives W q (form.Field a name) r
-    field_fails : (a : Expr) (name : List ℕ) {e : EvalFault} → Gives W q a (Err e)
-        → Gives W q (form.Field a name) (Err e)
     gives_has : (a : Expr) (name : List ℕ) {v : PlainValue} {r : Outcome} → Gives W q a (Ok v) → HasGives W name v r
         → Gives W q (form.Has a name) r
-    has_fails : (a : Expr) (name : List ℕ) {e : EvalFault} → Gives W q a (Err e) → Gives W q (form.Has a name) (Err e)
     gives_set : (xs : List Expr) {vs s : List PlainValue} → GivesEach W q xs (Ok vs) → IsSetOf vs s
         → Gives W q (form.Set xs) (Ok (set (values_of s)))
-    set_fails : (xs : List Expr) {e : EvalFault} → GivesEach W q xs (Err e) → Gives W q (form.Set xs) (Err e)
-    gives_record : (xs : List (Named Expr)) {fs : List Field} → GivesFields W q xs [] (Ok fs)
-        → Gives W q (form.Record xs) (Ok (record_of (fields_of fs)))
-    record_fails : (xs : List (Named Expr)) {e : EvalFault} → GivesFields W q xs [] (Err e)
-        → Gives W q (form.Record xs) (Err e)
+    gives_record : (xs : List (Named Expr)) {vs : List PlainValue} → GivesEach W q (map (λ x. x.value) xs) (Ok vs)
+        → Gives W q (form.Record xs) (Ok (record_of (fields_of (put_each xs vs []))))
     gives_unary_call : (called : UnaryCall) (a : Expr) {v : PlainValue} {r : Outcome} → Gives W q a (Ok v)
         → UnaryCallGives called v r → Gives W q (form.UnaryCall called a) r
-    unary_call_fails : (called : UnaryCall) (a : Expr) {e : EvalFault} → Gives W q a (Err e)
-        → Gives W q (form.UnaryCall called a) (Err e)
     gives_binary_call : (called : BinaryCall) (a b : Expr) {v w : PlainValue} {r : Outcome} → Gives W q a (Ok v)
         → Gives W q b (Ok w) → BinaryCallGives called v w r → Gives W q (form.BinaryCall called a b) r
-    call_left_fails : (called : BinaryCall) (a b : Expr) {e : EvalFault} → Gives W q a (Err e) → Gives W q (form.BinaryCall called a b) (Err e)
-    call_right_fails : (called : BinaryCall) (a b : Expr) {v : PlainValue} {e : EvalFault} → Gives W q a (Ok v)
-        → Gives W q b (Err e) → Gives W q (form.BinaryCall called a b) (Err e)
 
   -- the expression is no test: it errs, or gives no boolean
   pub data TestFails (W : World) (q : Request) : Expr → EvalFault → Type 0 where
@@ -104,16 +110,6 @@ mutual
     each_fails : {x : Expr} {xs : List Expr} {e : EvalFault} → Gives W q x (Err e) → GivesEach W q (x ∷ xs) (Err e)
     each_fails_later : {x : Expr} {xs : List Expr} {v : PlainValue} {e : EvalFault} → Gives W q x (Ok v)
         → GivesEach W q xs (Err e) → GivesEach W q (x ∷ xs) (Err e)
-
-  -- the fields that are done already, with each further one in order, or the first error
-  pub data GivesFields (W : World) (q : Request) : List (Named Expr) → List Field → Result (List Field) EvalFault
-      → Type 0 where
-    fields_none : {done : List Field} → GivesFields W q [] done (Ok done)
-    fields_more : {x : Named Expr} {xs : List (Named Expr)} {done : List Field} {v : PlainValue}
-        {r : Result (List Field) EvalFault} →
-        Gives W q x.value (Ok v) → GivesFields W q xs (put x.name v done) r → GivesFields W q (x ∷ xs) done r
-    fields_fail : {x : Named Expr} {xs : List (Named Expr)} {done : List Field} {e : EvalFault}
-        → Gives W q x.value (Err e) → GivesFields W q (x ∷ xs) done (Err e)
 
 -- the answer is what the expression gives, but where memory was refused
 abbrev pub AnswersWhatIsGiven : World → Request → Expr → Outcome → Type 0

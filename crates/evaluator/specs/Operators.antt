@@ -56,6 +56,15 @@ pub data UnaryGives : Unary → PlainValue → Outcome → Type 0 where
       → UnaryGives (Is name) (entity u) r
   is_of_other : {name : List ℕ} {v : PlainValue} → entity_in v ≡ None → UnaryGives (Is name) v (Err TypeError)
 
+-- what two numbers give under an operator that takes numbers
+abbrev pub NumbersGive : Binary → ℤ → ℤ → Outcome → Type 0
+NumbersGive Less x y r = Tells (x <ℤ y) r
+NumbersGive LessOrEqual x y r = Tells (x ≤ℤ y) r
+NumbersGive Add x y r = Comes (x +ℤ y) r
+NumbersGive Subtract x y r = Comes (x -ℤ y) r
+NumbersGive Multiply x y r = Comes (x *ℤ y) r
+NumbersGive op x y r = ⊥
+
 -- these take two numbers, these two sets
 abbrev pub TakesNumbers : Binary → Type 0
 TakesNumbers Less = ⊤
@@ -74,11 +83,7 @@ TakesSets op = ⊥
 -- entities, whether a is in some of them.
 pub data BinaryGives (W : World) : Binary → PlainValue → PlainValue → Outcome → Type 0 where
   equal : {v w : PlainValue} {r : Outcome} → Tells (v ≡ w) r → BinaryGives W Equal v w r
-  less : {x y : ℤ} {r : Outcome} → Tells (x <ℤ y) r → BinaryGives W Less (long x) (long y) r
-  less_or_equal : {x y : ℤ} {r : Outcome} → Tells (x ≤ℤ y) r → BinaryGives W LessOrEqual (long x) (long y) r
-  sum : {x y : ℤ} {r : Outcome} → Comes (x +ℤ y) r → BinaryGives W Add (long x) (long y) r
-  difference : {x y : ℤ} {r : Outcome} → Comes (x -ℤ y) r → BinaryGives W Subtract (long x) (long y) r
-  product : {x y : ℤ} {r : Outcome} → Comes (x *ℤ y) r → BinaryGives W Multiply (long x) (long y) r
+  of_numbers : {op : Binary} {x y : ℤ} {r : Outcome} → NumbersGive op x y r → BinaryGives W op (long x) (long y) r
   no_numbers : {op : Binary} {v w : PlainValue} → TakesNumbers op → (long_in v ≡ None) ⊎ (long_in w ≡ None)
       → BinaryGives W op v w (Err TypeError)
   in_entity : {a b : EntityUid} {r : Outcome} → Tells (IsIn W a b) r → BinaryGives W In (entity a) (entity b) r
@@ -123,6 +128,14 @@ pub data HasGives (W : World) (name : List ℕ) : PlainValue → Outcome → Typ
   none_stored : {u : EntityUid} → W.stored u ≡ None → HasGives W name (entity u) (Ok (boolean false))
   has_of_other : {v : PlainValue} → fields_in v ≡ None → entity_in v ≡ None → HasGives W name v (Err TypeError)
 
+-- what is tested of an address
+abbrev pub IsTested : UnaryCall → Network → Type 0
+IsTested IsIpv4 n = n.version ≡ V4
+IsTested IsIpv6 n = n.version ≡ V6
+IsTested IsLoopback n = IsWithin n loopback_v4 ⊎ IsWithin n loopback_v6
+IsTested IsMulticast n = IsWithin n multicast_v4 ⊎ IsWithin n multicast_v6
+IsTested called n = ⊥
+
 -- these take an address
 abbrev pub TakesAddress : UnaryCall → Type 0
 TakesAddress Ip = ⊥
@@ -137,14 +150,18 @@ pub data UnaryCallGives : UnaryCall → PlainValue → Outcome → Type 0 where
   reads_address : {t : List ℕ} {n : Network} → IsNetworkText t n → UnaryCallGives Ip (text t) (Ok (ipaddr n))
   no_address : {t : List ℕ} → ((n : Network) → ¬ IsNetworkText t n) → UnaryCallGives Ip (text t) (Err ExtensionError)
   address_of_other : {v : PlainValue} → text_in v ≡ None → UnaryCallGives Ip v (Err TypeError)
-  is_ipv4 : {n : Network} {r : Outcome} → Tells (n.version ≡ V4) r → UnaryCallGives IsIpv4 (ipaddr n) r
-  is_ipv6 : {n : Network} {r : Outcome} → Tells (n.version ≡ V6) r → UnaryCallGives IsIpv6 (ipaddr n) r
-  is_loopback : {n : Network} {r : Outcome} → Tells (IsWithin n loopback_v4 ⊎ IsWithin n loopback_v6) r
-      → UnaryCallGives IsLoopback (ipaddr n) r
-  is_multicast : {n : Network} {r : Outcome} → Tells (IsWithin n multicast_v4 ⊎ IsWithin n multicast_v6) r
-      → UnaryCallGives IsMulticast (ipaddr n) r
+  of_address : {called : UnaryCall} {n : Network} {r : Outcome} → TakesAddress called → Tells (IsTested called n) r
+      → UnaryCallGives called (ipaddr n) r
   of_no_address : {called : UnaryCall} {v : PlainValue} → TakesAddress called → network_in v ≡ None
       → UnaryCallGives called v (Err TypeError)
+
+-- how two decimals are compared
+abbrev pub AreCompared : BinaryCall → ℤ → ℤ → Type 0
+AreCompared LessThan x y = x <ℤ y
+AreCompared LessThanOrEqual x y = x ≤ℤ y
+AreCompared GreaterThan x y = y <ℤ x
+AreCompared GreaterThanOrEqual x y = y ≤ℤ x
+AreCompared IsInRange x y = ⊥
 
 -- these take two decimals
 abbrev pub TakesDecimals : BinaryCall → Type 0
@@ -153,12 +170,8 @@ TakesDecimals called = ⊤
 
 -- a call with two operands
 pub data BinaryCallGives : BinaryCall → PlainValue → PlainValue → Outcome → Type 0 where
-  less_than : {x y : ℤ} {r : Outcome} → Tells (x <ℤ y) r → BinaryCallGives LessThan (decimal x) (decimal y) r
-  less_than_or_equal : {x y : ℤ} {r : Outcome} → Tells (x ≤ℤ y) r
-      → BinaryCallGives LessThanOrEqual (decimal x) (decimal y) r
-  greater_than : {x y : ℤ} {r : Outcome} → Tells (y <ℤ x) r → BinaryCallGives GreaterThan (decimal x) (decimal y) r
-  greater_than_or_equal : {x y : ℤ} {r : Outcome} → Tells (y ≤ℤ x) r
-      → BinaryCallGives GreaterThanOrEqual (decimal x) (decimal y) r
+  of_decimals : {called : BinaryCall} {x y : ℤ} {r : Outcome} → TakesDecimals called → Tells (AreCompared called x y) r
+      → BinaryCallGives called (decimal x) (decimal y) r
   in_range : {m n : Network} {r : Outcome} → Tells (IsWithin m n) r → BinaryCallGives IsInRange (ipaddr m) (ipaddr n) r
   no_decimals : {called : BinaryCall} {v w : PlainValue} → TakesDecimals called → (decimal_in v ≡ None)
       ⊎ (decimal_in w ≡ None) →

@@ -1,4 +1,2 @@
 pub mod Computing
-pub mod Decided
 pub mod Meanings
-pub mod TextsDecided

@@ -1,9 +1,9 @@
 // What the functions and methods of extensions give on values.
 ghost use Rattle.std.specs.Prelude.{◌≡◌, not, int_lt, int_le};
 ghost use Rattle.extensions.specs.Network.{loopback_v4, loopback_v6, multicast_v4, multicast_v6};
-ghost use Rattle.evaluator.specs.inner.Decided.{told};
-ghost use Rattle.evaluator.specs.inner.TextsDecided.{decimal_text_decided, network_text_decided, in_either_decided};
-ghost use Rattle.evaluator.specs.inner.TextsDecided.{within_decided};
+ghost use Rattle.extensions.specs.Decided.{told};
+ghost use Rattle.extensions.specs.TextsDecided.{decimal_text_decided, network_text_decided, in_either_decided};
+ghost use Rattle.extensions.specs.TextsDecided.{within_decided};
 ghost use Rattle.evaluator.specs.inner.Computing.{decimal_read, network_read, is_v4, apply_unary_call};
 ghost use Rattle.evaluator.specs.inner.Computing.{apply_binary_call};
 

@@ -1,12 +1,12 @@
 //! The evaluator.
-ghost use Rattle.std.specs.Prelude.{◌≡◌, ◌≢◌, [], map, MatchResult, Ok, Err};
+ghost use Rattle.std.specs.Prelude.{◌≡◌, ◌≢◌, [], map, MatchResult, Ok, Err, true, false, if◌then◌else◌};
 ghost use Rattle.values.specs.Values.{set, record_of, values_of, fields_of};
 ghost use Rattle.values.specs.Sets.{set_list};
 ghost use Rattle.evaluator.specs.Operators.{world_of};
 ghost use Rattle.evaluator.specs.Evaluation.{AnswersWhatIsGiven, AnswersAllThatIsGiven};
 ghost use Rattle.evaluator.specs.inner.Computing.{entities_of, Answers, meaning, named_meaning, each, each_field};
-ghost use Rattle.evaluator.specs.inner.Computing.{and_then, as_test, apply_unary, apply_binary, apply_unary_call};
-ghost use Rattle.evaluator.specs.inner.Computing.{apply_binary_call, field_of, has_field};
+ghost use Rattle.evaluator.specs.inner.Computing.{and_then, as_test, truth, apply_unary, apply_binary};
+ghost use Rattle.evaluator.specs.inner.Computing.{apply_unary_call, apply_binary_call, field_of, has_field};
 
 use crate::calls::{binary_call, unary_call};
 use crate::fault::EvalFault;
@@ -26,8 +26,8 @@ use values::{Record, Request, Value};
 ///
 /// What stands in the expression, the request or the stored entities is borrowed; memory is asked for by sets and
 /// records that are written out, by a field of such a record, and by `in`, which searches the hierarchy.
-/// Operands are evaluated from the left to the right, the fields of a record in the order in which they are written; `&&`, `||` and `if`
-/// evaluate only what decides. `NoMemory` where an allocation was refused, and only then.
+/// Operands are evaluated from the left to the right, the fields of a record in the order in which they are written;
+/// `&&`, `||` and `if` evaluate only what decides. `NoMemory` where an allocation was refused, and only then.
 /// It recurses: its stack grows with the height of the expression, by less than two kilobytes a level.
 ///
 /// Source: Cedar reference guide, "Operators and functions".
@@ -67,14 +67,12 @@ fn outcome_of<'a, L: Lookup>(
             }
         }
         Expr::And(left, right) => {
-            let holds = test_of(alloc, left, request, store)?
-                && test_of(alloc, right, request, store)?;
-            Ok(Given::computed(Value::boolean(holds)))
+            let left = test_of(alloc, left, request, store)?;
+            second_conjunct(alloc, right, left, request, store)
         }
         Expr::Or(left, right) => {
-            let holds = test_of(alloc, left, request, store)?
-                || test_of(alloc, right, request, store)?;
-            Ok(Given::computed(Value::boolean(holds)))
+            let left = test_of(alloc, left, request, store)?;
+            second_disjunct(alloc, right, left, request, store)
         }
         Expr::Unary(operator, operand) => one_operand(alloc, operator, operand, request, store),
         Expr::Binary(operator, left, right) => {
@@ -109,6 +107,42 @@ fn test_of<'a, L: Lookup>(
     boolean_of(&given)
 }
 
+/// What `&&` gives behind its first operand: the second is evaluated only where that is true.
+#[cycle(evaluate)]
+#[inline(never)]
+fn second_conjunct<'a, L: Lookup>(
+    alloc: Global,
+    right: &'a Shared<Expr>,
+    left: bool,
+    request: &'a Request,
+    store: &'a L,
+) -> Result<Given<'a>, EvalFault>
+    ensures { Answers result (if left
+        then and_then (as_test (meaning request.now (entities_of (L.stored store.now) (L.above store.now)) right.now))
+        truth else truth false) }
+{
+    let holds = left && test_of(alloc, right, request, store)?;
+    Ok(Given::computed(Value::boolean(holds)))
+}
+
+/// What `||` gives behind its first operand: the second is evaluated only where that is false.
+#[cycle(evaluate)]
+#[inline(never)]
+fn second_disjunct<'a, L: Lookup>(
+    alloc: Global,
+    right: &'a Shared<Expr>,
+    left: bool,
+    request: &'a Request,
+    store: &'a L,
+) -> Result<Given<'a>, EvalFault>
+    ensures { Answers result (if left then truth true
+        else and_then (as_test (meaning request.now (entities_of (L.stored store.now) (L.above store.now)) right.now))
+        truth) }
+{
+    let holds = left || test_of(alloc, right, request, store)?;
+    Ok(Given::computed(Value::boolean(holds)))
+}
+
 /// What an operator gives on an expression's value.
 #[cycle(evaluate)]
 #[inline(never)]
@@ -138,7 +172,8 @@ fn second_operand<'a, L: Lookup>(
     request: &'a Request,
     store: &'a L,
 ) -> Result<Given<'a>, EvalFault>
-    ensures { Answers result (and_then (meaning request.now (entities_of (L.stored store.now) (L.above store.now)) right.now) (apply_binary (entities_of (L.stored store.now) (L.above store.now)) operator left.now)) }
+    ensures { let entities = entities_of (L.stored store.now) (L.above store.now) in
+        Answers result (and_then (meaning request.now entities right.now) (apply_binary entities operator left.now)) }
 {
     let right = outcome_of(alloc, right.get(), request, store)?;
     Ok(Given::computed(binary(store, operator, left, &right)?))
@@ -173,7 +208,9 @@ fn second_called<'a, L: Lookup>(
     request: &'a Request,
     store: &'a L,
 ) -> Result<Given<'a>, EvalFault>
-    ensures { Answers result (and_then (meaning request.now (entities_of (L.stored store.now) (L.above store.now)) right.now) (apply_binary_call called left.now)) }
+    ensures { Answers result (and_then
+        (meaning request.now (entities_of (L.stored store.now) (L.above store.now)) right.now)
+        (apply_binary_call called left.now)) }
 {
     let right = outcome_of(alloc, right.get(), request, store)?;
     Ok(Given::computed(binary_call(called, left, &right)?))

@@ -123,7 +123,8 @@ pub(crate) fn binary<L: Lookup>(
     a: &Given<'_>,
     b: &Given<'_>,
 ) -> Result<Value, EvalFault>
-    ensures { Answers result (apply_binary (entities_of (L.stored store.now) (L.above store.now)) operator a.now b.now) }
+    ensures { Answers result
+        (apply_binary (entities_of (L.stored store.now) (L.above store.now)) operator a.now b.now) }
 {
     match operator {
         Binary::Equal => Ok(Value::boolean(a.compare(b).is_eq())),

@@ -39,9 +39,9 @@ use Rattle.expressions.specs.declared.expr.Expr.TheFolds.{fold-Expr}
 use Rattle.evaluator.specs.declared.fault.EvalFault.{EvalFault}
 use Rattle.evaluator.specs.declared.fault.EvalFault.TheVariants.{EntityDoesNotExist, AttrDoesNotExist, TypeError}
 use Rattle.evaluator.specs.declared.fault.EvalFault.TheVariants.{ArithBoundsError, ExtensionError, NoMemory}
-use Rattle.evaluator.specs.inner.Decided.{Decided, told}
-use Rattle.evaluator.specs.inner.TextsDecided.{decimal_text_decided, network_text_decided, in_either_decided}
-use Rattle.evaluator.specs.inner.TextsDecided.{within_decided}
+use Rattle.extensions.specs.Decided.{Decided, told}
+use Rattle.extensions.specs.TextsDecided.{decimal_text_decided, network_text_decided, in_either_decided}
+use Rattle.extensions.specs.TextsDecided.{within_decided}
 use Rattle.evaluator.specs.Outcomes.{Outcome, boolean_in, long_in, text_in, entity_in, members_in, decimal_in}
 use Rattle.evaluator.specs.Outcomes.{network_in}
 use Rattle.evaluator.specs.Evaluation.{literal_value, variable_value}

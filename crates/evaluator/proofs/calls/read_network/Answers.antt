@@ -1,5 +1,5 @@
 use Rattle.std.proofs.Common.{Ok, ap, sym, refl, ◌∙◌}
-use Rattle.evaluator.specs.inner.TextsDecided.{network_text_decided}
+use Rattle.extensions.specs.TextsDecided.{network_text_decided}
 use Rattle.evaluator.proofs.Applied.{network_is, no_network_is}
 use Rattle.evaluator.proofs.calls.read_network.Goals as goal
 
