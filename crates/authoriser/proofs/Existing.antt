@@ -29,9 +29,9 @@ use Rattle.authoriser.specs.declared.outcome.PolicyError.{PolicyError}
 use Rattle.authoriser.specs.declared.outcome.PolicyError.TheVariants.{EntityDoesNotExist, AttrDoesNotExist, TypeError, ArithBoundsError, ExtensionError}
 use Rattle.authoriser.specs.Answers.{Named, Judged, IsJudged, fault_of, ComesTo, AreJudged, answer_by, IsAnswer}
 use Rattle.authoriser.specs.Laws.{OneAnswerAtMost, OneAnswerInFiniteHierarchies}
-use Rattle.authoriser.proofs.Members.{Contains-here, Contains-there, Contains-cases, Contains-none}
+use Rattle.plain.proofs.Members.{Contains-here, Contains-there, Contains-cases, Contains-none}
 use Rattle.authoriser.proofs.Lawful.{Determined}
-use Rattle.authoriser.proofs.Ascending.{sorted, sorted-ascends, into_sorted, from_sorted}
+use Rattle.plain.proofs.Ascending.{sorted, sorted-ascends, into_sorted, from_sorted}
 
 -- ---- what a policy comes to
 

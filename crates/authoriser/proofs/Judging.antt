@@ -32,7 +32,7 @@ use Rattle.authoriser.specs.declared.tally.Tally.{Tally}
 use Rattle.authoriser.specs.Scopes.{IsIn, IsEntityScopeTrue, IsActionScopeTrue, IsScopeTrue}
 use Rattle.authoriser.specs.Answers.{Named, Judged, IsJudged, AreJudged, fault_of, ComesTo, decided, answer_by, IsAnswer}
 use Rattle.authoriser.specs.Views.{named, IsWithin, IsPlaced, IsStanding, AreAllPlaced, AreAscending, IsTrueOf, ConditionComesTo, outcome_by, ids, faults, Counts}
-use Rattle.authoriser.proofs.Members.{Contains-none}
+use Rattle.plain.proofs.Members.{Contains-none}
 use Rattle.authoriser.specs.Parts.{TrueScopesLeaveToConditions, OtherScopesGiveFalse}
 
 -- ---- scopes

@@ -29,8 +29,8 @@ use Rattle.authoriser.specs.declared.outcome.PolicyError.{PolicyError}
 use Rattle.authoriser.specs.declared.outcome.PolicyError.TheVariants.{EntityDoesNotExist, AttrDoesNotExist, TypeError, ArithBoundsError, ExtensionError}
 use Rattle.authoriser.specs.Answers.{Named, Judged, IsJudged, fault_of, ComesTo, AreJudged, if_satisfied, satisfied, if_erring, erring, decided, answer_by, IsCycleDenial, IsPolicyAnswer}
 use Rattle.authoriser.specs.Laws.{HasOneAnswerAtMost, OneAnswerAtMost, HaveSameMembers, AreAlike, AreIdsAscending, ListsAscend}
-use Rattle.authoriser.proofs.Members.{Contains-here, Contains-there, Contains-cases, Contains-none}
-use Rattle.authoriser.proofs.Ascending.{one_list}
+use Rattle.plain.proofs.Members.{Contains-here, Contains-there, Contains-cases, Contains-none}
+use Rattle.plain.proofs.Ascending.{one_list}
 
 -- ---- one answer
 errors_apart : (e f : PolicyError) → fault_of e ≡ fault_of f → e ≡ f

@@ -1,7 +1,6 @@
-pub mod Members
-pub mod Ascending
 pub mod Lawful
 pub mod Existing
 pub mod Policies
 pub mod PartsTold
 pub mod Judging
+pub mod Reasons

@@ -34,7 +34,7 @@ use Rattle.evaluator.specs.Evaluation as rule
 use Rattle.evaluator.specs.Evaluation.{Gives, TestFails, GivesEach, variable_value}
 use Rattle.authoriser.specs.Scopes.{IsIn, IsEntityScopeTrue, IsActionScopeTrue, IsScopeTrue}
 use Rattle.authoriser.specs.Parts.{PartsTell, ConditionDecides, ScopesDoNotErr, TrueScopesLeaveToConditions, OtherScopesGiveFalse}
-use Rattle.authoriser.proofs.Members.{Contains-here, Contains-there, Contains-cases, Contains-none}
+use Rattle.plain.proofs.Members.{Contains-here, Contains-there, Contains-cases, Contains-none}
 
 -- ---- entities as values
 same_entity : (u v : EntityUid) → entity u ≡ entity v → u ≡ v

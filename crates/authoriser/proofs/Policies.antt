@@ -1,5 +1,5 @@
 -- The laws of answers, of policies: each judgement of an answer is of one of its policies, and each policy is judged.
-use Rattle.std.specs.Prelude.{◌≡◌, ◌≢◌, ◌↔◌, ℕ, List, [], ◌∷◌, ◌++◌, Bool, true, false, cond, Contains, refl}
+use Rattle.std.specs.Prelude.{◌≡◌, ◌↔◌, ℕ, List, [], ◌∷◌, ◌++◌, Bool, true, false, cond, Contains, refl}
 use Rattle.std.specs.List.{filter}
 use Rattle.std.proofs.Common.{inl, inr, sym, ap, subst, ◌∙◌, append_assoc}
 use Rattle.values.specs.declared.request.Request.{Request}
@@ -12,9 +12,9 @@ use Rattle.authoriser.specs.declared.answer.Answer.{Answer}
 use Rattle.authoriser.specs.declared.outcome.Outcome.{Outcome}
 use Rattle.authoriser.specs.declared.outcome.Outcome.TheVariants.{Satisfied, NotSatisfied, Errs}
 use Rattle.authoriser.specs.Answers.{Named, Judged, IsJudged, ComesTo, AreJudged, if_satisfied, satisfied, erring, answer_by, IsAnswer, IsPolicyAnswer}
-use Rattle.authoriser.specs.Laws.{IsSatisfied, DefaultDeny, ForbidDecides, IsIdle, IdleChangesNothing, LeavingOutChangesNothing, AreAlike, OrderDoesNotMatter}
-use Rattle.authoriser.proofs.Members.{Contains-here, Contains-there, Contains-cases, Contains-none}
-use Rattle.authoriser.proofs.Lawful.{Determined, one_outcome, one_judgement, one_denial, some_member, not_both, denied, forbidden, idle_left_out, picked, put_back, alike_judged}
+use Rattle.authoriser.specs.Laws.{IsSatisfied, DefaultDeny, IsIdle, IdleChangesNothing, LeavingOutChangesNothing, AreAlike, OrderDoesNotMatter}
+use Rattle.plain.proofs.Members.{Contains-here, Contains-there, Contains-cases, Contains-none}
+use Rattle.authoriser.proofs.Lawful.{Determined, one_outcome, one_judgement, one_denial, not_both, denied, idle_left_out, picked, put_back, alike_judged}
 use Rattle.authoriser.proofs.Existing.{comes_to}
 
 -- ---- what is counted
@@ -49,7 +49,7 @@ is_counted wanted j = at wanted j.effect j.outcome
     at Forbid Forbid NotSatisfied e s = absurd (cc)
     at Forbid Forbid (Errs error) e s = absurd (cc)
 
-none_of : {X : Type 0} (xs : List X) → ((x : X) → Contains xs x → ⊥) → xs ≡ []
+pub none_of : {X : Type 0} (xs : List X) → ((x : X) → Contains xs x → ⊥) → xs ≡ []
 none_of [] h = refl
 none_of (x ∷ xs) h = absurd (h x (Contains-here x xs))
 
@@ -73,7 +73,7 @@ module _ (W : World) (q : Request) where
   ]
 
   -- what is counted as satisfied is a satisfied policy,
-  satisfied_from : (ps : List Named) (js : List Judged) → AreJudged W q ps js → (wanted : Effect) (id : List ℕ) → Contains (satisfied wanted js) id →
+  pub satisfied_from : (ps : List Named) (js : List Judged) → AreJudged W q ps js → (wanted : Effect) (id : List ℕ) → Contains (satisfied wanted js) id →
       (p : Named) × Contains ps p × (p.id ≡ id) × IsSatisfied W q wanted p
   satisfied_from ps js h wanted id c =
       let one = picked (if_satisfied wanted) js id c in
@@ -84,7 +84,7 @@ module _ (W : World) (q : Request) where
 
   module _ (given : Determined W q) where
     -- and each satisfied policy is counted
-    satisfied_to : (ps : List Named) (js : List Judged) → AreJudged W q ps js → (wanted : Effect) (p : Named) → Contains ps p → IsSatisfied W q wanted p → Contains (satisfied wanted js) p.id
+    pub satisfied_to : (ps : List Named) (js : List Judged) → AreJudged W q ps js → (wanted : Effect) (p : Named) → Contains ps p → IsSatisfied W q wanted p → Contains (satisfied wanted js) p.id
     satisfied_to ps js h wanted p c s =
         let one = judged_to ps js h p c in
         let is = one.2 in
@@ -157,24 +157,6 @@ default_deny W q ps a (inr r) none =
     let js = r.judged in
     let no_permit : satisfied Permit js ≡ [] = none_of (satisfied Permit js) (λ id c. let p = satisfied_from W q ps js r.outcomes Permit id c in none p.0 p.1 p.3) in
     ap (λ b. b.decision) r.answer ∙ denied (satisfied Permit js) (satisfied Forbid js) (erring js) no_permit
-
-pub forbid_decides : HaveOneOutcome → ForbidDecides
-forbid_decides law W above D q ps a p (inl d) c s = (
-  ap (λ b. b.decision) d.rest,
-  (λ acyclic. let m = some_member a.cycle d.some in absurd (acyclic m.0 ((d.named m.0).0 m.1))),
-)
-forbid_decides law W above D q ps a p (inr r) c s =
-    let js = r.judged in
-    let to = satisfied_to W q (law W above D q) ps js r.outcomes Forbid in
-    let some : satisfied Forbid js ≢ [] = λ e. Contains-none p.id (subst (λ xs. Contains xs p.id) e (to p c s)) in
-    let decides = forbidden (satisfied Permit js) (satisfied Forbid js) (erring js) some in
-    let reason : a.reason ≡ satisfied Forbid js = ap (λ b. b.reason) r.answer ∙ decides.1 in (
-      ap (λ b. b.decision) r.answer ∙ decides.0,
-      (λ acyclic id. (
-        (λ h. satisfied_from W q ps js r.outcomes Forbid id (subst (λ xs. Contains xs id) reason h)),
-        (λ h. subst (λ xs. Contains xs id) (sym reason) (subst (Contains (satisfied Forbid js)) h.2 (to h.0 h.1 h.3))),
-      )),
-    )
 
 pub idle_changes_nothing : HaveOneOutcome → NothingWantsMemory → IdleChangesNothing
 idle_changes_nothing law memory W above D q front back p a idle = (out, into)

@@ -1,5 +1,5 @@
 -- What a reader of policies may rely on, as laws over the definition of answers: of a world, a request and policies.
-use Rattle.std.specs.Prelude.{◌≡◌, ◌↔◌, ℕ, List, ◌∷◌, ◌++◌, map, Contains, Bool, false}
+use Rattle.std.specs.Prelude.{◌≡◌, ◌↔◌, ℕ, List, [], ◌∷◌, ◌++◌, map, Contains, Bool, false}
 use Rattle.std.specs.List.{filter}
 use Rattle.std.specs.List.Sorted.{IsStrictlySortedBy}
 use Rattle.values.specs.declared.entity_uid.EntityUid.{EntityUid}
@@ -11,7 +11,8 @@ use Rattle.policy_grammar.specs.declared.policy.Effect.{Effect}
 use Rattle.policy_grammar.specs.declared.policy.Effect.TheVariants.{Permit, Forbid}
 use Rattle.evaluator.specs.Operators.{World}
 use Rattle.authoriser.specs.declared.answer.Answer.{Answer}
-use Rattle.authoriser.specs.declared.answer.Decision.TheVariants.{Deny}
+use Rattle.authoriser.specs.declared.answer.Decision.TheVariants.{Allow, Deny}
+use Rattle.authoriser.specs.declared.answer.Erring.{Erring}
 use Rattle.authoriser.specs.declared.outcome.Outcome.TheVariants.{Satisfied, Errs}
 use Rattle.authoriser.specs.declared.outcome.PolicyError.{PolicyError}
 use Rattle.authoriser.specs.Answers.{Named, ComesTo, IsAnswer}
@@ -46,17 +47,48 @@ abbrev pub DefaultDeny : Type 0
 DefaultDeny = (W : World) (q : Request) (ps : List Named) (a : Answer) → IsAnswer W q ps a →
     ((p : Named) → Contains ps p → ¬ IsSatisfied W q Permit p) → a.decision ≡ Deny
 
--- xs are the ids of the satisfied forbids among these
-abbrev pub AreSatisfiedForbids : World → Request → List Named → List (List ℕ) → Type 0
-AreSatisfiedForbids W q ps xs = (id : List ℕ)
-    → Contains xs id ↔ ((p : Named) × Contains ps p × (p.id ≡ id) × IsSatisfied W q Forbid p)
+-- the ids of those policies of which P holds, in the order of the policies, each as often as it stands there
+pub data AreIdsOf (P : Named → Type 0) : List Named → List (List ℕ) → Type 0 where
+  no_id : AreIdsOf P [] []
+  its_id : {p : Named} {ps : List Named} {ids : List (List ℕ)} → P p → AreIdsOf P ps ids
+      → AreIdsOf P (p ∷ ps) (p.id ∷ ids)
+  not_its_id : {p : Named} {ps : List Named} {ids : List (List ℕ)} → ¬ P p → AreIdsOf P ps ids
+      → AreIdsOf P (p ∷ ps) ids
+
+-- those of the policies that err, in that order, each with its error
+pub data AreErrorsOf (W : World) (q : Request) : List Named → List Erring → Type 0 where
+  no_error : AreErrorsOf W q [] []
+  its_error : {p : Named} {ps : List Named} {errors : List Erring} {error : PolicyError}
+      → ComesTo W q p.policy (Errs error) → AreErrorsOf W q ps errors
+      → AreErrorsOf W q (p ∷ ps) (record { policy = p.id; error = error } ∷ errors)
+  not_its_error : {p : Named} {ps : List Named} {errors : List Erring}
+      → ((error : PolicyError) → ¬ ComesTo W q p.policy (Errs error)) → AreErrorsOf W q ps errors
+      → AreErrorsOf W q (p ∷ ps) errors
+
+-- no entity is on a cycle
+abbrev pub IsAcyclic : World → Type 0
+IsAcyclic W = (uid : EntityUid) → ¬ Above W.parents uid uid
 
 -- a satisfied forbid decides; and where no entity is on a cycle, the satisfied forbids are the reason
 abbrev pub ForbidDecides : Type 0
 ForbidDecides = (W : World) (above : EntityUid → EntityUid → Bool) → Decides W.parents above →
     (q : Request) (ps : List Named) (a : Answer) (p : Named) → IsAnswer W q ps a → Contains ps p
     → IsSatisfied W q Forbid p →
-    (a.decision ≡ Deny) × (((uid : EntityUid) → ¬ Above W.parents uid uid) → AreSatisfiedForbids W q ps a.reason)
+    (a.decision ≡ Deny) × (IsAcyclic W → AreIdsOf (IsSatisfied W q Forbid) ps a.reason)
+
+-- where no forbid is satisfied and no entity is on a cycle, it is allowed exactly where some permit is satisfied, and
+-- the satisfied permits are the reason
+abbrev pub PermitsDecide : Type 0
+PermitsDecide = (W : World) (above : EntityUid → EntityUid → Bool) → Decides W.parents above →
+    (q : Request) (ps : List Named) (a : Answer) → IsAnswer W q ps a → IsAcyclic W
+    → ((p : Named) → Contains ps p → ¬ IsSatisfied W q Forbid p) →
+    ((a.decision ≡ Allow) ↔ ((p : Named) × Contains ps p × IsSatisfied W q Permit p))
+    × AreIdsOf (IsSatisfied W q Permit) ps a.reason
+
+-- where no entity is on a cycle, the errors are those of the policies
+abbrev pub ErrorsAreTold : Type 0
+ErrorsAreTold = (W : World) (above : EntityUid → EntityUid → Bool) → Decides W.parents above →
+    (q : Request) (ps : List Named) (a : Answer) → IsAnswer W q ps a → IsAcyclic W → AreErrorsOf W q ps a.errors
 
 -- ---- policies that may be left out
 

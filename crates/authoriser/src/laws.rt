@@ -1,4 +1,5 @@
 ghost use Rattle.authoriser.specs.Laws.{OneAnswerAtMost, OneAnswerInFiniteHierarchies, DefaultDeny, ForbidDecides};
+ghost use Rattle.authoriser.specs.Laws.{PermitsDecide, ErrorsAreTold};
 ghost use Rattle.authoriser.specs.Laws.{IdleChangesNothing, LeavingOutChangesNothing, OrderDoesNotMatter, ListsAscend};
 ghost use Rattle.authoriser.specs.Parts.{ScopesDoNotErr, TrueScopesLeaveToConditions, OtherScopesGiveFalse};
 
@@ -25,9 +26,12 @@ fn idle_policies_change_nothing()
 ///
 /// `one`: a request has one answer at most, wherever a test decides who is above whom; `finite`: exactly one, wherever
 /// finitely many entities have parents. `default_deny`: without a satisfied permit it is denied. `forbid`: a satisfied
-/// forbid decides, and where no entity is on a cycle the satisfied forbids are the reason. `idle`: leaving out a policy
-/// that is neither satisfied nor erring changes no answer, wherever it stands; `left_out`: nor does leaving out many of
-/// them. `order`: in whatever order the policies stand, the decision is the same, and so are the policies in reason and
+/// forbid decides, and where no entity is on a cycle exactly the satisfied forbids are the reason, in their order.
+/// `permits`: where no forbid is satisfied and no entity is on a cycle, it is allowed exactly where some permit is
+/// satisfied, and exactly the satisfied permits are the reason, in their order. `errors`: where no entity is on a
+/// cycle, the errors are those of exactly the erring policies, in their order. `idle`: leaving out a policy that is
+/// neither satisfied nor erring changes no answer, wherever it stands; `left_out`: nor does leaving out many of them.
+/// `order`: in whatever order the policies stand, the decision is the same, and so are the policies in reason and
 /// errors. `ascending`: where the ids of the policies ascend strictly, by their bytes, so do the reason and the
 /// policies of the errors; the entities of the cycle ascend too.
 pub fn answers_are_lawful()
@@ -35,6 +39,8 @@ pub fn answers_are_lawful()
     ensures finite { OneAnswerInFiniteHierarchies }
     ensures default_deny { DefaultDeny }
     ensures forbid { ForbidDecides }
+    ensures permits { PermitsDecide }
+    ensures errors { ErrorsAreTold }
     ensures idle { IdleChangesNothing }
     ensures left_out { LeavingOutChangesNothing }
     ensures order { OrderDoesNotMatter }
