@@ -1,80 +1,16 @@
 -- The places at which names stand again, as a list and as a relation, and the fault that is told of them.
-use Rattle.std.proofs.Common.{◌≡◌, ◌⊎◌, ℕ, ◌≤◌, ◌<◌, Bool, true, false, cond, List, [], ◌∷◌, ◌++◌, map, filter, Option, Some, None, Contains, min, nat_lt, if◌then◌else◌, refl, sym, ◌∙◌, ap, subst, inl, inr, arith}
+use Rattle.std.proofs.Common.{◌≡◌, ◌⊎◌, ℕ, ◌≤◌, ◌<◌, Bool, true, false, cond, List, [], ◌∷◌, map, filter, Option, Some, None, Contains, min, nat_lt, if◌then◌else◌, refl, sym, ◌∙◌, ap, subst, inl, inr, arith}
 use Rattle.std.specs.Str.{bytes_eq}
 use Rattle.std.proofs.lemmas.Bool.{ltb-true, ltb-false}
 use Rattle.std.proofs.lemmas.Slice.Eq.{bytes_eq-Decides}
+use Rattle.desugaring.specs.declared.fault.DesugarFault.{DesugarFault}
 use Rattle.desugaring.specs.declared.fault.DesugarFault.TheVariants.{RepeatedKey}
 use Rattle.desugaring.specs.Refused.{earlier_of, least}
 use Rattle.desugaring.specs.Repeats.{Mark, StandsAgain, places_of, repeats, repeat_faults, RepeatsStandAgain, RepeatsAreTold}
 use Rattle.desugaring.specs.inner.Searching.{IsLeast, TellsLeast, lesser_of, repeat_fault}
 use Rattle.desugaring.proofs.Members.{at_first, further, first_or_further, in_none, in_left, in_right, in_either}
-use Rattle.desugaring.proofs.Repeating.{names, tells-same, tells-both}
-
--- ---- a list of marks from its front
-
--- a mark of this name stands here
-abbrev Later : List ℕ → List Mark → ℕ → Type 0
-Later name [] at = ⊥
-Later name (m ∷ ms) at = ((m.name ≡ name) × (at ≡ m.at)) ⊎ Later name ms at
-
-heads : {A : Type 0} (x y : A) (xs ys : List A) → x ∷ xs ≡ y ∷ ys → x ≡ y
-heads x y xs ys e = cc
-
-tails : {A : Type 0} (x y : A) (xs ys : List A) → x ∷ xs ≡ y ∷ ys → xs ≡ ys
-tails x y xs ys e = cc
-
-later-at : (before : List Mark) (mark : Mark) (behind : List Mark) → Later mark.name (before ++ mark ∷ behind) mark.at
-later-at [] mark behind = inl (refl, refl)
-later-at (b ∷ bs) mark behind = inr (later-at bs mark behind)
-
-again-there : (m : Mark) (ms : List Mark) (at : ℕ) → StandsAgain ms at → StandsAgain (m ∷ ms) at
-again-there m ms at again = record {
-  before = m ∷ again.before;
-  mark = again.mark;
-  behind = again.behind;
-  whole = ap (λ xs. m ∷ xs) again.whole;
-  again = further m.name (names again.before) again.mark.name again.again;
-  place = again.place;
-}
-
-split-later : (name : List ℕ) (ms : List Mark) (at : ℕ) → Later name ms at →
-    (before : List Mark) × (mark : Mark) × (behind : List Mark) × (ms ≡ before ++ mark ∷ behind) × (mark.name ≡ name) × (at ≡ mark.at)
-split-later name [] at later = absurd later
-split-later name (m ∷ ms) at later = elim later [
-  | inl here ↦ ([], m, ms, refl, here.0, here.1)
-  | inr more ↦ let s = split-later name ms at more in (m ∷ s.0, s.1, s.2, ap (λ xs. m ∷ xs) s.3, s.4, s.5)
-]
-
-again-here : (m : Mark) (ms : List Mark) (at : ℕ) → Later m.name ms at → StandsAgain (m ∷ ms) at
-again-here m ms at later = let s = split-later m.name ms at later in record {
-  before = m ∷ s.0;
-  mark = s.1;
-  behind = s.2;
-  whole = ap (λ xs. m ∷ xs) s.3;
-  again = subst (λ x. Contains (m.name ∷ names s.0) x) (sym s.4) (at_first m.name (names s.0));
-  place = s.5;
-}
-
-front : (m : Mark) (ms before : List Mark) (mark : Mark) (behind : List Mark) (at : ℕ) → m ∷ ms ≡ before ++ mark ∷ behind →
-    Contains (names before) mark.name → at ≡ mark.at → Later m.name ms at ⊎ StandsAgain ms at
-front m ms [] mark behind at whole again place = in_none mark.name again
-front m ms (b ∷ bs) mark behind at whole again place =
-    let same : m ≡ b = heads m b _ _ whole in
-    let rest : ms ≡ bs ++ mark ∷ behind = tails m b _ _ whole in
-    elim (first_or_further b.name (names bs) mark.name again) [
-      | inl e ↦ inl (subst (λ xs. Later m.name xs at) (sym rest) (subst (λ n. Later n (bs ++ mark ∷ behind) at) (sym (ap (λ x. x.name) same ∙ e))
-          (subst (Later mark.name (bs ++ mark ∷ behind)) (sym place) (later-at bs mark behind))))
-      | inr more ↦ inr (record { before = bs; mark = mark; behind = behind; whole = rest; again = more; place = place })
-    ]
-
-again-front : (m : Mark) (ms : List Mark) (at : ℕ) → StandsAgain (m ∷ ms) at → Later m.name ms at ⊎ StandsAgain ms at
-again-front m ms at again = front m ms again.before again.mark again.behind at again.whole again.again again.place
-
-again-none : (at : ℕ) {G : Type 0} → StandsAgain [] at → G
-again-none at again = nothing again.before again.mark again.behind again.whole where
-  nothing : {G : Type 0} (before : List Mark) (mark : Mark) (behind : List Mark) → [] ≡ before ++ mark ∷ behind → G
-  nothing [] mark behind e = absurd cc
-  nothing (b ∷ bs) mark behind e = absurd cc
+use Rattle.desugaring.proofs.AgainFront.{Later, again-there, again-here, again-front, again-none}
+use Rattle.desugaring.proofs.Repeating.{tells-same, tells-both}
 
 -- ---- as a list
 
@@ -163,11 +99,15 @@ tells-one P (Some x) None a b = absurd (b x a.here)
 tells-one P (Some x) (Some y) a b = ap Some (least-same P x y a b)
 
 -- the least place is told
-pub told-at : (marks : List Mark) (o : Option ℕ) → TellsLeast (StandsAgain marks) o → least (repeat_faults marks) ≡ repeat_fault o
+told-at : (marks : List Mark) (o : Option ℕ) → TellsLeast (StandsAgain marks) o → least (repeat_faults marks) ≡ repeat_fault o
 told-at marks o tells =
     least_fault (repeats marks)
     ∙ ap repeat_fault (tells-one (StandsAgain marks) (least_at (repeats marks)) o
     (tells-same (Contains (repeats marks)) (StandsAgain marks) (least_at (repeats marks)) (of-repeats marks) (in-repeats marks) (tells_least (repeats marks))) tells)
+
+-- as a fault
+pub fault_told : (marks : List Mark) (o : Option ℕ) (fault : Option DesugarFault) → TellsLeast (StandsAgain marks) o → fault ≡ repeat_fault o → fault ≡ least (repeat_faults marks)
+fault_told marks o fault tells is = is ∙ sym (told-at marks o tells)
 
 pub repeats_are_told : RepeatsAreTold
 repeats_are_told marks others there back =

@@ -1,5 +1,5 @@
 -- What each form of tree stands for: the equations of `core_of`.
-use Rattle.std.proofs.Common.{◌≡◌, ℕ, refl, ap, ◌∙◌, sym, List, map}
+use Rattle.std.proofs.Common.{◌≡◌, ℕ, Bool, refl, ap, ◌∙◌, sym, List, map}
 use Rattle.std.specs.List.{fold}
 use Rattle.policy_tokens.specs.declared.token.Token.{Token}
 use Rattle.policy_tokens.specs.Lexing.{spelling_of}
@@ -7,7 +7,10 @@ use Rattle.token_readers.specs.declared.tree.PathTree.{PathTree}
 use Rattle.token_readers.specs.declared.tree.UidTree.{UidTree}
 use Rattle.expression_syntax.specs.declared.tree.Access.{Access}
 use Rattle.expression_syntax.specs.declared.tree.Access.TheVariants as access
+use Rattle.expression_syntax.specs.declared.tree.Comparison.{Comparison}
 use Rattle.expression_syntax.specs.declared.tree.Entry.{Entry}
+use Rattle.expression_syntax.specs.declared.tree.KeyTree.{KeyTree}
+use Rattle.expression_syntax.specs.declared.tree.Variable.{Variable}
 use Rattle.expression_syntax.specs.declared.tree.Term.{Term}
 use Rattle.expression_syntax.specs.declared.tree.ExprTree.{ExprTree, out-ExprTree, roll-ExprTree, map-ExprTree, fold_out-ExprTree, roll-out-ExprTree}
 use Rattle.expression_syntax.specs.declared.tree.ExprTree.TheVariants as t
@@ -19,14 +22,14 @@ use Rattle.expressions.specs.declared.operator.Binary.TheVariants.{In, Multiply}
 use Rattle.expressions.specs.declared.expr.Expr.TheVariants as core
 use Rattle.desugaring.specs.Numbers.{positive, negative}
 use Rattle.desugaring.specs.Strings.{value_of, pattern_of}
-use Rattle.desugaring.specs.Meaning.{boolean_of, variable_of, path_name, uid_of, name_of}
+use Rattle.desugaring.specs.Meaning.{variable_of, path_name, uid_of, name_of}
 use Rattle.desugaring.specs.Core.{Meaning, core_step, meaning, core_of, negated, long, compared, accessed, added, field, in_term, in_entry, in_access, called, function}
 use Rattle.desugaring.proofs.Lists.{map_map, map_accesses}
 
 module _ (text : List ℕ) where
-  pub core-Boolean : (token : Token) → core_of text (t.Boolean token) ≡ core.Literal (literal.Boolean (boolean_of token.kind))
-  core-Boolean token =
-      ap (core_of text) (sym (t.rolls-Boolean token)) ∙ ap (λ m. m.alone) (fold-roll-ExprTree Meaning (core_step text) (tree.Boolean token))
+  pub core-Boolean : (value : Bool) → core_of text (t.Boolean value) ≡ core.Literal (literal.Boolean value)
+  core-Boolean value =
+      ap (core_of text) (sym (t.rolls-Boolean value)) ∙ ap (λ m. m.alone) (fold-roll-ExprTree Meaning (core_step text) (tree.Boolean value))
 
   pub core-Number : (token : Token) → core_of text (t.Number token) ≡ long (positive (spelling_of text token))
   core-Number token =
@@ -36,9 +39,9 @@ module _ (text : List ℕ) where
   core-Text token =
       ap (core_of text) (sym (t.rolls-Text token)) ∙ ap (λ m. m.alone) (fold-roll-ExprTree Meaning (core_step text) (tree.Text token))
 
-  pub core-Variable : (token : Token) → core_of text (t.Variable token) ≡ core.Variable (variable_of token.kind)
-  core-Variable token =
-      ap (core_of text) (sym (t.rolls-Variable token)) ∙ ap (λ m. m.alone) (fold-roll-ExprTree Meaning (core_step text) (tree.Variable token))
+  pub core-Variable : (word : Variable) → core_of text (t.Variable word) ≡ core.Variable (variable_of word)
+  core-Variable word =
+      ap (core_of text) (sym (t.rolls-Variable word)) ∙ ap (λ m. m.alone) (fold-roll-ExprTree Meaning (core_step text) (tree.Variable word))
 
   pub core-Uid : (uid : UidTree) → core_of text (t.Uid uid) ≡ core.Literal (literal.Entity (uid_of text uid))
   core-Uid uid =
@@ -82,13 +85,13 @@ module _ (text : List ℕ) where
   core-Sum a terms =
       ap (core_of text) (sym (t.rolls-Sum a terms)) ∙ ap (λ m. m.alone) (fold-roll-ExprTree Meaning (core_step text) (tree.Sum a terms)) ∙ ap (fold added (core_of text a)) (map_map (in_term (λ m. m.alone)) _ terms)
 
-  pub core-Compare : (a : ExprTree) (token : Token) (b : ExprTree) → core_of text (t.Compare a token b) ≡ compared token.kind (core_of text a) (core_of text b)
-  core-Compare a token b =
-      ap (core_of text) (sym (t.rolls-Compare a token b)) ∙ ap (λ m. m.alone) (fold-roll-ExprTree Meaning (core_step text) (tree.Compare a token b))
+  pub core-Compare : (a : ExprTree) (operator : Comparison) (b : ExprTree) → core_of text (t.Compare a operator b) ≡ compared operator (core_of text a) (core_of text b)
+  core-Compare a operator b =
+      ap (core_of text) (sym (t.rolls-Compare a operator b)) ∙ ap (λ m. m.alone) (fold-roll-ExprTree Meaning (core_step text) (tree.Compare a operator b))
 
-  pub core-Has : (a : ExprTree) (token : Token) → core_of text (t.Has a token) ≡ core.Has (core_of text a) (name_of text token)
-  core-Has a token =
-      ap (core_of text) (sym (t.rolls-Has a token)) ∙ ap (λ m. m.alone) (fold-roll-ExprTree Meaning (core_step text) (tree.Has a token))
+  pub core-Has : (a : ExprTree) (key : KeyTree) → core_of text (t.Has a key) ≡ core.Has (core_of text a) (name_of text key)
+  core-Has a key =
+      ap (core_of text) (sym (t.rolls-Has a key)) ∙ ap (λ m. m.alone) (fold-roll-ExprTree Meaning (core_step text) (tree.Has a key))
 
   pub core-Like : (a : ExprTree) (token : Token) → core_of text (t.Like a token) ≡ core.Unary (Like (pattern_of (spelling_of text token))) (core_of text a)
   core-Like a token =

@@ -1,5 +1,5 @@
 -- The faults of each form of tree: the equations of `faults_of`.
-use Rattle.std.proofs.Common.{◌≡◌, ℕ, refl, ap, ◌∙◌, sym, List, [], ◌++◌, map, length}
+use Rattle.std.proofs.Common.{◌≡◌, ℕ, Bool, refl, ap, ◌∙◌, sym, List, [], ◌++◌, map, length}
 use Rattle.std.specs.List.{flat_map}
 use Rattle.policy_tokens.specs.declared.token.Token.{Token}
 use Rattle.policy_tokens.specs.Lexing.{spelling_of}
@@ -7,7 +7,10 @@ use Rattle.token_readers.specs.declared.tree.PathTree.{PathTree}
 use Rattle.token_readers.specs.declared.tree.UidTree.{UidTree}
 use Rattle.expression_syntax.specs.declared.tree.Access.{Access}
 use Rattle.expression_syntax.specs.declared.tree.Access.TheVariants as access
+use Rattle.expression_syntax.specs.declared.tree.Comparison.{Comparison}
 use Rattle.expression_syntax.specs.declared.tree.Entry.{Entry}
+use Rattle.expression_syntax.specs.declared.tree.KeyTree.{KeyTree}
+use Rattle.expression_syntax.specs.declared.tree.Variable.{Variable}
 use Rattle.expression_syntax.specs.declared.tree.Term.{Term}
 use Rattle.expression_syntax.specs.declared.tree.ExprTree.{ExprTree, out-ExprTree, roll-ExprTree, map-ExprTree, fold_out-ExprTree, roll-out-ExprTree}
 use Rattle.expression_syntax.specs.declared.tree.ExprTree.TheVariants as t
@@ -17,13 +20,13 @@ use Rattle.desugaring.specs.Numbers.{fits, fits_negated}
 use Rattle.desugaring.specs.Core.{in_access}
 use Rattle.desugaring.specs.Repeats.{repeat_faults}
 use Rattle.desugaring.specs.Faults.{Faulty, fault_step, fault_meaning, faults_of, negated_faults, range, function_faults, access_faults, key_of}
-use Rattle.expression_syntax.specs.inner.Flat.{joined, flat_map_map, flat_map_each}
+use Rattle.expression_syntax.proofs.Flat.{joined, flat_map_map, flat_map_each}
 use Rattle.desugaring.proofs.Lists.{map_map, map_accesses, length-mapped}
 
 module _ (text : List ℕ) where
-  pub faults-Boolean : (token : Token) → faults_of text (t.Boolean token) ≡ []
-  faults-Boolean token =
-      ap (faults_of text) (sym (t.rolls-Boolean token)) ∙ ap (λ f. f.alone) (fold-roll-ExprTree Faulty (fault_step text) (tree.Boolean token))
+  pub faults-Boolean : (value : Bool) → faults_of text (t.Boolean value) ≡ []
+  faults-Boolean value =
+      ap (faults_of text) (sym (t.rolls-Boolean value)) ∙ ap (λ f. f.alone) (fold-roll-ExprTree Faulty (fault_step text) (tree.Boolean value))
 
   pub faults-Number : (token : Token) → faults_of text (t.Number token) ≡ range (fits (spelling_of text token)) token
   faults-Number token =
@@ -33,9 +36,9 @@ module _ (text : List ℕ) where
   faults-Text token =
       ap (faults_of text) (sym (t.rolls-Text token)) ∙ ap (λ f. f.alone) (fold-roll-ExprTree Faulty (fault_step text) (tree.Text token))
 
-  pub faults-Variable : (token : Token) → faults_of text (t.Variable token) ≡ []
-  faults-Variable token =
-      ap (faults_of text) (sym (t.rolls-Variable token)) ∙ ap (λ f. f.alone) (fold-roll-ExprTree Faulty (fault_step text) (tree.Variable token))
+  pub faults-Variable : (word : Variable) → faults_of text (t.Variable word) ≡ []
+  faults-Variable word =
+      ap (faults_of text) (sym (t.rolls-Variable word)) ∙ ap (λ f. f.alone) (fold-roll-ExprTree Faulty (fault_step text) (tree.Variable word))
 
   pub faults-Uid : (uid : UidTree) → faults_of text (t.Uid uid) ≡ []
   faults-Uid uid =
@@ -81,13 +84,13 @@ module _ (text : List ℕ) where
   faults-Sum a terms =
       ap (faults_of text) (sym (t.rolls-Sum a terms)) ∙ ap (λ f. f.alone) (fold-roll-ExprTree Faulty (fault_step text) (tree.Sum a terms)) ∙ ap (λ fs. faults_of text a ++ fs) (flat_map_map (λ term. term.operand.alone) _ terms)
 
-  pub faults-Compare : (a : ExprTree) (token : Token) (b : ExprTree) → faults_of text (t.Compare a token b) ≡ faults_of text a ++ faults_of text b
-  faults-Compare a token b =
-      ap (faults_of text) (sym (t.rolls-Compare a token b)) ∙ ap (λ f. f.alone) (fold-roll-ExprTree Faulty (fault_step text) (tree.Compare a token b))
+  pub faults-Compare : (a : ExprTree) (operator : Comparison) (b : ExprTree) → faults_of text (t.Compare a operator b) ≡ faults_of text a ++ faults_of text b
+  faults-Compare a operator b =
+      ap (faults_of text) (sym (t.rolls-Compare a operator b)) ∙ ap (λ f. f.alone) (fold-roll-ExprTree Faulty (fault_step text) (tree.Compare a operator b))
 
-  pub faults-Has : (a : ExprTree) (token : Token) → faults_of text (t.Has a token) ≡ faults_of text a
-  faults-Has a token =
-      ap (faults_of text) (sym (t.rolls-Has a token)) ∙ ap (λ f. f.alone) (fold-roll-ExprTree Faulty (fault_step text) (tree.Has a token))
+  pub faults-Has : (a : ExprTree) (key : KeyTree) → faults_of text (t.Has a key) ≡ faults_of text a
+  faults-Has a key =
+      ap (faults_of text) (sym (t.rolls-Has a key)) ∙ ap (λ f. f.alone) (fold-roll-ExprTree Faulty (fault_step text) (tree.Has a key))
 
   pub faults-Like : (a : ExprTree) (token : Token) → faults_of text (t.Like a token) ≡ faults_of text a
   faults-Like a token =

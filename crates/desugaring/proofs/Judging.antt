@@ -1,5 +1,5 @@
 -- What each form of tree is judged, from the judgements of its parts.
-use Rattle.std.proofs.Common.{◌≡◌, ℕ, ◌+◌, refl, ap, ◌∙◌, sym, List, [], ◌∷◌, ◌++◌, map, length, None}
+use Rattle.std.proofs.Common.{◌≡◌, ℕ, ◌+◌, Bool, refl, ap, ◌∙◌, sym, List, [], ◌∷◌, ◌++◌, map, length, None}
 use Rattle.std.proofs.lemmas.List.{append-nil}
 use Rattle.std.specs.List.{fold, flat_map}
 use Rattle.policy_tokens.specs.declared.token.Token.{Token}
@@ -8,7 +8,10 @@ use Rattle.token_readers.specs.declared.tree.PathTree.{PathTree}
 use Rattle.token_readers.specs.declared.tree.UidTree.{UidTree}
 use Rattle.expression_syntax.specs.declared.tree.Access.{Access}
 use Rattle.expression_syntax.specs.declared.tree.Access.TheVariants as access
+use Rattle.expression_syntax.specs.declared.tree.Comparison.{Comparison}
 use Rattle.expression_syntax.specs.declared.tree.Entry.{Entry}
+use Rattle.expression_syntax.specs.declared.tree.KeyTree.{KeyTree}
+use Rattle.expression_syntax.specs.declared.tree.Variable.{Variable}
 use Rattle.expression_syntax.specs.declared.tree.Term.{Term}
 use Rattle.expression_syntax.specs.declared.tree.ExprTree.{ExprTree}
 use Rattle.expression_syntax.specs.declared.tree.ExprTree.TheVariants as t
@@ -18,7 +21,7 @@ use Rattle.expressions.specs.declared.expr.Expr.{Expr}
 use Rattle.expressions.specs.declared.expr.Expr.TheVariants as core
 use Rattle.expressions.specs.declared.expr.Named.{Named}
 use Rattle.expressions.specs.Size.{height, height_step, forms, forms_step, greatest, total}
-use Rattle.expressions.specs.inner.Forms.{fold_record}
+use Rattle.expressions.proofs.Forms.{fold_record}
 use Rattle.desugaring.specs.declared.fault.DesugarFault.{DesugarFault}
 use Rattle.desugaring.specs.Numbers.{fits, fits_negated}
 use Rattle.desugaring.specs.Strings.{pattern_of}
@@ -31,7 +34,7 @@ use Rattle.desugaring.specs.Refused.{earlier_of, least}
 use Rattle.desugaring.specs.Faults.{faults_of, range, call_faults, function_faults, access_faults, key_of}
 use Rattle.desugaring.specs.Judged.{judgement, of, of_row, judged, judged_negated}
 use Rattle.desugaring.specs.Sums.{nothing, leaf, above, beside, paired, called, with_fault, judged_all, judged_chain, judged_term, judged_entry, judged_compared, judged_call, judged_access}
-use Rattle.expression_syntax.specs.inner.Flat.{flat_map_map}
+use Rattle.expression_syntax.proofs.Flat.{flat_map_map}
 use Rattle.desugaring.proofs.Lists.{length-mapped}
 use Rattle.desugaring.proofs.Least.{least-append, earlier_same}
 use Rattle.desugaring.proofs.Sizing.{same, capped_above, of-Literal, of-Variable, of-Unary, of-Field, of-Has, of-Set, of-And, of-Or, of-Binary, of-If, of-compared, of-called, of-method, row-snoc, fused, fold_map, fold_snoc}
@@ -76,7 +79,7 @@ module _ (text : List ℕ) where
   -- calls
   access_law : (e : Expr) (fs : List DesugarFault) (x : Access (List ExprTree)) →
       of (accessed text e (in_access (core_of text) x)) (fs ++ access_faults text (in_access (faults_of text) x)) ≡ judged_access text (of e fs) x
-  access_law e fs (access.Field name) = of-Field e (name_of text name) (fs ++ []) ∙ ap (λ gs. above (of e gs)) (append-nil fs)
+  access_law e fs (access.Field key) = of-Field e (name_of text key) (fs ++ []) ∙ ap (λ gs. above (of e gs)) (append-nil fs)
   access_law e fs (access.Method name xs) =
       let m = method_of (spelling_of text name) in
       let cs = map (core_of text) xs in
@@ -90,9 +93,9 @@ module _ (text : List ℕ) where
       ∙ ap (λ row. called (least (call_faults name.start (method_takes m) (length xs))) (beside (of e fs) (with_fault (least (call_faults name.start (method_takes m) (length xs))) row)))
       (rowed xs)
 
-  pub judged-Boolean : (token : Token) → judged text (t.Boolean token) ≡ leaf None
-  judged-Boolean token =
-      same_of (core-Boolean text token) (faults-Boolean text token) ∙ of-Literal _ []
+  pub judged-Boolean : (value : Bool) → judged text (t.Boolean value) ≡ leaf None
+  judged-Boolean value =
+      same_of (core-Boolean text value) (faults-Boolean text value) ∙ of-Literal _ []
 
   pub judged-Number : (token : Token) → judged text (t.Number token) ≡ leaf (least (range (fits (spelling_of text token)) token))
   judged-Number token =
@@ -102,9 +105,9 @@ module _ (text : List ℕ) where
   judged-Text token =
       same_of (core-Text text token) (faults-Text text token) ∙ of-Literal _ []
 
-  pub judged-Variable : (token : Token) → judged text (t.Variable token) ≡ leaf None
-  judged-Variable token =
-      same_of (core-Variable text token) (faults-Variable text token) ∙ of-Variable _ []
+  pub judged-Variable : (word : Variable) → judged text (t.Variable word) ≡ leaf None
+  judged-Variable word =
+      same_of (core-Variable text word) (faults-Variable text word) ∙ of-Variable _ []
 
   pub judged-Uid : (uid : UidTree) → judged text (t.Uid uid) ≡ leaf None
   judged-Uid uid =
@@ -155,15 +158,15 @@ module _ (text : List ℕ) where
   judged-Sum a terms =
       same_of (core-Sum text a terms) (faults-Sum text a terms) ∙ ap (λ e. of e (faults_of text a ++ flat_map (λ term. faults_of text term.operand) terms)) (fold_map added (in_term (core_of text)) terms (core_of text a))
       ∙ fused of (λ e term. added e (in_term (core_of text) term)) (λ term. faults_of text term.operand) (judged_term text)
-      (λ e fs term. of-Binary (sign_of term.sign.kind) e (core_of text term.operand) fs (faults_of text term.operand)) terms (core_of text a) (faults_of text a)
+      (λ e fs term. of-Binary (sign_of term.sign) e (core_of text term.operand) fs (faults_of text term.operand)) terms (core_of text a) (faults_of text a)
 
-  pub judged-Compare : (a : ExprTree) (token : Token) (b : ExprTree) → judged text (t.Compare a token b) ≡ judged_compared token.kind (judged text a) (judged text b)
-  judged-Compare a token b =
-      same_of (core-Compare text a token b) (faults-Compare text a token b) ∙ of-compared token.kind (core_of text a) (core_of text b) (faults_of text a) (faults_of text b)
+  pub judged-Compare : (a : ExprTree) (operator : Comparison) (b : ExprTree) → judged text (t.Compare a operator b) ≡ judged_compared operator (judged text a) (judged text b)
+  judged-Compare a operator b =
+      same_of (core-Compare text a operator b) (faults-Compare text a operator b) ∙ of-compared operator (core_of text a) (core_of text b) (faults_of text a) (faults_of text b)
 
-  pub judged-Has : (a : ExprTree) (token : Token) → judged text (t.Has a token) ≡ above (judged text a)
-  judged-Has a token =
-      same_of (core-Has text a token) (faults-Has text a token) ∙ of-Has (core_of text a) (name_of text token) (faults_of text a)
+  pub judged-Has : (a : ExprTree) (key : KeyTree) → judged text (t.Has a key) ≡ above (judged text a)
+  judged-Has a key =
+      same_of (core-Has text a key) (faults-Has text a key) ∙ of-Has (core_of text a) (name_of text key) (faults_of text a)
 
   pub judged-Like : (a : ExprTree) (token : Token) → judged text (t.Like a token) ≡ above (judged text a)
   judged-Like a token =

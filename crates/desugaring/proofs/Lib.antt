@@ -13,4 +13,5 @@ pub mod Gaving
 pub mod Telling
 pub mod Standing
 pub mod Members
+pub mod AgainFront
 pub mod Again

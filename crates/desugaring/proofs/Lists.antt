@@ -6,6 +6,7 @@ use Rattle.policy_tokens.specs.declared.token.Token.{Token}
 use Rattle.expression_syntax.specs.declared.tree.Access.{Access}
 use Rattle.expression_syntax.specs.declared.tree.Access.TheVariants as access
 use Rattle.expression_syntax.specs.declared.tree.ExprTree.{ExprTree}
+use Rattle.expression_syntax.specs.declared.tree.KeyTree.{KeyTree}
 use Rattle.plain.specs.Words.{AreIdents, IsIdent}
 
 -- an item of a list of which each is so
@@ -31,11 +32,11 @@ pub next : {A : Type 0} (xs : List A) (i : ℕ) (d : A) → i < length xs → dr
 next xs i d below = drop-cons xs i d below ∙ ap (λ j. get_or xs i d ∷ drop j xs) (sym (add-one i))
 
 -- accesses, each form of which is mapped alike
-pub map_accesses : {B C : Type 0} (g : B → C) (h : Access (List ExprTree) → C) (f : Access (List ExprTree) → B) → ((name : Token) → g (f (access.Field name)) ≡ h (access.Field name)) →
+pub map_accesses : {B C : Type 0} (g : B → C) (h : Access (List ExprTree) → C) (f : Access (List ExprTree) → B) → ((key : KeyTree) → g (f (access.Field key)) ≡ h (access.Field key)) →
     ((name : Token) (arguments : List ExprTree) → g (f (access.Method name arguments)) ≡ h (access.Method name arguments)) →
     (xs : List (Access (List ExprTree))) → map g (map f xs) ≡ map h xs
 map_accesses g h f field method [] = refl
-map_accesses g h f field method (access.Field name ∷ xs) = ap (λ y. y ∷ map g (map f xs)) (field name) ∙ ap (λ ys. h (access.Field name) ∷ ys) (map_accesses g h f field method xs)
+map_accesses g h f field method (access.Field key ∷ xs) = ap (λ y. y ∷ map g (map f xs)) (field key) ∙ ap (λ ys. h (access.Field key) ∷ ys) (map_accesses g h f field method xs)
 map_accesses g h f field method (access.Method name arguments ∷ xs) =
     ap (λ y. y ∷ map g (map f xs)) (method name arguments) ∙ ap (λ ys. h (access.Method name arguments) ∷ ys) (map_accesses g h f field method xs)
 

@@ -7,17 +7,20 @@ use Rattle.token_readers.specs.declared.tree.PathTree.{PathTree}
 use Rattle.token_readers.specs.declared.tree.UidTree.{UidTree}
 use Rattle.expression_syntax.specs.declared.tree.Access.{Access}
 use Rattle.expression_syntax.specs.declared.tree.Access.TheVariants as access
+use Rattle.expression_syntax.specs.declared.tree.Comparison.{Comparison}
 use Rattle.expression_syntax.specs.declared.tree.Entry.{Entry}
+use Rattle.expression_syntax.specs.declared.tree.KeyTree.{KeyTree}
+use Rattle.expression_syntax.specs.declared.tree.KeyTree.TheVariants.{Word, Quoted}
 use Rattle.expression_syntax.specs.declared.tree.Term.{Term}
 use Rattle.expression_syntax.specs.declared.tree.ExprTree.{ExprTree}
 use Rattle.expression_syntax.specs.declared.tree.ExprTree.TheVariants as t
 use Rattle.token_readers.specs.Kinds.{only}
 use Rattle.token_readers.specs.Grammar.{identifiers}
-use Rattle.expression_syntax.specs.Expressions.{keys, patterns, comparisons}
-use Rattle.expression_syntax.specs.Parts.{Part, part, path_parts, uid_parts, parts_of, parts_of_access, parts_of_entry, parts_of_term}
-use Rattle.expression_syntax.specs.inner.Flat.{all_left, all_right, all_flat, all_mapped}
-use Rattle.expression_syntax.specs.inner.PartsOf.{parts-Number, parts-Text, parts-Uid, parts-Call, parts-Parentheses, parts-Set, parts-Record, parts-Member, parts-Not, parts-Minus, parts-Product, parts-Sum, parts-Compare, parts-Has, parts-Like, parts-Is, parts-IsIn, parts-And, parts-Or, parts-If}
-use Rattle.desugaring.specs.inner.Standing.{TokenIn, Stands, PathIn, UidIn, AllStand, EntryStands, TermStands, AccessStands}
+use Rattle.expression_syntax.specs.Expressions.{patterns}
+use Rattle.expression_syntax.specs.Parts.{Part, part, key_part, path_parts, uid_parts, parts_of, parts_of_access, parts_of_entry, parts_of_term}
+use Rattle.expression_syntax.proofs.Flat.{all_left, all_right, all_flat, all_mapped}
+use Rattle.expression_syntax.proofs.PartsOf.{parts-Number, parts-Text, parts-Uid, parts-Call, parts-Parentheses, parts-Set, parts-Record, parts-Member, parts-Not, parts-Minus, parts-Product, parts-Sum, parts-Compare, parts-Has, parts-Like, parts-Is, parts-IsIn, parts-And, parts-Or, parts-If}
+use Rattle.desugaring.specs.inner.Standing.{TokenIn, Stands, KeyIn, PathIn, UidIn, AllStand, EntryStands, TermStands, AccessStands}
 
 module _ (text : List ℕ) where
   abbrev Is : Part → Type 0
@@ -25,6 +28,10 @@ module _ (text : List ℕ) where
 
   abbrev All : List Part → Type 0
   All = AllByRecursion Is
+
+  key_in : (key : KeyTree) → Is (key_part key) → KeyIn text key
+  key_in (Word word) h = h
+  key_in (Quoted quoted) h = h
 
   path_in : (path : PathTree) → All (path_parts path) → PathIn text path
   path_in path all = record { first = all.0; more = all_mapped Is (TokenIn text identifiers) (part identifiers) (λ token p. p) path.more all.1 }
@@ -36,7 +43,7 @@ module _ (text : List ℕ) where
   all_in xs all = all_flat Is (Stands text) parts_of tree_in xs all
 
   access_in : (x : Access (List ExprTree)) → All (parts_of_access x) → AccessStands text x
-  access_in (access.Field name) all = all.0
+  access_in (access.Field key) all = key_in key all.0
   access_in (access.Method name arguments) all = (all.0, all_in arguments all.1)
 
   opened : (x : ExprTree) (ps : List Part) (y : ExprTree) → x ≡ y → parts_of y ≡ ps → Stands text x → All ps
@@ -75,7 +82,7 @@ module _ (text : List ℕ) where
   pub of-Record : (x : ExprTree) (entries : List (Entry ExprTree)) → x ≡ t.Record entries → Stands text x → AllByRecursion (EntryStands text) entries
   of-Record x entries is stands =
       let all = opened x (flat_map parts_of_entry entries) (t.Record entries) is (parts-Record entries) stands in
-      all_flat Is (EntryStands text) parts_of_entry (λ entry parts. record { key = parts.0; value = tree_in entry.value parts.1 }) entries all
+      all_flat Is (EntryStands text) parts_of_entry (λ entry parts. record { key = key_in entry.key parts.0; value = tree_in entry.value parts.1 }) entries all
 
   pub of-Member : (x : ExprTree) (a : ExprTree) (accesses : List (Access (List ExprTree))) → x ≡ t.Member a accesses → Stands text x → Stands text a × AllByRecursion (AccessStands text) accesses
   of-Member x a accesses is stands =
@@ -100,17 +107,17 @@ module _ (text : List ℕ) where
   pub of-Sum : (x : ExprTree) (a : ExprTree) (terms : List (Term ExprTree)) → x ≡ t.Sum a terms → Stands text x → Stands text a × AllByRecursion (TermStands text) terms
   of-Sum x a terms is stands =
       let all = opened x (parts_of a ++ flat_map parts_of_term terms) (t.Sum a terms) is (parts-Sum a terms) stands in
-      (tree_in a (all_left Is (parts_of a) (flat_map parts_of_term terms) all), all_flat Is (TermStands text) parts_of_term (λ term parts. record { sign = parts.0; operand = tree_in term.operand parts.1 }) terms (all_right Is (parts_of a) (flat_map parts_of_term terms) all))
+      (tree_in a (all_left Is (parts_of a) (flat_map parts_of_term terms) all), all_flat Is (TermStands text) parts_of_term (λ term parts. record { operand = tree_in term.operand parts }) terms (all_right Is (parts_of a) (flat_map parts_of_term terms) all))
 
-  pub of-Compare : (x : ExprTree) (a : ExprTree) (token : Token) (b : ExprTree) → x ≡ t.Compare a token b → Stands text x → Stands text a × Stands text b
-  of-Compare x a token b is stands =
-      let all = opened x (parts_of a ++ (part comparisons token ∷ parts_of b)) (t.Compare a token b) is (parts-Compare a token b) stands in
-      (tree_in a (all_left Is (parts_of a) (part comparisons token ∷ parts_of b) all), tree_in b (all_right Is (parts_of a) (part comparisons token ∷ parts_of b) all).1)
+  pub of-Compare : (x : ExprTree) (a : ExprTree) (operator : Comparison) (b : ExprTree) → x ≡ t.Compare a operator b → Stands text x → Stands text a × Stands text b
+  of-Compare x a operator b is stands =
+      let all = opened x (parts_of a ++ parts_of b) (t.Compare a operator b) is (parts-Compare a operator b) stands in
+      (tree_in a (all_left Is (parts_of a) (parts_of b) all), tree_in b (all_right Is (parts_of a) (parts_of b) all))
 
-  pub of-Has : (x : ExprTree) (a : ExprTree) (token : Token) → x ≡ t.Has a token → Stands text x → Stands text a × TokenIn text keys token
-  of-Has x a token is stands =
-      let all = opened x (parts_of a ++ part keys token ∷ []) (t.Has a token) is (parts-Has a token) stands in
-      (tree_in a (all_left Is (parts_of a) (part keys token ∷ []) all), (all_right Is (parts_of a) (part keys token ∷ []) all).0)
+  pub of-Has : (x : ExprTree) (a : ExprTree) (key : KeyTree) → x ≡ t.Has a key → Stands text x → Stands text a × KeyIn text key
+  of-Has x a key is stands =
+      let all = opened x (parts_of a ++ key_part key ∷ []) (t.Has a key) is (parts-Has a key) stands in
+      (tree_in a (all_left Is (parts_of a) (key_part key ∷ []) all), key_in key (all_right Is (parts_of a) (key_part key ∷ []) all).0)
 
   pub of-Like : (x : ExprTree) (a : ExprTree) (token : Token) → x ≡ t.Like a token → Stands text x → Stands text a × TokenIn text patterns token
   of-Like x a token is stands =

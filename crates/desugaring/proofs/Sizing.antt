@@ -3,8 +3,8 @@ use Rattle.std.proofs.lemmas.Bool.{cases_Bool, eqb-true}
 use Rattle.std.proofs.Common.{◌≡◌, Bool, true, false, inl, inr, ℕ, suc, ◌+◌, max, refl, ap, ◌∙◌, sym, arith, List, [], ◌∷◌, ◌++◌, map, length, Option, Some, None, append_assoc, nat_eq, if◌then◌else◌}
 use Rattle.std.proofs.lemmas.List.{append-nil, map-append}
 use Rattle.std.specs.List.{fold, flat_map}
-use Rattle.policy_tokens.specs.declared.token.Kind.{Kind}
-use Rattle.policy_tokens.specs.declared.token.Kind.TheVariants as k
+use Rattle.expression_syntax.specs.declared.tree.Comparison.{Comparison}
+use Rattle.expression_syntax.specs.declared.tree.Comparison.TheVariants as is
 use Rattle.expressions.specs.declared.expr.Expr.{Expr}
 use Rattle.expressions.specs.declared.expr.Expr.TheVariants as core
 use Rattle.expressions.specs.declared.leaf.Literal.{Literal}
@@ -16,7 +16,7 @@ use Rattle.expressions.specs.declared.operator.Binary.TheVariants.{Equal, In, Le
 use Rattle.expressions.specs.declared.operator.UnaryCall.{UnaryCall}
 use Rattle.expressions.specs.declared.operator.BinaryCall.{BinaryCall}
 use Rattle.expressions.specs.Size.{height, height_step, forms, forms_step, capped, greatest, total}
-use Rattle.expressions.specs.inner.Forms.{fold_literal, fold_variable, fold_if, fold_and, fold_or, fold_unary, fold_binary, fold_field, fold_has, fold_set, fold_unary_call, fold_binary_call}
+use Rattle.expressions.proofs.Forms.{fold_literal, fold_variable, fold_if, fold_and, fold_or, fold_unary, fold_binary, fold_field, fold_has, fold_set, fold_unary_call, fold_binary_call}
 use Rattle.desugaring.specs.declared.fault.DesugarFault.{DesugarFault}
 use Rattle.desugaring.specs.declared.fault.DesugarFault.TheVariants.{UnknownCall, Arity}
 use Rattle.desugaring.specs.declared.judgement.Judgement.{Judgement}
@@ -102,14 +102,14 @@ of-If a b c fs gs hs =
     ∙ ap (λ j. above (beside (of a fs) j))
     (ap (judgement (max (height b) (height c)) (forms b + forms c)) (least-append gs hs) ∙ capped_beside (height b) (height c) (forms b) (forms c) (least gs) (least hs))
 
-pub of-compared : (kind : Kind) (a b : Expr) (fs gs : List DesugarFault) → of (compared kind a b) (fs ++ gs) ≡ judged_compared kind (of a fs) (of b gs)
-of-compared k.Less a b fs gs = of-Binary Less a b fs gs
-of-compared k.LessEqual a b fs gs = of-Binary LessOrEqual a b fs gs
-of-compared k.Greater a b fs gs = of-Unary Not (core.Binary LessOrEqual a b) (fs ++ gs) ∙ ap above (of-Binary LessOrEqual a b fs gs)
-of-compared k.GreaterEqual a b fs gs = of-Unary Not (core.Binary Less a b) (fs ++ gs) ∙ ap above (of-Binary Less a b fs gs)
-of-compared k.Equal a b fs gs = of-Binary Equal a b fs gs
-of-compared k.NotEqual a b fs gs = of-Unary Not (core.Binary Equal a b) (fs ++ gs) ∙ ap above (of-Binary Equal a b fs gs)
-of-compared _ a b fs gs = of-Binary In a b fs gs
+pub of-compared : (operator : Comparison) (a b : Expr) (fs gs : List DesugarFault) → of (compared operator a b) (fs ++ gs) ≡ judged_compared operator (of a fs) (of b gs)
+of-compared is.Less a b fs gs = of-Binary Less a b fs gs
+of-compared is.LessOrEqual a b fs gs = of-Binary LessOrEqual a b fs gs
+of-compared is.Greater a b fs gs = of-Unary Not (core.Binary LessOrEqual a b) (fs ++ gs) ∙ ap above (of-Binary LessOrEqual a b fs gs)
+of-compared is.GreaterOrEqual a b fs gs = of-Unary Not (core.Binary Less a b) (fs ++ gs) ∙ ap above (of-Binary Less a b fs gs)
+of-compared is.Equal a b fs gs = of-Binary Equal a b fs gs
+of-compared is.NotEqual a b fs gs = of-Unary Not (core.Binary Equal a b) (fs ++ gs) ∙ ap above (of-Binary Equal a b fs gs)
+of-compared is.In a b fs gs = of-Binary In a b fs gs
 
 -- rows
 

@@ -10,7 +10,7 @@ use Rattle.token_readers.specs.Grammar.{identifiers}
 use Rattle.token_readers.specs.Kinds.{Kinds}
 use Rattle.expression_syntax.specs.Parts.{Part, parts_of}
 use Rattle.expression_syntax.specs.Stands.{TokenStands, PathStands, ExprStands}
-use Rattle.expression_syntax.specs.inner.Flat.{all_as}
+use Rattle.expression_syntax.proofs.Flat.{all_as}
 use Rattle.desugaring.specs.inner.Standing.{TokenIn, PathIn, Stands}
 
 -- an item of a list of which each is so

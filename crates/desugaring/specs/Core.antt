@@ -5,8 +5,6 @@
 -- Operators of one level group to the left.
 use Rattle.std.specs.Prelude.{ℕ, ℤ, false, List, [], ◌∷◌, map, Option, Some, None}
 use Rattle.std.specs.List.{fold}
-use Rattle.policy_tokens.specs.declared.token.Kind.{Kind}
-use Rattle.policy_tokens.specs.declared.token.Kind.TheVariants as k
 use Rattle.policy_tokens.specs.declared.token.Token.{Token}
 use Rattle.policy_tokens.specs.Lexing.{spelling_of}
 use Rattle.expressions.specs.declared.leaf.Literal.TheVariants as literal
@@ -19,6 +17,8 @@ use Rattle.expressions.specs.declared.expr.Expr.TheVariants as core
 use Rattle.token_readers.specs.declared.tree.PathTree.{PathTree}
 use Rattle.expression_syntax.specs.declared.tree.Access.{Access}
 use Rattle.expression_syntax.specs.declared.tree.Access.TheVariants as access
+use Rattle.expression_syntax.specs.declared.tree.Comparison.{Comparison}
+use Rattle.expression_syntax.specs.declared.tree.Comparison.TheVariants as is
 use Rattle.expression_syntax.specs.declared.tree.Entry.{Entry}
 use Rattle.expression_syntax.specs.declared.tree.Term.{Term}
 use Rattle.expression_syntax.specs.declared.tree.ExprTree.{ExprTree}
@@ -31,7 +31,7 @@ use Rattle.desugaring.specs.declared.names.Method.TheVariants as method
 use Rattle.desugaring.specs.Names.{function_of, method_of}
 use Rattle.desugaring.specs.Numbers.{positive, negative}
 use Rattle.desugaring.specs.Strings.{value_of, pattern_of}
-use Rattle.desugaring.specs.Meaning.{boolean_of, variable_of, sign_of, path_name, uid_of, name_of}
+use Rattle.desugaring.specs.Meaning.{variable_of, sign_of, path_name, uid_of, name_of}
 
 -- what a tree stands for, and what it stands for behind a minus
 pub record Meaning : Type 0 where
@@ -50,14 +50,14 @@ abbrev pub plain : Expr → Meaning
 plain e = record { alone = e; negated = core.Unary Negate e }
 
 -- `!=`, `>` and `>=` are the negations of `==`, `<=` and `<`
-abbrev pub compared : Kind → Expr → Expr → Expr
-compared k.Less a b = core.Binary Less a b
-compared k.LessEqual a b = core.Binary LessOrEqual a b
-compared k.Greater a b = core.Unary Not (core.Binary LessOrEqual a b)
-compared k.GreaterEqual a b = core.Unary Not (core.Binary Less a b)
-compared k.Equal a b = core.Binary Equal a b
-compared k.NotEqual a b = core.Unary Not (core.Binary Equal a b)
-compared _ a b = core.Binary In a b
+abbrev pub compared : Comparison → Expr → Expr → Expr
+compared is.Less a b = core.Binary Less a b
+compared is.LessOrEqual a b = core.Binary LessOrEqual a b
+compared is.Greater a b = core.Unary Not (core.Binary LessOrEqual a b)
+compared is.GreaterOrEqual a b = core.Unary Not (core.Binary Less a b)
+compared is.Equal a b = core.Binary Equal a b
+compared is.NotEqual a b = core.Unary Not (core.Binary Equal a b)
+compared is.In a b = core.Binary In a b
 
 -- in place of a call that is refused
 abbrev pub no_call : Expr
@@ -85,12 +85,12 @@ method_called _ _ _ = no_call
 
 -- an access to what stands before it; `e["f"]` is `e.f`
 abbrev pub accessed : List ℕ → Expr → Access (List Expr) → Expr
-accessed text e (access.Field name) = core.Field e (name_of text name)
+accessed text e (access.Field key) = core.Field e (name_of text key)
 accessed text e (access.Method name arguments) = method_called (method_of (spelling_of text name)) e arguments
 
 -- one more term
 abbrev pub added : Expr → Term Expr → Expr
-added left term = core.Binary (sign_of term.sign.kind) left term.operand
+added left term = core.Binary (sign_of term.sign) left term.operand
 
 abbrev pub field : List ℕ → Entry Expr → Named Expr
 field text entry = record { name = name_of text entry.key; value = entry.value }
@@ -104,17 +104,17 @@ module _ {A B : Type 0} (f : A → B) where
   in_entry entry = record { key = entry.key; value = f entry.value }
 
   abbrev pub in_access : Access (List A) → Access (List B)
-  in_access (access.Field name) = access.Field name
+  in_access (access.Field key) = access.Field key
   in_access (access.Method name arguments) = access.Method name (map f arguments)
 
 abbrev by_itself : Meaning → Expr
 by_itself m = m.alone
 
 abbrev pub core_step : List ℕ → tree Meaning → Meaning
-core_step text (tree.Boolean t) = plain (core.Literal (literal.Boolean (boolean_of t.kind)))
+core_step text (tree.Boolean value) = plain (core.Literal (literal.Boolean value))
 core_step text (tree.Number t) = number (spelling_of text t)
 core_step text (tree.Text t) = plain (core.Literal (literal.Text (value_of (spelling_of text t))))
-core_step text (tree.Variable t) = plain (core.Variable (variable_of t.kind))
+core_step text (tree.Variable word) = plain (core.Variable (variable_of word))
 core_step text (tree.Uid uid) = plain (core.Literal (literal.Entity (uid_of text uid)))
 core_step text (tree.Call path arguments) = plain (called (function text path) (map by_itself arguments))
 core_step text (tree.Parentheses a) = plain a.alone
@@ -125,8 +125,8 @@ core_step text (tree.Not a) = plain (core.Unary Not a.alone)
 core_step text (tree.Minus a) = plain a.negated
 core_step text (tree.Product a more) = plain (fold (core.Binary Multiply) a.alone (map by_itself more))
 core_step text (tree.Sum a terms) = plain (fold added a.alone (map (in_term by_itself) terms))
-core_step text (tree.Compare a t b) = plain (compared t.kind a.alone b.alone)
-core_step text (tree.Has a t) = plain (core.Has a.alone (name_of text t))
+core_step text (tree.Compare a operator b) = plain (compared operator a.alone b.alone)
+core_step text (tree.Has a key) = plain (core.Has a.alone (name_of text key))
 core_step text (tree.Like a t) = plain (core.Unary (Like (pattern_of (spelling_of text t))) a.alone)
 core_step text (tree.Is a path) = plain (core.Unary (Is (path_name text path)) a.alone)
 core_step text (tree.IsIn a path b) =

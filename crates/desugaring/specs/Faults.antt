@@ -16,7 +16,7 @@ use Rattle.desugaring.specs.declared.fault.DesugarFault.{DesugarFault}
 use Rattle.desugaring.specs.declared.fault.DesugarFault.TheVariants.{NumberRange, UnknownCall, Arity}
 use Rattle.desugaring.specs.Names.{method_of, function_takes, method_takes}
 use Rattle.desugaring.specs.Numbers.{fits, fits_negated}
-use Rattle.desugaring.specs.Meaning.{name_of}
+use Rattle.desugaring.specs.Meaning.{name_of, place_of}
 use Rattle.desugaring.specs.Core.{function, in_access}
 use Rattle.desugaring.specs.Repeats.{Mark, repeat_faults}
 
@@ -43,14 +43,14 @@ function_faults text path count = call_faults path.first.start (function_takes (
 
 -- of a method at its name; the accesses' arguments have the faults that they are given
 abbrev pub access_faults : List ℕ → Access (List (List DesugarFault)) → List DesugarFault
-access_faults text (access.Field name) = []
+access_faults text (access.Field key) = []
 access_faults text (access.Method name arguments) =
     call_faults name.start (method_takes (method_of (spelling_of text name))) (length arguments)
     ++ flat_map (λ faults. faults) arguments
 
 -- a key of a record where it stands
 abbrev pub key_of : List ℕ → {A : Type 0} → Entry A → Mark
-key_of text entry = record { name = name_of text entry.key; at = entry.key.start }
+key_of text entry = record { name = name_of text entry.key; at = place_of entry.key }
 
 abbrev by_itself : Faulty → List DesugarFault
 by_itself f = f.alone
@@ -59,11 +59,11 @@ abbrev in_all : List Faulty → List DesugarFault
 in_all = flat_map by_itself
 
 abbrev pub fault_step : List ℕ → tree Faulty → Faulty
-fault_step text (tree.Boolean t) = either_way []
+fault_step text (tree.Boolean value) = either_way []
 fault_step text (tree.Number t) =
     record { alone = range (fits (spelling_of text t)) t; negated = range (fits_negated (spelling_of text t)) t }
 fault_step text (tree.Text t) = either_way []
-fault_step text (tree.Variable t) = either_way []
+fault_step text (tree.Variable word) = either_way []
 fault_step text (tree.Uid uid) = either_way []
 fault_step text (tree.Call path arguments) =
     either_way (function_faults text path (length arguments) ++ in_all arguments)
@@ -77,8 +77,8 @@ fault_step text (tree.Not a) = either_way a.alone
 fault_step text (tree.Minus a) = either_way a.negated
 fault_step text (tree.Product a more) = either_way (a.alone ++ in_all more)
 fault_step text (tree.Sum a terms) = either_way (a.alone ++ flat_map (λ term. term.operand.alone) terms)
-fault_step text (tree.Compare a t b) = either_way (a.alone ++ b.alone)
-fault_step text (tree.Has a t) = either_way a.alone
+fault_step text (tree.Compare a operator b) = either_way (a.alone ++ b.alone)
+fault_step text (tree.Has a key) = either_way a.alone
 fault_step text (tree.Like a t) = either_way a.alone
 fault_step text (tree.Is a path) = either_way a.alone
 fault_step text (tree.IsIn a path b) = either_way (a.alone ++ b.alone)

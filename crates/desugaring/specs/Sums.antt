@@ -1,8 +1,6 @@
 -- Judgements put together.
 use Rattle.std.specs.Prelude.{◌≡◌, ℕ, ◌+◌, ◌++◌, max, List, length, Option, Some, None}
 use Rattle.std.specs.List.{fold}
-use Rattle.policy_tokens.specs.declared.token.Kind.{Kind}
-use Rattle.policy_tokens.specs.declared.token.Kind.TheVariants as k
 use Rattle.policy_tokens.specs.Lexing.{spelling_of}
 use Rattle.expressions.specs.declared.leaf.Literal.{Literal}
 use Rattle.expressions.specs.declared.operator.Unary.{Unary}
@@ -11,6 +9,8 @@ use Rattle.expressions.specs.declared.expr.Expr.TheVariants as core
 use Rattle.token_readers.specs.declared.tree.PathTree.{PathTree}
 use Rattle.expression_syntax.specs.declared.tree.Access.{Access}
 use Rattle.expression_syntax.specs.declared.tree.Access.TheVariants as access
+use Rattle.expression_syntax.specs.declared.tree.Comparison.{Comparison}
+use Rattle.expression_syntax.specs.declared.tree.Comparison.TheVariants as is
 use Rattle.expression_syntax.specs.declared.tree.Entry.{Entry}
 use Rattle.expression_syntax.specs.declared.tree.Term.{Term}
 use Rattle.expression_syntax.specs.declared.tree.ExprTree.{ExprTree}
@@ -80,11 +80,14 @@ abbrev pub judged_entry : List ℕ → Judgement → Entry ExprTree → Judgemen
 judged_entry text j entry = beside j (judged text entry.value)
 
 -- of a comparison
-abbrev pub judged_compared : Kind → Judgement → Judgement → Judgement
-judged_compared k.Greater i j = above (paired i j)
-judged_compared k.GreaterEqual i j = above (paired i j)
-judged_compared k.NotEqual i j = above (paired i j)
-judged_compared _ i j = paired i j
+abbrev pub judged_compared : Comparison → Judgement → Judgement → Judgement
+judged_compared is.Less i j = paired i j
+judged_compared is.LessOrEqual i j = paired i j
+judged_compared is.Greater i j = above (paired i j)
+judged_compared is.GreaterOrEqual i j = above (paired i j)
+judged_compared is.Equal i j = paired i j
+judged_compared is.NotEqual i j = above (paired i j)
+judged_compared is.In i j = paired i j
 
 -- of a function's call
 abbrev pub judged_call : List ℕ → PathTree → List ExprTree → Judgement
@@ -94,7 +97,7 @@ judged_call text path arguments =
 
 -- of an access to what is judged
 abbrev pub judged_access : List ℕ → Judgement → Access (List ExprTree) → Judgement
-judged_access text j (access.Field name) = above j
+judged_access text j (access.Field key) = above j
 judged_access text j (access.Method name arguments) =
     let fault = least (call_faults name.start (method_takes (method_of (spelling_of text name))) (length arguments)) in
     called fault (beside j (with_fault fault (judged_all text arguments)))

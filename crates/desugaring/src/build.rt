@@ -27,10 +27,10 @@ pub(crate) fn build_tree(alloc: Global, text: &str, tree: &ExprTree) -> Result<E
     ensures { IfOk result (λ e. e ≡ core_of text.now tree.now) }
 {
     match tree {
-        ExprTree::Boolean(token) => Ok(boolean_literal(token.kind)),
+        ExprTree::Boolean(value) => Ok(boolean_literal(*value)),
         ExprTree::Number(token) => Ok(number_literal(text, *token)),
         ExprTree::Text(token) => text_literal(alloc, text, *token),
-        ExprTree::Variable(token) => Ok(variable(token.kind)),
+        ExprTree::Variable(word) => Ok(variable(*word)),
         ExprTree::Uid(uid) => uid_literal(alloc, text, uid),
         ExprTree::Call(path, arguments) => call(
             alloc,
@@ -56,13 +56,11 @@ pub(crate) fn build_tree(alloc: Global, text: &str, tree: &ExprTree) -> Result<E
         }
         ExprTree::Compare(left, operator, right) => compare(
             alloc,
-            operator.kind,
+            *operator,
             build_tree(alloc, text, left.get()),
             build_tree(alloc, text, right.get()),
         ),
-        ExprTree::Has(inner, token) => {
-            has(alloc, text, build_tree(alloc, text, inner.get()), *token)
-        }
+        ExprTree::Has(inner, key) => has(alloc, text, build_tree(alloc, text, inner.get()), *key),
         ExprTree::Like(inner, token) => {
             like(alloc, text, build_tree(alloc, text, inner.get()), *token)
         }
@@ -165,7 +163,7 @@ fn build_terms(
     let mut left = first?;
     for term in terms {
         let (kept, right) = beside(left, build_tree(alloc, text, &term.operand))?;
-        left = Expr::binary(alloc, sign(term.sign.kind), kept, right)?;
+        left = Expr::binary(alloc, sign(term.sign), kept, right)?;
     }
     Ok(left)
 }
@@ -200,7 +198,7 @@ fn build_access(
     ensures { IfOk result (λ e. e ≡ spec.accessed text.now receiver (spec.in_access (core_of text.now) access.now)) }
 {
     match access {
-        Access::Field(token) => field(alloc, text, receiver, *token),
+        Access::Field(key) => field(alloc, text, receiver, *key),
         Access::Method(token, arguments) => {
             let (owner, row) = beside(receiver, build_all(alloc, text, arguments.as_slice()))?;
             let method = method_named(spelling(text, *token));

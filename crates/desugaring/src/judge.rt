@@ -21,10 +21,10 @@ use crate::judgement::Judgement;
 use crate::names::{function_named, method_named};
 use crate::numbers::{fits, fits_negated};
 use crate::repeats::repeated_key;
-use expression_syntax::{Access, Entry, ExprTree, PathTree, Term};
+use expression_syntax::{Access, Comparison, Entry, ExprTree, PathTree, Term};
 use expressions::UnaryCall;
 use plain::{Items, NoMemory};
-use policy_tokens::{Kind, Token, spelling};
+use policy_tokens::{Token, spelling};
 use std::alloc::Global;
 
 /// The fault of a number that is out of range.
@@ -107,13 +107,14 @@ fn method_fault(text: &str, name: Token, count: usize) -> Option<DesugarFault>
     call_fault(name.start, takes, count)
 }
 
-fn judge_comparison(kind: Kind, left: Judgement, right: Judgement) -> Judgement
-    ensures { result ≡ spec.judged_compared kind left right }
+/// Of a comparison: a negated one is a form more.
+fn judge_comparison(operator: Comparison, left: Judgement, right: Judgement) -> Judgement
+    ensures { result ≡ spec.judged_compared operator left right }
 {
     let both = left.paired(right);
-    match kind {
-        Kind::Greater | Kind::GreaterEqual | Kind::NotEqual => both.above(),
-        _ => both,
+    match operator {
+        Comparison::Greater | Comparison::GreaterOrEqual | Comparison::NotEqual => both.above(),
+        Comparison::Less | Comparison::LessOrEqual | Comparison::Equal | Comparison::In => both,
     }
 }
 
@@ -158,7 +159,7 @@ pub(crate) fn judge_tree(alloc: Global, text: &str, tree: &ExprTree) -> Result<J
         ExprTree::Compare(left, operator, right) => {
             let one = judge_tree(alloc, text, left.get())?;
             let other = judge_tree(alloc, text, right.get())?;
-            Ok(judge_comparison(operator.kind, one, other))
+            Ok(judge_comparison(*operator, one, other))
         }
         ExprTree::Has(inner, _) => Ok(judge_tree(alloc, text, inner.get())?.above()),
         ExprTree::Like(inner, _) => Ok(judge_tree(alloc, text, inner.get())?.above()),

@@ -7,22 +7,22 @@ ghost use Rattle.expressions.specs.declared.operator.Unary.TheVariants as unary;
 ghost use Rattle.expressions.specs.declared.operator.Binary.TheVariants as binary;
 ghost use Rattle.expressions.specs.declared.expr.Expr.TheVariants as core;
 ghost use Rattle.token_readers.specs.Kinds.{only};
-ghost use Rattle.expression_syntax.specs.Expressions.{keys, patterns};
+ghost use Rattle.expression_syntax.specs.Expressions.{patterns};
 ghost use Rattle.desugaring.specs.Strings.{value_of, pattern_of};
 ghost use Rattle.desugaring.specs.Numbers.{positive, negative};
-ghost use Rattle.desugaring.specs.Meaning.{boolean_of, variable_of, path_name, uid_of, name_of};
+ghost use Rattle.desugaring.specs.Meaning.{variable_of, path_name, uid_of, name_of};
 ghost use Rattle.desugaring.specs.Core as spec;
 ghost use Rattle.desugaring.specs.declared.names.Method.TheVariants as method;
 ghost use Rattle.desugaring.specs.inner.Giving.{Gave};
-ghost use Rattle.desugaring.specs.inner.Standing.{TokenIn, PathIn, UidIn};
+ghost use Rattle.desugaring.specs.inner.Standing.{TokenIn, KeyIn, PathIn, UidIn};
 
 use crate::names::Method;
 use crate::numbers;
 use crate::words::{name, path_type, pattern, string};
-use expression_syntax::{PathTree, UidTree};
+use expression_syntax::{Comparison, KeyTree, PathTree, UidTree};
 use expressions::{Binary, Expr, Literal, Named, Unary, UnaryCall, Variable};
 use plain::{Items, NoMemory};
-use policy_tokens::{Kind, Token, spelling};
+use policy_tokens::{Token, spelling};
 use std::alloc::Global;
 use values::EntityUid;
 
@@ -34,20 +34,20 @@ pub(crate) enum Chain {
     Or,
 }
 
-pub(crate) fn boolean_literal(kind: Kind) -> Expr
-    ensures { result ≡ core.Literal (literal.Boolean (boolean_of kind)) }
+pub(crate) fn boolean_literal(value: bool) -> Expr
+    ensures { result ≡ core.Literal (literal.Boolean value) }
 {
-    Expr::Literal(Literal::Boolean(matches!(kind, Kind::True)))
+    Expr::Literal(Literal::Boolean(value))
 }
 
-pub(crate) fn variable(kind: Kind) -> Expr
-    ensures { result ≡ core.Variable (variable_of kind) }
+pub(crate) fn variable(word: expression_syntax::Variable) -> Expr
+    ensures { result ≡ core.Variable (variable_of word) }
 {
-    match kind {
-        Kind::Action => Expr::Variable(Variable::Action),
-        Kind::Resource => Expr::Variable(Variable::Resource),
-        Kind::Context => Expr::Variable(Variable::Context),
-        _ => Expr::Variable(Variable::Principal),
+    match word {
+        expression_syntax::Variable::Principal => Expr::Variable(Variable::Principal),
+        expression_syntax::Variable::Action => Expr::Variable(Variable::Action),
+        expression_syntax::Variable::Resource => Expr::Variable(Variable::Resource),
+        expression_syntax::Variable::Context => Expr::Variable(Variable::Context),
     }
 }
 
@@ -85,11 +85,11 @@ pub(crate) fn uid_literal(alloc: Global, text: &str, tree: &UidTree) -> Result<E
 }
 
 /// `owner.name`
-pub(crate) fn field(alloc: Global, text: &str, owner: Expr, token: Token) -> Result<Expr, NoMemory>
-    requires { TokenIn text.now keys token }
-    ensures { IfOk result (λ e. e ≡ core.Field owner (name_of text.entry.now token)) }
+pub(crate) fn field(alloc: Global, text: &str, owner: Expr, key: KeyTree) -> Result<Expr, NoMemory>
+    requires { KeyIn text.now key }
+    ensures { IfOk result (λ e. e ≡ core.Field owner (name_of text.entry.now key)) }
 {
-    let (owner, name) = both(Ok(owner), name(alloc, text, token))?;
+    let (owner, name) = both(Ok(owner), name(alloc, text, key))?;
     Expr::field(alloc, owner, name)
 }
 
@@ -98,12 +98,12 @@ pub(crate) fn has(
     alloc: Global,
     text: &str,
     owner: Result<Expr, NoMemory>,
-    token: Token,
+    key: KeyTree,
 ) -> Result<Expr, NoMemory>
-    requires { TokenIn text.now keys token }
-    ensures { IfOk result (λ e. Gave owner (λ a. e ≡ core.Has a (name_of text.now token))) }
+    requires { KeyIn text.now key }
+    ensures { IfOk result (λ e. Gave owner (λ a. e ≡ core.Has a (name_of text.now key))) }
 {
-    let (owner, name) = both(owner, name(alloc, text, token))?;
+    let (owner, name) = both(owner, name(alloc, text, key))?;
     Expr::has(alloc, owner, name)
 }
 
@@ -219,21 +219,21 @@ pub(crate) fn record(fields: Result<Items<Named<Expr>>, NoMemory>) -> Result<Exp
 /// A comparison: `!=`, `>` and `>=` are the negations of `==`, `<=` and `<`.
 pub(crate) fn compare(
     alloc: Global,
-    kind: Kind,
+    operator: Comparison,
     left: Result<Expr, NoMemory>,
     right: Result<Expr, NoMemory>,
 ) -> Result<Expr, NoMemory>
-    ensures { IfOk result (λ e. Gave left (λ a. Gave right (λ b. e ≡ spec.compared kind a b))) }
+    ensures { IfOk result (λ e. Gave left (λ a. Gave right (λ b. e ≡ spec.compared operator a b))) }
 {
     let (left, right) = both(left, right)?;
-    match kind {
-        Kind::Less => Expr::binary(alloc, Binary::Less, left, right),
-        Kind::LessEqual => Expr::binary(alloc, Binary::LessOrEqual, left, right),
-        Kind::Greater => Expr::greater(alloc, left, right),
-        Kind::GreaterEqual => Expr::greater_or_equal(alloc, left, right),
-        Kind::Equal => Expr::binary(alloc, Binary::Equal, left, right),
-        Kind::NotEqual => Expr::not_equal(alloc, left, right),
-        _ => Expr::binary(alloc, Binary::In, left, right),
+    match operator {
+        Comparison::Less => Expr::binary(alloc, Binary::Less, left, right),
+        Comparison::LessOrEqual => Expr::binary(alloc, Binary::LessOrEqual, left, right),
+        Comparison::Greater => Expr::greater(alloc, left, right),
+        Comparison::GreaterOrEqual => Expr::greater_or_equal(alloc, left, right),
+        Comparison::Equal => Expr::binary(alloc, Binary::Equal, left, right),
+        Comparison::NotEqual => Expr::not_equal(alloc, left, right),
+        Comparison::In => Expr::binary(alloc, Binary::In, left, right),
     }
 }
 

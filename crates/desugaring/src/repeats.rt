@@ -8,7 +8,7 @@ ghost use Rattle.desugaring.specs.Faults.{key_of};
 ghost use Rattle.desugaring.specs.inner.Searching.{TellsLeast, lesser_of, repeat_fault, held};
 
 use crate::fault::DesugarFault;
-use crate::words::name;
+use crate::words::{name, place};
 use expression_syntax::{Entry, ExprTree};
 use plain::{NoMemory, Text};
 use std::alloc::Global;
@@ -65,6 +65,7 @@ fn fault_at(place: Option<usize>) -> Option<DesugarFault>
 
 /// The fault of a name that stands again, the one at the least place. It takes time of n log n for n names; the only
 /// error is `NoMemory`.
+#[tactic(auto, using(crate::proofs::Again::fault_told))]
 pub fn least_repeat(alloc: Global, marks: &[Mark<'_>]) -> Result<Option<DesugarFault>, NoMemory>
     ensures { IfOk result (λ fault. fault ≡ least (repeat_faults (shown marks.now))) }
 {
@@ -82,7 +83,7 @@ fn keys_of(alloc: Global, text: &str, entries: &[Entry<ExprTree>]) -> Result<Vec
         let name = name(alloc, text, entry.key)?;
         keys.push(Key {
             name,
-            at: entry.key.start,
+            at: place(entry.key),
         })?;
     }
     Ok(keys)

@@ -4,25 +4,25 @@ ghost use Rattle.plain.specs.Words.{AreIdents};
 ghost use Rattle.policy_tokens.specs.Lexing.{spelling_of};
 ghost use Rattle.policy_tokens.specs.declared.token.Kind.TheVariants as k;
 ghost use Rattle.token_readers.specs.Kinds.{only};
-ghost use Rattle.expression_syntax.specs.Expressions.{keys, patterns};
-ghost use Rattle.desugaring.specs.inner.Standing.{TokenIn, PathIn};
+ghost use Rattle.expression_syntax.specs.Expressions.{patterns};
+ghost use Rattle.desugaring.specs.inner.Standing.{TokenIn, KeyIn, PathIn};
 ghost use Rattle.desugaring.specs.Strings.{value_of, pattern_of};
-ghost use Rattle.desugaring.specs.Meaning.{sign_of, path_name, name_of};
+ghost use Rattle.desugaring.specs.Meaning.{sign_of, path_name, name_of, place_of};
 
-use expression_syntax::PathTree;
+use expression_syntax::{KeyTree, PathTree, Sign};
 use expressions::{Binary, Pattern};
 use plain::{NoMemory, Text};
-use policy_tokens::{Kind, Token, decode_pattern, decode_string, spelling};
+use policy_tokens::{Token, decode_pattern, decode_string, spelling};
 use std::alloc::Global;
 use values::TypeName;
 
 /// The operator before a further term of a sum.
-pub(crate) fn sign(kind: Kind) -> Binary
-    ensures { result ≡ sign_of kind }
+pub(crate) fn sign(sign: Sign) -> Binary
+    ensures { result ≡ sign_of sign }
 {
-    match kind {
-        Kind::Minus => Binary::Subtract,
-        _ => Binary::Add,
+    match sign {
+        Sign::Plus => Binary::Add,
+        Sign::Minus => Binary::Subtract,
     }
 }
 
@@ -44,13 +44,23 @@ pub(crate) fn pattern(alloc: Global, text: &str, token: Token) -> Result<Pattern
 }
 
 /// A key or a field's name: a word, or the value of a string.
-pub(crate) fn name(alloc: Global, text: &str, token: Token) -> Result<Text, NoMemory>
-    requires { TokenIn text.now keys token }
-    ensures { IfOk result (λ name. name ≡ name_of text.now token) }
+pub(crate) fn name(alloc: Global, text: &str, key: KeyTree) -> Result<Text, NoMemory>
+    requires { KeyIn text.now key }
+    ensures { IfOk result (λ name. name ≡ name_of text.now key) }
 {
-    match token.kind {
-        Kind::Text => decode_string(alloc, text, token),
-        _ => Text::from_str(alloc, spelling(text, token)),
+    match key {
+        KeyTree::Word(word) => Text::from_str(alloc, spelling(text, word)),
+        KeyTree::Quoted(quoted) => string(alloc, text, quoted),
+    }
+}
+
+/// Where a key stands.
+pub(crate) fn place(key: KeyTree) -> usize
+    ensures { result ≡ place_of key }
+{
+    match key {
+        KeyTree::Word(word) => word.start,
+        KeyTree::Quoted(quoted) => quoted.start,
     }
 }
 

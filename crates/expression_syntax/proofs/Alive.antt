@@ -5,7 +5,11 @@ use Rattle.policy_tokens.specs.declared.token.Kind.{Kind}
 use Rattle.policy_tokens.specs.declared.token.Kind.TheVariants as k
 use Rattle.token_readers.specs.declared.tree.PathTree.{PathTree}
 use Rattle.expression_syntax.specs.declared.tree.Access.{Access}
+use Rattle.expression_syntax.specs.declared.tree.Comparison.{Comparison}
 use Rattle.expression_syntax.specs.declared.tree.Entry.{Entry}
+use Rattle.expression_syntax.specs.declared.tree.KeyTree.{KeyTree}
+use Rattle.expression_syntax.specs.declared.tree.KeyTree.TheVariants.{Word, Quoted}
+use Rattle.expression_syntax.specs.declared.tree.Sign.{Sign}
 use Rattle.expression_syntax.specs.declared.tree.Term.{Term}
 use Rattle.expression_syntax.specs.declared.tree.ExprTree.{ExprTree}
 use Rattle.expression_syntax.specs.declared.tree.ExprTree.TheVariants as tree
@@ -14,7 +18,7 @@ use Rattle.token_readers.specs.Lang.{Lang}
 use Rattle.token_readers.specs.Lang as lang
 use Rattle.token_readers.specs.Grammar.{identifiers, path, uid}
 use Rattle.expression_syntax.specs.Expressions as g
-use Rattle.expression_syntax.specs.Expressions.{booleans, variables, keys, patterns, signs, comparisons, joined, accessed, is_in}
+use Rattle.expression_syntax.specs.Expressions.{known, boolean_of, variable_of, sign_of, comparison_of, booleans, keys, patterns, signs, comparisons, joined, accessed, is_in}
 use Rattle.expression_syntax.specs.ExpressionReading.{openers, access_firsts, firsts}
 use Rattle.token_readers.specs.Reads.{Begins}
 use Rattle.token_readers.proofs.Forms.{Starts, starts_of, starts_both, starts_or, alive_empty, alive_left, alive_right, begin_of}
@@ -22,6 +26,7 @@ use Rattle.token_readers.proofs.Many.{alive_many}
 use Rattle.token_readers.proofs.Steps.{go, go_one, alive_maybe, starts_one, wide_starts}
 use Rattle.token_readers.proofs.NameRules.{starts_path, starts_uid}
 use Rattle.token_readers.proofs.Openings.{Opening, opening_one, opening_then, starts_gate}
+use Rattle.expression_syntax.proofs.SymbolRules.{starts_symbol, begin_symbol}
 use Rattle.expression_syntax.proofs.NamedRules.{call_behind}
 
 -- ---- first tokens
@@ -72,7 +77,7 @@ starts_chain L piece make ks s = starts_both L (chain_tail piece make) ks s
 -- ---- literals
 
 abbrev pub boolean : Lang ExprTree
-boolean = lang.◌giving◌ (lang.of booleans) tree.Boolean
+boolean = lang.◌giving◌ (g.symbol boolean_of) tree.Boolean
 
 abbrev pub number : Lang ExprTree
 number = lang.◌giving◌ (lang.one k.Number) tree.Number
@@ -84,13 +89,13 @@ abbrev pub number_or_text : Lang ExprTree
 number_or_text = lang.◌or◌ number text
 
 pub alive_literal : Begins g.literal []
-alive_literal = alive_left boolean number_or_text [] (go (begin_of booleans k.True refl) (λ t. alive_empty (tree.Boolean t)))
+alive_literal = alive_left boolean number_or_text [] (go (begin_symbol boolean_of k.True true refl) (λ value. alive_empty (tree.Boolean value)))
 
 starts_giving : {A B : Type 0} (L : Lang A) (f : A → B) (ks : Kinds) → Starts L ks → Starts (lang.◌giving◌ L f) ks
 starts_giving L f ks s = starts_both L (λ x. lang.empty (f x)) ks s
 
 pub starts_boolean : Starts boolean booleans
-starts_boolean = starts_giving (lang.of booleans) tree.Boolean booleans (starts_of booleans)
+starts_boolean = starts_giving (g.symbol boolean_of) tree.Boolean booleans (starts_symbol boolean_of)
 
 pub starts_number : Starts number (only k.Number)
 starts_number = starts_giving (lang.one k.Number) tree.Number (only k.Number) (starts_of (only k.Number))
@@ -104,12 +109,35 @@ starts_literal =
     starts_or boolean number_or_text literal_firsts (wide_starts boolean booleans literal_firsts refl starts_boolean)
     (starts_or number text literal_firsts (wide_starts number (only k.Number) literal_firsts refl starts_number) (wide_starts text (only k.Text) literal_firsts refl starts_text))
 
+-- ---- keys
+
+abbrev pub word_key : Lang KeyTree
+word_key = lang.◌giving◌ (lang.of identifiers) Word
+
+abbrev pub quoted_key : Lang KeyTree
+quoted_key = lang.◌giving◌ (lang.one k.Text) Quoted
+
+pub starts_word_key : Starts word_key identifiers
+starts_word_key = starts_giving (lang.of identifiers) Word identifiers (starts_of identifiers)
+
+pub starts_quoted_key : Starts quoted_key (only k.Text)
+starts_quoted_key = starts_giving (lang.one k.Text) Quoted (only k.Text) (starts_of (only k.Text))
+
+pub starts_key : Starts g.key keys
+unfolding same_kind
+starts_key =
+    starts_or word_key quoted_key keys (wide_starts word_key identifiers keys refl starts_word_key)
+    (wide_starts quoted_key (only k.Text) keys refl starts_quoted_key)
+
+pub alive_key : Begins g.key []
+alive_key = alive_left word_key quoted_key [] (go (begin_of identifiers k.Ident refl) (λ t. alive_empty (Word t)))
+
 -- ---- what nests
 
-abbrev pub entry_of : Token → ExprTree → Entry ExprTree
+abbrev pub entry_of : KeyTree → ExprTree → Entry ExprTree
 entry_of key x = record { key = key; value = x }
 
-abbrev pub term_of : Token → ExprTree → Term ExprTree
+abbrev pub term_of : Sign → ExprTree → Term ExprTree
 term_of sign x = record { sign = sign; operand = x }
 
 module _ (o : Bool) (E : Lang ExprTree) where
@@ -154,11 +182,11 @@ module _ (o : Bool) (E : Lang ExprTree) where
 
   -- ---- entries
 
-  abbrev pub entry_end : Token → Lang (Entry ExprTree)
+  abbrev pub entry_end : KeyTree → Lang (Entry ExprTree)
   entry_end key = lang.◌>>◌ (lang.one k.Colon) (lang.◌>>=◌ E (λ x. lang.empty (entry_of key x)))
 
   pub starts_entry : Starts (g.entry o E) keys
-  starts_entry = starts_both (lang.of keys) entry_end keys (starts_of keys)
+  starts_entry = starts_both g.key entry_end keys starts_key
 
   abbrev pub next_entry : Lang (Entry ExprTree)
   next_entry = lang.◌>>◌ (lang.one k.Comma) (g.entry o E)
@@ -211,8 +239,8 @@ module _ (o : Bool) (E : Lang ExprTree) where
 
   pub starts_named : Starts (g.named o E) identifiers
   starts_named =
-      starts_or (lang.◌giving◌ (lang.of variables) tree.Variable) (lang.◌or◌ (lang.◌giving◌ uid tree.Uid) (lang.gate o (g.call o E))) identifiers
-      (wide_starts (lang.◌giving◌ (lang.of variables) tree.Variable) variables identifiers refl (starts_giving (lang.of variables) tree.Variable variables (starts_of variables)))
+      starts_or (lang.◌giving◌ (g.symbol variable_of) tree.Variable) (lang.◌or◌ (lang.◌giving◌ uid tree.Uid) (lang.gate o (g.call o E))) identifiers
+      (wide_starts (lang.◌giving◌ (g.symbol variable_of) tree.Variable) (known variable_of) identifiers refl (starts_giving (g.symbol variable_of) tree.Variable (known variable_of) (starts_symbol variable_of)))
       (starts_or (lang.◌giving◌ uid tree.Uid) (lang.gate o (g.call o E)) identifiers (starts_giving uid tree.Uid identifiers starts_uid)
       (starts_gate o (g.call o E) identifiers (starts_both path (call_behind o E) identifiers starts_path)))
 
@@ -309,14 +337,14 @@ module _ (o : Bool) (E : Lang ExprTree) where
   starts_product : Starts (g.product o E) unary_firsts
   starts_product = starts_chain (g.unary o E) factor tree.Product unary_firsts starts_unary
 
-  abbrev pub behind_term : Token → Lang (Term ExprTree)
+  abbrev pub behind_term : Sign → Lang (Term ExprTree)
   behind_term sign = lang.◌>>=◌ (g.product o E) (λ x. lang.empty (term_of sign x))
 
-  pub alive_behind_term : (sign : Token) → Begins (behind_term sign) []
+  pub alive_behind_term : (sign : Sign) → Begins (behind_term sign) []
   alive_behind_term sign = go alive_product (λ x. alive_empty (term_of sign x))
 
   pub starts_term : Starts (g.term o E) signs
-  starts_term = starts_both (lang.of signs) behind_term signs (starts_of signs)
+  starts_term = starts_both (g.symbol sign_of) behind_term signs (starts_symbol sign_of)
 
   pub alive_sum : Begins (g.sum o E) []
   alive_sum = alive_chain (g.product o E) (g.term o E) tree.Sum alive_product
@@ -326,14 +354,14 @@ module _ (o : Bool) (E : Lang ExprTree) where
 
   -- ---- relations
 
-  abbrev pub behind_comparison : ExprTree → Token → Lang ExprTree
+  abbrev pub behind_comparison : ExprTree → Comparison → Lang ExprTree
   behind_comparison x operator = lang.◌>>=◌ (g.sum o E) (λ y. lang.empty (tree.Compare x operator y))
 
-  pub alive_behind_comparison : (x : ExprTree) (operator : Token) → Begins (behind_comparison x operator) []
+  pub alive_behind_comparison : (x : ExprTree) (operator : Comparison) → Begins (behind_comparison x operator) []
   alive_behind_comparison x operator = go alive_sum (λ y. alive_empty (tree.Compare x operator y))
 
   pub starts_compared : (x : ExprTree) → Starts (g.compared o E x) comparisons
-  starts_compared x = starts_both (lang.of comparisons) (behind_comparison x) comparisons (starts_of comparisons)
+  starts_compared x = starts_both (g.symbol comparison_of) (behind_comparison x) comparisons (starts_symbol comparison_of)
 
   pub starts_inside : Starts (g.inside o E) (only k.In)
   starts_inside = starts_one k.In (λ _. g.sum o E)
@@ -415,14 +443,14 @@ module _ (o : Bool) (E : Lang ExprTree) where
   -- ---- where the inner language derives something
 
   module _ (alive : Begins E []) where
-    pub alive_behind_key : (key : Token) → Begins (lang.◌>>=◌ E (λ x. lang.empty (entry_of key x))) []
+    pub alive_behind_key : (key : KeyTree) → Begins (lang.◌>>=◌ E (λ x. lang.empty (entry_of key x))) []
     alive_behind_key key = go alive (λ x. alive_empty (entry_of key x))
 
-    pub alive_entry_end : (key : Token) → Begins (entry_end key) []
+    pub alive_entry_end : (key : KeyTree) → Begins (entry_end key) []
     alive_entry_end key = go_one k.Colon (λ _. alive_behind_key key)
 
     pub alive_entry : Begins (g.entry o E) []
-    alive_entry = go (begin_of keys k.Ident refl) alive_entry_end
+    alive_entry = go alive_key alive_entry_end
 
     pub alive_in_parens : Begins in_parens []
     alive_in_parens = go alive (λ x. go_one k.RParen (λ _. alive_empty (tree.Parentheses x)))

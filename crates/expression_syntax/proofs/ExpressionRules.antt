@@ -1,5 +1,5 @@
 -- Expressions are read exactly, at each depth of nesting.
-use Rattle.std.proofs.Common.{◌≡◌, inl, inr, ℕ, zero, suc, ◌≤◌, ◌<◌, Bool, true, false, List, [], ◌∷◌, Some, None, refl, ap, subst, arith}
+use Rattle.std.proofs.Common.{◌≡◌, inl, inr, ℕ, zero, suc, ◌≤◌, ◌<◌, Bool, true, false, List, [], ◌∷◌, Option, Some, None, refl, ap, subst, arith}
 use mathlib.Core.Path.{fun_ext}
 use Rattle.policy_tokens.specs.declared.token.Token.{Token}
 use Rattle.policy_tokens.specs.declared.token.Kind.{Kind}
@@ -7,17 +7,19 @@ use Rattle.policy_tokens.specs.declared.token.Kind.TheVariants as k
 use Rattle.token_readers.specs.declared.tree.PathTree.{PathTree}
 use Rattle.expression_syntax.specs.declared.tree.Access.TheVariants as access
 use Rattle.expression_syntax.specs.declared.tree.ExprTree.{ExprTree}
+use Rattle.expression_syntax.specs.declared.tree.KeyTree.TheVariants.{Word, Quoted}
 use Rattle.expression_syntax.specs.declared.tree.ExprTree.TheVariants as tree
+use Rattle.expression_syntax.specs.declared.tree.Variable.{Variable}
 use Rattle.token_readers.specs.Kinds.{Kinds, only, same_kind}
 use Rattle.token_readers.specs.Lang.{Lang}
 use Rattle.token_readers.specs.Lang as lang
 use Rattle.token_readers.specs.Grammar.{identifiers}
 use Rattle.expression_syntax.specs.Expressions as g
-use Rattle.expression_syntax.specs.Expressions.{booleans, keys, patterns, signs, comparisons, joined, accessed, is_in, is_positive}
+use Rattle.expression_syntax.specs.Expressions.{boolean_of, sign_of, comparison_of, booleans, keys, patterns, signs, comparisons, joined, accessed, is_in, is_positive}
 use Rattle.token_readers.specs.Reading.{Parser, Outcome, Read, Stop, Why, Unexpected, TooDeep, and_then, ◌>>=◌, ◌>>◌, pure, either, take, token, many}
 use Rattle.token_readers.specs.Reading as reading
 use Rattle.expression_syntax.specs.ExpressionReading as r
-use Rattle.expression_syntax.specs.ExpressionReading.{openers, access_firsts, firsts, path_of, name_by, is_variable}
+use Rattle.expression_syntax.specs.ExpressionReading.{openers, access_firsts, firsts, path_of, name_by, variable_at}
 use Rattle.token_readers.specs.Parsing.{piece, ended_by, goes_on, ends, uid_of}
 use Rattle.token_readers.specs.Reads.{Begins}
 use Rattle.token_readers.proofs.Sets.{apart, within}
@@ -30,6 +32,7 @@ use Rattle.token_readers.proofs.NameRules.{path_rule, alive_path, segments, segm
 use Rattle.token_readers.proofs.Depths.{levels}
 use Rattle.token_readers.proofs.Openings.{giving, opening_gate, starts_gate}
 use Rattle.expression_syntax.proofs.Follows.{after_named, after_access, after_member, after_product, after_sum, after_relation, after_conjunction, after_expr, after_arguments, after_entries}
+use Rattle.expression_syntax.proofs.SymbolRules.{symbol_rule}
 use Rattle.expression_syntax.proofs.NamedRules.{call_behind, variable_by, behind_by, behind_pieces, factored, on, leads_variable, leads_variable_colons, same_named}
 use Rattle.expression_syntax.proofs.Alive as a
 use Rattle.expression_syntax.proofs.Alive.{primary_firsts, other_firsts, minus_firsts, unary_firsts, literal_firsts, entry_of, term_of}
@@ -56,30 +59,36 @@ module _ (D : Levels) where
   literal_rule : Rule g.literal g.literal r.literal r.literal after_named D
   unfolding r.literal same_kind
   literal_rule =
-      or a.boolean a.boolean a.number_or_text a.number_or_text _ _ _ _ booleans after_named D (giving tree.Boolean after_named D (of booleans none D))
+      or a.boolean a.boolean a.number_or_text a.number_or_text _ _ _ _ booleans after_named D (giving tree.Boolean after_named D (symbol_rule boolean_of none D))
       (or a.number a.number a.text a.text _ _ _ _ (only k.Number) after_named D (giving tree.Number after_named D (one k.Number none D)) (giving tree.Text after_named D (one k.Text none D))
       a.starts_number (leads_starts a.text (only k.Text) (only k.Number) after_named a.starts_text refl))
       a.starts_boolean
       (leads_or a.number a.text booleans after_named (leads_starts a.number (only k.Number) booleans after_named a.starts_number refl) (leads_starts a.text (only k.Text) booleans after_named a.starts_text refl))
 
+  pub key_rule : Rule g.key g.key r.key r.key none D
+  unfolding r.key same_kind
+  key_rule =
+      or a.word_key a.word_key a.quoted_key a.quoted_key _ _ _ _ identifiers none D (giving Word none D (of identifiers none D)) (giving Quoted none D (one k.Text none D))
+      a.starts_word_key (leads_starts a.quoted_key (only k.Text) identifiers none a.starts_quoted_key refl)
+
   indexed_rule : Rule g.indexed g.indexed r.indexed r.indexed after_access D
   unfolding r.indexed
   indexed_rule =
       behind k.LBracket after_access D
-      (seq (one k.Text none D) (λ name. behind k.RBracket after_access D (nothing (access.Field name) after_access D) (alive_empty (access.Field name)))
-      (λ name. free _ after_access) (λ name. go_one k.RBracket (λ _. alive_empty (access.Field name))))
-      (go_one k.Text (λ name. go_one k.RBracket (λ _. alive_empty (access.Field name))))
+      (seq (one k.Text none D) (λ name. behind k.RBracket after_access D (nothing (access.Field (Quoted name)) after_access D) (alive_empty (access.Field (Quoted name))))
+      (λ name. free _ after_access) (λ name. go_one k.RBracket (λ _. alive_empty (access.Field (Quoted name)))))
+      (go_one k.Text (λ name. go_one k.RBracket (λ _. alive_empty (access.Field (Quoted name)))))
 
-  variable_rule : (b : Bool) (first : Token) → Rule (variable_by b first) (variable_by b first) (r.variable_by b first) (r.variable_by b first) after_named D
-  variable_rule true first = nothing (tree.Variable first) after_named D
-  variable_rule false first = refused after_named D
+  variable_rule : (found : Option Variable) → Rule (variable_by found) (variable_by found) (r.variable_by found) (r.variable_by found) after_named D
+  variable_rule (Some variable) = nothing (tree.Variable variable) after_named D
+  variable_rule None = refused after_named D
 
 -- ---- readers that are alike
 
-abbrev pieces_behind : Parser (List Token)
+abbrev pub pieces_behind : Parser (List Token)
 pieces_behind = reading.loop ended_by goes_on (λ ended. piece) false
 
-regrouped : {A B C : Type 0} (o : Outcome A) (f : A → Parser B) (h : B → Parser C) → and_then o (λ x. f x >>= h) ≡ and_then (and_then o f) h
+pub regrouped : {A B C : Type 0} (o : Outcome A) (f : A → Parser B) (h : B → Parser C) → and_then o (λ x. f x >>= h) ≡ and_then (and_then o f) h
 regrouped (Read x rest) f h = refl
 regrouped (Stop w rest) f h = refl
 
@@ -104,7 +113,7 @@ module _ (o o' : Bool) (E F : Lang ExprTree) (p q : Parser ExprTree) (D : Levels
   unfolding r.next_argument
   next_argument_rule h = behind k.Comma after_expr D (i.rule h) (i.alive h)
 
-  arguments_rule : o ≡ true → Rule (g.arguments o E) (g.arguments o' F) (r.arguments o p) (r.arguments o' q) after_arguments D
+  pub arguments_rule : o ≡ true → Rule (g.arguments o E) (g.arguments o' F) (r.arguments o p) (r.arguments o' q) after_arguments D
   unfolding r.arguments r.arguments_behind same_kind
   arguments_rule h =
       or (lang.◌>>=◌ E (a.listed o E)) (lang.◌>>=◌ F (a.listed o' F)) (lang.empty []) (lang.empty []) _ _ _ _ firsts after_arguments D
@@ -119,7 +128,7 @@ module _ (o o' : Bool) (E F : Lang ExprTree) (p q : Parser ExprTree) (D : Levels
       (starts_both E (a.listed o E) firsts (i.starts h))
       (leads_empty [] firsts after_arguments refl)
 
-  called_rule : o ≡ true → Rule (g.called o E) (g.called o' F) (r.called o p) (r.called o' q) none D
+  pub called_rule : o ≡ true → Rule (g.called o E) (g.called o' F) (r.called o p) (r.called o' q) none D
   unfolding r.called same_kind
   called_rule h =
       behind k.LParen none D
@@ -129,7 +138,7 @@ module _ (o o' : Bool) (E F : Lang ExprTree) (p q : Parser ExprTree) (D : Levels
   entry_rule : o ≡ true → Rule (g.entry o E) (g.entry o' F) (r.entry o p) (r.entry o' q) after_expr D
   unfolding r.entry
   entry_rule h =
-      seq (of keys none D)
+      seq (key_rule D)
       (λ key. behind k.Colon after_expr D
       (seq (i.rule h) (λ x. nothing (entry_of key x) after_expr D) (λ x. leads_empty (entry_of key x) after_expr after_expr refl) (λ x. alive_empty (entry_of key x)))
       (a.alive_behind_key o E (i.alive h) key))
@@ -140,7 +149,7 @@ module _ (o o' : Bool) (E F : Lang ExprTree) (p q : Parser ExprTree) (D : Levels
   unfolding r.next_entry
   next_entry_rule h = behind k.Comma after_expr D (entry_rule h) (a.alive_entry o E (i.alive h))
 
-  entries_rule : o ≡ true → Rule (g.entries o E) (g.entries o' F) (r.entries o p) (r.entries o' q) after_entries D
+  pub entries_rule : o ≡ true → Rule (g.entries o E) (g.entries o' F) (r.entries o p) (r.entries o' q) after_entries D
   unfolding r.entries r.entries_behind same_kind
   entries_rule h =
       or (lang.◌>>=◌ (g.entry o E) (a.entered o E)) (lang.◌>>=◌ (g.entry o' F) (a.entered o' F)) (lang.empty []) (lang.empty []) _ _ _ _ keys after_entries D
@@ -157,32 +166,32 @@ module _ (o o' : Bool) (E F : Lang ExprTree) (p q : Parser ExprTree) (D : Levels
 
   -- ---- names
 
-  call_rule : (name : PathTree) → o ≡ true → Rule (call_behind o E name) (call_behind o' F name) (r.call_of o p name) (r.call_of o' q name) after_named D
+  pub call_rule : (name : PathTree) → o ≡ true → Rule (call_behind o E name) (call_behind o' F name) (r.call_of o p name) (r.call_of o' q name) after_named D
   unfolding r.call_of
   call_rule name h = seq (called_rule h) (λ found. nothing (tree.Call name found) after_named D) (λ found. free _ after_named) (λ found. alive_empty (tree.Call name found))
 
   call_or_variable_rule : (first : Token) (ts : List Token) → Rule (behind_by false o E first ts) (behind_by false o' F first ts) (r.call_or_variable o p (path_of first ts)) (r.call_or_variable o' q (path_of first ts)) after_named D
   unfolding r.call_or_variable r.alone same_kind
   call_or_variable_rule first ts =
-      gated o o' (call_behind o E (path_of first ts)) (call_behind o' F (path_of first ts)) _ _ _ _ _ _ (only k.LParen) after_named D i.wide (call_rule (path_of first ts)) (variable_rule D (is_variable first ts) first)
+      gated o o' (call_behind o E (path_of first ts)) (call_behind o' F (path_of first ts)) _ _ _ _ _ _ (only k.LParen) after_named D i.wide (call_rule (path_of first ts)) (variable_rule D (variable_at first ts))
       (a.starts_call o E (path_of first ts))
-      (leads_variable (is_variable first ts) first)
+      (leads_variable (variable_at first ts))
       (λ d. opening_gate o' (call_behind o' F (path_of first ts)) (only k.LParen) (i.deeper d) (a.opening_call o' F (path_of first ts)))
       i.alike
 
-  behind_rule : (b : Bool) (first : Token) (ts : List Token) → Rule (behind_by b o E first ts) (behind_by b o' F first ts) (r.named_as o p (name_by b first ts)) (r.named_as o' q (name_by b first ts)) after_named D
+  pub behind_rule : (b : Bool) (first : Token) (ts : List Token) → Rule (behind_by b o E first ts) (behind_by b o' F first ts) (r.named_as o p (name_by b first ts)) (r.named_as o' q (name_by b first ts)) after_named D
   behind_rule true first ts = nothing (tree.Uid (uid_of first ts)) after_named D
   behind_rule false first ts = call_or_variable_rule first ts
 
-  leads_behind : (b : Bool) (first : Token) (ts : List Token) → Leads (behind_by b o E first ts) (only k.Colons) after_named
+  pub leads_behind : (b : Bool) (first : Token) (ts : List Token) → Leads (behind_by b o E first ts) (only k.Colons) after_named
   unfolding same_kind
   leads_behind true first ts = leads_empty (tree.Uid (uid_of first ts)) (only k.Colons) after_named refl
   leads_behind false first ts =
-      leads_or (lang.gate o (call_behind o E (path_of first ts))) (variable_by (is_variable first ts) first) (only k.Colons) after_named
+      leads_or (lang.gate o (call_behind o E (path_of first ts))) (variable_by (variable_at first ts)) (only k.Colons) after_named
       (leads_starts (lang.gate o (call_behind o E (path_of first ts))) (only k.LParen) (only k.Colons) after_named (starts_gate o (call_behind o E (path_of first ts)) (only k.LParen) (a.starts_call o E (path_of first ts))) refl)
-      (leads_variable_colons (is_variable first ts) first)
+      (leads_variable_colons (variable_at first ts))
 
-  behind_first_rule : (first : Token) → Rule (lang.◌>>=◌ segments (behind_pieces o E first)) (lang.◌>>=◌ segments (behind_pieces o' F first)) (r.named_behind o p first) (r.named_behind o' q first) after_named D
+  pub behind_first_rule : (first : Token) → Rule (lang.◌>>=◌ segments (behind_pieces o E first)) (lang.◌>>=◌ segments (behind_pieces o' F first)) (r.named_behind o p first) (r.named_behind o' q first) after_named D
   unfolding r.named_behind r.name_behind
   behind_first_rule first =
       read_alike (fun_ext (λ ts. regrouped (pieces_behind ts) _ (r.named_as o p))) (fun_ext (λ ts. regrouped (pieces_behind ts) _ (r.named_as o' q)))
@@ -229,7 +238,7 @@ module _ (o o' : Bool) (E F : Lang ExprTree) (p q : Parser ExprTree) (D : Levels
       (leads_or (g.set o E) (g.braced o E) (only k.LParen) after_named
       (leads_starts (g.set o E) (only k.LBracket) (only k.LParen) after_named (a.starts_set o E) refl) (leads_starts (g.braced o E) (only k.LBrace) (only k.LParen) after_named (a.starts_braced o E) refl))
 
-  primary_rule : Rule (g.primary o E) (g.primary o' F) (r.primary o p) (r.primary o' q) after_named D
+  pub primary_rule : Rule (g.primary o E) (g.primary o' F) (r.primary o p) (r.primary o' q) after_named D
   unfolding r.primary
   primary_rule =
       or (g.named o E) (g.named o' F) (a.other o E) (a.other o' F) _ _ _ _ identifiers after_named D named_rule
@@ -243,11 +252,11 @@ module _ (o o' : Bool) (E F : Lang ExprTree) (p q : Parser ExprTree) (D : Levels
 
   -- ---- Member
 
-  some_rule : o ≡ true → Rule (a.some_called o E) (a.some_called o' F) (r.some_called o p) (r.some_called o' q) after_access D
+  pub some_rule : o ≡ true → Rule (a.some_called o E) (a.some_called o' F) (r.some_called o p) (r.some_called o' q) after_access D
   unfolding r.some_called
   some_rule h = giving Some after_access D (called_rule h)
 
-  maybe_called_rule : Rule (g.maybe_called o E) (g.maybe_called o' F) (r.maybe_called o p) (r.maybe_called o' q) after_access D
+  pub maybe_called_rule : Rule (g.maybe_called o E) (g.maybe_called o' F) (r.maybe_called o p) (r.maybe_called o' q) after_access D
   unfolding r.maybe_called same_kind
   maybe_called_rule =
       gated o o' (a.some_called o E) (a.some_called o' F) (lang.empty None) (lang.empty None) _ _ _ _ (only k.LParen) after_access D i.wide some_rule (nothing None after_access D)
@@ -266,7 +275,7 @@ module _ (o o' : Bool) (E F : Lang ExprTree) (p q : Parser ExprTree) (D : Levels
       (a.alive_behind_name o E))
       (a.alive_behind_dot o E)
 
-  accessing_rule : Rule (a.accessing o E) (a.accessing o' F) (r.accessing o p) (r.accessing o' q) after_access D
+  pub accessing_rule : Rule (a.accessing o E) (a.accessing o' F) (r.accessing o p) (r.accessing o' q) after_access D
   unfolding r.accessing same_kind
   accessing_rule =
       or (g.dotted o E) (g.dotted o' F) g.indexed g.indexed _ _ _ _ (only k.Dot) after_access D dotted_rule (indexed_rule D)
@@ -281,7 +290,7 @@ module _ (o o' : Bool) (E F : Lang ExprTree) (p q : Parser ExprTree) (D : Levels
 
   -- ---- operators
 
-  signed_rule : (sign : Kind) (make : ExprTree → ExprTree) → apart primary_firsts (only sign) ≡ true → (n : ℕ) → Rule (g.signed o E sign make n) (g.signed o' F sign make n) (r.signed o p sign make n) (r.signed o' q sign make n) after_member D
+  pub signed_rule : (sign : Kind) (make : ExprTree → ExprTree) → apart primary_firsts (only sign) ≡ true → (n : ℕ) → Rule (g.signed o E sign make n) (g.signed o' F sign make n) (r.signed o p sign make n) (r.signed o' q sign make n) after_member D
   unfolding r.signed
   signed_rule sign make apart zero = member_rule
   signed_rule sign make apart (suc n) =
@@ -297,7 +306,7 @@ module _ (o o' : Bool) (E F : Lang ExprTree) (p q : Parser ExprTree) (D : Levels
 abbrev nots : Bool → Lang ExprTree → Lang ExprTree
 nots o E = lang.◌>>◌ (lang.one k.Not) (a.behind_sign o E k.Not tree.Not 3)
 
-abbrev not_or_minuses : Bool → Lang ExprTree → Lang ExprTree
+abbrev pub not_or_minuses : Bool → Lang ExprTree → Lang ExprTree
 not_or_minuses o E = lang.◌or◌ (nots o E) (a.minuses o E)
 
 to_unary : (o : Bool) (E : Lang ExprTree) (ts : List Token) (x : ExprTree) → not_or_minuses o E ts x → g.unary o E ts x
@@ -309,7 +318,7 @@ from_unary o E ts x (inl (inl d)) = inl d
 from_unary o E ts x (inl (inr d)) = inr (inr d)
 from_unary o E ts x (inr d) = inr d
 
-same_unary : (o : Bool) (E : Lang ExprTree) → Same (not_or_minuses o E) (g.unary o E)
+pub same_unary : (o : Bool) (E : Lang ExprTree) → Same (not_or_minuses o E) (g.unary o E)
 same_unary o E = record { to = to_unary o E; from = from_unary o E }
 
 module _ (o o' : Bool) (E F : Lang ExprTree) (p q : Parser ExprTree) (D : Levels) (i : Inner o o' E F p q D) where
@@ -324,28 +333,28 @@ module _ (o o' : Bool) (E F : Lang ExprTree) (p q : Parser ExprTree) (D : Levels
       (starts_one k.Not (λ _. a.behind_sign o E k.Not tree.Not 3))
       (leads_starts (a.minuses o E) minus_firsts (only k.Not) after_member (a.starts_minuses o E) refl)
 
-  unary_rule : Rule (g.unary o E) (g.unary o' F) (r.unary o p) (r.unary o' q) after_member D
+  pub unary_rule : Rule (g.unary o E) (g.unary o' F) (r.unary o p) (r.unary o' q) after_member D
   unary_rule = same (not_or_minuses o E) (g.unary o E) (not_or_minuses o' F) (g.unary o' F) (r.unary o p) (r.unary o' q) after_member D (same_unary o E) (same_unary o' F) not_or_minuses_rule
 
-  factor_rule : Rule (a.factor o E) (a.factor o' F) (r.factor o p) (r.factor o' q) after_member D
+  pub factor_rule : Rule (a.factor o E) (a.factor o' F) (r.factor o p) (r.factor o' q) after_member D
   unfolding r.factor
   factor_rule = behind k.Star after_member D unary_rule (a.alive_unary o E)
 
-  product_rule : Rule (g.product o E) (g.product o' F) (r.product o p) (r.product o' q) after_product D
+  pub product_rule : Rule (g.product o E) (g.product o' F) (r.product o p) (r.product o' q) after_product D
   unfolding r.product r.factors same_kind
   product_rule =
       chain (g.unary o E) (g.unary o' F) _ _ (a.factor o E) (a.factor o' F) _ _ tree.Product (only k.Star) after_member after_member after_product D refl refl refl refl refl refl
       (starts_one k.Star (λ _. g.unary o E)) unary_rule factor_rule
 
-  term_rule : Rule (g.term o E) (g.term o' F) (r.term o p) (r.term o' q) after_product D
+  pub term_rule : Rule (g.term o E) (g.term o' F) (r.term o p) (r.term o' q) after_product D
   unfolding r.term
   term_rule =
-      seq (of signs none D)
+      seq (symbol_rule sign_of none D)
       (λ sign. seq product_rule (λ x. nothing (term_of sign x) after_product D) (λ x. leads_empty (term_of sign x) after_product after_product refl) (λ x. alive_empty (term_of sign x)))
       (λ sign. free _ after_product)
       (a.alive_behind_term o E)
 
-  sum_rule : Rule (g.sum o E) (g.sum o' F) (r.sum o p) (r.sum o' q) after_sum D
+  pub sum_rule : Rule (g.sum o E) (g.sum o' F) (r.sum o p) (r.sum o' q) after_sum D
   unfolding r.sum r.terms
   sum_rule =
       chain (g.product o E) (g.product o' F) _ _ (g.term o E) (g.term o' F) _ _ tree.Sum signs after_product after_product after_sum D refl refl refl refl refl refl
@@ -353,27 +362,27 @@ module _ (o o' : Bool) (E F : Lang ExprTree) (p q : Parser ExprTree) (D : Levels
 
   -- ---- relations
 
-  compared_rule : (x : ExprTree) → Rule (g.compared o E x) (g.compared o' F x) (r.compared o p x) (r.compared o' q x) after_relation D
+  pub compared_rule : (x : ExprTree) → Rule (g.compared o E x) (g.compared o' F x) (r.compared o p x) (r.compared o' q x) after_relation D
   unfolding r.compared
   compared_rule x =
-      seq (of comparisons none D)
+      seq (symbol_rule comparison_of none D)
       (λ operator. seq sum_rule (λ y. nothing (tree.Compare x operator y) after_relation D) (λ y. leads_empty (tree.Compare x operator y) after_sum after_relation refl) (λ y. alive_empty (tree.Compare x operator y)))
       (λ operator. free _ after_relation)
       (a.alive_behind_comparison o E x)
 
-  has_rule : (x : ExprTree) → Rule (g.has o E x) (g.has o' F x) (r.has o p x) (r.has o' q x) after_relation D
+  pub has_rule : (x : ExprTree) → Rule (g.has o E x) (g.has o' F x) (r.has o p x) (r.has o' q x) after_relation D
   unfolding r.has
-  has_rule x = behind k.Has after_relation D (giving (λ name. tree.Has x name) after_relation D (of keys none D)) (go (begin_of keys k.Ident refl) (λ name. alive_empty (tree.Has x name)))
+  has_rule x = behind k.Has after_relation D (giving (λ name. tree.Has x name) after_relation D (key_rule D)) (go a.alive_key (λ name. alive_empty (tree.Has x name)))
 
-  like_rule : (x : ExprTree) → Rule (g.like o E x) (g.like o' F x) (r.like o p x) (r.like o' q x) after_relation D
+  pub like_rule : (x : ExprTree) → Rule (g.like o E x) (g.like o' F x) (r.like o p x) (r.like o' q x) after_relation D
   unfolding r.like
   like_rule x = behind k.Like after_relation D (giving (λ text. tree.Like x text) after_relation D (of patterns none D)) (go (begin_of patterns k.Text refl) (λ text. alive_empty (tree.Like x text)))
 
-  inside_rule : Rule (g.inside o E) (g.inside o' F) (r.inside o p) (r.inside o' q) after_sum D
+  pub inside_rule : Rule (g.inside o E) (g.inside o' F) (r.inside o p) (r.inside o' q) after_sum D
   unfolding r.inside
   inside_rule = behind k.In after_sum D sum_rule (a.alive_sum o E)
 
-  typed_rule : (x : ExprTree) → Rule (g.typed o E x) (g.typed o' F x) (r.typed o p x) (r.typed o' q x) after_relation D
+  pub typed_rule : (x : ExprTree) → Rule (g.typed o E x) (g.typed o' F x) (r.typed o p x) (r.typed o' q x) after_relation D
   unfolding r.typed r.maybe_inside same_kind
   typed_rule x =
       behind k.Is after_relation D
@@ -386,13 +395,13 @@ module _ (o o' : Bool) (E F : Lang ExprTree) (p q : Parser ExprTree) (D : Levels
       (a.alive_behind_type o E x))
       (go alive_path (a.alive_behind_type o E x))
 
-  leads_typed : (x : ExprTree) (ks : Kinds) → apart (only k.Is) ks ≡ true → within ks after_relation ≡ true → Leads (a.typed_or_alone o E x) ks after_relation
+  pub leads_typed : (x : ExprTree) (ks : Kinds) → apart (only k.Is) ks ≡ true → within ks after_relation ≡ true → Leads (a.typed_or_alone o E x) ks after_relation
   leads_typed x ks is w = leads_or (g.typed o E x) (lang.empty x) ks after_relation (leads_one k.Is ks after_relation is) (leads_empty x ks after_relation w)
 
-  leads_like : (x : ExprTree) (ks : Kinds) → apart (only k.Like) ks ≡ true → apart (only k.Is) ks ≡ true → within ks after_relation ≡ true → Leads (a.like_or o E x) ks after_relation
+  pub leads_like : (x : ExprTree) (ks : Kinds) → apart (only k.Like) ks ≡ true → apart (only k.Is) ks ≡ true → within ks after_relation ≡ true → Leads (a.like_or o E x) ks after_relation
   leads_like x ks like is w = leads_or (g.like o E x) (a.typed_or_alone o E x) ks after_relation (leads_one k.Like ks after_relation like) (leads_typed x ks is w)
 
-  leads_tested : (x : ExprTree) (ks : Kinds) → apart (only k.Has) ks ≡ true → apart (only k.Like) ks ≡ true → apart (only k.Is) ks ≡ true → within ks after_relation ≡ true → Leads (a.tested o E x) ks after_relation
+  pub leads_tested : (x : ExprTree) (ks : Kinds) → apart (only k.Has) ks ≡ true → apart (only k.Like) ks ≡ true → apart (only k.Is) ks ≡ true → within ks after_relation ≡ true → Leads (a.tested o E x) ks after_relation
   leads_tested x ks has like is w = leads_or (g.has o E x) (a.like_or o E x) ks after_relation (leads_one k.Has ks after_relation has) (leads_like x ks like is w)
 
   tested_rule : (x : ExprTree) → Rule (a.tested o E x) (a.tested o' F x) (r.tested o p x) (r.tested o' q x) after_relation D
@@ -405,13 +414,13 @@ module _ (o o' : Bool) (E F : Lang ExprTree) (p q : Parser ExprTree) (D : Levels
       (starts_one k.Like _) (leads_typed x (only k.Like) refl refl))
       (starts_one k.Has _) (leads_like x (only k.Has) refl refl refl)
 
-  related_rule : (x : ExprTree) → Rule (a.related o E x) (a.related o' F x) (r.related o p x) (r.related o' q x) after_relation D
+  pub related_rule : (x : ExprTree) → Rule (a.related o E x) (a.related o' F x) (r.related o p x) (r.related o' q x) after_relation D
   unfolding r.related same_kind
   related_rule x =
       or (g.compared o E x) (g.compared o' F x) (a.tested o E x) (a.tested o' F x) _ _ _ _ comparisons after_relation D (compared_rule x) (tested_rule x)
       (a.starts_compared o E x) (leads_tested x comparisons refl refl refl refl)
 
-  relation_rule : Rule (g.relation o E) (g.relation o' F) (r.relation o p) (r.relation o' q) after_relation D
+  pub relation_rule : Rule (g.relation o E) (g.relation o' F) (r.relation o p) (r.relation o' q) after_relation D
   unfolding r.relation same_kind
   relation_rule =
       seq sum_rule related_rule
@@ -419,17 +428,17 @@ module _ (o o' : Bool) (E F : Lang ExprTree) (p q : Parser ExprTree) (D : Levels
       (leads_starts (g.compared o E x) comparisons after_sum after_relation (a.starts_compared o E x) refl) (leads_tested x after_sum refl refl refl refl))
       (a.alive_related o E)
 
-  next_and_rule : Rule (a.next_and o E) (a.next_and o' F) (r.next_and o p) (r.next_and o' q) after_relation D
+  pub next_and_rule : Rule (a.next_and o E) (a.next_and o' F) (r.next_and o p) (r.next_and o' q) after_relation D
   unfolding r.next_and
   next_and_rule = behind k.And after_relation D relation_rule (a.alive_relation o E)
 
-  conjunction_rule : Rule (g.conjunction o E) (g.conjunction o' F) (r.conjunction o p) (r.conjunction o' q) after_conjunction D
+  pub conjunction_rule : Rule (g.conjunction o E) (g.conjunction o' F) (r.conjunction o p) (r.conjunction o' q) after_conjunction D
   unfolding r.conjunction r.ands same_kind
   conjunction_rule =
       chain (g.relation o E) (g.relation o' F) _ _ (a.next_and o E) (a.next_and o' F) _ _ tree.And (only k.And) after_relation after_relation after_conjunction D refl refl refl refl refl refl
       (starts_one k.And (λ _. g.relation o E)) relation_rule next_and_rule
 
-  next_or_rule : Rule (a.next_or o E) (a.next_or o' F) (r.next_or o p) (r.next_or o' q) after_conjunction D
+  pub next_or_rule : Rule (a.next_or o E) (a.next_or o' F) (r.next_or o p) (r.next_or o' q) after_conjunction D
   unfolding r.next_or
   next_or_rule = behind k.Or after_conjunction D conjunction_rule (a.alive_conjunction o E)
 
@@ -441,21 +450,21 @@ module _ (o o' : Bool) (E F : Lang ExprTree) (p q : Parser ExprTree) (D : Levels
 
   -- ---- a level
 
-  consequent_rule : o ≡ true → Rule (a.then_expr o E) (a.then_expr o' F) (r.consequent o p) (r.consequent o' q) after_expr D
+  pub consequent_rule : o ≡ true → Rule (a.then_expr o E) (a.then_expr o' F) (r.consequent o p) (r.consequent o' q) after_expr D
   unfolding r.consequent
   consequent_rule h = behind k.Then after_expr D (i.rule h) (i.alive h)
 
-  alternative_rule : o ≡ true → Rule (a.else_expr o E) (a.else_expr o' F) (r.alternative o p) (r.alternative o' q) after_expr D
+  pub alternative_rule : o ≡ true → Rule (a.else_expr o E) (a.else_expr o' F) (r.alternative o p) (r.alternative o' q) after_expr D
   unfolding r.alternative
   alternative_rule h = behind k.Else after_expr D (i.rule h) (i.alive h)
 
-  decided_rule : o ≡ true → (test consequent : ExprTree) → Rule (a.decided o E test consequent) (a.decided o' F test consequent) (r.decided o p test consequent) (r.decided o' q test consequent) after_expr D
+  pub decided_rule : o ≡ true → (test consequent : ExprTree) → Rule (a.decided o E test consequent) (a.decided o' F test consequent) (r.decided o p test consequent) (r.decided o' q test consequent) after_expr D
   unfolding r.decided
   decided_rule h test consequent =
       seq (alternative_rule h) (λ alternative. nothing (tree.If test consequent alternative) after_expr D) (λ alternative. leads_empty (tree.If test consequent alternative) after_expr after_expr refl)
       (λ alternative. alive_empty (tree.If test consequent alternative))
 
-  tried_rule : o ≡ true → (test : ExprTree) → Rule (a.tried o E test) (a.tried o' F test) (r.tried o p test) (r.tried o' q test) after_expr D
+  pub tried_rule : o ≡ true → (test : ExprTree) → Rule (a.tried o E test) (a.tried o' F test) (r.tried o p test) (r.tried o' q test) after_expr D
   unfolding r.tried same_kind
   tried_rule h test =
       seq (consequent_rule h) (decided_rule h test) (λ consequent. leads_first (only k.Else) after_expr after_expr (starts_one k.Else (λ _. E)) refl) (a.alive_decided o E (i.alive h) test)
@@ -504,7 +513,7 @@ keeps_deeper n m TooDeep h = omega (arith, h)
 positive_same : (n m : ℕ) → n ≡ m → is_positive n ≡ is_positive m
 positive_same n m h = ap is_positive h
 
-one_deeper : (n m : ℕ) → Rule (g.expr n) (g.expr m) (r.expr n) (r.expr m) after_expr (levels n m) → Rule (g.expr n) (g.expr m) (r.expr n) (r.expr m) after_expr (levels (suc n) (suc m))
+pub one_deeper : (n m : ℕ) → Rule (g.expr n) (g.expr m) (r.expr n) (r.expr m) after_expr (levels n m) → Rule (g.expr n) (g.expr m) (r.expr n) (r.expr m) after_expr (levels (suc n) (suc m))
 one_deeper n m rule = record {
   sound = rule.sound;
   complete = rule.complete;

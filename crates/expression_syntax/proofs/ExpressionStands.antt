@@ -1,5 +1,5 @@
 -- An expression's tree is made of the tokens that derive it: one rule a production.
-use Rattle.std.proofs.Common.{◌≡◌, ℕ, zero, suc, Bool, true, List, [], ◌∷◌, Option, Some, None, refl}
+use Rattle.std.proofs.Common.{ℕ, zero, suc, Bool, List, [], ◌∷◌, Option, Some, None, Result, Ok, Err, IfOk}
 use Rattle.std.specs.List.{AllByRecursion}
 use Rattle.policy_tokens.specs.declared.token.Kind.{Kind}
 use Rattle.policy_tokens.specs.declared.token.Kind.TheVariants as k
@@ -7,28 +7,23 @@ use Rattle.policy_tokens.specs.declared.token.Token.{Token}
 use Rattle.token_readers.specs.declared.tree.PathTree.{PathTree}
 use Rattle.expression_syntax.specs.declared.tree.Access.TheVariants as access
 use Rattle.expression_syntax.specs.declared.tree.ExprTree.{ExprTree}
+use Rattle.expression_syntax.specs.declared.tree.KeyTree.TheVariants.{Word, Quoted}
 use Rattle.expression_syntax.specs.declared.tree.ExprTree.TheVariants as tree
-use Rattle.token_readers.specs.Kinds.{Kinds, only, same_kind}
+use Rattle.token_readers.specs.Kinds.{only}
 use Rattle.token_readers.specs.Lang.{Lang}
 use Rattle.token_readers.specs.Lang as lang
 use Rattle.token_readers.specs.Grammar.{identifiers}
+use Rattle.token_readers.specs.Reads.{ReadsWithin}
+use Rattle.token_readers.specs.declared.fault.SyntaxFault.{SyntaxFault}
 use Rattle.expression_syntax.specs.Expressions as g
-use Rattle.expression_syntax.specs.Expressions.{booleans, variables, keys, patterns, signs, comparisons, joined, accessed, is_in, is_positive, expr}
+use Rattle.expression_syntax.specs.Expressions.{boolean_of, variable_of, sign_of, comparison_of, patterns, joined, accessed, is_in, is_positive, expr}
 use Rattle.expression_syntax.specs.Stands.{TokenStands, PathStands, ExprStands}
-use Rattle.token_readers.proofs.Sets.{within, is_within}
 use Rattle.token_readers.proofs.StandsLemmas.{Makes, token_in, nothing_in, both_in, past_in, giving_in, or_in, maybe_in, many_in, gate_in, path_in, uid_in}
+use Rattle.expression_syntax.proofs.SymbolRules.{symbol_in}
 use Rattle.expression_syntax.proofs.TreeStands as form
-use Rattle.expression_syntax.proofs.TreeStands.{Tree, Trees, AccessStands, EntryStands, TermStands}
-
-text_is_key : within (only k.Text) keys ≡ true
-unfolding same_kind
-text_is_key = refl
+use Rattle.expression_syntax.proofs.TreeStands.{Tree, Trees, KeyStands, AccessStands, EntryStands, TermStands}
 
 module _ (all : List Token) where
-  -- a token of fewer kinds
-  wider : (ks js : Kinds) → within ks js ≡ true → (token : Token) → TokenStands ks all token → TokenStands js all token
-  wider ks js w token h = (h.0, is_within ks js w token.kind h.1)
-
   joined_stands : {A : Type 0} (make : ExprTree → List A → ExprTree) (P : A → Type 0) → ((x : ExprTree) (more : List A) → Tree all x → AllByRecursion P more → Tree all (make x more))
       → (x : ExprTree) (more : List A) → Tree all x → AllByRecursion P more → Tree all (joined make x more)
   joined_stands make P each x [] h m = h
@@ -41,12 +36,16 @@ module _ (all : List Token) where
 
   literal_in : Makes all g.literal (Tree all)
   literal_in =
-      or_in all (giving_in all _ tree.Boolean (token_in all booleans) (form.of-Boolean all))
+      or_in all (giving_in all _ tree.Boolean (symbol_in all boolean_of) (λ value _. form.of-Boolean all value))
       (or_in all (giving_in all _ tree.Number (token_in all (only k.Number)) (form.of-Number all)) (giving_in all _ tree.Text (token_in all (only k.Text)) (form.of-Text all)))
+
+  key_in : Makes all g.key (KeyStands all)
+  key_in =
+      or_in all (giving_in all (KeyStands all) Word (token_in all identifiers) (λ t h. h)) (giving_in all (KeyStands all) Quoted (token_in all (only k.Text)) (λ t h. h))
 
   indexed_in : Makes all g.indexed (AccessStands all)
   indexed_in =
-      past_in all (both_in all (token_in all (only k.Text)) (λ name t. past_in all (nothing_in all _ (access.Field name) (wider (only k.Text) keys text_is_key name t, tt))))
+      past_in all (both_in all (token_in all (only k.Text)) (λ name t. past_in all (nothing_in all _ (access.Field (Quoted name)) (t, tt))))
 
   -- a method's arguments, or none for a field
   abbrev MaybeTrees : Option (List ExprTree) → Type 0
@@ -54,7 +53,7 @@ module _ (all : List Token) where
   MaybeTrees (Some xs) = Trees all xs
 
   accessed_stands : (name : Token) (found : Option (List ExprTree)) → TokenStands identifiers all name → MaybeTrees found → AccessStands all (accessed name found)
-  accessed_stands name None t s = (wider identifiers keys refl name t, tt)
+  accessed_stands name None t s = (t, tt)
   accessed_stands name (Some xs) t s = (t, form.of_trees all xs s)
 
   is_in_stands : (x : ExprTree) (path : PathTree) → Tree all x → PathStands all path → (y : ExprTree) → Tree all y → Tree all (is_in x path (Some y))
@@ -79,7 +78,7 @@ module _ (all : List Token) where
 
     named_in : Makes all (g.named may inner) (Tree all)
     named_in =
-        or_in all (giving_in all _ tree.Variable (token_in all variables) (form.of-Variable all))
+        or_in all (giving_in all _ tree.Variable (symbol_in all variable_of) (λ variable _. form.of-Variable all variable))
         (or_in all (giving_in all _ tree.Uid (uid_in all) (form.of-Uid all)) (gate_in all may (g.call may inner) call_in))
 
     parenthesized_in : Makes all (g.parenthesized may inner) (Tree all)
@@ -90,7 +89,7 @@ module _ (all : List Token) where
 
     entry_in : Makes all (g.entry may inner) (EntryStands all)
     entry_in =
-        both_in all (token_in all keys) (λ key t. past_in all (both_in all each (λ x h. nothing_in all _ (record { key = key; value = x }) (t, h.parts))))
+        both_in all key_in (λ key t. past_in all (both_in all each (λ x h. nothing_in all _ (record { key = key; value = x }) (t, h.parts))))
 
     entries_in : Makes all (g.entries may inner) (AllByRecursion (EntryStands all))
     entries_in =
@@ -136,16 +135,16 @@ module _ (all : List Token) where
         chain_in (g.unary may inner) (lang.◌>>◌ (lang.one k.Star) (g.unary may inner)) tree.Product (Tree all) unary_in (past_in all unary_in) (form.of-Product all)
 
     term_in : Makes all (g.term may inner) (TermStands all)
-    term_in = both_in all (token_in all signs) (λ sign t. both_in all product_in (λ x h. nothing_in all _ (record { sign = sign; operand = x }) (t, h.parts)))
+    term_in = both_in all (symbol_in all sign_of) (λ sign _. both_in all product_in (λ x h. nothing_in all _ (record { sign = sign; operand = x }) h.parts))
 
     sum_in : Makes all (g.sum may inner) (Tree all)
     sum_in = chain_in (g.product may inner) (g.term may inner) tree.Sum (TermStands all) product_in term_in (form.of-Sum all)
 
     compared_in : (x : ExprTree) → Tree all x → Makes all (g.compared may inner x) (Tree all)
-    compared_in x h = both_in all (token_in all comparisons) (λ operator t. both_in all sum_in (λ y s. nothing_in all _ (tree.Compare x operator y) (form.of-Compare all x operator y h t s)))
+    compared_in x h = both_in all (symbol_in all comparison_of) (λ operator _. both_in all sum_in (λ y s. nothing_in all _ (tree.Compare x operator y) (form.of-Compare all x operator y h s)))
 
     has_in : (x : ExprTree) → Tree all x → Makes all (g.has may inner x) (Tree all)
-    has_in x h = past_in all (both_in all (token_in all keys) (λ name t. nothing_in all _ (tree.Has x name) (form.of-Has all x name h t)))
+    has_in x h = past_in all (both_in all key_in (λ name t. nothing_in all _ (tree.Has x name) (form.of-Has all x name h t)))
 
     like_in : (x : ExprTree) → Tree all x → Makes all (g.like may inner x) (Tree all)
     like_in x h = past_in all (both_in all (token_in all patterns) (λ text t. nothing_in all _ (tree.Like x text) (form.of-Like all x text h t)))
@@ -185,5 +184,6 @@ module _ (all : List Token) where
   expr_in zero ts x d i = absurd d
   expr_in (suc levels) ts x d i = level_in (is_positive levels) (expr levels) (expr_in levels) ts x d i
 
-pub expr_stands : (levels : ℕ) (ts : List Token) (x : ExprTree) → expr levels ts x → ExprStands ts x
-expr_stands levels ts x d = expr_in ts levels ts x d (λ t h. h)
+pub answered_stands : (levels : ℕ) (K : Lang ExprTree) (ts : List Token) (answer : Result ExprTree SyntaxFault) → ReadsWithin (expr levels) K ts answer → IfOk answer (ExprStands ts)
+answered_stands levels K ts (Ok x) d = expr_in ts levels ts x d (λ t h. h)
+answered_stands levels K ts (Err e) d = tt

@@ -1,7 +1,11 @@
+pub mod Flat
+pub mod PartsOf
 pub mod Follows
+pub mod SymbolRules
 pub mod NamedRules
 pub mod Alive
 pub mod ExpressionRules
+pub mod ExpressionFirm
 pub mod ExpressionExact
 pub mod TreeStands
 pub mod ExpressionStands

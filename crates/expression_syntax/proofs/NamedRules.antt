@@ -1,20 +1,21 @@
 -- Variables, Uids and calls are read exactly, though they begin alike.
-use Rattle.std.proofs.Common.{◌≡◌, inl, inr, Bool, true, false, List, [], ◌∷◌, ◌++◌, refl, sym, ap, subst, ◌∙◌, append_assoc, append-nil}
+use Rattle.std.proofs.Common.{◌≡◌, inl, inr, Bool, true, false, List, [], ◌∷◌, ◌++◌, Option, Some, None, is_some, refl, sym, ap, subst, ◌∙◌, append_assoc, append-nil}
 use Rattle.policy_tokens.specs.declared.token.Token.{Token}
-use Rattle.policy_tokens.specs.declared.token.Kind.{Kind}
 use Rattle.policy_tokens.specs.declared.token.Kind.TheVariants as k
 use Rattle.token_readers.specs.declared.tree.PathTree.{PathTree}
 use Rattle.expression_syntax.specs.declared.tree.ExprTree.{ExprTree}
 use Rattle.expression_syntax.specs.declared.tree.ExprTree.TheVariants as tree
+use Rattle.expression_syntax.specs.declared.tree.Variable.{Variable}
 use Rattle.token_readers.specs.Kinds.{only, same_kind}
 use Rattle.token_readers.specs.Lang.{Lang, Joined}
 use Rattle.token_readers.specs.Lang as lang
 use Rattle.token_readers.specs.Grammar.{identifiers, path, uid}
 use Rattle.expression_syntax.specs.Expressions as g
-use Rattle.expression_syntax.specs.Expressions.{variables}
+use Rattle.expression_syntax.specs.Expressions.{known, variable_of}
 use Rattle.token_readers.specs.Reads.{Begins}
 use Rattle.token_readers.specs.Parsing.{pieces, is_text, ended_by, ends, uid_of}
-use Rattle.expression_syntax.specs.ExpressionReading.{path_of, is_variable}
+use Rattle.expression_syntax.specs.ExpressionReading.{path_of, variable_at}
+use Rattle.token_readers.proofs.Sets.{is_within}
 use Rattle.token_readers.proofs.Forms.{same_self, Leads, leads_empty}
 use Rattle.token_readers.proofs.Many.{looped}
 use Rattle.token_readers.proofs.More.{Same}
@@ -26,13 +27,13 @@ use Rattle.expression_syntax.proofs.Follows.{after_named}
 abbrev pub call_behind : Bool → Lang ExprTree → PathTree → Lang ExprTree
 call_behind o E name = lang.◌>>=◌ (g.called o E) (λ found. lang.empty (tree.Call name found))
 
-abbrev pub variable_by : Bool → Token → Lang ExprTree
-variable_by true first = lang.empty (tree.Variable first)
-variable_by false first = lang.never
+abbrev pub variable_by : Option Variable → Lang ExprTree
+variable_by (Some variable) = lang.empty (tree.Variable variable)
+variable_by None = lang.never
 
 abbrev pub behind_by : Bool → Bool → Lang ExprTree → Token → List Token → Lang ExprTree
 behind_by true o E first ts = lang.empty (tree.Uid (uid_of first ts))
-behind_by false o E first ts = lang.◌or◌ (lang.gate o (call_behind o E (path_of first ts))) (variable_by (is_variable first ts) first)
+behind_by false o E first ts = lang.◌or◌ (lang.gate o (call_behind o E (path_of first ts))) (variable_by (variable_at first ts))
 
 abbrev pub behind_pieces : Bool → Lang ExprTree → Token → List Token → Lang ExprTree
 behind_pieces o E first ts = behind_by (ends false ts) o E first ts
@@ -77,15 +78,15 @@ on_by false o E first front ts e d =
 pub on : (o : Bool) (E : Lang ExprTree) (first : Token) (front ts : List Token) → segments front ts → Begins (lang.◌>>=◌ segments (behind_pieces o E first)) front
 on o E first front ts d = on_by (ends false ts) o E first front ts refl d
 
-pub leads_variable : (b : Bool) (first : Token) → Leads (variable_by b first) (only k.LParen) after_named
+pub leads_variable : (found : Option Variable) → Leads (variable_by found) (only k.LParen) after_named
 unfolding same_kind
-leads_variable true first = leads_empty (tree.Variable first) (only k.LParen) after_named refl
-leads_variable false first = λ front a rest d h. absurd d
+leads_variable (Some variable) = leads_empty (tree.Variable variable) (only k.LParen) after_named refl
+leads_variable None = λ front a rest d h. absurd d
 
-pub leads_variable_colons : (b : Bool) (first : Token) → Leads (variable_by b first) (only k.Colons) after_named
+pub leads_variable_colons : (found : Option Variable) → Leads (variable_by found) (only k.Colons) after_named
 unfolding same_kind
-leads_variable_colons true first = leads_empty (tree.Variable first) (only k.Colons) after_named refl
-leads_variable_colons false first = λ front a rest d h. absurd d
+leads_variable_colons (Some variable) = leads_empty (tree.Variable variable) (only k.Colons) after_named refl
+leads_variable_colons None = λ front a rest d h. absurd d
 
 -- ---- the factored form is the production
 
@@ -155,16 +156,15 @@ as_call true E ts words back first xs x b s e d = record {
 }
 as_call false E ts words back first xs x b s e d = absurd d
 
-variable_is : (b : Bool) (first : Token) (back : List Token) (x : ExprTree) → variable_by b first back x → (b ≡ true) × (back ≡ []) × (x ≡ tree.Variable first)
-variable_is true first back x d = (refl, d.0, d.1)
-variable_is false first back x d = absurd d
-
 as_variable : (ts words back : List Token) (first : Token) (xs : List Token) (x : ExprTree) → Behind ts first xs words back → segments words xs
-    → variable_by (is_variable first xs) first back x → lang.◌giving◌ (lang.of variables) tree.Variable ts x
-as_variable ts words back first [] x b s d =
-    let v = variable_is (variables first.kind) first back x d in
-    let alone : ts ≡ b.head = b.whole ∙ ap (λ z. b.head ++ (z ++ back)) s ∙ ap (λ z. b.head ++ z) v.1 ∙ append-nil b.head in
-    record { front = ts; back = []; value = first; whole = sym (append-nil ts); first = (alone ∙ b.one.0, v.0); second = (refl, v.2) }
+    → variable_by (variable_at first xs) back x → lang.◌giving◌ (g.symbol variable_of) tree.Variable ts x
+as_variable ts words back first [] x b s d = stands (variable_of first.kind) refl d where
+  alone : back ≡ [] → ts ≡ first ∷ []
+  alone none = b.whole ∙ ap (λ z. b.head ++ (z ++ back)) s ∙ ap (λ z. b.head ++ z) none ∙ append-nil b.head ∙ b.one.0
+
+  stands : (found : Option Variable) → variable_of first.kind ≡ found → variable_by found back x → lang.◌giving◌ (g.symbol variable_of) tree.Variable ts x
+  stands (Some variable) e v = record { front = ts; back = []; value = variable; whole = sym (append-nil ts); first = (first, alone v.0, e); second = (refl, v.1) }
+  stands None e v = absurd v
 as_variable ts words back first (t ∷ more) x b s d = absurd d
 
 named_of : (b o : Bool) (E : Lang ExprTree) (ts words back : List Token) (first : Token) (xs : List Token) (x : ExprTree) → ends false xs ≡ b → Behind ts first xs words back → segments words xs
@@ -178,22 +178,17 @@ to_named o E ts x w =
     let s = w.second in
     named_of (ends false s.value) o E ts s.front s.back w.value s.value x refl (record { head = w.front; whole = w.whole ∙ ap (λ z. w.front ++ z) s.whole; one = w.first }) s.first s.second
 
-identifier_of : (kind : Kind) → variables kind ≡ true → identifiers kind ≡ true
-identifier_of k.Principal h = refl
-identifier_of k.Action h = refl
-identifier_of k.Resource h = refl
-identifier_of k.Context h = refl
-identifier_of _ h = absurd (cc)
-
-from_variable : (o : Bool) (E : Lang ExprTree) (ts : List Token) (x : ExprTree) → lang.◌giving◌ (lang.of variables) tree.Variable ts x → factored o E ts x
-from_variable o E ts x j = record {
-  front = j.front;
-  back = j.back;
-  value = j.value;
-  whole = j.whole;
-  first = (j.first.0, identifier_of j.value.kind j.first.1);
-  second = record { front = []; back = j.back; value = []; whole = refl; first = refl; second = inr (subst (λ b. variable_by b j.value j.back x) (sym j.first.1) j.second) };
-}
+from_variable : (o : Bool) (E : Lang ExprTree) (ts : List Token) (x : ExprTree) → lang.◌giving◌ (g.symbol variable_of) tree.Variable ts x → factored o E ts x
+from_variable o E ts x j =
+    let d = j.first in
+    record {
+      front = j.front;
+      back = j.back;
+      value = d.0;
+      whole = j.whole;
+      first = (d.1, is_within (known variable_of) identifiers refl d.0.kind (ap is_some d.2));
+      second = record { front = []; back = j.back; value = []; whole = refl; first = refl; second = inr (subst (λ found. variable_by found j.back x) (sym d.2) j.second) };
+    }
 
 from_named_uid : (o : Bool) (E : Lang ExprTree) (ts : List Token) (x : ExprTree) → lang.◌giving◌ uid tree.Uid ts x → factored o E ts x
 from_named_uid o E ts x j =

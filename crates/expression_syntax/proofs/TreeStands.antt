@@ -1,22 +1,25 @@
 -- A tree stands where what it is made of does.
-use Rattle.std.proofs.Common.{◌≡◌, sym, subst, List, [], ◌∷◌, ◌++◌}
+use Rattle.std.proofs.Common.{◌≡◌, Bool, sym, subst, List, [], ◌∷◌, ◌++◌}
 use Rattle.std.specs.List.{AllByRecursion, flat_map}
 use Rattle.policy_tokens.specs.declared.token.Kind.TheVariants as k
 use Rattle.policy_tokens.specs.declared.token.Token.{Token}
 use Rattle.token_readers.specs.declared.tree.PathTree.{PathTree}
 use Rattle.token_readers.specs.declared.tree.UidTree.{UidTree}
 use Rattle.expression_syntax.specs.declared.tree.Access.{Access}
+use Rattle.expression_syntax.specs.declared.tree.Comparison.{Comparison}
 use Rattle.expression_syntax.specs.declared.tree.Entry.{Entry}
+use Rattle.expression_syntax.specs.declared.tree.KeyTree.{KeyTree}
 use Rattle.expression_syntax.specs.declared.tree.Term.{Term}
 use Rattle.expression_syntax.specs.declared.tree.ExprTree.{ExprTree}
 use Rattle.expression_syntax.specs.declared.tree.ExprTree.TheVariants as t
+use Rattle.expression_syntax.specs.declared.tree.Variable.{Variable}
 use Rattle.token_readers.specs.Kinds.{Kinds, only}
 use Rattle.token_readers.specs.Grammar.{identifiers}
-use Rattle.expression_syntax.specs.Expressions.{booleans, variables, keys, patterns, comparisons}
-use Rattle.expression_syntax.specs.Parts.{Part, part, path_parts, uid_parts, parts_of, parts_of_access, parts_of_entry, parts_of_term}
+use Rattle.expression_syntax.specs.Expressions.{patterns}
+use Rattle.expression_syntax.specs.Parts.{Part, part, key_part, path_parts, uid_parts, parts_of, parts_of_access, parts_of_entry, parts_of_term}
 use Rattle.expression_syntax.specs.Stands.{TokenStands, PathStands, UidStands, ExprStands}
-use Rattle.expression_syntax.specs.inner.Flat.{all_both, flat_all, mapped_all}
-use Rattle.expression_syntax.specs.inner.PartsOf.{parts-Boolean, parts-Number, parts-Text, parts-Variable, parts-Uid, parts-Call, parts-Parentheses, parts-Set, parts-Record, parts-Member, parts-Not, parts-Minus, parts-Product, parts-Sum, parts-Compare, parts-Has, parts-Like, parts-Is, parts-IsIn, parts-And, parts-Or, parts-If}
+use Rattle.expression_syntax.proofs.Flat.{all_both, flat_all, mapped_all}
+use Rattle.expression_syntax.proofs.PartsOf.{parts-Boolean, parts-Number, parts-Text, parts-Variable, parts-Uid, parts-Call, parts-Parentheses, parts-Set, parts-Record, parts-Member, parts-Not, parts-Minus, parts-Product, parts-Sum, parts-Compare, parts-Has, parts-Like, parts-Is, parts-IsIn, parts-And, parts-Or, parts-If}
 
 module _ (ts : List Token) where
   abbrev Is : Part → Type 0
@@ -31,6 +34,9 @@ module _ (ts : List Token) where
 
   abbrev pub Trees : List ExprTree → Type 0
   Trees = AllByRecursion Tree
+
+  abbrev pub KeyStands : KeyTree → Type 0
+  KeyStands key = Is (key_part key)
 
   abbrev pub AccessStands : Access (List ExprTree) → Type 0
   AccessStands x = All (parts_of_access x)
@@ -57,8 +63,8 @@ module _ (ts : List Token) where
   one_token : (x : ExprTree) (ks : Kinds) (token : Token) → parts_of x ≡ part ks token ∷ [] → TokenStands ks ts token → Tree x
   one_token x ks token same h = made x (part ks token ∷ []) same (h, tt)
 
-  pub of-Boolean : (token : Token) → TokenStands booleans ts token → Tree (t.Boolean token)
-  of-Boolean token h = one_token (t.Boolean token) booleans token (parts-Boolean token) h
+  pub of-Boolean : (value : Bool) → Tree (t.Boolean value)
+  of-Boolean value = made (t.Boolean value) [] (parts-Boolean value) tt
 
   pub of-Number : (token : Token) → TokenStands (only k.Number) ts token → Tree (t.Number token)
   of-Number token h = one_token (t.Number token) (only k.Number) token (parts-Number token) h
@@ -66,8 +72,8 @@ module _ (ts : List Token) where
   pub of-Text : (token : Token) → TokenStands (only k.Text) ts token → Tree (t.Text token)
   of-Text token h = one_token (t.Text token) (only k.Text) token (parts-Text token) h
 
-  pub of-Variable : (token : Token) → TokenStands variables ts token → Tree (t.Variable token)
-  of-Variable token h = one_token (t.Variable token) variables token (parts-Variable token) h
+  pub of-Variable : (variable : Variable) → Tree (t.Variable variable)
+  of-Variable variable = made (t.Variable variable) [] (parts-Variable variable) tt
 
   pub of-Uid : (uid : UidTree) → UidStands ts uid → Tree (t.Uid uid)
   of-Uid uid h = made (t.Uid uid) (uid_parts uid) (parts-Uid uid) (h.1, of_path uid.path h.0)
@@ -105,11 +111,11 @@ module _ (ts : List Token) where
   of-Sum a terms h all =
       with_parts (t.Sum a terms) a (flat_map parts_of_term terms) (parts-Sum a terms) h (flat_all Is TermStands parts_of_term (λ x s. s) terms all)
 
-  pub of-Compare : (a : ExprTree) (token : Token) (b : ExprTree) → Tree a → TokenStands comparisons ts token → Tree b → Tree (t.Compare a token b)
-  of-Compare a token b h k s = with_parts (t.Compare a token b) a (part comparisons token ∷ parts_of b) (parts-Compare a token b) h (k, s.parts)
+  pub of-Compare : (a : ExprTree) (operator : Comparison) (b : ExprTree) → Tree a → Tree b → Tree (t.Compare a operator b)
+  of-Compare a operator b h s = with_parts (t.Compare a operator b) a (parts_of b) (parts-Compare a operator b) h s.parts
 
-  pub of-Has : (a : ExprTree) (token : Token) → Tree a → TokenStands keys ts token → Tree (t.Has a token)
-  of-Has a token h k = with_parts (t.Has a token) a (part keys token ∷ []) (parts-Has a token) h (k, tt)
+  pub of-Has : (a : ExprTree) (key : KeyTree) → Tree a → KeyStands key → Tree (t.Has a key)
+  of-Has a key h k = with_parts (t.Has a key) a (key_part key ∷ []) (parts-Has a key) h (k, tt)
 
   pub of-Like : (a : ExprTree) (token : Token) → Tree a → TokenStands patterns ts token → Tree (t.Like a token)
   of-Like a token h k = with_parts (t.Like a token) a (part patterns token ∷ []) (parts-Like a token) h (k, tt)

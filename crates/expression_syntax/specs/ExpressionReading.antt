@@ -9,17 +9,21 @@ use Rattle.token_readers.specs.declared.tree.Name.TheVariants as name
 use Rattle.expression_syntax.specs.declared.tree.Access.{Access}
 use Rattle.expression_syntax.specs.declared.tree.Access.TheVariants as access
 use Rattle.expression_syntax.specs.declared.tree.Entry.{Entry}
+use Rattle.expression_syntax.specs.declared.tree.KeyTree.{KeyTree}
+use Rattle.expression_syntax.specs.declared.tree.KeyTree.TheVariants.{Word, Quoted}
 use Rattle.expression_syntax.specs.declared.tree.Term.{Term}
 use Rattle.expression_syntax.specs.declared.tree.ExprTree.{ExprTree}
 use Rattle.expression_syntax.specs.declared.tree.ExprTree.TheVariants as tree
+use Rattle.expression_syntax.specs.declared.tree.Variable.{Variable}
 use Rattle.token_readers.specs.Kinds.{Kinds, only}
-use Rattle.token_readers.specs.Reading.{Parser, take, token, pure, refuse, ◌>>=◌, ◌>>◌, either, optional, many}
-use Rattle.token_readers.specs.Reading.{gate, too_deep}
+use Rattle.token_readers.specs.Reading.{Parser, Outcome, Read, Stop, Unexpected, take, token, pure, refuse, ◌>>=◌}
+use Rattle.token_readers.specs.Reading.{◌>>◌, either, optional, many, gate, too_deep}
 use Rattle.token_readers.specs.Grammar.{identifiers}
 use Rattle.token_readers.specs.Parsing.{path}
 pub use Rattle.token_readers.specs.Parsing.{path_of, name_by}
 unfoldable pub use Rattle.token_readers.specs.Parsing.{name_behind}
-use Rattle.expression_syntax.specs.Expressions.{booleans, variables, keys, patterns, signs, comparisons}
+use Rattle.expression_syntax.specs.Expressions.{boolean_of, variable_of, sign_of, comparison_of}
+use Rattle.expression_syntax.specs.Expressions.{booleans, keys, patterns, signs, comparisons}
 use Rattle.expression_syntax.specs.Expressions.{joined, accessed, is_in, is_positive}
 
 -- ---- what comes next
@@ -49,36 +53,47 @@ firsts k.Minus = true
 firsts k.If = true
 firsts kind = identifiers kind
 
+-- ---- tokens that stand for something by their kind alone
+
+abbrev pub symbol_by : {A : Type 0} → Option A → Token → List Token → Outcome A
+symbol_by None t ts = Stop Unexpected (t ∷ ts)
+symbol_by (Some a) t ts = Read a ts
+
+unfoldable pub symbol : {A : Type 0} → (Kind → Option A) → Parser A
+symbol meaning [] = Stop Unexpected []
+symbol meaning (t ∷ ts) = symbol_by (meaning t.kind) t ts
+
 -- ---- pieces that nest nothing
 
 unfoldable pub literal : Parser ExprTree
 literal =
-    either booleans (take booleans >>= (λ t. pure (tree.Boolean t)))
+    either booleans (symbol boolean_of >>= (λ value. pure (tree.Boolean value)))
     (either (only k.Number) (token k.Number >>= (λ t. pure (tree.Number t)))
     (token k.Text >>= (λ t. pure (tree.Text t))))
+
+unfoldable pub key : Parser KeyTree
+key =
+    either identifiers (take identifiers >>= (λ t. pure (Word t)))
+    (token k.Text >>= (λ t. pure (Quoted t)))
 
 unfoldable pub indexed : Parser (Access (List ExprTree))
 indexed = do
   token k.LBracket
   word ← token k.Text
   token k.RBracket
-  pure (access.Field word)
+  pure (access.Field (Quoted word))
 
-abbrev pub is_variable : Token → List Token → Bool
-is_variable first [] = variables first.kind
-is_variable first (t ∷ ts) = false
+-- the variable that a Path of one word is, if it is one
+abbrev pub variable_at : Token → List Token → Option Variable
+variable_at first [] = variable_of first.kind
+variable_at first (t ∷ ts) = None
 
-abbrev pub variable_by : Bool → Token → Parser ExprTree
-variable_by true first = pure (tree.Variable first)
-variable_by false first = refuse
+abbrev pub variable_by : Option Variable → Parser ExprTree
+variable_by (Some variable) = pure (tree.Variable variable)
+variable_by None = refuse
 
 unfoldable pub alone : PathTree → Parser ExprTree
-alone p = variable_by (is_variable p.first p.more) p.first
-
--- what a sign makes
-abbrev pub under : Kind → ExprTree → ExprTree
-under k.Not = tree.Not
-under _ = tree.Minus
+alone p = variable_by (variable_at p.first p.more)
 
 module _ (may : Bool) (inner : Parser ExprTree) where
   -- ---- lists
@@ -101,10 +116,10 @@ module _ (may : Bool) (inner : Parser ExprTree) where
 
   unfoldable pub entry : Parser (Entry ExprTree)
   entry = do
-    key ← take keys
+    name ← key
     token k.Colon
     x ← inner
-    pure (record { key = key; value = x })
+    pure (record { key = name; value = x })
 
   unfoldable pub next_entry : Parser (Entry ExprTree)
   next_entry = token k.Comma >> entry
@@ -214,7 +229,7 @@ module _ (may : Bool) (inner : Parser ExprTree) where
 
   unfoldable pub term : Parser (Term ExprTree)
   term = do
-    sign ← take signs
+    sign ← symbol sign_of
     x ← product
     pure (record { sign = sign; operand = x })
 
@@ -229,15 +244,15 @@ module _ (may : Bool) (inner : Parser ExprTree) where
 
   unfoldable pub compared : ExprTree → Parser ExprTree
   compared x = do
-    operator ← take comparisons
+    operator ← symbol comparison_of
     y ← sum
     pure (tree.Compare x operator y)
 
   unfoldable pub has : ExprTree → Parser ExprTree
   has x = do
     token k.Has
-    word ← take keys
-    pure (tree.Has x word)
+    name ← key
+    pure (tree.Has x name)
 
   unfoldable pub like : ExprTree → Parser ExprTree
   like x = do

@@ -1,37 +1,83 @@
 -- The grammar of expressions, over tokens: which trees a list of tokens derives. One definition for each production.
 -- Source: Cedar reference guide 4.0, "Grammar specification for Cedar policy syntax". Rules of this product: a
 -- variable's word with `::` or `(` behind it is a Path, and expressions nest at most so deep.
-use Rattle.std.specs.Prelude.{ℕ, zero, suc, Bool, true, false, List, [], ◌∷◌, Option, Some, None}
+use Rattle.std.specs.Prelude.{◌≡◌, ℕ, zero, suc, Bool, true, false, List, [], ◌∷◌, Option, Some, None, is_some}
 use Rattle.policy_tokens.specs.declared.token.Kind.{Kind}
 use Rattle.policy_tokens.specs.declared.token.Kind.TheVariants as k
 use Rattle.policy_tokens.specs.declared.token.Token.{Token}
 use Rattle.token_readers.specs.declared.tree.PathTree.{PathTree}
 use Rattle.expression_syntax.specs.declared.tree.Access.{Access}
 use Rattle.expression_syntax.specs.declared.tree.Access.TheVariants as access
+use Rattle.expression_syntax.specs.declared.tree.Comparison.{Comparison}
+use Rattle.expression_syntax.specs.declared.tree.Comparison.TheVariants as comparison
 use Rattle.expression_syntax.specs.declared.tree.Entry.{Entry}
+use Rattle.expression_syntax.specs.declared.tree.KeyTree.{KeyTree}
+use Rattle.expression_syntax.specs.declared.tree.KeyTree.TheVariants.{Word, Quoted}
+use Rattle.expression_syntax.specs.declared.tree.Sign.{Sign}
+use Rattle.expression_syntax.specs.declared.tree.Sign.TheVariants.{Plus, Minus}
 use Rattle.expression_syntax.specs.declared.tree.Term.{Term}
 use Rattle.expression_syntax.specs.declared.tree.ExprTree.{ExprTree}
 use Rattle.expression_syntax.specs.declared.tree.ExprTree.TheVariants as tree
+use Rattle.expression_syntax.specs.declared.tree.Variable.{Variable}
+use Rattle.expression_syntax.specs.declared.tree.Variable.TheVariants as variable
 use Rattle.token_readers.specs.Kinds.{Kinds}
 use Rattle.token_readers.specs.Lang.{Lang, of, one, empty, ◌>>=◌, ◌>>◌, ◌giving◌, ◌or◌, optional, many, never}
 use Rattle.token_readers.specs.Lang.{at_any, gate}
 use Rattle.token_readers.specs.Grammar.{identifiers, path, uid}
 
+-- ## Tokens that stand for something by their kind alone
+
+-- a token, as what its kind stands for
+abbrev pub symbol : {A : Type 0} → (Kind → Option A) → Lang A
+symbol meaning ts a = (t : Token) × (ts ≡ t ∷ []) × (meaning t.kind ≡ Some a)
+
+-- the kinds that stand for something
+abbrev pub known : {A : Type 0} → (Kind → Option A) → Kinds
+known meaning kind = is_some (meaning kind)
+
 -- "true" | "false"
-abbrev pub booleans : Kinds
-booleans k.True = true
-booleans k.False = true
-booleans _ = false
+abbrev pub boolean_of : Kind → Option Bool
+boolean_of k.True = Some true
+boolean_of k.False = Some false
+boolean_of _ = None
 
 -- Variable = "principal" | "action" | "resource" | "context"
-abbrev pub variables : Kinds
-variables k.Principal = true
-variables k.Action = true
-variables k.Resource = true
-variables k.Context = true
-variables _ = false
+abbrev pub variable_of : Kind → Option Variable
+variable_of k.Principal = Some variable.Principal
+variable_of k.Action = Some variable.Action
+variable_of k.Resource = Some variable.Resource
+variable_of k.Context = Some variable.Context
+variable_of _ = None
 
--- Key = Ident | String
+-- "+" | "-"
+abbrev pub sign_of : Kind → Option Sign
+sign_of k.Plus = Some Plus
+sign_of k.Minus = Some Minus
+sign_of _ = None
+
+-- "<" | "<=" | ">" | ">=" | "==" | "!=" | "in"
+abbrev pub comparison_of : Kind → Option Comparison
+comparison_of k.Less = Some comparison.Less
+comparison_of k.LessEqual = Some comparison.LessOrEqual
+comparison_of k.Greater = Some comparison.Greater
+comparison_of k.GreaterEqual = Some comparison.GreaterOrEqual
+comparison_of k.Equal = Some comparison.Equal
+comparison_of k.NotEqual = Some comparison.NotEqual
+comparison_of k.In = Some comparison.In
+comparison_of _ = None
+
+abbrev pub booleans : Kinds
+booleans = known boolean_of
+
+abbrev pub signs : Kinds
+signs = known sign_of
+
+abbrev pub comparisons : Kinds
+comparisons = known comparison_of
+
+-- ## Sets of kinds
+
+-- what a Key begins with
 abbrev pub keys : Kinds
 keys k.Text = true
 keys kind = identifiers kind
@@ -42,22 +88,7 @@ patterns k.Text = true
 patterns k.StarText = true
 patterns _ = false
 
--- "+" | "-"
-abbrev pub signs : Kinds
-signs k.Plus = true
-signs k.Minus = true
-signs _ = false
-
--- "<" | "<=" | ">" | ">=" | "==" | "!=" | "in"
-abbrev pub comparisons : Kinds
-comparisons k.Less = true
-comparisons k.LessEqual = true
-comparisons k.Greater = true
-comparisons k.GreaterEqual = true
-comparisons k.Equal = true
-comparisons k.NotEqual = true
-comparisons k.In = true
-comparisons _ = false
+-- ## Productions
 
 -- an expression with what stands behind it, or alone where nothing does
 abbrev pub joined : {A : Type 0} → (ExprTree → List A → ExprTree) → ExprTree → List A → ExprTree
@@ -65,7 +96,7 @@ joined make x [] = x
 joined make x (next ∷ more) = make x (next ∷ more)
 
 abbrev pub accessed : Token → Option (List ExprTree) → Access (List ExprTree)
-accessed name None = access.Field name
+accessed name None = access.Field (Word name)
 accessed name (Some arguments) = access.Method name arguments
 
 abbrev pub is_in : ExprTree → PathTree → Option ExprTree → ExprTree
@@ -81,7 +112,11 @@ chain first piece make = do
 
 -- Literal = "true" | "false" | Number | String
 abbrev pub literal : Lang ExprTree
-literal = (of booleans giving tree.Boolean) or (one k.Number giving tree.Number) or (one k.Text giving tree.Text)
+literal = (symbol boolean_of giving tree.Boolean) or (one k.Number giving tree.Number) or (one k.Text giving tree.Text)
+
+-- Key = Ident | String
+abbrev pub key : Lang KeyTree
+key = (of identifiers giving Word) or (one k.Text giving Quoted)
 
 -- "[" String "]"
 abbrev pub indexed : Lang (Access (List ExprTree))
@@ -89,7 +124,7 @@ indexed = do
   one k.LBracket
   name ← one k.Text
   one k.RBracket
-  empty (access.Field name)
+  empty (access.Field (Quoted name))
 
 -- whether one more level of nesting may be opened, and the expressions of that level
 module _ (may : Bool) (inner : Lang ExprTree) where
@@ -114,7 +149,7 @@ module _ (may : Bool) (inner : Lang ExprTree) where
 
   -- Named = Variable | Uid | Call
   abbrev pub named : Lang ExprTree
-  named = (of variables giving tree.Variable) or (uid giving tree.Uid) or gate may call
+  named = (symbol variable_of giving tree.Variable) or (uid giving tree.Uid) or gate may call
 
   -- "(" Expr ")"
   abbrev pub parenthesized : Lang ExprTree
@@ -135,10 +170,10 @@ module _ (may : Bool) (inner : Lang ExprTree) where
   -- Key ":" Expr
   abbrev pub entry : Lang (Entry ExprTree)
   entry = do
-    key ← of keys
+    name ← key
     one k.Colon
     x ← inner
-    empty (record { key = key; value = x })
+    empty (record { key = name; value = x })
 
   -- [ Key ":" Expr { "," Key ":" Expr } ]
   abbrev pub entries : Lang (List (Entry ExprTree))
@@ -192,7 +227,7 @@ module _ (may : Bool) (inner : Lang ExprTree) where
   -- ("+" | "-") Product
   abbrev pub term : Lang (Term ExprTree)
   term = do
-    sign ← of signs
+    sign ← symbol sign_of
     x ← product
     empty (record { sign = sign; operand = x })
 
@@ -203,7 +238,7 @@ module _ (may : Bool) (inner : Lang ExprTree) where
   -- ("<" | "<=" | ">" | ">=" | "==" | "!=" | "in") Sum
   abbrev pub compared : ExprTree → Lang ExprTree
   compared x = do
-    operator ← of comparisons
+    operator ← symbol comparison_of
     y ← sum
     empty (tree.Compare x operator y)
 
@@ -211,7 +246,7 @@ module _ (may : Bool) (inner : Lang ExprTree) where
   abbrev pub has : ExprTree → Lang ExprTree
   has x = do
     one k.Has
-    name ← of keys
+    name ← key
     empty (tree.Has x name)
 
   -- "like" Pattern

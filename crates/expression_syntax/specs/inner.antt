@@ -1,4 +1,4 @@
-pub mod Flat
 pub mod Included
 pub mod Nests
-pub mod PartsOf
+pub mod Prefixes
+pub mod Whole

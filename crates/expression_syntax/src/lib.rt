@@ -10,6 +10,7 @@ mod laws;
 mod operators;
 mod primary;
 mod read;
+mod symbols;
 mod token_sets;
 mod tree;
 
@@ -18,4 +19,4 @@ pub use held::beside;
 pub use laws::expression_is_unique;
 pub use read::{NESTING_LIMIT, read_expression};
 pub use token_readers::{Cursor, Halt, PathTree, SyntaxFault, UidTree, path, refusal, uid};
-pub use tree::{Access, Entry, ExprTree, Term};
+pub use tree::{Access, Comparison, Entry, ExprTree, KeyTree, Sign, Term, Variable};

@@ -5,12 +5,14 @@ ghost use Rattle.expression_syntax.specs.ExpressionReading as spec;
 ghost use Rattle.expression_syntax.specs.Expressions.{is_positive, joined, accessed, is_in};
 ghost use Rattle.token_readers.specs.Gives.{Gives};
 ghost use Rattle.expression_syntax.specs.inner.Nests.{Nests};
+ghost use Rattle.expression_syntax.specs.inner.Prefixes as prefixes;
 ghost use Rattle.expression_syntax.specs.declared.tree.ExprTree.TheVariants as tree;
 
 use crate::held::{beside, two};
-use crate::primary::{Reader, indexed};
+use crate::primary::{Reader, indexed, key};
+use crate::symbols::take_symbol;
 use crate::token_sets::TokenSet;
-use crate::tree::{Access, ExprTree, Term};
+use crate::tree::{Access, Comparison, ExprTree, KeyTree, Sign, Term};
 use plain::{Boxed, Items};
 use policy_tokens::{Kind, Token};
 use std::alloc::{AllocError, Global};
@@ -69,24 +71,49 @@ fn or_of(alloc: Global, first: ExprTree, more: Items<ExprTree>) -> Result<ExprTr
     }
 }
 
-fn under(alloc: Global, sign: Kind, x: ExprTree) -> Result<ExprTree, AllocError>
-    ensures { IfOk result (λ e. e ≡ spec.under sign x) }
-{
-    let x = Boxed::new(alloc, x)?;
-    match sign {
-        Kind::Not => Ok(ExprTree::Not(x)),
-        _ => Ok(ExprTree::Minus(x)),
+/// What stands up to four times before a Member.
+#[derive(Clone, Copy)]
+pub(crate) enum Prefix {
+    /// `!`
+    Not,
+    /// `-`
+    Minus,
+}
+
+impl Prefix {
+    fn kind(self) -> Kind
+        ensures { result ≡ prefixes.kind_of self }
+    {
+        match self {
+            Prefix::Not => Kind::Not,
+            Prefix::Minus => Kind::Minus,
+        }
     }
 }
 
-fn compare(alloc: Global, x: ExprTree, operator: Token, y: ExprTree) -> Result<ExprTree, AllocError>
+fn under(alloc: Global, prefix: Prefix, x: ExprTree) -> Result<ExprTree, AllocError>
+    ensures { IfOk result (λ e. e ≡ prefixes.under prefix x) }
+{
+    let x = Boxed::new(alloc, x)?;
+    match prefix {
+        Prefix::Not => Ok(ExprTree::Not(x)),
+        Prefix::Minus => Ok(ExprTree::Minus(x)),
+    }
+}
+
+fn compare(
+    alloc: Global,
+    x: ExprTree,
+    operator: Comparison,
+    y: ExprTree,
+) -> Result<ExprTree, AllocError>
     ensures { IfOk result (λ e. e ≡ tree.Compare x operator y) }
 {
     let (x, y) = two(alloc, x, y)?;
     Ok(ExprTree::Compare(x, operator, y))
 }
 
-fn has_of(alloc: Global, x: ExprTree, name: Token) -> Result<ExprTree, AllocError>
+fn has_of(alloc: Global, x: ExprTree, name: KeyTree) -> Result<ExprTree, AllocError>
     ensures { IfOk result (λ e. e ≡ tree.Has x name) }
 {
     Ok(ExprTree::Has(Boxed::new(alloc, x)?, name))
@@ -119,7 +146,7 @@ fn access(name: Token, found: Option<Items<ExprTree>>) -> Access<Items<ExprTree>
     ensures { result ≡ accessed name found }
 {
     match found {
-        None => Access::Field(name),
+        None => Access::Field(KeyTree::Word(name)),
         Some(found) => Access::Method(name, found),
     }
 }
@@ -205,20 +232,20 @@ impl<F: Fn(Global, &mut Cursor<'_>, usize) -> Result<ExprTree, Halt>> Reader<F> 
         Ok(member_of(self.alloc, first, more)?)
     }
 
-    /// So many of a sign at most, and a Member.
-    fn signed(&self, tokens: &mut Cursor<'_>, sign: Kind, most: u8) -> Result<ExprTree, Halt>
+    /// So many of a prefix at most, and a Member.
+    fn signed(&self, tokens: &mut Cursor<'_>, sign: Prefix, most: u8) -> Result<ExprTree, Halt>
         requires { Nests self.now.levels (F.pre self.now.expr) (F.post self.now.expr) }
         ensures { Gives (spec.signed (is_positive self.now.levels) (spec.expr self.now.levels)
-            sign (spec.under sign) most tokens.old.rest.now)
+            (prefixes.kind_of sign) (prefixes.under sign) most tokens.old.rest.now)
             result tokens.new.rest.now }
     {
         if most == 0 {
             return self.member(tokens);
         }
-        if !tokens.sees(sign) {
+        if !tokens.sees(sign.kind()) {
             return self.member(tokens);
         }
-        tokens.take(sign)?;
+        tokens.take(sign.kind())?;
         let x = self.signed(tokens, sign, most - 1)?;
         Ok(under(self.alloc, sign, x)?)
     }
@@ -231,11 +258,11 @@ impl<F: Fn(Global, &mut Cursor<'_>, usize) -> Result<ExprTree, Halt>> Reader<F> 
             result tokens.new.rest.now }
     {
         if !tokens.sees(Kind::Not) {
-            return self.signed(tokens, Kind::Minus, 4);
+            return self.signed(tokens, Prefix::Minus, 4);
         }
         tokens.take(Kind::Not)?;
-        let x = self.signed(tokens, Kind::Not, 3)?;
-        Ok(under(self.alloc, Kind::Not, x)?)
+        let x = self.signed(tokens, Prefix::Not, 3)?;
+        Ok(under(self.alloc, Prefix::Not, x)?)
     }
 
     #[tactic(auto, unfolding(crate::specs::ExpressionReading::factor))]
@@ -283,7 +310,7 @@ impl<F: Fn(Global, &mut Cursor<'_>, usize) -> Result<ExprTree, Halt>> Reader<F> 
         ensures { Gives (spec.term (is_positive self.now.levels) (spec.expr self.now.levels) tokens.old.rest.now)
             result tokens.new.rest.now }
     {
-        let sign = tokens.take_one_of(TokenSet::Signs)?;
+        let sign = take_symbol::<Sign>(tokens)?;
         let operand = self.product(tokens)?;
         Ok(Term { sign, operand })
     }
@@ -323,7 +350,7 @@ impl<F: Fn(Global, &mut Cursor<'_>, usize) -> Result<ExprTree, Halt>> Reader<F> 
         ensures { Gives (spec.compared (is_positive self.now.levels) (spec.expr self.now.levels) x tokens.old.rest.now)
             result tokens.new.rest.now }
     {
-        let (x, operator) = beside(x, tokens.take_one_of(TokenSet::Comparisons))?;
+        let (x, operator) = beside(x, take_symbol::<Comparison>(tokens))?;
         let (x, y) = beside(x, self.sum(tokens))?;
         Ok(compare(self.alloc, x, operator, y)?)
     }
@@ -336,7 +363,7 @@ impl<F: Fn(Global, &mut Cursor<'_>, usize) -> Result<ExprTree, Halt>> Reader<F> 
             result tokens.new.rest.now }
     {
         let (x, _has) = beside(x, tokens.take(Kind::Has))?;
-        let (x, name) = beside(x, tokens.take_one_of(TokenSet::Keys))?;
+        let (x, name) = beside(x, key(tokens))?;
         Ok(has_of(self.alloc, x, name)?)
     }
 

@@ -8,12 +8,13 @@ ghost use Rattle.expression_syntax.specs.inner.Nests.{Nests};
 ghost use Rattle.token_readers.specs.declared.fault.Halt.TheVariants as halt;
 
 use crate::held::beside;
+use crate::symbols::{Symbol, take_symbol};
 use crate::token_sets::TokenSet;
-use crate::tree::{Access, Entry, ExprTree};
+use crate::tree::{Access, Entry, ExprTree, KeyTree, Variable};
 use plain::{Boxed, Items};
 use policy_tokens::{Kind, Token};
 use std::alloc::Global;
-use token_readers::{Cursor, Halt, KindSet, Name, NameSet, PathTree, name_behind};
+use token_readers::{Cursor, Halt, Name, NameSet, PathTree, name_behind};
 
 /// "true" | "false" | Number | String
 #[tactic(auto, unfolding(crate::specs::ExpressionReading::literal))]
@@ -22,8 +23,8 @@ fn literal(tokens: &mut Cursor<'_>) -> Result<ExprTree, Halt>
     ensures only { IfErr result (λ why. why ≡ halt.Unexpected) }
 {
     if tokens.sees_one_of(TokenSet::Booleans) {
-        let token = tokens.take_one_of(TokenSet::Booleans)?;
-        return Ok(ExprTree::Boolean(token));
+        let value = take_symbol::<bool>(tokens)?;
+        return Ok(ExprTree::Boolean(value));
     }
     if tokens.sees(Kind::Number) {
         let token = tokens.take(Kind::Number)?;
@@ -31,6 +32,20 @@ fn literal(tokens: &mut Cursor<'_>) -> Result<ExprTree, Halt>
     }
     let token = tokens.take(Kind::Text)?;
     Ok(ExprTree::Text(token))
+}
+
+/// Ident | String
+#[tactic(auto, unfolding(crate::specs::ExpressionReading::key))]
+pub(crate) fn key(tokens: &mut Cursor<'_>) -> Result<KeyTree, Halt>
+    ensures reads { Gives (spec.key tokens.old.rest.now) result tokens.new.rest.now }
+    ensures only { IfErr result (λ why. why ≡ halt.Unexpected) }
+{
+    if tokens.sees_one_of(NameSet::Identifiers) {
+        let word = tokens.take_one_of(NameSet::Identifiers)?;
+        return Ok(KeyTree::Word(word));
+    }
+    let quoted = tokens.take(Kind::Text)?;
+    Ok(KeyTree::Quoted(quoted))
 }
 
 /// "[" String "]"
@@ -42,7 +57,17 @@ pub(crate) fn indexed(tokens: &mut Cursor<'_>) -> Result<Access<Items<ExprTree>>
     tokens.take(Kind::LBracket)?;
     let name = tokens.take(Kind::Text)?;
     tokens.take(Kind::RBracket)?;
-    Ok(Access::Field(name))
+    Ok(Access::Field(KeyTree::Quoted(name)))
+}
+
+/// The variable that a Path of one word is, if it is one.
+fn variable_at(path: &PathTree) -> Option<Variable>
+    ensures { result ≡ spec.variable_at path.now.first path.now.more }
+{
+    match path.more.as_slice() {
+        [] => Variable::of(path.first.kind),
+        _ => None,
+    }
 }
 
 /// A Path that no argument follows: the word of a variable, or nothing.
@@ -51,9 +76,9 @@ fn alone(tokens: &Cursor<'_>, path: PathTree) -> Result<ExprTree, Halt>
     ensures reads { Gives (spec.alone path tokens.now.rest.now) result tokens.now.rest.now }
     ensures only { IfErr result (λ why. why ≡ halt.Unexpected) }
 {
-    match path.more.as_slice() {
-        [] if TokenSet::Variables.includes(path.first.kind) => Ok(ExprTree::Variable(path.first)),
-        _ => Err(Halt::Unexpected),
+    match variable_at(&path) {
+        Some(variable) => Ok(ExprTree::Variable(variable)),
+        None => Err(Halt::Unexpected),
     }
 }
 
@@ -143,7 +168,7 @@ impl<F: Fn(Global, &mut Cursor<'_>, usize) -> Result<ExprTree, Halt>> Reader<F> 
         ensures { Gives (spec.entry (is_positive self.now.levels) (spec.expr self.now.levels) tokens.old.rest.now)
             result tokens.new.rest.now }
     {
-        let key = tokens.take_one_of(TokenSet::Keys)?;
+        let key = key(tokens)?;
         tokens.take(Kind::Colon)?;
         let value = self.inner(tokens)?;
         Ok(Entry { key, value })

@@ -8,8 +8,6 @@ use token_readers::KindSet;
 pub(crate) enum TokenSet {
     /// `true` and `false`.
     Booleans,
-    /// `principal`, `action`, `resource` and `context`.
-    Variables,
     /// An identifier or a quoted text.
     Keys,
     /// Quoted texts, with `\*` or without.
@@ -32,10 +30,6 @@ impl KindSet for TokenSet {
     fn includes(self, kind: Kind) -> bool {
         match self {
             TokenSet::Booleans => matches!(kind, Kind::True | Kind::False),
-            TokenSet::Variables => matches!(
-                kind,
-                Kind::Principal | Kind::Action | Kind::Resource | Kind::Context
-            ),
             TokenSet::Keys => match kind {
                 Kind::Text => true,
                 _ => kind.is_ident(),

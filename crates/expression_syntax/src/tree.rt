@@ -2,11 +2,61 @@ use plain::{Boxed, Items};
 use policy_tokens::Token;
 use token_readers::{PathTree, UidTree};
 
+/// A word that stands for a part of the request, where it is no name.
+#[derive(Clone, Copy, PartialEq, Eq)]
+pub enum Variable {
+    /// `principal`
+    Principal,
+    /// `action`
+    Action,
+    /// `resource`
+    Resource,
+    /// `context`
+    Context,
+}
+
+/// What joins a further term to a sum.
+#[derive(Clone, Copy, PartialEq, Eq)]
+pub enum Sign {
+    /// `+`
+    Plus,
+    /// `-`
+    Minus,
+}
+
+/// What compares the operands on its two sides.
+#[derive(Clone, Copy, PartialEq, Eq)]
+pub enum Comparison {
+    /// `<`
+    Less,
+    /// `<=`
+    LessOrEqual,
+    /// `>`
+    Greater,
+    /// `>=`
+    GreaterOrEqual,
+    /// `==`
+    Equal,
+    /// `!=`
+    NotEqual,
+    /// `in`
+    In,
+}
+
+/// The name of a field, or a key in a record.
+#[derive(Clone, Copy)]
+pub enum KeyTree {
+    /// An identifier.
+    Word(Token),
+    /// A quoted text without `\*`.
+    Quoted(Token),
+}
+
 /// What is asked of the expression before it. `A` is a call's list of arguments.
 #[derive(Drop)]
 pub enum Access<A> {
-    /// `.name` or `["name"]`: an identifier or a quoted text.
-    Field(Token),
+    /// `.name` or `["name"]`
+    Field(KeyTree),
     /// `.name(..)`
     Method(Token, A),
 }
@@ -14,16 +64,14 @@ pub enum Access<A> {
 /// A further term of a sum.
 #[derive(Drop)]
 pub struct Term<T> {
-    /// `+` or `-`.
-    pub sign: Token,
+    pub sign: Sign,
     pub operand: T,
 }
 
 /// `key: value` in a record.
 #[derive(Drop)]
 pub struct Entry<T> {
-    /// An identifier or a quoted text.
-    pub key: Token,
+    pub key: KeyTree,
     pub value: T,
 }
 
@@ -33,12 +81,11 @@ pub struct Entry<T> {
 #[derive(Drop)]
 pub enum ExprTree {
     /// `true` or `false`.
-    Boolean(Token),
+    Boolean(bool),
     Number(Token),
     /// A quoted text without `\*`.
     Text(Token),
-    /// `principal`, `action`, `resource` or `context`.
-    Variable(Token),
+    Variable(Variable),
     Uid(UidTree),
     /// A function's name and its arguments.
     Call(PathTree, Items<ExprTree>),
@@ -55,10 +102,10 @@ pub enum ExprTree {
     Product(Boxed<ExprTree>, Items<ExprTree>),
     /// The first term and one or more further ones.
     Sum(Boxed<ExprTree>, Items<Term<ExprTree>>),
-    /// `<`, `<=`, `>`, `>=`, `==`, `!=` or `in`, between its operands.
-    Compare(Boxed<ExprTree>, Token, Boxed<ExprTree>),
-    /// `has`, with an identifier or a quoted text.
-    Has(Boxed<ExprTree>, Token),
+    /// A comparison between its operands.
+    Compare(Boxed<ExprTree>, Comparison, Boxed<ExprTree>),
+    /// `has`, with a field's name.
+    Has(Boxed<ExprTree>, KeyTree),
     /// `like`, with a quoted text, in which `\*` may stand.
     Like(Boxed<ExprTree>, Token),
     /// `is`

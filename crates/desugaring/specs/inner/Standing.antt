@@ -9,11 +9,12 @@ use Rattle.token_readers.specs.declared.tree.UidTree.{UidTree}
 use Rattle.expression_syntax.specs.declared.tree.Access.{Access}
 use Rattle.expression_syntax.specs.declared.tree.Access.TheVariants as access
 use Rattle.expression_syntax.specs.declared.tree.Entry.{Entry}
+use Rattle.expression_syntax.specs.declared.tree.KeyTree.{KeyTree}
+use Rattle.expression_syntax.specs.declared.tree.KeyTree.TheVariants.{Word, Quoted}
 use Rattle.expression_syntax.specs.declared.tree.Term.{Term}
 use Rattle.expression_syntax.specs.declared.tree.ExprTree.{ExprTree}
 use Rattle.token_readers.specs.Kinds.{Kinds, only}
 use Rattle.token_readers.specs.Grammar.{identifiers}
-use Rattle.expression_syntax.specs.Expressions.{keys, signs}
 use Rattle.expression_syntax.specs.Parts.{parts_of}
 
 -- The token is spelled in the text, and of these kinds.
@@ -27,6 +28,10 @@ pub record Stands (text : List ℕ) (x : ExprTree) : Type 0 where
 
 -- ## The same of the parts of a tree
 
+abbrev pub KeyIn : List ℕ → KeyTree → Type 0
+KeyIn text (Word word) = TokenIn text identifiers word
+KeyIn text (Quoted quoted) = TokenIn text (only k.Text) quoted
+
 pub record PathIn (text : List ℕ) (path : PathTree) : Type 0 where
   pub first : TokenIn text identifiers path.first
   pub more : AllByRecursion (TokenIn text identifiers) path.more
@@ -39,13 +44,12 @@ abbrev pub AllStand : List ℕ → List ExprTree → Type 0
 AllStand text = AllByRecursion (Stands text)
 
 pub record EntryStands (text : List ℕ) (entry : Entry ExprTree) : Type 0 where
-  pub key : TokenIn text keys entry.key
+  pub key : KeyIn text entry.key
   pub value : Stands text entry.value
 
 pub record TermStands (text : List ℕ) (term : Term ExprTree) : Type 0 where
-  pub sign : TokenIn text signs term.sign
   pub operand : Stands text term.operand
 
 abbrev pub AccessStands : List ℕ → Access (List ExprTree) → Type 0
-AccessStands text (access.Field name) = TokenIn text keys name
+AccessStands text (access.Field key) = KeyIn text key
 AccessStands text (access.Method name arguments) = TokenIn text identifiers name × AllStand text arguments

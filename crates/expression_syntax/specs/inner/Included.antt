@@ -2,12 +2,11 @@
 use Rattle.expression_syntax.specs.declared.token_sets.TokenSet.{TokenSet}
 use Rattle.expression_syntax.specs.declared.token_sets.TokenSet.TheVariants as set
 use Rattle.token_readers.specs.Kinds.{Kinds}
-use Rattle.expression_syntax.specs.Expressions.{booleans, variables, keys, patterns, signs, comparisons}
+use Rattle.expression_syntax.specs.Expressions.{booleans, keys, patterns, signs, comparisons}
 use Rattle.expression_syntax.specs.ExpressionReading.{openers, access_firsts, firsts}
 
 abbrev pub included : TokenSet → Kinds
 included set.Booleans = booleans
-included set.Variables = variables
 included set.Keys = keys
 included set.Patterns = patterns
 included set.Signs = signs

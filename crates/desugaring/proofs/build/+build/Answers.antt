@@ -55,7 +55,7 @@ pub build_tree-build_tree-requires-in-Compare-2 : goal.build_tree-build_tree-req
 build_tree-build_tree-requires-in-Compare-2 t c = (search (rules, the_lemmas), subst (Stands c.args.text.now) (sym c.get-in-Compare-2.ensures) (of-Compare c.args.text.now c.args.tree.now c.in-Compare.left c.in-Compare.operator c.in-Compare.right c.in-Compare.is c.requires.1.1).1)
 
 pub build_tree-build_tree-requires-in-Has : goal.build_tree-build_tree-requires-in-Has
-build_tree-build_tree-requires-in-Has t c = (search (rules, the_lemmas), subst (Stands c.args.text.now) (sym c.get-in-Has.ensures) (of-Has c.args.text.now c.args.tree.now c.in-Has.inner c.in-Has.token c.in-Has.is c.requires.1.1).0)
+build_tree-build_tree-requires-in-Has t c = (search (rules, the_lemmas), subst (Stands c.args.text.now) (sym c.get-in-Has.ensures) (of-Has c.args.text.now c.args.tree.now c.in-Has.inner c.in-Has.key c.in-Has.is c.requires.1.1).0)
 
 pub build_tree-build_tree-requires-in-Like : goal.build_tree-build_tree-requires-in-Like
 build_tree-build_tree-requires-in-Like t c = (search (rules, the_lemmas), subst (Stands c.args.text.now) (sym c.get-in-Like.ensures) (of-Like c.args.text.now c.args.tree.now c.in-Like.inner c.in-Like.token c.in-Like.is c.requires.1.1).0)
@@ -67,7 +67,7 @@ pub build_tree-uid_literal-requires : goal.build_tree-uid_literal-requires
 build_tree-uid_literal-requires t c = (of-Uid c.args.text.now c.args.tree.now c.in-Uid.uid c.in-Uid.is c.requires.1.1)
 
 pub build_tree-has-requires : goal.build_tree-has-requires
-build_tree-has-requires t c = (of-Has c.args.text.now c.args.tree.now c.in-Has.inner c.in-Has.token c.in-Has.is c.requires.1.1).1
+build_tree-has-requires t c = (of-Has c.args.text.now c.args.tree.now c.in-Has.inner c.in-Has.key c.in-Has.is c.requires.1.1).1
 
 pub build_tree-like-requires : goal.build_tree-like-requires
 build_tree-like-requires t c = (of-Like c.args.text.now c.args.tree.now c.in-Like.inner c.in-Like.token c.in-Like.is c.requires.1.1).1
@@ -112,13 +112,13 @@ pub build_accesses-build_access-requires : goal.build_accesses-build_access-requ
 build_accesses-build_access-requires t c = (search (rules, the_lemmas), subst (AccessStands c.args.text.now) (sym c.access-item.is) (all-at (AccessStands c.args.text.now) c.args.accesses.now c.loop-access.access-index c.access-item.result c.requires.1.1 c.loop-access-test.true))
 
 pub build_tree-returns-in-Boolean : goal.build_tree-returns-in-Boolean
-build_tree-returns-in-Boolean t c = c.boolean_literal.ensures ∙ (sym (core-Boolean c.args.text.now c.in-Boolean.token) ∙ ap (core_of c.args.text.now) (sym c.in-Boolean.is))
+build_tree-returns-in-Boolean t c = c.boolean_literal.ensures ∙ (sym (core-Boolean c.args.text.now c.in-Boolean.value) ∙ ap (core_of c.args.text.now) (sym c.in-Boolean.is))
 
 pub build_tree-returns-in-Number : goal.build_tree-returns-in-Number
 build_tree-returns-in-Number t c = c.number_literal.ensures ∙ (sym (core-Number c.args.text.now c.in-Number.token) ∙ ap (core_of c.args.text.now) (sym c.in-Number.is))
 
 pub build_tree-returns-in-Variable : goal.build_tree-returns-in-Variable
-build_tree-returns-in-Variable t c = c.variable.ensures ∙ (sym (core-Variable c.args.text.now c.in-Variable.token) ∙ ap (core_of c.args.text.now) (sym c.in-Variable.is))
+build_tree-returns-in-Variable t c = c.variable.ensures ∙ (sym (core-Variable c.args.text.now c.in-Variable.word) ∙ ap (core_of c.args.text.now) (sym c.in-Variable.is))
 
 pub build_tree-returns-in-Text : goal.build_tree-returns-in-Text
 build_tree-returns-in-Text t c = subst (λ y. IfOk c.text_literal.result (λ e. e ≡ y)) (sym (core-Text c.args.text.now c.in-Text.token) ∙ ap (core_of c.args.text.now) (sym c.in-Text.is)) c.text_literal.ensures
@@ -141,7 +141,7 @@ pub build_tree-returns-in-Not : goal.build_tree-returns-in-Not
 build_tree-returns-in-Not t c = one (core.Unary unary.Not) (core_of c.args.text.now c.in-Not.inner) (core_of c.args.text.now c.args.tree.now) c.build_tree-in-Not.result c.apply.result (subst (λ y. IfOk c.build_tree-in-Not.result (λ e. e ≡ core_of c.args.text.now y)) c.get-in-Not.ensures c.build_tree-in-Not.ensures) c.apply.ensures (sym (core-Not c.args.text.now c.in-Not.inner) ∙ ap (core_of c.args.text.now) (sym c.in-Not.is))
 
 pub build_tree-returns-in-Has : goal.build_tree-returns-in-Has
-build_tree-returns-in-Has t c = one (λ e. core.Has e (name_of c.args.text.now c.in-Has.token)) (core_of c.args.text.now c.in-Has.inner) (core_of c.args.text.now c.args.tree.now) c.build_tree-in-Has.result c.has.result (subst (λ y. IfOk c.build_tree-in-Has.result (λ e. e ≡ core_of c.args.text.now y)) c.get-in-Has.ensures c.build_tree-in-Has.ensures) c.has.ensures (sym (core-Has c.args.text.now c.in-Has.inner c.in-Has.token) ∙ ap (core_of c.args.text.now) (sym c.in-Has.is))
+build_tree-returns-in-Has t c = one (λ e. core.Has e (name_of c.args.text.now c.in-Has.key)) (core_of c.args.text.now c.in-Has.inner) (core_of c.args.text.now c.args.tree.now) c.build_tree-in-Has.result c.has.result (subst (λ y. IfOk c.build_tree-in-Has.result (λ e. e ≡ core_of c.args.text.now y)) c.get-in-Has.ensures c.build_tree-in-Has.ensures) c.has.ensures (sym (core-Has c.args.text.now c.in-Has.inner c.in-Has.key) ∙ ap (core_of c.args.text.now) (sym c.in-Has.is))
 
 pub build_tree-returns-in-Like : goal.build_tree-returns-in-Like
 build_tree-returns-in-Like t c = one (core.Unary (unary.Like (pattern_of (spelling_of c.args.text.now c.in-Like.token)))) (core_of c.args.text.now c.in-Like.inner) (core_of c.args.text.now c.args.tree.now) c.build_tree-in-Like.result c.like.result (subst (λ y. IfOk c.build_tree-in-Like.result (λ e. e ≡ core_of c.args.text.now y)) c.get-in-Like.ensures c.build_tree-in-Like.ensures) c.like.ensures (sym (core-Like c.args.text.now c.in-Like.inner c.in-Like.token) ∙ ap (core_of c.args.text.now) (sym c.in-Like.is))
@@ -176,7 +176,7 @@ build_tree-returns-in-Or t c =
 
 pub build_tree-returns-in-Compare : goal.build_tree-returns-in-Compare
 build_tree-returns-in-Compare t c =
-    two (compared c.in-Compare.operator.kind) (core_of c.args.text.now c.in-Compare.left) (core_of c.args.text.now c.in-Compare.right) (core_of c.args.text.now c.args.tree.now) c.build_tree-in-Compare.result c.build_tree-in-Compare-2.result c.compare.result
+    two (compared c.in-Compare.operator) (core_of c.args.text.now c.in-Compare.left) (core_of c.args.text.now c.in-Compare.right) (core_of c.args.text.now c.args.tree.now) c.build_tree-in-Compare.result c.build_tree-in-Compare-2.result c.compare.result
     (subst (λ y. IfOk c.build_tree-in-Compare.result (λ e. e ≡ core_of c.args.text.now y)) c.get-in-Compare.ensures c.build_tree-in-Compare.ensures) (subst (λ y. IfOk c.build_tree-in-Compare-2.result (λ e. e ≡ core_of c.args.text.now y)) c.get-in-Compare-2.ensures c.build_tree-in-Compare-2.ensures) c.compare.ensures (sym (core-Compare c.args.text.now c.in-Compare.left c.in-Compare.operator c.in-Compare.right) ∙ ap (core_of c.args.text.now) (sym c.in-Compare.is))
 
 pub build_tree-returns-in-IsIn : goal.build_tree-returns-in-IsIn

@@ -182,8 +182,8 @@ judge_tree-returns-in_ok-judge_tree-in-Is t c =
 pub judge_tree-returns-in_ok-other-in-Compare : goal.judge_tree-returns-in_ok-other-in-Compare
 judge_tree-returns-in_ok-other-in-Compare t c =
     c.judge_comparison.ensures
-    ∙ ap (λ i. judged_compared c.in-Compare.operator.kind i c.in_ok-other-in-Compare.other) (c.in_ok-one-in-Compare.ensures ∙ ap (judged c.args.text.now) c.get-in-Compare.ensures)
-    ∙ ap (judged_compared c.in-Compare.operator.kind (judged c.args.text.now c.in-Compare.left)) (c.in_ok-other-in-Compare.ensures ∙ ap (judged c.args.text.now) c.get-in-Compare-2.ensures)
+    ∙ ap (λ i. judged_compared c.in-Compare.operator i c.in_ok-other-in-Compare.other) (c.in_ok-one-in-Compare.ensures ∙ ap (judged c.args.text.now) c.get-in-Compare.ensures)
+    ∙ ap (judged_compared c.in-Compare.operator (judged c.args.text.now c.in-Compare.left)) (c.in_ok-other-in-Compare.ensures ∙ ap (judged c.args.text.now) c.get-in-Compare-2.ensures)
     ∙ sym (judged-Compare c.args.text.now c.in-Compare.left c.in-Compare.operator c.in-Compare.right) ∙ ap (judged c.args.text.now) (sym c.in-Compare.is)
 
 pub judge_tree-returns-in_ok-other-in-IsIn : goal.judge_tree-returns-in_ok-other-in-IsIn

@@ -1,5 +1,5 @@
--- The parts of each form of tree: the equations of `parts_of`.
-use Rattle.std.specs.Prelude.{◌≡◌, refl, List, [], ◌∷◌, ◌++◌}
+-- The parts of each form of tree: the equations of `parts_of`. Meant to be imported by the proofs of crates above.
+use Rattle.std.specs.Prelude.{◌≡◌, refl, Bool, List, [], ◌∷◌, ◌++◌}
 use mathlib.Core.Path.{◌∙◌, ap, sym}
 use Rattle.std.specs.List.{flat_map}
 use Rattle.policy_tokens.specs.declared.token.Kind.TheVariants as k
@@ -7,26 +7,29 @@ use Rattle.policy_tokens.specs.declared.token.Token.{Token}
 use Rattle.token_readers.specs.declared.tree.PathTree.{PathTree}
 use Rattle.token_readers.specs.declared.tree.UidTree.{UidTree}
 use Rattle.expression_syntax.specs.declared.tree.Access.{Access}
+use Rattle.expression_syntax.specs.declared.tree.Comparison.{Comparison}
 use Rattle.expression_syntax.specs.declared.tree.Entry.{Entry}
+use Rattle.expression_syntax.specs.declared.tree.KeyTree.{KeyTree}
 use Rattle.expression_syntax.specs.declared.tree.Term.{Term}
 use Rattle.expression_syntax.specs.declared.tree.ExprTree.{ExprTree}
+use Rattle.expression_syntax.specs.declared.tree.Variable.{Variable}
 use Rattle.expression_syntax.specs.declared.tree.ExprTree.TheVariants as t
 use Rattle.expression_syntax.specs.declared.tree.ExprTree.TheOpen.{ExprTree-F as tree}
 use Rattle.expression_syntax.specs.declared.tree.ExprTree.TheFolds.{fold-roll-ExprTree}
 use Rattle.token_readers.specs.Kinds.{only}
 use Rattle.token_readers.specs.Grammar.{identifiers}
-use Rattle.expression_syntax.specs.Expressions.{booleans, variables, keys, patterns, comparisons}
-use Rattle.expression_syntax.specs.Parts.{Part, part, path_parts, uid_parts, access_parts, entry_parts, term_parts}
+use Rattle.expression_syntax.specs.Expressions.{patterns}
+use Rattle.expression_syntax.specs.Parts.{Part, part, key_part, path_parts, uid_parts, access_parts, entry_parts, term_parts}
 use Rattle.expression_syntax.specs.Parts.{parts_step, parts_of, parts_of_access, parts_of_entry, parts_of_term}
-use Rattle.expression_syntax.specs.inner.Flat.{flat_map_map, flat_map_each, flat_map_accesses}
+use Rattle.expression_syntax.proofs.Flat.{flat_map_map, flat_map_each, flat_map_accesses}
 
-pub parts-Boolean : (token : Token) → parts_of (t.Boolean token) ≡ part booleans token ∷ []
-parts-Boolean token =
-    ap parts_of (sym (t.rolls-Boolean token)) ∙ fold-roll-ExprTree (List Part) parts_step (tree.Boolean token)
+pub parts-Boolean : (value : Bool) → parts_of (t.Boolean value) ≡ []
+parts-Boolean value =
+    ap parts_of (sym (t.rolls-Boolean value)) ∙ fold-roll-ExprTree (List Part) parts_step (tree.Boolean value)
 
-pub parts-Variable : (token : Token) → parts_of (t.Variable token) ≡ part variables token ∷ []
-parts-Variable token =
-    ap parts_of (sym (t.rolls-Variable token)) ∙ fold-roll-ExprTree (List Part) parts_step (tree.Variable token)
+pub parts-Variable : (variable : Variable) → parts_of (t.Variable variable) ≡ []
+parts-Variable variable =
+    ap parts_of (sym (t.rolls-Variable variable)) ∙ fold-roll-ExprTree (List Part) parts_step (tree.Variable variable)
 
 pub parts-Number : (token : Token) → parts_of (t.Number token) ≡ part (only k.Number) token ∷ []
 parts-Number token =
@@ -68,7 +71,7 @@ parts-Member a accesses =
     ap parts_of (sym (t.rolls-Member a accesses))
     ∙ fold-roll-ExprTree (List Part) parts_step (tree.Member a accesses)
     ∙ ap (λ ps. parts_of a ++ ps)
-    (flat_map_accesses access_parts parts_of_access _ (λ name. refl)
+    (flat_map_accesses access_parts parts_of_access _ (λ key. refl)
     (λ name arguments. ap (λ ps. part identifiers name ∷ ps) (flat_map_map (λ parts. parts) parts_of arguments))
     accesses)
 
@@ -93,14 +96,15 @@ parts-Sum a terms =
     ap parts_of (sym (t.rolls-Sum a terms)) ∙ fold-roll-ExprTree (List Part) parts_step (tree.Sum a terms)
     ∙ ap (λ ps. parts_of a ++ ps) (flat_map_each term_parts parts_of_term _ (λ term. refl) terms)
 
-pub parts-Compare : (a : ExprTree) (token : Token) (b : ExprTree) → parts_of (t.Compare a token b)
-    ≡ parts_of a ++ (part comparisons token ∷ parts_of b)
-parts-Compare a token b =
-    ap parts_of (sym (t.rolls-Compare a token b)) ∙ fold-roll-ExprTree (List Part) parts_step (tree.Compare a token b)
+pub parts-Compare : (a : ExprTree) (operator : Comparison) (b : ExprTree) → parts_of (t.Compare a operator b)
+    ≡ parts_of a ++ parts_of b
+parts-Compare a operator b =
+    ap parts_of (sym (t.rolls-Compare a operator b))
+    ∙ fold-roll-ExprTree (List Part) parts_step (tree.Compare a operator b)
 
-pub parts-Has : (a : ExprTree) (token : Token) → parts_of (t.Has a token) ≡ parts_of a ++ part keys token ∷ []
-parts-Has a token =
-    ap parts_of (sym (t.rolls-Has a token)) ∙ fold-roll-ExprTree (List Part) parts_step (tree.Has a token)
+pub parts-Has : (a : ExprTree) (key : KeyTree) → parts_of (t.Has a key) ≡ parts_of a ++ key_part key ∷ []
+parts-Has a key =
+    ap parts_of (sym (t.rolls-Has a key)) ∙ fold-roll-ExprTree (List Part) parts_step (tree.Has a key)
 
 pub parts-Like : (a : ExprTree) (token : Token) → parts_of (t.Like a token) ≡ parts_of a ++ part patterns token ∷ []
 parts-Like a token =

@@ -1,4 +1,4 @@
--- Lists put together of the lists of their pieces.
+-- Lists put together of the lists of their pieces. Meant to be imported by the proofs of crates above.
 use Rattle.std.specs.Prelude.{◌≡◌, List, [], ◌∷◌, ◌++◌, map, refl}
 use mathlib.Core.Path.{◌∙◌, ap}
 use Rattle.std.specs.List.{AllByRecursion, flat_map}
@@ -6,6 +6,7 @@ use Rattle.policy_tokens.specs.declared.token.Token.{Token}
 use Rattle.expression_syntax.specs.declared.tree.Access.{Access}
 use Rattle.expression_syntax.specs.declared.tree.Access.TheVariants as access
 use Rattle.expression_syntax.specs.declared.tree.ExprTree.{ExprTree}
+use Rattle.expression_syntax.specs.declared.tree.KeyTree.{KeyTree}
 
 pub joined : {A : Type 0} {us vs xs ys : List A} → us ≡ vs → xs ≡ ys → us ++ xs ≡ vs ++ ys
 joined {A} {us} {vs} {xs} {ys} e f = ap (λ zs. zs ++ xs) e ∙ ap (λ zs. vs ++ zs) f
@@ -23,13 +24,13 @@ flat_map_each g h f each (x ∷ xs) = joined (each x) (flat_map_each g h f each 
 -- accesses, each form of which is mapped alike
 pub flat_map_accesses : {B C : Type 0} (g : B → List C) (h : Access (List ExprTree)
     → List C) (f : Access (List ExprTree) → B) →
-    ((name : Token) → g (f (access.Field name)) ≡ h (access.Field name)) →
+    ((key : KeyTree) → g (f (access.Field key)) ≡ h (access.Field key)) →
     ((name : Token) (arguments : List ExprTree) → g (f (access.Method name arguments))
     ≡ h (access.Method name arguments)) →
     (xs : List (Access (List ExprTree))) → flat_map g (map f xs) ≡ flat_map h xs
 flat_map_accesses g h f field method [] = refl
-flat_map_accesses g h f field method (access.Field name ∷ xs) =
-    joined (field name) (flat_map_accesses g h f field method xs)
+flat_map_accesses g h f field method (access.Field key ∷ xs) =
+    joined (field key) (flat_map_accesses g h f field method xs)
 flat_map_accesses g h f field method (access.Method name arguments ∷ xs) =
     joined (method name arguments) (flat_map_accesses g h f field method xs)
 
