@@ -16,6 +16,9 @@ ghost use Rattle.serde_json.specs.Written.{has_float, compact_text};
 ghost use Rattle.json_words.specs.Json.{json_of, text_at};
 ghost use Rattle.json_words.specs.Keys.{has_only};
 
+mod laws;
+
+pub use laws::{compact_texts_read_back, json_keys_ascend};
 use plain::NoMemory;
 use serde_json::{Map, Value};
 use std::alloc::Global;
