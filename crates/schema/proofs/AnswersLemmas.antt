@@ -1,9 +1,9 @@
 -- What was made answers as it is to.
-use Rattle.std.proofs.Common.{◌≡◌, ◌∙◌, ℕ, List, [], ◌∷◌, map, Option, Some, None, refl, sym, ap, subst, inl, inr}
+use Rattle.std.proofs.Common.{◌≡◌, ◌∙◌, ℕ, Bool, true, false, cond, List, [], ◌∷◌, map, Option, Some, None, refl, sym, ap, subst, inl, inr}
 use Rattle.std.specs.Prelude.{Contains, IsTrue, IsSome, ◌↔◌, option_map}
-use Rattle.std.specs.BTreeMap.{BTreeMap, get, keys, IsOrdered}
+use Rattle.std.specs.BTreeMap.{BTreeMap, get, keys, IsOrdered, is_at}
 use Rattle.std.specs.BTreeSet.{BTreeSet}
-use Rattle.std.specs.Map.{keys_of}
+use Rattle.std.specs.Map.{keys_of, lookup}
 use Rattle.std.specs.List.Sorted.{IsStrictlySortedBy}
 use Rattle.std.proofs.lemmas.Map.Views.{btree_map_contains_key_iff, btree_map_get_iff}
 use Rattle.values.specs.declared.entity_uid.EntityUid.{EntityUid}
@@ -19,9 +19,13 @@ use Rattle.schema.specs.declared.parts.Environment.{Environment}
 use Rattle.schema.specs.declared.parts.EntityDecl.{EntityDecl}
 use Rattle.schema.specs.declared.reading.Types.{Types}
 use Rattle.schema.specs.declared.reading.Hierarchies.{Hierarchies}
-use Rattle.schema.specs.Schemas.{EnvironmentOf, Answers, IsShape, IsAction, IsEnvironment, IsPlace, IsRecordOf, action_parents, type_parents, type_uid, place_cmp}
-use Rattle.schema.specs.Views.{environment_view, shape_in, is_in, may_have_in}
-use Rattle.schema.specs.inner.Making.{Places, AreShapes, ArePlaces, AreAncestors, AreTypesAbove, environment_of}
+use Rattle.sha2.specs.Sha256.{sha256}
+use Rattle.hex.specs.Hex.{encode_lower}
+use Rattle.schema_names.specs.Naming.{StatesNamed}
+use Rattle.schema.specs.Schemas.{EnvironmentOf, Answers, IsSound, IsSchemaOf, IsShape, IsAction, IsEnvironment, IsPlace, IsRecordOf, action_parents, type_parents, type_uid, place_cmp}
+use Rattle.schema.specs.Kept.{kept, entries_above}
+use Rattle.schema.specs.Views.{environment_view, is_among, is_above, schema_view}
+use Rattle.schema.specs.inner.Making.{shape_in, is_in, may_have_in, Places, AreShapes, ArePlaces, AreAncestors, AreTypesAbove, environment_of}
 use Rattle.schema.specs.inner.Reading.{AreTypesOf, AreHierarchiesOf}
 use Rattle.schema.proofs.PlaceLemmas.{place_cmp-IsTotalOrder, place_cmp-IsAntisymmetric}
 use Rattle.schema.proofs.HierarchyLemmas.{is_declared}
@@ -45,7 +49,7 @@ is_none : {A : Type 0} {G : Type 0} (o : Option A) → o ≡ None → IsSome o �
 is_none None e h = absurd cc
 is_none (Some x) e h = absurd cc
 
-contains_map : {A B : Type 0} (f : A → B) (xs : List A) (y : B) → Contains (map f xs) y → (x : A) × Contains xs x × (f x ≡ y)
+pub contains_map : {A B : Type 0} (f : A → B) (xs : List A) (y : B) → Contains (map f xs) y → (x : A) × Contains xs x × (f x ≡ y)
 contains_map f [] y h = Contains-none y h
 contains_map f (x ∷ xs) y h = elim (Contains-cases (f x) (map f xs) y h) [
   | inl same ↦ (x, Contains-here x xs, same)
@@ -133,10 +137,27 @@ module _ (s : FoundSchema) (places : Places) (are : ArePlaces s.commons s.action
   pub environments_ascend : IsStrictlySortedBy place_cmp (map (λ e. e.place) (map environment_view (map environment_of places.entries)))
   environments_ascend = subst (λ (ps : List Place). IsStrictlySortedBy place_cmp ps) (sym (places_are places.entries)) ordered
 
+-- ---- the same over entries
+
+among_keys : (o : Option (BTreeSet (List ℕ))) (n : List ℕ) → is_among (option_map (λ s. s.keys) o) n ≡ is_in o n
+among_keys None n = refl
+among_keys (Some s) n = refl
+
+found_keys : (test : List ℕ → Bool) (es : List (List ℕ × BTreeSet (List ℕ))) → lookup test (entries_above es) ≡ option_map (λ s. s.keys) (lookup test es)
+found_keys test [] = refl
+found_keys test (e ∷ es) = by (test e.0) (found_keys test es)
+  where
+    by : (b : Bool) → lookup test (entries_above es) ≡ option_map (λ s. s.keys) (lookup test es) → cond b (Some e.1.keys) (lookup test (entries_above es)) ≡ option_map (λ s. s.keys) (cond b (Some e.1) (lookup test es))
+    by true more = refl
+    by false more = more
+
+pub above_in : (above : BTreeMap (List ℕ) (BTreeSet (List ℕ))) (child parent : List ℕ) → is_above (entries_above above.entries) child parent ≡ may_have_in above child parent
+above_in above child parent = ap (λ (o : Option (List (List ℕ))). is_among o parent) (found_keys (is_at (text_cmp child)) above.entries) ∙ among_keys (get text_cmp above child) parent
+
 -- ---- all together
 
-pub made_answers : (s : FoundSchema) (label : List ℕ) (t : Types) (h : Hierarchies) → AreTypesOf s.commons s t → AreHierarchiesOf s h
-    → Answers s (record { label = label; environments = map environment_view t.environments; actions = h.actions; shape = shape_in t.shapes; ancestors = λ u. get uid_cmp h.ancestors u; may_have_parent = may_have_in h.above })
+made_answers : (s : FoundSchema) (label : List ℕ) (t : Types) (h : Hierarchies) → AreTypesOf s.commons s t → AreHierarchiesOf s h
+    → Answers s (schema_view (kept label t.environments h.actions t.shapes h.ancestors h.above))
 made_answers s label t h types hierarchies = record {
   shapes = shape_found s t.shapes types.shapes;
   all_shapes = shape_there s t.shapes types.shapes;
@@ -144,8 +165,19 @@ made_answers s label t h types hierarchies = record {
   actions_ascend = subst (λ (us : List EntityUid). IsAscending us) (sym hierarchies.actions) hierarchies.ascending;
   ancestors = ancestors_found s h.ancestors hierarchies.ancestors;
   all_ancestors = ancestors_there s h.ancestors hierarchies.ancestors;
-  parents = parents_are s h.above hierarchies.above;
+  parents = λ child parent. subst (λ (b : Bool). IsTrue b ↔ Above (type_parents s) (type_uid parent) (type_uid child)) (sym (above_in h.above child parent)) (parents_are s h.above hierarchies.above child parent);
   environments = subst (λ (es : List Environment). (e : EnvironmentOf) → Contains (map environment_view es) e → IsEnvironment s e) (sym types.environments) (environments_are s types.places types.are types.ordered);
   all_environments = subst (λ (es : List Environment). (p : Place) → IsPlace s p → Contains (map (λ e. e.place) (map environment_view es)) p) (sym types.environments) (all_environments s types.places types.are types.ordered);
   environments_ascend = subst (λ (es : List Environment). IsStrictlySortedBy place_cmp (map (λ e. e.place) (map environment_view es))) (sym types.environments) (environments_ascend s types.places types.are types.ordered);
+}
+
+-- what was made is the schema that the bytes state
+pub made_schema : (bytes : List ℕ) (s : FoundSchema) → StatesNamed bytes s → IsSound s → (label : List ℕ) → label ≡ encode_lower (sha256 bytes) → (t : Types) (h : Hierarchies)
+    → AreTypesOf s.commons s t → AreHierarchiesOf s h → IsSchemaOf bytes (schema_view (kept label t.environments h.actions t.shapes h.ancestors h.above))
+made_schema bytes s states sound label is t h types hierarchies = record {
+  named = s;
+  states = states;
+  sound = sound;
+  label = is;
+  answers = made_answers s label t h types hierarchies;
 }

@@ -90,7 +90,7 @@ has_parent parents (e ∷ es) u a h = elim (has_parent (with_parents parents (ty
   ]
 ]
 
-first_edge : (parents : Parents) (b : EntityUid) (through : List EntityUid) (a : EntityUid) → Path parents b through a → (c : EntityUid) × Contains (parents b) c
+pub first_edge : (parents : Parents) (b : EntityUid) (through : List EntityUid) (a : EntityUid) → Path parents b through a → (c : EntityUid) × Contains (parents b) c
 first_edge parents b [] a h = (a, h)
 first_edge parents b (c ∷ cs) a h = (c, h.0)
 

@@ -1,8 +1,12 @@
 mod AnswersLemmas
+mod BuiltLemmas
 mod FillingLemmas
 mod HierarchyLemmas
+mod InOrder
 mod OneSchemaLemmas
 mod OutcomeLemmas
 mod PlaceLemmas
+mod SomeOutcomeLemmas
 mod SoundLemmas
 mod UseLemmas
+mod WellFormedLemmas

@@ -202,7 +202,7 @@ module _ (one : OneWritten) (lists : AscendingListsAreOne) (s : FoundSchema) (on
           may_have_parent = λ child above. parents_same child above i;
         }
 
-pub one_schema : OneWritten → AscendingListsAreOne → names.OneFile → OneSchema
-one_schema one lists file bytes v w a b =
+pub one_schema : OneWritten → names.FilesDeclareOnce → AscendingListsAreOne → names.OneFile → OneSchema
+one_schema one once lists file bytes v w a b =
     let same = file bytes a.named b.named a.states b.states in
-    one_answer one lists b.named b.once v w (subst (λ (s : FoundSchema). Answers s v) same a.answers) b.answers (a.label ∙ sym b.label)
+    one_answer one lists b.named (once bytes b.named b.states) v w (subst (λ (s : FoundSchema). Answers s v) same a.answers) b.answers (a.label ∙ sym b.label)

@@ -20,13 +20,13 @@ sound_or_not one s once sound _ (schemas.too_large ends no_cycle large) =
     let at = sound.is_written large.type large.stands in
     at.2 (subst (λ (t : Cedar). IsTooLarge t) (one s.commons once.commons large.type large.whole at.0 large.is_written at.1) large.too_large)
 
-schema_or_not : OneWritten → names.OneFile → names.NotBoth → (bytes : List ℕ) (v : StatedSchema) (f : SchemaFault) → IsSchemaOf bytes v → RefusedFor bytes f → ⊥
-schema_or_not one file both bytes v _ is (schemas.naming f refused) = both bytes is.named f is.states refused
-schema_or_not one file both bytes v _ is (schemas.unsound s f states unsound) =
-    sound_or_not one is.named is.once is.sound f (subst (λ (t : FoundSchema). IsUnsound t f) (file bytes s is.named states is.states) unsound)
+schema_or_not : OneWritten → names.FilesDeclareOnce → names.OneFile → names.NotBoth → (bytes : List ℕ) (v : StatedSchema) (f : SchemaFault) → IsSchemaOf bytes v → RefusedFor bytes f → ⊥
+schema_or_not one once file both bytes v _ is (schemas.naming f refused) = both bytes is.named f is.states refused
+schema_or_not one once file both bytes v _ is (schemas.unsound s f states unsound) =
+    sound_or_not one is.named (once bytes is.named is.states) is.sound f (subst (λ (t : FoundSchema). IsUnsound t f) (file bytes s is.named states is.states) unsound)
 
-pub never_both : OneWritten → names.OneFile → names.NotBoth → NotBoth
-never_both one file both bytes v f is refused = schema_or_not one file both bytes v f is refused
+pub never_both : OneWritten → names.FilesDeclareOnce → names.OneFile → names.NotBoth → NotBoth
+never_both one once file both bytes v f is refused = schema_or_not one once file both bytes v f is refused
 
 one_cause : (s : FoundSchema) (f g : SchemaFault) → IsUnsound s f → IsUnsound s g → f ≡ g
 one_cause s _ _ (schemas.type_cycle a) (schemas.type_cycle b) = refl

@@ -1,4 +1,6 @@
+pub mod Kept
 pub mod Outcomes
 pub mod Schemas
 pub mod Views
+pub mod WellFormed
 pub mod inner

@@ -1,7 +1,15 @@
--- Bytes state one schema at most, or are refused for one cause at most, and never both.
+-- Bytes state one schema, or are refused for one cause.
 use Rattle.std.specs.Prelude.{◌≡◌, ℕ, List}
 use Rattle.schema_types.specs.declared.fault.SchemaFault.{SchemaFault}
 use Rattle.schema.specs.Schemas.{StatedSchema, IsSchemaOf, RefusedFor}
+
+-- bytes state a schema, or are refused
+pub data Outcome (bytes : List ℕ) : Type 0 where
+  states : (v : StatedSchema) → IsSchemaOf bytes v → Outcome bytes
+  refused : (f : SchemaFault) → RefusedFor bytes f → Outcome bytes
+
+abbrev pub SomeOutcome : Type 0
+SomeOutcome = (bytes : List ℕ) → Outcome bytes
 
 -- bytes state one schema at most
 abbrev pub OneSchema : Type 0

@@ -20,7 +20,7 @@ use Rattle.schema_types.specs.declared.fault.SchemaFault.{SchemaFault}
 use Rattle.schema_types.specs.declared.fault.SchemaFault.TheVariants.{TypeCycle, ActionCycle, TypeTooLarge}
 use Rattle.schema_names.specs.Qualifying.{FoundEntityType, FoundUse, FoundAction, FoundSchema}
 use Rattle.schema_names.specs.Naming.{StatesNamed, NamingRefused}
-use Rattle.schema_names.specs.Laws.{DeclaresOnce, IsShapeOrContext}
+use Rattle.schema_names.specs.Laws.{IsShapeOrContext}
 use Rattle.schema.specs.declared.parts.Place.{Place}
 
 -- ---- what a schema answers
@@ -148,11 +148,11 @@ pub data IsUnsound (s : FoundSchema) : SchemaFault → Type 0 where
   too_large : (SomeHasNoEnd s.commons → ⊥) → (SomeActionIsOnCycle s → ⊥) → SomeTypeIsTooLarge s
       → IsUnsound s TypeTooLarge
 
--- Bytes state this schema. Nothing is declared twice, since no key stands twice in an object that was read.
+-- Bytes state this schema. Nothing is declared twice, since no key stands twice in an object that was read: a law of
+-- `schema_names`.
 pub record IsSchemaOf (bytes : List ℕ) (v : StatedSchema) : Type 0 where
   pub named : FoundSchema
   pub states : StatesNamed bytes named
-  pub once : DeclaresOnce named
   pub sound : IsSound named
   pub label : v.label ≡ encode_lower (sha256 bytes)
   pub answers : Answers named v

@@ -1,12 +1,17 @@
 //! What a schema answers.
+ghost use Rattle.std.specs.Prelude.{◌≡◌};
+ghost use Rattle.schema.specs.inner.Making.{may_have_in};
+
 use crate::parts::{EntityDecl, Environment};
 use plain::{Items, Text};
 use std::collections::{BTreeMap, BTreeSet};
+use std::marker::Model;
 use values::{EntityUid, TypeName};
 
 /// A schema: entity types with their shapes, actions, and environments. Look-ups take no memory, and logarithmic time.
 ///
-/// Contracts see what the look-ups answer: `schema_view`.
+/// Contracts see what it keeps, which is plain data, and speak of what that answers: `schema_view`. Some bytes state
+/// each schema: [`Schema::is_stated`].
 #[derive(Drop)]
 pub struct Schema {
     pub(crate) label: Text,
@@ -18,10 +23,32 @@ pub struct Schema {
     pub(crate) above: BTreeMap<TypeName, BTreeSet<TypeName>>,
 }
 
+impl Model for Schema {
+    ghost use Rattle.std.specs.Coded.{codes};
+    ghost use Rattle.schema_types.specs.contracts.cedar.CedarType as cedar;
+    ghost use Rattle.schema.specs.Kept.{Kept, kept};
+    ghost use Rattle.schema.specs.Views.{IsStated};
+
+    ghost Value = { Kept };
+
+    ghost coded = { Prim.hlevel (codes, cedar.the_row.coded) };
+
+    ghost view = { λ s. kept s.label s.environments s.actions s.shapes s.ancestors s.above };
+
+    ghost invariant = { λ s. IsStated (kept s.label s.environments s.actions s.shapes s.ancestors s.above) };
+}
+
 impl Schema {
     ghost use Rattle.std.specs.Prelude.{◌≡◌, map, option_map};
     ghost use Rattle.schema_types.specs.CedarViews.{cedar_view};
-    ghost use Rattle.schema.specs.Views.{environment_view, schema_view};
+    ghost use Rattle.schema.specs.Views.{environment_view, schema_view, IsStated};
+
+    /// Whoever holds a schema knows by this that some bytes state it. Does nothing.
+    pub fn is_stated(&self)
+        ensures { IsStated self.now }
+    {
+        let _ = &self.label;
+    }
 
     /// The environments, ascending by the action, then by the principal's type, then by the resource's.
     pub fn environments(&self) -> &[Environment]
@@ -59,10 +86,7 @@ impl Schema {
     pub fn may_have_parent(&self, child: &TypeName, parent: &TypeName) -> bool
         ensures { result ≡ (schema_view self.now).may_have_parent child.now parent.now }
     {
-        match self.above.get(child) {
-            Some(above) => above.contains(parent),
-            None => false,
-        }
+        is_parent(&self.above, child, parent)
     }
 
     /// The label: 64 lower case hexadecimal digits, SHA-256 of the bytes that were read.
@@ -70,5 +94,19 @@ impl Schema {
         ensures { result.now ≡ (schema_view self.now).label }
     {
         self.label.as_str()
+    }
+}
+
+/// Whether the parent is one of the types above the child's.
+fn is_parent(
+    above: &BTreeMap<TypeName, BTreeSet<TypeName>>,
+    child: &TypeName,
+    parent: &TypeName,
+) -> bool
+    ensures { result ≡ may_have_in above.now child.now parent.now }
+{
+    match above.get(child) {
+        Some(types) => types.contains(parent),
+        None => false,
     }
 }

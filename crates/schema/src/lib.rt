@@ -13,6 +13,7 @@ mod reading;
 mod shapes;
 
 pub use answers::Schema;
-pub use laws::bytes_have_one_outcome;
+pub use laws::{bytes_have_one_outcome, stated_schemas_are_well_formed};
 pub use parts::{EntityDecl, Environment, Place};
 pub use reading::read_schema;
+pub use schema_types::{CedarType, SchemaFault};

@@ -2,16 +2,16 @@
 ghost use Rattle.std.specs.Prelude.{◌≢◌, IfOk, MatchResult};
 ghost use Rattle.ancestor_closure.specs.contracts.searched.SearchedAncestry.TheImpl as searched;
 ghost use Rattle.schema_types.specs.WrittenOut.{Declarations};
-ghost use Rattle.schema_types.specs.Knowledge.{AreWritten};
+ghost use Rattle.schema_types.specs.Knowledge.{AreWritten, AreWhole};
 ghost use Rattle.schema_types.specs.TableViews.{knowledge};
 ghost use Rattle.schema_types.specs.declared.fault.SchemaFault.TheVariants as SchemaFault;
 ghost use Rattle.schema_names.specs.FoundViews.{found_view};
 ghost use Rattle.schema_names.specs.Laws.{NamesItsOwn};
+ghost use Rattle.schema_names.specs.Naming.{StatesNamed};
 ghost use Rattle.schema.specs.Schemas.{IsSchemaOf, RefusedFor, IsUnsound};
 ghost use Rattle.schema.specs.Views.{schema_view};
 ghost use Rattle.schema.specs.inner.Reading.{AreEdges, AreTypesClosed, AreTypesOf};
-ghost use Rattle.schema.specs.inner.Reading.{AreHierarchiesOf, TypesRefused, IsMadeOf};
-ghost use Rattle.schema.specs.inner.Reading.{EdgesRefused, IsSoundlyMade};
+ghost use Rattle.schema.specs.inner.Reading.{AreHierarchiesOf, TypesRefused, EdgesRefused};
 
 use crate::answers::Schema;
 use crate::environments::{listed, make_places};
@@ -95,6 +95,8 @@ fn make_hierarchies(alloc: Global, found: &Found, edges: &Searched) -> Result<Hi
 }
 
 /// The schema of bytes that state this file, once its actions and its common types were seen to be sound.
+///
+/// Refused where a shape or a context is too large.
 fn make_schema(
     alloc: Global,
     bytes: &[u8],
@@ -102,10 +104,12 @@ fn make_schema(
     edges: &Searched,
     table: &Table,
 ) -> Result<Schema, SchemaFault>
+    requires states { StatesNamed bytes.now (found_view found.now) }
     requires written { AreWritten (found_view found.now).commons (knowledge table.now) }
+    requires whole { AreWhole (found_view found.now).commons (knowledge table.now) }
     requires own { NamesItsOwn (found_view found.now) }
     requires edges { AreEdges (found_view found.now) (searched.parents-value.it edges.now) }
-    ensures { MatchResult result (λ s. IsMadeOf bytes.now (found_view found.now) (schema_view s))
+    ensures { MatchResult result (λ s. IsSchemaOf bytes.now (schema_view s))
         (λ f. f ≢ SchemaFault.NoMemory
         → TypesRefused (found_view found.now).commons (found_view found.now) f) }
 {
@@ -127,8 +131,9 @@ fn make_schema(
 /// Refused where a common type leads back to itself, then where an action is above itself, and then where a type is too
 /// large.
 fn sound_schema(alloc: Global, bytes: &[u8], found: &Found) -> Result<Schema, SchemaFault>
-    requires { NamesItsOwn (found_view found.now) }
-    ensures { MatchResult result (λ s. IsSoundlyMade bytes.now (found_view found.now) (schema_view s))
+    requires states { StatesNamed bytes.now (found_view found.now) }
+    requires own { NamesItsOwn (found_view found.now) }
+    ensures { MatchResult result (λ s. IsSchemaOf bytes.now (schema_view s))
         (λ f. f ≢ SchemaFault.NoMemory → IsUnsound (found_view found.now) f) }
 {
     let commons = found.commons.as_slice();

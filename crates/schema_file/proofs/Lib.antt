@@ -1,1 +1,2 @@
-pub mod OnceLemmas
+mod OnceLemmas
+mod TypesLemmas

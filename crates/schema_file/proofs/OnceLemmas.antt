@@ -1,5 +1,5 @@
 -- What is read at the keys of an object is apart, since the keys ascend.
-use Rattle.std.proofs.Common.{◌≡◌, ◌≢◌, ◌∙◌, ℕ, false, List, [], ◌∷◌, ◌++◌, map, Option, Some, None, String, Global, string_bytes, string_cmp, Result, Ok, refl, sym, ap, subst}
+use Rattle.std.proofs.Common.{◌≡◌, ◌≢◌, ◌∙◌, ℕ, false, List, [], ◌∷◌, map, Option, Some, None, Result, Ok, refl, sym, ap, subst}
 use Rattle.std.specs.Prelude.{codes, not}
 use Rattle.std.specs.List.{AllByRecursion}
 use Rattle.std.specs.List.Sorted.{IsStrictlySortedBy}
@@ -9,24 +9,24 @@ use Rattle.std.specs.Cmp.Lexicographic.{slice_cmp}
 use Rattle.std.specs.Str.{bytes_eq}
 use Rattle.std.proofs.lemmas.Cmp.{nat_list_cmp_total}
 use Rattle.values.specs.Paths.{is_path}
-use Rattle.serde_json.specs.Data.{Data}
-use Rattle.serde_json.specs.View.{view, members_view}
-use Rattle.json_words.specs.Gives.{◌>>=◌, demand}
+use Rattle.serde_json.specs.Data.{Data, Members, no_members, member}
+use Rattle.serde_json.specs.Find.{as_object}
+use Rattle.json_words.specs.Gives.{◌>>=◌, demand, or_fault}
 use Rattle.json_words.specs.Each.{each_member}
 use Rattle.json_words.specs.Keys.{has_only}
 use Rattle.json_words.proofs.EachLemmas.{bind_ok}
-use Rattle.json_words.proofs.MembersLemmas.{Entry}
 use Rattle.schema_types.specs.declared.fault.SchemaFault.{SchemaFault}
 use Rattle.schema_types.specs.declared.fault.SchemaFault.TheVariants.{BadShape}
 use Rattle.schema_types.specs.Raw.{Raw}
+use Rattle.schema_types.specs.Ascending.{Ascend, member_keys, DataAscends, MembersAscend}
 use Rattle.schema_types.specs.Forms.{form_named}
 use Rattle.schema_types.specs.Names.{is_qualified}
 use Rattle.schema_types.specs.Optional.{optional}
 use Rattle.schema_types.specs.TypeShape.{type_name, type_of}
 use Rattle.schema_file.specs.Once.{AreApart, StatesOnce}
-use Rattle.schema_file.specs.StatedViews.{namespace_view}
-use Rattle.schema_file.specs.declared.stated.StatedNamespace.{StatedNamespace}
-use Rattle.schema_file.specs.Stated.{EntityTypeOf, ActionOf, NamespaceOf, ident, is_common, common_of, names_in, type_in, entity_type_name, entity_type_of, is_empty_in, parents_in, use_in, action_of, namespace_name, commons_in, entity_types_in, actions_in, namespace_of}
+use Rattle.schema_file.specs.Laws.{FilesStateOnce}
+use Rattle.schema_file.specs.Stated.{EntityTypeOf, ActionOf, NamespaceOf, ident, is_common, common_of, members_in, names_in, type_in, entity_type_name, entity_type_of, is_empty_in, parents_in, use_in, action_of, namespace_name, commons_of, entity_types_of, actions_of, namespaces_of, commons_in, entity_types_in, actions_in, namespace_of, stated}
+use Rattle.schema_file.proofs.TypesLemmas.{object_ascends, optional_members, there_is}
 
 abbrev ok : {A : Type 0} → A → Result A SchemaFault
 ok x = Ok x
@@ -45,29 +45,26 @@ apart_keys k l lt same =
     let there : slice_cmp nat_cmp k k ≡ Greater = nat_list_cmp_total.antisymm k k ∙ ap ordering_reverse here in
     less_greater (sym here ∙ there)
 
-abbrev keys_of : List Entry → List (String Global)
-keys_of es = map (λ e. e.0) es
-
 module _ {A B : Type 0} (f : List ℕ → Data → Result B SchemaFault) (name : B → A) (key : List ℕ → A) (named : (k : List ℕ) (d : Data) (x : B) → f k d ≡ ok x → name x ≡ key k)
     (one_key : (k l : List ℕ) → key k ≡ key l → k ≡ l) where
-  entries_lack : (k : String Global) (es : List Entry) (xs : List B) → AllByRecursion (λ l. string_cmp k l ≡ Less) (keys_of es) → each_member f (members_view es) ≡ ok xs
-      → AllByRecursion (λ y. key (string_bytes k) ≢ y) (map name xs)
+  members_lack : (k : List ℕ) (ms : Members) (xs : List B) → AllByRecursion (λ l. slice_cmp nat_cmp k l ≡ Less) (member_keys ms) → each_member f ms ≡ ok xs
+      → AllByRecursion (λ y. key k ≢ y) (map name xs)
   unfolding each_member
-  entries_lack k [] xs above e = subst (λ (zs : List B). AllByRecursion (λ y. key (string_bytes k) ≢ y) (map name zs)) (ok_same [] xs e) tt
-  entries_lack k (m ∷ ms) xs above e =
-      let a = bind_ok (f (string_bytes m.0) (view m.1)) (λ y. each_member f (members_view ms) >>= λ ys. ok (y ∷ ys)) xs e in
-      let b = bind_ok (each_member f (members_view ms)) (λ ys. ok (a.0 ∷ ys)) xs a.2 in
-      subst (λ (zs : List B). AllByRecursion (λ y. key (string_bytes k) ≢ y) (map name zs)) (ok_same (a.0 ∷ b.0) xs b.2)
-      ((λ same. apart_keys (string_bytes k) (string_bytes m.0) above.0 (one_key (string_bytes k) (string_bytes m.0) (same ∙ named (string_bytes m.0) (view m.1) a.0 a.1))), entries_lack k ms b.0 above.1 b.1)
+  members_lack k no_members xs above e = subst (λ (zs : List B). AllByRecursion (λ y. key k ≢ y) (map name zs)) (ok_same [] xs e) tt
+  members_lack k (member l d ms) xs above e =
+      let a = bind_ok (f l d) (λ y. each_member f ms >>= λ ys. ok (y ∷ ys)) xs e in
+      let b = bind_ok (each_member f ms) (λ ys. ok (a.0 ∷ ys)) xs a.2 in
+      subst (λ (zs : List B). AllByRecursion (λ y. key k ≢ y) (map name zs)) (ok_same (a.0 ∷ b.0) xs b.2)
+      ((λ same. apart_keys k l above.0 (one_key k l (same ∙ named l d a.0 a.1))), members_lack k ms b.0 above.1 b.1)
 
-  pub entries_apart : (es : List Entry) (xs : List B) → IsStrictlySortedBy string_cmp (keys_of es) → each_member f (members_view es) ≡ ok xs → AreApart (map name xs)
+  pub members_apart : (ms : Members) (xs : List B) → Ascend (member_keys ms) → each_member f ms ≡ ok xs → AreApart (map name xs)
   unfolding each_member IsStrictlySortedBy
-  entries_apart [] xs h e = subst (λ (zs : List B). AreApart (map name zs)) (ok_same [] xs e) tt
-  entries_apart (m ∷ ms) xs h e =
-      let a = bind_ok (f (string_bytes m.0) (view m.1)) (λ y. each_member f (members_view ms) >>= λ ys. ok (y ∷ ys)) xs e in
-      let b = bind_ok (each_member f (members_view ms)) (λ ys. ok (a.0 ∷ ys)) xs a.2 in
+  members_apart no_members xs h e = subst (λ (zs : List B). AreApart (map name zs)) (ok_same [] xs e) tt
+  members_apart (member l d ms) xs h e =
+      let a = bind_ok (f l d) (λ y. each_member f ms >>= λ ys. ok (y ∷ ys)) xs e in
+      let b = bind_ok (each_member f ms) (λ ys. ok (a.0 ∷ ys)) xs a.2 in
       subst (λ (zs : List B). AreApart (map name zs)) (ok_same (a.0 ∷ b.0) xs b.2)
-      (subst (λ (x : A). AllByRecursion (λ y. x ≢ y) (map name b.0)) (sym (named (string_bytes m.0) (view m.1) a.0 a.1)) (entries_lack m.0 ms b.0 h.0 b.1), entries_apart ms b.0 h.1 b.1)
+      (subst (λ (x : A). AllByRecursion (λ y. x ≢ y) (map name b.0)) (sym (named l d a.0 a.1)) (members_lack l ms b.0 h.0 b.1), members_apart ms b.0 h.1 b.1)
 
 -- ---- what is read under a key has it as its name
 
@@ -147,23 +144,52 @@ namespace_named k d n e =
 
 -- ---- so no two of these have one name
 
-abbrev Ascend : List Entry → Type 0
-Ascend es = IsStrictlySortedBy string_cmp (keys_of es)
+commons_apart : (ms : Members) (xs : List (List ℕ × Raw)) → Ascend (member_keys ms) → commons_of ms ≡ ok xs → AreApart (map (λ c. c.0) xs)
+unfolding commons_of
+commons_apart = members_apart common_of (λ c. c.0) (λ k. k) common_named (λ k l e. e)
 
-pub commons_apart : (es : List Entry) (xs : List (List ℕ × Raw)) → Ascend es → each_member common_of (members_view es) ≡ ok xs → AreApart (map (λ c. c.0) xs)
-commons_apart = entries_apart common_of (λ c. c.0) (λ k. k) common_named (λ k l e. e)
+entity_types_apart : (ms : Members) (xs : List EntityTypeOf) → Ascend (member_keys ms) → entity_types_of ms ≡ ok xs → AreApart (map (λ x. x.name) xs)
+unfolding entity_types_of
+entity_types_apart = members_apart entity_type_of (λ x. x.name) (λ k. k) entity_type_named (λ k l e. e)
 
-pub entity_types_apart : (es : List Entry) (xs : List EntityTypeOf) → Ascend es → each_member entity_type_of (members_view es) ≡ ok xs → AreApart (map (λ x. x.name) xs)
-entity_types_apart = entries_apart entity_type_of (λ x. x.name) (λ k. k) entity_type_named (λ k l e. e)
+actions_apart : (ms : Members) (xs : List ActionOf) → Ascend (member_keys ms) → actions_of ms ≡ ok xs → AreApart (map (λ x. x.id) xs)
+unfolding actions_of
+actions_apart = members_apart action_of (λ x. x.id) (λ k. k) action_named (λ k l e. e)
 
-pub actions_apart : (es : List Entry) (xs : List ActionOf) → Ascend es → each_member action_of (members_view es) ≡ ok xs → AreApart (map (λ x. x.id) xs)
-actions_apart = entries_apart action_of (λ x. x.id) (λ k. k) action_named (λ k l e. e)
+namespaces_apart : (ms : Members) (xs : List NamespaceOf) → Ascend (member_keys ms) → namespaces_of ms ≡ ok xs → AreApart (map (λ n. n.name) xs)
+unfolding namespaces_of
+namespaces_apart = members_apart namespace_of (λ n. n.name) key_name namespace_named one_key_name
 
-pub namespaces_apart : (es : List Entry) (xs : List NamespaceOf) → Ascend es → each_member namespace_of (members_view es) ≡ ok xs → AreApart (map (λ n. n.name) xs)
-namespaces_apart = entries_apart namespace_of (λ n. n.name) key_name namespace_named one_key_name
+-- ---- in a namespace
 
--- one more namespace
-pub more_once : (ns : List StatedNamespace) (n : StatedNamespace) → AllByRecursion StatesOnce (map namespace_view ns) → StatesOnce (namespace_view n)
-    → AllByRecursion StatesOnce (map namespace_view (ns ++ n ∷ []))
-more_once [] n h one = (one, tt)
-more_once (m ∷ ms) n h one = (h.0, more_once ms n h.1 one)
+namespace_once : (k : List ℕ) (d : Data) (n : NamespaceOf) → namespace_of k d ≡ ok n → DataAscends d → StatesOnce n
+unfolding namespace_of
+namespace_once k d n e h =
+    let a = bind_ok (namespace_name k) _ n e in
+    let b = bind_ok (demand BadShape (has_only (codes "commonTypes" ∷ codes "entityTypes" ∷ codes "actions" ∷ codes "annotations" ∷ []) d)) _ n a.2 in
+    let x = bind_ok (commons_in (optional (codes "commonTypes") d)) _ n b.2 in
+    let y = bind_ok (entity_types_in (optional (codes "entityTypes") d)) _ n x.2 in
+    let z = bind_ok (actions_in (optional (codes "actions") d)) _ n y.2 in
+    let xm = bind_ok (members_in (optional (codes "commonTypes") d)) commons_of x.0 x.1 in
+    let ym = bind_ok (members_in (optional (codes "entityTypes") d)) entity_types_of y.0 y.1 in
+    let zm = bind_ok (members_in (optional (codes "actions") d)) actions_of z.0 z.1 in
+    subst StatesOnce (ok_same (record { name = a.0; commons = x.0; entity_types = y.0; actions = z.0 }) n z.2) (record {
+      commons = commons_apart xm.0 x.0 (optional_members (codes "commonTypes") d xm.0 h xm.1).0 xm.2;
+      entity_types = entity_types_apart ym.0 y.0 (optional_members (codes "entityTypes") d ym.0 h ym.1).0 ym.2;
+      actions = actions_apart zm.0 z.0 (optional_members (codes "actions") d zm.0 h zm.1).0 zm.2;
+    })
+
+each_once : (ms : Members) (ns : List NamespaceOf) → each_member namespace_of ms ≡ ok ns → MembersAscend ms → AllByRecursion StatesOnce ns
+unfolding each_member
+each_once no_members ns e h = subst (λ (xs : List NamespaceOf). AllByRecursion StatesOnce xs) (ok_same [] ns e) tt
+each_once (member k d ms) ns e h =
+    let a = bind_ok (namespace_of k d) (λ y. each_member namespace_of ms >>= λ ys. ok (y ∷ ys)) ns e in
+    let b = bind_ok (each_member namespace_of ms) (λ ys. ok (a.0 ∷ ys)) ns a.2 in
+    subst (λ (xs : List NamespaceOf). AllByRecursion StatesOnce xs) (ok_same (a.0 ∷ b.0) ns b.2) (namespace_once k d a.0 a.1 h.0, each_once ms b.0 b.1 h.1)
+
+pub files_state_once : FilesStateOnce
+unfolding stated namespaces_of
+files_state_once d ns e h =
+    let a = bind_ok (or_fault BadShape (as_object d)) namespaces_of ns e in
+    let m = object_ascends d a.0 h (there_is BadShape (as_object d) a.0 a.1) in
+    record { namespaces = namespaces_apart a.0 ns m.0 a.2; names = each_once a.0 ns a.2 m.1 }

@@ -1,3 +1,4 @@
+pub mod Laws
 pub mod Once
 pub mod Stated
 pub mod StatedViews

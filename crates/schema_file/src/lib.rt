@@ -1,9 +1,11 @@
 //! What a schema file states, before any name is looked for: namespaces, common types, entity types and actions.
 #![tactic(auto)]
 
+mod laws;
 mod reading;
 mod stated;
 
+pub use laws::stated_files_are_in_order;
 pub use reading::read_stated;
 pub use stated::{
     StatedAction, StatedCommon, StatedEntityType, StatedNamespace, StatedParent, StatedUse,

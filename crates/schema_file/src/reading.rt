@@ -1,9 +1,8 @@
 //! Reading the shape of a schema file.
-ghost use Rattle.std.specs.Prelude.{◌≡◌, IfOk, map, option_map};
+ghost use Rattle.std.specs.Prelude.{◌≡◌, map, option_map};
 ghost use Rattle.serde_json.specs.View.{view, items_view, members_view};
 ghost use Rattle.json_words.specs.Gives.{Gives};
 ghost use Rattle.schema_types.specs.Views.{raw_view};
-ghost use Rattle.schema_file.specs.Once.{AreApart, StatesOnce, AllStateOnce};
 ghost use Rattle.schema_file.specs.StatedViews.{common_view, entity_type_view, use_view, action_view, namespace_view};
 ghost use Rattle.schema_file.specs.Stated.{ident, name_of, names_of, names_in, names_at, type_in, name_in_place};
 ghost use Rattle.schema_file.specs.Stated.{is_common as is_common_form, common_of, entity_type_name, entity_type_of};
@@ -281,8 +280,7 @@ fn read_commons(
     alloc: Global,
     members: &Map<String, Value>,
 ) -> Result<Items<StatedCommon>, SchemaFault>
-    ensures gives { Gives SchemaFault.NoMemory (map common_view) result (commons_of (members_view members.now.entries)) }
-    ensures apart { IfOk result (λ cs. AreApart (map (λ c. c.0) (map common_view cs))) }
+    ensures { Gives SchemaFault.NoMemory (map common_view) result (commons_of (members_view members.now.entries)) }
 {
     let mut commons = Items::new(alloc);
     for (key, value) in members.iter() {
@@ -297,9 +295,8 @@ fn read_optional_commons(
     alloc: Global,
     found: Option<&Value>,
 ) -> Result<Items<StatedCommon>, SchemaFault>
-    ensures gives { Gives SchemaFault.NoMemory (map common_view) result
+    ensures { Gives SchemaFault.NoMemory (map common_view) result
         (commons_in (option_map (λ v. view v.now) found.entry)) }
-    ensures apart { IfOk result (λ cs. AreApart (map (λ c. c.0) (map common_view cs))) }
 {
     match found {
         None => Ok(Items::new(alloc)),
@@ -314,9 +311,8 @@ fn read_entity_types(
     alloc: Global,
     members: &Map<String, Value>,
 ) -> Result<Items<StatedEntityType>, SchemaFault>
-    ensures gives { Gives SchemaFault.NoMemory (map entity_type_view) result
+    ensures { Gives SchemaFault.NoMemory (map entity_type_view) result
         (entity_types_of (members_view members.now.entries)) }
-    ensures apart { IfOk result (λ es. AreApart (map (λ e. e.name) (map entity_type_view es))) }
 {
     let mut entity_types = Items::new(alloc);
     for (key, value) in members.iter() {
@@ -331,9 +327,8 @@ fn read_optional_entity_types(
     alloc: Global,
     found: Option<&Value>,
 ) -> Result<Items<StatedEntityType>, SchemaFault>
-    ensures gives { Gives SchemaFault.NoMemory (map entity_type_view) result
+    ensures { Gives SchemaFault.NoMemory (map entity_type_view) result
         (entity_types_in (option_map (λ v. view v.now) found.entry)) }
-    ensures apart { IfOk result (λ es. AreApart (map (λ e. e.name) (map entity_type_view es))) }
 {
     match found {
         None => Ok(Items::new(alloc)),
@@ -348,8 +343,7 @@ fn read_actions(
     alloc: Global,
     members: &Map<String, Value>,
 ) -> Result<Items<StatedAction>, SchemaFault>
-    ensures gives { Gives SchemaFault.NoMemory (map action_view) result (actions_of (members_view members.now.entries)) }
-    ensures apart { IfOk result (λ us. AreApart (map (λ a. a.id) (map action_view us))) }
+    ensures { Gives SchemaFault.NoMemory (map action_view) result (actions_of (members_view members.now.entries)) }
 {
     let mut actions = Items::new(alloc);
     for (key, value) in members.iter() {
@@ -364,9 +358,8 @@ fn read_optional_actions(
     alloc: Global,
     found: Option<&Value>,
 ) -> Result<Items<StatedAction>, SchemaFault>
-    ensures gives { Gives SchemaFault.NoMemory (map action_view) result
+    ensures { Gives SchemaFault.NoMemory (map action_view) result
         (actions_in (option_map (λ v. view v.now) found.entry)) }
-    ensures apart { IfOk result (λ us. AreApart (map (λ a. a.id) (map action_view us))) }
 {
     match found {
         None => Ok(Items::new(alloc)),
@@ -380,8 +373,7 @@ fn read_optional_actions(
 /// The namespace under a key.
 #[tactic(auto, unfolding(crate::specs::Stated::namespace_of))]
 fn read_namespace(alloc: Global, key: &str, value: &Value) -> Result<StatedNamespace, SchemaFault>
-    ensures gives { Gives SchemaFault.NoMemory namespace_view result (namespace_of key.now (view value.now)) }
-    ensures once { IfOk result (λ n. StatesOnce (namespace_view n)) }
+    ensures { Gives SchemaFault.NoMemory namespace_view result (namespace_of key.now (view value.now)) }
 {
     let name = read_namespace_name(alloc, key)?;
     if !only_keys(
@@ -405,9 +397,8 @@ fn read_namespaces(
     alloc: Global,
     members: &Map<String, Value>,
 ) -> Result<Items<StatedNamespace>, SchemaFault>
-    ensures gives { Gives SchemaFault.NoMemory (map namespace_view) result
+    ensures { Gives SchemaFault.NoMemory (map namespace_view) result
         (namespaces_of (members_view members.now.entries)) }
-    ensures once { IfOk result (λ ns. AllStateOnce (map namespace_view ns)) }
 {
     let mut namespaces = Items::new(alloc);
     for (key, value) in members.iter() {
@@ -417,13 +408,12 @@ fn read_namespaces(
     Ok(namespaces)
 }
 
-/// The namespaces of a schema file, none of them twice, and in each no name twice.
+/// The namespaces of a schema file.
 ///
 /// Refused where the value has not the shape of a schema.
 #[tactic(auto, unfolding(crate::specs::Stated::stated))]
 pub fn read_stated(alloc: Global, value: &Value) -> Result<Items<StatedNamespace>, SchemaFault>
-    ensures gives { Gives SchemaFault.NoMemory (map namespace_view) result (stated (view value.now)) }
-    ensures once { IfOk result (λ ns. AllStateOnce (map namespace_view ns)) }
+    ensures { Gives SchemaFault.NoMemory (map namespace_view) result (stated (view value.now)) }
 {
     match value.as_object() {
         Some(members) => read_namespaces(alloc, members),

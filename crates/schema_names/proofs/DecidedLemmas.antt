@@ -6,7 +6,7 @@ use Rattle.std.proofs.lemmas.Bool.{cases_Bool}
 use Rattle.std.proofs.lemmas.Slice.Eq.{bytes_eq-Decides}
 use Rattle.serde_json.specs.Data.{Data}
 use Rattle.json_words.specs.Json.{json_of}
-use Rattle.values.proofs.Members.{Contains-here, Contains-there}
+use Rattle.plain.proofs.Members.{Contains-here, Contains-there}
 use Rattle.schema_types.specs.Raw.{Raw}
 use Rattle.schema_types.specs.declared.fault.SchemaFault.{SchemaFault}
 use Rattle.schema_file.specs.Stated.{NamespaceOf, stated}

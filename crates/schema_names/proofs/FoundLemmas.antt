@@ -9,7 +9,7 @@ use Rattle.json_words.specs.Gives.{◌>>=◌}
 use Rattle.json_words.specs.Each.{each}
 use Rattle.json_words.proofs.EachLemmas.{bind_ok}
 use Rattle.values.specs.declared.entity_uid.EntityUid.{EntityUid}
-use Rattle.values.proofs.Members.{Contains-here, Contains-there}
+use Rattle.plain.proofs.Members.{Contains-here, Contains-there}
 use Rattle.schema_types.specs.Raw.{Raw}
 use Rattle.schema_types.specs.Qualified.{Qualified}
 use Rattle.schema_types.specs.WrittenOut.{Declarations, Declares}
@@ -17,7 +17,7 @@ use Rattle.schema_types.specs.Names.{Scope, full_name, qualified_of}
 use Rattle.schema_types.specs.declared.fault.SchemaFault.{SchemaFault}
 use Rattle.schema_file.specs.Stated.{EntityTypeOf, UseOf, ActionOf, NamespaceOf}
 use Rattle.schema_types.specs.Mentions.{IsClosed}
-use Rattle.schema_types.proofs.NamesClosed.{names_declared}
+use Rattle.schema_types.specs.Law.{FoundCommonsAreDeclared}
 use Rattle.schema_names.specs.Laws.{IsShapeOrContext, NamesItsOwn}
 use Rattle.schema_names.specs.Naming.{StatesNamed}
 use Rattle.schema_names.specs.Records.{StandsAsRecord}
@@ -110,7 +110,7 @@ all_of_to {A = A} g (z ∷ xs) x y here inside = by (member_cases z xs x here) (
     by (inl same) later = Contains-append_left (g z) (all_of g xs) y (subst (λ (w : A). Contains (g w) y) (sym same) inside)
     by (inr there) later = Contains-append_right (g z) (all_of g xs) y (later there)
 
-map_from : {A B : Type 0} (g : A → B) (xs : List A) (y : B) → Contains (map g xs) y → (x : A) × Contains xs x × (g x ≡ y)
+pub map_from : {A B : Type 0} (g : A → B) (xs : List A) (y : B) → Contains (map g xs) y → (x : A) × Contains xs x × (g x ≡ y)
 map_from g [] y here = no_member y here
 map_from {A = A} g (x ∷ xs) y here = by (member_cases (g x) (map g xs) y here) (λ later. map_from g xs y later)
   where
@@ -286,14 +286,14 @@ module _ (ns : List NamespaceOf) (s : FoundSchema) (named : qualified ns ≡ ok 
       (t.0.1, subst (λ (q : List ℕ). Declares s.commons q t.0.1) name (declares_to s.commons t.0 there))
 
   -- what a type of the file names is declared
-  pub closed : (own : Option (List ℕ)) (raw : Raw) (r : Qualified) → qualified_of (scope_in ns) own raw ≡ ok r → IsClosed s.commons r
-  closed own raw r e q m =
-      let x = some_passes (λ c. bytes_eq c.name q) (commons_declared ns) (names_declared (scope_in ns) own raw r e q m) in
+  closed : FoundCommonsAreDeclared → (own : Option (List ℕ)) (raw : Raw) (r : Qualified) → qualified_of (scope_in ns) own raw ≡ ok r → IsClosed s.commons r
+  closed declared own raw r e q m =
+      let x = some_passes (λ c. bytes_eq c.name q) (commons_declared ns) (declared (scope_in ns) own raw r e q m) in
       let t = common_to x.0 x.1 in
       (t.0, subst (λ (p : List ℕ). Declares s.commons p t.0) ((bytes_eq-Decides x.0.name q).0 x.2) t.1)
 
-pub names_its_own : (bytes : List ℕ) (s : FoundSchema) → StatesNamed bytes s → NamesItsOwn s
-names_its_own bytes s h = record {
-  commons = λ q r here. let c = common_from h.namespaces s h.named.found q r here in closed h.namespaces s h.named.found c.0.own c.0.type r c.3;
-  records = λ r here. let x = record_from h.namespaces s h.named.found r here in closed h.namespaces s h.named.found x.0.name x.1 r x.4;
+pub names_its_own : FoundCommonsAreDeclared → (bytes : List ℕ) (s : FoundSchema) → StatesNamed bytes s → NamesItsOwn s
+names_its_own declared bytes s h = record {
+  commons = λ q r here. let c = common_from h.namespaces s h.named.found q r here in closed h.namespaces s h.named.found declared c.0.own c.0.type r c.3;
+  records = λ r here. let x = record_from h.namespaces s h.named.found r here in closed h.namespaces s h.named.found declared x.0.name x.1 r x.4;
 }

@@ -1,4 +1,5 @@
 pub mod AddLemmas
+pub mod AscendLemmas
 pub mod DecidedLemmas
 pub mod FollowLemmas
 pub mod FoundLemmas

@@ -1,5 +1,5 @@
 -- No full name and no action is declared twice, since no name stands twice in its namespace, nor a namespace in the file.
-use Rattle.std.proofs.Common.{◌≡◌, ◌≢◌, ◌∙◌, inl, inr, ℕ, suc, List, [], ◌∷◌, ◌++◌, map, Bool, true, false, Option, Some, None, Result, Ok, Err, MatchResult, IfOk, refl, sym, ap, subst, true≢false}
+use Rattle.std.proofs.Common.{◌≡◌, ◌≢◌, ◌∙◌, inl, inr, ℕ, suc, List, [], ◌∷◌, ◌++◌, map, Bool, true, false, Option, Some, None, Result, Ok, refl, sym, ap, subst, true≢false}
 use Rattle.std.specs.Prelude.{◌==◌, ◌||◌, ⊤, codes, not}
 use Rattle.std.specs.List.{AllByRecursion}
 use Rattle.std.specs.Str.{bytes_eq}
@@ -21,14 +21,13 @@ use Rattle.schema_types.specs.Forms.{form_named}
 use Rattle.schema_types.specs.Names.{Scope, is_qualified, full_name, qualified_of}
 use Rattle.schema_types.specs.TypeShape.{type_name, type_of}
 use Rattle.schema_types.specs.declared.fault.SchemaFault.{SchemaFault}
-use Rattle.schema_types.specs.declared.fault.SchemaFault.TheVariants.{BadShape, NoMemory}
+use Rattle.schema_types.specs.declared.fault.SchemaFault.TheVariants.{BadShape}
 use Rattle.schema_file.specs.Once.{AreApart, StatesOnce, AllStateOnce}
 use Rattle.schema_file.specs.Stated.{EntityTypeOf, ActionOf, NamespaceOf, ident, is_common, common_of, commons_of, entity_type_name, entity_type_of, entity_types_of, names_in, type_in, members_in, commons_in, entity_types_in, actions_in, namespace_name, namespace_of, namespaces_of, stated}
-use Rattle.schema_names.specs.declared.qualifying.Found.{Found}
-use Rattle.schema_names.specs.FoundViews.{found_view}
 use Rattle.schema_names.specs.Qualifying.{FoundEntityType, FoundAction, FoundSchema, all_of, action_type, uid_of, entity_types_named, type_named, parents_named, use_named, qualified_common, qualified_commons, qualified_entity_type, qualified_entity_types, qualified_action, qualified_actions, qualified_namespace, qualified_namespaces, together, scope_in, is_action_in, qualified}
-use Rattle.schema_names.specs.Naming.{IsNamed, NamesRefused}
-use Rattle.schema_names.specs.Laws.{DeclaresOnce}
+use Rattle.schema_types.specs.AscendingLaw.{JsonAscends}
+use Rattle.schema_file.specs.Laws.{FilesStateOnce}
+use Rattle.schema_names.specs.Laws.{DeclaresOnce, FilesDeclareOnce}
 use Rattle.schema_names.proofs.FoundLemmas.{namespace_parts}
 
 abbrev ok : {A : Type 0} → A → Result A SchemaFault
@@ -352,7 +351,7 @@ apart_at : {A : Type 0} (of : NamespaceOf → List A) (word : A → List ℕ) �
 apart_at of word at [] h = tt
 apart_at of word at (n ∷ ns) h = (at n h.0, apart_at of word at ns h.1)
 
-pub declares_once : (d : Data) (ns : List NamespaceOf) (s : FoundSchema) → stated d ≡ ok ns → AllStateOnce ns → qualified ns ≡ ok s → DeclaresOnce s
+declares_once : (d : Data) (ns : List NamespaceOf) (s : FoundSchema) → stated d ≡ ok ns → AllStateOnce ns → qualified ns ≡ ok s → DeclaresOnce s
 unfolding stated namespaces_of
 declares_once d ns s shape once found =
     let a = bind_ok (or_fault BadShape (as_object d)) (λ ms. namespaces_of ms) ns shape in
@@ -365,7 +364,5 @@ declares_once d ns s shape once found =
           (actions_are (scope_in ns) (is_action_in ns)) once.namespaces (all_any ns) (apart_at (λ n. n.actions) (λ x. x.id) (λ n h. h.actions) ns once.names);
     }
 
-pub named_once : (d : Data) (ns : List NamespaceOf) → stated d ≡ ok ns → AllStateOnce ns → (r : Result (List Found) SchemaFault)
-    → MatchResult r (λ ps. IsNamed ns (together (map found_view ps))) (λ f. f ≢ NoMemory → NamesRefused ns f) → IfOk r (λ ps. DeclaresOnce (together (map found_view ps)))
-named_once d ns shape once (Ok ps) h = declares_once d ns (together (map found_view ps)) shape once h.found
-named_once d ns shape once (Err f) h = tt
+pub files_declare_once : JsonAscends → FilesStateOnce → FilesDeclareOnce
+files_declare_once ascend once bytes s h = declares_once h.value h.namespaces s h.shape (once h.value h.namespaces h.shape (ascend bytes h.value h.json)) h.named.found

@@ -17,7 +17,7 @@ use Rattle.schema_file.specs.declared.stated.StatedCommon.{StatedCommon}
 use Rattle.schema_file.specs.declared.stated.StatedNamespace.{StatedNamespace}
 use Rattle.schema_file.specs.StatedViews.{common_view, namespace_view}
 use Rattle.json_words.proofs.EachSame.{cut}
-use Rattle.values.proofs.Members.{Contains-here, Contains-there}
+use Rattle.plain.proofs.Members.{Contains-here, Contains-there}
 use Rattle.schema_names.proofs.AddLemmas.{name_added}
 use Rattle.schema_names.proofs.FollowLemmas.{found_so, all_found}
 

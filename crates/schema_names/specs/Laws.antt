@@ -5,6 +5,8 @@ use Rattle.schema_types.specs.Cedar.{Cedar, CedarFields, record_of}
 use Rattle.schema_types.specs.WrittenOut.{WrittenOut}
 use Rattle.schema_types.specs.Mentions.{IsClosed}
 use Rattle.schema_types.specs.Law.{AreOnce, AreClosed}
+use Rattle.schema_types.specs.Ascending.{QualifiedAscends}
+use Rattle.schema_types.specs.AscendingLaw.{AllAscend}
 use Rattle.schema_types.specs.declared.fault.SchemaFault.{SchemaFault}
 use Rattle.schema_file.specs.Once.{AreApart}
 use Rattle.schema_names.specs.Qualifying.{FoundEntityType, FoundUse, FoundAction, FoundSchema}
@@ -29,6 +31,18 @@ pub record NamesItsOwn (s : FoundSchema) : Type 0 where
 
 abbrev pub FilesNameTheirOwn : Type 0
 FilesNameTheirOwn = (bytes : List ℕ) (s : FoundSchema) → StatesNamed bytes s → NamesItsOwn s
+
+-- nothing is declared twice, since no key stands twice in an object that was read
+abbrev pub FilesDeclareOnce : Type 0
+FilesDeclareOnce = (bytes : List ℕ) (s : FoundSchema) → StatesNamed bytes s → DeclaresOnce s
+
+-- in each common type, shape and context the keys ascend
+pub record TypesAscend (s : FoundSchema) : Type 0 where
+  pub commons : AllAscend s.commons
+  pub records : (r : Qualified) → IsShapeOrContext s r → QualifiedAscends r
+
+abbrev pub FilesTypesAscend : Type 0
+FilesTypesAscend = (bytes : List ℕ) (s : FoundSchema) → StatesNamed bytes s → TypesAscend s
 
 -- a shape or a context that is written out is a record
 abbrev pub ShapesAreRecords : Type 0

@@ -1,11 +1,25 @@
 //! Laws of a file with each name found.
 ghost use Rattle.schema_names.specs.Laws.{FilesNameTheirOwn, ShapesAreRecords, SomeOutcome, OneFile, OneRefusal};
-ghost use Rattle.schema_names.specs.Laws.{NotBoth};
+ghost use Rattle.schema_names.specs.Laws.{NotBoth, FilesDeclareOnce, FilesTypesAscend};
+
+use schema_file::stated_files_are_in_order;
+use schema_types::{found_names_are_declared, keys_ascend};
 
 /// Each common type that a file names is declared there.
 pub fn files_name_their_own()
     ensures { FilesNameTheirOwn }
-{}
+{
+    found_names_are_declared();
+}
+
+/// No common type, no entity type and no action is declared twice, and in each type the keys ascend strictly.
+pub fn files_are_in_order()
+    ensures once { FilesDeclareOnce }
+    ensures types { FilesTypesAscend }
+{
+    keys_ascend();
+    stated_files_are_in_order();
+}
 
 /// A shape or a context that is written out is a record.
 pub fn shapes_are_records()

@@ -1,12 +1,11 @@
 //! From bytes to a schema file with each name found.
-ghost use Rattle.std.specs.Prelude.{◌≢◌, IfOk, MatchResult, map};
+ghost use Rattle.std.specs.Prelude.{◌≢◌, MatchResult, map};
 ghost use Rattle.serde_json.specs.View.{view};
 ghost use Rattle.json_words.specs.Gives.{Gives, or_fault};
 ghost use Rattle.json_words.specs.Json.{json_of};
 ghost use Rattle.schema_file.specs.StatedViews.{namespace_view};
 ghost use Rattle.schema_names.specs.Qualifying.{together};
 ghost use Rattle.schema_names.specs.FoundViews.{found_view};
-ghost use Rattle.schema_names.specs.Laws.{DeclaresOnce};
 ghost use Rattle.schema_names.specs.Naming.{IsNamed, NamesRefused, StatesNamed, NamingRefused};
 ghost use Rattle.schema_types.specs.declared.fault.SchemaFault.TheVariants as SchemaFault;
 
@@ -44,23 +43,21 @@ fn name_all(alloc: Global, stated: &[StatedNamespace]) -> Result<Items<Found>, S
 
 /// The namespaces that bytes state, with each name found.
 fn read_parts(alloc: Global, bytes: &[u8]) -> Result<Items<Found>, SchemaFault>
-    ensures states { MatchResult result (λ ps. StatesNamed bytes.now (together (map found_view ps)))
+    ensures { MatchResult result (λ ps. StatesNamed bytes.now (together (map found_view ps)))
         (λ f. f ≢ SchemaFault.NoMemory → NamingRefused bytes.now f) }
-    ensures once { IfOk result (λ ps. DeclaresOnce (together (map found_view ps))) }
 {
     let value = read_value(alloc, bytes)?;
     let stated = read_stated(alloc, &value)?;
     name_all(alloc, stated.as_slice())
 }
 
-/// What the namespaces that bytes state declare, with each name found, none of it twice.
+/// What the namespaces that bytes state declare, with each name found.
 ///
 /// Refused where the bytes are no JSON, then where the JSON has not the shape of a schema, and then where a name is
 /// declared nowhere.
 pub fn read_named(alloc: Global, bytes: &[u8]) -> Result<Found, SchemaFault>
-    ensures states { MatchResult result (λ found. StatesNamed bytes.now (found_view found))
+    ensures { MatchResult result (λ found. StatesNamed bytes.now (found_view found))
         (λ f. f ≢ SchemaFault.NoMemory → NamingRefused bytes.now f) }
-    ensures once { IfOk result (λ found. DeclaresOnce (found_view found)) }
 {
     let parts = read_parts(alloc, bytes)?;
     Ok(join_all(alloc, parts)?)

@@ -7,7 +7,8 @@ use Rattle.schema_types.specs.Cedar.{Cedar, CedarFields}
 use Rattle.schema_types.specs.WrittenOut as written
 use Rattle.schema_types.specs.WrittenOut.{Declarations, Declares, WrittenOut, FieldsWrittenOut}
 use Rattle.schema_types.specs.Mentions.{Mentions, FieldsMention, Leads, step, steps}
-use Rattle.schema_types.specs.Law.{AreClosed, EndlessAreCyclic}
+use Rattle.schema_types.specs.Outcome.{SomeHasNoEnd}
+use Rattle.schema_types.specs.Law.{AreClosed, EndlessAreCyclic, CyclesHaveNoEnd, TypesEndOrNot}
 
 -- ---- the names that are left
 
@@ -140,3 +141,23 @@ endless_are_cyclic commons closed q r d none =
     by : Ends commons (qualified.common q) ⊎ Cycles commons q → Cycles commons q
     by (inl (t, w)) = absurd (none t w)
     by (inr c) = c
+
+-- ---- an end, or some common type without one
+
+declared_first : (commons : Declarations) (p end : List ℕ) → Leads commons p end → (r : Qualified) × Declares commons p r
+declared_first commons p end (step _ _ r d m) = (r, d)
+declared_first commons p end (steps _ x _ r d m k) = (r, d)
+
+pub types_end_or_not : CyclesHaveNoEnd → TypesEndOrNot
+types_end_or_not cycles commons once closed r here = by (inside commons r named)
+  where
+    named : (x : List ℕ) → Mentions r x → Ends commons (qualified.common x) ⊎ Cycles commons x
+    named x m =
+        let s = here x m in
+        names commons closed (length (map (λ d. d.0) commons)) (map (λ d. d.0) commons) (omega arith) x s.0 s.1 (λ p t there. inl (declared_in commons p t there)) (inl (declared_in commons x s.0 s.1))
+
+    by : Ends commons r ⊎ Inside commons r → Ends commons r ⊎ SomeHasNoEnd commons
+    by (inl e) = inl e
+    by (inr (x, m, (p, way, l))) =
+        let s = declared_first commons p p l in
+        inr (record { name = p; type = s.0; declared = s.1; no_end = cycles commons once p l })

@@ -9,5 +9,6 @@ pub mod QualifiedWalk
 pub mod Rounds
 pub mod Sizes
 pub mod Tables
+pub mod TypesAscend
 pub mod Walk
 pub mod WholeLemmas

@@ -1,9 +1,12 @@
 -- Laws of writing out.
-use Rattle.std.specs.Prelude.{◌≡◌, ◌⊎◌, ℕ, List}
+use Rattle.std.specs.Prelude.{◌≡◌, ◌⊎◌, ℕ, List, true, Option, Ok}
+use Rattle.schema_types.specs.Raw.{Raw}
 use Rattle.schema_types.specs.Qualified.{Qualified}
 use Rattle.schema_types.specs.Cedar.{Cedar}
 use Rattle.schema_types.specs.WrittenOut.{Declarations, Declares, WrittenOut, HasNoEnd}
-use Rattle.schema_types.specs.Mentions.{IsClosed, Leads}
+use Rattle.schema_types.specs.Mentions.{IsClosed, Leads, Mentions, MentionsEntity}
+use Rattle.schema_types.specs.Names.{Scope, qualified_of}
+use Rattle.schema_types.specs.Outcome.{SomeHasNoEnd}
 
 -- no name is declared twice
 abbrev pub AreOnce : Declarations → Type 0
@@ -28,3 +31,20 @@ abbrev pub EndlessAreCyclic : Type 0
 EndlessAreCyclic =
     (commons : Declarations) → AreClosed commons → (q : List ℕ) (r : Qualified) → Declares commons q r
     → HasNoEnd commons q → (p : List ℕ) × ((q ≡ p) ⊎ Leads commons q p) × Leads commons p p
+
+-- where each name is declared, once, a type stands for one, or some common type has no end
+abbrev pub TypesEndOrNot : Type 0
+TypesEndOrNot =
+    (commons : Declarations) → AreOnce commons → AreClosed commons → (r : Qualified) → IsClosed commons r
+    → ((t : Cedar) × WrittenOut commons r t) ⊎ SomeHasNoEnd commons
+
+-- a name of a type whose names were found is declared
+abbrev pub FoundCommonsAreDeclared : Type 0
+FoundCommonsAreDeclared =
+    (s : Scope) (own : Option (List ℕ)) (r : Raw) (n : Qualified) → qualified_of s own r ≡ Ok n → (q : List ℕ)
+    → Mentions n q → s.commons q ≡ true
+
+abbrev pub FoundEntitiesAreDeclared : Type 0
+FoundEntitiesAreDeclared =
+    (s : Scope) (own : Option (List ℕ)) (r : Raw) (n : Qualified) → qualified_of s own r ≡ Ok n → (q : List ℕ)
+    → MentionsEntity n q → s.entities q ≡ true

@@ -1,5 +1,8 @@
+pub mod Ascending
+pub mod AscendingLaw
 pub mod Cedar
 pub mod CedarViews
+pub mod Codes
 pub mod Forms
 pub mod Knowledge
 pub mod Law

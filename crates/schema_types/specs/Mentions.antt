@@ -21,6 +21,23 @@ abbrev mutual
   FieldsMention qualified.no_fields q = ⊥
   FieldsMention (qualified.field k r b rs) q = Mentions r q ⊎ FieldsMention rs q
 
+-- the name stands somewhere in the type as that of an entity type
+abbrev mutual
+  pub MentionsEntity : Qualified → List ℕ → Type 0
+  MentionsEntity qualified.text q = ⊥
+  MentionsEntity qualified.long q = ⊥
+  MentionsEntity qualified.boolean q = ⊥
+  MentionsEntity qualified.decimal q = ⊥
+  MentionsEntity qualified.ipaddr q = ⊥
+  MentionsEntity (qualified.set r) q = MentionsEntity r q
+  MentionsEntity (qualified.record_of rs) q = FieldsMentionEntity rs q
+  MentionsEntity (qualified.entity n) q = n ≡ q
+  MentionsEntity (qualified.common p) q = ⊥
+
+  pub FieldsMentionEntity : QualifiedFields → List ℕ → Type 0
+  FieldsMentionEntity qualified.no_fields q = ⊥
+  FieldsMentionEntity (qualified.field k r b rs) q = MentionsEntity r q ⊎ FieldsMentionEntity rs q
+
 -- each name of a common type in it is declared
 abbrev pub IsClosed : Declarations → Qualified → Type 0
 IsClosed commons r = (q : List ℕ) → Mentions r q → (s : Qualified) × Declares commons q s

@@ -23,6 +23,25 @@ pub enum SchemaFault {
     TypeTooLarge,
 }
 
+impl SchemaFault {
+    ghost use Rattle.schema_types.specs.Codes.{code_of};
+
+    /// The number by which the refusal is told.
+    pub fn code(self) -> u8
+        ensures { result ≡ code_of self }
+    {
+        match self {
+            SchemaFault::NoMemory => 1,
+            SchemaFault::NotJson => 20,
+            SchemaFault::BadShape => 21,
+            SchemaFault::UnknownName => 22,
+            SchemaFault::TypeCycle => 23,
+            SchemaFault::ActionCycle => 24,
+            SchemaFault::TypeTooLarge => 25,
+        }
+    }
+}
+
 impl From<NoMemory> for SchemaFault {
     ghost use Rattle.schema_types.specs.declared.fault.SchemaFault.TheVariants.{NoMemory};
 

@@ -50,7 +50,7 @@ pub fn form_named(word: &str) -> Form
 }
 
 /// Whether a value has no keys but those of its form; `required` is an attribute's alone.
-pub fn has_keys_of(value: &Value, is_attribute: bool, form: Form) -> bool
+pub(crate) fn has_keys_of(value: &Value, is_attribute: bool, form: Form) -> bool
     ensures { result ≡ has_only (keys_of is_attribute form) (view value.now) }
 {
     if is_attribute {

@@ -33,7 +33,7 @@ pub fn text_at<'v>(value: &'v Value, key: &str) -> Result<&'v str, SchemaFault>
 }
 
 /// The truth that a value says, or this one where there is none.
-pub fn truth_or(missing: bool, value: Option<&Value>) -> Result<bool, SchemaFault>
+pub(crate) fn truth_or(missing: bool, value: Option<&Value>) -> Result<bool, SchemaFault>
     ensures { GivesAlways (λ b. b) result (truth_of missing (option_map (λ v. view v.now) value.entry)) }
 {
     match value {
@@ -46,7 +46,7 @@ pub fn truth_or(missing: bool, value: Option<&Value>) -> Result<bool, SchemaFaul
 }
 
 /// Refuses a record that would admit further attributes.
-pub fn demand_closed(additional: Option<&Value>) -> Result<(), SchemaFault>
+pub(crate) fn demand_closed(additional: Option<&Value>) -> Result<(), SchemaFault>
     ensures { GivesAlways (λ u. tt) result (closed_in (option_map (λ v. view v.now) additional.entry)) }
 {
     let more = truth_or(false, additional)?;

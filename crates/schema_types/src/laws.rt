@@ -1,5 +1,9 @@
-//! Laws of writing out.
-ghost use Rattle.schema_types.specs.Law.{OneWritten, CyclesHaveNoEnd, EndlessAreCyclic};
+//! Laws of types: of writing out, of the names in them, and of the order of their keys.
+ghost use Rattle.schema_types.specs.AscendingLaw.{JsonAscends, StatedTypesAscend, FoundTypesAscend, WrittenTypesAscend};
+ghost use Rattle.schema_types.specs.Law.{OneWritten, CyclesHaveNoEnd, EndlessAreCyclic, TypesEndOrNot};
+ghost use Rattle.schema_types.specs.Law.{FoundCommonsAreDeclared, FoundEntitiesAreDeclared};
+
+use json_words::json_keys_ascend;
 
 /// A type stands for one type at most.
 pub fn one_written()
@@ -15,3 +19,27 @@ pub fn cycles_have_no_end()
 pub fn endless_are_cyclic()
     ensures { EndlessAreCyclic }
 {}
+
+/// Where each name is declared, once, a type stands for one, or some common type has no end.
+pub fn types_end_or_not()
+    ensures { TypesEndOrNot }
+{
+    cycles_have_no_end();
+}
+
+/// The names of a type whose names were found are declared.
+pub fn found_names_are_declared()
+    ensures commons { FoundCommonsAreDeclared }
+    ensures entities { FoundEntitiesAreDeclared }
+{}
+
+/// The keys of each record ascend strictly: in JSON that was read, in the types that it states, in these with each name
+/// found, and in what they are once they are written out.
+pub fn keys_ascend()
+    ensures json { JsonAscends }
+    ensures stated { StatedTypesAscend }
+    ensures found { FoundTypesAscend }
+    ensures written { WrittenTypesAscend }
+{
+    json_keys_ascend();
+}

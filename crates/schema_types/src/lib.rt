@@ -23,9 +23,11 @@ pub use commons::{demand_sizes, write_commons};
 pub use fault::SchemaFault;
 pub use forms::{Form, form_named};
 pub use keys::{optional, text_at};
-pub use laws::{cycles_have_no_end, endless_are_cyclic, one_written};
+pub use laws::{
+    cycles_have_no_end, endless_are_cyclic, found_names_are_declared, keys_ascend, one_written,
+    types_end_or_not,
+};
 pub use names::{Names, built_in, find, full_name, is_qualified, resolve};
-pub use order::ends_first;
 pub use qualified::{FoundCommon, QualifiedType};
 pub use raw::RawType;
 pub use table::{Known, Size, Table};

@@ -20,17 +20,18 @@ fn next_of(edges: &[Vec<usize>], step: Step) -> Option<usize> {
 }
 
 /// Adds what can be reached from a place and was not seen before, depth first.
+///
+/// The path is empty before it and behind it.
 fn add_from(
-    alloc: Global,
     edges: &[Vec<usize>],
     root: usize,
+    path: &mut Vec<Step>,
     seen: &mut BTreeSet<usize>,
     order: &mut Vec<usize>,
 ) -> Result<(), NoMemory> {
     if !seen.insert(root)? {
         return Ok(());
     }
-    let mut path = Vec::new(alloc);
     path.push(Step {
         place: root,
         followed: 0,
@@ -59,12 +60,13 @@ fn add_from(
 
 /// The places of a graph, each behind those that its edges lead to, as far as there is no cycle.
 ///
-/// Nothing is promised of the order: whoever goes by it is right in any order, and this one is fast.
-pub fn ends_first(alloc: Global, edges: &[Vec<usize>]) -> Result<Vec<usize>, NoMemory> {
+/// No clause says so: `write_commons` is right in any order, and fast in this one.
+fn ends_first(alloc: Global, edges: &[Vec<usize>]) -> Result<Vec<usize>, NoMemory> {
+    let mut path = Vec::new(alloc);
     let mut seen = BTreeSet::new(alloc);
     let mut order = Vec::new(alloc);
     for root in 0..edges.len() {
-        add_from(alloc, edges, root, &mut seen, &mut order)?;
+        add_from(edges, root, &mut path, &mut seen, &mut order)?;
     }
     Ok(order)
 }

@@ -56,7 +56,7 @@ fn known_size(name: &str, table: &Table) -> Option<Size>
 /// The size of a type, where each common type in it is known.
 #[cycle(size_of)]
 #[tactic(auto, unfolding(crate::specs::inner::Table::size_in))]
-pub fn size_of(ty: &QualifiedType, table: &Table) -> Option<Size>
+pub(crate) fn size_of(ty: &QualifiedType, table: &Table) -> Option<Size>
     ensures { option_map size_view result ≡ size_in (knowledge table.now) (qualified_view ty.now) }
 {
     match ty {

@@ -14,12 +14,13 @@ use crate::keys::{demand_closed, optional, text_at, truth_or};
 use crate::{Form, RawType, SchemaFault};
 use serde_json::{Map, Value};
 use std::alloc::Global;
-use values::TypeName;
+use values::{TypeName, paths_are_told};
 
 /// The name that a text is.
 pub fn read_type_name(alloc: Global, word: &str) -> Result<TypeName, SchemaFault>
     ensures { Gives SchemaFault.NoMemory (λ t. t) result (type_name word.now) }
 {
+    paths_are_told();
     match TypeName::parse(alloc, word)? {
         Some(name) => Ok(name),
         None => Err(SchemaFault::BadShape),

@@ -26,7 +26,7 @@ fn known_type(name: &str, table: &Table) -> Result<Option<CedarType>, NoMemory>
 /// A type that is not too large, with each common type in it replaced, where each is at hand.
 ///
 /// So nothing that is too large is ever built: whoever calls this has counted before.
-pub fn write(
+pub(crate) fn write(
     alloc: Global,
     ty: &QualifiedType,
     table: &Table,

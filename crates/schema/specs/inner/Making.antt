@@ -1,5 +1,5 @@
 -- What the parts of a schema are made of, as code makes them one after the other.
-use Rattle.std.specs.Prelude.{◌≡◌, ◌↔◌, ⊤, ℕ, List, [], Contains, IsTrue, Bool, Option, Some, None}
+use Rattle.std.specs.Prelude.{◌≡◌, ◌↔◌, ⊤, ℕ, List, [], Contains, IsTrue, Bool, false, Option, Some, None, option_map}
 use Rattle.std.specs.List.{list_any}
 use Rattle.std.specs.Ordering.{is_eq}
 use Rattle.std.specs.BTreeMap.{BTreeMap, get}
@@ -38,6 +38,18 @@ IsRefusedAt commons o f = (r : Qualified) × (o ≡ Some r) × TypeRefused commo
 pub record IsMade (commons : Declarations) (o : Option Qualified) (t : Cedar) : Type 0 where
   pub is_record : IsRecordOf commons o t
   pub is_written : IsWrittenAt commons o
+
+-- ---- look-ups
+
+abbrev pub shape_in : BTreeMap (List ℕ) EntityDecl → List ℕ → Option Cedar
+shape_in shapes n = option_map (λ d. cedar_view d.shape) (get text_cmp shapes n)
+
+abbrev pub is_in : Option (BTreeSet (List ℕ)) → List ℕ → Bool
+is_in None n = false
+is_in (Some s) n = contains text_cmp s n
+
+abbrev pub may_have_in : BTreeMap (List ℕ) (BTreeSet (List ℕ)) → List ℕ → List ℕ → Bool
+may_have_in above child parent = is_in (get text_cmp above child) parent
 
 -- ---- shapes
 

@@ -1,9 +1,7 @@
 -- What code knows of a schema on the way to it.
-use Rattle.std.specs.Prelude.{◌≡◌, ℕ, List, map}
+use Rattle.std.specs.Prelude.{◌≡◌, map}
 use Rattle.std.specs.BTreeMap.{keys}
 use Rattle.std.specs.BTreeMap as tree
-use Rattle.sha2.specs.Sha256.{sha256}
-use Rattle.hex.specs.Hex.{encode_lower}
 use Rattle.ancestor_closure.specs.Hierarchy.{Parents, IsAscending}
 use Rattle.schema_types.specs.Qualified.{Qualified}
 use Rattle.schema_types.specs.WrittenOut.{Declarations}
@@ -15,8 +13,7 @@ use Rattle.schema_names.specs.Qualifying.{FoundSchema}
 use Rattle.schema_names.specs.Laws.{IsShapeOrContext}
 use Rattle.schema.specs.declared.reading.Types.{Types}
 use Rattle.schema.specs.declared.reading.Hierarchies.{Hierarchies}
-use Rattle.schema.specs.Schemas.{StatedSchema, action_parents, type_parents, SomeActionIsOnCycle, IsWritten, place_cmp}
-use Rattle.schema.specs.Schemas.{Answers, IsSound}
+use Rattle.schema.specs.Schemas.{action_parents, type_parents, SomeActionIsOnCycle, place_cmp}
 use Rattle.schema.specs.inner.Making.{AreShapes, ArePlaces, Places, environment_of, AreAncestors, AreTypesAbove}
 
 -- these are the edges of the actions, and none is above itself
@@ -47,13 +44,3 @@ pub record AreHierarchiesOf (s : FoundSchema) (h : Hierarchies) : Type 0 where
   pub actions : h.actions ≡ keys h.ancestors
   pub ascending : IsAscending (keys h.ancestors)
   pub above : AreTypesAbove (type_parents s) s.entity_types h.above
-
-pub record IsMadeOf (bytes : List ℕ) (s : FoundSchema) (v : StatedSchema) : Type 0 where
-  pub label : v.label ≡ encode_lower (sha256 bytes)
-  pub is_written : (r : Qualified) → IsShapeOrContext s r → IsWritten s.commons r
-  pub answers : Answers s v
-
-pub record IsSoundlyMade (bytes : List ℕ) (s : FoundSchema) (v : StatedSchema) : Type 0 where
-  pub label : v.label ≡ encode_lower (sha256 bytes)
-  pub sound : IsSound s
-  pub answers : Answers s v

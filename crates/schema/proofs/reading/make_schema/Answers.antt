@@ -1,13 +1,17 @@
 use Rattle.schema_names.specs.FoundViews.{found_view}
-use Rattle.schema.proofs.AnswersLemmas.{made_answers}
-use Rattle.schema.proofs.SoundLemmas.{records_written}
+use Rattle.schema_types.specs.TableViews.{knowledge}
+use Rattle.schema.proofs.AnswersLemmas.{made_schema}
+use Rattle.schema.proofs.SoundLemmas.{records_written, is_sound}
 use Rattle.schema.proofs.reading.make_schema.Goals as goal
+
+pub invariant_of-result : goal.invariant_of-result
+invariant_of-result c =
+    let s = found_view c.args.found.now in
+    let sound = is_sound s (knowledge c.args.table.now) c.requires.written c.requires.whole (records_written s c.in_ok-types.types c.in_ok-types.ensures) c.requires.edges.no_cycle in
+    (c.args.bytes.now, made_schema c.args.bytes.now s c.requires.states sound c.in_ok-label.label c.in_ok-label.ensures c.in_ok-types.types c.in_ok-hierarchies.hierarchies c.in_ok-types.ensures c.in_ok-hierarchies.ensures)
 
 pub returns : goal.returns
 returns c =
     let s = found_view c.args.found.now in
-    record {
-      label = c.in_ok-label.ensures;
-      is_written = records_written s c.in_ok-types.types c.in_ok-types.ensures;
-      answers = made_answers s c.in_ok-label.label c.in_ok-types.types c.in_ok-hierarchies.hierarchies c.in_ok-types.ensures c.in_ok-hierarchies.ensures;
-    }
+    let sound = is_sound s (knowledge c.args.table.now) c.requires.written c.requires.whole (records_written s c.in_ok-types.types c.in_ok-types.ensures) c.requires.edges.no_cycle in
+    made_schema c.args.bytes.now s c.requires.states sound c.in_ok-label.label c.in_ok-label.ensures c.in_ok-types.types c.in_ok-hierarchies.hierarchies c.in_ok-types.ensures c.in_ok-hierarchies.ensures

@@ -6,12 +6,12 @@ use Rattle.schema.proofs.reading.read_schema.Goals as goal
 pub returns-in_err-found : goal.returns-in_err-found
 returns-in_err-found c =
     let p = err_from_is_err_and c.from_residual.result c.from_residual.ensures.1 in
-    rw (p.1, p.2) (λ apart. naming c.in_err-found.field-0.0 (c.in_err-found.ensures.states apart))
+    rw (p.1, p.2) (λ apart. naming c.in_err-found.field-0.0 (c.in_err-found.ensures apart))
 
 pub returns : goal.returns
 returns c =
     let s = found_view c.in_ok-found.found in
-    let states = c.in_ok-found.ensures.states in
+    let states = c.in_ok-found.ensures in
     MatchResult-weaker c.sound_schema.result c.sound_schema.ensures
-    (λ v made. record { named = s; states = states; once = c.in_ok-found.ensures.once; sound = made.sound; label = made.label; answers = made.answers })
+    (λ v made. made)
     (λ f refused apart. unsound s f states (refused apart))

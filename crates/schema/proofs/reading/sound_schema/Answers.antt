@@ -6,7 +6,7 @@ use Rattle.schema_types.specs.QualifiedViews.{found_common_view}
 use Rattle.schema_types.specs.TableViews.{knowledge}
 use Rattle.schema_types.specs.declared.qualified.FoundCommon.{FoundCommon}
 use Rattle.schema_names.specs.FoundViews.{found_view}
-use Rattle.schema.proofs.SoundLemmas.{all_end, commons_refused, edges_refused, sizes_refused, types_refused, is_sound}
+use Rattle.schema.proofs.SoundLemmas.{all_end, commons_refused, edges_refused, sizes_refused, types_refused}
 use Rattle.schema.proofs.reading.sound_schema.Goals as goal
 
 pub returns-in_err-table : goal.returns-in_err-table
@@ -33,8 +33,6 @@ returns c =
     let s = found_view c.args.found.now in
     let known = knowledge c.in_ok-table.table in
     let are = subst (λ (xs : List FoundCommon). AreWritten (map found_common_view xs) known) c.as_slice-commons.ensures c.in_ok-table.ensures in
-    let whole = subst (λ (xs : List FoundCommon). AreWhole (map found_common_view xs) known) c.as_slice-commons.ensures c.in_ok-demand_sizes.ensures in
     let no_cycle = c.in_ok-edges.ensures.no_cycle in
-    MatchResult-weaker c.make_schema.result c.make_schema.ensures
-    (λ v made. record { label = made.label; sound = is_sound s known are whole made.is_written no_cycle; answers = made.answers })
+    MatchResult-weaker c.make_schema.result c.make_schema.ensures (λ v made. made)
     (λ f refused apart. types_refused s f (all_end s.commons known are) no_cycle (refused apart))

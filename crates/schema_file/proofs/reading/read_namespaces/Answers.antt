@@ -6,40 +6,26 @@ use Rattle.json_words.specs.Each.{each_member}
 use Rattle.schema_file.specs.Stated.{namespace_of, namespaces_of}
 use Rattle.schema_file.specs.StatedViews.{namespace_view}
 use Rattle.json_words.proofs.MembersLemmas.{Entry, after, members_begin, member_goes, member_fails, members_done}
-use Rattle.schema_file.proofs.OnceLemmas.{namespaces_apart, more_once}
 use Rattle.schema_file.proofs.reading.read_namespaces.Goals as goal
 
 pub loop-key-init : goal.loop-key-init
-loop-key-init c = record {
-  so_far = members_begin namespace_view namespace_of c.new-namespaces.result c.args.members.now.entries c.iter-key-items.result c.into_iter-key-iterator.result c.new-namespaces.ensures c.into_iter-key-iterator.ensures.into_iter_gives c.iter-key-items.ensures.rest;
-  once = rw c.new-namespaces.ensures tt;
-}
+loop-key-init c = members_begin namespace_view namespace_of c.new-namespaces.result c.args.members.now.entries c.iter-key-items.result c.into_iter-key-iterator.result c.new-namespaces.ensures c.into_iter-key-iterator.ensures.into_iter_gives c.iter-key-items.ensures.rest
 
-pub returns-in_err-one-clause-gives : goal.returns-in_err-one-clause-gives
+pub returns-in_err-one : goal.returns-in_err-one
 unfolding namespaces_of
-returns-in_err-one-clause-gives c =
+returns-in_err-one c =
     let p = err_from_is_err_and c.from_residual.result c.from_residual.ensures.1 in
     let e : Entry = (c.in-Some.key.now, c.in-Some.value.now) in
-    let here = c.loop-key.invariant.so_far ∙ ap (λ (es : List Entry). after (map namespace_view c.loop-key.namespaces) (each_member namespace_of (members_view es))) c.in-Some.ensures.steps in
-    rw (p.1, p.2) (member_fails namespace_view namespace_of e c.next.new.self c.loop-key.namespaces NoMemory c.in_err-one.field-0.0 _ _ c.as_str.ensures.value c.in_err-one.ensures.gives here)
+    let here = c.loop-key.invariant ∙ ap (λ (es : List Entry). after (map namespace_view c.loop-key.namespaces) (each_member namespace_of (members_view es))) c.in-Some.ensures.steps in
+    rw (p.1, p.2) (member_fails namespace_view namespace_of e c.next.new.self c.loop-key.namespaces NoMemory c.in_err-one.field-0.0 _ _ c.as_str.ensures.value c.in_err-one.ensures here)
 
 pub loop-key-preserved : goal.loop-key-preserved
 loop-key-preserved c =
     let e : Entry = (c.in-Some.key.now, c.in-Some.value.now) in
-    let here = c.loop-key.invariant.so_far ∙ ap (λ (es : List Entry). after (map namespace_view c.loop-key.namespaces) (each_member namespace_of (members_view es))) c.in-Some.ensures.steps in
-    rw c.in_ok-push.ensures.ok (record {
-      so_far = member_goes namespace_view namespace_of e c.next.new.self c.loop-key.namespaces c.in_ok-one.one _ _ c.as_str.ensures.value c.in_ok-one.ensures.gives here;
-      once = more_once c.loop-key.namespaces c.in_ok-one.one c.loop-key.invariant.once c.in_ok-one.ensures.once;
-    })
+    let here = c.loop-key.invariant ∙ ap (λ (es : List Entry). after (map namespace_view c.loop-key.namespaces) (each_member namespace_of (members_view es))) c.in-Some.ensures.steps in
+    rw c.in_ok-push.ensures.ok (member_goes namespace_view namespace_of e c.next.new.self c.loop-key.namespaces c.in_ok-one.one _ _ c.as_str.ensures.value c.in_ok-one.ensures here)
 
-pub returns-clause-gives : goal.returns-clause-gives
+pub returns : goal.returns
 unfolding namespaces_of
-returns-clause-gives c = members_done namespace_view namespace_of c.loop-key.namespaces _
-    (c.loop-key.invariant.so_far ∙ ap (λ (es : List Entry). after (map namespace_view c.loop-key.namespaces) (each_member namespace_of (members_view es))) c.in-None.ensures.steps.0)
-
-pub returns-clause-once : goal.returns-clause-once
-returns-clause-once c = record {
-  namespaces = namespaces_apart c.args.members.now.entries (map namespace_view c.loop-key.namespaces) c.iter-key-items.ensures.ordered (members_done namespace_view namespace_of c.loop-key.namespaces _
-      (c.loop-key.invariant.so_far ∙ ap (λ (es : List Entry). after (map namespace_view c.loop-key.namespaces) (each_member namespace_of (members_view es))) c.in-None.ensures.steps.0));
-  names = c.loop-key.invariant.once;
-}
+returns c = members_done namespace_view namespace_of c.loop-key.namespaces _
+    (c.loop-key.invariant ∙ ap (λ (es : List Entry). after (map namespace_view c.loop-key.namespaces) (each_member namespace_of (members_view es))) c.in-None.ensures.steps.0)

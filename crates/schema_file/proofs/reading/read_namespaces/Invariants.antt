@@ -2,14 +2,9 @@ use Rattle.std.proofs.Common.{◌≡◌, map}
 use Rattle.serde_json.specs.View.{members_view}
 use Rattle.json_words.specs.Each.{each_member}
 use Rattle.schema_file.specs.Stated.{namespace_of}
-use Rattle.std.specs.List.{AllByRecursion}
-use Rattle.schema_file.specs.Once.{StatesOnce}
 use Rattle.schema_file.specs.StatedViews.{namespace_view}
 use Rattle.json_words.proofs.MembersLemmas.{after}
 use Rattle.schema_file.proofs.reading.read_namespaces.Given as goal
 
 abbrev pub invariant-loop-key : goal.invariant-loop-key
-invariant-loop-key l = record {
-  so_far : each_member namespace_of (members_view l.members.entries) ≡ after (map namespace_view l.namespaces) (each_member namespace_of (members_view l.key-iterator));
-  once : AllByRecursion StatesOnce (map namespace_view l.namespaces);
-}
+invariant-loop-key l = each_member namespace_of (members_view l.members.entries) ≡ after (map namespace_view l.namespaces) (each_member namespace_of (members_view l.key-iterator))

@@ -3,6 +3,6 @@ use Rattle.json_words.specs.Each.{each_member}
 use Rattle.schema_file.specs.Stated.{commons_of}
 use Rattle.schema_file.proofs.reading.read_optional_commons.Goals as goal
 
-pub returns-in-None-clause-gives : goal.returns-in-None-clause-gives
+pub returns-in-None : goal.returns-in-None
 unfolding commons_of each_member
-returns-in-None-clause-gives c = rw (c.in-None.is, c.new.ensures) refl
+returns-in-None c = rw (c.in-None.is, c.new.ensures) refl

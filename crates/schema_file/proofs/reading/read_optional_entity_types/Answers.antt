@@ -3,6 +3,6 @@ use Rattle.json_words.specs.Each.{each_member}
 use Rattle.schema_file.specs.Stated.{entity_types_of}
 use Rattle.schema_file.proofs.reading.read_optional_entity_types.Goals as goal
 
-pub returns-in-None-clause-gives : goal.returns-in-None-clause-gives
+pub returns-in-None : goal.returns-in-None
 unfolding entity_types_of each_member
-returns-in-None-clause-gives c = rw (c.in-None.is, c.new.ensures) refl
+returns-in-None c = rw (c.in-None.is, c.new.ensures) refl

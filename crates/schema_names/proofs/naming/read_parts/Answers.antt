@@ -8,25 +8,19 @@ use Rattle.schema_names.specs.Qualifying.{together}
 use Rattle.schema_names.specs.FoundViews.{found_view}
 use Rattle.schema_names.specs.Naming.{IsNamed, NamesRefused}
 use Rattle.schema_names.proofs.NamingLemmas.{json_refused, shape_refused, bytes_named}
-use Rattle.schema_names.proofs.OnceLemmas.{named_once}
 use Rattle.schema_names.proofs.naming.read_parts.Goals as goal
 
-pub returns-in_err-value-clause-states : goal.returns-in_err-value-clause-states
-returns-in_err-value-clause-states c =
+pub returns-in_err-value : goal.returns-in_err-value
+returns-in_err-value c =
     let p = err_from_is_err_and c.from_residual.result c.from_residual.ensures.1 in
     rw (p.1, p.2) (json_refused c.args.bytes.now c.in_err-value.field-0.0 c.in_err-value.ensures)
 
-pub returns-in_err-stated-clause-states : goal.returns-in_err-stated-clause-states
-returns-in_err-stated-clause-states c =
+pub returns-in_err-stated : goal.returns-in_err-stated
+returns-in_err-stated c =
     let p = err_from_is_err_and c.from_residual-in_err-stated.result c.from_residual-in_err-stated.ensures.1 in
-    rw (p.1, p.2) (shape_refused c.args.bytes.now (view c.in_ok-value.value) c.in_err-stated.field-0.0 c.in_ok-value.ensures c.in_err-stated.ensures.gives)
+    rw (p.1, p.2) (shape_refused c.args.bytes.now (view c.in_ok-value.value) c.in_err-stated.field-0.0 c.in_ok-value.ensures c.in_err-stated.ensures)
 
-pub returns-clause-states : goal.returns-clause-states
-returns-clause-states c = bytes_named c.args.bytes.now (view c.in_ok-value.value) (map namespace_view c.in_ok-stated.stated) c.in_ok-value.ensures c.in_ok-stated.ensures.gives c.name_all.result
-    (subst (λ (l : List StatedNamespace). MatchResult c.name_all.result (λ ps. IsNamed (map namespace_view l) (together (map found_view ps))) (λ f. f ≢ NoMemory → NamesRefused (map namespace_view l) f))
-    c.as_slice.ensures c.name_all.ensures)
-
-pub returns-clause-once : goal.returns-clause-once
-returns-clause-once c = named_once (view c.in_ok-value.value) (map namespace_view c.in_ok-stated.stated) c.in_ok-stated.ensures.gives c.in_ok-stated.ensures.once c.name_all.result
+pub returns : goal.returns
+returns c = bytes_named c.args.bytes.now (view c.in_ok-value.value) (map namespace_view c.in_ok-stated.stated) c.in_ok-value.ensures c.in_ok-stated.ensures c.name_all.result
     (subst (λ (l : List StatedNamespace). MatchResult c.name_all.result (λ ps. IsNamed (map namespace_view l) (together (map found_view ps))) (λ f. f ≢ NoMemory → NamesRefused (map namespace_view l) f))
     c.as_slice.ensures c.name_all.ensures)

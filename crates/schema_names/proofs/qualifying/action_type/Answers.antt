@@ -1,6 +1,6 @@
 use Rattle.std.proofs.Common.{refl}
 use Rattle.plain.specs.Words.{is_letter, is_digit, is_word_byte}
-use Rattle.values.proofs.Members.{not_reserved}
+use Rattle.plain.proofs.Members.{not_reserved}
 use Rattle.schema_names.proofs.qualifying.action_type.Goals as goal
 
 pub from_words-requires-clause-idents : goal.from_words-requires-clause-idents

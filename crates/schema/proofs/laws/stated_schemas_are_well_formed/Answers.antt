@@ -1,0 +1,5 @@
+use Rattle.schema.proofs.WellFormedLemmas.{stated_schemas_are_well_formed as law}
+use Rattle.schema.proofs.laws.stated_schemas_are_well_formed.Goals as goal
+
+pub returns : goal.returns
+returns c = law c.one_written.ensures c.keys_ascend.ensures.written c.files_are_in_order.ensures.once c.files_are_in_order.ensures.types c.shapes_are_records.ensures

@@ -1,0 +1,36 @@
+-- What holds of each schema that bytes state.
+use Rattle.std.specs.Prelude.{◌≡◌, ◌↔◌, ℕ, List, map, Contains, IsTrue, IsSome, Some}
+use Rattle.std.specs.List.Sorted.{IsStrictlySortedBy}
+use Rattle.values.specs.declared.entity_uid.EntityUid.{EntityUid}
+use Rattle.ancestor_closure.specs.Hierarchy.{IsAscending}
+use Rattle.schema_types.specs.Cedar.{Cedar, CedarFields, record_of, IsTooLarge}
+use Rattle.schema_types.specs.Ascending.{KeysAscend}
+use Rattle.schema.specs.Schemas.{EnvironmentOf, StatedSchema, IsSchemaOf, place_cmp}
+
+-- the attributes of an entity type, or a context: a record within the limits, whose keys ascend, at every depth
+pub record AreAttributes (t : Cedar) : Type 0 where
+  pub fields : CedarFields
+  pub is_record : t ≡ record_of fields
+  pub ascend : KeysAscend t
+  pub small : IsTooLarge t → ⊥
+
+pub record IsWellFormed (v : StatedSchema) : Type 0 where
+  pub shapes : (n : List ℕ) (t : Cedar) → v.shape n ≡ Some t → AreAttributes t
+  pub contexts : (e : EnvironmentOf) → Contains v.environments e → AreAttributes e.context
+  -- in order, each once, and of actions that are declared
+  pub environments_ascend : IsStrictlySortedBy place_cmp (map (λ e. e.place) v.environments)
+  pub places : (e : EnvironmentOf) → Contains v.environments e → Contains v.actions e.place.action
+  -- the actions are those that have ancestors, in order
+  pub actions : (u : EntityUid) → Contains v.actions u ↔ IsSome (v.ancestors u)
+  pub actions_ascend : IsAscending v.actions
+  -- ancestors ascend; what is above an ancestor is one; and no action is its own
+  pub ancestors_ascend : (u : EntityUid) (us : List EntityUid) → v.ancestors u ≡ Some us → IsAscending us
+  pub ancestors_join : (u w x : EntityUid) (us ws : List EntityUid) → v.ancestors u ≡ Some us → Contains us w
+      → v.ancestors w ≡ Some ws → Contains ws x → Contains us x
+  pub no_cycle : (u : EntityUid) (us : List EntityUid) → v.ancestors u ≡ Some us → Contains us u → ⊥
+  -- what may be a parent of a parent may be one
+  pub parents_join : (child parent above : List ℕ) → IsTrue (v.may_have_parent child parent)
+      → IsTrue (v.may_have_parent parent above) → IsTrue (v.may_have_parent child above)
+
+abbrev pub StatedSchemasAreWellFormed : Type 0
+StatedSchemasAreWellFormed = (bytes : List ℕ) (v : StatedSchema) → IsSchemaOf bytes v → IsWellFormed v

@@ -1,0 +1,14 @@
+-- The refusals by number. The numbers are a rule of this product.
+use Rattle.std.specs.Prelude.{ℕ}
+use Rattle.schema_types.specs.declared.fault.SchemaFault.{SchemaFault}
+use Rattle.schema_types.specs.declared.fault.SchemaFault.TheVariants.{NoMemory, NotJson, BadShape, UnknownName}
+use Rattle.schema_types.specs.declared.fault.SchemaFault.TheVariants.{TypeCycle, ActionCycle, TypeTooLarge}
+
+abbrev pub code_of : SchemaFault → ℕ
+code_of NoMemory = 1
+code_of NotJson = 20
+code_of BadShape = 21
+code_of UnknownName = 22
+code_of TypeCycle = 23
+code_of ActionCycle = 24
+code_of TypeTooLarge = 25
