@@ -1,0 +1,5 @@
+mod CanonicalLemmas
+mod EntityLemmas
+mod ParentLemmas
+mod RequestLemmas
+mod UidSetLemmas

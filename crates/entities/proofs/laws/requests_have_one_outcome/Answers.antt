@@ -1,0 +1,11 @@
+use Rattle.entities.proofs.RequestLemmas.{one_request, not_both, one_refusal}
+use Rattle.entities.proofs.laws.requests_have_one_outcome.Goals as goal
+
+pub returns-clause-one_request : goal.returns-clause-one_request
+returns-clause-one_request c = one_request c.names_read_back.ensures.name
+
+pub returns-clause-not_both : goal.returns-clause-not_both
+returns-clause-not_both c = not_both c.names_read_back.ensures.name
+
+pub returns-clause-one_refusal : goal.returns-clause-one_refusal
+returns-clause-one_refusal c = one_refusal c.names_read_back.ensures.name

@@ -1,0 +1,19 @@
+-- The one JSON and the one text of an entity. Rules of this product: compact, keys ascending; parents and the uid are
+-- {"id", "type"}, parents ascending; the values of attributes are each in their one JSON.
+use Rattle.std.specs.Prelude.{ℕ, List, map, codes}
+use Rattle.serde_json.specs.Data.{Data, object, array, no_members, member}
+use Rattle.serde_json.specs.View.{items_of}
+use Rattle.serde_json.specs.Written.{compact_text}
+use Rattle.values.specs.Values.{fields_of}
+use Rattle.uid_json.specs.Uids.{uid_json}
+use Rattle.typed_values.specs.Canonical.{fields_json}
+use Rattle.entities.specs.declared.entity.Entity.{Entity}
+
+abbrev pub canonical_json : Entity → Data
+canonical_json e = object (member (codes "attrs") (object (fields_json (fields_of e.attrs)))
+    (member (codes "parents") (array (items_of (map uid_json e.parents)))
+    (member (codes "uid") (uid_json e.uid) no_members)))
+
+-- {"attrs":{"age":1},"parents":[{"id":"g","type":"Group"}],"uid":{"id":"alice","type":"User"}}
+unfoldable pub canonical_text : Entity → List ℕ
+canonical_text e = compact_text (canonical_json e)

@@ -1,0 +1,39 @@
+-- The context that JSON states under a schema, or the first fault.
+-- Source: Cedar reference guide 4.0, "Entities and context: JSON format", context. Rule of this product: the order of
+-- the faults.
+use Rattle.std.specs.Prelude.{ℕ, List, [], ◌∷◌, Bool, ◌&&◌, is_some, Option, Some, None, Result, if◌then◌else◌}
+use Rattle.std.specs.Str.{bytes_eq}
+use Rattle.serde_json.specs.Data.{Data}
+use Rattle.serde_json.specs.Find.{as_object}
+use Rattle.json_words.specs.Gives.{◌>>=◌, or_fault, demand}
+use Rattle.values.specs.declared.entity_uid.EntityUid.{EntityUid}
+use Rattle.values.specs.Fields.{Field}
+use Rattle.ancestor_closure.specs.Decided.{is_same}
+use Rattle.schema_types.specs.Cedar.{Cedar}
+use Rattle.schema.specs.declared.parts.Place.{Place}
+use Rattle.schema.specs.Schemas.{EnvironmentOf, StatedSchema}
+use Rattle.typed_values.specs.Typing.{record_in}
+use Rattle.entities.specs.declared.fault.EntityFault.{EntityFault}
+use Rattle.entities.specs.declared.fault.EntityFault.TheVariants.{BadShape, NotApplicable}
+use Rattle.entities.specs.Faults.{told}
+
+-- the context of the first environment whose place passes: all places of an action have one context
+abbrev pub context_where : (Place → Bool) → List EnvironmentOf → Option Cedar
+context_where passes [] = None
+context_where passes (e ∷ es) = if passes e.place then Some e.context else context_where passes es
+
+-- a place of this action
+abbrev pub is_of_action : EntityUid → Place → Bool
+is_of_action action place = is_same place.action action
+
+-- this action, by a principal of this type, on a resource of that
+abbrev pub is_place : EntityUid → List ℕ → List ℕ → Place → Bool
+is_place action principal resource place =
+    is_same place.action action && (bytes_eq place.principal principal && bytes_eq place.resource resource)
+
+-- the context of an action
+unfoldable pub context_in : StatedSchema → EntityUid → Data → Result (List Field) EntityFault
+context_in s action d = do
+  shape ← demand BadShape (is_some (as_object d))
+  type ← or_fault NotApplicable (context_where (is_of_action action) s.environments)
+  told (record_in type d)

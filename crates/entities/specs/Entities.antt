@@ -1,0 +1,66 @@
+-- The entity that JSON states under a schema, or the first fault.
+-- Source: Cedar reference guide 4.0, "Entities and context: JSON format" and "Schema JSON format": an entity's
+-- attributes are those of its type's shape, its parents of types that `memberOfTypes` leads to. Rules of this product:
+-- the order of the faults; no action is stated as an entity; no entity has tags; an entity is none of its own parents.
+use Rattle.std.specs.Prelude.{◌||◌, ◌==◌, ℕ, List, [], ◌∷◌, Bool, not, codes, ⊤, Result, Ok}
+use Rattle.std.specs.List.{ends_with}
+use Rattle.std.specs.Str.{bytes_eq}
+use Rattle.serde_json.specs.Data.{Data}
+use Rattle.serde_json.specs.Find.{get}
+use Rattle.json_words.specs.Gives.{◌>>=◌, or_fault, demand}
+use Rattle.values.specs.declared.entity_uid.EntityUid.{EntityUid}
+use Rattle.values.specs.Fields.{Field}
+use Rattle.ancestor_closure.specs.Decided.{is_same}
+use Rattle.schema_types.specs.Cedar.{Cedar}
+use Rattle.schema.specs.Schemas.{StatedSchema}
+use Rattle.typed_values.specs.Typing.{record_in}
+use Rattle.entities.specs.declared.fault.EntityFault.{EntityFault}
+use Rattle.entities.specs.declared.fault.EntityFault.TheVariants.{UnknownType, ActionEntity, BadParent, SelfParent}
+use Rattle.entities.specs.declared.fault.EntityFault.TheVariants.{TagsLeftOut}
+use Rattle.entities.specs.declared.entity.Entity.{Entity}
+use Rattle.entities.specs.Faults.{told}
+use Rattle.entities.specs.Stated.{is_absent_or_empty, or_empty, stated_in}
+use Rattle.entities.specs.UidSets.{uid_set}
+
+-- the last word of a type's name is `Action`
+abbrev pub is_action_type : List ℕ → Bool
+is_action_type name = bytes_eq name (codes "Action") || ends_with (λ a b. a == b) name (codes "::Action")
+
+-- the attributes that entities of a type have, as a record
+unfoldable pub shape_of : StatedSchema → List ℕ → Result Cedar EntityFault
+shape_of s name = do
+  other ← demand ActionEntity (not (is_action_type name))
+  or_fault UnknownType (s.shape name)
+
+-- the attributes of an entity of this type
+unfoldable pub attributes_in : StatedSchema → List ℕ → Data → Result (List Field) EntityFault
+attributes_in s name d = do
+  shape ← shape_of s name
+  untagged ← demand TagsLeftOut (is_absent_or_empty (get (codes "tags") d))
+  told (record_in shape (or_empty (get (codes "attrs") d)))
+
+-- an entity may have this parent
+unfoldable pub parent_fits : StatedSchema → EntityUid → EntityUid → Result ⊤ EntityFault
+parent_fits s uid parent = do
+  other ← demand SelfParent (not (is_same parent uid))
+  demand BadParent (s.may_have_parent uid.type_name parent.type_name)
+
+-- each of these, in their order
+unfoldable pub parents_fit : StatedSchema → EntityUid → List EntityUid → Result ⊤ EntityFault
+parents_fit s uid [] = Ok tt
+parents_fit s uid (p ∷ ps) = do
+  fits ← parent_fits s uid p
+  parents_fit s uid ps
+
+-- then they are its parents, ascending and each once
+unfoldable pub parents_in : StatedSchema → EntityUid → List EntityUid → Result (List EntityUid) EntityFault
+parents_in s uid ps = do
+  fit ← parents_fit s uid ps
+  Ok (uid_set ps)
+
+unfoldable pub entity_in : StatedSchema → Data → Result Entity EntityFault
+entity_in s d = do
+  stated ← stated_in d
+  attrs ← attributes_in s stated.uid.type_name d
+  parents ← parents_in s stated.uid stated.parents
+  Ok (record { uid = stated.uid; attrs = attrs; parents = parents })

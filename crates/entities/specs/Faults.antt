@@ -1,0 +1,32 @@
+-- The refusals by number, which are a rule of this product, and those of values among them.
+use Rattle.std.specs.Prelude.{ℕ, Result, Ok, Err}
+use Rattle.typed_values.specs.declared.fault.ValueFault.{ValueFault}
+use Rattle.typed_values.specs.declared.fault.ValueFault.TheVariants as value
+use Rattle.entities.specs.declared.fault.EntityFault.{EntityFault}
+use Rattle.entities.specs.declared.fault.EntityFault.TheVariants.{NoMemory, BadShape, UnknownType, ActionEntity}
+use Rattle.entities.specs.declared.fault.EntityFault.TheVariants.{Undeclared, Missing, WrongType, BadParent}
+use Rattle.entities.specs.declared.fault.EntityFault.TheVariants.{SelfParent, TagsLeftOut, NotApplicable}
+
+abbrev pub code_of : EntityFault → ℕ
+code_of NoMemory = 1
+code_of BadShape = 30
+code_of UnknownType = 31
+code_of ActionEntity = 32
+code_of Undeclared = 33
+code_of Missing = 34
+code_of WrongType = 35
+code_of BadParent = 36
+code_of SelfParent = 37
+code_of TagsLeftOut = 38
+code_of NotApplicable = 39
+
+abbrev pub of_value : ValueFault → EntityFault
+of_value value.NoMemory = NoMemory
+of_value value.WrongType = WrongType
+of_value value.Undeclared = Undeclared
+of_value value.Missing = Missing
+
+-- what reading a value gives, its fault as one of these
+abbrev pub told : {A : Type 0} → Result A ValueFault → Result A EntityFault
+told (Ok x) = Ok x
+told (Err f) = Err (of_value f)

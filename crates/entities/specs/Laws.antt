@@ -1,0 +1,57 @@
+-- Laws of entities and requests under a schema.
+use Rattle.std.specs.Prelude.{◌≡◌, ◌↔◌, ◌≤◌, List, Contains, Ok}
+use Rattle.serde_json.specs.Data.{Data, depth}
+use Rattle.serde_json.specs.Read.{max_depth}
+use Rattle.values.specs.declared.entity_uid.EntityUid.{EntityUid}
+use Rattle.values.specs.declared.request.Request.{Request}
+use Rattle.ancestor_closure.specs.Hierarchy.{IsAscending}
+use Rattle.schema.specs.Schemas.{StatedSchema}
+use Rattle.schema.specs.WellFormed.{IsWellFormed}
+use Rattle.entities.specs.declared.fault.EntityFault.{EntityFault}
+use Rattle.entities.specs.declared.entity.Entity.{Entity}
+use Rattle.entities.specs.Entities.{entity_in}
+use Rattle.entities.specs.Requests.{StatesRequest, RequestRefused}
+use Rattle.entities.specs.Canonical.{canonical_json}
+use Rattle.entities.specs.UidSets.{uid_set}
+
+-- ---- entities
+
+-- the one JSON of an entity that was read is read as that entity
+abbrev pub CanonicalIsRead : Type 0
+CanonicalIsRead = (s : StatedSchema) (d : Data) (e : Entity) → entity_in s d ≡ Ok e
+    → entity_in s (canonical_json e) ≡ Ok e
+
+-- it nests within what is read, since no shape of a schema that bytes state is too large
+abbrev pub CanonicalNests : Type 0
+CanonicalNests = (s : StatedSchema) (d : Data) (e : Entity) → IsWellFormed s → entity_in s d ≡ Ok e
+    → depth (canonical_json e) ≤ max_depth
+
+-- two entities that were read and have one JSON are one
+abbrev pub CanonicalIsOne : Type 0
+CanonicalIsOne = (s : StatedSchema) (d other : Data) (e f : Entity) → entity_in s d ≡ Ok e → entity_in s other ≡ Ok f
+    → canonical_json e ≡ canonical_json f → e ≡ f
+
+-- the parents of an entity ascend, each once
+abbrev pub ParentsAscend : Type 0
+ParentsAscend = (s : StatedSchema) (d : Data) (e : Entity) → entity_in s d ≡ Ok e → IsAscending e.parents
+
+-- uids in order are those that they were made of
+abbrev pub SetsHoldTheirMembers : Type 0
+SetsHoldTheirMembers = (us : List EntityUid) → IsAscending (uid_set us)
+    × ((u : EntityUid) → Contains us u ↔ Contains (uid_set us) u)
+
+-- ---- requests
+
+-- a value states one request at most,
+abbrev pub OneRequest : Type 0
+OneRequest = (s : StatedSchema) (d : Data) (q other : Request) → StatesRequest s d q → StatesRequest s d other
+    → q ≡ other
+
+-- what states a request is not refused,
+abbrev pub NotBoth : Type 0
+NotBoth = (s : StatedSchema) (d : Data) (q : Request) (f : EntityFault) → StatesRequest s d q → RequestRefused s d f
+    → ⊥
+
+-- and it is refused for one fault at most
+abbrev pub OneRefusal : Type 0
+OneRefusal = (s : StatedSchema) (d : Data) (f g : EntityFault) → RequestRefused s d f → RequestRefused s d g → f ≡ g

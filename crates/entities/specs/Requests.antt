@@ -1,0 +1,54 @@
+-- The request that JSON states under a schema, and the first fault for which it states none.
+-- Source: Cedar reference guide 4.0, "Authorization request" and "Schema JSON format", `appliesTo`: principal, action,
+-- resource, context. Rules of this product: each of the three is a uid as an entity's is, or the text of one, as
+-- "User::\"alice\""; an absent context is empty, and null is not absent; other keys are ignored; the order of the
+-- faults.
+use Rattle.std.specs.Prelude.{◌≡◌, true, ℕ, List, MatchOption, codes, Result, Ok, Err}
+use Rattle.serde_json.specs.Data.{Data}
+use Rattle.serde_json.specs.Find.{get}
+use Rattle.json_words.specs.Gives.{◌>>=◌, or_fault}
+use Rattle.values.specs.declared.entity_uid.EntityUid.{EntityUid}
+use Rattle.values.specs.declared.request.Request.{Request}
+use Rattle.values.specs.Fields.{Field}
+use Rattle.uid_json.specs.Uids.{NamesEntity}
+use Rattle.schema.specs.Schemas.{StatedSchema}
+use Rattle.typed_values.specs.Typing.{record_in}
+use Rattle.entities.specs.declared.fault.EntityFault.{EntityFault}
+use Rattle.entities.specs.declared.fault.EntityFault.TheVariants.{BadShape, NotApplicable}
+use Rattle.entities.specs.declared.requests.Asked.{Asked}
+use Rattle.entities.specs.Faults.{told}
+use Rattle.entities.specs.Stated.{is_absent_or_object, or_empty}
+use Rattle.entities.specs.Contexts.{context_where, is_place}
+
+-- what stands at a key of a value names this entity
+abbrev pub NamesAt : List ℕ → Data → EntityUid → Type 0
+NamesAt key d uid = MatchOption (get key d) ⊥ (λ found. NamesEntity found uid)
+
+-- The form of a request: the value names who asks, what for, and of what; and its context is an object, or nothing.
+pub record Asks (d : Data) (asked : Asked) : Type 0 where
+  pub principal : NamesAt (codes "principal") d asked.principal
+  pub action : NamesAt (codes "action") d asked.action
+  pub resource : NamesAt (codes "resource") d asked.resource
+  pub context : is_absent_or_object (get (codes "context") d) ≡ true
+
+-- the context, of the type that the action's places have
+unfoldable pub context_asked : StatedSchema → Asked → Data → Result (List Field) EntityFault
+context_asked s asked d = do
+  type ← or_fault NotApplicable
+      (context_where (is_place asked.action asked.principal.type_name asked.resource.type_name) s.environments)
+  told (record_in type (or_empty (get (codes "context") d)))
+
+-- who asks, what for, and of what
+abbrev pub asked_by : Request → Asked
+asked_by q = record { principal = q.principal; action = q.action; resource = q.resource }
+
+-- the value states this request
+pub record StatesRequest (s : StatedSchema) (d : Data) (q : Request) : Type 0 where
+  pub asks : Asks d (asked_by q)
+  pub context : context_asked s (asked_by q) d ≡ Ok q.context
+
+-- it states none, and this is the first fault
+pub data RequestRefused (s : StatedSchema) (d : Data) : EntityFault → Type 0 where
+  shape : ((asked : Asked) → Asks d asked → ⊥) → RequestRefused s d BadShape
+  context : (asked : Asked) (f : EntityFault) → Asks d asked → context_asked s asked d ≡ Err f
+      → RequestRefused s d f

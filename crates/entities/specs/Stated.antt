@@ -1,0 +1,55 @@
+-- The form of an entity's JSON, whatever its type.
+-- Source: Cedar reference guide 4.0, "Entities and context: JSON format": uid, attrs, parents, tags; a uid is {"type",
+-- "id"}, or that under `__entity`. Rules of this product: absent `attrs`, `parents` and `tags` are empty, and null is
+-- not absent; other keys of an entity are ignored.
+use Rattle.std.specs.Prelude.{Bool, true, List, [], ◌&&◌, codes, is_some, Option, Some, None, Result, Ok}
+use Rattle.serde_json.specs.Data.{Data, Items, object, no_members}
+use Rattle.serde_json.specs.Find.{get, as_array, as_object}
+use Rattle.json_words.specs.Keys.{has_only}
+use Rattle.json_words.specs.Each.{each, list_of}
+use Rattle.json_words.specs.Gives.{◌>>=◌, or_fault, demand}
+use Rattle.values.specs.declared.entity_uid.EntityUid.{EntityUid}
+use Rattle.uid_json.specs.Uids.{uid_in}
+use Rattle.entities.specs.declared.fault.EntityFault.{EntityFault}
+use Rattle.entities.specs.declared.fault.EntityFault.TheVariants.{BadShape}
+use Rattle.entities.specs.declared.stated.StatedEntity.{StatedEntity}
+
+-- an object, or nothing
+abbrev pub is_absent_or_object : Option Data → Bool
+is_absent_or_object None = true
+is_absent_or_object (Some d) = is_some (as_object d)
+
+-- an object with no members, or nothing
+abbrev pub is_absent_or_empty : Option Data → Bool
+is_absent_or_empty None = true
+is_absent_or_empty (Some d) = has_only [] d
+
+-- what stands there, or an object with no members
+abbrev pub or_empty : Option Data → Data
+or_empty None = object no_members
+or_empty (Some d) = d
+
+abbrev pub uid_of : Data → Result EntityUid EntityFault
+uid_of d = or_fault BadShape (uid_in d)
+
+unfoldable pub uids_of : Items → Result (List EntityUid) EntityFault
+uids_of ds = each (λ i d. uid_of d) 0 (list_of ds)
+
+abbrev pub parents_of : Option Data → Result (List EntityUid) EntityFault
+parents_of None = Ok []
+parents_of (Some d) = do
+  ds ← or_fault BadShape (as_array d)
+  uids_of ds
+
+-- attributes and tags, where they stand, are objects
+abbrev pub has_objects : Data → Bool
+has_objects d = is_absent_or_object (get (codes "attrs") d) && is_absent_or_object (get (codes "tags") d)
+
+-- the uid and the parents that an entity's JSON states, the parents in the order of their array
+unfoldable pub stated_in : Data → Result StatedEntity EntityFault
+stated_in d = do
+  name ← or_fault BadShape (get (codes "uid") d)
+  uid ← uid_of name
+  objects ← demand BadShape (has_objects d)
+  parents ← parents_of (get (codes "parents") d)
+  Ok (record { uid = uid; parents = parents })

@@ -1,0 +1,12 @@
+//! An entity under a schema.
+
+use plain::Items;
+use values::{EntityUid, Record};
+
+/// An entity with its attributes and its parents, which ascend, each once, where it was read.
+#[derive(Drop)]
+pub struct Entity {
+    pub uid: EntityUid,
+    pub attrs: Record,
+    pub parents: Items<EntityUid>,
+}

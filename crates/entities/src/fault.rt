@@ -1,0 +1,85 @@
+//! Why an entity, a context or a request is not read.
+ghost use Rattle.std.specs.Prelude.{◌≡◌};
+ghost use Rattle.entities.specs.Faults.{code_of, of_value};
+ghost use Rattle.entities.specs.declared.fault.EntityFault.TheVariants.{NoMemory};
+
+use plain::NoMemory;
+use std::alloc::AllocFailed;
+use typed_values::ValueFault;
+
+/// The first cause for which JSON states no entity, no context or no request under a schema.
+#[derive(Clone, Copy, Debug, PartialEq, Eq)]
+pub enum EntityFault {
+    /// An allocation was refused.
+    NoMemory,
+    /// The JSON has not the form of an entity, of a context or of a request.
+    BadShape,
+    /// The entity's type is not declared.
+    UnknownType,
+    /// The last word of the entity's type is `Action`: actions are declared by the schema.
+    ActionEntity,
+    /// An attribute is not declared.
+    Undeclared,
+    /// A required attribute is missing.
+    Missing,
+    /// The value of an attribute is not of its declared type.
+    WrongType,
+    /// An entity of this type may not have a parent of that.
+    BadParent,
+    /// The entity is one of its own parents.
+    SelfParent,
+    /// The entity has tags.
+    TagsLeftOut,
+    /// The action is not declared, or it does not apply to the types of principal and resource.
+    NotApplicable,
+}
+
+impl EntityFault {
+    /// The number by which the refusal is told.
+    pub fn code(self) -> u8
+        ensures { result ≡ code_of self }
+    {
+        match self {
+            EntityFault::NoMemory => 1,
+            EntityFault::BadShape => 30,
+            EntityFault::UnknownType => 31,
+            EntityFault::ActionEntity => 32,
+            EntityFault::Undeclared => 33,
+            EntityFault::Missing => 34,
+            EntityFault::WrongType => 35,
+            EntityFault::BadParent => 36,
+            EntityFault::SelfParent => 37,
+            EntityFault::TagsLeftOut => 38,
+            EntityFault::NotApplicable => 39,
+        }
+    }
+}
+
+impl From<NoMemory> for EntityFault {
+    ghost from_gives = { λ _ e. e ≡ NoMemory };
+
+    fn from(_error: NoMemory) -> EntityFault {
+        EntityFault::NoMemory
+    }
+}
+
+impl<T: Drop> From<AllocFailed<T>> for EntityFault {
+    ghost from_gives = { λ _ e. e ≡ NoMemory };
+
+    fn from(_error: AllocFailed<T>) -> EntityFault {
+        EntityFault::NoMemory
+    }
+}
+
+impl From<ValueFault> for EntityFault {
+    ghost from_gives = { λ fault e. e ≡ of_value fault };
+
+    fn from(fault: ValueFault) -> EntityFault {
+        match fault {
+            ValueFault::NoMemory => EntityFault::NoMemory,
+            ValueFault::WrongType => EntityFault::WrongType,
+            ValueFault::Undeclared => EntityFault::Undeclared,
+            ValueFault::Missing => EntityFault::Missing,
+        }
+    }
+}

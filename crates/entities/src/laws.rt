@@ -1,0 +1,29 @@
+// Laws of the definitions; the functions do nothing.
+ghost use Rattle.entities.specs.Laws.{CanonicalIsRead, CanonicalNests, CanonicalIsOne, ParentsAscend};
+ghost use Rattle.entities.specs.Laws.{SetsHoldTheirMembers};
+ghost use Rattle.entities.specs.Laws.{OneRequest, NotBoth, OneRefusal};
+
+use typed_values::records_are_read_again;
+use uid_json::names_read_back;
+
+/// That the one JSON of an entity that was read is read as that entity under the same schema, can be written, and is
+/// that of no other; and that its parents ascend, and are those that were stated.
+pub fn entities_read_back()
+    ensures read { CanonicalIsRead }
+    ensures nests { CanonicalNests }
+    ensures one { CanonicalIsOne }
+    ensures parents { ParentsAscend }
+    ensures members { SetsHoldTheirMembers }
+{
+    names_read_back();
+    records_are_read_again();
+}
+
+/// That a value states one request at most, or is refused for one fault at most, and never both.
+pub fn requests_have_one_outcome()
+    ensures one_request { OneRequest }
+    ensures not_both { NotBoth }
+    ensures one_refusal { OneRefusal }
+{
+    names_read_back();
+}

@@ -1,0 +1,24 @@
+//! Entities, contexts and requests, read from JSON by what a schema declares, and the one text of an entity.
+//!
+//! What is read follows from the JSON and the schema alone: no other entity is looked at, so parents need not be
+//! stored.
+#![tactic(auto)]
+
+mod canonical;
+mod contexts;
+mod entity;
+mod fault;
+mod laws;
+mod parents;
+mod reading;
+mod requests;
+mod stated;
+mod uid_set;
+
+pub use canonical::canonical_text;
+pub use contexts::read_context;
+pub use entity::Entity;
+pub use fault::EntityFault;
+pub use laws::{entities_read_back, requests_have_one_outcome};
+pub use reading::read_entity;
+pub use requests::read_request;

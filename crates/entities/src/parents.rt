@@ -1,0 +1,61 @@
+//! Which parents an entity may have.
+ghost use Rattle.std.specs.Prelude.{◌≡◌};
+ghost use Rattle.json_words.specs.Gives.{Gives};
+ghost use Rattle.ancestor_closure.specs.Decided.{is_same};
+ghost use Rattle.schema.specs.Views.{schema_view};
+ghost use Rattle.entities.specs.declared.fault.EntityFault.TheVariants as EntityFault;
+ghost use Rattle.entities.specs.Entities.{parent_fits, parents_fit, parents_in};
+
+use crate::fault::EntityFault;
+use crate::uid_set::in_order;
+use plain::Items;
+use schema::Schema;
+use values::EntityUid;
+
+/// Whether two uids are one.
+pub(crate) fn is_same(a: &EntityUid, b: &EntityUid) -> bool
+    ensures { result ≡ is_same a.now b.now }
+{
+    a.cmp(b).is_eq()
+}
+
+/// Demands that an entity may have this parent: another entity, of a type that its own leads to by `memberOfTypes`.
+#[tactic(auto, unfolding(crate::specs::Entities::parent_fits))]
+fn demand_parent(schema: &Schema, uid: &EntityUid, parent: &EntityUid) -> Result<(), EntityFault>
+    ensures { Gives EntityFault.NoMemory (λ u. u) result (parent_fits (schema_view schema.now) uid.now parent.now) }
+{
+    if is_same(parent, uid) {
+        return Err(EntityFault::SelfParent);
+    }
+    if !schema.may_have_parent(&uid.type_name, &parent.type_name) {
+        return Err(EntityFault::BadParent);
+    }
+    Ok(())
+}
+
+/// Demands this of each of them, in their order.
+fn demand_parents(
+    schema: &Schema,
+    uid: &EntityUid,
+    parents: &[EntityUid],
+) -> Result<(), EntityFault>
+    ensures { Gives EntityFault.NoMemory (λ u. u) result (parents_fit (schema_view schema.now) uid.now parents.now) }
+{
+    for parent in parents {
+        demand_parent(schema, uid, parent)?;
+    }
+    Ok(())
+}
+
+/// The parents of an entity, ascending and each once, where it may have each of these.
+#[tactic(auto, unfolding(crate::specs::Entities::parents_in))]
+pub(crate) fn checked_parents(
+    schema: &Schema,
+    uid: &EntityUid,
+    parents: Items<EntityUid>,
+) -> Result<Items<EntityUid>, EntityFault>
+    ensures { Gives EntityFault.NoMemory (λ us. us) result (parents_in (schema_view schema.now) uid.now parents) }
+{
+    demand_parents(schema, uid, parents.as_slice())?;
+    Ok(in_order(parents.into_vec())?)
+}

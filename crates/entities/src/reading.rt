@@ -1,0 +1,99 @@
+//! Entities, read by their types.
+ghost use Rattle.std.specs.Prelude.{◌≡◌, option_map};
+ghost use Rattle.serde_json.specs.View.{view};
+ghost use Rattle.json_words.specs.Gives.{Gives, GivesAlways};
+ghost use Rattle.schema_types.specs.CedarViews.{cedar_view};
+ghost use Rattle.schema.specs.Views.{schema_view};
+ghost use Rattle.typed_values.specs.Typing.{record_in};
+ghost use Rattle.entities.specs.declared.fault.EntityFault.TheVariants as EntityFault;
+ghost use Rattle.entities.specs.Faults.{told};
+ghost use Rattle.entities.specs.Stated.{or_empty};
+ghost use Rattle.entities.specs.Entities.{is_action_type, shape_of, attributes_in, entity_in};
+
+use crate::entity::Entity;
+use crate::fault::EntityFault;
+use crate::parents::checked_parents;
+use crate::stated::{StatedEntity, is_absent_or_empty, read_stated};
+use schema::Schema;
+use schema_types::CedarType;
+use serde_json::{Map, Value};
+use std::alloc::Global;
+use typed_values::read_record;
+use values::{Record, TypeName};
+
+/// Whether the last word of a type's name is `Action`.
+fn is_action_type(name: &TypeName) -> bool
+    ensures { result ≡ is_action_type name.now }
+{
+    let text = name.as_str();
+    text == "Action" || text.as_bytes().ends_with(b"::Action")
+}
+
+/// The attributes that entities of a type have.
+#[tactic(auto, unfolding(crate::specs::Entities::shape_of))]
+fn shape_of<'s>(schema: &'s Schema, name: &TypeName) -> Result<&'s CedarType, EntityFault>
+    ensures { GivesAlways (λ t. cedar_view t.now) result (shape_of (schema_view schema.now) name.now) }
+{
+    if is_action_type(name) {
+        return Err(EntityFault::ActionEntity);
+    }
+    match schema.entity_type(name) {
+        Some(entity_type) => Ok(&entity_type.shape),
+        None => Err(EntityFault::UnknownType),
+    }
+}
+
+/// The record of this type that a value states; where there is none, that of an empty object.
+pub(crate) fn read_fields(
+    alloc: Global,
+    found: Option<&Value>,
+    ty: &CedarType,
+) -> Result<Record, EntityFault>
+    ensures { Gives EntityFault.NoMemory (λ r. r) result
+        (told (record_in (cedar_view ty.now) (or_empty (option_map (λ v. view v.now) found.entry)))) }
+{
+    match found {
+        Some(value) => Ok(read_record(alloc, value, ty)?),
+        None => {
+            let empty = Value::Object(Map::new(alloc));
+            Ok(read_record(alloc, &empty, ty)?)
+        }
+    }
+}
+
+/// The attributes of an entity of this type.
+#[tactic(auto, unfolding(crate::specs::Entities::attributes_in))]
+fn read_attributes(
+    alloc: Global,
+    schema: &Schema,
+    name: &TypeName,
+    value: &Value,
+) -> Result<Record, EntityFault>
+    ensures { Gives EntityFault.NoMemory (λ r. r) result
+        (attributes_in (schema_view schema.now) name.now (view value.now)) }
+{
+    let shape = shape_of(schema, name)?;
+    if !is_absent_or_empty(value.get("tags")) {
+        return Err(EntityFault::TagsLeftOut);
+    }
+    read_fields(alloc, value.get("attrs"), shape)
+}
+
+/// The entity that a JSON value states: `{"uid":{"type":"User","id":"alice"},"attrs":{..},"parents":[..]}`.
+///
+/// The first fault is told: that the value has not this form; the entity's type is an action's, or not declared; it has
+/// tags; of the attributes, ascending by key, that one is not declared or its value of another type; that a required
+/// one is missing; of the parents, in their order, that one is the entity itself or of a type that it may not have.
+#[tactic(auto, unfolding(crate::specs::Entities::entity_in))]
+pub fn read_entity(alloc: Global, schema: &Schema, value: &Value) -> Result<Entity, EntityFault>
+    ensures { Gives EntityFault.NoMemory (λ e. e) result (entity_in (schema_view schema.now) (view value.now)) }
+{
+    let StatedEntity { uid, parents } = read_stated(alloc, value)?;
+    let attrs = read_attributes(alloc, schema, &uid.type_name, value)?;
+    let parents = checked_parents(schema, &uid, parents)?;
+    Ok(Entity {
+        uid,
+        attrs,
+        parents,
+    })
+}

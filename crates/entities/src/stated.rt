@@ -1,0 +1,96 @@
+//! The form of an entity's JSON.
+ghost use Rattle.std.specs.Prelude.{◌≡◌, option_map};
+ghost use Rattle.serde_json.specs.View.{view, items_view};
+ghost use Rattle.json_words.specs.Gives.{Gives};
+ghost use Rattle.entities.specs.declared.fault.EntityFault.TheVariants as EntityFault;
+ghost use Rattle.entities.specs.Stated.{uid_of, uids_of, parents_of, is_absent_or_object, is_absent_or_empty};
+ghost use Rattle.entities.specs.Stated.{has_objects, stated_in};
+
+use crate::fault::EntityFault;
+use json_words::only_keys;
+use plain::Items;
+use serde_json::Value;
+use std::alloc::Global;
+use values::EntityUid;
+
+/// The name of an entity and its parents, as its JSON states them.
+#[derive(Drop)]
+pub struct StatedEntity {
+    pub uid: EntityUid,
+    /// In the order of their array, with repeats.
+    pub parents: Items<EntityUid>,
+}
+
+fn read_uid(alloc: Global, value: &Value) -> Result<EntityUid, EntityFault>
+    ensures { Gives EntityFault.NoMemory (λ u. u) result (uid_of (view value.now)) }
+{
+    match uid_json::read_uid(alloc, value)? {
+        Some(uid) => Ok(uid),
+        None => Err(EntityFault::BadShape),
+    }
+}
+
+fn read_uids(alloc: Global, values: &[Value]) -> Result<Items<EntityUid>, EntityFault>
+    ensures { Gives EntityFault.NoMemory (λ us. us) result (uids_of (items_view values.now)) }
+{
+    let mut uids = Vec::with_capacity(alloc, values.len())?;
+    for value in values {
+        let uid = read_uid(alloc, value)?;
+        uids.push(uid)?;
+    }
+    Ok(Items::from_vec(uids))
+}
+
+fn read_parents(alloc: Global, parents: Option<&Value>) -> Result<Items<EntityUid>, EntityFault>
+    ensures { Gives EntityFault.NoMemory (λ us. us) result (parents_of (option_map (λ v. view v.now) parents.entry)) }
+{
+    match parents {
+        None => Ok(Items::new(alloc)),
+        Some(value) => match value.as_array() {
+            Some(list) => read_uids(alloc, list),
+            None => Err(EntityFault::BadShape),
+        },
+    }
+}
+
+/// Whether nothing stands there, or an object.
+pub(crate) fn is_absent_or_object(found: Option<&Value>) -> bool
+    ensures { result ≡ is_absent_or_object (option_map (λ v. view v.now) found.entry) }
+{
+    match found {
+        None => true,
+        Some(value) => value.as_object().is_some(),
+    }
+}
+
+/// Whether nothing stands there, or an object with no members.
+pub(crate) fn is_absent_or_empty(found: Option<&Value>) -> bool
+    ensures { result ≡ is_absent_or_empty (option_map (λ v. view v.now) found.entry) }
+{
+    match found {
+        None => true,
+        Some(value) => only_keys(value, &[]),
+    }
+}
+
+fn has_objects(value: &Value) -> bool
+    ensures { result ≡ has_objects (view value.now) }
+{
+    is_absent_or_object(value.get("attrs")) && is_absent_or_object(value.get("tags"))
+}
+
+/// The name and the parents that an entity's JSON states, where it has the form of an entity.
+#[tactic(auto, unfolding(crate::specs::Stated::stated_in))]
+pub(crate) fn read_stated(alloc: Global, value: &Value) -> Result<StatedEntity, EntityFault>
+    ensures { Gives EntityFault.NoMemory (λ e. e) result (stated_in (view value.now)) }
+{
+    let Some(uid) = value.get("uid") else {
+        return Err(EntityFault::BadShape);
+    };
+    let uid = read_uid(alloc, uid)?;
+    if !has_objects(value) {
+        return Err(EntityFault::BadShape);
+    }
+    let parents = read_parents(alloc, value.get("parents"))?;
+    Ok(StatedEntity { uid, parents })
+}

@@ -1,0 +1,19 @@
+//! Uids in order.
+ghost use Rattle.std.specs.Prelude.{◌≡◌, IfOk};
+ghost use Rattle.entities.specs.UidSets.{uid_set};
+
+use ancestor_closure::laws::ascending_lists_are_one;
+use plain::{Items, NoMemory};
+use values::{EntityUid, entity_uids_are_ordered};
+
+/// These uids, ascending and each once.
+pub(crate) fn in_order(uids: Vec<EntityUid>) -> Result<Items<EntityUid>, NoMemory>
+    ensures { IfOk result (λ us. us ≡ uid_set uids.items) }
+{
+    ascending_lists_are_one();
+    entity_uids_are_ordered();
+    let mut members = uids;
+    members.sort()?;
+    members.dedup();
+    Ok(Items::from_vec(members))
+}
