@@ -1,0 +1,17 @@
+-- What is true of parents is true of ancestors.
+use Rattle.std.specs.Prelude.{List, [], ◌∷◌, IsTrue, IsFalse}
+use Rattle.values.specs.declared.entity_uid.EntityUid.{EntityUid}
+use Rattle.ancestor_closure.specs.Hierarchy.{Parents, Path}
+use Rattle.typing.specs.Environment.{Environment}
+use Rattle.typing.specs.Laws.{IsTransitive, ParentsAreAllowed, ParentsTellAncestors}
+
+along : (env : Environment) (parents : Parents) → IsTransitive env.may_be_below → ParentsAreAllowed env parents
+    → (through : List EntityUid) (u a : EntityUid) → IsFalse (env.is_action_type u.type_name) → Path parents u through a
+    → IsTrue (env.may_be_below u.type_name a.type_name)
+along env parents below allowed [] u a n p = (allowed u a n p).0
+along env parents below allowed (c ∷ cs) u a n p =
+    let first = allowed u c n p.0 in
+    below u.type_name c.type_name a.type_name first.0 (along env parents below allowed cs c a first.1 p.1)
+
+pub parents_tell_ancestors : ParentsTellAncestors
+parents_tell_ancestors env parents below allowed u a n p = along env parents below allowed p.0 u a n p.1

@@ -1,0 +1,15 @@
+pub mod Agreeing
+pub mod Alike
+pub mod Ancestors
+pub mod Conforming
+pub mod Existing
+pub mod Fitting
+pub mod InOrder
+pub mod Inverting
+pub mod Judging
+pub mod Members
+pub mod Policies
+pub mod Right
+pub mod Same
+pub mod Tests
+pub mod Values

@@ -1,0 +1,537 @@
+-- A typed expression goes right: it gives a value of its type or one of two errors, and where it is true what it
+-- learns is present.
+use Rattle.std.specs.Prelude.{◌≡◌, ℕ, ℤ, List, [], ◌∷◌, ◌++◌, map, Bool, true, false, Contains, IsTrue, Option, Some, None, Result, Ok, Err, refl}
+use Rattle.std.specs.Bool.{Decides}
+use Rattle.std.proofs.Common.{inl, inr, ap, sym, ◌∙◌, subst}
+use Rattle.extensions.specs.DecimalText.{IsDecimalText}
+use Rattle.extensions.specs.Network.{Network}
+use Rattle.extensions.specs.NetworkText.{IsNetworkText}
+use Rattle.values.specs.declared.entity_uid.EntityUid.{EntityUid}
+use Rattle.values.specs.declared.request.Request.{Request}
+use Rattle.values.specs.Fields.{Field, put}
+use Rattle.values.specs.Sets.{IsSetOf}
+use Rattle.values.specs.Values.{PlainValue, boolean, text, entity, set, values_of, list_of-values_of}
+use Rattle.expressions.specs.declared.leaf.Literal.{Literal}
+use Rattle.expressions.specs.declared.leaf.Literal.TheVariants as literal
+use Rattle.expressions.specs.declared.leaf.Variable.{Variable}
+use Rattle.expressions.specs.declared.leaf.Variable.TheVariants as variable
+use Rattle.expressions.specs.declared.operator.Binary.{Binary}
+use Rattle.expressions.specs.declared.operator.Binary.TheVariants as binary
+use Rattle.expressions.specs.declared.operator.UnaryCall.{UnaryCall}
+use Rattle.expressions.specs.declared.operator.UnaryCall.TheVariants as unary_call
+use Rattle.expressions.specs.declared.expr.Named.{Named}
+use Rattle.expressions.specs.declared.expr.Expr.{Expr}
+use Rattle.expressions.specs.declared.expr.Expr.TheVariants as form
+use Rattle.expressions.specs.declared.expr.Expr.TheOpen.{Expr-F}
+use Rattle.evaluator.specs.declared.fault.EvalFault.{EvalFault}
+use Rattle.evaluator.specs.Outcomes
+use Rattle.evaluator.specs.Outcomes.{Outcome, Tells, boolean_in}
+use Rattle.evaluator.specs.Operators
+use Rattle.evaluator.specs.Operators.{World, IsIn, BinaryGives, FieldGives, HasGives, UnaryCallGives}
+use Rattle.evaluator.specs.Evaluation as rule
+use Rattle.evaluator.specs.Evaluation.{Gives, TestFails, GivesEach, literal_value, variable_value, put_each}
+use Rattle.evaluator.specs.Laws.{HasOneOutcome}
+use Rattle.typing.specs.Types
+use Rattle.typing.specs.Types.{StaticType, FieldTypes, IsBoolean, common, common_of, truth_type}
+use Rattle.typing.specs.Membership
+use Rattle.typing.specs.Membership.{Of}
+use Rattle.typing.specs.Environment.{Environment}
+use Rattle.typing.specs.Learned
+use Rattle.typing.specs.Learned.{Pair, Pairs, InBoth, OrLearns, has_learns}
+use Rattle.typing.specs.Literals
+use Rattle.typing.specs.Literals.{IsLiteral, AreEntityLiterals, ListsEntities, IsActionIn, Settled, ReadsLiteral}
+use Rattle.typing.specs.Rows
+use Rattle.typing.specs.Rows.{Row}
+use Rattle.typing.specs.Typing
+use Rattle.typing.specs.Typing.{Types, TypesEach}
+use Rattle.typing.specs.Conforming.{Conforms, IsHarmless, Fits, IsPresent, ArePresent, GoesRight}
+use Rattle.typing.proofs.Members.{Contains-here, Contains-cases, Contains-none, Contains-mapped, Contains-unmapped, Contains-joined}
+use Rattle.typing.proofs.Alike.{both_members}
+use Rattle.typing.proofs.Values.{None-Some, Widens, common_has, AllOf, common_of_has, set_of, FieldsFit, put_fits, record_fits}
+use Rattle.typing.proofs.Fitting.{FitsRow, decided_fits, unary_fits, binary_fits, field_fits, has_fits, address_fits, call_fits}
+use Rattle.typing.proofs.Inverting as gives
+use Rattle.typing.proofs.Inverting.{IfGives, AndGives, OrGives, OneGives, TwoGive, SetGives, RecordGives, layer}
+
+none_there : {A G : Type 0} {a : A} → Some a ≡ None → G
+none_there e = None-Some (sym e)
+
+never : {A : Type 0} {e : EvalFault} {v : PlainValue} → (let m : Outcome = Err e in m ≡ Ok v) → A
+never h = absurd (cc)
+
+Ok-same : {v w : PlainValue} → (let m : Outcome = Ok v in m ≡ Ok w) → v ≡ w
+Ok-same e = cc
+
+not_true : {A : Type 0} → (let m : Outcome = Ok (boolean false) in m ≡ Ok (boolean true)) → A
+not_true h = absurd (cc)
+
+no_test : {v : PlainValue} {t : StaticType} {G : Type 0} → IsBoolean t → Of v t → boolean_in v ≡ None → G
+no_test Types.is_true Membership.of_true e = none_there e
+no_test Types.is_false Membership.of_false e = none_there e
+no_test Types.is_either Membership.of_boolean e = none_there e
+
+-- ---- booleans and types
+
+and_fits : {s t : StaticType} {b : Bool} → Rows.MayBeTrue s → IsBoolean t → Of (boolean b) t → Of (boolean b) (Rows.and_type s t)
+and_fits Rows.surely Types.is_true Membership.of_true = Membership.of_true
+and_fits Rows.surely Types.is_false Membership.of_false = Membership.of_false
+and_fits Rows.surely Types.is_either h = Membership.of_boolean
+and_fits Rows.perhaps Types.is_true h = Membership.of_boolean
+and_fits Rows.perhaps Types.is_false Membership.of_false = Membership.of_false
+and_fits Rows.perhaps Types.is_either h = Membership.of_boolean
+
+and_false_fits : {s t : StaticType} → Rows.MayBeTrue s → IsBoolean t → Of (boolean false) s → Of (boolean false) (Rows.and_type s t)
+and_false_fits Rows.surely i h = elim h [ ]
+and_false_fits Rows.perhaps Types.is_true h = Membership.of_boolean
+and_false_fits Rows.perhaps Types.is_false h = Membership.of_false
+and_false_fits Rows.perhaps Types.is_either h = Membership.of_boolean
+
+or_fits : {t : StaticType} {b : Bool} → IsBoolean t → Of (boolean b) t → Of (boolean b) (Rows.or_type t)
+or_fits Types.is_true h = h
+or_fits Types.is_false h = Membership.of_boolean
+or_fits Types.is_either h = Membership.of_boolean
+
+or_true_fits : {t : StaticType} → IsBoolean t → Of (boolean true) (Rows.or_type t)
+or_true_fits Types.is_true = Membership.of_true
+or_true_fits Types.is_false = Membership.of_boolean
+or_true_fits Types.is_either = Membership.of_boolean
+
+may_be_boolean : {t : StaticType} → Rows.MayBeTrue t → IsBoolean t
+may_be_boolean Rows.surely = Types.is_true
+may_be_boolean Rows.perhaps = Types.is_either
+
+module _ (env : Environment) (W : World) (q : Request) (C : Conforms env W q) (one : (x : Expr) → HasOneOutcome W q x) where
+  abbrev Present : Pairs → Type 0
+  Present K = ArePresent W q K
+
+  abbrev Right : StaticType → Pairs → Outcome → Type 0
+  Right t L r = GoesRight W q t L r
+
+  -- whatever the expression gives goes right
+  abbrev Goes : Expr → StaticType → Pairs → Type 0
+  Goes x t L = (r : Outcome) → Gives W q x r → Right t L r
+
+  pub nothing : Present []
+  nothing = record { each = λ p c. Contains-none p c }
+
+  present_joined : (K L : Pairs) → Present K → Present L → Present (K ++ L)
+  present_joined K L h g = record { each = λ p c. elim (Contains-joined K L p c) [ inl k ↦ h.each p k | inr l ↦ g.each p l ] }
+
+  both_left : {L M N : Pairs} → InBoth L M N → Present L → Present N
+  both_left h l = record { each = λ p c. l.each p (both_members h p c).0 }
+
+  both_right : {L M N : Pairs} → InBoth L M N → Present M → Present N
+  both_right h m = record { each = λ p c. m.each p (both_members h p c).1 }
+
+  or_left_learns : {t : StaticType} {L M N : Pairs} → OrLearns t L M N → Present L → Present N
+  or_left_learns Learned.or_learns_none l = nothing
+  or_left_learns Learned.or_learns_left l = l
+  or_left_learns (Learned.or_learns_both h) l = both_left h l
+
+  or_right_learns : {t : StaticType} {L M N : Pairs} → OrLearns t L M N → Of (boolean true) t → Present M → Present N
+  or_right_learns Learned.or_learns_none h m = nothing
+  or_right_learns Learned.or_learns_left h m = elim h [ ]
+  or_right_learns (Learned.or_learns_both g) h m = both_right g m
+
+  -- one outcome
+  same_outcome : {x : Expr} {r s : Outcome} → Gives W q x r → Gives W q x s → r ≡ s
+  same_outcome {x} {r} {s} g h = let o = one x in o.2 r g ∙ sym (o.2 s h)
+
+  learns_nothing : {t : StaticType} {r : Outcome} → Fits t r → Right t [] r
+  learns_nothing h = record { fits = h; learned = λ e. nothing }
+
+  harmless : {t : StaticType} {L : Pairs} {e : EvalFault} → IsHarmless e → Right t L (Err e)
+  harmless h = record { fits = h; learned = λ e. never e }
+
+  is_false : {t : StaticType} {L : Pairs} → Of (boolean false) t → Right t L (Ok (boolean false))
+  is_false h = record { fits = h; learned = λ e. not_true e }
+
+  -- a test that fails errs harmlessly
+  test_fails : {a : Expr} {s : StaticType} {L : Pairs} {e : EvalFault} → IsBoolean s → Goes a s L → TestFails W q a e → IsHarmless e
+  test_fails i f (rule.test_errs g) = (f _ g).fits
+  test_fails i f (rule.no_boolean g n) = no_test i (f _ g).fits n
+
+  -- ---- `&&`, `||` and `if`
+
+  and_false_goes : {a b : Expr} {L : Pairs} {r : Outcome} → Goes a Types.false_type L → AndGives W q a b r → Right Types.false_type [] r
+  and_false_goes f (gives.left_false g) = is_false Membership.of_false
+  and_false_goes f (gives.both_give g h) = let i = (f _ g).fits in elim i [ ]
+  and_false_goes f (gives.and_left g) = harmless (test_fails Types.is_false f g)
+  and_false_goes f (gives.and_right g h) = let i = (f _ g).fits in elim i [ ]
+
+  and_goes : {a b : Expr} {s t : StaticType} {L M : Pairs} {r : Outcome} → Goes a s L → Rows.MayBeTrue s → (Present L → Goes b t M) → IsBoolean t
+      → AndGives W q a b r → Right (Rows.and_type s t) (L ++ M) r
+  and_goes f p k i (gives.left_false g) = is_false (and_false_fits p i (f _ g).fits)
+  and_goes {L} {M} f p k i (gives.both_give g h) =
+      let l = (f _ g).learned refl in let b = k l _ h in record { fits = and_fits p i b.fits; learned = λ e. present_joined L M l (b.learned e) }
+  and_goes f p k i (gives.and_left g) = harmless (test_fails (may_be_boolean p) f g)
+  and_goes f p k i (gives.and_right g h) = harmless (test_fails i (k ((f _ g).learned refl)) h)
+
+  or_true_goes : {a b : Expr} {L : Pairs} {r : Outcome} → Goes a Types.true_type L → OrGives W q a b r → Right Types.true_type [] r
+  or_true_goes f (gives.left_true g) = learns_nothing Membership.of_true
+  or_true_goes f (gives.right_gives g h) = let i = (f _ g).fits in elim i [ ]
+  or_true_goes f (gives.or_left g) = harmless (test_fails Types.is_true f g)
+  or_true_goes f (gives.or_right g h) = let i = (f _ g).fits in elim i [ ]
+
+  or_false_goes : {a b : Expr} {t : StaticType} {L M : Pairs} {r : Outcome} → Goes a Types.false_type L → Goes b t M → IsBoolean t
+      → OrGives W q a b r → Right t M r
+  or_false_goes f k i (gives.left_true g) = let j = (f _ g).fits in elim j [ ]
+  or_false_goes f k i (gives.right_gives g h) = k _ h
+  or_false_goes f k i (gives.or_left g) = harmless (test_fails Types.is_false f g)
+  or_false_goes f k i (gives.or_right g h) = harmless (test_fails i k h)
+
+  right_true : {t : StaticType} {b : Bool} → Of (boolean b) t → (let m : Outcome = Ok (boolean b) in m ≡ Ok (boolean true)) → Of (boolean true) t
+  right_true {t} h e = subst (λ v. Of v t) (Ok-same e) h
+
+  or_goes : {a b : Expr} {t : StaticType} {L M N : Pairs} {r : Outcome} → Goes a Types.boolean_type L → Goes b t M → IsBoolean t → OrLearns t L M N
+      → OrGives W q a b r → Right (Rows.or_type t) N r
+  or_goes f k i l (gives.left_true g) = record { fits = or_true_fits i; learned = λ e. or_left_learns l ((f _ g).learned refl) }
+  or_goes f k i l (gives.right_gives g h) = let b = k _ h in record { fits = or_fits i b.fits; learned = λ e. or_right_learns l (right_true b.fits e) (b.learned e) }
+  or_goes f k i l (gives.or_left g) = harmless (test_fails Types.is_either f g)
+  or_goes f k i l (gives.or_right g h) = harmless (test_fails i k h)
+
+  if_true_goes : {a b c : Expr} {t : StaticType} {L M : Pairs} {r : Outcome} → Goes a Types.true_type L → (Present L → Goes b t M)
+      → IfGives W q a b c r → Right t (L ++ M) r
+  if_true_goes {L} {M} f k (gives.then_gives g h) = let l = (f _ g).learned refl in let b = k l _ h in record { fits = b.fits; learned = λ e. present_joined L M l (b.learned e) }
+  if_true_goes f k (gives.else_gives g h) = let i = (f _ g).fits in elim i [ ]
+  if_true_goes f k (gives.test_fails g) = harmless (test_fails Types.is_true f g)
+
+  if_false_goes : {a b c : Expr} {t : StaticType} {L M : Pairs} {r : Outcome} → Goes a Types.false_type L → Goes c t M
+      → IfGives W q a b c r → Right t M r
+  if_false_goes f k (gives.then_gives g h) = let i = (f _ g).fits in elim i [ ]
+  if_false_goes f k (gives.else_gives g h) = k _ h
+  if_false_goes f k (gives.test_fails g) = harmless (test_fails Types.is_false f g)
+
+  fits_more : {s t : StaticType} (r : Outcome) → Widens s t → Fits s r → Fits t r
+  fits_more (Ok v) f h = f v h
+  fits_more (Err e) f h = h
+
+  if_goes : {a b c : Expr} (s t u : StaticType) {L M N B : Pairs} {r : Outcome} → Goes a Types.boolean_type L → (Present L → Goes b s M) → Goes c t N
+      → common s t ≡ Some u → InBoth N (L ++ M) B → IfGives W q a b c r → Right u B r
+  if_goes s t u {L} {M} {r} f k m e i (gives.then_gives g h) =
+      let l = (f _ g).learned refl in
+      let b = k l r h in
+      record { fits = fits_more r (common_has s t u e).0 b.fits; learned = λ j. both_right i (present_joined L M l (b.learned j)) }
+  if_goes s t u {r} f k m e i (gives.else_gives g h) =
+      let c = m r h in record { fits = fits_more r (common_has s t u e).1 c.fits; learned = λ j. both_left i (c.learned j) }
+  if_goes s t u f k m e i (gives.test_fails g) = harmless (test_fails Types.is_either f g)
+
+  -- ---- operands
+
+  one_goes : {a : Expr} {R : PlainValue → Outcome → Type 0} (s : StaticType) (row : Row) (t : StaticType) {L : Pairs} {r : Outcome} → Goes a s L → row ≡ Ok t
+      → ((v : PlainValue) → Gives W q a (Ok v) → Of v s → (m : Outcome) → R v m → FitsRow row m) → OneGives W q a R r → Fits t r
+  one_goes s row t f e k (gives.one_value {v} {r} g u) = subst (λ x. FitsRow x r) e (k v g (f _ g).fits r u)
+  one_goes s row t f e k (gives.one_fails g) = (f _ g).fits
+
+  two_goes : {a b : Expr} {R : PlainValue → PlainValue → Outcome → Type 0} (s t : StaticType) (row : Row) (u : StaticType) {L M : Pairs} {r : Outcome} → Goes a s L → Goes b t M
+      → row ≡ Ok u → ((v w : PlainValue) → Of v s → Of w t → (m : Outcome) → R v w m → FitsRow row m) → TwoGive W q a b R r → Fits u r
+  two_goes s t row u f h e k (gives.two_values {v} {w} {r} g i j) = subst (λ x. FitsRow x r) e (k v w (f _ g).fits (h _ i).fits r j)
+  two_goes s t row u f h e k (gives.left_fails g) = (f _ g).fits
+  two_goes s t row u f h e k (gives.right_fails g i) = (h _ i).fits
+
+  -- where a pair is known, the value has the field
+  value_has : {a : Expr} {v : PlainValue} {k : List ℕ} → Gives W q a (Ok v) → OneGives W q a (HasGives W k) (Ok (boolean true)) → HasGives W k v (Ok (boolean true))
+  value_has {k} g (gives.one_value h u) = subst (λ w. HasGives W k w (Ok (boolean true))) (Ok-same (same_outcome h g)) u
+
+  known_has : {K : Pairs} (a : Expr) (k : List ℕ) (b : Bool) {v : PlainValue} → Present K → Decides b (Contains K (a, k)) → Gives W q a (Ok v)
+      → b ≡ true → HasGives W k v (Ok (boolean true))
+  known_has a k b h d g e = value_has g (layer W q (Expr-F.Has a k) (form.outs-Has a k) (h.each (a, k) (d.0 e)))
+
+  one_present : {a : Expr} {k : List ℕ} → IsPresent W q (a, k) → Present ((a, k) ∷ [])
+  one_present {a} {k} h = record {
+    each = λ p c. elim (Contains-cases (a, k) [] p c) [
+      | inl e ↦ subst (IsPresent W q) e h
+      | inr n ↦ Contains-none p n
+    ];
+  }
+
+  pair_learned : (t : StaticType) (a : Expr) (k : List ℕ) → IsPresent W q (a, k) → Present (has_learns t (a, k))
+  pair_learned Types.boolean_type a k h = one_present h
+  pair_learned t a k h = nothing
+
+  -- ---- sets and records
+
+  EachFit : List StaticType → Result (List PlainValue) EvalFault → Type 0
+  EachFit ts (Ok vs) = AllOf vs ts
+  EachFit ts (Err e) = IsHarmless e
+
+  set_of_row : (o : Option StaticType) (r : Outcome) → ((u : StaticType) → o ≡ Some u → Fits (Types.set_type u) r) → FitsRow (Rows.set_of_common o) r
+  set_of_row None r f = tt
+  set_of_row (Some u) r f = f u refl
+
+  set_row : (ts : List StaticType) (vs s : List PlainValue) → AllOf vs ts → IsSetOf vs s → FitsRow (Rows.set_literal_type ts) (Ok (set (values_of s)))
+  set_row [] vs s h i = tt
+  set_row (t ∷ ts) [] s h i = absurd h
+  set_row (t ∷ ts) (v ∷ vs) s h i = set_of_row (common_of t ts) _ (λ u e. set_of (v ∷ vs) s u i (common_of_has t ts u e v vs h.0 h.1))
+
+  set_goes : {xs : List Expr} (ts : List StaticType) (t : StaticType) {r : Outcome} → ((m : Result (List PlainValue) EvalFault) → GivesEach W q xs m → EachFit ts m)
+      → Rows.set_literal_type ts ≡ Ok t → SetGives W q xs r → Fits t r
+  unfolding EachFit
+  set_goes ts t f e (gives.set_value {vs} {s} g i) = subst (λ x. FitsRow x (Ok (set (values_of s)))) e (set_row ts vs s (f _ g) i)
+  set_goes ts t f e (gives.member_fails g) = f _ g
+
+  -- fields that are set to values of their types
+  put_all_fit : (xs : List (Named Expr)) (vs : List PlainValue) (ts : List StaticType) → AllOf vs ts → (done : List Field) (us : FieldTypes) → FieldsFit done us
+      → FieldsFit (put_each xs vs done) (Types.put_each (map (λ x. x.name) xs) ts us)
+  put_all_fit [] [] [] h done us f = f
+  put_all_fit [] (v ∷ vs) (t ∷ ts) h done us f = f
+  put_all_fit (x ∷ xs) [] [] h done us f = f
+  put_all_fit (x ∷ xs) (v ∷ vs) (t ∷ ts) h done us f = put_all_fit xs vs ts h.1 (put x.name v done) (Types.put_required x.name t us) (put_fits x.name v t done us h.0 f)
+  put_all_fit xs vs ts h done us f = absurd h
+
+  record_goes : {xs : List (Named Expr)} (ts : List StaticType) {r : Outcome}
+      → ((m : Result (List PlainValue) EvalFault) → GivesEach W q (map (λ x. x.value) xs) m → EachFit ts m) → RecordGives W q xs r
+      → Fits (Types.record_type (Types.put_each (map (λ x. x.name) xs) ts Types.no_field_types)) r
+  unfolding EachFit
+  record_goes {xs} ts f (gives.record_value {vs} g) = record_fits (put_each xs vs []) _ (put_all_fit xs vs ts (f _ g) [] Types.no_field_types (λ k. Membership.absent))
+  record_goes ts f (gives.field_fails g) = f _ g
+
+  -- ---- literals
+
+  literal_of : (l : Literal) → Of (literal_value l) (Rows.literal_type l)
+  literal_of (literal.Boolean true) = Membership.of_true
+  literal_of (literal.Boolean false) = Membership.of_false
+  literal_of (literal.Long z) = Membership.of_long
+  literal_of (literal.Text s) = Membership.of_text
+  literal_of (literal.Entity u) = Membership.of_entity refl
+
+  variable_of : (x : Variable) → Of (variable_value x q) (Rows.variable_type env x)
+  variable_of variable.Principal = Membership.of_entity C.principal
+  variable_of variable.Action = Membership.of_entity (ap (λ u. u.type_name) C.action)
+  variable_of variable.Resource = Membership.of_entity C.resource
+  variable_of variable.Context = C.context
+
+  value_goes : {t : StaticType} {v : PlainValue} {r : Outcome} → Of v t → r ≡ Ok v → Right t [] r
+  value_goes {t} h e = learns_nothing (subst (Fits t) (sym e) h)
+
+  literal_gives : {x : Expr} {l : Literal} {r : Outcome} → IsLiteral env x l → Gives W q x r → r ≡ Ok (literal_value l)
+  literal_gives (Literals.stated {l}) g = layer W q (Expr-F.Literal l) (form.outs-Literal l) g
+  literal_gives Literals.action g = layer W q (Expr-F.Variable variable.Action) (form.outs-Variable variable.Action) g ∙ ap (λ u. Ok (entity u)) C.action
+
+  literal_is : {x : Expr} {l : Literal} {v : PlainValue} → IsLiteral env x l → Gives W q x (Ok v) → v ≡ literal_value l
+  literal_is h g = Ok-same (literal_gives h g)
+
+  literal_errs : {x : Expr} {l : Literal} {e : EvalFault} {G : Type 0} → IsLiteral env x l → Gives W q x (Err e) → G
+  literal_errs h g = never (literal_gives h g)
+
+  one_literal : (l m : Literal) → literal_value l ≡ literal_value m → l ≡ m
+  one_literal (literal.Boolean a) (literal.Boolean b) e = cc
+  one_literal (literal.Long a) (literal.Long b) e = cc
+  one_literal (literal.Text a) (literal.Text b) e = cc
+  one_literal (literal.Entity a) (literal.Entity b) e = cc
+  one_literal l m e = absurd (cc)
+
+  decides_as : {P Q : Type 0} {r : Bool} → (P → Q) → (Q → P) → Decides r P → Decides r Q
+  decides_as f g d = (λ e. f (d.0 e), λ h. d.1 (g h))
+
+  equal_tells : {v w : PlainValue} {r : Outcome} → BinaryGives W binary.Equal v w r → Tells (v ≡ w) r
+  equal_tells (Operators.equal t) = t
+  equal_tells (Operators.of_numbers n) = absurd n
+  equal_tells (Operators.no_numbers i e) = absurd i
+  equal_tells (Operators.no_sets i e) = absurd i
+
+  equal_goes : {a b : Expr} {l m : Literal} (b0 : Bool) {r : Outcome} → IsLiteral env a l → IsLiteral env b m → Decides b0 (l ≡ m)
+      → TwoGive W q a b (BinaryGives W binary.Equal) r → Fits (truth_type b0) r
+  equal_goes {l} {m} b0 f h d (gives.two_values {v} {w} g i j) =
+      decided_fits b0
+      (decides_as (λ e. literal_is f g ∙ (ap literal_value e ∙ sym (literal_is h i))) (λ e. one_literal l m (sym (literal_is f g) ∙ (e ∙ literal_is h i))) d)
+      (equal_tells j)
+  equal_goes b0 f h d (gives.left_fails g) = literal_errs f g
+  equal_goes b0 f h d (gives.right_fails g i) = literal_errs h i
+
+  -- ---- actions
+
+  action_above : (a b : EntityUid) → IsTrue (env.is_action_type a.type_name) → IsIn W a b → IsActionIn env a b
+  action_above a b i (inl e) = inl e
+  action_above a b i (inr p) = inr ((C.actions a i b).1 p)
+
+  above_action : (a b : EntityUid) → IsTrue (env.is_action_type a.type_name) → IsActionIn env a b → IsIn W a b
+  above_action a b i (inl e) = inl e
+  above_action a b i (inr c) = inr ((C.actions a i b).0 c)
+
+  abbrev InSome : EntityUid → List EntityUid → Type 0
+  InSome u us = (v : EntityUid) × Contains us v × IsIn W u v
+
+  abbrev ActionInSome : EntityUid → List EntityUid → Type 0
+  ActionInSome u us = (v : EntityUid) × Contains us v × IsActionIn env u v
+
+  in_one_tells : {u v : EntityUid} {r : Outcome} → BinaryGives W binary.In (entity u) (entity v) r → Tells (IsIn W u v) r
+  in_one_tells (Operators.in_entity t) = t
+  in_one_tells (Operators.in_other i j) = none_there i
+  in_one_tells (Operators.other_in i) = none_there i
+  in_one_tells (Operators.no_numbers i e) = absurd i
+  in_one_tells (Operators.no_sets i e) = absurd i
+
+  in_one_goes : {u v : EntityUid} (b0 : Bool) {r : Outcome} → IsTrue (env.is_action_type u.type_name) → Decides b0 (ActionInSome u (v ∷ []))
+      → BinaryGives W binary.In (entity u) (entity v) r → Fits (truth_type b0) r
+  in_one_goes {u} {v} b0 i d j =
+      decided_fits b0
+      (decides_as
+      (λ h. elim (Contains-cases v [] h.0 h.1) [
+        | inl e ↦ above_action u v i (subst (IsActionIn env u) (sym e) h.2)
+        | inr n ↦ Contains-none h.0 n
+      ])
+      (λ h. (v, Contains-here v [], action_above u v i h)) d)
+      (in_one_tells j)
+
+  entity_same : {a b : EntityUid} → entity a ≡ entity b → a ≡ b
+  entity_same e = cc
+
+  unmapped : (us : List EntityUid) (v : EntityUid) → Contains (map entity us) (entity v) → Contains us v
+  unmapped us v c = let h = Contains-unmapped entity us (entity v) c in subst (Contains us) (entity_same h.2) h.1
+
+  -- the members of a set of entities
+  in_some_goes : {u : EntityUid} (vs : List EntityUid) (s : List PlainValue) (b0 : Bool) {r : Outcome} → IsTrue (env.is_action_type u.type_name)
+      → IsSetOf (map entity vs) s → Decides b0 (ActionInSome u vs) → BinaryGives W binary.In (entity u) (set (values_of s)) r → Fits (truth_type b0) r
+  in_some_goes {u} vs s b0 i is d (Operators.in_set us same t) =
+      let listed : s ≡ map entity us = sym (list_of-values_of s) ∙ same in
+      decided_fits b0
+      (decides_as
+      (λ h. (
+        h.0,
+        unmapped us h.0 (subst (λ ws. Contains ws (entity h.0)) listed ((is.members (entity h.0)).1 (Contains-mapped entity vs h.0 h.1))),
+        above_action u h.0 i h.2,
+      ))
+      (λ h. (
+        h.0,
+        unmapped vs h.0 ((is.members (entity h.0)).0 (subst (λ ws. Contains ws (entity h.0)) (sym listed) (Contains-mapped entity us h.0 h.1))),
+        action_above u h.0 i h.2,
+      )) d)
+      t
+  in_some_goes vs s b0 i is d (Operators.in_mixed_set v c e) =
+      let m = Contains-unmapped entity vs v ((is.members v).0 (subst (λ ws. Contains ws v) (list_of-values_of s) c)) in
+      none_there (ap Outcomes.entity_in m.2 ∙ e)
+  in_some_goes vs s b0 i is d (Operators.in_other e f) = none_there f
+  in_some_goes vs s b0 i is d (Operators.other_in e) = none_there e
+  in_some_goes vs s b0 i is d (Operators.no_numbers e f) = absurd e
+  in_some_goes vs s b0 i is d (Operators.no_sets e f) = absurd e
+
+  entities_give : {xs : List Expr} {us : List EntityUid} {vs : List PlainValue} → AreEntityLiterals env xs us → GivesEach W q xs (Ok vs) → vs ≡ map entity us
+  entities_give Literals.no_literals rule.each_none = refl
+  entities_give (Literals.literal_before {u} {us} h hs) (rule.each_more {v} {vs} g gs) =
+      ap (λ w. w ∷ vs) (literal_is h g) ∙ ap (λ (ws : List PlainValue). entity u ∷ ws) (entities_give hs gs)
+
+  entities_err : {xs : List Expr} {us : List EntityUid} {e : EvalFault} {G : Type 0} → AreEntityLiterals env xs us → GivesEach W q xs (Err e) → G
+  entities_err Literals.no_literals g = elim g [ ]
+  entities_err (Literals.literal_before h hs) (rule.each_fails g) = literal_errs h g
+  entities_err (Literals.literal_before h hs) (rule.each_fails_later g gs) = entities_err hs gs
+
+  in_set_goes : {u : EntityUid} {xs : List Expr} (vs : List EntityUid) {w : PlainValue} (b0 : Bool) {r m : Outcome} → IsTrue (env.is_action_type u.type_name)
+      → AreEntityLiterals env xs vs → Decides b0 (ActionInSome u vs) → SetGives W q xs m → m ≡ Ok w
+      → BinaryGives W binary.In (entity u) w r → Fits (truth_type b0) r
+  in_set_goes {u} vs {w} b0 {r} i hs d (gives.set_value {vs = ws} {s} g is) e j =
+      in_some_goes vs s b0 i (subst (λ (us : List PlainValue). IsSetOf us s) (entities_give hs g) is) d
+      (subst (λ v. BinaryGives W binary.In (entity u) v r) (sym (Ok-same e)) j)
+  in_set_goes vs b0 i hs d (gives.member_fails g) e j = never e
+
+  listed_goes : {b : Expr} {u : EntityUid} {vs : List EntityUid} {w : PlainValue} (b0 : Bool) {r : Outcome} → IsTrue (env.is_action_type u.type_name)
+      → ListsEntities env b vs → Decides b0 (ActionInSome u vs) → Gives W q b (Ok w) → BinaryGives W binary.In (entity u) w r → Fits (truth_type b0) r
+  listed_goes {u = a} {w} b0 {r} i (Literals.alone {u = v} h) d g j =
+      in_one_goes b0 i d (subst (λ x. BinaryGives W binary.In (entity a) x r) (literal_is h g) j)
+  listed_goes {vs} b0 i (Literals.in_set {x} {xs} hs) d g j =
+      in_set_goes vs b0 i hs d (layer W q (Expr-F.Set (x ∷ xs)) (form.outs-Set (x ∷ xs)) g) refl j
+
+  set_errs : {xs : List Expr} {us : List EntityUid} {e : EvalFault} {m : Outcome} {G : Type 0} → AreEntityLiterals env xs us → SetGives W q xs m
+      → m ≡ Err e → G
+  set_errs hs (gives.set_value g is) e = absurd (cc)
+  set_errs hs (gives.member_fails g) e = entities_err hs g
+
+  listed_errs : {b : Expr} {vs : List EntityUid} {e : EvalFault} {G : Type 0} → ListsEntities env b vs → Gives W q b (Err e) → G
+  listed_errs (Literals.alone h) g = literal_errs h g
+  listed_errs (Literals.in_set {x} {xs} hs) g = set_errs hs (layer W q (Expr-F.Set (x ∷ xs)) (form.outs-Set (x ∷ xs)) g) refl
+
+  in_goes : {a b : Expr} {u : EntityUid} {vs : List EntityUid} (b0 : Bool) {r : Outcome} → IsLiteral env a (literal.Entity u)
+      → IsTrue (env.is_action_type u.type_name) → ListsEntities env b vs → Decides b0 (ActionInSome u vs)
+      → TwoGive W q a b (BinaryGives W binary.In) r → Fits (truth_type b0) r
+  in_goes b0 h i l d (gives.two_values {w} {r} g k j) =
+      listed_goes b0 i l d k (subst (λ x. BinaryGives W binary.In x w r) (literal_is h g) j)
+  in_goes b0 h i l d (gives.left_fails g) = literal_errs h g
+  in_goes b0 h i l d (gives.right_fails g k) = listed_errs l k
+
+  settled_goes : {op : Binary} {a b : Expr} {b0 : Bool} {r : Outcome} → Settled env op a b b0 → TwoGive W q a b (BinaryGives W op) r → Fits (truth_type b0) r
+  settled_goes {b0} (Literals.equal_literals h g d) k = equal_goes b0 h g d k
+  settled_goes {b0} (Literals.action_in h i g d) k = in_goes b0 h i g d k
+
+  -- ---- literals of extensions
+
+  text_value : {t : List ℕ} {v : PlainValue} → Gives W q (form.Literal (literal.Text t)) (Ok v) → text t ≡ v
+  text_value {t} g = sym (Ok-same (layer W q (Expr-F.Literal (literal.Text t)) (form.outs-Literal (literal.Text t)) g))
+
+  text_errs : {t : List ℕ} {e : EvalFault} {G : Type 0} → Gives W q (form.Literal (literal.Text t)) (Err e) → G
+  text_errs {t} g = never (layer W q (Expr-F.Literal (literal.Text t)) (form.outs-Literal (literal.Text t)) g)
+
+  decimal_read : {t : List ℕ} {z : ℤ} {v : PlainValue} {r : Outcome} → IsDecimalText t z → text t ≡ v → UnaryCallGives unary_call.Decimal v r
+      → Fits Types.decimal_type r
+  decimal_read {r} h e u = reads (subst (λ w. UnaryCallGives unary_call.Decimal w r) (sym e) u) h
+    where
+      reads : {t : List ℕ} {z : ℤ} {r : Outcome} → UnaryCallGives unary_call.Decimal (text t) r → IsDecimalText t z → Fits Types.decimal_type r
+      reads (Operators.reads_decimal g) h = Membership.of_decimal
+      reads {z} (Operators.no_decimal n) h = absurd (n z h)
+      reads (Operators.decimal_of_other f) h = none_there f
+      reads (Operators.of_no_address i f) h = absurd i
+
+  address_read : {t : List ℕ} {n : Network} {v : PlainValue} {r : Outcome} → IsNetworkText t n → text t ≡ v → UnaryCallGives unary_call.Ip v r
+      → Fits Types.ipaddr_type r
+  address_read {r} h e u = reads (subst (λ w. UnaryCallGives unary_call.Ip w r) (sym e) u) h
+    where
+      reads : {t : List ℕ} {n : Network} {r : Outcome} → UnaryCallGives unary_call.Ip (text t) r → IsNetworkText t n → Fits Types.ipaddr_type r
+      reads (Operators.reads_address g) h = Membership.of_ipaddr
+      reads {n} (Operators.no_address m) h = absurd (m n h)
+      reads (Operators.address_of_other f) h = none_there f
+      reads (Operators.of_no_address i f) h = absurd i
+
+  reading_goes : {called : UnaryCall} {x : Expr} {t : StaticType} {r : Outcome} → ReadsLiteral called x t → OneGives W q x (UnaryCallGives called) r → Fits t r
+  reading_goes (Literals.reads_decimal h) (gives.one_value g u) = decimal_read h (text_value g) u
+  reading_goes (Literals.reads_decimal h) (gives.one_fails g) = text_errs g
+  reading_goes (Literals.reads_address h) (gives.one_value g u) = address_read h (text_value g) u
+  reading_goes (Literals.reads_address h) (gives.one_fails g) = text_errs g
+
+  -- ---- all rows
+
+  mutual
+    unfolding EachFit
+
+    -- whatever a typed expression gives goes right
+    pub goes_right : {K L : Pairs} {x : Expr} {t : StaticType} → Present K → Types env K x t L → Goes x t L
+    goes_right k (Typing.types_literal l) r g = value_goes (literal_of l) (layer W q (Expr-F.Literal l) (form.outs-Literal l) g)
+    goes_right k (Typing.types_variable x) r g = value_goes (variable_of x) (layer W q (Expr-F.Variable x) (form.outs-Variable x) g)
+    goes_right k (Typing.types_unary op a {s} {t} h e) r g =
+        learns_nothing (one_goes s (Rows.unary_type op s) t (goes_right k h) e (λ v i f m u. unary_fits op f u) (layer W q (Expr-F.Unary op a) (form.outs-Unary op a) g))
+    goes_right k (Typing.and_of_false a b h) r g = and_false_goes (goes_right k h) (layer W q (Expr-F.And a b) (form.outs-And a b) g)
+    goes_right k (Typing.and_of_both {K} {L} a b h p f i) r g =
+        and_goes (goes_right k h) p (λ l. goes_right (present_joined K L k l) f) i (layer W q (Expr-F.And a b) (form.outs-And a b) g)
+    goes_right k (Typing.or_of_true a b h) r g = or_true_goes (goes_right k h) (layer W q (Expr-F.Or a b) (form.outs-Or a b) g)
+    goes_right k (Typing.or_of_false a b h f i) r g = or_false_goes (goes_right k h) (goes_right k f) i (layer W q (Expr-F.Or a b) (form.outs-Or a b) g)
+    goes_right k (Typing.or_of_both a b h f i l) r g = or_goes (goes_right k h) (goes_right k f) i l (layer W q (Expr-F.Or a b) (form.outs-Or a b) g)
+    goes_right k (Typing.if_of_true {K} {L} a b c h f) r g =
+        if_true_goes (goes_right k h) (λ l. goes_right (present_joined K L k l) f) (layer W q (Expr-F.If a b c) (form.outs-If a b c) g)
+    goes_right k (Typing.if_of_false a b c h f) r g = if_false_goes (goes_right k h) (goes_right k f) (layer W q (Expr-F.If a b c) (form.outs-If a b c) g)
+    goes_right k (Typing.if_of_both {K} {L} a b c {s} {t} {u} h f i e l) r g =
+        if_goes s t u (goes_right k h) (λ p. goes_right (present_joined K L k p) f) (goes_right k i) e l (layer W q (Expr-F.If a b c) (form.outs-If a b c) g)
+    goes_right k (Typing.types_settled op a b h) r g = learns_nothing (settled_goes h (layer W q (Expr-F.Binary op a b) (form.outs-Binary op a b) g))
+    goes_right k (Typing.types_binary op a b {s} {t} {u} n h f e) r g =
+        learns_nothing (two_goes s t (Rows.binary_type env op s t) u (goes_right k h) (goes_right k f) e (λ v w i j m l. binary_fits env W q C op i j l)
+        (layer W q (Expr-F.Binary op a b) (form.outs-Binary op a b) g))
+    goes_right k (Typing.types_field a n {is_known} {s} {t} h d e) r g =
+        learns_nothing (one_goes s (Rows.field_type_of env is_known n s) t (goes_right k h) e (λ v i f m u. field_fits env W q C is_known n f (known_has a n is_known k d i) u)
+        (layer W q (Expr-F.Field a n) (form.outs-Field a n) g))
+    goes_right k (Typing.types_has a n {is_known} {s} {t} h d e) r g = record {
+      fits = one_goes s (Rows.has_type env is_known n s) t (goes_right k h) e (λ v i f m u. has_fits env W q C is_known n f (known_has a n is_known k d i) u)
+          (layer W q (Expr-F.Has a n) (form.outs-Has a n) g);
+      learned = λ i. pair_learned t a n (subst (λ m. Gives W q (form.Has a n) m) i g);
+    }
+    goes_right k (Typing.types_set xs {ts} {t} h e) r g = learns_nothing (set_goes ts t (each_goes_right k h) e (layer W q (Expr-F.Set xs) (form.outs-Set xs) g))
+    goes_right k (Typing.types_record xs {ts} h) r g = learns_nothing (record_goes ts (each_goes_right k h) (layer W q (Expr-F.Record xs) (form.outs-Record xs) g))
+    goes_right k (Typing.types_literal_call called a h f) r g = learns_nothing (reading_goes f (layer W q (Expr-F.UnaryCall called a) (form.outs-UnaryCall called a) g))
+    goes_right k (Typing.types_address_test called a {s} {t} i h e) r g =
+        learns_nothing (one_goes s (Rows.address_test_type s) t (goes_right k h) e (λ v j f m u. address_fits i f u)
+        (layer W q (Expr-F.UnaryCall called a) (form.outs-UnaryCall called a) g))
+    goes_right k (Typing.types_call called a b {s} {t} {u} h f e) r g =
+        learns_nothing (two_goes s t (Rows.call_type called s t) u (goes_right k h) (goes_right k f) e (λ v w i j m l. call_fits called i j l)
+        (layer W q (Expr-F.BinaryCall called a b) (form.outs-BinaryCall called a b) g))
+
+    each_goes_right : {K : Pairs} {xs : List Expr} {ts : List StaticType} → Present K → TypesEach env K xs ts
+        → (m : Result (List PlainValue) EvalFault) → GivesEach W q xs m → EachFit ts m
+    each_goes_right k Typing.types_none _ rule.each_none = tt
+    each_goes_right k (Typing.types_more h hs) _ (rule.each_more g gs) = ((goes_right k h _ g).fits, each_goes_right k hs _ gs)
+    each_goes_right k (Typing.types_more h hs) _ (rule.each_fails g) = (goes_right k h _ g).fits
+    each_goes_right k (Typing.types_more h hs) _ (rule.each_fails_later g gs) = each_goes_right k hs _ gs

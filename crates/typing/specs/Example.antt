@@ -1,0 +1,81 @@
+-- A request and entities that conform, written out: Alice, who is among the staff, is to view a plan, which is among
+-- what readers do. So what is said of those that conform is said of something.
+use Rattle.std.specs.Prelude.{ℕ, List, [], ◌∷◌, pos, true, false, ◌&&◌, codes, Option, Some, None, if◌then◌else◌}
+use Rattle.std.specs.Ordering.{is_eq}
+use Rattle.std.specs.Str.{bytes_eq}
+use Rattle.values.specs.declared.entity_uid.EntityUid.{EntityUid}
+use Rattle.values.specs.declared.request.Request.{Request}
+use Rattle.values.specs.Fields.{Field}
+use Rattle.values.specs.Uids.{uid_cmp}
+use Rattle.values.specs.Values.{boolean, long}
+use Rattle.ancestor_closure.specs.Hierarchy.{Parents, no_parents, with_parents}
+use Rattle.expressions.specs.declared.leaf.Literal.TheVariants as literal
+use Rattle.expressions.specs.declared.leaf.Variable.TheVariants.{Principal}
+use Rattle.expressions.specs.declared.operator.Binary.TheVariants.{Less}
+use Rattle.expressions.specs.declared.expr.Expr.{Expr}
+use Rattle.expressions.specs.declared.expr.Expr.TheVariants as form
+use Rattle.evaluator.specs.Operators.{World}
+use Rattle.typing.specs.Types.{FieldTypes, no_field_types, field_type, boolean_type, long_type}
+use Rattle.typing.specs.Environment.{Environment}
+use Rattle.typing.specs.Learned.{Pair}
+
+abbrev pub uid : List ℕ → List ℕ → EntityUid
+uid type_name id = record { type_name = type_name; id = id }
+
+abbrev pub alice : EntityUid
+alice = uid (codes "User") (codes "alice")
+
+abbrev pub staff : EntityUid
+staff = uid (codes "Group") (codes "staff")
+
+abbrev pub plan : EntityUid
+plan = uid (codes "Doc") (codes "plan")
+
+abbrev pub view : EntityUid
+view = uid (codes "Action") (codes "view")
+
+abbrev pub readers : EntityUid
+readers = uid (codes "Action") (codes "readers")
+
+-- a user may have an age
+abbrev pub user_attributes : FieldTypes
+user_attributes = field_type (codes "age") long_type false no_field_types
+
+-- a request says whether its sender is known
+abbrev pub environment : Environment
+environment = record {
+  principal = codes "User";
+  action = view;
+  resource = codes "Doc";
+  context = field_type (codes "known") boolean_type true no_field_types;
+  attributes = λ n. if bytes_eq n (codes "User") then user_attributes else no_field_types;
+  may_be_below = λ m n. bytes_eq m (codes "User") && bytes_eq n (codes "Group");
+  is_action_type = λ n. bytes_eq n (codes "Action");
+  action_ancestors = λ u. if is_eq (uid_cmp view u) then readers ∷ [] else [];
+}
+
+abbrev pub parents : Parents
+parents = with_parents (with_parents no_parents alice (staff ∷ [])) view (readers ∷ [])
+
+abbrev pub stored : EntityUid → Option (List Field)
+stored u =
+    if is_eq (uid_cmp alice u) then Some ((codes "age", long (pos 30)) ∷ [])
+    else (if is_eq (uid_cmp plan u) then Some [] else None)
+
+abbrev pub world : World
+world = record { stored = stored; parents = parents }
+
+abbrev pub request : Request
+request = record { principal = alice; action = view; resource = plan; context = (codes "known", boolean true) ∷ [] }
+
+-- that the principal has an age
+abbrev pub age_of_principal : Pair
+age_of_principal = (form.Variable Principal, codes "age")
+
+-- `principal has age`
+abbrev pub has_age : Expr
+has_age = form.Has (form.Variable Principal) (codes "age")
+
+-- `0 < principal.age`
+abbrev pub is_aged : Expr
+is_aged = form.Binary Less (form.Literal (literal.Long (pos 0))) (form.Field (form.Variable Principal) (codes "age"))

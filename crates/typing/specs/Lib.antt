@@ -1,0 +1,13 @@
+pub mod Conforming
+pub mod Environment
+pub mod Example
+pub mod Faults
+pub mod Judgement
+pub mod Laws
+pub mod Learned
+pub mod Literals
+pub mod Membership
+pub mod Ordered
+pub mod Rows
+pub mod Types
+pub mod Typing

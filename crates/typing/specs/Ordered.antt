@@ -1,0 +1,26 @@
+-- The keys of record types ascend, at every depth.
+use Rattle.std.specs.Prelude.{◌≡◌, ⊤, ℕ, List}
+use Rattle.std.specs.declared.cmp.Ordering.TheVariants.{Less}
+use Rattle.values.specs.Uids.{text_cmp}
+use Rattle.typing.specs.Types.{StaticType, set_type, record_type, FieldTypes, no_field_types, field_type}
+use Rattle.typing.specs.Environment.{Environment}
+
+-- the key is below the first of these
+abbrev pub IsBefore : List ℕ → FieldTypes → Type 0
+IsBefore k no_field_types = ⊤
+IsBefore k (field_type l t r ts) = text_cmp k l ≡ Less
+
+abbrev mutual
+  pub IsOrdered : StaticType → Type 0
+  IsOrdered (set_type t) = IsOrdered t
+  IsOrdered (record_type ts) = AreOrdered ts
+  IsOrdered t = ⊤
+
+  pub AreOrdered : FieldTypes → Type 0
+  AreOrdered no_field_types = ⊤
+  AreOrdered (field_type k t r ts) = IsOrdered t × IsBefore k ts × AreOrdered ts
+
+-- the types that the schema states
+pub record HasOrderedTypes (env : Environment) : Type 0 where
+  pub context : AreOrdered env.context
+  pub attributes : (n : List ℕ) → AreOrdered (env.attributes n)

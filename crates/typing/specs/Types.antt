@@ -1,0 +1,108 @@
+-- The types of expressions, and the common type of several.
+-- Sources: Cedar reference guide 4.0, "Policy validation"; cedar-spec, cedar-lean/Cedar/Validation/Types.lean
+-- (`CedarType`, `BoolType`) and Subtyping.lean (`lub?`). True and False are the types of booleans that are known before
+-- any request is.
+use Rattle.std.specs.Prelude.{ℕ, List, [], ◌∷◌, Bool, true, false, ◌&&◌, Option, Some, None, if◌then◌else◌}
+use Rattle.std.specs.Option.{option_map, option_and_then}
+use Rattle.std.specs.Ordering.{match_ordering}
+use Rattle.std.specs.Str.{bytes_eq}
+use Rattle.values.specs.Uids.{text_cmp}
+
+mutual
+  pub data StaticType : Type 0 where
+    true_type : StaticType
+    false_type : StaticType
+    boolean_type : StaticType
+    long_type : StaticType
+    text_type : StaticType
+    -- the entities of the type of this name
+    entity_type : List ℕ → StaticType
+    set_type : StaticType → StaticType
+    record_type : FieldTypes → StaticType
+    decimal_type : StaticType
+    ipaddr_type : StaticType
+
+  -- each key with its type, and whether it is required; keys ascend
+  pub data FieldTypes : Type 0 where
+    no_field_types : FieldTypes
+    field_type : List ℕ → StaticType → Bool → FieldTypes → FieldTypes
+
+-- what a record type says of one key
+pub data Declared : Type 0 where
+  undeclared : Declared
+  optional : StaticType → Declared
+  required : StaticType → Declared
+
+abbrev pub declared_as : Bool → StaticType → Declared
+declared_as true t = required t
+declared_as false t = optional t
+
+abbrev pub declared_at : List ℕ → FieldTypes → Declared
+declared_at k no_field_types = undeclared
+declared_at k (field_type l t r ts) = if bytes_eq k l then declared_as r t else declared_at k ts
+
+-- the fields, with a required one of type t at k
+abbrev pub put_required : List ℕ → StaticType → FieldTypes → FieldTypes
+put_required k t no_field_types = field_type k t true no_field_types
+put_required k t (field_type l s r ts) =
+    match_ordering (text_cmp k l) (field_type k t true (field_type l s r ts)) (field_type l t true ts)
+    (field_type l s r (put_required k t ts))
+
+-- the fields, with each of these names given its type, one after the other
+abbrev pub put_each : List (List ℕ) → List StaticType → FieldTypes → FieldTypes
+put_each (k ∷ ks) (t ∷ ts) fields = put_each ks ts (put_required k t fields)
+put_each ks ts fields = fields
+
+-- the type of a boolean that is known
+abbrev pub truth_type : Bool → StaticType
+truth_type true = true_type
+truth_type false = false_type
+
+-- a boolean type, the others of which make it Bool
+pub data IsBoolean : StaticType → Type 0 where
+  is_true : IsBoolean true_type
+  is_false : IsBoolean false_type
+  is_either : IsBoolean boolean_type
+
+abbrev pub same_requirement : Bool → Bool → Bool
+same_requirement true r = r
+same_requirement false true = false
+same_requirement false false = true
+
+abbrev pub field_before : List ℕ → Bool → Option StaticType → Option FieldTypes → Option FieldTypes
+field_before k r (Some t) (Some ts) = Some (field_type k t r ts)
+field_before k r (Some t) None = None
+field_before k r None ts = None
+
+-- The common type of two: of equal types that type, of two boolean types that differ Bool, of sets by their members, of
+-- records with equal keys and equal requirements field by field; of others there is none.
+abbrev mutual
+  pub common : StaticType → StaticType → Option StaticType
+  common true_type true_type = Some true_type
+  common true_type false_type = Some boolean_type
+  common true_type boolean_type = Some boolean_type
+  common false_type true_type = Some boolean_type
+  common false_type false_type = Some false_type
+  common false_type boolean_type = Some boolean_type
+  common boolean_type true_type = Some boolean_type
+  common boolean_type false_type = Some boolean_type
+  common boolean_type boolean_type = Some boolean_type
+  common long_type long_type = Some long_type
+  common text_type text_type = Some text_type
+  common (entity_type m) (entity_type n) = if bytes_eq m n then Some (entity_type m) else None
+  common (set_type s) (set_type t) = option_map set_type (common s t)
+  common (record_type ss) (record_type ts) = option_map record_type (common_fields ss ts)
+  common decimal_type decimal_type = Some decimal_type
+  common ipaddr_type ipaddr_type = Some ipaddr_type
+  common s t = None
+
+  pub common_fields : FieldTypes → FieldTypes → Option FieldTypes
+  common_fields no_field_types no_field_types = Some no_field_types
+  common_fields (field_type k s r ss) (field_type l t q ts) =
+      if bytes_eq k l && same_requirement r q then field_before k r (common s t) (common_fields ss ts) else None
+  common_fields ss ts = None
+
+-- the common type of the first and each of the others in turn
+abbrev pub common_of : StaticType → List StaticType → Option StaticType
+common_of t [] = Some t
+common_of t (s ∷ ss) = option_and_then (λ u. common_of u ss) (common t s)

@@ -1,0 +1,80 @@
+-- The type of an expression, and what it learns: one case a rule.
+-- Sources: Cedar reference guide 4.0, "Policy validation"; cedar-spec, cedar-lean/Cedar/Validation/Typechecker.lean
+-- (`typeOf`). Rules of this product: those of Literals.antt on actions, and that `&&` whose right is False learns what
+-- both sides do.
+use Rattle.std.specs.Prelude.{◌≡◌, ℕ, List, [], ◌∷◌, ◌++◌, map, Contains, Bool, Some, Ok}
+use Rattle.std.specs.Bool.{Decides}
+use Rattle.expressions.specs.declared.leaf.Literal.{Literal}
+use Rattle.expressions.specs.declared.leaf.Variable.{Variable}
+use Rattle.expressions.specs.declared.operator.Unary.{Unary}
+use Rattle.expressions.specs.declared.operator.Binary.{Binary}
+use Rattle.expressions.specs.declared.operator.UnaryCall.{UnaryCall}
+use Rattle.expressions.specs.declared.operator.BinaryCall.{BinaryCall}
+use Rattle.expressions.specs.declared.expr.Named.{Named}
+use Rattle.expressions.specs.declared.expr.Expr.{Expr}
+use Rattle.expressions.specs.declared.expr.Expr.TheVariants as form
+use Rattle.evaluator.specs.Operators.{TakesAddress}
+use Rattle.typing.specs.Types.{StaticType, true_type, false_type, boolean_type, record_type}
+use Rattle.typing.specs.Types.{no_field_types, put_each, truth_type, IsBoolean, common}
+use Rattle.typing.specs.Environment.{Environment}
+use Rattle.typing.specs.Learned.{Pairs, InBoth, OrLearns, has_learns}
+use Rattle.typing.specs.Literals.{Settled, IsUnsettled, ReadsLiteral}
+use Rattle.typing.specs.Rows.{literal_type, variable_type, unary_type, binary_type, MayBeTrue, and_type, or_type}
+use Rattle.typing.specs.Rows.{field_type_of, has_type, set_literal_type, address_test_type, call_type}
+
+mutual
+  -- where the pairs of K are known, the expression has type t, and learns L
+  pub data Types (env : Environment) : Pairs → Expr → StaticType → Pairs → Type 0 where
+    types_literal : {K : Pairs} (l : Literal) → Types env K (form.Literal l) (literal_type l) []
+    types_variable : {K : Pairs} (x : Variable) → Types env K (form.Variable x) (variable_type env x) []
+    types_unary : {K L : Pairs} (op : Unary) (a : Expr) {s t : StaticType} → Types env K a s L
+        → unary_type op s ≡ Ok t → Types env K (form.Unary op a) t []
+    -- the left False: the right isn't looked at
+    and_of_false : {K L : Pairs} (a b : Expr) → Types env K a false_type L → Types env K (form.And a b) false_type []
+    and_of_both : {K L M : Pairs} (a b : Expr) {s t : StaticType} → Types env K a s L → MayBeTrue s
+        → Types env (K ++ L) b t M → IsBoolean t → Types env K (form.And a b) (and_type s t) (L ++ M)
+    -- the left True: the right isn't looked at
+    or_of_true : {K L : Pairs} (a b : Expr) → Types env K a true_type L → Types env K (form.Or a b) true_type []
+    or_of_false : {K L M : Pairs} (a b : Expr) {t : StaticType} → Types env K a false_type L → Types env K b t M
+        → IsBoolean t → Types env K (form.Or a b) t M
+    or_of_both : {K L M N : Pairs} (a b : Expr) {t : StaticType} → Types env K a boolean_type L
+        → Types env K b t M → IsBoolean t → OrLearns t L M N → Types env K (form.Or a b) (or_type t) N
+    -- the test True or False: the other branch isn't looked at
+    if_of_true : {K L M : Pairs} (a b c : Expr) {t : StaticType} → Types env K a true_type L
+        → Types env (K ++ L) b t M → Types env K (form.If a b c) t (L ++ M)
+    if_of_false : {K L M : Pairs} (a b c : Expr) {t : StaticType} → Types env K a false_type L
+        → Types env K c t M → Types env K (form.If a b c) t M
+    -- it learns what `else` learns and the test and `then` together do
+    if_of_both : {K L M N B : Pairs} (a b c : Expr) {s t u : StaticType} → Types env K a boolean_type L
+        → Types env (K ++ L) b s M → Types env K c t N → common s t ≡ Some u → InBoth N (L ++ M) B
+        → Types env K (form.If a b c) u B
+    -- literals that settle the answer have no further types
+    types_settled : {K : Pairs} (op : Binary) (a b : Expr) {r : Bool} → Settled env op a b r
+        → Types env K (form.Binary op a b) (truth_type r) []
+    types_binary : {K L M : Pairs} (op : Binary) (a b : Expr) {s t u : StaticType} → IsUnsettled env op a b
+        → Types env K a s L → Types env K b t M → binary_type env op s t ≡ Ok u
+        → Types env K (form.Binary op a b) u []
+    types_field : {K L : Pairs} (a : Expr) (k : List ℕ) {is_known : Bool} {s t : StaticType} → Types env K a s L
+        → Decides is_known (Contains K (a, k)) → field_type_of env is_known k s ≡ Ok t
+        → Types env K (form.Field a k) t []
+    types_has : {K L : Pairs} (a : Expr) (k : List ℕ) {is_known : Bool} {s t : StaticType} → Types env K a s L
+        → Decides is_known (Contains K (a, k)) → has_type env is_known k s ≡ Ok t
+        → Types env K (form.Has a k) t (has_learns t (a, k))
+    types_set : {K : Pairs} (xs : List Expr) {ts : List StaticType} {t : StaticType} → TypesEach env K xs ts
+        → set_literal_type ts ≡ Ok t → Types env K (form.Set xs) t []
+    -- all fields are required
+    types_record : {K : Pairs} (xs : List (Named Expr)) {ts : List StaticType}
+        → TypesEach env K (map (λ x. x.value) xs) ts
+        → Types env K (form.Record xs) (record_type (put_each (map (λ x. x.name) xs) ts no_field_types)) []
+    types_literal_call : {K L : Pairs} (called : UnaryCall) (a : Expr) {s t : StaticType} → Types env K a s L
+        → ReadsLiteral called a t → Types env K (form.UnaryCall called a) t []
+    types_address_test : {K L : Pairs} (called : UnaryCall) (a : Expr) {s t : StaticType} → TakesAddress called
+        → Types env K a s L → address_test_type s ≡ Ok t → Types env K (form.UnaryCall called a) t []
+    types_call : {K L M : Pairs} (called : BinaryCall) (a b : Expr) {s t u : StaticType} → Types env K a s L
+        → Types env K b t M → call_type called s t ≡ Ok u → Types env K (form.BinaryCall called a b) u []
+
+  -- the types of these, in order
+  pub data TypesEach (env : Environment) : Pairs → List Expr → List StaticType → Type 0 where
+    types_none : {K : Pairs} → TypesEach env K [] []
+    types_more : {K L : Pairs} {x : Expr} {xs : List Expr} {t : StaticType} {ts : List StaticType}
+        → Types env K x t L → TypesEach env K xs ts → TypesEach env K (x ∷ xs) (t ∷ ts)
