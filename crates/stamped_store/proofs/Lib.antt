@@ -4,3 +4,6 @@ pub mod Lifted
 pub mod Greatests
 pub mod Showing
 pub mod Stores
+pub mod Kept
+pub mod Contents
+pub mod Deltas

@@ -5,3 +5,6 @@ pub mod Stored
 pub mod Greatest
 pub mod Shown
 pub mod Store
+pub mod Reading
+pub mod Contents
+pub mod Deltas

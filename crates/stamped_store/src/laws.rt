@@ -1,18 +1,28 @@
 //! Laws of entries, of joins and of stores, each by the contract of a function that does nothing.
-ghost use Rattle.std.specs.Prelude.{◌≡◌, ◌↔◌, ◌≤◌, ◌⊎◌, ◌++◌, ◌∷◌, [], true, ℕ, List, Option, Some, max};
+ghost use Rattle.std.specs.Prelude.{◌≡◌, ◌↔◌, ◌≤◌, ◌⊎◌, ◌++◌, ◌∷◌, [], true, ℕ, List, Option, Some, max, string_bytes};
+ghost use Rattle.std.specs.Option.{option_map};
+ghost use Rattle.std.specs.String.{string_cmp};
+ghost use Rattle.std.specs.declared.alloc.Global.{Global};
+ghost use Rattle.std.specs.declared.string.String.{String};
 ghost use Rattle.std.specs.List.{Contains};
 ghost use Rattle.std.specs.Cmp.{IsTotalOrder};
 ghost use Rattle.std.specs.FinMap.{IsAntisymmetric, get};
 ghost use Rattle.values.specs.declared.name.Name.{Name};
+ghost use Rattle.values.specs.declared.entity_uid.EntityUid.{EntityUid};
+ghost use Rattle.values.specs.Names.{name_cmp, uid_cmp};
 ghost use Rattle.stamped_store.specs.Joins.{IsJoin, IsLeastAbove};
 ghost use Rattle.stamped_store.specs.EntryOrder.{PlainEntry, plain_entry, entry_cmp, greater_entry, greater};
 ghost use Rattle.stamped_store.specs.EntryOrder.{entry_below};
-ghost use Rattle.stamped_store.specs.Stored.{IsBelowAt, joined_at};
+ghost use Rattle.stamped_store.specs.Stored.{IsBelowAt, joined_at, value_at, taken};
 ghost use Rattle.stamped_store.specs.Greatest.{IsStoreOf, greatest_count};
 ghost use Rattle.stamped_store.specs.Store.{Store, Update, updates, store_of, plain_below, IsStoreBelow, IsStoreJoin};
-ghost use Rattle.stamped_store.specs.Store.{joined_stores, issue, issued};
+ghost use Rattle.stamped_store.specs.Store.{joined_stores, issue, issued, policy_name, entity_name};
+ghost use Rattle.stamped_store.specs.Store.{Kept, kept, all_kept, first_kept};
+ghost use Rattle.stamped_store.specs.Reading.{IsEntryRead, IsKeptRead};
+ghost use Rattle.stamped_store.specs.Contents.{text_under, policies_of, entities_of};
+ghost use Rattle.stamped_store.specs.Deltas.{Summary, stamp_of, summary_of, is_news, delta, HaveOneEntryForAStamp};
 
-use crate::{Entry, Join};
+use crate::{Entry, Join, Readings};
 
 /// The order of entries is total, entries that tie are one, and the greater of two entries is their join: associative,
 /// commutative, idempotent, and the least above both.
@@ -80,4 +90,44 @@ pub fn stamps_are_issued()
     ensures stays { (s : Store) (name : Name) (site : ℕ) (body : Option (List ℕ))
         → get (store_of (updates s ++ (name, issued (issue s site) body) ∷ [])) name
         ≡ Some (issued (issue s site) body) }
+{}
+
+/// The policies of a store are exactly those whose name has a text, each with that text, and so are its entities.
+pub fn contents_are_told()
+    ensures policies { (s : Store) (id text : List ℕ) → Contains (policies_of s) (id, text)
+        ↔ (text_under s (policy_name id) ≡ Some text) }
+    ensures entities { (s : Store) (uid : EntityUid) (text : List ℕ) → Contains (entities_of s) (uid, text)
+        ↔ (text_under s (entity_name uid) ≡ Some text) }
+{}
+
+/// A delta has exactly the entries of its store that are news to the summary. Joined into a store, a delta that was
+/// made against the summary of this store, or of what it was once, leaves what the whole store would leave, as long as
+/// equal stamps mean equal entries.
+pub fn deltas_are_joined()
+    ensures news { (t : Store) (m : Summary) (q : Name) (e : PlainEntry) → (get (delta t m) q ≡ Some e)
+        ↔ ((get t q ≡ Some e) × (is_news (value_at name_cmp m q) (Some e) ≡ true)) }
+    ensures summary { (s : Store) (q : Name) → value_at name_cmp (summary_of s) q ≡ option_map stamp_of (get s q) }
+    ensures whole { (s old t : Store) → IsStoreBelow old s → HaveOneEntryForAStamp old t
+        → joined_stores s (delta t (summary_of old)) ≡ joined_stores s t }
+{}
+
+/// That each text of a store was read as what stands beside it, under its name, stays so: it holds of the empty store,
+/// after a policy or an entity is taken whose own text was so read, and after a merge of two such stores, whole or cut
+/// short.
+pub fn readings_are_kept<P: Drop, E: Drop, R: Readings<P, E>>()
+    ensures empty { (r : R) → IsKeptRead {P = P} {E = E} (R.reads_policy r) (R.reads_entity r) (kept [] []) }
+    ensures policy { (r : R) (k : Kept P E) (id : String Global) (entry : Entry P)
+        → IsKeptRead (R.reads_policy r) (R.reads_entity r) k → IsEntryRead (R.reads_policy r (string_bytes id)) entry
+        → IsKeptRead (R.reads_policy r) (R.reads_entity r)
+        (kept (taken string_cmp greater k.policies id entry) k.entities) }
+    ensures entity { (r : R) (k : Kept P E) (uid : EntityUid) (entry : Entry E)
+        → IsKeptRead (R.reads_policy r) (R.reads_entity r) k → IsEntryRead (R.reads_entity r uid) entry
+        → IsKeptRead (R.reads_policy r) (R.reads_entity r)
+        (kept k.policies (taken uid_cmp greater k.entities uid entry)) }
+    ensures merged { (r : R) (k l : Kept P E) → IsKeptRead (R.reads_policy r) (R.reads_entity r) k
+        → IsKeptRead (R.reads_policy r) (R.reads_entity r) l
+        → IsKeptRead (R.reads_policy r) (R.reads_entity r) (all_kept k l) }
+    ensures cut_short { (r : R) (n : ℕ) (k l : Kept P E) → IsKeptRead (R.reads_policy r) (R.reads_entity r) k
+        → IsKeptRead (R.reads_policy r) (R.reads_entity r) l
+        → IsKeptRead (R.reads_policy r) (R.reads_entity r) (all_kept k (first_kept n l)) }
 {}

@@ -9,9 +9,11 @@ mod entry;
 mod join;
 pub mod laws;
 mod policy_store;
+mod readings;
 mod stamped;
 
 pub use entry::{Entry, ReadText, Stamp};
 pub use join::Join;
 pub use policy_store::{COUNT_MAX, PolicyStore};
+pub use readings::Readings;
 pub use stamped::{Short, Stamped};

@@ -1,0 +1,4 @@
+pub mod Ascending
+pub mod RoundTrip
+pub mod OneText
+pub mod Sound

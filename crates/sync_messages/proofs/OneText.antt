@@ -1,0 +1,77 @@
+-- Two summaries of one text are one.
+use Rattle.std.proofs.Common.{◌≡◌, ◌∙◌, ℕ, List, [], ◌∷◌, map, Result, Ok, true, refl, sym, ap, arith}
+use Rattle.std.specs.Prelude.{codes}
+use Rattle.std.specs.Str.{IsUtf8}
+use Rattle.json_words.specs.Plain.{IsPlain, ArePlain, CompactIsOne}
+use Rattle.json_words.proofs.AsciiLemmas.{are_ascii, ascii_is_utf8}
+use Rattle.serde_json.specs.View.{items_of}
+use Rattle.values.specs.Paths.{PathsAreTold}
+use Rattle.values.specs.declared.name.Name.{Name}
+use Rattle.values.specs.declared.name.Name.TheVariants.{Policy, Entity}
+use Rattle.stamped_store.specs.declared.entry.Stamp.{Stamp}
+use Rattle.stamped_store.specs.Deltas.{Summary}
+use Rattle.sync_messages.specs.declared.fault.MessageFault.{MessageFault}
+use Rattle.sync_messages.specs.Summaries.{IsStamped, AreStamped, HasTexts, HaveTexts, IsWritten, name_json, stamp_json, summary_json, summary_text, summary_in}
+use Rattle.sync_messages.proofs.RoundTrip.{summary_again, depth_summary}
+
+-- of a key in the source, at `refl`
+key : (s : List ℕ) → are_ascii s ≡ true → IsUtf8 s
+key s plain = ascii_is_utf8 s plain
+
+plain_name : (n : Name) → HasTexts n → IsPlain (name_json n)
+plain_name (Policy id) h = (key (codes "policy") refl, h, tt, tt)
+plain_name (Entity uid) h = (
+  key (codes "entity") refl,
+  (key (codes "id") refl, h.1, (refl, tt), (key (codes "type") refl, h.0, tt, tt)),
+  tt,
+  tt,
+)
+
+plain_stamp : (u : Name × Stamp) → IsStamped u → HasTexts u.0 → IsPlain (stamp_json u)
+plain_stamp u h texts = (
+  key (codes "count") refl,
+  omega (arith, h.bounded),
+  (refl, (refl, tt)),
+  (
+    key (codes "name") refl,
+    plain_name u.0 texts,
+    (refl, tt),
+    (key (codes "site") refl, omega (arith, h.small), tt, tt),
+  ),
+)
+
+plain_stamps : (m : Summary) → AreStamped m → HaveTexts m → ArePlain (items_of (map stamp_json m))
+plain_stamps [] h texts = tt
+plain_stamps (u ∷ m) h texts = (plain_stamp u h.0 texts.0, plain_stamps m h.1 texts.1)
+
+plain_summary : (label : List ℕ) (m : Summary) → IsUtf8 label → AreStamped m → HaveTexts m → IsPlain (summary_json label m)
+plain_summary label m is h texts = (
+  key (codes "kind") refl,
+  key (codes "summary") refl,
+  (refl, (refl, (refl, tt))),
+  (
+    key (codes "schema") refl,
+    is,
+    (refl, (refl, tt)),
+    (
+      key (codes "stamps") refl,
+      plain_stamps m h texts,
+      (refl, tt),
+      (key (codes "version") refl, omega arith, tt, tt),
+    ),
+  ),
+)
+
+done : Summary → Result Summary MessageFault
+done m = Ok m
+
+ok_is : (m n : Summary) → done m ≡ done n → m ≡ n
+unfolding done
+ok_is m n h = cc
+
+pub one_text : PathsAreTold → CompactIsOne → (label : List ℕ) (m n : Summary) → IsUtf8 label → IsWritten m → IsWritten n → summary_text label m ≡ summary_text label n → m ≡ n
+unfolding summary_text done
+one_text told compact_one label m n is h k same =
+    let json : summary_json label m ≡ summary_json label n =
+    compact_one (summary_json label m) (summary_json label n) (plain_summary label m is h.stamped h.texts) (plain_summary label n is k.stamped k.texts) (depth_summary label m) (depth_summary label n) same in
+    ok_is m n (sym (summary_again told label m h.stamped h.ascending) ∙ ap (summary_in label) json ∙ summary_again told label n k.stamped k.ascending)

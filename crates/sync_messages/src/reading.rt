@@ -1,0 +1,222 @@
+//! Reading a summary, with the first fault.
+ghost use Rattle.std.specs.Prelude.{◌≡◌, true, IfOk, map, option_map};
+ghost use Rattle.std.specs.Ordering.{is_lt};
+ghost use Rattle.serde_json.specs.Data.{Data};
+ghost use Rattle.serde_json.specs.View.{view, items_view};
+ghost use Rattle.json_words.specs.Gives.{Gives, GivesAlways};
+ghost use Rattle.json_words.specs.Each.{each};
+ghost use Rattle.values.specs.Names.{name_cmp};
+ghost use Rattle.sync_messages.specs.declared.fault.MessageFault.TheVariants as MessageFault;
+ghost use Rattle.sync_messages.specs.Summaries.{ascend as ascends, number_at as number_of, policy_in, entity_in};
+ghost use Rattle.sync_messages.specs.Summaries.{name_in, stamp_in, stamps_of, stamps_in, is_id as has_id, judged};
+ghost use Rattle.sync_messages.specs.Summaries.{summary_in, summary_stated};
+
+use crate::{MessageFault, Summary};
+use json_words::{only_keys, read_json, text_at};
+use plain::Text;
+use serde_json::Value;
+use stamped_store::Stamp;
+use std::alloc::Global;
+use uid_json::read_uid;
+use values::Name;
+
+/// The whole number at a key.
+fn number_at(value: &Value, key: &str) -> Result<u64, MessageFault>
+    ensures { GivesAlways (λ n. n) result (number_of key.now (view value.now)) }
+{
+    match value.get(key) {
+        Some(found) => match found.as_u64() {
+            Some(number) => Ok(number),
+            None => Err(MessageFault::BadShape),
+        },
+        None => Err(MessageFault::BadShape),
+    }
+}
+
+#[tactic(auto, unfolding(crate::specs::Summaries::policy_in))]
+fn read_policy(alloc: Global, value: &Value) -> Result<Name, MessageFault>
+    ensures { Gives MessageFault.NoMemory (λ n. n) result (policy_in (view value.now)) }
+{
+    let Some(id) = text_at(value, "policy") else {
+        return Err(MessageFault::BadShape);
+    };
+    Ok(Name::Policy(Text::from_str(alloc, id)?))
+}
+
+#[tactic(auto, unfolding(crate::specs::Summaries::entity_in))]
+fn read_entity(alloc: Global, value: &Value) -> Result<Name, MessageFault>
+    ensures { Gives MessageFault.NoMemory (λ n. n) result (entity_in (view value.now)) }
+{
+    if !only_keys(value, &["entity"]) {
+        return Err(MessageFault::BadShape);
+    }
+    let Some(found) = value.get("entity") else {
+        return Err(MessageFault::BadShape);
+    };
+    if !only_keys(found, &["id", "type"]) {
+        return Err(MessageFault::BadShape);
+    }
+    match read_uid(alloc, found)? {
+        Some(uid) => Ok(Name::Entity(uid)),
+        None => Err(MessageFault::BadShape),
+    }
+}
+
+/// The name that an object states.
+#[tactic(auto, unfolding(crate::specs::Summaries::name_in))]
+fn read_name(alloc: Global, value: &Value) -> Result<Name, MessageFault>
+    ensures { Gives MessageFault.NoMemory (λ n. n) result (name_in (view value.now)) }
+{
+    if only_keys(value, &["policy"]) {
+        return read_policy(alloc, value);
+    }
+    read_entity(alloc, value)
+}
+
+/// A name with its stamp.
+#[tactic(auto, unfolding(crate::specs::Summaries::stamp_in))]
+fn read_stamp(alloc: Global, value: &Value) -> Result<(Name, Stamp), MessageFault>
+    ensures { Gives MessageFault.NoMemory (λ u. u) result (stamp_in (view value.now)) }
+{
+    if !only_keys(value, &["count", "name", "site"]) {
+        return Err(MessageFault::BadShape);
+    }
+    let count = number_at(value, "count")?;
+    let site = number_at(value, "site")?;
+    if !(1 <= site && site <= 65535) {
+        return Err(MessageFault::BadShape);
+    }
+    let stamp = Stamp {
+        count,
+        site: site as u16,
+    };
+    let Some(found) = value.get("name") else {
+        return Err(MessageFault::BadShape);
+    };
+    let name = read_name(alloc, found)?;
+    Ok((name, stamp))
+}
+
+fn read_each(alloc: Global, values: &[Value]) -> Result<Vec<(Name, Stamp)>, MessageFault>
+    ensures { Gives MessageFault.NoMemory (λ us. us.items) result (stamps_of (items_view values.now)) }
+{
+    let mut stamps = Vec::with_capacity(alloc, values.len())?;
+    for value in values {
+        let stamp = read_stamp(alloc, value)?;
+        stamps.push(stamp)?;
+    }
+    Ok(stamps)
+}
+
+/// Whether a name comes before another.
+fn comes_before(first: &Name, second: &Name) -> bool
+    ensures { result ≡ is_lt (name_cmp first.now second.now) }
+{
+    first.cmp(second).is_lt()
+}
+
+/// Whether each name comes before the one behind it.
+fn ascend(stamps: &[(Name, Stamp)]) -> bool
+    ensures { result ≡ ascends stamps.now }
+{
+    for place in 1..stamps.len() {
+        if !comes_before(&stamps[place - 1].0, &stamps[place].0) {
+            return false;
+        }
+    }
+    true
+}
+
+/// Stamps whose names ascend.
+#[tactic(auto, unfolding(crate::specs::Summaries::stamps_in))]
+fn read_stamps(alloc: Global, value: &Value) -> Result<Vec<(Name, Stamp)>, MessageFault>
+    ensures stamps { Gives MessageFault.NoMemory (λ us. us.items) result (stamps_in (view value.now)) }
+    ensures ascending { IfOk result (λ us. ascends us.items ≡ true) }
+{
+    let Some(found) = value.get("stamps") else {
+        return Err(MessageFault::BadShape);
+    };
+    let Some(list) = found.as_array() else {
+        return Err(MessageFault::BadShape);
+    };
+    let stamps = read_each(alloc, list)?;
+    if !ascend(&stamps) {
+        return Err(MessageFault::BadShape);
+    }
+    Ok(stamps)
+}
+
+/// Whether a policy's id has 1 to 256 bytes.
+fn has_id(name: &Name) -> bool
+    ensures { result ≡ has_id name.now }
+{
+    match name {
+        Name::Policy(id) => 1 <= id.len() && id.len() <= 256,
+        Name::Entity(_) => true,
+    }
+}
+
+/// Judges the stamp at a place.
+#[tactic(auto, unfolding(crate::specs::Summaries::judged))]
+fn judge(place: usize, stamp: &(Name, Stamp)) -> Result<(), MessageFault>
+    ensures { Gives MessageFault.NoMemory (λ u. stamp.now) result (judged place stamp.now) }
+{
+    if !(1 <= stamp.1.count && stamp.1.count <= 1_000_000_000_000_000_000) {
+        return Err(MessageFault::CountRange(place));
+    }
+    if !has_id(&stamp.0) {
+        return Err(MessageFault::BadEntry(place, 19));
+    }
+    Ok(())
+}
+
+fn judge_all(stamps: &[(Name, Stamp)]) -> Result<(), MessageFault>
+    ensures { Gives MessageFault.NoMemory (λ u. stamps.now) result (each judged 0 stamps.now) }
+{
+    for (place, stamp) in stamps.iter().enumerate() {
+        judge(place, stamp)?;
+    }
+    Ok(())
+}
+
+/// The summary that a value is.
+#[tactic(auto, unfolding(crate::specs::Summaries::summary_in))]
+fn read_summary_value(alloc: Global, label: &str, value: &Value) -> Result<Summary, MessageFault>
+    ensures { Gives MessageFault.NoMemory (λ m. m) result (summary_in label.now (view value.now)) }
+{
+    if number_at(value, "version")? != 1 {
+        return Err(MessageFault::Version);
+    }
+    if !only_keys(value, &["kind", "schema", "stamps", "version"]) {
+        return Err(MessageFault::BadShape);
+    }
+    let Some(kind) = text_at(value, "kind") else {
+        return Err(MessageFault::BadShape);
+    };
+    if kind != "summary" {
+        return Err(MessageFault::BadShape);
+    }
+    let Some(schema) = text_at(value, "schema") else {
+        return Err(MessageFault::BadShape);
+    };
+    let stamps = read_stamps(alloc, value)?;
+    if schema != label {
+        return Err(MessageFault::OtherSchema);
+    }
+    judge_all(&stamps)?;
+    Ok(Summary { stamps })
+}
+
+/// The summary that bytes are, under the schema of this label, or the first fault, in this order: bytes that are no
+/// JSON; no object with a whole-number `version`; another version; the rest of the shape, all stamps and the order of
+/// their names included; another schema; then stamp by stamp a count out of range, and a policy's id that has not 1 to
+/// 256 bytes. Fails for memory too.
+#[tactic(auto, unfolding(crate::specs::Summaries::summary_stated))]
+pub fn read_summary(alloc: Global, label: &str, bytes: &[u8]) -> Result<Summary, MessageFault>
+    ensures { Gives MessageFault.NoMemory (λ m. m) result (summary_stated label.now bytes.now) }
+{
+    match read_json(alloc, bytes)? {
+        Some(value) => read_summary_value(alloc, label, &value),
+        None => Err(MessageFault::NotJson),
+    }
+}
