@@ -3,6 +3,8 @@
 #
 #   bench/http.sh memory [REQUESTS]      instructions a GET with five fields (valgrind), and requests a second
 #   bench/http.sh loopback [REQUESTS]    requests a second on one keep-alive connection, one by one and 32 sent together
+#   bench/http.sh slow                   instructions of a head of 16,384 bytes and of a body of 8,388,608, each at once
+#                                        and, but for the long body, byte by byte
 #   bench/http.sh refused FIRST LAST     serves and fetches with the FIRSTth to the LASTth allocation refused, one in each run
 #
 # PROGRAM names another binary. Needs python3, and valgrind for the instructions. `refused` builds the program anew for each allocation.
@@ -74,6 +76,24 @@ finally:
 P
 }
 
+# Instructions of one row.
+row() { valgrind --tool=callgrind --callgrind-out-file=/dev/null "$program" 2>&1 >/dev/null | awk '/Collected/ { print $NF }'; }
+
+slow() {
+    built
+    local none field fields body
+    none=$(echo "whole " | row)
+    # A head of 16,384 bytes: one long field, or 63 fields of 256 bytes and what is left.
+    field=$(python3 -c 'print(r"GET / HTTP/1.1\r\nh: " + "a" * 16361 + r"\r\n\r\n")')
+    fields=$(python3 -c 'print(r"GET / HTTP/1.1\r\n" + ("h: " + "a" * 251 + r"\r\n") * 63 + "h: " + "a" * 233 + r"\r\n\r\n")')
+    body=$(python3 -c 'print(r"PUT / HTTP/1.1\r\nContent-Length: 8388608\r\n\r\n" + r"\k" * 8192)')
+    echo "head of one field, at once: $(($(echo "whole $field" | row) - none)) instructions"
+    echo "head of one field, byte by byte: $(($(echo "slow $field" | row) - none))"
+    echo "head of 64 fields, at once: $(($(echo "whole $fields" | row) - none))"
+    echo "head of 64 fields, byte by byte: $(($(echo "slow $fields" | row) - none))"
+    echo "body of 8,388,608 bytes, at once: $(($(echo "whole $body" | row) - none)), the making of its bytes and of the reply in it"
+}
+
 # Each line that is printed is the one wanted, or one that says that memory was refused; the run may end early with an error.
 refused() {
     cd "$crate"
@@ -104,6 +124,7 @@ refused() {
 case "${1:-}" in
 memory) memory "${2:-400000}" ;;
 loopback) loopback "${2:-64000}" ;;
+slow) slow ;;
 refused) refused "${2:?the first allocation to refuse}" "${3:?the last}" ;;
-*) sed -n '2,8s/^# \{0,1\}//p' "$0" && exit 2 ;;
+*) sed -n '2,10s/^# \{0,1\}//p' "$0" && exit 2 ;;
 esac

@@ -23,6 +23,11 @@ const ASK: Ask<'static> = Ask {
     body: None,
 };
 
+/// All at once, and nothing fails.
+fn all() -> Plan<'static> {
+    Plan::new(&[], None)
+}
+
 /// Fetches from a peer that gives these bytes.
 fn run(alloc: Global, bytes: &[u8], reads: Plan<'_>, writes: Plan<'_>) -> Fetched {
     let mut reader = Fed::new(bytes, reads);
@@ -53,25 +58,23 @@ fn told(alloc: Global, fetched: &Fetched) -> Result<String, AllocError> {
 
 /// What is fetched, if it is the same however the reply is cut in two, and how much is unread of it in pieces.
 pub(crate) fn fetched_all(alloc: Global, bytes: &[u8]) -> Result<String, AllocError> {
-    let all = Plan::new(&[], None);
-    let slow = told(alloc, &run(alloc, bytes, Plan::new(&[1], None), all))?;
+    let slow = told(alloc, &run(alloc, bytes, Plan::new(&[1], None), all()))?;
     for at in 0..bytes.len() {
         let cut = told(
             alloc,
-            &run(alloc, bytes, Plan::new(&[at, usize::MAX], None), all),
+            &run(alloc, bytes, Plan::new(&[at, usize::MAX], None), all()),
         )?;
         if cut.as_str() != slow.as_str() {
             return String::from_str(alloc, "differs");
         }
     }
-    let left = run(alloc, bytes, Plan::new(&[7], None), all).left;
+    let left = run(alloc, bytes, Plan::new(&[7], None), all()).left;
     format!(in alloc; "{slow}, {left} left")
 }
 
 /// What is fetched of a long reply.
 pub(crate) fn far(alloc: Global, bytes: &[u8]) -> Result<String, AllocError> {
-    let all = Plan::new(&[], None);
-    let fetched = run(alloc, bytes, all, all);
+    let fetched = run(alloc, bytes, all(), all());
     match &fetched.reply {
         Ok((status, body)) => {
             let size = body.len();

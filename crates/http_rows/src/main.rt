@@ -5,9 +5,11 @@
 //!   asked; and the places at which more is answered, where the text ends there. The same has to come of the text cut
 //!   in two at each byte, read byte by byte, and written in pieces; else `differs`.
 //! - `whole TEXT`: the statuses alone, of a long text, which is not cut.
+//! - `slow TEXT`: the same, where the text is read byte by byte.
 //! - `reply TEXT`: the replies themselves.
 //! - `faults TEXT`: how many reads and writes there are, in pieces of 7 and of 50 bytes, each of which was made to fail
-//!   once; `differs` where one of them is not told or what is answered by then is not.
+//!   once; `differs` where one of them is not told, or what is answered by then is not, or more was read or written
+//!   behind it, or no more before it than before the one that came first.
 //! - `left TEXT`: how much of the text is unread at the end, where it is read in pieces of 7 bytes.
 //! - `unread TEXT`: how much of the text is unread where the first write fails, so how much is read before a reply.
 //! - `fetch TEXT`: what is fetched where the text comes as the reply, however it is cut, and how much of it is unread
@@ -29,7 +31,7 @@ mod serving;
 mod texts;
 
 use crate::fetching::{asked, broken, far, fetched_all};
-use crate::serving::{Counter, faults, left, many, reply, scarce, served, unread, whole};
+use crate::serving::{Counter, faults, left, many, reply, scarce, served, slow, unread, whole};
 use crate::texts::bytes_of;
 use http_streams::devices::Counted;
 use http_streams::serve::serve;
@@ -45,6 +47,7 @@ fn told(alloc: Global, word: &str, text: &str) -> Result<String, AllocError> {
     match word {
         "serve" => served(alloc, bytes),
         "whole" => whole(alloc, bytes),
+        "slow" => slow(alloc, bytes),
         "reply" => reply(alloc, bytes),
         "faults" => faults(alloc, bytes),
         "left" => left(alloc, bytes),
@@ -83,7 +86,7 @@ fn listen(rt: &HostRuntime, address: &str, connections: usize) -> io::Result<()>
         stream.set_nodelay(true)?;
         let mut reader = Counted::new(&stream);
         let mut writer = Counted::new(&stream);
-        let mut counter = Counter { requests: 0 };
+        let mut counter = Counter::new();
         let ended = serve(rt.alloc(), &mut counter, &mut reader, &mut writer).is_ok();
         println!(rt; "{} requests, ended: {ended}", counter.requests)?;
     }

@@ -1,7 +1,7 @@
 //! Rows of streams that are served.
 ghost use Rattle.std.specs.Prelude.{◌≡◌, ℕ, List};
 ghost use Rattle.http_streams.specs.Laws.{AgreeOn, AnswersAll, HasOneAnswer, in_memory};
-ghost use Rattle.http_rows.specs.Counts.{counts};
+ghost use Rattle.http_rows.specs.Counts.{asked_alike, counts};
 
 use crate::texts::shown;
 use http_streams::devices::{Sink, Source};
@@ -12,35 +12,53 @@ use http_streams::service::Service;
 use http_streams::status::Status;
 use std::alloc::{AllocError, Global};
 
-/// Answers each request by its body, or by its target where it has none, and counts them.
+/// Answers each request by its body, or by its target where it has none. It counts them, and how often memory was
+/// refused.
 #[derive(Drop)]
 pub(crate) struct Counter {
     pub(crate) requests: u64,
+    refused: u64,
+}
+
+impl Counter {
+    pub(crate) fn new() -> Counter
+        ensures { result ≡ record { requests = 0; refused = 0 } }
+    {
+        Counter {
+            requests: 0,
+            refused: 0,
+        }
+    }
 }
 
 impl Service for Counter {
     ghost answers = { counts };
+
+    ghost same = { asked_alike };
 
     fn call(&mut self, method: &[u8], target: &[u8], body: &[u8], text: &mut Vec<u8>) -> Status {
         self.requests = self.requests.saturating_add(1);
         let said = if body.is_empty() { target } else { body };
         match text.extend_from_slice(said) {
             Ok(()) => Status::Ok,
-            Err(_) => Status::ServiceUnavailable,
+            Err(_) => {
+                self.refused = self.refused.saturating_add(1);
+                Status::ServiceUnavailable
+            }
         }
     }
 }
 
 /// The service has one answer to each request, want of memory aside.
 fn has_one_answer()
-    ensures { HasOneAnswer (in_memory counts) (λ one other. one ≡ other) }
+    ensures { HasOneAnswer (in_memory counts) asked_alike }
 {}
 
 /// So one answer is told of a stream, however it is cut: the rows look at what is proved here.
 fn agrees()
-    ensures { (old new new2 : Counter) → (stream out more : List ℕ)
-        → AnswersAll (in_memory counts) old stream out new → AnswersAll (in_memory counts) old stream more new2
-        → AgreeOn (in_memory counts) (λ one other. one ≡ other) old old stream out more new new2 }
+    ensures { (old old2 new new2 : Counter) → (stream out more : List ℕ) → asked_alike old old2
+        → AnswersAll (in_memory counts) old stream out new → AnswersAll (in_memory counts) old2 stream more new2
+        → AgreeOn (in_memory counts) asked_alike old old2 stream out more new new2 }
 {
     has_one_answer();
     one_answer::<Counter>();
@@ -68,6 +86,8 @@ const PLAIN: Way<'static> = Way {
 struct Outcome {
     out: Vec<u8>,
     requests: u64,
+    /// How often memory was refused to the service.
+    refused: u64,
     fault: Option<StreamFault>,
     /// How much is unread.
     left: usize,
@@ -87,7 +107,7 @@ impl Outcome {
 
 /// Serves the bytes in this way.
 fn run(alloc: Global, bytes: &[u8], way: Way<'_>) -> Result<Outcome, AllocError> {
-    let mut counter = Counter { requests: 0 };
+    let mut counter = Counter::new();
     let mut reader = Fed::new(bytes, Plan::new(way.reads, way.bad_read));
     let mut writer = Kept::new(alloc, Plan::new(way.writes, way.bad_write));
     let fault = serve(alloc, &mut counter, &mut reader, &mut writer).err();
@@ -97,6 +117,7 @@ fn run(alloc: Global, bytes: &[u8], way: Way<'_>) -> Result<Outcome, AllocError>
     Ok(Outcome {
         out,
         requests: counter.requests,
+        refused: counter.refused,
         fault,
         left,
         failures,
@@ -192,6 +213,19 @@ pub(crate) fn whole(alloc: Global, bytes: &[u8]) -> Result<String, AllocError> {
     statuses(alloc, whole.out.as_slice())
 }
 
+/// The statuses of a text that is read byte by byte.
+pub(crate) fn slow(alloc: Global, bytes: &[u8]) -> Result<String, AllocError> {
+    let whole = run(
+        alloc,
+        bytes,
+        Way {
+            reads: &[1],
+            ..PLAIN
+        },
+    )?;
+    statuses(alloc, whole.out.as_slice())
+}
+
 /// The replies themselves.
 pub(crate) fn reply(alloc: Global, bytes: &[u8]) -> Result<String, AllocError> {
     let whole = run(alloc, bytes, PLAIN)?;
@@ -209,9 +243,10 @@ fn replies(out: &[u8]) -> u64 {
     count
 }
 
-/// Whether this is what may stand after the read or write of this number failed.
+/// Whether this is what may stand after a read or a write failed.
 fn is_broken_off(whole: &Outcome, found: &Outcome, of_reads: bool) -> bool {
     let begun = whole.out.as_slice().starts_with(found.out.as_slice());
+    let short = of_reads || found.out.len() < whole.out.len();
     let answered = replies(found.out.as_slice());
     let asked = found.requests;
     let told = match found.fault {
@@ -219,10 +254,20 @@ fn is_broken_off(whole: &Outcome, found: &Outcome, of_reads: bool) -> bool {
         Some(StreamFault::Write) => !of_reads && asked <= answered.saturating_add(1),
         _ => false,
     };
-    begun && told && found.failures == 1
+    begun && short && told && found.failures == 1
 }
 
-/// How many reads or writes there are, each of which is made to fail once.
+/// How much was read or written.
+fn progress(size: usize, found: &Outcome, of_reads: bool) -> usize {
+    if of_reads {
+        size.saturating_sub(found.left)
+    } else {
+        found.out.len()
+    }
+}
+
+/// How many reads or writes there are, each of which is made to fail once. Each moves more before it than the one
+/// before.
 fn failing(alloc: Global, bytes: &[u8], of_reads: bool) -> Result<Option<u64>, AllocError> {
     let pieces = Way {
         reads: &[7],
@@ -230,6 +275,7 @@ fn failing(alloc: Global, bytes: &[u8], of_reads: bool) -> Result<Option<u64>, A
         ..PLAIN
     };
     let whole = run(alloc, bytes, pieces)?;
+    let mut least = 0;
     for call in 0..1000u64 {
         let way = if of_reads {
             Way {
@@ -246,9 +292,11 @@ fn failing(alloc: Global, bytes: &[u8], of_reads: bool) -> Result<Option<u64>, A
         if found.is_as(&whole) {
             return Ok(Some(call));
         }
-        if !is_broken_off(&whole, &found, of_reads) {
+        let moved = progress(bytes.len(), &found, of_reads);
+        if moved < least || !is_broken_off(&whole, &found, of_reads) {
             return Ok(None);
         }
+        least = moved.saturating_add(1);
     }
     Ok(None)
 }
@@ -301,14 +349,14 @@ pub(crate) fn scarce(alloc: Global, bytes: &[u8]) -> Result<String, AllocError> 
     let asked = whole.requests;
     let answered = replies(whole.out.as_slice());
     match whole.fault {
-        None => format!(in alloc; "asked {asked}, answered {answered}"),
-        Some(StreamFault::NoMemory) if asked == answered => {
+        None if whole.refused == 0 => format!(in alloc; "asked {asked}, answered {answered}"),
+        None | Some(StreamFault::NoMemory) if asked == answered => {
             format!(in alloc; "refused, asked {asked}")
         }
         Some(StreamFault::Write) if answered <= asked => {
             format!(in alloc; "refused, asked {asked}")
         }
-        Some(_) => String::from_str(alloc, "differs"),
+        _ => String::from_str(alloc, "differs"),
     }
 }
 
@@ -322,7 +370,7 @@ pub(crate) fn many(alloc: Global, number: &str) -> Result<String, AllocError> {
     for _ in 0..requests {
         stream.extend_from_slice(REQUEST)?;
     }
-    let mut counter = Counter { requests: 0 };
+    let mut counter = Counter::new();
     let mut reader = Fed::new(stream.as_slice(), Plan::new(&[], None));
     let mut writer = Kept::new(alloc, Plan::new(&[], None));
     let ended = serve(alloc, &mut counter, &mut reader, &mut writer).is_ok();

@@ -3,21 +3,23 @@ use Rattle.std.proofs.Common.{◌≡◌, ℕ, zero, suc, ◌⊎◌, inl, inr, tr
 use Rattle.http_streams.specs.Laws.{AnswersAll, BeginsAnswer, HasOneAnswer, StopsIn}
 use Rattle.http_streams.specs.Replies.{error_line, reply_text}
 use Rattle.http_streams.specs.declared.status.Status.TheVariants.{BadRequest}
-use Rattle.http_streams.specs.Stream.{Answering, Closes, Ends, Halts, IsSilent, Rests, Serves}
+use Rattle.http_streams.specs.Request.{IsUnfinished}
+use Rattle.http_streams.specs.Stream.{Answering, Closes, Ends, Halts, Rests, Serves}
 use Rattle.http_streams.proofs.StreamLemmas.{Exchanges-append, Serves-append, Serves-push}
-use Rattle.http_streams.proofs.UniqueLemmas.{agree_on, closes-append, exchange_unique, open_not_ended, to_end, whole_not_silent}
+use Rattle.http_streams.proofs.UniqueLemmas.{agree_on, refuses-append, exchange_unique, open_not_ended, to_end, whole_not_unfinished}
 
 pub halts-append : {S : Type 0} (answers : Answering S) (old new : S) (bytes out more : List ℕ) → Halts answers old bytes out new
     → Halts answers old (bytes ++ more) out new
-halts-append answers old new bytes out more (inl none) = inl none
-halts-append answers old new bytes out more (inr (inl (back, rest, last, e))) = inr (inl (back, rest ++ more, last, Exchanges-append answers e more))
-halts-append answers old new bytes out more (inr (inr (back, e))) = inr (inr (back, closes-append answers old new bytes (out ++ back) more e))
+halts-append answers old new bytes out more (back, some, inl (rest, last, e)) =
+    (back, some, inl (rest ++ more, last, Exchanges-append answers e more))
+halts-append answers old new bytes out more (back, some, inr e) =
+    (back, some, inr (refuses-append answers old new bytes (out ++ back) more e))
 
 module _ {S : Type 0} (answers : Answering S) (same : S → S → Type 0) (one : HasOneAnswer answers same) where
   serves_rests : (k m : ℕ) (old old2 mid new : S) (s r r2 b out : List ℕ) → same old old2 → Serves answers k old s r b mid
-      → Serves answers m old2 s r2 out new → IsSilent r2 → (back : List ℕ) × (out ≡ b ++ back)
+      → Serves answers m old2 s r2 out new → IsUnfinished r2 → (back : List ℕ) × (out ≡ b ++ back)
   serves_rests zero m old old2 mid new s r r2 b out w x y t = (out, ap (λ (a : List ℕ). a ++ out) (sym x.1))
-  serves_rests (suc k) zero old old2 mid new s r r2 b out w x y t = absurd (whole_not_silent x.4.reads (subst IsSilent (sym y.0) t))
+  serves_rests (suc k) zero old old2 mid new s r r2 b out w x y t = absurd (whole_not_unfinished x.4.reads (subst IsUnfinished (sym y.0) t))
   serves_rests (suc k) (suc m) old old2 mid new s r r2 b out w x y t =
       let first = exchange_unique answers same one w x.4 y.4 in
       let moved = subst (λ (a : List ℕ). Serves answers m y.0 a r2 y.3 new) (sym first.3) y.5 in
@@ -42,7 +44,7 @@ module _ {S : Type 0} (answers : Answering S) (same : S → S → Type 0) (one :
 
   serves_all : (k : ℕ) (old old2 mid new : S) (s r b more : List ℕ) → same old old2 → Serves answers k old s r b mid
       → Rests answers old2 s more new ⊎ Ends answers old2 s more new → (back : List ℕ) × (more ≡ b ++ back)
-  serves_all k old old2 mid new s r b more w x (inl y) = serves_rests k y.count old old2 mid new s r y.rest b more w x y.serves y.silent
+  serves_all k old old2 mid new s r b more w x (inl y) = serves_rests k y.count old old2 mid new s r y.rest b more w x y.serves y.unfinished
   serves_all k old old2 mid new s r b more w x (inr y) =
       let found = serves_ends k y.count old old2 mid y.mid new s r y.rest b y.before y.last w x y.serves y.closes in
       (found.0, y.joined ∙ found.1)
@@ -73,23 +75,25 @@ module _ {S : Type 0} (answers : Answering S) (same : S → S → Type 0) (one :
 
   halting : (k : ℕ) (old old2 mid other new : S) (s r b last more : List ℕ) → same old old2 → Serves answers k old s r b mid
       → Halts answers mid r last new → AnswersAll answers old2 s more other → BeginsAnswer answers old2 s (b ++ last) more other
-  halting k old old2 mid other new s r b last more w x (inl none) y =
-      let found = serves_all k old old2 mid other s r b more w x (to_end answers old2 other s more y) in
-      inl (found.0, found.1 ∙ ap (λ (a : List ℕ). a ++ found.0) (sym (append-nil b) ∙ ap (λ (a : List ℕ). b ++ a) (sym none.0)))
-  halting k old old2 mid other new s r b last more w x (inr (inl (back, rest, true, e))) y =
+  halting k old old2 mid other new s r b last more w x (back, some, inl (rest, true, e)) y =
       closing k old old2 mid other new s r b last back more w x (inl (rest, e)) y
-  halting k old old2 mid other new s r b last more w x (inr (inl (back, rest, false, e))) y =
+  halting k old old2 mid other new s r b last more w x (back, some, inl (rest, false, e)) y =
       let pushed = Serves-push answers k old mid new s r rest b (last ++ back) x e in
       let found = serves_all pushed.0 old old2 new other s rest (b ++ (last ++ back)) more w pushed.1 (to_end answers old2 other s more y) in
       inl (
         back ++ found.0,
         found.1 ∙ ap (λ (a : List ℕ). a ++ found.0) (sym (append_assoc b last back)) ∙ append_assoc (b ++ last) back found.0,
       )
-  halting k old old2 mid other new s r b last more w x (inr (inr (back, e))) y = closing k old old2 mid other new s r b last back more w x e y
+  halting k old old2 mid other new s r b last more w x (back, some, inr e) y =
+      closing k old old2 mid other new s r b last back more w x (inr e) y
 
   pub begins_answer : (old old2 new other : S) (stream out more : List ℕ) → same old old2 → StopsIn answers old stream out new
       → AnswersAll answers old2 stream more other → BeginsAnswer answers old2 stream out more other
-  begins_answer old old2 new other stream out more w (front, after, is, e) y =
+  begins_answer old old2 new other stream out more w (front, after, is, inl e) y =
+      let serves = subst (λ (t : List ℕ). Serves answers e.count old t (e.rest ++ after) out new) (sym is)
+      (Serves-append answers e.count old new front e.rest out after e.serves) in
+      inl (serves_all e.count old old2 new other stream (e.rest ++ after) out more w serves (to_end answers old2 other stream more y))
+  begins_answer old old2 new other stream out more w (front, after, is, inr e) y =
       let serves = subst (λ (t : List ℕ). Serves answers e.count old t (e.rest ++ after) e.before e.mid) (sym is)
       (Serves-append answers e.count old e.mid front e.rest e.before after e.serves) in
       let halts = halts-append answers e.mid new e.rest e.last after e.halts in

@@ -166,7 +166,7 @@ module _ {S : Type 0} (answers : Answering S) where
       → Rests (in_memory answers) old bytes out new ⊎ LacksMemory answers old bytes out []
   rests old new bytes out x =
       elim (served x.count old new bytes x.rest out x.serves) [
-        | inl y ↦ inl (record { count = x.count; rest = x.rest; serves = y; silent = x.silent })
+        | inl y ↦ inl (record { count = x.count; rest = x.rest; serves = y; unfinished = x.unfinished })
         | inr l ↦ inr l
       ]
 
@@ -205,12 +205,12 @@ module _ {S : Type 0} (answers : Answering S) where
 
   halts : (old new : S) (bytes out : List ℕ) → Halts answers old bytes out new
       → Halts (in_memory answers) old bytes out new ⊎ ((unsent : List ℕ) × LacksMemory answers old bytes out unsent)
-  halts old new bytes out (inl none) = inl (inl none)
-  halts old new bytes out (inr (inl (back, rest, last, e))) =
-      elim (decide e.status) [ inl is ↦ inr (back, breaks old new bytes out back rest last e is) | inr other ↦ inl (inr (inl (back, rest, last, narrow e other))) ]
-  halts old new bytes out (inr (inr (back, inl (rest, e)))) =
-      elim (decide e.status) [ inl is ↦ inr (back, breaks old new bytes out back rest true e is) | inr other ↦ inl (inr (inr (back, inl (rest, narrow e other)))) ]
-  halts old new bytes out (inr (inr (back, inr refused))) = inl (inr (inr (back, inr refused)))
+  halts old new bytes out (back, some, inl (rest, last, e)) =
+      elim (decide e.status) [
+        | inl is ↦ inr (back, breaks old new bytes out back rest last e is)
+        | inr other ↦ inl (back, some, inl (rest, last, narrow e other))
+      ]
+  halts old new bytes out (back, some, inr refused) = inl (back, some, inr refused)
 
   stops : (old new : S) (bytes out : List ℕ) → Stops answers old bytes out new
       → Stops (in_memory answers) old bytes out new ⊎ ((unsent : List ℕ) × LacksMemory answers old bytes out unsent)
@@ -225,8 +225,13 @@ module _ {S : Type 0} (answers : Answering S) where
 
   pub broken : (old new : S) (stream out : List ℕ) → StopsIn answers old stream out new
       → StopsIn (in_memory answers) old stream out new ⊎ ((unsent : List ℕ) × LacksMemory answers old stream out unsent)
-  broken old new stream out (front, rest, is, x) =
+  broken old new stream out (front, rest, is, inl x) =
+      elim (rests old new front out x) [
+        | inl y ↦ inl (front, rest, is, inl y)
+        | inr l ↦ inr ([], at_stream old front rest stream out [] is l)
+      ]
+  broken old new stream out (front, rest, is, inr x) =
       elim (stops old new front out x) [
-        | inl y ↦ inl (front, rest, is, y)
+        | inl y ↦ inl (front, rest, is, inr y)
         | inr l ↦ inr (l.0, at_stream old front rest stream out l.0 is l.1)
       ]

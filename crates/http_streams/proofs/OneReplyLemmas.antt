@@ -80,14 +80,12 @@ nothing_read : (h : ResponseHead) (rest : List ℕ) → ReadsResponse [] h rest 
 nothing_read h rest x = omega (arith, length_head h, ap length x.1, length-append (print_response h) rest)
 
 reply_not_unfinished : (bytes : List ℕ) (s : ℕ) (a r : List ℕ) → ReadsReply bytes s a r → IsUnfinishedReply bytes → ⊥
-reply_not_unfinished bytes s a r x (inl none) =
-    nothing_read x.head (a ++ r) (subst (λ (t : List ℕ). ReadsResponse t x.head (a ++ r)) none x.admits.reads)
-reply_not_unfinished bytes s a r x (inr (inl cut)) =
+reply_not_unfinished bytes s a r x (inl cut) =
     let same = admits_unique x.admits cut.admits in
     let framed : Size (length a) ≡ Size cut.size = sym x.framed ∙ ap length_of same.0 ∙ cut.framed in
     let size : length a ≡ cut.size = cc in
     omega (arith, cut.short, size, ap length same.1, length-append a r)
-reply_not_unfinished bytes s a r x (inr (inr part)) = part.none x.head (a ++ r) x.admits.reads
+reply_not_unfinished bytes s a r x (inr part) = part.none x.head (a ++ r) x.admits.reads
 
 -- `HTTP/1.0 200` and an empty line
 abbrev sample : ResponseHead
@@ -103,20 +101,21 @@ sample_is =
       fields = All-nil _;
     }
 
-bad_nothing : IsBadReply [] → ⊥
-bad_nothing (inl x) = nothing_read x.head x.rest x.admits.reads
-bad_nothing (inr (none, inl (inl (h, r, reads, over)))) = nothing_read h r reads
-bad_nothing (inr (none, inl (inr long))) = omega (arith, long)
-bad_nothing (inr (none, inr never)) = never (print_response sample) sample [] (sample_is, sym (append-nil (print_response sample)))
+-- no bytes are less than a reply
+pub nothing_unfinished : IsUnfinishedReply []
+nothing_unfinished = inr (record {
+  none = nothing_read;
+  short = omega arith;
+  open_still = (print_response sample, sample, (sample_is, sym (append-nil (print_response sample))));
+})
 
 bad_not_unfinished : (bytes : List ℕ) → IsBadReply bytes → IsUnfinishedReply bytes → ⊥
-bad_not_unfinished bytes x (inl none) = bad_nothing (subst IsBadReply none x)
-bad_not_unfinished bytes (inl x) (inr (inl cut)) = no_length cut.size cut.admits cut.framed x
-bad_not_unfinished bytes (inr x) (inr (inl cut)) = x.0 cut.head cut.rest cut.admits
-bad_not_unfinished bytes (inl x) (inr (inr part)) = part.none x.head x.rest x.admits.reads
-bad_not_unfinished bytes (inr (none, inl (inl (h, r, reads, over)))) (inr (inr part)) = part.none h r reads
-bad_not_unfinished bytes (inr (none, inl (inr long))) (inr (inr part)) = omega (arith, part.short, long)
-bad_not_unfinished bytes (inr (none, inr never)) (inr (inr part)) = never part.open_still.0 part.open_still.1 [] part.open_still.2
+bad_not_unfinished bytes (inl x) (inl cut) = no_length cut.size cut.admits cut.framed x
+bad_not_unfinished bytes (inr x) (inl cut) = x.0 cut.head cut.rest cut.admits
+bad_not_unfinished bytes (inl x) (inr part) = part.none x.head x.rest x.admits.reads
+bad_not_unfinished bytes (inr (none, inl (inl (h, r, reads, over)))) (inr part) = part.none h r reads
+bad_not_unfinished bytes (inr (none, inl (inr long))) (inr part) = omega (arith, part.short, long)
+bad_not_unfinished bytes (inr (none, inr never)) (inr part) = never part.open_still.0 part.open_still.1 [] part.open_still.2
 
 -- ---- of a stream
 

@@ -149,7 +149,6 @@ size_fits n h e =
     unless_coded (list_any (is_named (codes "transfer-encoding")) ps) n (values_named (codes "content-length") ps) e
 
 pub unfinished_short : (bytes : List ℕ) → IsUnfinishedReply bytes → length bytes < MAX_HEAD + MAX_REPLY
-unfinished_short bytes (inl none) = omega (arith, ap length none)
-unfinished_short bytes (inr (inl cut)) =
+unfinished_short bytes (inl cut) =
     omega (arith, ap length cut.admits.reads.1, length-append (print_response cut.head) cut.rest, cut.admits.short, cut.short, size_fits cut.size cut.head cut.framed)
-unfinished_short bytes (inr (inr part)) = omega (arith, part.short)
+unfinished_short bytes (inr part) = omega (arith, part.short)

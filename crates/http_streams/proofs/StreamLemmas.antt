@@ -1,13 +1,34 @@
 -- What was answered of a stream stays answered when more comes, and each part follows the one before.
-use Rattle.std.proofs.Common.{◌≡◌, ℕ, zero, suc, inl, Bool, false, List, [], ◌++◌, drop, refl, sym, ap, ◌∙◌, subst, append_assoc, append-nil}
+use Rattle.std.proofs.Common.{◌≡◌, ℕ, zero, suc, Bool, false, List, [], ◌++◌, drop, refl, sym, ap, ◌∙◌, subst, append_assoc, append-nil}
 use Rattle.httparse.specs.Grammar.{RequestHead}
 use Rattle.httparse.proofs.GrammarLemmas.{ReadsRequest-append}
 use Rattle.httparse.specs.Spans.{span_bytes}
+use Rattle.http_streams.specs.Devices.{FailsAtLast, HasFailed}
 use Rattle.http_streams.specs.Replies.{reply_text}
-use Rattle.http_streams.specs.Request.{Admits, IsWholeAt, ReadsWhole}
+use Rattle.http_streams.specs.Request.{Admits, IsUnfinished, IsWholeAt, ReadsWhole}
 use Rattle.http_streams.specs.declared.cut.Parts.{Parts}
 use Rattle.http_streams.specs.declared.status.Status.{Status}
-use Rattle.http_streams.specs.Stream.{Answering, Closes, Ends, Exchanges, Halts, IsSilent, Rests, Serves, Stops}
+use Rattle.http_streams.specs.Stream.{Answering, Closes, Ends, Exchanges, Halts, Rests, Serves, Stops}
+
+-- the last call failed, where it is the last of some calls, and none before these did
+pub FailsAtLast-from : {D : Type 0} (failed : D → ℕ) (fails : D → D → Type 0) {old mid new : D} → failed mid ≡ failed old
+    → FailsAtLast failed fails mid new → FailsAtLast failed fails old new
+FailsAtLast-from failed fails {new = new} same x = record {
+  between = x.between;
+  before = x.before ∙ same;
+  call = x.call;
+  told = subst (λ (n : ℕ). HasFailed n (failed new)) same x.told;
+}
+
+-- one call failed
+pub FailsAtLast-now : {D : Type 0} (failed : D → ℕ) (fails : D → D → Type 0) {old mid new : D} → failed mid ≡ failed old
+    → fails mid new → HasFailed (failed mid) (failed new) → FailsAtLast failed fails old new
+FailsAtLast-now failed fails {mid = mid} {new = new} same x told = record {
+  between = mid;
+  before = same;
+  call = x;
+  told = subst (λ (n : ℕ). HasFailed n (failed new)) same told;
+}
 
 pub Admits-append : {bytes rest : List ℕ} {h : RequestHead} → Admits bytes h rest → (more : List ℕ) → Admits (bytes ++ more) h (rest ++ more)
 Admits-append {bytes} {rest} {h} a more =
@@ -151,26 +172,13 @@ module _ {S : Type 0} (answers : Answering S) where
       subst (λ (b : Bool). Exchanges answers old same b out new rest) f
       (subst (λ (t : List ℕ). Exchanges answers old t last out new rest) e x)
 
-  pub Halts-at : {old new : S} {bytes same out : List ℕ} → bytes ≡ same → Halts answers old bytes out new → Halts answers old same out new
-  Halts-at {old} {new} {bytes} {same} {out} e x = subst (λ (t : List ℕ). Halts answers old t out new) e x
+  pub Halts-at : (old new : S) {bytes same : List ℕ} (out : List ℕ) → bytes ≡ same → Halts answers old bytes out new → Halts answers old same out new
+  Halts-at old new out e x = subst (λ (t : List ℕ). Halts answers old t out new) e x
 
   -- the state in which the loop reads on: how much was read and written, and what is left to answer
-  pub Rests-from : (n : ℕ) (old new : S) (bytes rest out : List ℕ) → Serves answers n old bytes rest out new → IsSilent rest
+  pub Rests-from : (n : ℕ) (old new : S) (bytes rest out : List ℕ) → Serves answers n old bytes rest out new → IsUnfinished rest
       → Rests answers old bytes out new
-  Rests-from n old new bytes rest out x silent = record { count = n; rest = rest; serves = x; silent = silent }
-
-  pub Stops-from : (n : ℕ) (old new : S) (bytes rest out : List ℕ) → Serves answers n old bytes rest out new
-      → Stops answers old bytes out new
-  Stops-from n old new bytes rest out x = record {
-    count = n;
-    mid = new;
-    rest = rest;
-    before = out;
-    last = [];
-    serves = x;
-    halts = inl (refl, refl);
-    joined = sym (append-nil out);
-  }
+  Rests-from n old new bytes rest out x unfinished = record { count = n; rest = rest; serves = x; unfinished = unfinished }
 
   -- after a read
   pub Serves-read : (n : ℕ) (old new : S) (bytes rest out more whole : List ℕ) → Serves answers n old bytes rest out new

@@ -9,12 +9,12 @@ use Rattle.std.proofs.lemmas.Str.{IsUtf8-from_ascii}
 use Rattle.std.proofs.lemmas.Str.Ascii.{IsAscii-from_all}
 use Rattle.httparse.proofs.GrammarLemmas.{ReadsRequest-append, request_unique}
 use Rattle.http_streams.specs.declared.cut.Framing.TheVariants.{Body, Refused}
-use Rattle.http_streams.specs.Request.{Admits, HasNoAdmitted, ReadsWhole, RefusesHead, IsBadHead, IsTooLarge, IsRefused, IsCutOff, framing_of, closes_of}
+use Rattle.http_streams.specs.Request.{Admits, HasNoAdmitted, ReadsWhole, RefusesHead, IsBadHead, IsTooLarge, IsRefused, IsCutOff, IsUnfinished, framing_of, closes_of}
 use Rattle.http_streams.specs.Replies.{reply_text, error_line}
 use Rattle.http_streams.specs.Status.{code}
 use Rattle.http_streams.specs.declared.status.Status.{Status}
 use Rattle.http_streams.specs.declared.status.Status.TheVariants.{BadRequest}
-use Rattle.http_streams.specs.Stream.{Answering, Closes, Ends, Exchanges, IsSilent, Rests, Serves}
+use Rattle.http_streams.specs.Stream.{Answering, Closes, Ends, Exchanges, Refuses, Rests, Serves}
 use Rattle.http_streams.specs.Laws.{AgreeOn, AnswersAll, DiffersInCorner, HasOneAnswer, IsCorner}
 use Rattle.http_streams.proofs.CutLemmas.{length_head, short_front}
 use Rattle.http_streams.proofs.StreamLemmas.{Admits-append, Exchanges-append, Serves-append}
@@ -50,12 +50,9 @@ whole_unique {body = body} {rest = rest} {body2 = body2} {rest2 = rest2} x y =
 nothing_read : (h : RequestHead) (rest : List ℕ) → ReadsRequest [] h rest → ⊥
 nothing_read h rest x = omega (arith, length_head h, ap length x.1, length-append (print_request h) rest)
 
-pub whole_not_silent : {bytes body rest : List ℕ} {h : RequestHead} → ReadsWhole bytes h body rest → IsSilent bytes → ⊥
-whole_not_silent {bytes} {body} {rest} {h} w s =
-    elim s [
-      | inl none ↦ nothing_read h (body ++ rest) (subst (λ (t : List ℕ). ReadsRequest t h (body ++ rest)) none w.head.reads)
-      | inr more ↦ elim more [ inl cut ↦ whole_not_cut_off w cut | inr part ↦ part.none h (body ++ rest) w.head.reads ]
-    ]
+pub whole_not_unfinished : {bytes body rest : List ℕ} {h : RequestHead} → ReadsWhole bytes h body rest → IsUnfinished bytes → ⊥
+whole_not_unfinished w (inl cut) = whole_not_cut_off w cut
+whole_not_unfinished {body = body} {rest = rest} {h = h} w (inr part) = part.none h (body ++ rest) w.head.reads
 
 whole_not_bad : {bytes body rest : List ℕ} {h : RequestHead} → ReadsWhole bytes h body rest → IsBadHead bytes → ⊥
 whole_not_bad {body = body} {rest = rest} {h = h} w bad = bad.0 h (body ++ rest) w.head
@@ -72,21 +69,20 @@ refused_unique m n (inl x) (inr y) = absurd (y.1.0 x.head x.rest x.admits)
 refused_unique m n (inr x) (inl y) = absurd (x.1.0 y.head y.rest y.admits)
 refused_unique m n (inr x) (inr y) = x.0 ∙ sym y.0
 
-refused_or_silent : (rest : List ℕ) (status : Status) → IsRefused rest status → IsSilent rest
-    → (rest ≡ []) ⊎ (IsCorner rest × (status ≡ BadRequest))
-refused_or_silent rest status r (inl none) = inl none
-refused_or_silent rest status (inl head) (inr (inl cut)) =
+refused_unfinished : (rest : List ℕ) (status : Status) → IsRefused rest status → IsUnfinished rest
+    → IsCorner rest × (status ≡ BadRequest)
+refused_unfinished rest status (inl head) (inl cut) =
     let same = admits_unique head.admits cut.admits in
     let framed : Refused status ≡ Body cut.size = sym head.framed ∙ ap framing_of same.0 ∙ cut.framed in
     absurd (cc)
-refused_or_silent rest status (inl head) (inr (inr part)) = absurd (part.none head.head head.rest head.admits.reads)
-refused_or_silent rest status (inr bad) (inr (inl cut)) = absurd (bad.1.0 cut.head cut.rest cut.admits)
-refused_or_silent rest status (inr (is, (none, inl (inl (h, r, reads, over))))) (inr (inr part)) = absurd (part.none h r reads)
-refused_or_silent rest status (inr (is, (none, inl (inr long)))) (inr (inr part)) = absurd (omega (arith, part.short))
-refused_or_silent rest status (inr (is, (none, inr never))) (inr (inr part)) =
+refused_unfinished rest status (inl head) (inr part) = absurd (part.none head.head head.rest head.admits.reads)
+refused_unfinished rest status (inr bad) (inl cut) = absurd (bad.1.0 cut.head cut.rest cut.admits)
+refused_unfinished rest status (inr (is, (none, inl (inl (h, r, reads, over))))) (inr part) = absurd (part.none h r reads)
+refused_unfinished rest status (inr (is, (none, inl (inr long)))) (inr part) = absurd (omega (arith, part.short))
+refused_unfinished rest status (inr (is, (none, inr never))) (inr part) =
     elim part.open_still [
       | inl goes_on ↦ absurd (never goes_on.0 goes_on.1 [] goes_on.2)
-      | inr target ↦ inr (record { target = target; never = never; short = part.short }, is)
+      | inr target ↦ (record { target = target; never = never; short = part.short }, is)
     ]
 
 -- `G / HTTP/1.0` and an empty line
@@ -103,12 +99,13 @@ sample_is = record {
   fields = All-nil _;
 }
 
--- no bytes are not refused
-refused_nothing : (status : Status) → IsRefused [] status → ⊥
-refused_nothing status (inl head) = nothing_read head.head head.rest head.admits.reads
-refused_nothing status (inr (is, (none, inl (inl (h, r, reads, over))))) = nothing_read h r reads
-refused_nothing status (inr (is, (none, inl (inr long)))) = omega (arith, long)
-refused_nothing status (inr (is, (none, inr never))) = never (print_request sample) sample [] (sample_is, sym (append-nil (print_request sample)))
+-- no bytes are less than a request
+pub nothing_unfinished : IsUnfinished []
+nothing_unfinished = inr (record {
+  none = nothing_read;
+  short = omega arith;
+  open_still = inl (print_request sample, sample, (sample_is, sym (append-nil (print_request sample))));
+})
 
 -- ---- what is refused stays refused when more comes
 
@@ -135,10 +132,14 @@ refused-append bytes more status (inl head) =
     inl (record { head = head.head; rest = head.rest ++ more; admits = Admits-append head.admits more; framed = head.framed })
 refused-append bytes more status (inr (is, bad)) = inr (is, (bad_none bytes more bad, bad_cause bytes more bad.1))
 
+pub refuses-append : {S : Type 0} (answers : Answering S) (old new : S) (bytes out more : List ℕ) → Refuses answers old bytes out new
+    → Refuses answers old (bytes ++ more) out new
+refuses-append answers old new bytes out more (status, refused, is, same) = (status, refused-append bytes more status refused, is, same)
+
 pub closes-append : {S : Type 0} (answers : Answering S) (old new : S) (bytes out more : List ℕ) → Closes answers old bytes out new
     → Closes answers old (bytes ++ more) out new
 closes-append answers old new bytes out more (inl (rest, x)) = inl (rest ++ more, Exchanges-append answers x more)
-closes-append answers old new bytes out more (inr (status, refused, is, same)) = inr (status, refused-append bytes more status refused, is, same)
+closes-append answers old new bytes out more (inr x) = inr (refuses-append answers old new bytes out more x)
 
 pub ends-append : {S : Type 0} (answers : Answering S) (old new : S) (bytes out more : List ℕ) → Ends answers old bytes out new
     → Ends answers old (bytes ++ more) out new
@@ -169,14 +170,12 @@ pub open_not_ended : {S : Type 0} (answers : Answering S) {old old2 mid new new2
 open_not_ended answers {mid = mid} {new2 = new2} {last = last} x y e =
     let a = subst (λ (t : List ℕ). Closes answers mid t last new2) (sym y.0) e in open_not_closed answers x a
 
-corner_now : {S : Type 0} (answers : Answering S) (old new : S) (bytes last : List ℕ) → IsSilent bytes → Closes answers old bytes last new
+corner_now : {S : Type 0} (answers : Answering S) (old new : S) (bytes last : List ℕ) → IsUnfinished bytes → Closes answers old bytes last new
     → (old ≡ new) × IsCorner bytes × (last ≡ reply_text true BadRequest (error_line 400))
-corner_now answers old new bytes last silent (inl x) = absurd (whole_not_silent x.1.reads silent)
-corner_now answers old new bytes last silent (inr (status, refused, is, kept)) =
-    elim (refused_or_silent bytes status refused silent) [
-      | inl none ↦ absurd (refused_nothing status (subst (λ (t : List ℕ). IsRefused t status) none refused))
-      | inr corner ↦ (sym kept, corner.0, is ∙ ap (λ (n : Status). reply_text true n (error_line (code n))) corner.1)
-    ]
+corner_now answers old new bytes last rest (inl x) = absurd (whole_not_unfinished x.1.reads rest)
+corner_now answers old new bytes last rest (inr (status, refused, is, kept)) =
+    let corner = refused_unfinished bytes status refused rest in
+    (sym kept, corner.0, is ∙ ap (λ (n : Status). reply_text true n (error_line (code n))) corner.1)
 
 module _ {S : Type 0} (answers : Answering S) (same : S → S → Type 0) (one : HasOneAnswer answers same) where
   same_at : {a b c d : S} → same a b → c ≡ a → d ≡ b → same c d
@@ -199,13 +198,13 @@ module _ {S : Type 0} (answers : Answering S) (same : S → S → Type 0) (one :
 
   -- two readings of the same bytes, each to a rest that gets nothing
   pub rests_unique : (n m : ℕ) (old old2 new new2 : S) (bytes rest rest2 out out2 : List ℕ) → same old old2
-      → Serves answers n old bytes rest out new → IsSilent rest → Serves answers m old2 bytes rest2 out2 new2 → IsSilent rest2
+      → Serves answers n old bytes rest out new → IsUnfinished rest → Serves answers m old2 bytes rest2 out2 new2 → IsUnfinished rest2
       → (out ≡ out2) × same new new2
   rests_unique zero zero old old2 new new2 bytes rest rest2 out out2 s x q y r = (x.1 ∙ sym y.1, same_at s x.2 y.2)
   rests_unique zero (suc m) old old2 new new2 bytes rest rest2 out out2 s x q y r =
-      absurd (whole_not_silent y.4.reads (subst IsSilent (sym x.0) q))
+      absurd (whole_not_unfinished y.4.reads (subst IsUnfinished (sym x.0) q))
   rests_unique (suc n) zero old old2 new new2 bytes rest rest2 out out2 s x q y r =
-      absurd (whole_not_silent x.4.reads (subst IsSilent (sym y.0) r))
+      absurd (whole_not_unfinished x.4.reads (subst IsUnfinished (sym y.0) r))
   rests_unique (suc n) (suc m) old old2 new new2 bytes rest rest2 out out2 s x q y r =
       let first = exchange_unique s x.4 y.4 in
       let moved = subst (λ (b : List ℕ). Serves answers m y.0 b rest2 y.3 new2) (sym first.3) y.5 in
@@ -244,7 +243,7 @@ module _ {S : Type 0} (answers : Answering S) (same : S → S → Type 0) (one :
 
   -- a reading to a rest that gets nothing, and one to a reply that ends the stream
   rests_ends : (n m : ℕ) (old old2 new mid new2 : S) (bytes rest rest2 out out2 last : List ℕ) → same old old2
-      → Serves answers n old bytes rest out new → IsSilent rest
+      → Serves answers n old bytes rest out new → IsUnfinished rest
       → Serves answers m old2 bytes rest2 out2 mid → Closes answers mid rest2 last new2
       → same new new2 × IsCorner rest × (out2 ++ last ≡ out ++ reply_text true BadRequest (error_line 400))
   rests_ends zero zero old old2 new mid new2 bytes rest rest2 out out2 last s x q y e =
@@ -255,7 +254,7 @@ module _ {S : Type 0} (answers : Answering S) (same : S → S → Type 0) (one :
         ap (λ (t : List ℕ). t ++ last) (y.1 ∙ sym x.1) ∙ ap (λ (t : List ℕ). out ++ t) found.2,
       )
   rests_ends zero (suc m) old old2 new mid new2 bytes rest rest2 out out2 last s x q y e =
-      absurd (whole_not_silent y.4.reads (subst IsSilent (sym x.0) q))
+      absurd (whole_not_unfinished y.4.reads (subst IsUnfinished (sym x.0) q))
   rests_ends (suc n) zero old old2 new mid new2 bytes rest rest2 out out2 last s x q y e = absurd (open_not_ended answers x.4 y e)
   rests_ends (suc n) (suc m) old old2 new mid new2 bytes rest rest2 out out2 last s x q y e =
       let first = exchange_unique s x.4 y.4 in
@@ -271,7 +270,7 @@ module _ {S : Type 0} (answers : Answering S) (same : S → S → Type 0) (one :
   mixed : (old old2 new new2 : S) (stream out more : List ℕ) → same old old2 → Rests answers old stream out new
       → Ends answers old2 stream more new2 → same new new2 × DiffersInCorner answers old stream out more new
   mixed old old2 new new2 stream out more s x y =
-      let found = rests_ends x.count y.count old old2 new y.mid new2 stream x.rest y.rest out y.before y.last s x.serves x.silent y.serves y.closes in
+      let found = rests_ends x.count y.count old old2 new y.mid new2 stream x.rest y.rest out y.before y.last s x.serves x.unfinished y.serves y.closes in
       (found.0, (x.count, x.rest, x.serves, found.1, y.joined ∙ found.2))
 
 turned : {S : Type 0} (answers : Answering S) (same : S → S → Type 0) → HasOneAnswer answers same
@@ -291,7 +290,7 @@ module _ {S : Type 0} (answers : Answering S) (same : S → S → Type 0) (one :
       → Rests answers old2 stream more new2 ⊎ Ends answers old2 stream more new2
       → AgreeOn answers same old old2 stream out more new new2
   agree old old2 new new2 stream out more s (inl x) (inl y) =
-      let found = rests_unique answers same one x.count y.count old old2 new new2 stream x.rest y.rest out more s x.serves x.silent y.serves y.silent in
+      let found = rests_unique answers same one x.count y.count old old2 new new2 stream x.rest y.rest out more s x.serves x.unfinished y.serves y.unfinished in
       (found.1, inl found.0)
   agree old old2 new new2 stream out more s (inr x) (inr y) =
       let found = ends_unique answers same one x.count y.count old old2 x.mid y.mid new new2 stream x.rest y.rest x.before y.before x.last y.last s x.serves x.closes y.serves y.closes in

@@ -103,4 +103,4 @@ pub record IsPartOfReplyHead (bytes : List ℕ) : Type 0 where
 
 -- bytes are less than a reply
 abbrev pub IsUnfinishedReply : List ℕ → Type 0
-IsUnfinishedReply bytes = (bytes ≡ []) ⊎ IsCutOffReply bytes ⊎ IsPartOfReplyHead bytes
+IsUnfinishedReply bytes = IsCutOffReply bytes ⊎ IsPartOfReplyHead bytes

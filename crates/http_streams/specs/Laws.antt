@@ -43,10 +43,11 @@ module _ {S : Type 0} (answers : Answering S) where
       same new new2
       × ((out ≡ more) ⊎ DiffersInCorner old stream out more new ⊎ DiffersInCorner old2 stream more out new2)
 
-  -- a fault came after some first bytes of the stream
+  -- a fault came after some first bytes of the stream: all of them were answered, or a reply broke off
   abbrev pub StopsIn : S → List ℕ → List ℕ → S → Type 0
   StopsIn old stream out new =
-      (front : List ℕ) × (rest : List ℕ) × (stream ≡ front ++ rest) × Stops answers old front out new
+      (front : List ℕ) × (rest : List ℕ) × (stream ≡ front ++ rest)
+      × (Rests answers old front out new ⊎ Stops answers old front out new)
 
   -- out is a beginning of more, or, in the corner, of more and the reply that refuses it
   abbrev pub BeginsAnswer : S → List ℕ → List ℕ → List ℕ → S → Type 0

@@ -1,4 +1,5 @@
 pub mod Devices
+pub mod Memory
 pub mod Status
 pub mod Replies
 pub mod Fields

@@ -1,5 +1,5 @@
 -- The replies to a stream of requests (RFC 9112, sections 2.2, 6.3 and 9.3: one after the other, in order).
-use Rattle.std.specs.Prelude.{◌≡◌, ℕ, suc, zero, ◌⊎◌, Bool, true, false, Option, List, [], ◌++◌}
+use Rattle.std.specs.Prelude.{◌≡◌, ◌<◌, ℕ, suc, zero, ◌⊎◌, Bool, true, false, Option, List, [], ◌++◌, length}
 use Rattle.httparse.specs.Grammar.{RequestHead}
 use Rattle.http_streams.specs.Devices.{EndsByOneRead}
 use Rattle.http_streams.specs.Replies.{error_line, reply_text}
@@ -10,10 +10,6 @@ use Rattle.http_streams.specs.declared.status.Status.{Status}
 -- in a state, a method, a target and a body may be answered by a status and a body, which leaves a state
 abbrev pub Answering : Type 0 → Type 1
 Answering S = S → List ℕ → List ℕ → List ℕ → Status → List ℕ → S → Type 0
-
--- nothing to answer: no bytes, or less than a request
-abbrev pub IsSilent : List ℕ → Type 0
-IsSilent bytes = (bytes ≡ []) ⊎ IsUnfinished bytes
 
 module _ {S : Type 0} (answers : Answering S) where
   -- bytes begin with a request, whose reply is out; the request says whether it is the last
@@ -34,19 +30,22 @@ module _ {S : Type 0} (answers : Answering S) where
       (mid : S) × (after : List ℕ) × (first : List ℕ) × (later : List ℕ)
       × Exchanges old bytes false first mid after × Serves n mid after rest later new × (out ≡ first ++ later)
 
+  -- bytes are refused, and out is the reply that says so
+  abbrev pub Refuses : S → List ℕ → List ℕ → S → Type 0
+  Refuses old bytes out new =
+      (status : Status) × IsRefused bytes status
+      × (out ≡ reply_text true status (error_line (code status))) × (new ≡ old)
+
   -- the reply to what stands at the front of bytes ends the stream
   abbrev pub Closes : S → List ℕ → List ℕ → S → Type 0
-  Closes old bytes out new =
-      ((rest : List ℕ) × Exchanges old bytes true out new rest)
-      ⊎ ((status : Status) × IsRefused bytes status
-      × (out ≡ reply_text true status (error_line (code status))) × (new ≡ old))
+  Closes old bytes out new = ((rest : List ℕ) × Exchanges old bytes true out new rest) ⊎ Refuses old bytes out new
 
-  -- some requests are answered, and then nothing is left to answer
+  -- some requests are answered, and less than a request is left
   pub record Rests (old : S) (bytes : List ℕ) (out : List ℕ) (new : S) : Type 0 where
     pub count : ℕ
     pub rest : List ℕ
     pub serves : Serves count old bytes rest out new
-    pub silent : IsSilent rest
+    pub unfinished : IsUnfinished rest
 
   -- some requests are answered, and then a last one
   pub record Ends (old : S) (bytes : List ℕ) (out : List ℕ) (new : S) : Type 0 where
@@ -59,14 +58,14 @@ module _ {S : Type 0} (answers : Answering S) where
     pub closes : Closes mid rest last new
     pub joined : out ≡ before ++ last
 
-  -- the call stopped before it answered what stands at the front of bytes, or while its reply went out
+  -- the reply to what stands at the front of bytes went out but for its end
   abbrev pub Halts : S → List ℕ → List ℕ → S → Type 0
   Halts old bytes out new =
-      ((out ≡ []) × (new ≡ old))
-      ⊎ ((back : List ℕ) × (rest : List ℕ) × (last : Bool) × Exchanges old bytes last (out ++ back) new rest)
-      ⊎ ((back : List ℕ) × Closes old bytes (out ++ back) new)
+      (back : List ℕ) × (0 < length back)
+      × (((rest : List ℕ) × (last : Bool) × Exchanges old bytes last (out ++ back) new rest)
+      ⊎ Refuses old bytes (out ++ back) new)
 
-  -- some requests are answered, and then the call stopped
+  -- some requests are answered, and then a reply broke off
   pub record Stops (old : S) (bytes : List ℕ) (out : List ℕ) (new : S) : Type 0 where
     pub count : ℕ
     pub mid : S
@@ -77,7 +76,7 @@ module _ {S : Type 0} (answers : Answering S) where
     pub halts : Halts mid rest last new
     pub joined : out ≡ before ++ last
 
-module _ {S R : Type 0} (answers : Answering S) (left : R → Option (List ℕ)) (reads : R → List ℕ → R → Type 0) where
+module _ {S R : Type 0} (answers : Answering S) (left : R → Option (List ℕ)) (reads : R → ℕ → List ℕ → R → Type 0) where
   -- all that had come before the last read was answered, and nothing of it ended the stream
   pub record KeepsUp (old : S) (first last : R) (bytes out : List ℕ) : Type 0 where
     pub front : List ℕ

@@ -75,6 +75,9 @@ pub(crate) fn drop_front(bytes: &mut Vec<u8>, count: usize)
     requires { count ≤ vec_len bytes.old }
     ensures { bytes.new.items ≡ drop count bytes.old.items }
 {
+    if count == 0 {
+        return;
+    }
     let left = bytes.len() - count;
     bytes.copy_within(count.., 0);
     bytes.truncate(left);
@@ -90,11 +93,13 @@ pub(crate) fn read_more<R: Source>(
     ensures ok { IfOk result (λ more. (bytes : List ℕ) × Consumes (R.left reader.old) (R.left reader.new) bytes
         × (buffer.new.items ≡ buffer.old.items ++ bytes) × (IsTrue more → 0 < length bytes)
         × (IsFalse more → (bytes ≡ []) × IsAtEnd (R.left reader.new))
-        × (length bytes ≤ length chunk.old) × R.reads reader.old bytes reader.new) }
+        × (length bytes ≤ length chunk.old) × R.reads reader.old (length chunk.old) bytes reader.new) }
     ensures count { OnOk result (R.failed reader.new ≡ R.failed reader.old) }
     ensures len { length chunk.new ≡ length chunk.old }
-    ensures lost { OnErr result (Keeps (R.left reader.old) (R.left reader.new) × (buffer.new.items ≡ buffer.old.items)) }
-    ensures read { result ≡ Err ReadFault.Read → HasFailed (R.failed reader.old) (R.failed reader.new) }
+    ensures lost { OnErr result (Keeps (R.left reader.old) (R.left reader.new)
+        × (buffer.new.items ≡ buffer.old.items)) }
+    ensures read { result ≡ Err ReadFault.Read
+        → R.fails reader.old reader.new × HasFailed (R.failed reader.old) (R.failed reader.new) }
     ensures memory { result ≡ Err ReadFault.NoMemory → reader.new ≡ reader.old }
 {
     let Ok(()) = buffer.reserve(chunk.len()) else {

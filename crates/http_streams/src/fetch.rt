@@ -1,10 +1,10 @@
 //! Sends one request and reads its reply.
-ghost use Rattle.std.specs.Prelude.{◌≡◌, ◌≢◌, ◌≤◌, ℕ, List, ◌++◌, Err, IfOk, OnOk, OnErr, length};
-ghost use Rattle.std.specs.Prelude.{map, take, slice_range, decimal, All};
+ghost use Rattle.std.specs.Prelude.{◌≡◌, ◌≢◌, ◌≤◌, ◌<◌, ℕ, List, [], ◌++◌, Err, IfOk, OnOk, OnErr, length};
+ghost use Rattle.std.specs.Prelude.{map, take, slice_range, decimal, vec_len, All};
 ghost use Rattle.std.specs.Io.KnownBytes.{Appends, Consumes, IsAtEnd};
 ghost use Rattle.httparse.specs.Spans.{IsHeaderWithin, IsResponseOf, IsResponseWithin, header_bytes};
-ghost use Rattle.http_streams.specs.Devices.{EndsByOneRead, HasFailed};
-ghost use Rattle.http_streams.specs.inner.Cuts.{IsReplyCut};
+ghost use Rattle.http_streams.specs.Devices.{EndsByOneRead, FailsAtLast};
+ghost use Rattle.http_streams.specs.inner.Cuts.{IsReplyAt, IsReplyCut};
 ghost use Rattle.http_streams.specs.Fetch.{IsBadReply, IsUnfinishedReply, ReadsReply, body_bytes};
 ghost use Rattle.http_streams.specs.Fetch.{length_field, reply_length, request_start, request_text};
 
@@ -14,7 +14,7 @@ use crate::buffers::{
 };
 use crate::devices::{Sink, Source, write_all};
 use crate::fields::{Announced, Found, has_header, length_of, values_of};
-use crate::{MAX_FIELDS, MAX_HEAD, MAX_REPLY};
+use crate::{MAX_FIELDS, MAX_HEAD, MAX_READ, MAX_REPLY};
 use httparse::Status as Parsed;
 use httparse::spans::{HeaderSpan, ResponseSpans, parse_response};
 use itoa::Buffer;
@@ -85,21 +85,22 @@ pub fn fetch<R: Source, W: Sink>(
         × IsBadReply bytes
         × IsUnfinishedReply front × EndsByOneRead R.left R.reads reader.old reader.new bytes front }
 
-    // The request was written, and the input is at its end, with less than a reply.
+    // The request was written, and the input is at its end, as the last read told, with less than a reply.
     ensures ended { result ≡ Err FetchFault.Ended → (bytes : List ℕ)
         × Consumes (R.left reader.old) (R.left reader.new) bytes
         × Appends (W.holds writer.old) (W.holds writer.new) (request_text ask.now)
-        × IsUnfinishedReply bytes × IsAtEnd (R.left reader.new) }
+        × IsUnfinishedReply bytes × IsAtEnd (R.left reader.new)
+        × EndsByOneRead R.left R.reads reader.old reader.new bytes bytes }
 
-    // The request was written, less than a reply came, and the reader says that it failed.
+    // The request was written, less than a reply came, and a read failed, which was the last.
     ensures read { result ≡ Err FetchFault.Read → (bytes : List ℕ)
         × Consumes (R.left reader.old) (R.left reader.new) bytes
         × Appends (W.holds writer.old) (W.holds writer.new) (request_text ask.now)
-        × IsUnfinishedReply bytes × HasFailed (R.failed reader.old) (R.failed reader.new) }
+        × IsUnfinishedReply bytes × FailsAtLast R.failed R.fails reader.old reader.new }
 
-    // The writer says that it failed, a first part of the request went out, and nothing was read.
+    // A write failed, which was the last, a first part of the request went out, and nothing was read.
     ensures write { result ≡ Err FetchFault.Write → (reader.new ≡ reader.old)
-        × HasFailed (W.failed writer.old) (W.failed writer.new) }
+        × FailsAtLast W.failed W.fails writer.old writer.new }
 
     // After any fault a first part of the request went out, or all of it.
     ensures err { OnErr result ((bytes : List ℕ) × (front : List ℕ) × (back : List ℕ)
@@ -115,8 +116,15 @@ pub fn fetch<R: Source, W: Sink>(
         Err(SendFault::Write) => return Err(FetchFault::Write),
         Err(SendFault::NoMemory) => return Err(FetchFault::NoMemory),
     }
-    match read_reply(alloc, reader) {
-        Ok(reply) => Ok(reply),
+    let Ok((mut room, mut chunk)) = rooms(alloc) else {
+        return Err(FetchFault::NoMemory);
+    };
+    let mut buffer = Vec::new(alloc);
+    match read_whole(reader, &mut room, &mut chunk, &mut buffer) {
+        Ok(parts) => {
+            keep_body(&mut buffer, &parts);
+            Ok((parts.code, buffer))
+        }
         Err(fault) => Err(fault),
     }
 }
@@ -189,7 +197,7 @@ fn send<W: Sink>(alloc: Global, writer: &mut W, ask: &Ask<'_>) -> Result<(), Sen
     ensures ok { OnOk result (Appends (W.holds writer.old) (W.holds writer.new) (request_text ask.now)) }
     ensures err { OnErr result ((front : List ℕ) × (back : List ℕ) × (request_text ask.now ≡ front ++ back)
         × Appends (W.holds writer.old) (W.holds writer.new) front) }
-    ensures write { result ≡ Err SendFault.Write → HasFailed (W.failed writer.old) (W.failed writer.new) }
+    ensures write { result ≡ Err SendFault.Write → FailsAtLast W.failed W.fails writer.old writer.new }
     ensures count { result ≢ Err SendFault.Write → W.failed writer.new ≡ W.failed writer.old }
 {
     let Ok(text) = request_text(alloc, ask) else {
@@ -265,40 +273,49 @@ fn keep_body(bytes: &mut Vec<u8>, parts: &ReplyParts)
     drop_front(bytes, parts.body);
 }
 
-/// Reads one reply.
-fn read_reply<R: Source>(alloc: Global, reader: &mut R) -> Result<(u16, Vec<u8>), FetchFault>
-    ensures ok { IfOk result (λ reply. (bytes : List ℕ) × (front : List ℕ) × (rest : List ℕ)
-        × Consumes (R.left reader.old) (R.left reader.new) bytes × ReadsReply bytes reply.0 reply.1.items rest
-        × IsUnfinishedReply front × EndsByOneRead R.left R.reads reader.old reader.new bytes front) }
-    ensures bad { result ≡ Err FetchFault.BadReply → (bytes : List ℕ) × (front : List ℕ)
-        × Consumes (R.left reader.old) (R.left reader.new) bytes × IsBadReply bytes
-        × IsUnfinishedReply front × EndsByOneRead R.left R.reads reader.old reader.new bytes front }
-    ensures ended { result ≡ Err FetchFault.Ended → (bytes : List ℕ)
-        × Consumes (R.left reader.old) (R.left reader.new) bytes
-        × IsUnfinishedReply bytes × IsAtEnd (R.left reader.new) }
-    ensures read { result ≡ Err FetchFault.Read → (bytes : List ℕ)
-        × Consumes (R.left reader.old) (R.left reader.new) bytes × IsUnfinishedReply bytes
-        × HasFailed (R.failed reader.old) (R.failed reader.new) }
+/// Room for the parts of a head, and for the bytes of one read.
+fn rooms(alloc: Global) -> Result<(Vec<HeaderSpan>, Vec<u8>), AllocError>
+    ensures heads { IfOk result (λ rooms. MAX_HEAD ≤ vec_len rooms.0) }
+    ensures some { IfOk result (λ rooms. 0 < vec_len rooms.1) }
+    ensures most { IfOk result (λ rooms. vec_len rooms.1 ≤ MAX_READ) }
+{
+    let heads = room_for_heads(alloc)?;
+    let reads = room_for_reads(alloc)?;
+    Ok((heads, reads))
+}
+
+/// Reads until a reply is whole or can't be, in room that is there. `buffer` has all that came.
+fn read_whole<R: Source>(
+    reader: &mut R,
+    room: &mut [HeaderSpan],
+    chunk: &mut [u8],
+    buffer: &mut Vec<u8>,
+) -> Result<ReplyParts, FetchFault>
+    requires heads { MAX_HEAD ≤ length room.old }
+    requires some { 0 < length chunk.old }
+    requires most { length chunk.old ≤ MAX_READ }
+    requires empty { buffer.old.items ≡ [] }
+    ensures bytes { Consumes (R.left reader.old) (R.left reader.new) buffer.new.items }
+    ensures ok { IfOk result (λ parts. (front : List ℕ) × IsReplyAt buffer.new.items parts
+        × IsUnfinishedReply front × EndsByOneRead R.left R.reads reader.old reader.new buffer.new.items front) }
+    ensures bad { result ≡ Err FetchFault.BadReply → (front : List ℕ) × IsBadReply buffer.new.items
+        × IsUnfinishedReply front × EndsByOneRead R.left R.reads reader.old reader.new buffer.new.items front }
+    ensures ended { result ≡ Err FetchFault.Ended → IsUnfinishedReply buffer.new.items × IsAtEnd (R.left reader.new)
+        × EndsByOneRead R.left R.reads reader.old reader.new buffer.new.items buffer.new.items }
+    ensures read { result ≡ Err FetchFault.Read → IsUnfinishedReply buffer.new.items
+        × FailsAtLast R.failed R.fails reader.old reader.new }
     ensures count { result ≢ Err FetchFault.Read → R.failed reader.new ≡ R.failed reader.old }
     ensures write { result ≢ Err FetchFault.Write }
-    ensures err { OnErr result ((bytes : List ℕ) × Consumes (R.left reader.old) (R.left reader.new) bytes) }
 {
-    let (Ok(mut room), Ok(mut chunk)) = (room_for_heads(alloc), room_for_reads(alloc)) else {
-        return Err(FetchFault::NoMemory);
-    };
-    let mut buffer = Vec::new(alloc);
     'turns: loop {
-        match read_more(reader, &mut chunk, &mut buffer) {
+        match read_more(reader, chunk, buffer) {
             Ok(true) => {}
             Ok(false) => return Err(FetchFault::Ended),
             Err(ReadFault::Read) => return Err(FetchFault::Read),
             Err(ReadFault::NoMemory) => return Err(FetchFault::NoMemory),
         }
-        match cut_reply(&buffer, &mut room) {
-            ReplyCut::Whole(parts) => {
-                keep_body(&mut buffer, &parts);
-                return Ok((parts.code, buffer));
-            }
+        match cut_reply(buffer, room) {
+            ReplyCut::Whole(parts) => return Ok(parts),
             ReplyCut::Bad => return Err(FetchFault::BadReply),
             ReplyCut::Unfinished => {}
         }

@@ -15,7 +15,8 @@ pub fn one_answer<S: Service>()
         → AgreeOn (in_memory S.answers) S.same old old2 stream out more new new2 }
 {}
 
-/// What went out before a fault is a beginning of what goes out where there is none, the same corner aside.
+/// What went out before a fault (a read or a write failed, or memory was refused) is a beginning of what goes out where
+/// there is none, the same corner aside.
 pub fn begins_answer<S: Service>()
     ensures { HasOneAnswer (in_memory S.answers) S.same → (old old2 new new2 : S) → (stream out more : List ℕ)
         → S.same old old2

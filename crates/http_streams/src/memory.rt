@@ -1,26 +1,32 @@
 //! Devices over memory, which read or take stated pieces and fail at one stated call.
-ghost use Rattle.std.specs.Prelude.{◌≡◌, ◌<◌, ◌+◌, ◌-◌, ◌^◌, Some, IfSome, min, ◌++◌, take, drop, []};
+ghost use Rattle.std.specs.Prelude.{◌≡◌, ◌⊎◌, ◌<◌, Some, None, IfSome, []};
+ghost use Rattle.http_streams.specs.Memory.{Breaks, FailsByPlan, Gives, Passes, Takes, next_piece};
 
 use crate::devices::{DeviceFailed, Sink, Source};
 use std::alloc::Global;
+use std::marker::Model;
 
-/// How much each call moves, and which one fails.
-#[derive(Clone, Copy)]
+/// How much each call moves, and which one fails. A device counts its calls by it.
+#[derive(Drop)]
 pub struct Plan<'a> {
-    /// The most that each call moves; the last one holds from then on. None: all that fits.
-    pub pieces: &'a [usize],
-    /// The number of the call that fails, from 0.
-    pub fails_at: Option<u64>,
-    /// How many calls there were.
+    pieces: &'a [usize],
+    fails_at: Option<u64>,
     calls: u64,
 }
 
+impl<'a> Model for Plan<'a> {
+    ghost use Rattle.http_streams.specs.Memory.{Planned};
+
+    ghost Value = { Planned };
+
+    ghost view = { λ p. record { pieces = p.pieces.now; fails_at = p.fails_at; calls = p.calls } };
+}
+
 impl<'a> Plan<'a> {
-    /// A plan of which no call was made yet.
+    /// A plan of which no call was made yet. `pieces` are the most bytes that each call moves; the last one holds from
+    /// then on, none are all that fits, and 0 is 1. `fails_at` is the number of the call that fails, from 0.
     pub fn new(pieces: &'a [usize], fails_at: Option<u64>) -> Plan<'a>
-        ensures pieces { result.pieces ≡ pieces.entry }
-        ensures fails_at { result.fails_at ≡ fails_at }
-        ensures calls { result.calls ≡ 0 }
+        ensures { result ≡ record { pieces = pieces.entry.now; fails_at = fails_at; calls = 0 } }
     {
         Plan {
             pieces,
@@ -31,8 +37,9 @@ impl<'a> Plan<'a> {
 
     /// How much the next call moves, at least one byte, or `None` where it fails.
     fn next_call(&mut self) -> Option<usize>
-        ensures moves { IfSome result (λ n. 0 < n) }
-        ensures calls { self.new.calls ≡ min (self.old.calls + 1) u64.MAX }
+        ensures moves { IfSome result (λ n. (n ≡ next_piece self.old.pieces) × Passes self.old self.new) }
+        ensures some { IfSome result (λ n. 0 < n) }
+        ensures fails { result ≡ None → FailsByPlan self.old self.new }
     {
         let call = self.calls;
         self.calls = call.saturating_add(1);
@@ -51,19 +58,25 @@ impl<'a> Plan<'a> {
 }
 
 /// A reader over bytes.
-#[derive(Clone, Copy)]
+#[derive(Drop)]
 pub struct Fed<'a> {
     rest: &'a [u8],
     plan: Plan<'a>,
     failures: u64,
 }
 
+impl<'a> Model for Fed<'a> {
+    ghost use Rattle.http_streams.specs.Memory.{Held};
+
+    ghost Value = { Held };
+
+    ghost view = { λ f. record { bytes = f.rest.now; plan = f.plan; failures = f.failures } };
+}
+
 impl<'a> Fed<'a> {
     /// A reader of all these bytes.
     pub fn new(bytes: &'a [u8], plan: Plan<'a>) -> Fed<'a>
-        ensures bytes { result.rest ≡ bytes.entry }
-        ensures plan { result.plan ≡ plan.entry }
-        ensures failures { result.failures ≡ 0 }
+        ensures { result ≡ record { bytes = bytes.entry.now; plan = plan.entry; failures = 0 } }
     {
         Fed {
             rest: bytes,
@@ -74,20 +87,20 @@ impl<'a> Fed<'a> {
 
     /// What is unread.
     pub fn left(&self) -> &[u8]
-        ensures { result.now ≡ self.now.rest.now }
+        ensures { result.now ≡ self.now.bytes }
     {
         self.rest
     }
 }
 
 impl Source for Fed<'_> {
-    ghost left = { λ s. Some s.rest.now };
+    ghost left = { λ s. Some s.bytes };
 
     ghost failed = { λ s. s.failures };
 
-    // The call is counted, and what it gave is off the front of the rest.
-    ghost reads = { λ old bytes new. (old.rest.now ≡ bytes ++ new.rest.now)
-        × (new.plan.calls ≡ min (old.plan.calls + 1) (2 ^ 64 - 1)) × (new.failures ≡ old.failures) };
+    ghost reads = { Gives };
+
+    ghost fails = { λ old new. Breaks old new × FailsByPlan old.plan new.plan };
 
     fn read(&mut self, buf: &mut [u8]) -> Result<usize, DeviceFailed> {
         let Some(most) = self.plan.next_call() else {
@@ -114,12 +127,18 @@ pub struct Kept<'a> {
     failures: u64,
 }
 
+impl<'a> Model for Kept<'a> {
+    ghost use Rattle.http_streams.specs.Memory.{Held};
+
+    ghost Value = { Held };
+
+    ghost view = { λ k. record { bytes = k.bytes.items; plan = k.plan; failures = k.failures } };
+}
+
 impl<'a> Kept<'a> {
     /// A writer that took nothing yet.
     pub fn new(alloc: Global, plan: Plan<'a>) -> Kept<'a>
-        ensures bytes { result.bytes.items ≡ [] }
-        ensures plan { result.plan ≡ plan.entry }
-        ensures failures { result.failures ≡ 0 }
+        ensures { result ≡ record { bytes = []; plan = plan.entry; failures = 0 } }
     {
         Kept {
             bytes: Vec::new(alloc),
@@ -130,16 +149,21 @@ impl<'a> Kept<'a> {
 
     /// What was taken.
     pub fn bytes(&self) -> &[u8]
-        ensures { result.now ≡ self.now.bytes.items }
+        ensures { result.now ≡ self.now.bytes }
     {
         self.bytes.as_slice()
     }
 }
 
 impl Sink for Kept<'_> {
-    ghost holds = { λ s. Some s.bytes.items };
+    ghost holds = { λ s. Some s.bytes };
 
     ghost failed = { λ s. s.failures };
+
+    ghost writes = { Takes };
+
+    // By its plan, or for want of memory.
+    ghost fails = { λ old new. Breaks old new × (FailsByPlan old.plan new.plan ⊎ Passes old.plan new.plan) };
 
     fn write(&mut self, bytes: &[u8]) -> Result<usize, DeviceFailed> {
         if let Some(most) = self.plan.next_call() {

@@ -1,16 +1,15 @@
 //! Answers the requests of a stream.
-ghost use Rattle.std.specs.Prelude.{◌≡◌, ◌≢◌, ◌≤◌, ◌+◌, ◌⊎◌, ℕ, List, ◌++◌, true, Err, length, drop, Ok};
+ghost use Rattle.std.specs.Prelude.{◌≡◌, ◌≢◌, ◌≤◌, ◌<◌, ◌+◌, ◌⊎◌, ℕ, List, ◌++◌, [], true, Err, length, drop, Ok};
 ghost use Rattle.std.specs.Prelude.{None, OnOk, OnErr, IfOk, IfSome, vec_len};
 ghost use Rattle.std.specs.Vec.{vec_capacity};
 ghost use Rattle.std.specs.Io.KnownBytes.{Appends, Consumes, IsAtEnd};
-ghost use Rattle.http_streams.specs.Devices.{HasFailed};
+ghost use Rattle.http_streams.specs.Devices.{EndsByOneRead, FailsAtLast};
 ghost use Rattle.http_streams.specs.declared.TheConstants.{REPLY_ROOM};
 ghost use Rattle.http_streams.specs.Replies.{error_line, reply_text};
 ghost use Rattle.http_streams.specs.Request.{IsUnfinished, IsWholeAt};
 ghost use Rattle.http_streams.specs.Status.{code};
 ghost use Rattle.http_streams.specs.Stream.{Ends, Exchanges, Halts, KeepsUp, Rests, Serves, Stops};
 
-use crate::MAX_HEAD;
 use crate::buffers::{
     ReadFault, drop_front, read_more, room_for_heads, room_for_reads, room_for_replies,
 };
@@ -19,8 +18,9 @@ use crate::devices::{DeviceFailed, Sink, Source, write_all};
 use crate::reply::{HEAD_ROOM, REFUSAL_ROOM, put_head, put_refusal};
 use crate::service::Service;
 use crate::status::Status;
+use crate::{MAX_HEAD, MAX_READ};
 use httparse::spans::HeaderSpan;
-use std::alloc::Global;
+use std::alloc::{AllocError, Global};
 
 /// Why a stream was not answered to its end.
 #[derive(Clone, Copy)]
@@ -42,23 +42,24 @@ pub fn serve<S: Service, R: Source, W: Sink>(
     reader: &mut R,
     writer: &mut W,
 ) -> Result<(), StreamFault>
-    // What was written is the replies to what was read. The input is at its end, or the last reply ended the stream
-    // and nothing was read behind it.
+    // What was written is the replies to what was read. The input is at its end, as the last read told, or the last
+    // reply ended the stream and nothing was read behind it.
     ensures ok { OnOk result ((bytes : List ℕ) × (out : List ℕ)
         × Consumes (R.left reader.old) (R.left reader.new) bytes
         × Appends (W.holds writer.old) (W.holds writer.new) out
-        × ((Rests S.answers service.old bytes out service.new × IsAtEnd (R.left reader.new))
+        × ((Rests S.answers service.old bytes out service.new × IsAtEnd (R.left reader.new)
+        × EndsByOneRead R.left R.reads reader.old reader.new bytes bytes)
         ⊎ (Ends S.answers service.old bytes out service.new
         × KeepsUp S.answers R.left R.reads service.old reader.old reader.new bytes out))) }
     ensures count { OnOk result
         ((R.failed reader.new ≡ R.failed reader.old) × (W.failed writer.new ≡ W.failed writer.old)) }
 
-    // After a read that failed the bytes till then are answered. The device says so, or `u64::MAX` bytes came.
+    // After a read that failed, which was the last, the bytes till then are answered; or `u64::MAX` bytes came.
     ensures read { result ≡ Err StreamFault.Read → (bytes : List ℕ) × (out : List ℕ)
         × Consumes (R.left reader.old) (R.left reader.new) bytes
         × Appends (W.holds writer.old) (W.holds writer.new) out
         × Rests S.answers service.old bytes out service.new
-        × (HasFailed (R.failed reader.old) (R.failed reader.new) ⊎ (u64.MAX ≤ length bytes))
+        × (FailsAtLast R.failed R.fails reader.old reader.new ⊎ (u64.MAX ≤ length bytes))
         × (W.failed writer.new ≡ W.failed writer.old) }
 
     // After want of memory all that was read is answered: memory is asked for before bytes are read, and no reply
@@ -69,32 +70,96 @@ pub fn serve<S: Service, R: Source, W: Sink>(
         × Rests S.answers service.old bytes out service.new
         × (R.failed reader.new ≡ R.failed reader.old) × (W.failed writer.new ≡ W.failed writer.old) }
 
-    // After a write that failed some requests are answered, and of one more reply a first part may have gone out. All
-    // that had come before the last read was answered.
+    // After a write that failed, which was the last, some requests are answered, and of one more reply a first part
+    // may have gone out. All that had come before the last read was answered.
     ensures write { result ≡ Err StreamFault.Write → (bytes : List ℕ) × (out : List ℕ)
         × Consumes (R.left reader.old) (R.left reader.new) bytes
         × Appends (W.holds writer.old) (W.holds writer.new) out
         × Stops S.answers service.old bytes out service.new
         × KeepsUp S.answers R.left R.reads service.old reader.old reader.new bytes out
-        × HasFailed (W.failed writer.old) (W.failed writer.new) × (R.failed reader.new ≡ R.failed reader.old) }
+        × FailsAtLast W.failed W.fails writer.old writer.new × (R.failed reader.new ≡ R.failed reader.old) }
 {
-    let (Ok(mut room), Ok(mut chunk), Ok(mut text)) = (
-        room_for_heads(alloc),
-        room_for_reads(alloc),
-        room_for_replies(alloc),
-    ) else {
+    let Ok((mut room, mut chunk, mut text)) = rooms(alloc) else {
         return Err(StreamFault::NoMemory);
     };
     let mut buffer = Vec::new(alloc);
+    answer_stream(
+        service,
+        reader,
+        writer,
+        &mut room,
+        &mut chunk,
+        &mut text,
+        &mut buffer,
+    )
+}
+
+/// Room for the parts of a head, for the bytes of one read, and for a reply.
+fn rooms(alloc: Global) -> Result<(Vec<HeaderSpan>, Vec<u8>, Vec<u8>), AllocError>
+    ensures heads { IfOk result (λ rooms. MAX_HEAD ≤ vec_len rooms.0) }
+    ensures some { IfOk result (λ rooms. 0 < vec_len rooms.1) }
+    ensures most { IfOk result (λ rooms. vec_len rooms.1 ≤ MAX_READ) }
+    ensures head { IfOk result (λ rooms. HEAD_ROOM ≤ vec_len rooms.2) }
+    ensures room { IfOk result (λ rooms. HEAD_ROOM + REPLY_ROOM ≤ vec_capacity rooms.2) }
+{
+    let heads = room_for_heads(alloc)?;
+    let reads = room_for_reads(alloc)?;
+    let replies = room_for_replies(alloc)?;
+    Ok((heads, reads, replies))
+}
+
+/// Reads and answers by turns, in room that is there. `buffer` has what is read and not yet answered.
+fn answer_stream<S: Service, R: Source, W: Sink>(
+    service: &mut S,
+    reader: &mut R,
+    writer: &mut W,
+    room: &mut [HeaderSpan],
+    chunk: &mut [u8],
+    text: &mut Vec<u8>,
+    buffer: &mut Vec<u8>,
+) -> Result<(), StreamFault>
+    requires heads { MAX_HEAD ≤ length room.old }
+    requires some { 0 < length chunk.old }
+    requires most { length chunk.old ≤ MAX_READ }
+    requires head { HEAD_ROOM ≤ vec_len text.old }
+    requires room { HEAD_ROOM + REPLY_ROOM ≤ vec_capacity text.old }
+    requires empty { buffer.old.items ≡ [] }
+    ensures ok { OnOk result ((bytes : List ℕ) × (out : List ℕ)
+        × Consumes (R.left reader.old) (R.left reader.new) bytes
+        × Appends (W.holds writer.old) (W.holds writer.new) out
+        × ((Rests S.answers service.old bytes out service.new × IsAtEnd (R.left reader.new)
+        × EndsByOneRead R.left R.reads reader.old reader.new bytes bytes)
+        ⊎ (Ends S.answers service.old bytes out service.new
+        × KeepsUp S.answers R.left R.reads service.old reader.old reader.new bytes out))) }
+    ensures count { OnOk result
+        ((R.failed reader.new ≡ R.failed reader.old) × (W.failed writer.new ≡ W.failed writer.old)) }
+    ensures read { result ≡ Err StreamFault.Read → (bytes : List ℕ) × (out : List ℕ)
+        × Consumes (R.left reader.old) (R.left reader.new) bytes
+        × Appends (W.holds writer.old) (W.holds writer.new) out
+        × Rests S.answers service.old bytes out service.new
+        × (FailsAtLast R.failed R.fails reader.old reader.new ⊎ (u64.MAX ≤ length bytes))
+        × (W.failed writer.new ≡ W.failed writer.old) }
+    ensures memory { result ≡ Err StreamFault.NoMemory → (bytes : List ℕ) × (out : List ℕ)
+        × Consumes (R.left reader.old) (R.left reader.new) bytes
+        × Appends (W.holds writer.old) (W.holds writer.new) out
+        × Rests S.answers service.old bytes out service.new
+        × (R.failed reader.new ≡ R.failed reader.old) × (W.failed writer.new ≡ W.failed writer.old) }
+    ensures write { result ≡ Err StreamFault.Write → (bytes : List ℕ) × (out : List ℕ)
+        × Consumes (R.left reader.old) (R.left reader.new) bytes
+        × Appends (W.holds writer.old) (W.holds writer.new) out
+        × Stops S.answers service.old bytes out service.new
+        × KeepsUp S.answers R.left R.reads service.old reader.old reader.new bytes out
+        × FailsAtLast W.failed W.fails writer.old writer.new × (R.failed reader.new ≡ R.failed reader.old) }
+{
     for turn in 0..u64::MAX {
-        match read_more(reader, &mut chunk, &mut buffer) {
+        match read_more(reader, chunk, buffer) {
             Ok(true) => {}
             Ok(false) => return Ok(()),
             Err(ReadFault::Read) => return Err(StreamFault::Read),
             Err(ReadFault::NoMemory) => return Err(StreamFault::NoMemory),
         }
-        match answer_all(service, writer, &buffer, &mut room, &mut text) {
-            Ok(Some(count)) => drop_front(&mut buffer, count),
+        match answer_all(service, writer, buffer, room, text) {
+            Ok(Some(count)) => drop_front(buffer, count),
             Ok(None) => return Ok(()),
             Err(_) => return Err(StreamFault::Write),
         }
@@ -131,7 +196,7 @@ fn answer<S: Service, W: Sink>(
         × Exchanges S.answers service.old bytes.now parts.now.closes out service.new (drop parts.now.end bytes.now)) }
     ensures err { OnErr result ((out : List ℕ) × Appends (W.holds writer.old) (W.holds writer.new) out
         × Halts S.answers service.old bytes.now out service.new) }
-    ensures write { OnErr result (HasFailed (W.failed writer.old) (W.failed writer.new)) }
+    ensures write { OnErr result (FailsAtLast W.failed W.fails writer.old writer.new) }
     ensures count { OnOk result (W.failed writer.new ≡ W.failed writer.old) }
 {
     text.truncate(HEAD_ROOM);
@@ -150,10 +215,10 @@ fn answer<S: Service, W: Sink>(
 fn refuse<W: Sink>(writer: &mut W, status: Status) -> Result<(), DeviceFailed>
     ensures ok { OnOk result (Appends (W.holds writer.old) (W.holds writer.new)
         (reply_text true status (error_line (code status)))) }
-    ensures err { OnErr result ((front : List ℕ) × (back : List ℕ)
+    ensures err { OnErr result ((front : List ℕ) × (back : List ℕ) × (0 < length back)
         × (reply_text true status (error_line (code status)) ≡ front ++ back)
         × Appends (W.holds writer.old) (W.holds writer.new) front) }
-    ensures write { OnErr result (HasFailed (W.failed writer.old) (W.failed writer.new)) }
+    ensures write { OnErr result (FailsAtLast W.failed W.fails writer.old writer.new) }
     ensures count { OnOk result (W.failed writer.new ≡ W.failed writer.old) }
 {
     let mut room = [0u8; REFUSAL_ROOM];
@@ -182,7 +247,7 @@ fn answer_all<S: Service, W: Sink>(
         × Ends S.answers service.old bytes.now out service.new }
     ensures err { OnErr result ((out : List ℕ) × Appends (W.holds writer.old) (W.holds writer.new) out
         × Stops S.answers service.old bytes.now out service.new) }
-    ensures write { OnErr result (HasFailed (W.failed writer.old) (W.failed writer.new)) }
+    ensures write { OnErr result (FailsAtLast W.failed W.fails writer.old writer.new) }
     ensures count { OnOk result (W.failed writer.new ≡ W.failed writer.old) }
 {
     let mut at = 0;

@@ -1,17 +1,25 @@
-use Rattle.std.proofs.Common.{◌≡◌, ◌≤◌, ℕ, List, ◌-◌, take, drop, length, sym, subst, ap, ◌∙◌, arith, length-drop}
+use Rattle.std.proofs.Common.{◌≡◌, ◌≤◌, ℕ, List, ◌-◌, take, drop, length, sym, subst, ap, ◌∙◌, arith, rules, length-drop}
 use Rattle.std.proofs.Math.Seq.{take-add}
 use Rattle.std.proofs.lemmas.List.{take-append-drop, take_all}
 use Rattle.std.specs.Io.KnownBytes.{Appends}
 use Rattle.std.proofs.KnownBytes.{Appends-trans, Appends-kept}
+use Rattle.http_streams.specs.Devices.{HasFailed}
+use Rattle.http_streams.proofs.StreamLemmas.{FailsAtLast-now}
 use Rattle.http_streams.proofs.devices.write_all.Goals as goal
 
 pub returns-in-Err-clause-err : goal.returns-in-Err-clause-err
 returns-in-Err-clause-err g c = (
   take c.loop-done.done c.args.bytes.now,
   drop c.loop-done.done c.args.bytes.now,
+  omega (arith, length-drop c.loop-done.done c.args.bytes.now, c.loop-done-test.true),
   sym (take-append-drop c.loop-done.done c.args.bytes.now),
   Appends-kept _ _ _ _ c.loop-done.invariant.1 c.in-Err.ensures.bytes,
 )
+
+pub returns-in-Err-clause-failed : goal.returns-in-Err-clause-failed
+returns-in-Err-clause-failed g c =
+    let told : HasFailed (g.W.Sink.failed c.loop-done.writer) (g.W.Sink.failed c.write.new.self) = search rules in
+    FailsAtLast-now g.W.Sink.failed g.W.Sink.fails c.loop-done.invariant.2 c.in-Err.ensures.failure told
 
 -- the next n bytes from done on, as the slice of the rest shows them
 next : (bytes : List ℕ) (done n : ℕ) → take n (take (length bytes - done) (drop done bytes)) ≡ take n (drop done bytes)

@@ -32,8 +32,8 @@ returns-in-Ok-Partial c =
     let whole = c.first_bytes-seen.ensures ∙ take_all MAX_HEAD c.args.buf.now c.if-buf-le-MAX_HEAD.true in
     let none : HasNoResponse seen = search rules in
     let more : MayBecomeResponse seen = search rules in
-    inr (inr (record {
+    inr (record {
       none = subst HasNoResponse whole none;
       short = c.if-buf-le-MAX_HEAD.true;
       open_still = subst MayBecomeResponse whole more;
-    }))
+    })

@@ -30,14 +30,14 @@ returns-in-TooLong c =
 pub returns-in-Size : goal.returns-in-Size
 returns-in-Size c =
     let found = c.requires.complete in
-    inr (inl (record {
+    inl (record {
       head = found.0;
       rest = drop c.args.head.now.len c.args.buf.now;
       size = c.in-Size.size;
       admits = admitted _ _ c.requires.seen _ _ found.0 c.requires.within found.1 (omega (arith, c.requires.few, c.requires.count));
       framed = sym (length_is _ _ c.requires.seen _ _ found.0 c.requires.within found.1 c.requires.count) ∙ sym c.in-Size.ensures;
       short = omega (arith, length-drop c.args.head.now.len c.args.buf.now, c.is_cut_off.ensures.cut c.if-is_cut_off.true);
-    }))
+    })
 
 pub returns-in-Size-2 : goal.returns-in-Size-2
 returns-in-Size-2 c =

@@ -1,4 +1,4 @@
-use Rattle.std.proofs.Common.{◌≡◌, ◌≤◌, ◌++◌, ◌-◌, ℕ, Bool, List, length, take, drop, sym, ap, ◌∙◌, inl, inr, arith}
+use Rattle.std.proofs.Common.{◌≡◌, ◌≤◌, ◌++◌, ◌-◌, ℕ, Bool, List, length, take, drop, sym, ap, ◌∙◌, inl, arith}
 use Rattle.std.proofs.lemmas.List.{drop_at, length-take-le, take_rest}
 use Rattle.http_streams.specs.Replies.{reply_text}
 use Rattle.http_streams.specs.declared.status.Status.{Status}
@@ -33,12 +33,15 @@ returns-in-Err-clause-err g c =
     let text = sent _ _ _ said.0 c.finish-start.result 160 _ _ c.deref.ensures.value head (short _ _ 160 c.truncate.ensures.items (omega (arith, c.requires.head, c.args.text.now.ok.0))) in
     let went = c.in-Err.ensures.err in (
       went.0,
-      went.3,
-      inr (inl (
+      went.4,
+      (
         went.1,
-        drop c.args.parts.now.end c.args.bytes.now,
-        c.args.parts.now.closes,
-        exchanged g.S.Service.answers c.args.bytes.now c.args.parts.now _ _ c.call-status.result said.0 (went.0 ++ went.1) c.requires.whole
-            c.of-method.ensures c.of-target.ensures said.2 (sym went.2 ∙ text),
-      )),
+        went.2,
+        inl (
+          drop c.args.parts.now.end c.args.bytes.now,
+          c.args.parts.now.closes,
+          exchanged g.S.Service.answers c.args.bytes.now c.args.parts.now _ _ c.call-status.result said.0 (went.0 ++ went.1) c.requires.whole
+              c.of-method.ensures c.of-target.ensures said.2 (sym went.3 ∙ text),
+        ),
+      ),
     )

@@ -3,7 +3,7 @@ use Rattle.std.proofs.lemmas.List.{drop-drop, take_rest}
 use Rattle.http_streams.specs.Request.{IsRefused}
 use Rattle.http_streams.specs.Stream.{Exchanges}
 use Rattle.std.proofs.KnownBytes.{Appends-nil, Appends-trans}
-use Rattle.http_streams.proofs.StreamLemmas.{Serves-none, Serves-push, Ends-after, Ends-now, Stops-after, Stops-now, Exchanges-at, Halts-at}
+use Rattle.http_streams.proofs.StreamLemmas.{Serves-none, Serves-push, Ends-after, Ends-now, Stops-after, Stops-now, Exchanges-at, Halts-at, FailsAtLast-from}
 use Rattle.http_streams.proofs.serve.answer_all.Goals as goal
 
 pub requests-init : goal.requests-init
@@ -41,11 +41,15 @@ pub returns-in-Err-clause-err : goal.returns-in-Err-clause-err
 returns-in-Err-clause-err g c =
     let so_far = c.requests.invariant.1 in
     let done = c.in-Err.ensures.err in
-    let halts = Halts-at g.S.Service.answers (take_rest c.args.bytes.now c.requests.at) done.2 in (
+    let halts = Halts-at g.S.Service.answers _ _ _ (take_rest c.args.bytes.now c.requests.at) done.2 in (
       so_far.0 ++ done.0,
       Appends-trans _ _ _ _ _ so_far.2 done.1,
       Stops-after g.S.Service.answers so_far.1 _ _ _ _ _ _ _ so_far.3 (Stops-now g.S.Service.answers _ _ _ _ halts),
     )
+
+pub returns-in-Err-clause-write : goal.returns-in-Err-clause-write
+returns-in-Err-clause-write g c =
+    FailsAtLast-from g.W.Sink.failed g.W.Sink.fails c.requests.invariant.2 c.in-Err.ensures.write
 
 pub returns-in-Ok-refuse-clause-closed : goal.returns-in-Ok-refuse-clause-closed
 returns-in-Ok-refuse-clause-closed g c _ =
@@ -63,7 +67,11 @@ returns-in-Err-refuse-clause-err g c =
     let done = c.in-Err-refuse.ensures.err in
     let refused = subst (λ (t : List ℕ). IsRefused t c.in-Refused.status) (take_rest c.args.bytes.now c.requests.at) c.in-Refused.ensures in (
       so_far.0 ++ done.0,
-      Appends-trans _ _ _ _ _ so_far.2 done.3,
+      Appends-trans _ _ _ _ _ so_far.2 done.4,
       Stops-after g.S.Service.answers so_far.1 _ _ _ _ _ _ _ so_far.3
-          (Stops-now g.S.Service.answers _ _ _ _ (inr (inr (done.1, inr (c.in-Refused.status, refused, sym done.2, refl))))),
+          (Stops-now g.S.Service.answers _ _ _ _ (done.1, done.2, inr (c.in-Refused.status, refused, sym done.3, refl))),
     )
+
+pub returns-in-Err-refuse-clause-write : goal.returns-in-Err-refuse-clause-write
+returns-in-Err-refuse-clause-write g c =
+    FailsAtLast-from g.W.Sink.failed g.W.Sink.fails c.requests.invariant.2 c.in-Err-refuse.ensures.write

@@ -3,17 +3,18 @@ use Rattle.std.specs.Io.KnownBytes.{Appends, Consumes}
 use Rattle.std.specs.Vec.{vec_capacity}
 use Rattle.http_streams.specs.declared.TheConstants.{MAX_HEAD, MAX_READ, REPLY_ROOM}
 use Rattle.http_streams.specs.declared.reply.TheConstants.{HEAD_ROOM}
-use Rattle.http_streams.specs.Stream.{IsSilent, Serves}
-use Rattle.http_streams.proofs.serve.serve.Given as goal
+use Rattle.http_streams.specs.Request.{IsUnfinished}
+use Rattle.http_streams.specs.Stream.{Serves}
+use Rattle.http_streams.proofs.serve.answer_stream.Given as goal
 
 abbrev pub invariant-loop-turn : goal.invariant-loop-turn
 invariant-loop-turn g l = record {
-  heads : MAX_HEAD ≤ vec_len l.room;
-  some : 0 < vec_len l.chunk;
-  most : vec_len l.chunk ≤ MAX_READ;
+  heads : MAX_HEAD ≤ length l.room;
+  some : 0 < length l.chunk;
+  most : length l.chunk ≤ MAX_READ;
   head : HEAD_ROOM ≤ vec_len l.text;
   room : HEAD_ROOM + REPLY_ROOM ≤ vec_capacity l.text;
-  silent : IsSilent l.buffer.items;
+  unfinished : IsUnfinished l.buffer.items;
   read_count : g.R.Source.failed l.reader ≡ g.R.Source.failed l.fn.reader;
   write_count : g.W.Sink.failed l.writer ≡ g.W.Sink.failed l.fn.writer;
   so_far : (bytes : List ℕ) × (out : List ℕ) × (n : ℕ)

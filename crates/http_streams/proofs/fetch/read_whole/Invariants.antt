@@ -1,14 +1,14 @@
-use Rattle.std.proofs.Common.{◌≡◌, ◌+◌, ◌-◌, ◌<◌, ◌≤◌, length, vec_len}
+use Rattle.std.proofs.Common.{◌≡◌, ◌+◌, ◌-◌, ◌<◌, ◌≤◌, length}
 use Rattle.std.specs.Io.KnownBytes.{Consumes}
 use Rattle.http_streams.specs.declared.TheConstants.{MAX_HEAD, MAX_READ, MAX_REPLY}
 use Rattle.http_streams.specs.Fetch.{IsUnfinishedReply}
-use Rattle.http_streams.proofs.fetch.read_reply.Given as goal
+use Rattle.http_streams.proofs.fetch.read_whole.Given as goal
 
 abbrev pub invariant-turns : goal.invariant-turns
 invariant-turns g l = record {
-  heads : MAX_HEAD ≤ vec_len l.room;
-  some : 0 < vec_len l.chunk;
-  most : vec_len l.chunk ≤ MAX_READ;
+  heads : MAX_HEAD ≤ length l.room;
+  some : 0 < length l.chunk;
+  most : length l.chunk ≤ MAX_READ;
   unfinished : IsUnfinishedReply l.buffer.items;
   count : g.R.Source.failed l.reader ≡ g.R.Source.failed l.fn.reader;
   read : Consumes (g.R.Source.left l.fn.reader) (g.R.Source.left l.reader) l.buffer.items;
