@@ -1,4 +1,4 @@
-//! Conditions over entities with attributes.
+//! Conditions and policies over entities with attributes.
 
 ghost use Rattle.std.specs.Prelude.{◌≡◌, [], None};
 ghost use Rattle.std.specs.BTreeMap.{get};
@@ -6,12 +6,14 @@ ghost use Rattle.values.specs.declared.entity_uid.EntityUid.{EntityUid};
 ghost use Rattle.values.specs.Names.{uid_cmp};
 ghost use Rattle.ancestor_closure.specs.contracts.searched.SearchedAncestry.TheImpl as searched;
 
-use crate::texts::policy_when;
+use crate::texts::{policy_when, text_of};
 use ancestor_closure::{Ancestry, Searched};
+use authoriser::{Answer, decide};
+use decision_texts::answer_line;
 use evaluator::{EvalFault, Given, Lookup, evaluate};
 use extensions::IpNet;
 use plain::{NoMemory, Text};
-use policy_grammar::{Policy, parse_policy};
+use policy_grammar::{Policy, parse_policies, parse_policy};
 use std::alloc::{AllocError, Global};
 use std::collections::BTreeMap;
 use values::{EntityUid, Record, Request, TypeName, Value};
@@ -28,13 +30,13 @@ struct Site {
 
 impl Ancestry for Site {
     ghost use Rattle.ancestor_closure.specs.contracts.searched.SearchedAncestry.TheImpl as searched;
-    ghost use Rattle.ancestor_closure.specs.Deciding.{edges_are_decided};
+    ghost use Rattle.ancestor_closure.specs.SearchedMeaning.{searched_is_decided};
 
     ghost parents = { λ s. searched.parents-value.it s.hierarchy };
 
     ghost above = { λ s. searched.above-value.it s.hierarchy };
 
-    ghost above_is = { λ s. edges_are_decided s.hierarchy.edges };
+    ghost above_is = { λ s. searched_is_decided s.hierarchy };
 
     fn is_ancestor(&self, a: &EntityUid, b: &EntityUid) -> Result<bool, NoMemory> {
         self.hierarchy.is_ancestor(a, b)
@@ -251,4 +253,67 @@ pub fn repeated(alloc: Global, written: &str) -> Result<String, NoMemory> {
     let texts = texts.parse::<u32>().unwrap_or(0);
     let word = asked(alloc, condition, texts, times)?;
     String::from_str(alloc, word)
+}
+
+/// The policies by reference, each with its name, in the order in which they stand.
+fn referred<'p>(
+    alloc: Global,
+    policies: &'p [(String, Policy)],
+) -> Result<Vec<(&'p str, &'p Policy)>, NoMemory> {
+    let mut refs = Vec::with_capacity(alloc, policies.len())?;
+    for (id, policy) in policies {
+        refs.push((id.as_str(), policy))?;
+    }
+    Ok(refs)
+}
+
+fn line_of(alloc: Global, answer: &Answer) -> Result<String, NoMemory> {
+    let line = answer_line(alloc, answer)?;
+    text_of(alloc, &line)
+}
+
+fn answer_by(
+    alloc: Global,
+    policies: &[(String, Policy)],
+    request: &Request,
+    site: &Site,
+) -> Result<Answer, NoMemory> {
+    let policies = referred(alloc, policies)?;
+    decide(alloc, &policies, request, site)
+}
+
+fn line_by(
+    alloc: Global,
+    policies: &[(String, Policy)],
+    request: &Request,
+    site: &Site,
+) -> Result<String, NoMemory> {
+    let answer = answer_by(alloc, policies, request, site)?;
+    line_of(alloc, &answer)
+}
+
+fn answered(
+    alloc: Global,
+    policies: &str,
+    request: &Request,
+    site: &Site,
+) -> Result<String, NoMemory> {
+    let read = parse_policies(alloc, policies);
+    let line = match &read {
+        Ok(policies) => line_by(alloc, policies, request, site),
+        Err(_) => String::from_str(alloc, "no policies"),
+    };
+    drop(read);
+    line
+}
+
+fn answered_over(alloc: Global, policies: &str, request: &Request) -> Result<String, NoMemory> {
+    let site = stored(alloc)?;
+    answered(alloc, policies, request, &site)
+}
+
+/// The answer by a file of policies, in the order in which they stand, over these entities.
+pub fn decided_over(alloc: Global, policies: &str) -> Result<String, NoMemory> {
+    let request = request(alloc, 0)?;
+    answered_over(alloc, policies, &request)
 }

@@ -10,10 +10,16 @@
 //!   or JSON that stands for its compact text; so are those of `given`.
 //! - `attributes`: what a condition gives over two entities with attributes; `repeated`: so many times, in a context
 //!   with so many texts more, for bench/evaluator.sh.
+//! - `decided_over`: the answer by the policies of a text, in the order in which they stand, over these two entities.
+//! - `summary`: how many stamps a message with a summary has, under the label of the schema `{}`; a refusal is told with
+//!   its place and the number inside.
 //! - `run`: a run of the program over these words: its status, and what it wrote on standard output and on standard
 //!   error.
 //! - `run_short`: the status of such a run where each stream takes ten bytes alone.
-//! - `schema`: the label of a schema, and how many actions and environments it has.
+//! - `schema`: the label of a schema, and how many actions and environments it has; `schema_parts`: its actions with
+//!   those above them, its environments, and what it has at the names of types before its text.
+//! - `under`: gives the rows below their schema; `entity`: the one text of an entity under it, which is also read back;
+//!   `context`: the one text of a `context` for an `action`; `request`: that of a request.
 //!
 //! A text that is refused comes to the refusal's number and place. In a text `⟦3×ab⟧` stands for `ababab`, and `⟦0a
 //! ff⟧` for two bytes. A line that is empty or begins with `#` is printed as it is, so that line N of what is read is
@@ -22,15 +28,19 @@
 
 mod attributes;
 mod decisions;
+mod declared;
+mod messages;
 mod runs;
 mod schemas;
 mod texts;
 mod written;
 
-use crate::attributes::{attributes, repeated};
+use crate::attributes::{attributes, decided_over, repeated};
 use crate::decisions::{Known, decided, give, when};
+use crate::declared::{Declared, declare, stated};
+use crate::messages::summary_line;
 use crate::runs::{ran, ran_short};
-use crate::schemas::schema_line;
+use crate::schemas::{parts_line, schema_line};
 use crate::texts::read;
 use crate::written::expanded;
 use plain::NoMemory;
@@ -40,6 +50,7 @@ use std::io::{self, BufRead, BufReader};
 fn came_to(
     rt: &HostRuntime,
     known: &mut Known,
+    declared: &mut Declared,
     word: &str,
     text: &str,
 ) -> Result<String, NoMemory> {
@@ -50,11 +61,21 @@ fn came_to(
         "given" => give(alloc, known, text),
         "decide" => decided(alloc, known, text),
         "when" => when(alloc, known, text),
+        "under" => declare(alloc, declared, text),
+        "entity" | "context" | "request" => stated(alloc, declared, word, text),
         "attributes" => attributes(alloc, text),
         "repeated" => repeated(alloc, text),
+        "decided_over" => decided_over(alloc, text),
+        "summary" => summary_line(alloc, text),
         "schema" => {
             let bytes = expanded(alloc, text)?;
             schema_line(alloc, &bytes)
+        }
+        "schema_parts" => {
+            let (words, json) = text.split_once('{').unwrap_or((text, ""));
+            let whole = format!(in alloc; "{{{json}")?;
+            let bytes = expanded(alloc, whole.as_str())?;
+            parts_line(alloc, words, &bytes)
         }
         _ => {
             let bytes = expanded(alloc, text)?;
@@ -64,21 +85,27 @@ fn came_to(
 }
 
 /// What is printed for a line.
-fn told(rt: &HostRuntime, known: &mut Known, line: &str) -> Result<String, NoMemory> {
+fn told(
+    rt: &HostRuntime,
+    known: &mut Known,
+    declared: &mut Declared,
+    line: &str,
+) -> Result<String, NoMemory> {
     let alloc = rt.alloc();
     if line.is_empty() || line.starts_with('#') {
         return String::from_str(alloc, line);
     }
     let (word, text) = line.split_once(' ').unwrap_or((line, ""));
-    let came_to = came_to(rt, known, word, text)?;
+    let came_to = came_to(rt, known, declared, word, text)?;
     format!(in alloc; "{line}  ->  {came_to}")
 }
 
 fn main(rt: HostRuntime) -> io::Result<()> {
     let mut known = Known::new(rt.alloc());
+    let mut declared = Declared::new();
     for line in BufReader::new(rt.alloc(), rt.reader())?.lines(rt.alloc()) {
         let line = line?;
-        let told = told(&rt, &mut known, line.as_str())?;
+        let told = told(&rt, &mut known, &mut declared, line.as_str())?;
         println!(rt; "{told}")?;
     }
     Ok(())
