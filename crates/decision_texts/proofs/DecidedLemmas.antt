@@ -4,15 +4,15 @@ use Rattle.values.specs.declared.request.Request.{Request}
 use Rattle.policy_grammar.specs.declared.policy.Policy.{Policy}
 use Rattle.evaluator.specs.Operators.{World}
 use Rattle.authoriser.specs.Answers.{IsAnswer}
+use Rattle.entity_store.specs.Keeping.{Entries}
 use Rattle.decision_texts.specs.declared.refusal.Refusal.{Refusal}
-use Rattle.decision_texts.specs.declared.store.BareStore.{BareStore}
 use Rattle.decision_texts.specs.Refusals.{bad_shape}
 use Rattle.decision_texts.specs.Bare.{entities_of}
 use Rattle.decision_texts.specs.Requests.{IsRequestText, IsNoRequestText}
 use Rattle.decision_texts.specs.Decisions.{ArePoliciesOf, named_policies, IsDecided, IsRequestRefused}
 use Rattle.decision_texts.specs.inner.Stores.{Keeps, world_held, IsLineIn}
 
-pub decided : (policies entities request line : List ℕ) (names : List (List ℕ)) (cores : List Policy) (store : BareStore) (asked : Request) →
+pub decided : (policies entities request line : List ℕ) (names : List (List ℕ)) (cores : List Policy) (store : Entries) (asked : Request) →
     ArePoliciesOf policies names cores → Keeps (entities_of entities) store → IsRequestText request asked →
     IsLineIn (named_policies names cores) (world_held store) asked line → IsDecided policies entities request line
 decided policies entities request line names cores store asked file kept question told = record {
@@ -32,7 +32,7 @@ decided policies entities request line names cores store asked file kept questio
   line_is = told.line_is;
 }
 
-pub request_refused : (policies entities request : List ℕ) (refusal : Refusal) (names : List (List ℕ)) (cores : List Policy) (store : BareStore) →
+pub request_refused : (policies entities request : List ℕ) (refusal : Refusal) (names : List (List ℕ)) (cores : List Policy) (store : Entries) →
     ArePoliciesOf policies names cores → Keeps (entities_of entities) store → IsNoRequestText request → refusal ≡ bad_shape None →
     IsRequestRefused policies entities request refusal
 request_refused policies entities request refusal names cores store file kept none is =

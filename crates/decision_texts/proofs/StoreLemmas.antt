@@ -1,8 +1,7 @@
 -- What a store of entities looks up is what its entities state.
-use Rattle.std.proofs.Common.{◌≡◌, ◌∙◌, Bool, true, false, cond, List, [], ◌∷◌, ◌++◌, Option, Some, None, Vec, Global, map, inl, inr, refl, sym, ap, subst}
+use Rattle.std.proofs.Common.{◌≡◌, ◌∙◌, Bool, true, false, List, [], ◌∷◌, ◌++◌, Option, Some, None, map, inl, inr, refl, sym, ap, subst}
 use Rattle.std.specs.Prelude.{Contains, if◌then◌else◌, ◌||◌, is_some}
 use Rattle.std.specs.List.{list_any}
-use Rattle.std.specs.BTreeMap.{get}
 use Rattle.std.specs.Ordering.{is_eq}
 use Rattle.std.proofs.lemmas.Bool.{cases_Bool}
 use Rattle.values.specs.declared.entity_uid.EntityUid.{EntityUid}
@@ -11,12 +10,15 @@ use Rattle.values.specs.Fields.{Field}
 use Rattle.values.specs.Uids.{equal-is}
 use Rattle.plain.proofs.Members.{Contains-here, Contains-there, Contains-none}
 use Rattle.ancestor_closure.specs.Decided.{is_same, HaveAllParents}
-use Rattle.ancestor_closure.specs.Search.{parents_of, items_or_none}
 use Rattle.evaluator.specs.Operators.{world_of}
+use Rattle.entities.specs.declared.entity.Entity.{Entity}
+use Rattle.entity_store.specs.declared.data.EntityData.{EntityData}
+use Rattle.entity_store.specs.Entities.{EntityMap, attributes_of, parents_of}
+use Rattle.entity_store.specs.Keeping.{Entries, kept_in, Puts}
+use Rattle.entity_store.specs.Keeping.{data_of as data_in}
 use Rattle.decision_texts.specs.declared.bare.BareEntity.{BareEntity}
-use Rattle.decision_texts.specs.declared.store.BareStore.{BareStore}
 use Rattle.decision_texts.specs.Decisions.{parents_in, stored_in, world_in}
-use Rattle.decision_texts.specs.inner.Stores.{Edges, items_in, Puts, stated_at, Holds, attributes_in, world_held}
+use Rattle.decision_texts.specs.inner.Stores.{data_of, stated_at, Holds, world_held}
 
 -- ---- all entities with parents are those of the array
 
@@ -33,17 +35,11 @@ all_parents [] b a c = Contains-none a c
 all_parents (e ∷ es) b a c =
     chosen (is_eq (uid_cmp e.uid b)) e.uid b a (own_uids es) e.parents (parents_in es b) (λ same. (equal-is uid_cmp-IsTotalOrder uid_cmp-IsAntisymmetric e.uid b).0 same) (all_parents es b a) c
 
--- ---- one entity is put into the map
-
-pub put_at : (b : Bool) (v : Vec EntityUid Global) (ps : List EntityUid) (o : Option (Vec EntityUid Global)) → v.items ≡ ps → items_in (cond b (Some v) o) ≡ (if b then Some ps else items_in o)
-put_at true v ps o is = ap Some is
-put_at false v ps o is = refl
-
 -- ---- one more entity behind others
 
-not_first : (b : Bool) (ps : List EntityUid) (o : Option (List EntityUid)) → (if b then Some ps else o) ≡ None → (b ≡ false) × (o ≡ None)
-not_first true ps o h = absurd (cc)
-not_first false ps o h = (refl, h)
+not_first : (b : Bool) (x : EntityData) (o : Option EntityData) → (if b then Some x else o) ≡ None → (b ≡ false) × (o ≡ None)
+not_first true x o h = absurd (cc)
+not_first false x o h = (refl, h)
 
 true_false : {G : Type 0} (b : Bool) → b ≡ true → b ≡ false → G
 true_false b yes' no' = let e : true ≡ false = sym yes' ∙ no' in absurd (cc)
@@ -57,72 +53,65 @@ other x e q same apart = elim (cases_Bool (is_same e q)) [
   | inr n ↦ n
 ]
 
-later : (b c : Bool) (xs es : List EntityUid) (o n : Option (List EntityUid)) → (b ≡ true → c ≡ false) → (b ≡ false → n ≡ (if c then Some es else o)) →
-    (if b then Some xs else n) ≡ (if c then Some es else (if b then Some xs else o))
-later true c xs es o n apart behind = rw (apart refl) refl
-later false c xs es o n apart behind = behind refl
+later : (b c : Bool) (x e : EntityData) (o n : Option EntityData) → (b ≡ true → c ≡ false) → (b ≡ false → n ≡ (if c then Some e else o)) →
+    (if b then Some x else n) ≡ (if c then Some e else (if b then Some x else o))
+later true c x e o n apart behind = rw (apart refl) refl
+later false c x e o n apart behind = behind refl
 
 stated_more : (es : List BareEntity) (e : BareEntity) (q : EntityUid) → stated_at es e.uid ≡ None →
-    stated_at (es ++ e ∷ []) q ≡ (if is_same e.uid q then Some e.parents else stated_at es q)
+    stated_at (es ++ e ∷ []) q ≡ (if is_same e.uid q then Some (data_of e) else stated_at es q)
 stated_more [] e q none = refl
 stated_more (x ∷ es) e q none =
-    let parts = not_first (is_same x.uid e.uid) x.parents (stated_at es e.uid) none in
-    later (is_same x.uid q) (is_same e.uid q) x.parents e.parents (stated_at es q) (stated_at (es ++ e ∷ []) q)
+    let parts = not_first (is_same x.uid e.uid) (data_of x) (stated_at es e.uid) none in
+    later (is_same x.uid q) (is_same e.uid q) (data_of x) (data_of e) (stated_at es q) (stated_at (es ++ e ∷ []) q)
     (λ same. other x.uid e.uid q same parts.0) (λ apart. stated_more es e q parts.1)
 
-none_in : (o : Option (Vec EntityUid Global)) → is_some o ≡ false → items_in o ≡ None
+none_in : (o : Option EntityData) → is_some o ≡ false → o ≡ None
 none_in None h = refl
-none_in (Some v) h = absurd (cc)
+none_in (Some x) h = absurd (cc)
 
--- an entity that the map did not have is put behind those that it has
-pub holds_more : (old new : Edges) (es : List BareEntity) (e : BareEntity) → Puts old new e → is_some (get uid_cmp old e.uid) ≡ false → Holds old es → Holds new (es ++ e ∷ [])
-holds_more old new es e puts none held q =
-    puts q ∙ ap (λ (o : Option (List EntityUid)). if is_same e.uid q then Some e.parents else o) (held q)
-    ∙ sym (stated_more es e q (sym (held e.uid) ∙ none_in (get uid_cmp old e.uid) none))
+-- an entity that the store did not have is put behind those that it has
+pub holds_more : (old new : Entries) (es : List BareEntity) (e : BareEntity) (kept : Entity) → kept.uid ≡ e.uid → kept.attrs ≡ [] → kept.parents ≡ e.parents
+    → Puts (kept_in old) (kept_in new) kept → is_some (kept_in old e.uid) ≡ false → Holds old es → Holds new (es ++ e ∷ [])
+holds_more old new es e kept uid attrs parents puts none held q =
+    let same : data_in kept ≡ data_of e = λ i. record { attrs = attrs i; parents = parents i } in
+    puts q ∙ ap (λ (u : EntityUid). if is_same u q then Some (data_in kept) else kept_in old q) uid
+    ∙ ap (λ (x : EntityData). if is_same e.uid q then Some x else kept_in old q) same
+    ∙ ap (λ (o : Option EntityData). if is_same e.uid q then Some (data_of e) else o) (held q)
+    ∙ sym (stated_more es e q (sym (held e.uid) ∙ none_in (kept_in old e.uid) none))
 
 -- ---- the store
 
-some_in : (o : Option (Vec EntityUid Global)) → is_some (items_in o) ≡ is_some o
-some_in None = refl
-some_in (Some v) = refl
-
-some_if : (b r : Bool) (ps : List EntityUid) (o : Option (List EntityUid)) → is_some o ≡ r → is_some (if b then Some ps else o) ≡ (b || r)
-some_if true r ps o h = refl
-some_if false r ps o h = h
+some_if : (b r : Bool) (x : EntityData) (o : Option EntityData) → is_some o ≡ r → is_some (if b then Some x else o) ≡ (b || r)
+some_if true r x o h = refl
+some_if false r x o h = h
 
 some_stated : (es : List BareEntity) (q : EntityUid) → is_some (stated_at es q) ≡ list_any (λ e. is_same e.uid q) es
 some_stated [] q = refl
-some_stated (e ∷ es) q = some_if (is_same e.uid q) (list_any (λ x. is_same x.uid q) es) e.parents (stated_at es q) (some_stated es q)
+some_stated (e ∷ es) q = some_if (is_same e.uid q) (list_any (λ x. is_same x.uid q) es) (data_of e) (stated_at es q) (some_stated es q)
 
--- the map has exactly the entities' uids
-pub has_stated : (edges : Edges) (es : List BareEntity) → Holds edges es → (q : EntityUid) → is_some (get uid_cmp edges q) ≡ list_any (λ e. is_same e.uid q) es
-has_stated edges es held q = sym (some_in (get uid_cmp edges q)) ∙ ap is_some (held q) ∙ some_stated es q
+-- the store has exactly the entities' uids
+pub has_stated : (store : Entries) (es : List BareEntity) → Holds store es → (q : EntityUid) → is_some (kept_in store q) ≡ list_any (λ e. is_same e.uid q) es
+has_stated store es held q = ap is_some (held q) ∙ some_stated es q
 
-abbrev or_none : Option (List EntityUid) → List EntityUid
-or_none None = []
-or_none (Some ps) = ps
+abbrev bare_if : Bool → Option (List Field)
+bare_if b = if b then Some [] else None
 
-or_none_in : (o : Option (Vec EntityUid Global)) → or_none (items_in o) ≡ items_or_none o
-or_none_in None = refl
-or_none_in (Some v) = refl
+attributes_if : (b r : Bool) (e : BareEntity) (o : Option EntityData) → attributes_of o ≡ bare_if r → attributes_of (if b then Some (data_of e) else o) ≡ bare_if (b || r)
+attributes_if true r e o h = refl
+attributes_if false r e o h = h
 
-or_if : (b : Bool) (ps qs : List EntityUid) (o : Option (List EntityUid)) → or_none o ≡ qs → or_none (if b then Some ps else o) ≡ (if b then ps else qs)
-or_if true ps qs o h = refl
-or_if false ps qs o h = h
+attributes_stated : (es : List BareEntity) (q : EntityUid) → attributes_of (stated_at es q) ≡ stored_in es q
+attributes_stated [] q = refl
+attributes_stated (e ∷ es) q = attributes_if (is_same e.uid q) (list_any (λ x. is_same x.uid q) es) e (stated_at es q) (attributes_stated es q)
 
-or_stated : (es : List BareEntity) (q : EntityUid) → or_none (stated_at es q) ≡ parents_in es q
-or_stated [] q = refl
-or_stated (e ∷ es) q = or_if (is_same e.uid q) e.parents (parents_in es q) (stated_at es q) (or_stated es q)
+parents_if : (b : Bool) (e : BareEntity) (qs : List EntityUid) (o : Option EntityData) → parents_of o ≡ qs → parents_of (if b then Some (data_of e) else o) ≡ (if b then e.parents else qs)
+parents_if true e qs o h = refl
+parents_if false e qs o h = h
 
-parents_same : (edges : Edges) (es : List BareEntity) → Holds edges es → (q : EntityUid) → parents_of edges q ≡ parents_in es q
-parents_same edges es held q = sym (or_none_in (get uid_cmp edges q)) ∙ ap or_none (held q) ∙ or_stated es q
+parents_stated : (es : List BareEntity) (q : EntityUid) → parents_of (stated_at es q) ≡ parents_in es q
+parents_stated [] q = refl
+parents_stated (e ∷ es) q = parents_if (is_same e.uid q) e (parents_in es q) (stated_at es q) (parents_stated es q)
 
-stored_same : (s : BareStore) (es : List BareEntity) → Holds s.edges es → s.nothing ≡ [] → (q : EntityUid) → attributes_in s q ≡ stored_in es q
-stored_same s es held nothing q =
-    ap (λ (b : Bool). if b then Some s.nothing else None) (has_stated s.edges es held q)
-    ∙ ap (λ (fs : List Field). if list_any (λ e. is_same e.uid q) es then Some fs else None) nothing
-
-pub held_world : (s : BareStore) (edges : Edges) (es : List BareEntity) → s.edges ≡ edges → s.nothing ≡ [] → Holds edges es → world_held s ≡ world_in es
-held_world s edges es same nothing held =
-    let own = subst (λ (m : Edges). Holds m es) (sym same) held in
-    λ i. world_of (λ q. stored_same s es own nothing q i) (λ q. parents_same s.edges es own q i)
+pub held_world : (store : Entries) (es : List BareEntity) → Holds store es → world_held store ≡ world_in es
+held_world store es held = λ i. world_of (λ q. (ap attributes_of (held q) ∙ attributes_stated es q) i) (λ q. (ap parents_of (held q) ∙ parents_stated es q) i)

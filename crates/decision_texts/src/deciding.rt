@@ -1,4 +1,5 @@
 ghost use Rattle.std.specs.Prelude.{◌≡◌, map, string_bytes, IfOk, IfErr};
+ghost use Rattle.authoriser.specs.Answers.{IsAnswer};
 ghost use Rattle.authoriser.specs.Views.{named};
 ghost use Rattle.decision_texts.specs.Refusals.{no_memory};
 ghost use Rattle.decision_texts.specs.Decisions.{named_policies, IsInOrder, IsDecided, IsRefused};
@@ -9,8 +10,8 @@ use crate::lines::answer_line;
 use crate::policies::{read_policies, refusal_by};
 use crate::refusal::Refusal;
 use crate::request::read_request;
-use crate::store::BareStore;
 use authoriser::{Answer, decide};
+use entity_store::{EntityStore, World};
 use plain::NoMemory;
 use policy_grammar::Policy;
 use std::alloc::Global;
@@ -44,11 +45,24 @@ fn in_order<'p>(
     Ok(refs)
 }
 
-/// The answer to a request over these policies and entities.
+/// The answer to a request over these policies and entities; no schema is at hand.
+fn answer_over(
+    alloc: Global,
+    policies: &[(&str, &Policy)],
+    store: &EntityStore,
+    request: &Request,
+) -> Result<Answer, NoMemory>
+    ensures { IfOk result (IsAnswer (world_held store.now) request.now (named policies.now)) }
+{
+    let world = World::new(alloc, store, None);
+    decide(alloc, policies, request, &world)
+}
+
+/// The answer to a request over these policies, tried in the order of their names, and these entities.
 fn answer_to(
     alloc: Global,
     policies: &[(String, Policy)],
-    store: &BareStore,
+    store: &EntityStore,
     request: &Request,
 ) -> Result<Answer, NoMemory>
     ensures { IfOk result (IsAnswerIn
@@ -56,14 +70,14 @@ fn answer_to(
         (world_held store.now) request.now) }
 {
     let ordered = in_order(alloc, policies)?;
-    decide(alloc, &ordered, request, store)
+    answer_over(alloc, &ordered, store, request)
 }
 
 /// The line of the answer to a request over these policies and entities.
 fn line_to(
     alloc: Global,
     policies: &[(String, Policy)],
-    store: &BareStore,
+    store: &EntityStore,
     request: &Request,
 ) -> Result<Vec<u8>, NoMemory>
     ensures { IfOk result (λ line. IsLineIn

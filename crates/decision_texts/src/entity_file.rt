@@ -9,12 +9,12 @@ ghost use Rattle.decision_texts.specs.inner.Stores.{GivesStore};
 
 use crate::bare::{BareEntity, ShapeFault, read_entity};
 use crate::refusal::Refusal;
-use crate::store::{BareStore, put};
-use ancestor_closure::graph::Edges;
+use crate::store::without_attributes;
+use entity_store::EntityStore;
 use json_words::read_json;
 use serde_json::Value;
 use std::alloc::Global;
-use std::collections::{BTreeMap, VecDeque};
+use std::collections::VecDeque;
 
 /// A fault of shape as a refusal at a place.
 pub(crate) fn refusal_at(place: Option<usize>, fault: ShapeFault) -> Refusal
@@ -37,12 +37,12 @@ fn read_entity_at(alloc: Global, value: &Value, place: usize) -> Result<BareEnti
 }
 
 /// The entities of an array, each the only one of its uid. The JSON of each is given up before the next is read.
-fn read_array(alloc: Global, values: Vec<Value>) -> Result<BareStore, Refusal>
+fn read_array(alloc: Global, values: Vec<Value>) -> Result<EntityStore, Refusal>
     ensures { GivesStore result (entities_in (items_view values.items)) }
 {
     let count = values.len();
     let mut rest = VecDeque::from_vec(values);
-    let mut edges: Edges = BTreeMap::new(alloc);
+    let mut store = EntityStore::new(alloc);
     for place in 0..count {
         let Some(value) = rest.pop_front() else {
             unreachable!();
@@ -50,11 +50,11 @@ fn read_array(alloc: Global, values: Vec<Value>) -> Result<BareStore, Refusal>
         let read = read_entity_at(alloc, &value, place);
         drop(value);
         let entity = read?;
-        if !put(&mut edges, entity)? {
+        if !store.put(without_attributes(alloc, entity))? {
             return Err(Refusal::bad_shape(Some(place)));
         }
     }
-    Ok(BareStore::of(alloc, edges))
+    Ok(store)
 }
 
 /// The items of an array.
@@ -69,7 +69,7 @@ fn into_array(value: Value) -> Option<Vec<Value>>
 
 /// The entities of a file.
 #[tactic(auto, unfolding(crate::specs::Bare::entities_of))]
-pub(crate) fn read_entities(alloc: Global, text: &[u8]) -> Result<BareStore, Refusal>
+pub(crate) fn read_entities(alloc: Global, text: &[u8]) -> Result<EntityStore, Refusal>
     ensures { GivesStore result (entities_of text.now) }
 {
     let Some(value) = read_json(alloc, text)? else {

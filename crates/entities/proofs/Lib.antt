@@ -2,4 +2,5 @@ mod CanonicalLemmas
 mod EntityLemmas
 mod ParentLemmas
 mod RequestLemmas
+mod RequestOrRefusal
 mod UidSetLemmas

@@ -1,5 +1,5 @@
 -- Laws of entities and requests under a schema.
-use Rattle.std.specs.Prelude.{◌≡◌, ◌↔◌, ◌≤◌, List, Contains, Ok}
+use Rattle.std.specs.Prelude.{◌≡◌, ◌↔◌, ◌⊎◌, ◌≤◌, List, Contains, Ok}
 use Rattle.serde_json.specs.Data.{Data, depth}
 use Rattle.serde_json.specs.Read.{max_depth}
 use Rattle.values.specs.declared.entity_uid.EntityUid.{EntityUid}
@@ -55,3 +55,8 @@ NotBoth = (s : StatedSchema) (d : Data) (q : Request) (f : EntityFault) → Stat
 -- and it is refused for one fault at most
 abbrev pub OneRefusal : Type 0
 OneRefusal = (s : StatedSchema) (d : Data) (f g : EntityFault) → RequestRefused s d f → RequestRefused s d g → f ≡ g
+
+-- so each value states exactly one request, or is refused for exactly one fault
+abbrev pub RequestOrRefusal : Type 0
+RequestOrRefusal = (s : StatedSchema) (d : Data) → ((q : Request) × StatesRequest s d q)
+    ⊎ ((f : EntityFault) × RequestRefused s d f)

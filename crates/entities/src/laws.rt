@@ -1,8 +1,9 @@
 // Laws of the definitions; the functions do nothing.
 ghost use Rattle.entities.specs.Laws.{CanonicalIsRead, CanonicalNests, CanonicalIsOne, ParentsAscend};
 ghost use Rattle.entities.specs.Laws.{SetsHoldTheirMembers};
-ghost use Rattle.entities.specs.Laws.{OneRequest, NotBoth, OneRefusal};
+ghost use Rattle.entities.specs.Laws.{OneRequest, NotBoth, OneRefusal, RequestOrRefusal};
 
+use policy_grammar::texts_have_one_reading;
 use typed_values::records_are_read_again;
 use uid_json::names_read_back;
 
@@ -19,11 +20,13 @@ pub fn entities_read_back()
     records_are_read_again();
 }
 
-/// That a value states one request at most, or is refused for one fault at most, and never both.
+/// That a value states exactly one request or is refused for exactly one fault, and never both.
 pub fn requests_have_one_outcome()
     ensures one_request { OneRequest }
     ensures not_both { NotBoth }
     ensures one_refusal { OneRefusal }
+    ensures some { RequestOrRefusal }
 {
     names_read_back();
+    texts_have_one_reading();
 }

@@ -31,7 +31,7 @@ use Rattle.extensions.specs.TextsDecided.{decimal_text_decided, network_text_dec
 use Rattle.evaluator.specs.Outcomes.{Outcome, Tells, boolean_in, long_in, text_in, entity_in, members_in, fields_in, decimal_in, network_in}
 use Rattle.evaluator.specs.Operators as rule
 use Rattle.evaluator.specs.Operators.{World, IsIn, UnaryGives, BinaryGives, FieldGives, HasGives, UnaryCallGives, BinaryCallGives, NumbersGive, TakesNumbers, TakesSets, IsTested, TakesAddress, AreCompared, TakesDecimals}
-use Rattle.evaluator.specs.inner.Computing.{Entities, entities_of, and_then, demanded, truth, bounded, apply_unary, is_in, in_members, in_value, numbers, sets, apply_binary, found_or, attribute, field_of, has_attribute, has_field, decimal_read, network_read, is_v4, tested, apply_unary_call, decimals, networks, apply_binary_call}
+use Rattle.evaluator.specs.inner.Computing.{Entities, entities_of, and_then, demanded, two_demanded, truth, bounded, apply_unary, is_in, in_members, in_value, numbers, sets, apply_binary, found_or, attribute, field_of, has_attribute, has_field, decimal_read, network_read, is_v4, tested, apply_unary_call, decimals, networks, apply_binary_call}
 use Rattle.evaluator.proofs.ByKind.{boolean_cases, long_cases, text_cases, entity_cases, members_cases, decimal_cases, network_cases}
 use Rattle.evaluator.proofs.Telling.{told_iff, tells_test, test_is, int_lt_iff, int_le_iff, comes_bounded, bounded_is, value_eq_iff, v4_iff, v6_iff, any_iff, all_iff, is_in_iff}
 
@@ -61,6 +61,15 @@ others_are : {A B : Type 0} (f : A → B → Outcome) (o : Option A) (p : Option
 others_are f None p h = refl
 others_are f (Some x) p (inl e) = absurd (cc)
 others_are f (Some x) p (inr e) = ap (λ q. and_then (demanded q) (f x)) e
+
+-- both are asked for, and then what they hold is gone on with
+two_others : {A B : Type 0} (f : A × B → Outcome) (R : Outcome → Type 0) (o : Option A) (p : Option B) → (o ≡ None) ⊎ (p ≡ None) → R (Err TypeError) → R (and_then (two_demanded o p) f)
+two_others f R None p h r = r
+two_others f R (Some x) p (inl e) r = absurd (cc)
+two_others f R (Some x) p (inr e) r = subst (λ q. R (and_then (two_demanded (Some x) q) f)) (sym e) r
+
+two_others_are : {A B : Type 0} (f : A × B → Outcome) (o : Option A) (p : Option B) → (o ≡ None) ⊎ (p ≡ None) → and_then (two_demanded o p) f ≡ Err TypeError
+two_others_are f o p h = two_others f (λ r. r ≡ Err TypeError) o p h refl
 
 -- ---- one operand
 
@@ -164,8 +173,8 @@ decimals_exist : (called : BinaryCall) (f : ℤ → ℤ → Bool) → TakesDecim
     (v w : PlainValue) → BinaryCallGives called v w (decimals f v w)
 decimals_exist called f takes h v w = decimal_cases (λ v. BinaryCallGives called v w (decimals f v w))
     (λ x. decimal_cases (λ w. BinaryCallGives called (decimal x) w (decimals f (decimal x) w)) (h x)
-    (λ w e. other (λ y. truth (f x y)) (BinaryCallGives called (decimal x) w) (decimal_in w) e (rule.no_decimals takes (inr e))) w)
-    (λ v e. other (λ x. and_then (demanded (decimal_in w)) (λ y. truth (f x y))) (BinaryCallGives called v w) (decimal_in v) e (rule.no_decimals takes (inl e))) v
+    (λ w e. two_others (λ p. truth (f p.0 p.1)) (BinaryCallGives called (decimal x) w) (Some x) (decimal_in w) (inr e) (rule.no_decimals takes (inr e))) w)
+    (λ v e. two_others (λ p. truth (f p.0 p.1)) (BinaryCallGives called v w) (decimal_in v) (decimal_in w) (inl e) (rule.no_decimals takes (inl e))) v
 
 networks_exist : (v w : PlainValue) → BinaryCallGives two.IsInRange v w (networks (λ m n. told (within_decided m n)) v w)
 networks_exist v w = network_cases (λ v. BinaryCallGives two.IsInRange v w (networks (λ m n. told (within_decided m n)) v w))
@@ -182,10 +191,10 @@ binary_call_exists two.GreaterThanOrEqual v w = decimals_exist two.GreaterThanOr
 binary_call_exists two.IsInRange v w = networks_exist v w
 
 no_decimals_are : (called : BinaryCall) (v w : PlainValue) → TakesDecimals called → (decimal_in v ≡ None) ⊎ (decimal_in w ≡ None) → apply_binary_call called v w ≡ Err TypeError
-no_decimals_are two.LessThan v w takes h = others_are (λ x y. truth (int_lt x y)) (decimal_in v) (decimal_in w) h
-no_decimals_are two.LessThanOrEqual v w takes h = others_are (λ x y. truth (int_le x y)) (decimal_in v) (decimal_in w) h
-no_decimals_are two.GreaterThan v w takes h = others_are (λ x y. truth (int_lt y x)) (decimal_in v) (decimal_in w) h
-no_decimals_are two.GreaterThanOrEqual v w takes h = others_are (λ x y. truth (int_le y x)) (decimal_in v) (decimal_in w) h
+no_decimals_are two.LessThan v w takes h = two_others_are (λ p. truth (int_lt p.0 p.1)) (decimal_in v) (decimal_in w) h
+no_decimals_are two.LessThanOrEqual v w takes h = two_others_are (λ p. truth (int_le p.0 p.1)) (decimal_in v) (decimal_in w) h
+no_decimals_are two.GreaterThan v w takes h = two_others_are (λ p. truth (int_lt p.1 p.0)) (decimal_in v) (decimal_in w) h
+no_decimals_are two.GreaterThanOrEqual v w takes h = two_others_are (λ p. truth (int_le p.1 p.0)) (decimal_in v) (decimal_in w) h
 no_decimals_are two.IsInRange v w takes h = absurd takes
 
 of_decimals_is : (called : BinaryCall) → TakesDecimals called → (x y : ℤ) (r : Outcome) → Tells (AreCompared called x y) r → apply_binary_call called (decimal x) (decimal y) ≡ r
@@ -270,8 +279,8 @@ module _ (W : World) (above : EntityUid → EntityUid → Bool) (D : Decides W.p
   numbers_exist : (op : Binary) (f : ℤ → ℤ → Outcome) → TakesNumbers op → ((x y : ℤ) → BinaryGives W op (long x) (long y) (f x y)) → (v w : PlainValue) → BinaryGives W op v w (numbers f v w)
   numbers_exist op f takes h v w = long_cases (λ v. BinaryGives W op v w (numbers f v w))
       (λ x. long_cases (λ w. BinaryGives W op (long x) w (numbers f (long x) w)) (h x)
-      (λ w e. other (λ y. f x y) (BinaryGives W op (long x) w) (long_in w) e (rule.no_numbers takes (inr e))) w)
-      (λ v e. other (λ x. and_then (demanded (long_in w)) (λ y. f x y)) (BinaryGives W op v w) (long_in v) e (rule.no_numbers takes (inl e))) v
+      (λ w e. two_others (λ p. f p.0 p.1) (BinaryGives W op (long x) w) (Some x) (long_in w) (inr e) (rule.no_numbers takes (inr e))) w)
+      (λ v e. two_others (λ p. f p.0 p.1) (BinaryGives W op v w) (long_in v) (long_in w) (inl e) (rule.no_numbers takes (inl e))) v
 
   sets_exist : (op : Binary) (f : List PlainValue → List PlainValue → Bool) → TakesSets op → ((vs ws : PlainValues) → BinaryGives W op (set vs) (set ws) (truth (f (list_of vs) (list_of ws)))) → (v w : PlainValue) → BinaryGives W op v w (sets f v w)
   sets_exist op f takes h v w = members_cases (λ v. BinaryGives W op v w (sets f v w))
@@ -297,11 +306,11 @@ module _ (W : World) (above : EntityUid → EntityUid → Bool) (D : Decides W.p
       (λ vs ws. rule.contains_any (tells_test (list_any (has_member (list_of vs)) (list_of ws)) (any_iff (has_member (list_of vs)) (λ u. Contains (list_of vs) u) (L.told (list_of vs)) (list_of ws)))) v w
 
   no_numbers_are : (op : Binary) (v w : PlainValue) → TakesNumbers op → (long_in v ≡ None) ⊎ (long_in w ≡ None) → apply_binary E op v w ≡ Err TypeError
-  no_numbers_are ops.Less v w takes h = others_are (λ x y. truth (int_lt x y)) (long_in v) (long_in w) h
-  no_numbers_are ops.LessOrEqual v w takes h = others_are (λ x y. truth (int_le x y)) (long_in v) (long_in w) h
-  no_numbers_are ops.Add v w takes h = others_are (λ x y. bounded (x +ℤ y)) (long_in v) (long_in w) h
-  no_numbers_are ops.Subtract v w takes h = others_are (λ x y. bounded (x -ℤ y)) (long_in v) (long_in w) h
-  no_numbers_are ops.Multiply v w takes h = others_are (λ x y. bounded (x *ℤ y)) (long_in v) (long_in w) h
+  no_numbers_are ops.Less v w takes h = two_others_are (λ p. truth (int_lt p.0 p.1)) (long_in v) (long_in w) h
+  no_numbers_are ops.LessOrEqual v w takes h = two_others_are (λ p. truth (int_le p.0 p.1)) (long_in v) (long_in w) h
+  no_numbers_are ops.Add v w takes h = two_others_are (λ p. bounded (p.0 +ℤ p.1)) (long_in v) (long_in w) h
+  no_numbers_are ops.Subtract v w takes h = two_others_are (λ p. bounded (p.0 -ℤ p.1)) (long_in v) (long_in w) h
+  no_numbers_are ops.Multiply v w takes h = two_others_are (λ p. bounded (p.0 *ℤ p.1)) (long_in v) (long_in w) h
   no_numbers_are op v w takes h = absurd takes
 
   of_numbers_is : (op : Binary) (x y : ℤ) (r : Outcome) → NumbersGive op x y r → apply_binary E op (long x) (long y) ≡ r

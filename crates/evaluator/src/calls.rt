@@ -5,11 +5,11 @@ ghost use Rattle.extensions.specs.Decided.{told};
 ghost use Rattle.extensions.specs.TextsDecided.{decimal_text_decided, network_text_decided, in_either_decided};
 ghost use Rattle.extensions.specs.TextsDecided.{within_decided};
 ghost use Rattle.evaluator.specs.inner.Computing.{decimal_read, network_read, is_v4, apply_unary_call};
-ghost use Rattle.evaluator.specs.inner.Computing.{apply_binary_call};
+ghost use Rattle.evaluator.specs.inner.Computing.{apply_binary_call, and_then, truth};
 
 use crate::fault::EvalFault;
 use crate::given::Given;
-use crate::operands::{decimal_of, network_of, text_of};
+use crate::operands::{decimals_of, network_of, text_of};
 use expressions::{BinaryCall, UnaryCall};
 use extensions::decimal::one_decimal_a_text;
 use extensions::ip_net::one_network_a_text;
@@ -68,16 +68,33 @@ fn is_within(a: IpNet, b: IpNet) -> bool
     a.is_in_range(&b)
 }
 
-fn is_less(a: Decimal, b: Decimal) -> bool
-    ensures { result ≡ int_lt a b }
+/// Whether the first of two decimals is less; an error stays.
+fn less(numbers: Result<(Decimal, Decimal), EvalFault>) -> Result<Value, EvalFault>
+    ensures { result ≡ and_then numbers (λ p. truth (int_lt p.0 p.1)) }
 {
-    a.less_than(&b)
+    let (a, b) = numbers?;
+    Ok(Value::boolean(a.less_than(&b)))
 }
 
-fn is_less_or_equal(a: Decimal, b: Decimal) -> bool
-    ensures { result ≡ int_le a b }
+fn less_or_equal(numbers: Result<(Decimal, Decimal), EvalFault>) -> Result<Value, EvalFault>
+    ensures { result ≡ and_then numbers (λ p. truth (int_le p.0 p.1)) }
 {
-    a.less_or_equal(&b)
+    let (a, b) = numbers?;
+    Ok(Value::boolean(a.less_or_equal(&b)))
+}
+
+fn greater(numbers: Result<(Decimal, Decimal), EvalFault>) -> Result<Value, EvalFault>
+    ensures { result ≡ and_then numbers (λ p. truth (int_lt p.1 p.0)) }
+{
+    let (a, b) = numbers?;
+    Ok(Value::boolean(b.less_than(&a)))
+}
+
+fn greater_or_equal(numbers: Result<(Decimal, Decimal), EvalFault>) -> Result<Value, EvalFault>
+    ensures { result ≡ and_then numbers (λ p. truth (int_le p.1 p.0)) }
+{
+    let (a, b) = numbers?;
+    Ok(Value::boolean(b.less_or_equal(&a)))
 }
 
 /// What a call with one operand gives on a value.
@@ -103,18 +120,10 @@ pub(crate) fn binary_call(
     ensures { result ≡ apply_binary_call called a.now b.now }
 {
     match called {
-        BinaryCall::LessThan => Ok(Value::boolean(is_less(decimal_of(a)?, decimal_of(b)?))),
-        BinaryCall::LessThanOrEqual => {
-            Ok(Value::boolean(is_less_or_equal(decimal_of(a)?, decimal_of(b)?)))
-        }
-        BinaryCall::GreaterThan => {
-            let a = decimal_of(a)?;
-            Ok(Value::boolean(is_less(decimal_of(b)?, a)))
-        }
-        BinaryCall::GreaterThanOrEqual => {
-            let a = decimal_of(a)?;
-            Ok(Value::boolean(is_less_or_equal(decimal_of(b)?, a)))
-        }
+        BinaryCall::LessThan => less(decimals_of(a, b)),
+        BinaryCall::LessThanOrEqual => less_or_equal(decimals_of(a, b)),
+        BinaryCall::GreaterThan => greater(decimals_of(a, b)),
+        BinaryCall::GreaterThanOrEqual => greater_or_equal(decimals_of(a, b)),
         BinaryCall::IsInRange => Ok(Value::boolean(is_within(network_of(a)?, network_of(b)?))),
     }
 }

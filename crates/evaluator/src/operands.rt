@@ -1,7 +1,7 @@
 // What of a value is asked for: what it holds, if it is of that kind.
 ghost use Rattle.std.specs.Prelude.{◌≡◌, MatchResult, Ok, Err};
 ghost use Rattle.evaluator.specs.Outcomes.{boolean_in, long_in, text_in, entity_in, members_in, decimal_in, network_in};
-ghost use Rattle.evaluator.specs.inner.Computing.{demanded};
+ghost use Rattle.evaluator.specs.inner.Computing.{demanded, two_demanded};
 
 use crate::fault::EvalFault;
 use crate::given::Given;
@@ -82,4 +82,20 @@ pub(crate) fn network_of(given: &Given<'_>) -> Result<IpNet, EvalFault>
         BorrowedKind::IpAddr(network) => Ok(network),
         _ => Err(EvalFault::TypeError),
     }
+}
+
+/// Both values as numbers; one step of the caller for two that may fail.
+pub(crate) fn longs_of(a: &Given<'_>, b: &Given<'_>) -> Result<(i64, i64), EvalFault>
+    ensures { result ≡ two_demanded (long_in a.now) (long_in b.now) }
+{
+    let first = long_of(a)?;
+    Ok((first, long_of(b)?))
+}
+
+/// Both values as decimals.
+pub(crate) fn decimals_of(a: &Given<'_>, b: &Given<'_>) -> Result<(Decimal, Decimal), EvalFault>
+    ensures { result ≡ two_demanded (decimal_in a.now) (decimal_in b.now) }
+{
+    let first = decimal_of(a)?;
+    Ok((first, decimal_of(b)?))
 }

@@ -1,17 +1,20 @@
 // What operators give on values.
-ghost use Rattle.std.specs.Prelude.{◌≡◌, ◌⊎◌, ◌↔◌, IsTrue, Contains, IfOk, MatchResult, Ok, Err};
+ghost use Rattle.std.specs.Prelude.{◌≡◌, ◌⊎◌, ◌↔◌, ◌+ℤ◌, ◌-ℤ◌, ◌*ℤ◌, int_lt, int_le, IsTrue, Contains, IfOk};
+ghost use Rattle.std.specs.Prelude.{MatchResult, Ok, Err};
+ghost use Rattle.std.specs.List.{list_all, list_any};
 ghost use Rattle.values.specs.ValueOrder.{value_cmp};
 ghost use Rattle.values.specs.Sets.{has_member};
 ghost use Rattle.ancestor_closure.specs.Hierarchy.{IsAscending, names};
 ghost use Rattle.evaluator.specs.Outcomes.{entity_in};
 ghost use Rattle.evaluator.specs.inner.Computing.{entities_of, demanded, Answers, number_or_fault, apply_unary};
-ghost use Rattle.evaluator.specs.inner.Computing.{apply_binary, is_in, in_members, in_value};
+ghost use Rattle.evaluator.specs.inner.Computing.{apply_binary, is_in, in_members, in_value, and_then, truth, bounded};
+ghost use Rattle.evaluator.specs.inner.Computing.{sets};
 
 use crate::fault::EvalFault;
 use crate::given::Given;
 use crate::kinds::BorrowedKind;
 use crate::lookup::Lookup;
-use crate::operands::{boolean_of, entity_of, long_of, set_of, text_of};
+use crate::operands::{boolean_of, entity_of, long_of, longs_of, set_of, text_of};
 use ancestor_closure::is_among;
 use expressions::{Binary, Unary};
 use plain::NoMemory;
@@ -40,6 +43,42 @@ fn number(found: Option<i64>) -> Result<Value, EvalFault>
         Some(number) => Ok(Value::long(number)),
         None => Err(EvalFault::ArithBoundsError),
     }
+}
+
+/// Whether the first of two numbers is less; an error stays.
+fn less(numbers: Result<(i64, i64), EvalFault>) -> Result<Value, EvalFault>
+    ensures { result ≡ and_then numbers (λ p. truth (int_lt p.0 p.1)) }
+{
+    let (a, b) = numbers?;
+    Ok(Value::boolean(a < b))
+}
+
+fn less_or_equal(numbers: Result<(i64, i64), EvalFault>) -> Result<Value, EvalFault>
+    ensures { result ≡ and_then numbers (λ p. truth (int_le p.0 p.1)) }
+{
+    let (a, b) = numbers?;
+    Ok(Value::boolean(a <= b))
+}
+
+fn sum(numbers: Result<(i64, i64), EvalFault>) -> Result<Value, EvalFault>
+    ensures { result ≡ and_then numbers (λ p. bounded (p.0 +ℤ p.1)) }
+{
+    let (a, b) = numbers?;
+    number(a.checked_add(b))
+}
+
+fn difference(numbers: Result<(i64, i64), EvalFault>) -> Result<Value, EvalFault>
+    ensures { result ≡ and_then numbers (λ p. bounded (p.0 -ℤ p.1)) }
+{
+    let (a, b) = numbers?;
+    number(a.checked_sub(b))
+}
+
+fn product(numbers: Result<(i64, i64), EvalFault>) -> Result<Value, EvalFault>
+    ensures { result ≡ and_then numbers (λ p. bounded (p.0 *ℤ p.1)) }
+{
+    let (a, b) = numbers?;
+    number(a.checked_mul(b))
 }
 
 /// Whether `a` is `b` or below it.
@@ -116,6 +155,20 @@ fn is_member(members: &Set, given: &Given<'_>) -> bool
         .is_ok()
 }
 
+/// Whether each member of the second set is one of the first.
+fn contains_all(a: &Given<'_>, b: &Given<'_>) -> Result<Value, EvalFault>
+    ensures { result ≡ sets (λ x y. list_all (has_member x) y) a.now b.now }
+{
+    Ok(Value::boolean(set_of(a)?.contains_all(set_of(b)?)))
+}
+
+/// Whether some member of the second set is one of the first.
+fn contains_any(a: &Given<'_>, b: &Given<'_>) -> Result<Value, EvalFault>
+    ensures { result ≡ sets (λ x y. list_any (has_member x) y) a.now b.now }
+{
+    Ok(Value::boolean(set_of(a)?.contains_any(set_of(b)?)))
+}
+
 /// What an operator gives on two values.
 pub(crate) fn binary<L: Lookup>(
     store: &L,
@@ -129,13 +182,13 @@ pub(crate) fn binary<L: Lookup>(
     match operator {
         Binary::Equal => Ok(Value::boolean(a.compare(b).is_eq())),
         Binary::In => in_value(store, entity_of(a)?, b),
-        Binary::Less => Ok(Value::boolean(long_of(a)? < long_of(b)?)),
-        Binary::LessOrEqual => Ok(Value::boolean(long_of(a)? <= long_of(b)?)),
-        Binary::Add => number(long_of(a)?.checked_add(long_of(b)?)),
-        Binary::Subtract => number(long_of(a)?.checked_sub(long_of(b)?)),
-        Binary::Multiply => number(long_of(a)?.checked_mul(long_of(b)?)),
+        Binary::Less => less(longs_of(a, b)),
+        Binary::LessOrEqual => less_or_equal(longs_of(a, b)),
+        Binary::Add => sum(longs_of(a, b)),
+        Binary::Subtract => difference(longs_of(a, b)),
+        Binary::Multiply => product(longs_of(a, b)),
         Binary::Contains => Ok(Value::boolean(is_member(set_of(a)?, b))),
-        Binary::ContainsAll => Ok(Value::boolean(set_of(a)?.contains_all(set_of(b)?))),
-        Binary::ContainsAny => Ok(Value::boolean(set_of(a)?.contains_any(set_of(b)?))),
+        Binary::ContainsAll => contains_all(a, b),
+        Binary::ContainsAny => contains_any(a, b),
     }
 }

@@ -1,8 +1,8 @@
 -- What the program's service answers (a rule of this program).
 use Rattle.std.specs.Prelude.{◌≡◌, ℕ, ◌+◌, ◌-◌, ◌^◌, ◌⊎◌, min, List, [], ◌∷◌}
 use Rattle.http_rows.specs.declared.serving.Counter.{Counter}
-use Rattle.http_streams.specs.declared.status.Status.{Status}
-use Rattle.http_streams.specs.declared.status.Status.TheVariants as Statuses
+use Rattle.http_texts.specs.declared.status.Status.{Status}
+use Rattle.http_texts.specs.declared.status.Status.TheVariants as Statuses
 
 -- the body, or the target where there is none
 abbrev pub said : List ℕ → List ℕ → List ℕ

@@ -1,8 +1,9 @@
 //! Rows of replies that are fetched.
 use crate::texts::shown;
-use http_streams::devices::{Sink, Source};
-use http_streams::fetch::{Ask, FetchFault, fetch};
-use http_streams::memory::{Fed, Kept, Plan};
+use counted_devices::devices::{Sink, Source};
+use counted_devices::memory::{Fed, Kept, Plan};
+use http_streams::fetch::{FetchFault, fetch};
+use http_texts::request::Ask;
 use std::alloc::{AllocError, Global};
 
 /// What came of a fetch.

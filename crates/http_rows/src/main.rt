@@ -33,7 +33,7 @@ mod texts;
 use crate::fetching::{asked, broken, far, fetched_all};
 use crate::serving::{Counter, faults, left, many, reply, scarce, served, slow, unread, whole};
 use crate::texts::bytes_of;
-use http_streams::devices::Counted;
+use counted_devices::devices::Counted;
 use http_streams::serve::serve;
 use std::alloc::{AllocError, Global};
 use std::env;

@@ -4,12 +4,12 @@ ghost use Rattle.http_streams.specs.Laws.{AgreeOn, AnswersAll, HasOneAnswer, in_
 ghost use Rattle.http_rows.specs.Counts.{asked_alike, counts};
 
 use crate::texts::shown;
-use http_streams::devices::{Sink, Source};
+use counted_devices::devices::{Sink, Source};
+use counted_devices::memory::{Fed, Kept, Plan};
 use http_streams::laws::one_answer;
-use http_streams::memory::{Fed, Kept, Plan};
 use http_streams::serve::{StreamFault, serve};
 use http_streams::service::Service;
-use http_streams::status::Status;
+use http_texts::status::Status;
 use std::alloc::{AllocError, Global};
 
 /// Answers each request by its body, or by its target where it has none. It counts them, and how often memory was

@@ -1,45 +1,12 @@
 -- What was answered of a stream stays answered when more comes, and each part follows the one before.
 use Rattle.std.proofs.Common.{◌≡◌, ℕ, zero, suc, Bool, false, List, [], ◌++◌, drop, refl, sym, ap, ◌∙◌, subst, append_assoc, append-nil}
-use Rattle.httparse.specs.Grammar.{RequestHead}
-use Rattle.httparse.proofs.GrammarLemmas.{ReadsRequest-append}
 use Rattle.httparse.specs.Spans.{span_bytes}
-use Rattle.http_streams.specs.Devices.{FailsAtLast, HasFailed}
-use Rattle.http_streams.specs.Replies.{reply_text}
-use Rattle.http_streams.specs.Request.{Admits, IsUnfinished, IsWholeAt, ReadsWhole}
-use Rattle.http_streams.specs.declared.cut.Parts.{Parts}
-use Rattle.http_streams.specs.declared.status.Status.{Status}
+use Rattle.http_texts.specs.ReplyText.{reply_text}
+use Rattle.http_framing.specs.Request.{IsUnfinished, IsWholeAt}
+use Rattle.http_framing.proofs.OneRequest.{ReadsWhole-append}
+use Rattle.http_framing.specs.declared.cut.Parts.{Parts}
+use Rattle.http_texts.specs.declared.status.Status.{Status}
 use Rattle.http_streams.specs.Stream.{Answering, Closes, Ends, Exchanges, Halts, Rests, Serves, Stops}
-
--- the last call failed, where it is the last of some calls, and none before these did
-pub FailsAtLast-from : {D : Type 0} (failed : D → ℕ) (fails : D → D → Type 0) {old mid new : D} → failed mid ≡ failed old
-    → FailsAtLast failed fails mid new → FailsAtLast failed fails old new
-FailsAtLast-from failed fails {new = new} same x = record {
-  between = x.between;
-  before = x.before ∙ same;
-  call = x.call;
-  told = subst (λ (n : ℕ). HasFailed n (failed new)) same x.told;
-}
-
--- one call failed
-pub FailsAtLast-now : {D : Type 0} (failed : D → ℕ) (fails : D → D → Type 0) {old mid new : D} → failed mid ≡ failed old
-    → fails mid new → HasFailed (failed mid) (failed new) → FailsAtLast failed fails old new
-FailsAtLast-now failed fails {mid = mid} {new = new} same x told = record {
-  between = mid;
-  before = same;
-  call = x;
-  told = subst (λ (n : ℕ). HasFailed n (failed new)) same told;
-}
-
-pub Admits-append : {bytes rest : List ℕ} {h : RequestHead} → Admits bytes h rest → (more : List ℕ) → Admits (bytes ++ more) h (rest ++ more)
-Admits-append {bytes} {rest} {h} a more =
-    record { reads = ReadsRequest-append bytes h rest more a.reads; short = a.short; few = a.few }
-
-ReadsWhole-append : {bytes body rest : List ℕ} {h : RequestHead} → ReadsWhole bytes h body rest → (more : List ℕ)
-    → ReadsWhole (bytes ++ more) h body (rest ++ more)
-ReadsWhole-append {bytes} {body} {rest} {h} w more = record {
-  head = subst (λ (t : List ℕ). Admits (bytes ++ more) h t) (append_assoc body rest more) (Admits-append w.head more);
-  framed = w.framed;
-}
 
 module _ {S : Type 0} (answers : Answering S) where
   -- a whole request that was answered, with its reply

@@ -1,73 +1,17 @@
--- A stream has one reading: what stands at its front is one request, one refusal, or less than a request.
-use Rattle.std.proofs.Common.{◌≡◌, ℕ, zero, suc, ◌-◌, ◌<◌, ◌≤◌, ◌⊎◌, inl, inr, Bool, true, false, List, [], ◌∷◌, ◌++◌, length, drop, take, sym, ap, ◌∙◌, subst, arith, rules, append_assoc, append-nil, length-append}
+-- A stream of requests has one answer: its requests follow each other in one way, and each has one reply.
+use Rattle.std.proofs.Common.{◌≡◌, ℕ, zero, suc, ◌⊎◌, inl, inr, Bool, true, false, List, [], ◌++◌, sym, ap, ◌∙◌, subst, arith, append_assoc}
 use Rattle.std.proofs.lemmas.Bool.{false≢true}
-use Rattle.std.proofs.Math.Seq.{take-append_seam, drop-append_seam}
-use Rattle.httparse.specs.Grammar.{RequestHead, lf, print_request, ReadsRequest, NeverHasRequest, IsRequestHead, is_token_byte, is_uri_byte}
-use Rattle.std.specs.Prelude.{IsTrue}
-use Rattle.std.proofs.lemmas.List.Elements.{All-cons, All-nil}
-use Rattle.std.proofs.lemmas.Str.{IsUtf8-from_ascii}
-use Rattle.std.proofs.lemmas.Str.Ascii.{IsAscii-from_all}
-use Rattle.httparse.proofs.GrammarLemmas.{ReadsRequest-append, request_unique}
-use Rattle.http_streams.specs.declared.cut.Framing.TheVariants.{Body, Refused}
-use Rattle.http_streams.specs.Request.{Admits, HasNoAdmitted, ReadsWhole, RefusesHead, IsBadHead, IsTooLarge, IsRefused, IsCutOff, IsUnfinished, framing_of, closes_of}
-use Rattle.http_streams.specs.Replies.{reply_text, error_line}
-use Rattle.http_streams.specs.Status.{code}
-use Rattle.http_streams.specs.declared.status.Status.{Status}
-use Rattle.http_streams.specs.declared.status.Status.TheVariants.{BadRequest}
+use Rattle.httparse.specs.Grammar.{RequestHead}
+use Rattle.http_framing.specs.declared.cut.Framing.TheVariants.{Body, Refused}
+use Rattle.http_framing.specs.Request.{IsRefused, IsUnfinished, framing_of, closes_of}
+use Rattle.http_texts.specs.ReplyText.{reply_text, error_line}
+use Rattle.http_texts.specs.Status.{code}
+use Rattle.http_texts.specs.declared.status.Status.{Status}
+use Rattle.http_texts.specs.declared.status.Status.TheVariants.{BadRequest}
 use Rattle.http_streams.specs.Stream.{Answering, Closes, Ends, Exchanges, Refuses, Rests, Serves}
 use Rattle.http_streams.specs.Laws.{AgreeOn, AnswersAll, DiffersInCorner, HasOneAnswer, IsCorner}
-use Rattle.http_streams.proofs.CutLemmas.{length_head, short_front}
-use Rattle.http_streams.proofs.StreamLemmas.{Admits-append, Exchanges-append, Serves-append}
-
-admits_unique : {bytes : List ℕ} {h k : RequestHead} {r q : List ℕ} → Admits bytes h r → Admits bytes k q → (h ≡ k) × (r ≡ q)
-admits_unique {bytes} {h} {k} {r} {q} a b = request_unique bytes h k r q a.reads b.reads
-
--- one head is framed in one way
-whole_not_refused : {bytes body rest : List ℕ} {h : RequestHead} {status : Status} → ReadsWhole bytes h body rest → RefusesHead bytes status → ⊥
-whole_not_refused w r =
-    let same = admits_unique w.head r.admits in
-    let framed : Body _ ≡ Refused _ = sym w.framed ∙ ap framing_of same.0 ∙ r.framed in
-    cc
-
-whole_not_cut_off : {bytes body rest : List ℕ} {h : RequestHead} → ReadsWhole bytes h body rest → IsCutOff bytes → ⊥
-whole_not_cut_off {body = body} {rest = rest} w r =
-    let same = admits_unique w.head r.admits in
-    let framed : Body (length body) ≡ Body r.size = sym w.framed ∙ ap framing_of same.0 ∙ r.framed in
-    let size : length body ≡ r.size = cc in
-    omega (arith, r.short, size, ap length same.1, length-append body rest)
-
-whole_unique : {bytes body rest body2 rest2 : List ℕ} {h k : RequestHead} → ReadsWhole bytes h body rest → ReadsWhole bytes k body2 rest2
-    → (h ≡ k) × (body ≡ body2) × (rest ≡ rest2)
-whole_unique {body = body} {rest = rest} {body2 = body2} {rest2 = rest2} x y =
-    let same = admits_unique x.head y.head in
-    let framed : Body (length body) ≡ Body (length body2) = sym x.framed ∙ ap framing_of same.0 ∙ y.framed in
-    let size : length body ≡ length body2 = cc in
-    let split : body ++ rest ≡ body2 ++ rest2 = same.1 in
-    let front : body ≡ body2 = sym (take-append_seam body rest) ∙ ap (λ (n : ℕ). take n (body ++ rest)) size ∙ ap (take (length body2)) split ∙ take-append_seam body2 rest2 in
-    let back : rest ≡ rest2 = sym (drop-append_seam body rest) ∙ ap (λ (n : ℕ). drop n (body ++ rest)) size ∙ ap (drop (length body2)) split ∙ drop-append_seam body2 rest2 in
-    (same.0, front, back)
-
-nothing_read : (h : RequestHead) (rest : List ℕ) → ReadsRequest [] h rest → ⊥
-nothing_read h rest x = omega (arith, length_head h, ap length x.1, length-append (print_request h) rest)
-
-pub whole_not_unfinished : {bytes body rest : List ℕ} {h : RequestHead} → ReadsWhole bytes h body rest → IsUnfinished bytes → ⊥
-whole_not_unfinished w (inl cut) = whole_not_cut_off w cut
-whole_not_unfinished {body = body} {rest = rest} {h = h} w (inr part) = part.none h (body ++ rest) w.head.reads
-
-whole_not_bad : {bytes body rest : List ℕ} {h : RequestHead} → ReadsWhole bytes h body rest → IsBadHead bytes → ⊥
-whole_not_bad {body = body} {rest = rest} {h = h} w bad = bad.0 h (body ++ rest) w.head
-
-pub whole_or_refused : {bytes body rest : List ℕ} {h : RequestHead} {status : Status} → ReadsWhole bytes h body rest → IsRefused bytes status → ⊥
-whole_or_refused w r = elim r [ inl head ↦ whole_not_refused w head | inr bad ↦ whole_not_bad w bad.1 ]
-
-pub refused_unique : {bytes : List ℕ} (m n : Status) → IsRefused bytes m → IsRefused bytes n → m ≡ n
-refused_unique m n (inl x) (inl y) =
-    let same = admits_unique x.admits y.admits in
-    let framed : Refused m ≡ Refused n = sym x.framed ∙ ap framing_of same.0 ∙ y.framed in
-    cc
-refused_unique m n (inl x) (inr y) = absurd (y.1.0 x.head x.rest x.admits)
-refused_unique m n (inr x) (inl y) = absurd (x.1.0 y.head y.rest y.admits)
-refused_unique m n (inr x) (inr y) = x.0 ∙ sym y.0
+use Rattle.http_framing.proofs.OneRequest.{admits_unique, refused-append, refused_unique, whole_not_unfinished, whole_or_refused, whole_unique}
+use Rattle.http_streams.proofs.StreamLemmas.{Exchanges-append, Serves-append}
 
 refused_unfinished : (rest : List ℕ) (status : Status) → IsRefused rest status → IsUnfinished rest
     → IsCorner rest × (status ≡ BadRequest)
@@ -84,53 +28,6 @@ refused_unfinished rest status (inr (is, (none, inr never))) (inr part) =
       | inl goes_on ↦ absurd (never goes_on.0 goes_on.1 [] goes_on.2)
       | inr target ↦ (record { target = target; never = never; short = part.short }, is)
     ]
-
--- `G / HTTP/1.0` and an empty line
-abbrev sample : RequestHead
-sample = record { blank = []; method = 71 ∷ []; target = 47 ∷ []; minor = 0; line_end = lf; fields = []; last = lf }
-
-sample_is : IsRequestHead sample
-unfolding is_token_byte
-sample_is = record {
-  method = (omega arith, All-cons (λ (b : ℕ). IsTrue (is_token_byte b)) 71 [] (search rules) (All-nil _));
-  target = (omega arith, All-cons (λ (b : ℕ). IsTrue (is_uri_byte b)) 47 [] (search rules) (All-nil _));
-  target_text = IsUtf8-from_ascii (47 ∷ []) (IsAscii-from_all (47 ∷ []) (All-cons (λ (b : ℕ). b < 128) 47 [] (omega arith) (All-nil _)));
-  minor = omega arith;
-  fields = All-nil _;
-}
-
--- no bytes are less than a request
-pub nothing_unfinished : IsUnfinished []
-nothing_unfinished = inr (record {
-  none = nothing_read;
-  short = omega arith;
-  open_still = inl (print_request sample, sample, (sample_is, sym (append-nil (print_request sample))));
-})
-
--- ---- what is refused stays refused when more comes
-
-bad_none : (bytes more : List ℕ) → IsBadHead bytes → HasNoAdmitted (bytes ++ more)
-bad_none bytes more (none, inl (inl (h, r, reads, over))) k q a =
-    let same = request_unique (bytes ++ more) h k (r ++ more) q (ReadsRequest-append bytes h r more reads) a.reads in
-    let n : length h.fields ≡ length k.fields = ap (λ (t : RequestHead). length t.fields) same.0 in
-    omega (arith, a.few, over, n)
-bad_none bytes more (none, inl (inr long)) k q a =
-    let fits : length (print_request k) ≤ length bytes = omega (arith, a.short, long) in
-    let front = short_front (bytes ++ more) (length bytes) k q a.reads fits in
-    let reads = subst (λ (t : List ℕ). ReadsRequest t k (take (length bytes - length (print_request k)) q)) (take-append_seam bytes more) front in
-    none k _ (record { reads = reads; short = a.short; few = a.few })
-bad_none bytes more (none, inr never) k q a = never more k q a.reads
-
-bad_cause : (bytes more : List ℕ) → IsTooLarge bytes ⊎ NeverHasRequest bytes → IsTooLarge (bytes ++ more) ⊎ NeverHasRequest (bytes ++ more)
-bad_cause bytes more (inl (inl (h, r, reads, over))) = inl (inl (h, r ++ more, ReadsRequest-append bytes h r more reads, over))
-bad_cause bytes more (inl (inr long)) = inl (inr (omega (arith, long, length-append bytes more)))
-bad_cause bytes more (inr never) =
-    inr (λ x h rest reads. never (more ++ x) h rest (subst (λ (t : List ℕ). ReadsRequest t h rest) (append_assoc bytes more x) reads))
-
-refused-append : (bytes more : List ℕ) (status : Status) → IsRefused bytes status → IsRefused (bytes ++ more) status
-refused-append bytes more status (inl head) =
-    inl (record { head = head.head; rest = head.rest ++ more; admits = Admits-append head.admits more; framed = head.framed })
-refused-append bytes more status (inr (is, bad)) = inr (is, (bad_none bytes more bad, bad_cause bytes more bad.1))
 
 pub refuses-append : {S : Type 0} (answers : Answering S) (old new : S) (bytes out more : List ℕ) → Refuses answers old bytes out new
     → Refuses answers old (bytes ++ more) out new

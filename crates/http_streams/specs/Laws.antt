@@ -1,12 +1,11 @@
 -- Laws of the replies to a stream.
 use Rattle.std.specs.Prelude.{◌≡◌, ◌≢◌, ◌≤◌, ℕ, ◌⊎◌, Bool, List, [], ◌++◌, length, true}
 use Rattle.httparse.specs.Grammar.{EndsInTarget, NeverHasRequest}
-use Rattle.http_streams.specs.Fetch.{IsBadReply, IsUnfinishedReply, ReadsReply}
-use Rattle.http_streams.specs.Replies.{error_line, reply_text}
+use Rattle.http_texts.specs.ReplyText.{error_line, reply_text}
 use Rattle.http_streams.specs.Stream.{Answering, Ends, Exchanges, Rests, Serves, Stops}
-use Rattle.http_streams.specs.declared.TheConstants.{MAX_HEAD}
-use Rattle.http_streams.specs.declared.status.Status.{Status}
-use Rattle.http_streams.specs.declared.status.Status.TheVariants.{BadRequest, ServiceUnavailable}
+use Rattle.http_framing.specs.declared.TheConstants.{MAX_HEAD}
+use Rattle.http_texts.specs.declared.status.Status.{Status}
+use Rattle.http_texts.specs.declared.status.Status.TheVariants.{BadRequest, ServiceUnavailable}
 
 -- a rest on which a reader may answer either way: it ends inside a target that is no text
 pub record IsCorner (rest : List ℕ) : Type 0 where
@@ -72,23 +71,3 @@ pub record LacksMemory {S : Type 0} (answers : Answering S) (old : S) (stream ou
   pub back : List ℕ
   pub joined : out ≡ before ++ sent ++ back
   pub whole_or_last : (unsent ≡ []) ⊎ (back ≡ [])
-
--- ---- the reply at the front of a stream
-
--- some first bytes of the stream were read as this reply
-abbrev pub BeginsWithReply : List ℕ → ℕ → List ℕ → Type 0
-BeginsWithReply stream status body =
-    (front : List ℕ) × (after : List ℕ) × (rest : List ℕ) × (stream ≡ front ++ after)
-    × ReadsReply front status body rest
-
--- some first bytes of the stream were refused
-abbrev pub BeginsBadly : List ℕ → Type 0
-BeginsBadly stream = (front : List ℕ) × (after : List ℕ) × (stream ≡ front ++ after) × IsBadReply front
-
--- a stream has one reply at most, however it was cut, and is refused or ends too early only where it has none
-pub record HasOneReply (stream : List ℕ) : Type 0 where
-  pub replies :
-      (s t : ℕ) (a b : List ℕ) → BeginsWithReply stream s a → BeginsWithReply stream t b → (s ≡ t) × (a ≡ b)
-  pub not_bad : (s : ℕ) (a : List ℕ) → BeginsWithReply stream s a → BeginsBadly stream → ⊥
-  pub not_cut_off : (s : ℕ) (a : List ℕ) → BeginsWithReply stream s a → IsUnfinishedReply stream → ⊥
-  pub bad_or_cut_off : BeginsBadly stream → IsUnfinishedReply stream → ⊥

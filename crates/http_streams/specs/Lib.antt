@@ -1,10 +1,3 @@
-pub mod Devices
-pub mod Memory
-pub mod Status
-pub mod Replies
-pub mod Fields
-pub mod Request
+pub mod Reads
 pub mod Stream
-pub mod Fetch
 pub mod Laws
-pub mod inner

@@ -1,11 +1,11 @@
 -- The replies to a stream of requests (RFC 9112, sections 2.2, 6.3 and 9.3: one after the other, in order).
 use Rattle.std.specs.Prelude.{◌≡◌, ◌<◌, ℕ, suc, zero, ◌⊎◌, Bool, true, false, Option, List, [], ◌++◌, length}
 use Rattle.httparse.specs.Grammar.{RequestHead}
-use Rattle.http_streams.specs.Devices.{EndsByOneRead}
-use Rattle.http_streams.specs.Replies.{error_line, reply_text}
-use Rattle.http_streams.specs.Request.{ReadsWhole, IsRefused, IsUnfinished, closes_of}
-use Rattle.http_streams.specs.Status.{code}
-use Rattle.http_streams.specs.declared.status.Status.{Status}
+use Rattle.http_streams.specs.Reads.{EndsByOneRead}
+use Rattle.http_texts.specs.ReplyText.{error_line, reply_text}
+use Rattle.http_framing.specs.Request.{ReadsWhole, IsRefused, IsUnfinished, closes_of}
+use Rattle.http_texts.specs.Status.{code}
+use Rattle.http_texts.specs.declared.status.Status.{Status}
 
 -- in a state, a method, a target and a body may be answered by a status and a body, which leaves a state
 abbrev pub Answering : Type 0 → Type 1

@@ -1,13 +1,14 @@
 //! What is read and not yet answered.
-ghost use Rattle.std.specs.Prelude.{◌≡◌, ◌≤◌, ◌<◌, ◌++◌, ℕ, List, [], true, false, Err, take, drop, length, IfOk, OnOk};
+ghost use Rattle.std.specs.Prelude.{◌≡◌, ◌≤◌, ◌<◌, ◌++◌, ℕ, List, [], Err, drop, length, IfOk, OnOk};
 ghost use Rattle.std.specs.Prelude.{OnErr, IsTrue, IsFalse, vec_len, ◌+◌};
 ghost use Rattle.std.specs.Vec.{vec_capacity};
 ghost use Rattle.std.specs.Io.KnownBytes.{Consumes, IsAtEnd, Keeps};
-ghost use Rattle.http_streams.specs.Devices.{HasFailed};
+ghost use Rattle.counted_devices.specs.Devices.{HasFailed};
 
-use crate::devices::Source;
-use crate::reply::HEAD_ROOM;
-use crate::{MAX_FIELDS, MAX_HEAD, MAX_READ, REPLY_ROOM};
+use crate::{MAX_READ, REPLY_ROOM};
+use counted_devices::devices::Source;
+use http_framing::MAX_HEAD;
+use http_texts::reply::HEAD_ROOM;
 use httparse::spans::{EMPTY_HEADER_SPAN, HeaderSpan};
 use std::alloc::{AllocError, Global};
 
@@ -41,33 +42,6 @@ pub(crate) fn room_for_replies(alloc: Global) -> Result<Vec<u8>, AllocError>
     let mut text = Vec::with_capacity(alloc, HEAD_ROOM + REPLY_ROOM)?;
     text.resize(HEAD_ROOM, 0)?;
     Ok(text)
-}
-
-/// As much as a head may have.
-pub(crate) fn first_bytes(buf: &[u8]) -> &[u8]
-    ensures { result.now ≡ take MAX_HEAD buf.now }
-{
-    if buf.len() > MAX_HEAD {
-        &buf[..MAX_HEAD]
-    } else {
-        buf
-    }
-}
-
-/// Whether a head has more fields than it may.
-pub(crate) fn has_too_many(fields: usize) -> bool
-    ensures over { result ≡ true → MAX_FIELDS < fields }
-    ensures fits { result ≡ false → fields ≤ MAX_FIELDS }
-{
-    fields > MAX_FIELDS
-}
-
-/// Whether the `left` bytes behind a head are less than its body of this size.
-pub(crate) fn is_cut_off(left: usize, size: usize) -> bool
-    ensures cut { result ≡ true → left < size }
-    ensures whole { result ≡ false → size ≤ left }
-{
-    left < size
 }
 
 /// Takes the first `count` bytes away.

@@ -1,33 +1,20 @@
 //! Sends one request and reads its reply.
 ghost use Rattle.std.specs.Prelude.{◌≡◌, ◌≢◌, ◌≤◌, ◌<◌, ℕ, List, [], ◌++◌, Err, IfOk, OnOk, OnErr, length};
-ghost use Rattle.std.specs.Prelude.{map, take, slice_range, decimal, vec_len, All};
+ghost use Rattle.std.specs.Prelude.{slice_range, vec_len};
 ghost use Rattle.std.specs.Io.KnownBytes.{Appends, Consumes, IsAtEnd};
-ghost use Rattle.httparse.specs.Spans.{IsHeaderWithin, IsResponseOf, IsResponseWithin, header_bytes};
-ghost use Rattle.http_streams.specs.Devices.{EndsByOneRead, FailsAtLast};
-ghost use Rattle.http_streams.specs.inner.Cuts.{IsReplyAt, IsReplyCut};
-ghost use Rattle.http_streams.specs.Fetch.{IsBadReply, IsUnfinishedReply, ReadsReply, body_bytes};
-ghost use Rattle.http_streams.specs.Fetch.{length_field, reply_length, request_start, request_text};
+ghost use Rattle.counted_devices.specs.Devices.{FailsAtLast};
+ghost use Rattle.http_framing.specs.Reply.{IsBadReply, IsReplyAt, IsUnfinishedReply, ReadsReply};
+ghost use Rattle.http_texts.specs.RequestText.{request_text};
+ghost use Rattle.http_streams.specs.Reads.{EndsByOneRead};
 
-use crate::buffers::{
-    ReadFault, drop_front, first_bytes, has_too_many, is_cut_off, read_more, room_for_heads,
-    room_for_reads,
-};
-use crate::devices::{Sink, Source, write_all};
-use crate::fields::{Announced, Found, has_header, length_of, values_of};
-use crate::{MAX_FIELDS, MAX_HEAD, MAX_READ, MAX_REPLY};
-use httparse::Status as Parsed;
-use httparse::spans::{HeaderSpan, ResponseSpans, parse_response};
-use itoa::Buffer;
+use crate::MAX_READ;
+use crate::buffers::{ReadFault, drop_front, read_more, room_for_heads, room_for_reads};
+use counted_devices::devices::{Sink, Source, write_all};
+use http_framing::MAX_HEAD;
+use http_framing::reply_cut::{ReplyCut, ReplyParts, cut_reply};
+use http_texts::request::{Ask, request_text};
+use httparse::spans::HeaderSpan;
 use std::alloc::{AllocError, Global};
-
-/// A request.
-#[derive(Clone, Copy)]
-pub struct Ask<'a> {
-    pub method: &'a [u8],
-    pub host: &'a [u8],
-    pub path: &'a [u8],
-    pub body: Option<&'a [u8]>,
-}
 
 /// Why there is no reply.
 #[derive(Clone, Copy)]
@@ -42,24 +29,6 @@ pub enum FetchFault {
     Ended,
     /// Memory was refused.
     NoMemory,
-}
-
-/// Where the parts of a reply are.
-#[derive(Clone, Copy)]
-struct ReplyParts {
-    code: u16,
-    /// Where the body begins.
-    body: usize,
-    /// Where the body ends.
-    end: usize,
-}
-
-/// What stands at the front of some bytes.
-#[derive(Clone, Copy)]
-enum ReplyCut {
-    Whole(ReplyParts),
-    Bad,
-    Unfinished,
 }
 
 /// Writes one request, and reads the reply to it: its status and its body. What comes behind the reply is not judged.
@@ -136,62 +105,6 @@ enum SendFault {
     NoMemory,
 }
 
-/// The request's first line, up to the host.
-#[tactic(auto, unfolding(crate::specs::Fetch::request_start))]
-fn request_start(alloc: Global, ask: &Ask<'_>) -> Result<Vec<u8>, AllocError>
-    ensures { IfOk result (λ out. out.items ≡ request_start ask.now.method.now ask.now.path.now) }
-{
-    let mut out = Vec::from_slice(alloc, ask.method)?;
-    out.extend_from_slice(b" ")?;
-    out.extend_from_slice(ask.path)?;
-    out.extend_from_slice(b" HTTP/1.1\r\nHost: ")?;
-    Ok(out)
-}
-
-/// Appends the number's digits.
-fn push_number(out: &mut Vec<u8>, number: usize) -> Result<(), AllocError>
-    ensures { OnOk result (out.new.items ≡ out.old.items ++ decimal number) }
-{
-    out.extend_from_slice(Buffer::new().format(number).as_bytes())
-}
-
-/// Appends how long the body is, where there is one.
-#[tactic(auto, unfolding(crate::specs::Fetch::length_field))]
-fn push_length(out: &mut Vec<u8>, body: Option<&[u8]>) -> Result<(), AllocError>
-    ensures { OnOk result (out.new.items ≡ out.old.items ++ length_field body.entry) }
-{
-    let Some(bytes) = body else {
-        return Ok(());
-    };
-    out.extend_from_slice(b"\r\nContent-Length: ")?;
-    push_number(out, bytes.len())?;
-    Ok(())
-}
-
-/// Appends the body, where there is one.
-#[tactic(auto, unfolding(crate::specs::Fetch::body_bytes))]
-fn push_body(out: &mut Vec<u8>, body: Option<&[u8]>) -> Result<(), AllocError>
-    ensures { OnOk result (out.new.items ≡ out.old.items ++ body_bytes body.entry) }
-{
-    match body {
-        Some(bytes) => out.extend_from_slice(bytes),
-        None => Ok(()),
-    }
-}
-
-/// The whole request.
-#[tactic(auto, unfolding(crate::specs::Fetch::request_text))]
-fn request_text(alloc: Global, ask: &Ask<'_>) -> Result<Vec<u8>, AllocError>
-    ensures { IfOk result (λ out. out.items ≡ request_text ask.now) }
-{
-    let mut out = request_start(alloc, ask)?;
-    out.extend_from_slice(ask.host)?;
-    push_length(&mut out, ask.body)?;
-    out.extend_from_slice(b"\r\nConnection: close\r\n\r\n")?;
-    push_body(&mut out, ask.body)?;
-    Ok(out)
-}
-
 /// Writes the request, by one write where the writer takes it whole.
 fn send<W: Sink>(alloc: Global, writer: &mut W, ask: &Ask<'_>) -> Result<(), SendFault>
     ensures ok { OnOk result (Appends (W.holds writer.old) (W.holds writer.new) (request_text ask.now)) }
@@ -206,61 +119,6 @@ fn send<W: Sink>(alloc: Global, writer: &mut W, ask: &Ask<'_>) -> Result<(), Sen
     match write_all(writer, &text) {
         Ok(()) => Ok(()),
         Err(_) => Err(SendFault::Write),
-    }
-}
-
-/// How long the body of a reply is.
-fn length_at(buf: &[u8], headers: &[HeaderSpan]) -> Announced
-    requires { All (IsHeaderWithin (length buf.now)) headers.now }
-    ensures { result ≡ reply_length (map (header_bytes buf.now) headers.now) }
-{
-    if has_header(buf, headers, b"transfer-encoding") {
-        return Announced::NoNumber;
-    }
-    match values_of(buf, headers, b"content-length") {
-        Found::Once(text) => length_of(text, MAX_REPLY),
-        _ => Announced::NoNumber,
-    }
-}
-
-/// What stands at the front of `buf`, whose first bytes `seen` begin with the head.
-fn cut_reply_body(buf: &[u8], seen: &[u8], headers: &[HeaderSpan], head: &ResponseSpans) -> ReplyCut
-    requires seen { seen.now ≡ take MAX_HEAD buf.now }
-    requires few { length headers.now ≤ MAX_FIELDS }
-    requires count { length headers.now ≡ head.now.headers }
-    requires within { IsResponseWithin seen.now headers.now head.now }
-    requires complete { IsResponseOf seen.now headers.now head.now }
-    ensures { IsReplyCut buf.now result }
-{
-    let left = buf.len() - head.len;
-    match length_at(seen, headers) {
-        Announced::NoNumber => ReplyCut::Bad,
-        Announced::TooLong => ReplyCut::Bad,
-        Announced::Size(size) if is_cut_off(left, size) => ReplyCut::Unfinished,
-        Announced::Size(size) => ReplyCut::Whole(ReplyParts {
-            code: head.code,
-            body: head.len,
-            end: head.len + size,
-        }),
-    }
-}
-
-/// What stands at the front of `buf`. `room` has a header for each byte that a head may have.
-fn cut_reply(buf: &[u8], room: &mut [HeaderSpan]) -> ReplyCut
-    requires { MAX_HEAD ≤ length room.old }
-    ensures { IsReplyCut buf.now result }
-{
-    let seen = first_bytes(buf);
-    match parse_response(seen, room) {
-        Ok(Parsed::Complete(head)) => {
-            if has_too_many(head.headers) {
-                return ReplyCut::Bad;
-            }
-            cut_reply_body(buf, seen, &room[..head.headers], &head)
-        }
-        Ok(Parsed::Partial) if buf.len() <= MAX_HEAD => ReplyCut::Unfinished,
-        Ok(Parsed::Partial) => ReplyCut::Bad,
-        Err(_) => ReplyCut::Bad,
     }
 }
 

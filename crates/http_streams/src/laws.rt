@@ -1,6 +1,6 @@
 //! Laws of the replies to a stream.
 ghost use Rattle.std.specs.Prelude.{ℕ, List, ◌⊎◌, []};
-ghost use Rattle.http_streams.specs.Laws.{AgreeOn, AnswersAll, BeginsAnswer, HasOneAnswer, HasOneReply};
+ghost use Rattle.http_streams.specs.Laws.{AgreeOn, AnswersAll, BeginsAnswer, HasOneAnswer};
 ghost use Rattle.http_streams.specs.Laws.{LacksMemory, StopsIn, in_memory};
 
 use crate::service::Service;
@@ -32,10 +32,4 @@ pub fn in_memory_or_503<S: Service>()
     ensures broken { (old new : S) → (stream out : List ℕ) → StopsIn S.answers old stream out new
         → StopsIn (in_memory S.answers) old stream out new
         ⊎ ((unsent : List ℕ) × LacksMemory S.answers old stream out unsent) }
-{}
-
-/// What `fetch` tells of a stream doesn't depend on how the stream was cut into reads: there is one reply at most, and
-/// no reply where the stream is refused or ends too early; and it isn't refused where it ends too early.
-pub fn one_reply()
-    ensures { (stream : List ℕ) → HasOneReply stream }
 {}

@@ -3,22 +3,24 @@ ghost use Rattle.std.specs.Prelude.{◌≡◌, ◌≢◌, ◌≤◌, ◌<◌, �
 ghost use Rattle.std.specs.Prelude.{None, OnOk, OnErr, IfOk, IfSome, vec_len};
 ghost use Rattle.std.specs.Vec.{vec_capacity};
 ghost use Rattle.std.specs.Io.KnownBytes.{Appends, Consumes, IsAtEnd};
-ghost use Rattle.http_streams.specs.Devices.{EndsByOneRead, FailsAtLast};
-ghost use Rattle.http_streams.specs.declared.TheConstants.{REPLY_ROOM};
-ghost use Rattle.http_streams.specs.Replies.{error_line, reply_text};
-ghost use Rattle.http_streams.specs.Request.{IsUnfinished, IsWholeAt};
-ghost use Rattle.http_streams.specs.Status.{code};
+ghost use Rattle.counted_devices.specs.Devices.{FailsAtLast};
+ghost use Rattle.http_texts.specs.ReplyText.{error_line, reply_text};
+ghost use Rattle.http_framing.specs.Request.{IsUnfinished, IsWholeAt};
+ghost use Rattle.http_texts.specs.Status.{code};
+ghost use Rattle.http_streams.specs.Reads.{EndsByOneRead};
 ghost use Rattle.http_streams.specs.Stream.{Ends, Exchanges, Halts, KeepsUp, Rests, Serves, Stops};
+ghost use Rattle.http_streams.specs.declared.TheConstants.{REPLY_ROOM};
 
+use crate::MAX_READ;
 use crate::buffers::{
     ReadFault, drop_front, read_more, room_for_heads, room_for_reads, room_for_replies,
 };
-use crate::cut::{Cut, Parts, cut_request};
-use crate::devices::{DeviceFailed, Sink, Source, write_all};
-use crate::reply::{HEAD_ROOM, REFUSAL_ROOM, put_head, put_refusal};
 use crate::service::Service;
-use crate::status::Status;
-use crate::{MAX_HEAD, MAX_READ};
+use counted_devices::devices::{DeviceFailed, Sink, Source, write_all};
+use http_framing::MAX_HEAD;
+use http_framing::cut::{Cut, Parts, cut_request};
+use http_texts::reply::{HEAD_ROOM, REFUSAL_ROOM, put_head, put_refusal};
+use http_texts::status::Status;
 use httparse::spans::HeaderSpan;
 use std::alloc::{AllocError, Global};
 

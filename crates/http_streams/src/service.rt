@@ -2,9 +2,9 @@
 ghost use Rattle.std.specs.Prelude.{◌≡◌, ◌≤◌, ◌+◌, ℕ, List, ◌++◌, vec_len};
 ghost use Rattle.std.specs.Vec.{vec_capacity};
 ghost use Rattle.http_streams.specs.declared.TheConstants.{REPLY_ROOM};
-ghost use Rattle.http_streams.specs.declared.status.Status.{Status};
+ghost use Rattle.http_texts.specs.declared.status.Status.{Status};
 
-use crate::status::Status;
+use http_texts::status::Status;
 
 /// A state that answers requests.
 pub trait Service {

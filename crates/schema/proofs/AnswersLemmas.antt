@@ -1,9 +1,12 @@
 -- What was made answers as it is to.
 use Rattle.std.proofs.Common.{◌≡◌, ◌∙◌, ℕ, Bool, true, false, cond, List, [], ◌∷◌, map, Option, Some, None, refl, sym, ap, subst, inl, inr}
-use Rattle.std.specs.Prelude.{Contains, IsTrue, IsSome, ◌↔◌, option_map}
-use Rattle.std.specs.BTreeMap.{BTreeMap, get, keys, IsOrdered, is_at}
+use Rattle.std.specs.Prelude.{Contains, IsTrue, IsSome, ◌↔◌, ◌⊎◌, ◌&&◌, ◌||◌, ◌==◌, nat_lt, option_map}
+use Rattle.std.specs.BTreeMap.{BTreeMap, get, keys, IsOrdered}
 use Rattle.std.specs.BTreeSet.{BTreeSet}
-use Rattle.std.specs.Map.{keys_of, lookup}
+use Rattle.std.specs.Map.{keys_of}
+use Rattle.std.specs.List.{slice_get}
+use Rattle.std.proofs.lemmas.Option.{slice_get-map}
+use Rattle.std.proofs.lemmas.Bool.{ltb-true, lt-ltb, eqb-true, eq-eqb}
 use Rattle.std.specs.List.Sorted.{IsStrictlySortedBy}
 use Rattle.std.proofs.lemmas.Map.Views.{btree_map_contains_key_iff, btree_map_get_iff}
 use Rattle.values.specs.declared.entity_uid.EntityUid.{EntityUid}
@@ -23,12 +26,20 @@ use Rattle.sha2.specs.Sha256.{sha256}
 use Rattle.hex.specs.Hex.{encode_lower}
 use Rattle.schema_names.specs.Naming.{StatesNamed}
 use Rattle.schema.specs.Schemas.{EnvironmentOf, Answers, IsSound, IsSchemaOf, IsShape, IsAction, IsEnvironment, IsPlace, IsRecordOf, action_parents, type_parents, type_uid, place_cmp}
-use Rattle.schema.specs.Kept.{kept, entries_above}
-use Rattle.schema.specs.Views.{environment_view, is_among, is_above, schema_view}
-use Rattle.schema.specs.inner.Making.{shape_in, is_in, may_have_in, Places, AreShapes, ArePlaces, AreAncestors, AreTypesAbove, environment_of}
+use Rattle.schema.specs.Kept.{kept}
+use Rattle.schema.specs.Views as views
+use Rattle.schema.specs.Views.{environment_view, is_among, is_before, is_above, schema_view}
+use Rattle.schema.specs.declared.lines.Standing.{Standing}
+use Rattle.schema.specs.declared.lines.Lines.{Lines}
+use Rattle.schema.specs.inner.Lines.{is_in, stands_below, below_by, may_have_in, Before, StandsBelow, AreLines}
+use Rattle.schema.specs.inner.Making.{shape_in, Places, AreShapes, ArePlaces, AreAncestors, environment_of}
 use Rattle.schema.specs.inner.Reading.{AreTypesOf, AreHierarchiesOf}
 use Rattle.schema.proofs.PlaceLemmas.{place_cmp-IsTotalOrder, place_cmp-IsAntisymmetric}
 use Rattle.schema.proofs.HierarchyLemmas.{is_declared}
+
+and_both : (a b : Bool) → (a && b) ≡ true → (a ≡ true) × (b ≡ true)
+and_both true b h = (refl, h)
+and_both false b h = absurd cc
 
 some_of : {A : Type 0} (o : Option A) → IsSome o → (x : A) × (o ≡ Some x)
 some_of None h = absurd cc
@@ -89,22 +100,60 @@ module _ (s : FoundSchema) (ancestors : BTreeMap EntityUid (List EntityUid)) (ar
 
 -- ---- types above types
 
-module _ (s : FoundSchema) (above : BTreeMap (List ℕ) (BTreeSet (List ℕ))) (are : AreTypesAbove (type_parents s) s.entity_types above) where
-  parent_at : (child parent : List ℕ) (o : Option (BTreeSet (List ℕ))) → get text_cmp above child ≡ o
-      → IsTrue (is_in o parent) ↔ Above (type_parents s) (type_uid parent) (type_uid child)
+pub before_so : (o : Option Standing) (s : Standing) → is_before o s ≡ true → (t : Standing) × (o ≡ Some t) × Before t s
+before_so None s h = absurd cc
+before_so (Some t) s h =
+    let a = and_both (t.is_member && t.line == s.line) (nat_lt t.bound s.bound) h in
+    let b = and_both t.is_member (t.line == s.line) a.0 in
+    (t, refl, record { member = b.0; line = eqb-true t.line s.line b.1; bound = ltb-true t.bound s.bound a.1 })
+
+before_test : (t s : Standing) → Before t s → (t.is_member && t.line == s.line && nat_lt t.bound s.bound) ≡ true
+before_test t s h = rw (h.member, eq-eqb t.line s.line h.line, lt-ltb t.bound s.bound h.bound) refl
+
+before_is : (o : Option Standing) (s t : Standing) → o ≡ Some t → Before t s → is_before o s ≡ true
+before_is o s t e h = ap (λ (p : Option Standing). is_before p s) e ∙ before_test t s h
+
+or_cases : (a b : Bool) → (a || b) ≡ true → (a ≡ true) ⊎ (b ≡ true)
+or_cases true b h = inl refl
+or_cases false b h = inr h
+
+or_left : (a b : Bool) → a ≡ true → (a || b) ≡ true
+or_left true b h = refl
+or_left false b h = absurd cc
+
+or_right : (a b : Bool) → b ≡ true → (a || b) ≡ true
+or_right true b h = refl
+or_right false b h = h
+
+module _ (at : List ℕ → Option Standing) (beyond : List (BTreeSet (List ℕ))) (s : Standing) (n : List ℕ) where
+  below_so : stands_below at beyond s n ≡ true → StandsBelow at beyond s n
+  below_so h = elim (or_cases (is_before (at n) s) _ h) [
+    | inl b ↦ inl (before_so (at n) s b)
+    | inr k ↦ inr k
+  ]
+
+  below_is : StandsBelow at beyond s n → stands_below at beyond s n ≡ true
+  below_is (inl (t, e, b)) = or_left (is_before (at n) s) _ (before_is (at n) s t e b)
+  below_is (inr k) = or_right (is_before (at n) s) _ k
+
+module _ (s : FoundSchema) (l : Lines) (are : AreLines (type_parents s) s.entity_types l) where
+  parent_at : (child parent : List ℕ) (o : Option Standing) → get text_cmp l.standings child ≡ o
+      → IsTrue (below_by (get text_cmp l.standings) l.beyond.items o parent) ↔ Above (type_parents s) (type_uid parent) (type_uid child)
   parent_at child parent None e = (
     (λ h. cc),
     (λ h.
         let found = is_declared s.entity_types (type_uid child) (type_uid parent) h in
-        is_none (get text_cmp above child) e (are.all child (found.0, found.1, ap (λ (u : EntityUid). u.type_name) found.2))),
+        is_none (get text_cmp l.standings child) e
+        (subst (λ (n : List ℕ). IsSome (get text_cmp l.standings n)) (ap (λ (u : EntityUid). u.type_name) found.2) (are.all found.0 found.1))),
   )
-  parent_at child parent (Some names) e = elim (are.sound child names e) [
-    | inl m ↦ m.2.1 parent
-    | inr none ↦ not_none names none
-  ]
+  parent_at child parent (Some t) e =
+      let exact = are.keeps.exact child t e parent in (
+        (λ h. exact.0 (below_so (get text_cmp l.standings) l.beyond.items t parent h)),
+        (λ h. below_is (get text_cmp l.standings) l.beyond.items t parent (exact.1 h)),
+      )
 
-  pub parents_are : (child parent : List ℕ) → IsTrue (may_have_in above child parent) ↔ Above (type_parents s) (type_uid parent) (type_uid child)
-  parents_are child parent = parent_at child parent (get text_cmp above child) refl
+  pub parents_are : (child parent : List ℕ) → IsTrue (may_have_in l.standings l.beyond.items child parent) ↔ Above (type_parents s) (type_uid parent) (type_uid child)
+  parents_are child parent = parent_at child parent (get text_cmp l.standings child) refl
 
 -- ---- environments
 
@@ -143,21 +192,22 @@ among_keys : (o : Option (BTreeSet (List ℕ))) (n : List ℕ) → is_among (opt
 among_keys None n = refl
 among_keys (Some s) n = refl
 
-found_keys : (test : List ℕ → Bool) (es : List (List ℕ × BTreeSet (List ℕ))) → lookup test (entries_above es) ≡ option_map (λ s. s.keys) (lookup test es)
-found_keys test [] = refl
-found_keys test (e ∷ es) = by (test e.0) (found_keys test es)
-  where
-    by : (b : Bool) → lookup test (entries_above es) ≡ option_map (λ s. s.keys) (lookup test es) → cond b (Some e.1.keys) (lookup test (entries_above es)) ≡ option_map (λ s. s.keys) (cond b (Some e.1) (lookup test es))
-    by true more = refl
-    by false more = more
+among_at : (beyond : List (BTreeSet (List ℕ))) (i : ℕ) (n : List ℕ) → is_among (slice_get (map (λ s. s.keys) beyond) i) n ≡ is_in (slice_get beyond i) n
+among_at beyond i n = ap (λ (o : Option (List (List ℕ))). is_among o n) (slice_get-map (λ (s : BTreeSet (List ℕ)). s.keys) beyond i) ∙ among_keys (slice_get beyond i) n
 
-pub above_in : (above : BTreeMap (List ℕ) (BTreeSet (List ℕ))) (child parent : List ℕ) → is_above (entries_above above.entries) child parent ≡ may_have_in above child parent
-above_in above child parent = ap (λ (o : Option (List (List ℕ))). is_among o parent) (found_keys (is_at (text_cmp child)) above.entries) ∙ among_keys (get text_cmp above child) parent
+below_in : (standings : BTreeMap (List ℕ) Standing) (beyond : List (BTreeSet (List ℕ))) (o : Option Standing) (n : List ℕ)
+    → views.stands_below standings.entries (map (λ s. s.keys) beyond) o n ≡ below_by (get text_cmp standings) beyond o n
+below_in standings beyond None n = refl
+below_in standings beyond (Some s) n = ap (λ (b : Bool). is_before (get text_cmp standings n) s || b) (among_at beyond s.line n)
+
+pub above_in : (standings : BTreeMap (List ℕ) Standing) (beyond : List (BTreeSet (List ℕ))) (child parent : List ℕ)
+    → is_above standings.entries (map (λ s. s.keys) beyond) child parent ≡ may_have_in standings beyond child parent
+above_in standings beyond child parent = below_in standings beyond (get text_cmp standings child) parent
 
 -- ---- all together
 
 made_answers : (s : FoundSchema) (label : List ℕ) (t : Types) (h : Hierarchies) → AreTypesOf s.commons s t → AreHierarchiesOf s h
-    → Answers s (schema_view (kept label t.environments h.actions t.shapes h.ancestors h.above))
+    → Answers s (schema_view (kept label t.environments h.actions t.shapes h.ancestors h.lines.standings h.lines.beyond.items))
 made_answers s label t h types hierarchies = record {
   shapes = shape_found s t.shapes types.shapes;
   all_shapes = shape_there s t.shapes types.shapes;
@@ -165,7 +215,7 @@ made_answers s label t h types hierarchies = record {
   actions_ascend = subst (λ (us : List EntityUid). IsAscending us) (sym hierarchies.actions) hierarchies.ascending;
   ancestors = ancestors_found s h.ancestors hierarchies.ancestors;
   all_ancestors = ancestors_there s h.ancestors hierarchies.ancestors;
-  parents = λ child parent. subst (λ (b : Bool). IsTrue b ↔ Above (type_parents s) (type_uid parent) (type_uid child)) (sym (above_in h.above child parent)) (parents_are s h.above hierarchies.above child parent);
+  parents = λ child parent. subst (λ (b : Bool). IsTrue b ↔ Above (type_parents s) (type_uid parent) (type_uid child)) (sym (above_in h.lines.standings h.lines.beyond.items child parent)) (parents_are s h.lines hierarchies.lines child parent);
   environments = subst (λ (es : List Environment). (e : EnvironmentOf) → Contains (map environment_view es) e → IsEnvironment s e) (sym types.environments) (environments_are s types.places types.are types.ordered);
   all_environments = subst (λ (es : List Environment). (p : Place) → IsPlace s p → Contains (map (λ e. e.place) (map environment_view es)) p) (sym types.environments) (all_environments s types.places types.are types.ordered);
   environments_ascend = subst (λ (es : List Environment). IsStrictlySortedBy place_cmp (map (λ e. e.place) (map environment_view es))) (sym types.environments) (environments_ascend s types.places types.are types.ordered);
@@ -173,7 +223,7 @@ made_answers s label t h types hierarchies = record {
 
 -- what was made is the schema that the bytes state
 pub made_schema : (bytes : List ℕ) (s : FoundSchema) → StatesNamed bytes s → IsSound s → (label : List ℕ) → label ≡ encode_lower (sha256 bytes) → (t : Types) (h : Hierarchies)
-    → AreTypesOf s.commons s t → AreHierarchiesOf s h → IsSchemaOf bytes (schema_view (kept label t.environments h.actions t.shapes h.ancestors h.above))
+    → AreTypesOf s.commons s t → AreHierarchiesOf s h → IsSchemaOf bytes (schema_view (kept label t.environments h.actions t.shapes h.ancestors h.lines.standings h.lines.beyond.items))
 made_schema bytes s states sound label is t h types hierarchies = record {
   named = s;
   states = states;

@@ -58,7 +58,7 @@ last_is_type : (parents : Parents) → AreTypes parents → (b : EntityUid) (thr
 last_is_type parents are b [] a h = are b a h
 last_is_type parents are b (c ∷ cs) a h = last_is_type parents are c cs a h.1
 
-uid_from : (a : EntityUid) (n : List ℕ) → a.type_name ≡ n → a.id ≡ [] → a ≡ type_uid n
+pub uid_from : (a : EntityUid) (n : List ℕ) → a.type_name ≡ n → a.id ≡ [] → a ≡ type_uid n
 uid_from a n names ids i = record { type_name = names i; id = ids i }
 
 pub types_above : (parents : Parents) → AreTypes parents → (n : List ℕ) (us : List EntityUid) (s : BTreeSet (List ℕ))
@@ -102,6 +102,27 @@ is_declared es b a h =
       | inl found ↦ found
       | inr none ↦ Contains-none edge.0 none
     ]
+
+-- an edge is one that is stated
+edge_at : (e : FoundEntityType) (old : List EntityUid) (a : EntityUid) (b : Bool) → Contains (cond b (map type_uid e.parents) old) a → Contains (map type_uid e.parents) a ⊎ Contains old a
+edge_at e old a true h = inl h
+edge_at e old a false h = inr h
+
+edge_from : (parents : Parents) (es : List FoundEntityType) (u a : EntityUid) → Contains (with_types parents es u) a → ((e : FoundEntityType) × Contains es e × Contains (map type_uid e.parents) a) ⊎ Contains (parents u) a
+edge_from parents [] u a h = inr h
+edge_from parents (e ∷ es) u a h = elim (edge_from (with_parents parents (type_uid e.name) (map type_uid e.parents)) es u a h) [
+  | inl found ↦ inl (found.0, Contains-there e es found.0 found.1, found.2)
+  | inr before ↦ elim (edge_at e (parents u) a (is_eq (uid_cmp (type_uid e.name) u)) before) [
+    | inl here ↦ inl (e, Contains-here e es, here)
+    | inr older ↦ inr older
+  ]
+]
+
+pub type_edge : (es : List FoundEntityType) (u a : EntityUid) → Contains (with_types no_parents es u) a → (e : FoundEntityType) × Contains es e × Contains (map type_uid e.parents) a
+type_edge es u a h = elim (edge_from no_parents es u a h) [
+  | inl found ↦ found
+  | inr none ↦ Contains-none a none
+]
 
 -- one more type in a set
 pub or_step : (b c r whole : Bool) → (c || (b || r)) ≡ whole → (cond b true c || r) ≡ whole

@@ -3,6 +3,7 @@ mod BuiltLemmas
 mod FillingLemmas
 mod HierarchyLemmas
 mod InOrder
+mod LineLemmas
 mod OneSchemaLemmas
 mod OutcomeLemmas
 mod PlaceLemmas

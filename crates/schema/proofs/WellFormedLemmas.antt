@@ -1,21 +1,24 @@
 -- What holds of each schema that bytes state.
-use Rattle.std.proofs.Common.{◌≡◌, ℕ, arith, List, [], Option, Some, None, refl, sym, ap, subst, inl, inr}
+use Rattle.std.proofs.Common.{◌≡◌, ℕ, arith, List, [], ◌∷◌, Option, Some, None, refl, sym, ap, subst, inl, inr}
 use Rattle.std.specs.Prelude.{◌⊎◌, ◌<◌, Contains, IsTrue, IsSome, ◌↔◌}
 use Rattle.std.specs.List.Sorted.{IsStrictlySortedBy}
 use Rattle.values.specs.declared.entity_uid.EntityUid.{EntityUid}
-use Rattle.ancestor_closure.specs.Hierarchy.{Above, IsAscending}
+use Rattle.ancestor_closure.specs.Hierarchy.{Parents, Path, Above, IsAscending, no_parents}
 use Rattle.ancestor_closure.specs.Deciding.{Above-joined}
 use Rattle.schema_types.specs.Qualified.{Qualified}
 use Rattle.schema_types.specs.Cedar.{Cedar, CedarFields, record_of, no_fields, IsTooLarge}
-use Rattle.schema_types.specs.WrittenOut.{WrittenOut}
+use Rattle.schema_types.specs.WrittenOut.{Declares, WrittenOut}
 use Rattle.schema_types.specs.Ascending.{Ascend, KeysAscend}
 use Rattle.schema_types.specs.AscendingLaw.{WrittenTypesAscend}
-use Rattle.schema_types.specs.Law.{OneWritten}
+use Rattle.schema_types.specs.Law.{OneWritten, WrittenEntitiesAreNamed}
+use Rattle.schema_types.specs.Mentions.{MentionsEntity, NamesEntity}
 use Rattle.schema_names.specs.Qualifying.{FoundEntityType, FoundUse, FoundAction, FoundSchema}
 use Rattle.schema_names.specs.Naming.{StatesNamed}
 use Rattle.schema_names.specs.Laws as names
-use Rattle.schema_names.specs.Laws.{IsShapeOrContext, DeclaresOnce, TypesAscend}
-use Rattle.schema.specs.Schemas.{EnvironmentOf, StatedSchema, Answers, IsAction, IsRecordOf, IsSound, IsSchemaOf, shape_or_context, action_parents, type_parents, type_uid, place_cmp}
+use Rattle.schema_names.specs.Laws.{IsShapeOrContext, DeclaresOnce, TypesAscend, IsEntityType, NamesItsEntityTypes}
+use Rattle.schema.specs.Schemas.{EnvironmentOf, StatedSchema, Answers, IsAction, IsRecordOf, IsSound, IsSchemaOf, shape_or_context, action_parents, type_parents, type_uid, with_types, place_cmp}
+use Rattle.schema.proofs.AnswersLemmas.{contains_map}
+use Rattle.schema.proofs.HierarchyLemmas.{is_declared, type_edge}
 use Rattle.schema.specs.WellFormed.{AreAttributes, IsWellFormed, StatedSchemasAreWellFormed}
 
 none_ascend : Ascend []
@@ -42,8 +45,43 @@ is_some : {A : Type 0} (o : Option A) → IsSome o → (x : A) × (o ≡ Some x)
 is_some (Some x) h = (x, refl)
 is_some None h = absurd cc
 
+-- ---- which entity types are declared
+
+last_edge : (parents : Parents) (b : EntityUid) (through : List EntityUid) (a : EntityUid) → Path parents b through a → (u : EntityUid) × Contains (parents u) a
+last_edge parents b [] a h = (b, h)
+last_edge parents b (c ∷ cs) a h = last_edge parents c cs a h.1
+
+module _ (named : WrittenEntitiesAreNamed) (s : FoundSchema) (own : NamesItsEntityTypes s) where
+  names_none : (t : Cedar) → t ≡ record_of no_fields → (q : List ℕ) → NamesEntity t q → IsEntityType s q
+  names_none t e q h = absurd (subst (λ (x : Cedar). NamesEntity x q) e h)
+
+  from_named : (r : Qualified) (q : List ℕ) → IsShapeOrContext s r → MentionsEntity r q ⊎ ((p : List ℕ) × (x : Qualified) × Declares s.commons p x × MentionsEntity x q) → IsEntityType s q
+  from_named r q is (inl m) = own.records r is q m
+  from_named r q is (inr (p, x, d, m)) = own.commons p x d q m
+
+  names_declared : (o : Option Qualified) → ((r : Qualified) → o ≡ Some r → IsShapeOrContext s r) → (t : Cedar) → IsRecordOf s.commons o t → (q : List ℕ) → NamesEntity t q → IsEntityType s q
+  names_declared None here t e q h = names_none t e q h
+  names_declared (Some r) here t w q h = from_named r q (here r refl) (named s.commons r t w q h)
+
+  parent_declared : (e : FoundEntityType) (above : List ℕ) → Contains s.entity_types e → (x : List ℕ) × Contains e.parents x × (type_uid x ≡ type_uid above) → IsEntityType s above
+  parent_declared e above here (x, there, same) = subst (λ (q : List ℕ). IsEntityType s q) (ap (λ (u : EntityUid). u.type_name) same) (own.parents e here x there)
+
+  above_declared : (child above : List ℕ) → Above (type_parents s) (type_uid above) (type_uid child) → IsEntityType s above
+  above_declared child above h =
+      let edge = last_edge (type_parents s) (type_uid child) h.0 (type_uid above) h.1 in
+      let e = type_edge s.entity_types edge.0 (type_uid above) edge.1 in
+      parent_declared e.0 above e.1 (contains_map type_uid e.0.parents (type_uid above) e.2)
+
+  below_declared : (child above : List ℕ) → Above (type_parents s) (type_uid above) (type_uid child) → IsEntityType s child
+  below_declared child above h =
+      let e = is_declared s.entity_types (type_uid child) (type_uid above) h in
+      (e.0, e.1, ap (λ (u : EntityUid). u.type_name) e.2)
+
+-- ---- all of it
+
 module _ (one : OneWritten) (written : WrittenTypesAscend) (s : FoundSchema) (once : DeclaresOnce s) (ascend : TypesAscend s)
-    (records : (r : Qualified) → IsShapeOrContext s r → (t : Cedar) → WrittenOut s.commons r t → (fs : CedarFields) × (t ≡ record_of fs)) (sound : IsSound s) where
+    (records : (r : Qualified) → IsShapeOrContext s r → (t : Cedar) → WrittenOut s.commons r t → (fs : CedarFields) × (t ≡ record_of fs)) (sound : IsSound s)
+    (named : WrittenEntitiesAreNamed) (own : NamesItsEntityTypes s) where
   attributes : (o : Option Qualified) → ((r : Qualified) → o ≡ Some r → IsShapeOrContext s r) → (t : Cedar) → IsRecordOf s.commons o t → AreAttributes t
   attributes None here t e = no_attributes t e
   attributes (Some r) here t w =
@@ -58,6 +96,9 @@ module _ (one : OneWritten) (written : WrittenTypesAscend) (s : FoundSchema) (on
       }
 
   module _ (v : StatedSchema) (answers : Answers s v) where
+    there : (q : List ℕ) → IsEntityType s q → IsSome (v.shape q)
+    there q (e, here, name) = subst (λ (n : List ℕ). IsSome (v.shape n)) name (answers.all_shapes e here)
+
     well_formed : IsWellFormed v
     well_formed = record {
       shapes = λ n t e. let x = answers.shapes n t e in attributes x.0.shape (λ r is. inl (x.0, x.1, is)) t x.3;
@@ -72,8 +113,15 @@ module _ (one : OneWritten) (written : WrittenTypesAscend) (s : FoundSchema) (on
       no_cycle = λ u us e h. sound.no_cycle (u, ((answers.ancestors u us e).2 u).0 h);
       parents_join = λ child parent above h i.
           (answers.parents child above).1 (Above-joined (type_parents s) (type_uid child) (type_uid parent) (type_uid above) ((answers.parents child parent).0 h) ((answers.parents parent above).0 i));
+      shapes_name = λ n t e q h. let x = answers.shapes n t e in there q (names_declared named s own x.0.shape (λ r is. inl (x.0, x.1, is)) t x.3 q h);
+      contexts_name = λ e h q m. let x = answers.environments e h in
+          there q (names_declared named s own x.0.context (λ r is. inr (x.1.action, x.1.declared, (x.0, x.1.applies, is))) e.context x.2 q m);
+      principals = λ e h. let x = answers.environments e h in there e.place.principal (own.principals x.1.action x.0 x.1.declared x.1.applies e.place.principal x.1.principal);
+      resources = λ e h. let x = answers.environments e h in there e.place.resource (own.resources x.1.action x.0 x.1.declared x.1.applies e.place.resource x.1.resource);
+      children = λ child parent h. there child (below_declared named s own child parent ((answers.parents child parent).0 h));
+      parents = λ child parent h. there parent (above_declared named s own child parent ((answers.parents child parent).0 h));
     }
 
-pub stated_schemas_are_well_formed : OneWritten → WrittenTypesAscend → names.FilesDeclareOnce → names.FilesTypesAscend → names.ShapesAreRecords → StatedSchemasAreWellFormed
-stated_schemas_are_well_formed one written once ascend records bytes v is =
-    well_formed one written is.named (once bytes is.named is.states) (ascend bytes is.named is.states) (records bytes is.named is.states) is.sound v is.answers
+pub stated_schemas_are_well_formed : OneWritten → WrittenTypesAscend → names.FilesDeclareOnce → names.FilesTypesAscend → names.ShapesAreRecords → names.FilesNameTheirEntityTypes → WrittenEntitiesAreNamed → StatedSchemasAreWellFormed
+stated_schemas_are_well_formed one written once ascend records own named bytes v is =
+    well_formed one written is.named (once bytes is.named is.states) (ascend bytes is.named is.states) (records bytes is.named is.states) is.sound named (own bytes is.named is.states) v is.answers

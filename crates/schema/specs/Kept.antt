@@ -5,6 +5,7 @@ use Rattle.std.specs.BTreeSet.{BTreeSet}
 use Rattle.values.specs.declared.entity_uid.EntityUid.{EntityUid}
 use Rattle.schema.specs.declared.parts.Environment.{Environment}
 use Rattle.schema.specs.declared.parts.EntityDecl.{EntityDecl}
+use Rattle.schema.specs.declared.lines.Standing.{Standing}
 
 pub record Kept : Type 0 where
   pub label : List ℕ
@@ -14,20 +15,20 @@ pub record Kept : Type 0 where
   pub entity_types : List (List ℕ × EntityDecl)
   -- of each action those above it
   pub ancestors : List (EntityUid × List EntityUid)
-  -- of each entity type the types above it
-  pub above : List (List ℕ × List (List ℕ))
-
-abbrev pub entries_above : List (List ℕ × BTreeSet (List ℕ)) → List (List ℕ × List (List ℕ))
-entries_above es = map (λ e. (e.0, e.1.keys)) es
+  -- where each entity type stands: in which line, and behind how many of it
+  pub standings : List (List ℕ × Standing)
+  -- of each line the types above its first
+  pub beyond : List (List (List ℕ))
 
 -- what maps keep
 abbrev pub kept : List ℕ → List Environment → List EntityUid → BTreeMap (List ℕ) EntityDecl
-    → BTreeMap EntityUid (List EntityUid) → BTreeMap (List ℕ) (BTreeSet (List ℕ)) → Kept
-kept label environments actions shapes ancestors above = record {
+    → BTreeMap EntityUid (List EntityUid) → BTreeMap (List ℕ) Standing → List (BTreeSet (List ℕ)) → Kept
+kept label environments actions shapes ancestors standings beyond = record {
   label = label;
   environments = environments;
   actions = actions;
   entity_types = shapes.entries;
   ancestors = ancestors.entries;
-  above = entries_above above.entries;
+  standings = standings.entries;
+  beyond = map (λ s. s.keys) beyond;
 }

@@ -4,6 +4,7 @@ use Rattle.std.specs.List.Sorted.{IsStrictlySortedBy}
 use Rattle.values.specs.declared.entity_uid.EntityUid.{EntityUid}
 use Rattle.ancestor_closure.specs.Hierarchy.{IsAscending}
 use Rattle.schema_types.specs.Cedar.{Cedar, CedarFields, record_of, IsTooLarge}
+use Rattle.schema_types.specs.Mentions.{NamesEntity}
 use Rattle.schema_types.specs.Ascending.{KeysAscend}
 use Rattle.schema.specs.Schemas.{EnvironmentOf, StatedSchema, IsSchemaOf, place_cmp}
 
@@ -31,6 +32,15 @@ pub record IsWellFormed (v : StatedSchema) : Type 0 where
   -- what may be a parent of a parent may be one
   pub parents_join : (child parent above : List ℕ) → IsTrue (v.may_have_parent child parent)
       → IsTrue (v.may_have_parent parent above) → IsTrue (v.may_have_parent child above)
+  -- each entity type that is named is declared: in a shape or a context, as whose an environment is, in the hierarchy
+  pub shapes_name : (n : List ℕ) (t : Cedar) → v.shape n ≡ Some t → (q : List ℕ) → NamesEntity t q
+      → IsSome (v.shape q)
+  pub contexts_name : (e : EnvironmentOf) → Contains v.environments e → (q : List ℕ) → NamesEntity e.context q
+      → IsSome (v.shape q)
+  pub principals : (e : EnvironmentOf) → Contains v.environments e → IsSome (v.shape e.place.principal)
+  pub resources : (e : EnvironmentOf) → Contains v.environments e → IsSome (v.shape e.place.resource)
+  pub children : (child parent : List ℕ) → IsTrue (v.may_have_parent child parent) → IsSome (v.shape child)
+  pub parents : (child parent : List ℕ) → IsTrue (v.may_have_parent child parent) → IsSome (v.shape parent)
 
 abbrev pub StatedSchemasAreWellFormed : Type 0
 StatedSchemasAreWellFormed = (bytes : List ℕ) (v : StatedSchema) → IsSchemaOf bytes v → IsWellFormed v

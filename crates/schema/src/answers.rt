@@ -1,7 +1,12 @@
 //! What a schema answers.
 ghost use Rattle.std.specs.Prelude.{◌≡◌};
-ghost use Rattle.schema.specs.inner.Making.{may_have_in};
+ghost use Rattle.std.specs.List.{slice_get};
+ghost use Rattle.std.specs.BTreeMap.{get};
+ghost use Rattle.values.specs.Names.{text_cmp};
+ghost use Rattle.schema.specs.Views.{is_before};
+ghost use Rattle.schema.specs.inner.Lines.{is_in, may_have_in};
 
+use crate::lines::Standing;
 use crate::parts::{EntityDecl, Environment};
 use plain::{Items, Text};
 use std::collections::{BTreeMap, BTreeSet};
@@ -19,8 +24,10 @@ pub struct Schema {
     pub(crate) actions: Items<EntityUid>,
     pub(crate) shapes: BTreeMap<TypeName, EntityDecl>,
     pub(crate) ancestors: BTreeMap<EntityUid, Items<EntityUid>>,
-    /// The types above each type.
-    pub(crate) above: BTreeMap<TypeName, BTreeSet<TypeName>>,
+    /// Where each entity type stands among those above it.
+    pub(crate) standings: BTreeMap<TypeName, Standing>,
+    /// Of each line of types those above its first.
+    pub(crate) beyond: Vec<BTreeSet<TypeName>>,
 }
 
 impl Model for Schema {
@@ -33,9 +40,9 @@ impl Model for Schema {
 
     ghost coded = { Prim.hlevel (codes, cedar.the_row.coded) };
 
-    ghost view = { λ s. kept s.label s.environments s.actions s.shapes s.ancestors s.above };
+    ghost view = { λ s. kept s.label s.environments s.actions s.shapes s.ancestors s.standings s.beyond.items };
 
-    ghost invariant = { λ s. IsStated (kept s.label s.environments s.actions s.shapes s.ancestors s.above) };
+    ghost invariant = { λ s. IsStated (kept s.label s.environments s.actions s.shapes s.ancestors s.standings s.beyond.items) };
 }
 
 impl Schema {
@@ -86,7 +93,7 @@ impl Schema {
     pub fn may_have_parent(&self, child: &TypeName, parent: &TypeName) -> bool
         ensures { result ≡ (schema_view self.now).may_have_parent child.now parent.now }
     {
-        is_parent(&self.above, child, parent)
+        is_parent(&self.standings, self.beyond.as_slice(), child, parent)
     }
 
     /// The label: 64 lower case hexadecimal digits, SHA-256 of the bytes that were read.
@@ -97,16 +104,45 @@ impl Schema {
     }
 }
 
+/// Whether a type stands before another in its line.
+fn stands_before(
+    standings: &BTreeMap<TypeName, Standing>,
+    name: &TypeName,
+    standing: Standing,
+) -> bool
+    ensures { result ≡ is_before (get text_cmp standings.now name.now) standing }
+{
+    match standings.get(name) {
+        Some(found) => {
+            found.is_member && found.line == standing.line && found.bound < standing.bound
+        }
+        None => false,
+    }
+}
+
+/// Whether a type is beyond a line.
+fn is_beyond(beyond: &[BTreeSet<TypeName>], line: usize, name: &TypeName) -> bool
+    ensures { result ≡ is_in (slice_get beyond.now line) name.now }
+{
+    match beyond.get(line) {
+        Some(types) => types.contains(name),
+        None => false,
+    }
+}
+
 /// Whether the parent is one of the types above the child's.
 fn is_parent(
-    above: &BTreeMap<TypeName, BTreeSet<TypeName>>,
+    standings: &BTreeMap<TypeName, Standing>,
+    beyond: &[BTreeSet<TypeName>],
     child: &TypeName,
     parent: &TypeName,
 ) -> bool
-    ensures { result ≡ may_have_in above.now child.now parent.now }
+    ensures { result ≡ may_have_in standings.now beyond.now child.now parent.now }
 {
-    match above.get(child) {
-        Some(types) => types.contains(parent),
+    match standings.get(child) {
+        Some(standing) => {
+            stands_before(standings, parent, *standing) || is_beyond(beyond, standing.line, parent)
+        }
         None => false,
     }
 }

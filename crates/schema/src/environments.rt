@@ -3,8 +3,8 @@ ghost use Rattle.std.specs.Prelude.{◌≡◌, ◌≢◌, IfOk, OnOk, MatchResul
 ghost use Rattle.std.specs.BTreeMap.{IsOrdered};
 ghost use Rattle.schema_types.specs.QualifiedViews.{qualified_view};
 ghost use Rattle.schema_types.specs.WrittenOut.{Declarations};
-ghost use Rattle.schema_types.specs.Knowledge.{AreWritten};
-ghost use Rattle.schema_types.specs.TableViews.{knowledge};
+ghost use Rattle.written_types.specs.Knowledge.{AreWritten};
+ghost use Rattle.written_types.specs.TableViews.{knowledge};
 ghost use Rattle.schema_types.specs.declared.fault.SchemaFault.TheVariants as SchemaFault;
 ghost use Rattle.schema_names.specs.FoundViews.{found_use_view, found_action_view};
 ghost use Rattle.schema.specs.Schemas.{place_cmp};
@@ -18,10 +18,11 @@ use crate::parts::{Environment, Place};
 use crate::shapes::make_record;
 use plain::{Items, NoMemory, Shared};
 use schema_names::{FoundAction, FoundUse};
-use schema_types::{CedarType, SchemaFault, Table};
+use schema_types::{CedarType, SchemaFault};
 use std::alloc::Global;
 use std::collections::BTreeMap;
 use values::{EntityUid, TypeName};
+use written_types::Table;
 
 fn make_place(
     action: &EntityUid,

@@ -8,8 +8,7 @@ ghost use Rattle.ancestor_closure.specs.contracts.searched.SearchedAncestry.TheI
 ghost use Rattle.schema_types.specs.declared.fault.SchemaFault.TheVariants as SchemaFault;
 ghost use Rattle.schema_names.specs.FoundViews.{found_action_view, found_entity_type_view};
 ghost use Rattle.schema.specs.Schemas.{with_actions, with_types, type_uid};
-ghost use Rattle.schema.specs.inner.Making.{HasCycle, AddsAncestors, AreAncestors, AreTypes, AddsTypes, AreTypesAbove};
-ghost use Rattle.schema.specs.inner.Making.{has_type};
+ghost use Rattle.schema.specs.inner.Making.{HasCycle, AddsAncestors, AreAncestors, has_type};
 
 use crate::maps::put;
 use ancestor_closure::{Ancestry, Hierarchy, Searched};
@@ -42,7 +41,7 @@ fn copy_all(alloc: Global, uids: &[&EntityUid]) -> Result<Items<EntityUid>, NoMe
 }
 
 /// An entity type as a point of a hierarchy: the uid of that type whose id is empty.
-fn type_uid(alloc: Global, name: &TypeName) -> Result<EntityUid, NoMemory>
+pub(crate) fn type_uid(alloc: Global, name: &TypeName) -> Result<EntityUid, NoMemory>
     ensures { IfOk result (λ u. u ≡ type_uid name.now) }
 {
     let type_name = name.copy()?;
@@ -182,7 +181,7 @@ pub(crate) fn uids_of(
 }
 
 /// The types of some uids.
-fn types_of(alloc: Global, uids: &[&EntityUid]) -> Result<BTreeSet<TypeName>, NoMemory>
+pub(crate) fn types_of(alloc: Global, uids: &[&EntityUid]) -> Result<BTreeSet<TypeName>, NoMemory>
     ensures { IfOk result (λ s. (q : List ℕ) → contains text_cmp s q ≡ has_type (names uids.now) q) }
 {
     let mut types = BTreeSet::new(alloc);
@@ -190,40 +189,4 @@ fn types_of(alloc: Global, uids: &[&EntityUid]) -> Result<BTreeSet<TypeName>, No
         types.insert(uid.type_name.copy()?)?;
     }
     Ok(types)
-}
-
-/// Gives an entity type the types above it.
-fn add_types(
-    alloc: Global,
-    edges: &Searched,
-    entity_type: &FoundEntityType,
-    above: &mut BTreeMap<TypeName, BTreeSet<TypeName>>,
-) -> Result<(), NoMemory>
-    requires { AreTypes (searched.parents-value.it edges.now) }
-    ensures { OnOk result (AddsTypes (searched.parents-value.it edges.now) (found_entity_type_view entity_type.now)
-        above.old above.new) }
-{
-    let uid = type_uid(alloc, &entity_type.name)?;
-    let found = edges.ancestors(&uid)?;
-    let types = types_of(alloc, found.as_slice())?;
-    let name = entity_type.name.copy()?;
-    put(above, name, types)?;
-    Ok(())
-}
-
-/// The types above entity types, by their names.
-pub(crate) fn make_types_above(
-    alloc: Global,
-    edges: &Searched,
-    entity_types: &[FoundEntityType],
-) -> Result<BTreeMap<TypeName, BTreeSet<TypeName>>, NoMemory>
-    requires { AreTypes (searched.parents-value.it edges.now) }
-    ensures { IfOk result (λ above. AreTypesAbove (searched.parents-value.it edges.now)
-        (map found_entity_type_view entity_types.now) above) }
-{
-    let mut above = BTreeMap::new(alloc);
-    for entity_type in entity_types {
-        add_types(alloc, edges, entity_type, &mut above)?;
-    }
-    Ok(above)
 }

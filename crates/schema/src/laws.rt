@@ -4,10 +4,10 @@ ghost use Rattle.schema.specs.WellFormed.{StatedSchemasAreWellFormed};
 
 use ancestor_closure::laws::{ascending_lists_are_one, paths_are_decided};
 use schema_names::{
-    files_are_in_order, files_name_their_own, not_both, one_file, one_refusal, shapes_are_records,
-    some_outcome,
+    files_are_in_order, files_name_their_entity_types, files_name_their_own, not_both, one_file,
+    one_refusal, shapes_are_records, some_outcome,
 };
-use schema_types::{keys_ascend, one_written, types_end_or_not};
+use schema_types::{keys_ascend, one_written, types_end_or_not, written_entities_are_named};
 
 /// Bytes state exactly one schema, or are refused for exactly one cause.
 pub fn bytes_have_one_outcome()
@@ -29,12 +29,15 @@ pub fn bytes_have_one_outcome()
 }
 
 /// A schema that bytes state has records as attributes and contexts, within the limits and with ascending keys; its
-/// environments, actions and ancestors ascend; no action is above itself; and above is transitive.
+/// environments, actions and ancestors ascend; no action is above itself; above is transitive; and each entity type
+/// that is named is declared.
 pub fn stated_schemas_are_well_formed()
     ensures { StatedSchemasAreWellFormed }
 {
     files_are_in_order();
+    files_name_their_entity_types();
     shapes_are_records();
     keys_ascend();
     one_written();
+    written_entities_are_named();
 }

@@ -7,6 +7,7 @@ mod environments;
 mod hierarchies;
 mod label;
 mod laws;
+mod lines;
 mod maps;
 mod parts;
 mod reading;

@@ -2,8 +2,8 @@
 ghost use Rattle.std.specs.Prelude.{◌≢◌, IfOk, MatchResult};
 ghost use Rattle.ancestor_closure.specs.contracts.searched.SearchedAncestry.TheImpl as searched;
 ghost use Rattle.schema_types.specs.WrittenOut.{Declarations};
-ghost use Rattle.schema_types.specs.Knowledge.{AreWritten, AreWhole};
-ghost use Rattle.schema_types.specs.TableViews.{knowledge};
+ghost use Rattle.written_types.specs.Knowledge.{AreWritten, AreWhole};
+ghost use Rattle.written_types.specs.TableViews.{knowledge};
 ghost use Rattle.schema_types.specs.declared.fault.SchemaFault.TheVariants as SchemaFault;
 ghost use Rattle.schema_names.specs.FoundViews.{found_view};
 ghost use Rattle.schema_names.specs.Laws.{NamesItsOwn};
@@ -15,19 +15,19 @@ ghost use Rattle.schema.specs.inner.Reading.{AreHierarchiesOf, TypesRefused, Edg
 
 use crate::answers::Schema;
 use crate::environments::{listed, make_places};
-use crate::hierarchies::{
-    action_edges, demand_no_cycle, make_ancestors, make_types_above, type_edges, uids_of,
-};
+use crate::hierarchies::{action_edges, demand_no_cycle, make_ancestors, type_edges, uids_of};
 use crate::label::label_of;
+use crate::lines::{Lines, make_lines};
 use crate::parts::{EntityDecl, Environment};
 use crate::shapes::make_shapes;
 use ancestor_closure::Searched;
 use plain::{Items, NoMemory};
 use schema_names::{Found, files_name_their_own, read_named};
-use schema_types::{SchemaFault, Table, demand_sizes, write_commons};
+use schema_types::SchemaFault;
 use std::alloc::Global;
-use std::collections::{BTreeMap, BTreeSet};
+use std::collections::BTreeMap;
 use values::{EntityUid, TypeName};
+use written_types::{Table, demand_sizes, write_commons};
 
 /// Shapes and environments.
 #[derive(Drop)]
@@ -41,7 +41,7 @@ struct Types {
 struct Hierarchies {
     actions: Items<EntityUid>,
     ancestors: BTreeMap<EntityUid, Items<EntityUid>>,
-    above: BTreeMap<TypeName, BTreeSet<TypeName>>,
+    lines: Lines,
 }
 
 /// The hierarchy of actions, in which none is above itself.
@@ -86,11 +86,11 @@ fn make_hierarchies(alloc: Global, found: &Found, edges: &Searched) -> Result<Hi
     let ancestors = make_ancestors(alloc, edges, actions)?;
     let uids = uids_of(alloc, &ancestors)?;
     let types = type_edges(alloc, entity_types)?;
-    let above = make_types_above(alloc, &types, entity_types)?;
+    let lines = make_lines(alloc, &types, entity_types)?;
     Ok(Hierarchies {
         actions: uids,
         ancestors,
-        above,
+        lines,
     })
 }
 
@@ -122,7 +122,8 @@ fn make_schema(
         actions: hierarchies.actions,
         shapes: types.shapes,
         ancestors: hierarchies.ancestors,
-        above: hierarchies.above,
+        standings: hierarchies.lines.standings,
+        beyond: hierarchies.lines.beyond,
     })
 }
 

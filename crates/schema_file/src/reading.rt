@@ -15,10 +15,10 @@ use crate::stated::{
     StatedAction, StatedCommon, StatedEntityType, StatedNamespace, StatedParent, StatedUse,
 };
 use json_words::only_keys;
+use named_types::is_qualified;
 use plain::{Items, Text};
 use schema_types::{
-    Form, RawType, SchemaFault, form_named, is_qualified, optional, read_type, read_type_name,
-    text_at,
+    Form, RawType, SchemaFault, form_named, optional, read_type, read_type_name, text_at,
 };
 use serde_json::{Map, Value};
 use std::alloc::Global;

@@ -10,10 +10,11 @@ use Rattle.std.specs.BTreeSet.{BTreeSet, contains, contains_text, Updates}
 use Rattle.std.proofs.lemmas.Map.Text.{btree_set_updates_text}
 use Rattle.values.specs.declared.entity_uid.EntityUid.{EntityUid}
 use Rattle.values.specs.Names.{uid_cmp}
-use Rattle.schema_types.specs.declared.names.Names.{Names}
+use Rattle.named_types.specs.declared.names.Names.{Names}
 use Rattle.schema_types.specs.Names.{full_name}
 use Rattle.schema_file.specs.Stated.{NamespaceOf}
-use Rattle.schema_names.specs.Qualifying.{common_in, action_type, uid_of, commons_declared, entity_types_declared, actions_declared}
+use Rattle.schema_names.specs.Qualifying.{common_in, commons_declared, entity_types_declared, actions_declared}
+use Rattle.named_types.specs.Actions.{action_type, uid_of}
 use Rattle.schema_names.specs.inner.Adding.{has_name, has_uid, Adds, AddsNamespace, AddsAll, Declares, any_common, any_name, any_uid}
 
 pub or_cond : (b x : Bool) → cond b true x ≡ (b || x)

@@ -26,7 +26,7 @@ use Rattle.schema_names.specs.Qualifying.{all_of, CommonOf, common_in, commons_d
 abbrev ok : {A : Type 0} → A → Result A SchemaFault
 ok x = Ok x
 
-ok_same : {A : Type 0} (x y : A) → ok x ≡ ok y → x ≡ y
+pub ok_same : {A : Type 0} (x y : A) → ok x ≡ ok y → x ≡ y
 ok_same x y e = cc
 
 abbrev some : {A : Type 0} → A → Option A
@@ -121,7 +121,7 @@ map_from {A = A} g (x ∷ xs) y here = by (member_cases (g x) (map g xs) y here)
     by (inl same) later = (x, Contains-here x xs, same)
     by (inr there) later = more (later there)
 
-map_to : {A B : Type 0} (g : A → B) (xs : List A) (x : A) → Contains xs x → Contains (map g xs) (g x)
+pub map_to : {A B : Type 0} (g : A → B) (xs : List A) (x : A) → Contains xs x → Contains (map g xs) (g x)
 map_to g [] x here = no_member x here
 map_to {A = A} {B = B} g (z ∷ xs) x here = by (member_cases z xs x here) (λ later. map_to g xs x later)
   where
@@ -145,7 +145,7 @@ declares_to (e ∷ ds) d here = by (member_cases e ds d here) (λ later. declare
     by (inl same) later = inl (ap (λ (x : List ℕ × Qualified). x.0) same, ap (λ (x : List ℕ × Qualified). x.1) same)
     by (inr there) later = inr (later there)
 
-some_passes : {A : Type 0} (p : A → Bool) (xs : List A) → list_any p xs ≡ true → (x : A) × Contains xs x × (p x ≡ true)
+pub some_passes : {A : Type 0} (p : A → Bool) (xs : List A) → list_any p xs ≡ true → (x : A) × Contains xs x × (p x ≡ true)
 some_passes p [] h = absurd (true≢false (sym h))
 some_passes {A = A} p (x ∷ xs) h = by (p x) refl h (λ later. some_passes p xs later)
   where
@@ -163,17 +163,17 @@ module _ (ns : List NamespaceOf) (s : FoundSchema) (named : qualified ns ≡ ok 
   abbrev FromNamespace : FoundSchema → Type 0
   FromNamespace p = (n : NamespaceOf) × Contains ns n × (qualified_namespace (scope_in ns) (is_action_in ns) n ≡ ok p)
 
-  parts_of : (parts : List FoundSchema) × (qualified_namespaces (scope_in ns) (is_action_in ns) ns ≡ ok parts) × (together parts ≡ s)
+  pub parts_of : (parts : List FoundSchema) × (qualified_namespaces (scope_in ns) (is_action_in ns) ns ≡ ok parts) × (together parts ≡ s)
   unfolding qualified
   parts_of =
       let b = bind_ok (qualified_namespaces (scope_in ns) (is_action_in ns) ns) (λ parts. ok (together parts)) s named in
       (b.0, b.1, ok_same (together b.0) s b.2)
 
-  namespace_from : (p : FoundSchema) → Contains parts_of.0 p → FromNamespace p
+  pub namespace_from : (p : FoundSchema) → Contains parts_of.0 p → FromNamespace p
   unfolding qualified_namespaces
   namespace_from p here = let x = read_from (λ i n. qualified_namespace (scope_in ns) (is_action_in ns) n) 0 ns parts_of.0 parts_of.1 p here in (x.0, x.1, x.2.1)
 
-  namespace_to : (n : NamespaceOf) → Contains ns n → (p : FoundSchema) × Contains parts_of.0 p × (qualified_namespace (scope_in ns) (is_action_in ns) n ≡ ok p)
+  pub namespace_to : (n : NamespaceOf) → Contains ns n → (p : FoundSchema) × Contains parts_of.0 p × (qualified_namespace (scope_in ns) (is_action_in ns) n ≡ ok p)
   unfolding qualified_namespaces
   namespace_to n here = let x = read_to (λ i m. qualified_namespace (scope_in ns) (is_action_in ns) m) 0 ns parts_of.0 parts_of.1 n here in (x.0, x.1, x.2.1)
 
@@ -215,13 +215,13 @@ context_from sc own u f read r is =
     let same : (let y : FoundUse = record { principals = a.0; resources = b.0; context = d.0 } in y) ≡ f = ok_same (record { principals = a.0; resources = b.0; context = d.0 }) f d.2 in
     type_from sc own u.context d.0 d.1 r (ap (λ (y : FoundUse). y.context) same ∙ is)
 
-use_from : (sc : Scope) (own : Option (List ℕ)) (o : Option UseOf) (found : Option FoundUse) → use_named sc own o ≡ ok found → (f : FoundUse) → found ≡ some f → (u : UseOf) × (o ≡ some u) × (qualified_use sc own u ≡ ok f)
+pub use_from : (sc : Scope) (own : Option (List ℕ)) (o : Option UseOf) (found : Option FoundUse) → use_named sc own o ≡ ok found → (f : FoundUse) → found ≡ some f → (u : UseOf) × (o ≡ some u) × (qualified_use sc own u ≡ ok f)
 use_from sc own None found e f is = none_some (ok_same None found e ∙ is)
 use_from sc own (Some u) found e f is =
     let a = bind_ok (qualified_use sc own u) (λ t. ok (some t)) found e in
     (u, refl, a.1 ∙ ap (λ (x : FoundUse). ok x) (some_same a.0 f (ok_same (some a.0) found a.2 ∙ is)))
 
-applies_from : (sc : Scope) (is_action : EntityUid → Bool) (own : Option (List ℕ)) (x : ActionOf) (a : FoundAction) → qualified_action sc is_action own x ≡ ok a → (f : FoundUse) → a.applies_to ≡ some f
+pub applies_from : (sc : Scope) (is_action : EntityUid → Bool) (own : Option (List ℕ)) (x : ActionOf) (a : FoundAction) → qualified_action sc is_action own x ≡ ok a → (f : FoundUse) → a.applies_to ≡ some f
     → (u : UseOf) × (x.applies_to ≡ some u) × (qualified_use sc own u ≡ ok f)
 unfolding qualified_action
 applies_from sc is_action own x a read f is =

@@ -1,6 +1,7 @@
 pub mod AddLemmas
 pub mod AscendLemmas
 pub mod DecidedLemmas
+pub mod EntityLemmas
 pub mod FollowLemmas
 pub mod FoundLemmas
 pub mod NamingLemmas

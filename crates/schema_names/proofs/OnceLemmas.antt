@@ -24,7 +24,8 @@ use Rattle.schema_types.specs.declared.fault.SchemaFault.{SchemaFault}
 use Rattle.schema_types.specs.declared.fault.SchemaFault.TheVariants.{BadShape}
 use Rattle.schema_file.specs.Once.{AreApart, StatesOnce, AllStateOnce}
 use Rattle.schema_file.specs.Stated.{EntityTypeOf, ActionOf, NamespaceOf, ident, is_common, common_of, commons_of, entity_type_name, entity_type_of, entity_types_of, names_in, type_in, members_in, commons_in, entity_types_in, actions_in, namespace_name, namespace_of, namespaces_of, stated}
-use Rattle.schema_names.specs.Qualifying.{FoundEntityType, FoundAction, FoundSchema, all_of, action_type, uid_of, entity_types_named, type_named, parents_named, use_named, qualified_common, qualified_commons, qualified_entity_type, qualified_entity_types, qualified_action, qualified_actions, qualified_namespace, qualified_namespaces, together, scope_in, is_action_in, qualified}
+use Rattle.schema_names.specs.Qualifying.{FoundEntityType, FoundAction, FoundSchema, all_of, entity_types_named, type_named, parents_named, use_named, qualified_common, qualified_commons, qualified_entity_type, qualified_entity_types, qualified_action, qualified_actions, qualified_namespace, qualified_namespaces, together, scope_in, is_action_in, qualified}
+use Rattle.named_types.specs.Actions.{action_type, uid_of}
 use Rattle.schema_types.specs.AscendingLaw.{JsonAscends}
 use Rattle.schema_file.specs.Laws.{FilesStateOnce}
 use Rattle.schema_names.specs.Laws.{DeclaresOnce, FilesDeclareOnce}

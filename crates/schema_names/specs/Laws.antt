@@ -2,8 +2,8 @@
 use Rattle.std.specs.Prelude.{◌≡◌, ◌⊎◌, ℕ, List, Contains, map, Some}
 use Rattle.schema_types.specs.Qualified.{Qualified}
 use Rattle.schema_types.specs.Cedar.{Cedar, CedarFields, record_of}
-use Rattle.schema_types.specs.WrittenOut.{WrittenOut}
-use Rattle.schema_types.specs.Mentions.{IsClosed}
+use Rattle.schema_types.specs.WrittenOut.{Declares, WrittenOut}
+use Rattle.schema_types.specs.Mentions.{IsClosed, MentionsEntity}
 use Rattle.schema_types.specs.Law.{AreOnce, AreClosed}
 use Rattle.schema_types.specs.Ascending.{QualifiedAscends}
 use Rattle.schema_types.specs.AscendingLaw.{AllAscend}
@@ -31,6 +31,24 @@ pub record NamesItsOwn (s : FoundSchema) : Type 0 where
 
 abbrev pub FilesNameTheirOwn : Type 0
 FilesNameTheirOwn = (bytes : List ℕ) (s : FoundSchema) → StatesNamed bytes s → NamesItsOwn s
+
+abbrev pub IsEntityType : FoundSchema → List ℕ → Type 0
+IsEntityType s q = (e : FoundEntityType) × Contains s.entity_types e × (e.name ≡ q)
+
+-- each entity type that is named is declared: in a type, above another, and in what an action applies to
+pub record NamesItsEntityTypes (s : FoundSchema) : Type 0 where
+  pub commons : (p : List ℕ) (r : Qualified) → Declares s.commons p r → (q : List ℕ) → MentionsEntity r q
+      → IsEntityType s q
+  pub records : (r : Qualified) → IsShapeOrContext s r → (q : List ℕ) → MentionsEntity r q → IsEntityType s q
+  pub parents : (e : FoundEntityType) → Contains s.entity_types e → (q : List ℕ) → Contains e.parents q
+      → IsEntityType s q
+  pub principals : (a : FoundAction) (u : FoundUse) → Contains s.actions a → a.applies_to ≡ Some u → (q : List ℕ)
+      → Contains u.principals q → IsEntityType s q
+  pub resources : (a : FoundAction) (u : FoundUse) → Contains s.actions a → a.applies_to ≡ Some u → (q : List ℕ)
+      → Contains u.resources q → IsEntityType s q
+
+abbrev pub FilesNameTheirEntityTypes : Type 0
+FilesNameTheirEntityTypes = (bytes : List ℕ) (s : FoundSchema) → StatesNamed bytes s → NamesItsEntityTypes s
 
 -- nothing is declared twice, since no key stands twice in an object that was read
 abbrev pub FilesDeclareOnce : Type 0

@@ -3,7 +3,7 @@
 -- Rules of this product: an action of the empty namespace has the type `Action`, one of another `NS::Action`; a member
 -- of `memberOf` without a type is of the same namespace, and one with an unqualified type is looked for in the own
 -- namespace and then in the empty one.
-use Rattle.std.specs.Prelude.{ℕ, List, [], ◌∷◌, ◌++◌, map, Bool, codes, Option, Some, None, Result, Ok, if◌then◌else◌}
+use Rattle.std.specs.Prelude.{ℕ, List, [], ◌∷◌, ◌++◌, map, Bool, Option, Some, None, Result, Ok}
 use Rattle.std.specs.Ordering.{is_eq}
 use Rattle.std.specs.List.{list_any}
 use Rattle.std.specs.Str.{bytes_eq}
@@ -14,7 +14,8 @@ use Rattle.values.specs.Names.{uid_cmp}
 use Rattle.schema_types.specs.Raw.{Raw}
 use Rattle.schema_types.specs.Qualified.{Qualified}
 use Rattle.schema_types.specs.WrittenOut.{Declarations}
-use Rattle.schema_types.specs.Names.{Scope, full_name, is_qualified, found, qualified_of}
+use Rattle.schema_types.specs.Names.{Scope, full_name, found, qualified_of}
+use Rattle.named_types.specs.Actions.{action_type, uid_of, declared_action, action_of_type}
 use Rattle.schema_file.specs.Stated.{EntityTypeOf, UseOf, ActionOf, NamespaceOf}
 use Rattle.schema_file.specs.declared.stated.StatedParent.{StatedParent}
 use Rattle.schema_types.specs.declared.fault.SchemaFault.{SchemaFault}
@@ -40,12 +41,6 @@ commons_declared ns = all_of (λ n. map (λ c. common_in n.name c) n.commons) ns
 
 abbrev pub entity_types_declared : List NamespaceOf → List (List ℕ)
 entity_types_declared ns = all_of (λ n. map (λ e. full_name n.name e.name) n.entity_types) ns
-
-abbrev pub action_type : Option (List ℕ) → List ℕ
-action_type own = full_name own (codes "Action")
-
-abbrev pub uid_of : List ℕ → List ℕ → EntityUid
-uid_of type_name id = record { type_name = type_name; id = id }
 
 abbrev pub actions_declared : List NamespaceOf → List EntityUid
 actions_declared ns = all_of (λ n. map (λ a. uid_of (action_type n.name) a.id) n.actions) ns
@@ -92,20 +87,6 @@ type_named s own None = Ok None
 type_named s own (Some r) = do
   t ← qualified_of s own r
   Ok (Some t)
-
--- the action of this type and id, where it is declared
-abbrev pub declared_action : (EntityUid → Bool) → List ℕ → List ℕ → Option EntityUid
-declared_action is_action t id = if is_action (uid_of t id) then Some (uid_of t id) else None
-
-abbrev pub first_of : {A : Type 0} → Option A → Option A → Option A
-first_of (Some x) later = Some x
-first_of None later = later
-
--- of an action's type that is written: in the own namespace, then in the empty one
-unfoldable pub action_of_type : (EntityUid → Bool) → Option (List ℕ) → List ℕ → List ℕ → Option EntityUid
-action_of_type is_action own w id =
-    if is_qualified w then declared_action is_action w id
-    else first_of (declared_action is_action (full_name own w) id) (declared_action is_action w id)
 
 abbrev pub action_meant_at : (EntityUid → Bool) → Option (List ℕ) → Option (List ℕ) → List ℕ → Option EntityUid
 action_meant_at is_action own None id = declared_action is_action (action_type own) id

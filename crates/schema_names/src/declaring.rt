@@ -5,14 +5,14 @@ ghost use Rattle.std.specs.Str.{bytes_eq};
 ghost use Rattle.values.specs.Names.{uid_cmp};
 ghost use Rattle.schema_types.specs.Names.{full_name};
 ghost use Rattle.schema_file.specs.StatedViews.{common_view, entity_type_view, action_view, namespace_view};
-ghost use Rattle.schema_names.specs.Qualifying.{common_in, action_type, uid_of};
+ghost use Rattle.schema_names.specs.Qualifying.{common_in};
+ghost use Rattle.named_types.specs.Actions.{action_type, uid_of};
 ghost use Rattle.schema_names.specs.inner.Adding.{has_name, has_uid, Adds, AddsNamespace, Declares, any_common};
 ghost use Rattle.schema_names.specs.inner.Adding.{any_name, any_uid};
 
-use crate::qualifying::action_type;
+use named_types::{Names, action_type, full_name};
 use plain::NoMemory;
 use schema_file::{StatedAction, StatedCommon, StatedEntityType, StatedNamespace};
-use schema_types::{Names, full_name};
 use std::alloc::Global;
 use std::collections::BTreeSet;
 use values::{EntityUid, TypeName};

@@ -1,6 +1,6 @@
 //! Laws of a file with each name found.
 ghost use Rattle.schema_names.specs.Laws.{FilesNameTheirOwn, ShapesAreRecords, SomeOutcome, OneFile, OneRefusal};
-ghost use Rattle.schema_names.specs.Laws.{NotBoth, FilesDeclareOnce, FilesTypesAscend};
+ghost use Rattle.schema_names.specs.Laws.{NotBoth, FilesDeclareOnce, FilesTypesAscend, FilesNameTheirEntityTypes};
 
 use schema_file::stated_files_are_in_order;
 use schema_types::{found_names_are_declared, keys_ascend};
@@ -8,6 +8,13 @@ use schema_types::{found_names_are_declared, keys_ascend};
 /// Each common type that a file names is declared there.
 pub fn files_name_their_own()
     ensures { FilesNameTheirOwn }
+{
+    found_names_are_declared();
+}
+
+/// Each entity type that a file names is declared there: in a type, above another, and in what an action applies to.
+pub fn files_name_their_entity_types()
+    ensures { FilesNameTheirEntityTypes }
 {
     found_names_are_declared();
 }

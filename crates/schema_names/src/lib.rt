@@ -10,8 +10,8 @@ mod qualifying;
 mod records;
 
 pub use laws::{
-    files_are_in_order, files_name_their_own, not_both, one_file, one_refusal, shapes_are_records,
-    some_outcome,
+    files_are_in_order, files_name_their_entity_types, files_name_their_own, not_both, one_file,
+    one_refusal, shapes_are_records, some_outcome,
 };
 pub use naming::read_named;
 pub use qualifying::{Found, FoundAction, FoundEntityType, FoundUse};

@@ -3,24 +3,25 @@ ghost use Rattle.std.specs.Prelude.{◌≡◌, IfOk, map, option_map};
 ghost use Rattle.json_words.specs.Gives.{Gives};
 ghost use Rattle.schema_types.specs.Views.{raw_view};
 ghost use Rattle.schema_types.specs.QualifiedViews.{qualified_view};
-ghost use Rattle.schema_types.specs.NamesViews.{scope_of, is_action_of};
+ghost use Rattle.named_types.specs.NamesViews.{scope_of, is_action_of};
 ghost use Rattle.schema_file.specs.StatedViews.{common_view, entity_type_view, use_view, action_view, namespace_view};
 ghost use Rattle.schema_types.specs.QualifiedViews.{found_common_view};
 ghost use Rattle.schema_names.specs.FoundViews.{found_entity_type_view, found_use_view, found_action_view, found_view};
-ghost use Rattle.schema_names.specs.Qualifying.{action_type, declared_action, action_of_type, action_meant};
+ghost use Rattle.schema_names.specs.Qualifying.{action_meant};
 ghost use Rattle.schema_names.specs.Qualifying.{parent_named, parents_named, entity_type_named, entity_types_named};
 ghost use Rattle.schema_names.specs.Qualifying.{type_named, qualified_common, qualified_entity_type, qualified_use};
 ghost use Rattle.schema_names.specs.Qualifying.{use_named, qualified_action, qualified_commons, qualified_entity_types};
 ghost use Rattle.schema_names.specs.Qualifying.{qualified_actions, qualified_namespace, qualified_namespaces};
 ghost use Rattle.schema_types.specs.declared.fault.SchemaFault.TheVariants as SchemaFault;
 
+use named_types::{
+    Names, action_type, declared_action, find, find_action_of_type, full_name, resolve,
+};
 use plain::{Items, NoMemory, Text};
 use schema_file::{
     StatedAction, StatedCommon, StatedEntityType, StatedNamespace, StatedParent, StatedUse,
 };
-use schema_types::{
-    FoundCommon, Names, QualifiedType, RawType, SchemaFault, find, full_name, is_qualified, resolve,
-};
+use schema_types::{FoundCommon, QualifiedType, RawType, SchemaFault};
 use std::alloc::Global;
 use values::{EntityUid, TypeName};
 
@@ -103,14 +104,6 @@ fn qualify_optional(
     }
 }
 
-/// The type of the actions of a namespace.
-pub(crate) fn action_type(alloc: Global, own: &Option<TypeName>) -> Result<TypeName, NoMemory>
-    ensures { IfOk result (λ t. t ≡ action_type own.now) }
-{
-    let word = TypeName::from_words(alloc, ["Action"].as_slice())?;
-    full_name(alloc, own, &word)
-}
-
 /// The common type of a namespace.
 #[tactic(auto, unfolding(crate::specs::Qualifying::qualified_common))]
 fn qualify_common(
@@ -183,42 +176,6 @@ fn qualify_optional_use(
         None => Ok(None),
         Some(stated) => Ok(Some(qualify_use(alloc, names, own, stated)?)),
     }
-}
-
-/// The action of this type and id, where it is declared.
-fn declared_action(
-    names: &Names,
-    type_name: TypeName,
-    id: &Text,
-) -> Result<Option<EntityUid>, NoMemory>
-    ensures { IfOk result (λ o. o ≡ declared_action (is_action_of names.now) type_name id.now) }
-{
-    let id = id.copy()?;
-    let uid = EntityUid { type_name, id };
-    if names.actions.contains(&uid) {
-        return Ok(Some(uid));
-    }
-    Ok(None)
-}
-
-/// The action that a type as written and an id mean.
-#[tactic(auto, unfolding(crate::specs::Qualifying::action_of_type))]
-fn find_action_of_type(
-    alloc: Global,
-    names: &Names,
-    own: &Option<TypeName>,
-    word: &TypeName,
-    id: &Text,
-) -> Result<Option<EntityUid>, NoMemory>
-    ensures { IfOk result (λ o. o ≡ action_of_type (is_action_of names.now) own.now word.now id.now) }
-{
-    if !is_qualified(word.as_str()) {
-        let full = full_name(alloc, own, word)?;
-        if let Some(uid) = declared_action(names, full, id)? {
-            return Ok(Some(uid));
-        }
-    }
-    declared_action(names, word.copy()?, id)
 }
 
 /// The action that a member of `memberOf` means.

@@ -1,10 +1,9 @@
 //! Shapes and contexts are records.
-ghost use Rattle.std.specs.Prelude.{◌≡◌, ◌∷◌, [], ◌<◌, ◌^◌, OnOk, IfOk, MatchResult, map, option_map, is_some, true};
+ghost use Rattle.std.specs.Prelude.{◌≡◌, ◌∷◌, [], ◌<◌, ◌^◌, OnOk, IfOk, MatchResult, map, option_map, true};
 ghost use Rattle.std.specs.Prelude.{false};
 ghost use Rattle.std.specs.BTreeSet.{btree_set_len};
 ghost use Rattle.schema_types.specs.Views.{raw_view};
-ghost use Rattle.schema_types.specs.Names.{found, or_entity, built_in as built_in_of};
-ghost use Rattle.schema_types.specs.NamesViews.{scope_of};
+ghost use Rattle.named_types.specs.NamesViews.{scope_of};
 ghost use Rattle.schema_file.specs.StatedViews.{common_view, entity_type_view, use_view, action_view, namespace_view};
 ghost use Rattle.schema_names.specs.Records.{common_meant, SomeIsNoRecord};
 ghost use Rattle.schema_names.specs.Qualifying.{common_in, commons_declared};
@@ -13,28 +12,13 @@ ghost use Rattle.schema_names.specs.inner.Spreading.{means_now, IsSettled, Keeps
 ghost use Rattle.schema_names.specs.inner.Spreading.{is_record_at, is_record_in, are_shapes, are_contexts};
 ghost use Rattle.schema_names.specs.inner.Spreading.{are_records_of, are_records, MayRefuseRecords};
 
+use named_types::{Names, find, full_name, is_other};
 use plain::NoMemory;
 use schema_file::{StatedAction, StatedCommon, StatedEntityType, StatedNamespace, StatedUse};
-use schema_types::{Names, RawType, SchemaFault, built_in, find, full_name};
+use schema_types::{RawType, SchemaFault};
 use std::alloc::Global;
 use std::collections::{BTreeMap, BTreeSet};
 use values::TypeName;
-
-/// Whether a word means an entity type, a primitive or an extension.
-fn is_other(
-    alloc: Global,
-    names: &Names,
-    own: &Option<TypeName>,
-    word: &TypeName,
-) -> Result<bool, NoMemory>
-    ensures { IfOk result (λ b. b ≡ is_some (or_entity (found (λ q. has_name names.now.entities q) own.now word.now)
-        (built_in_of word.now))) }
-{
-    match find(alloc, &names.entities, own, word)? {
-        Some(_) => Ok(true),
-        None => Ok(built_in(word.as_str()).is_some()),
-    }
-}
 
 /// Whether a type means no record, as far as it is known which common types mean none.
 fn means_none(

@@ -1,14 +1,8 @@
-pub mod CedarWalk
-pub mod ClosedLemmas
 pub mod CyclicEnds
+pub mod EntitiesNamed
 pub mod Keyed
 pub mod NameLemmas
 pub mod NamesClosed
 pub mod OneEnd
-pub mod QualifiedWalk
-pub mod Rounds
-pub mod Sizes
-pub mod Tables
 pub mod TypesAscend
 pub mod Walk
-pub mod WholeLemmas

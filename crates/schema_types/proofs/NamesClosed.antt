@@ -12,13 +12,15 @@ use Rattle.schema_types.specs.Mentions.{Mentions, FieldsMention, MentionsEntity,
 use Rattle.schema_types.specs.Names.{Scope, is_qualified, full_name, as_declared, found, built_in, or_entity, or_common, any_named, entity_named, common_named, qualified_of, fields_of}
 use Rattle.schema_types.specs.declared.fault.SchemaFault.{SchemaFault}
 use Rattle.schema_types.specs.declared.fault.SchemaFault.TheVariants.{UnknownName}
-use Rattle.schema_types.proofs.Tables.{none_some}
 
 abbrev some : {A : Type 0} → A → Option A
 some x = Some x
 
 abbrev ok : {A : Type 0} → A → Result A SchemaFault
 ok x = Ok x
+
+none_some : {A : Type 0} {x : A} → None ≡ Some x → ⊥
+none_some e = cc
 
 some_same : {A : Type 0} (x y : A) → some x ≡ some y → x ≡ y
 some_same x y e = cc

@@ -4,7 +4,7 @@ use Rattle.schema_types.specs.Raw.{Raw}
 use Rattle.schema_types.specs.Qualified.{Qualified}
 use Rattle.schema_types.specs.Cedar.{Cedar}
 use Rattle.schema_types.specs.WrittenOut.{Declarations, Declares, WrittenOut, HasNoEnd}
-use Rattle.schema_types.specs.Mentions.{IsClosed, Leads, Mentions, MentionsEntity}
+use Rattle.schema_types.specs.Mentions.{IsClosed, Leads, Mentions, MentionsEntity, NamesEntity}
 use Rattle.schema_types.specs.Names.{Scope, qualified_of}
 use Rattle.schema_types.specs.Outcome.{SomeHasNoEnd}
 
@@ -48,3 +48,9 @@ abbrev pub FoundEntitiesAreDeclared : Type 0
 FoundEntitiesAreDeclared =
     (s : Scope) (own : Option (List ℕ)) (r : Raw) (n : Qualified) → qualified_of s own r ≡ Ok n → (q : List ℕ)
     → MentionsEntity n q → s.entities q ≡ true
+
+-- an entity type that is named in a type written out is named in that type, or in a common type that is declared
+abbrev pub WrittenEntitiesAreNamed : Type 0
+WrittenEntitiesAreNamed =
+    (commons : Declarations) (r : Qualified) (t : Cedar) → WrittenOut commons r t → (q : List ℕ) → NamesEntity t q
+    → MentionsEntity r q ⊎ ((p : List ℕ) × (s : Qualified) × Declares commons p s × MentionsEntity s q)

@@ -4,17 +4,14 @@ pub mod Cedar
 pub mod CedarViews
 pub mod Codes
 pub mod Forms
-pub mod Knowledge
 pub mod Law
 pub mod Mentions
 pub mod Names
-pub mod NamesViews
 pub mod Optional
 pub mod Outcome
 pub mod Qualified
 pub mod QualifiedViews
 pub mod Raw
-pub mod TableViews
 pub mod TypeShape
 pub mod Views
 pub mod WrittenOut

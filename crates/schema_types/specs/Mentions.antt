@@ -1,7 +1,9 @@
--- Which common types a common type stands on.
+-- Which common types and entity types a type names.
 use Rattle.std.specs.Prelude.{◌≡◌, ◌⊎◌, ℕ, List}
 use Rattle.schema_types.specs.Qualified as qualified
 use Rattle.schema_types.specs.Qualified.{Qualified, QualifiedFields}
+use Rattle.schema_types.specs.Cedar as cedar
+use Rattle.schema_types.specs.Cedar.{Cedar, CedarFields}
 use Rattle.schema_types.specs.WrittenOut.{Declarations, Declares}
 
 -- the name stands somewhere in the type
@@ -37,6 +39,22 @@ abbrev mutual
   pub FieldsMentionEntity : QualifiedFields → List ℕ → Type 0
   FieldsMentionEntity qualified.no_fields q = ⊥
   FieldsMentionEntity (qualified.field k r b rs) q = MentionsEntity r q ⊎ FieldsMentionEntity rs q
+
+-- the same of a type that is written out
+abbrev mutual
+  pub NamesEntity : Cedar → List ℕ → Type 0
+  NamesEntity cedar.text q = ⊥
+  NamesEntity cedar.long q = ⊥
+  NamesEntity cedar.boolean q = ⊥
+  NamesEntity cedar.decimal q = ⊥
+  NamesEntity cedar.ipaddr q = ⊥
+  NamesEntity (cedar.set t) q = NamesEntity t q
+  NamesEntity (cedar.record_of ts) q = FieldsNameEntity ts q
+  NamesEntity (cedar.entity n) q = n ≡ q
+
+  pub FieldsNameEntity : CedarFields → List ℕ → Type 0
+  FieldsNameEntity cedar.no_fields q = ⊥
+  FieldsNameEntity (cedar.field k t b ts) q = NamesEntity t q ⊎ FieldsNameEntity ts q
 
 -- each name of a common type in it is declared
 abbrev pub IsClosed : Declarations → Qualified → Type 0

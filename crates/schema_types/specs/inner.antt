@@ -1,3 +1,1 @@
-pub mod Rounds
-pub mod Table
 pub mod TypeRule

@@ -1,7 +1,7 @@
 //! Laws of types: of writing out, of the names in them, and of the order of their keys.
 ghost use Rattle.schema_types.specs.AscendingLaw.{JsonAscends, StatedTypesAscend, FoundTypesAscend, WrittenTypesAscend};
 ghost use Rattle.schema_types.specs.Law.{OneWritten, CyclesHaveNoEnd, EndlessAreCyclic, TypesEndOrNot};
-ghost use Rattle.schema_types.specs.Law.{FoundCommonsAreDeclared, FoundEntitiesAreDeclared};
+ghost use Rattle.schema_types.specs.Law.{FoundCommonsAreDeclared, FoundEntitiesAreDeclared, WrittenEntitiesAreNamed};
 
 use json_words::json_keys_ascend;
 
@@ -31,6 +31,11 @@ pub fn types_end_or_not()
 pub fn found_names_are_declared()
     ensures commons { FoundCommonsAreDeclared }
     ensures entities { FoundEntitiesAreDeclared }
+{}
+
+/// An entity type that is named in a type written out is named in that type, or in a common type that is declared.
+pub fn written_entities_are_named()
+    ensures { WrittenEntitiesAreNamed }
 {}
 
 /// The keys of each record ascend strictly: in JSON that was read, in the types that it states, in these with each name

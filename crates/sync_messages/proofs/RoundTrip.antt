@@ -24,27 +24,27 @@ use Rattle.uid_json.specs.Uids.{uid_in, plain_uid_in, uid_json}
 use Rattle.stamped_store.specs.declared.entry.Stamp.{Stamp}
 use Rattle.stamped_store.specs.Deltas.{Summary, stamp_of, summary_of}
 use Rattle.stamped_store.specs.Store.{Store, Update, updates}
-use Rattle.sync_messages.specs.Summaries.{ascend, IsName, IsStamped, AreStamped, name_json, stamp_json, summary_json, policy_in, entity_in, name_in, stamp_in, stamps_of, stamps_in, is_id, judged, summary_in, summary_stated}
+use Rattle.sync_messages.specs.Summaries.{ascend, IsName, IsStamped, AreStamped, name_json, stamp_json, summary_json, policy_in, entity_in, name_in, stamped_in, stamp_in, stamps_of, stamps_in, is_id, judged, summary_in, summary_stated}
 
 -- ---- one stamp
 uid_again : PathsAreTold → (uid : EntityUid) → IsPath uid.type_name → uid_in (uid_json uid) ≡ Some uid
 unfolding uid_in plain_uid_in
 uid_again told uid path = rw ((told uid.type_name).1 path) refl
 
-name_again : PathsAreTold → (n : Name) → IsName n → name_in (name_json n) ≡ Ok n
+pub name_again : PathsAreTold → (n : Name) → IsName n → name_in (name_json n) ≡ Ok n
 unfolding name_in policy_in entity_in
 name_again told (Policy id) h = refl
 name_again told (Entity uid) h = rw (uid_again told uid h) refl
 
 stamp_again : PathsAreTold → (u : Name × Stamp) → IsStamped u → stamp_in (stamp_json u) ≡ Ok u
-unfolding stamp_in
+unfolding stamp_in stamped_in
 stamp_again told u h = rw (le-leb _ _ h.numbered, le-leb _ _ h.small, name_again told u.0 h.name) refl
 
 id_again : (n : Name) → IsName n → is_id n ≡ true
 id_again (Policy id) h = rw (le-leb _ _ h.0, le-leb _ _ h.1) refl
 id_again (Entity uid) h = refl
 
-judged_again : (k : ℕ) (u : Name × Stamp) → IsStamped u → judged k u ≡ Ok u
+pub judged_again : (k : ℕ) (u : Name × Stamp) → IsStamped u → judged k u ≡ Ok u
 unfolding judged
 judged_again k u h = rw (le-leb _ _ h.counted, le-leb _ _ h.bounded, id_again u.0 h.name) refl
 

@@ -1,5 +1,5 @@
 -- What is read as a summary has names and stamps in their ranges, and its names ascend.
-use Rattle.std.proofs.Common.{◌≡◌, ◌∙◌, ℕ, suc, ◌≤◌, List, [], ◌∷◌, length, Bool, true, false, Result, Ok, Option, Some, None, refl, ap, subst}
+use Rattle.std.proofs.Common.{◌≡◌, ◌∙◌, ℕ, suc, ◌≤◌, List, [], ◌∷◌, length, Bool, true, false, Result, Ok, Option, Some, None, refl, sym, ap, subst}
 use Rattle.std.specs.Prelude.{⊤, ◌&&◌, ◌==◌, codes, nat_le, if◌then◌else◌}
 use Rattle.std.specs.Str.{bytes_eq}
 use Rattle.std.specs.List.{AllByRecursion}
@@ -21,7 +21,7 @@ use Rattle.stamped_store.specs.declared.entry.Stamp.{Stamp}
 use Rattle.stamped_store.specs.Deltas.{Summary}
 use Rattle.sync_messages.specs.declared.fault.MessageFault.{MessageFault}
 use Rattle.sync_messages.specs.declared.fault.MessageFault.TheVariants.{NotJson, BadShape, OtherSchema, Version, CountRange, BadEntry}
-use Rattle.sync_messages.specs.Summaries.{ascend, IsName, IsStamped, AreStamped, number_at, policy_in, entity_in, name_in, stamp_in, stamps_of, stamps_in, is_id, bad_id, judged, summary_in, summary_stated}
+use Rattle.sync_messages.specs.Summaries.{ascend, IsName, IsStamped, AreStamped, number_at, policy_in, entity_in, name_in, stamped_in, stamp_in, stamps_of, stamps_in, is_id, bad_id, judged, summary_in, summary_stated}
 
 abbrev read : {A : Type 0} → A → Result A MessageFault
 read x = Ok x
@@ -98,11 +98,10 @@ of_site d count site = demand BadShape (nat_le 1 site && nat_le site 65535) >>= 
 abbrev of_count : Data → ℕ → Result (Name × Stamp) MessageFault
 of_count d count = number_at (codes "site") d >>= λ site. of_site d count site
 
-stamp_shaped : UidsAreFound → (d : Data) (u : Name × Stamp) → stamp_in d ≡ read u → IsShaped u
-unfolding stamp_in
-stamp_shaped all d u e =
-    let a = bind_ok (demand BadShape (has_only (codes "count" ∷ codes "name" ∷ codes "site" ∷ []) d)) (λ shape. number_at (codes "count") d >>= λ count. of_count d count) u e in
-    let b = bind_ok (number_at (codes "count") d) (λ count. of_count d count) u a.2 in
+stamped_shaped : UidsAreFound → (d : Data) (u : Name × Stamp) → stamped_in d ≡ read u → IsShaped u
+unfolding stamped_in
+stamped_shaped all d u e =
+    let b = bind_ok (number_at (codes "count") d) (λ count. of_count d count) u e in
     let c = bind_ok (number_at (codes "site") d) (λ site. of_site d b.0 site) u b.2 in
     let n = bind_ok (demand BadShape (nat_le 1 c.0 && nat_le c.0 65535)) (λ numbered. with_site d b.0 c.0) u c.2 in
     let o = bind_ok (or_fault BadShape (get (codes "name") d)) (λ found. with_name b.0 c.0 found) u n.2 in
@@ -115,6 +114,12 @@ stamp_shaped all d u e =
       small = leb-true c.0 65535 (right (nat_le 1 c.0) (nat_le c.0 65535) range);
     } in
     subst IsShaped (read_is (m.0, stamp) u m.2) shaped
+
+stamp_shaped : UidsAreFound → (d : Data) (u : Name × Stamp) → stamp_in d ≡ read u → IsShaped u
+unfolding stamp_in
+stamp_shaped all d u e =
+    let a = bind_ok (demand BadShape (has_only (codes "count" ∷ codes "name" ∷ codes "site" ∷ []) d)) (λ shape. stamped_in d) u e in
+    stamped_shaped all d u a.2
 
 all_shaped : UidsAreFound → (k : ℕ) (ds : List Data) (m : Summary) → each (λ i d. stamp_in d) k ds ≡ read m → AllByRecursion IsShaped m
 unfolding each
@@ -152,6 +157,10 @@ judged_same k u v e =
     let a = bind_ok (demand (CountRange k) test) (λ counted. demand (BadEntry k bad_id) (is_id u.0) >>= λ named. read u) v e in
     let b = bind_ok (demand (BadEntry k bad_id) (is_id u.0)) (λ named. read u) v a.2 in
     read_is u v b.2
+
+-- one that was read and judged
+pub judged_in_range : UidsAreFound → (k : ℕ) (d : Data) (u v : Name × Stamp) → stamped_in d ≡ read u → judged k u ≡ read v → IsStamped u
+judged_in_range all k d u v e h = subst IsStamped (sym (judged_same k u v h)) (judged_stamped k u v (stamped_shaped all d u e) h)
 
 all_stamped : (k : ℕ) (us m : Summary) → AllByRecursion IsShaped us → each judged k us ≡ read m → AreStamped m × (us ≡ m)
 unfolding each

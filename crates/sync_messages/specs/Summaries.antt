@@ -108,16 +108,21 @@ entity_in d = do
 unfoldable pub name_in : Data → Result Name MessageFault
 name_in d = if has_only (codes "policy" ∷ []) d then policy_in d else entity_in d
 
--- a name with its stamp
-unfoldable pub stamp_in : Data → Result (Name × Stamp) MessageFault
-stamp_in d = do
-  shape ← demand BadShape (has_only (codes "count" ∷ codes "name" ∷ codes "site" ∷ []) d)
+-- the name and the stamp that an object states, whatever other keys it has
+unfoldable pub stamped_in : Data → Result (Name × Stamp) MessageFault
+stamped_in d = do
   count ← number_at (codes "count") d
   site ← number_at (codes "site") d
   numbered ← demand BadShape (nat_le 1 site && nat_le site 65535)
   found ← or_fault BadShape (get (codes "name") d)
   name ← name_in found
   Ok (name, record { count = count; site = site })
+
+-- a name with its stamp, and nothing else
+unfoldable pub stamp_in : Data → Result (Name × Stamp) MessageFault
+stamp_in d = do
+  shape ← demand BadShape (has_only (codes "count" ∷ codes "name" ∷ codes "site" ∷ []) d)
+  stamped_in d
 
 unfoldable pub stamps_of : Items → Result Summary MessageFault
 stamps_of ds = each (λ i d. stamp_in d) 0 (list_of ds)

@@ -1,10 +1,14 @@
 //! Laws of messages, by the contracts of functions that do nothing.
 ghost use Rattle.std.specs.Prelude.{◌≡◌, true, Ok, List, ℕ};
 ghost use Rattle.std.specs.Str.{IsUtf8};
+ghost use Rattle.serde_json.specs.Data.{Data};
+ghost use Rattle.values.specs.declared.name.Name.{Name};
+ghost use Rattle.stamped_store.specs.declared.entry.Stamp.{Stamp};
 ghost use Rattle.stamped_store.specs.Deltas.{Summary, summary_of};
 ghost use Rattle.stamped_store.specs.Store.{Store};
 ghost use Rattle.sync_messages.specs.Summaries.{ascend, AreStamped, summary_json, summary_in};
-ghost use Rattle.sync_messages.specs.Summaries.{summary_text, summary_stated, IsWritten};
+ghost use Rattle.sync_messages.specs.Summaries.{summary_text, summary_stated, IsWritten, IsName, IsStamped};
+ghost use Rattle.sync_messages.specs.Summaries.{name_json, name_in, stamped_in, judged};
 
 use json_words::compact_texts_read_back;
 use uid_json::names_read_back;
@@ -23,5 +27,17 @@ pub fn summaries_read_back()
 {
     paths_are_told();
     compact_texts_read_back();
+    names_read_back();
+}
+
+/// The JSON of a name is read as this name; a name with a stamp in their ranges is judged so; and what is read as a
+/// name with a stamp, and is judged so, has both in their ranges.
+pub fn stamps_read_back()
+    ensures names { (n : Name) → IsName n → name_in (name_json n) ≡ Ok n }
+    ensures judged { (place : ℕ) (u : Name × Stamp) → IsStamped u → judged place u ≡ Ok u }
+    ensures sound { (place : ℕ) (d : Data) (u v : Name × Stamp) → stamped_in d ≡ Ok u → judged place u ≡ Ok v
+        → IsStamped u }
+{
+    paths_are_told();
     names_read_back();
 }

@@ -1,7 +1,7 @@
 //! Messages between sites: what a store is written as, and what is read from another site.
 //!
-//! So far summaries: the names of a store with the stamps of their entries, by which another site tells what is news to
-//! this one.
+//! Here summaries: the names of a store with the stamps of their entries, by which another site tells what is news to
+//! this one; and what entries of every message have in common with them, a name with a stamp.
 #![tactic(auto)]
 
 mod fault;
@@ -11,7 +11,7 @@ mod summary;
 mod writing;
 
 pub use fault::MessageFault;
-pub use laws::summaries_read_back;
-pub use reading::read_summary;
+pub use laws::{stamps_read_back, summaries_read_back};
+pub use reading::{judge_stamp, number_at, read_stamped, read_summary};
 pub use summary::Summary;
 pub use writing::write_summary;

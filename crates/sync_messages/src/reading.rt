@@ -8,7 +8,8 @@ ghost use Rattle.json_words.specs.Each.{each};
 ghost use Rattle.values.specs.Names.{name_cmp};
 ghost use Rattle.sync_messages.specs.declared.fault.MessageFault.TheVariants as MessageFault;
 ghost use Rattle.sync_messages.specs.Summaries.{ascend as ascends, number_at as number_of, policy_in, entity_in};
-ghost use Rattle.sync_messages.specs.Summaries.{name_in, stamp_in, stamps_of, stamps_in, is_id as has_id, judged};
+ghost use Rattle.sync_messages.specs.Summaries.{name_in, stamped_in, stamp_in, stamps_of, stamps_in};
+ghost use Rattle.sync_messages.specs.Summaries.{is_id as has_id, judged};
 ghost use Rattle.sync_messages.specs.Summaries.{summary_in, summary_stated};
 
 use crate::{MessageFault, Summary};
@@ -20,8 +21,9 @@ use std::alloc::Global;
 use uid_json::read_uid;
 use values::Name;
 
-/// The whole number at a key.
-fn number_at(value: &Value, key: &str) -> Result<u64, MessageFault>
+/// The whole number that an object has at a key, where it fits 64 bits without a sign; else the value has a bad shape.
+/// Takes no memory.
+pub fn number_at(value: &Value, key: &str) -> Result<u64, MessageFault>
     ensures { GivesAlways (λ n. n) result (number_of key.now (view value.now)) }
 {
     match value.get(key) {
@@ -73,14 +75,13 @@ fn read_name(alloc: Global, value: &Value) -> Result<Name, MessageFault>
     read_entity(alloc, value)
 }
 
-/// A name with its stamp.
-#[tactic(auto, unfolding(crate::specs::Summaries::stamp_in))]
-fn read_stamp(alloc: Global, value: &Value) -> Result<(Name, Stamp), MessageFault>
-    ensures { Gives MessageFault.NoMemory (λ u. u) result (stamp_in (view value.now)) }
+/// The name and the stamp that an object states at its keys `count`, `name` and `site`, whatever other keys it has: a
+/// count of 64 bits without a sign, a site from 1 to 65,535, and a policy's id or an entity's uid. Else the value has a
+/// bad shape. Fails for memory too.
+#[tactic(auto, unfolding(crate::specs::Summaries::stamped_in))]
+pub fn read_stamped(alloc: Global, value: &Value) -> Result<(Name, Stamp), MessageFault>
+    ensures { Gives MessageFault.NoMemory (λ u. u) result (stamped_in (view value.now)) }
 {
-    if !only_keys(value, &["count", "name", "site"]) {
-        return Err(MessageFault::BadShape);
-    }
     let count = number_at(value, "count")?;
     let site = number_at(value, "site")?;
     if !(1 <= site && site <= 65535) {
@@ -95,6 +96,17 @@ fn read_stamp(alloc: Global, value: &Value) -> Result<(Name, Stamp), MessageFaul
     };
     let name = read_name(alloc, found)?;
     Ok((name, stamp))
+}
+
+/// A name with its stamp.
+#[tactic(auto, unfolding(crate::specs::Summaries::stamp_in))]
+fn read_stamp(alloc: Global, value: &Value) -> Result<(Name, Stamp), MessageFault>
+    ensures { Gives MessageFault.NoMemory (λ u. u) result (stamp_in (view value.now)) }
+{
+    if !only_keys(value, &["count", "name", "site"]) {
+        return Err(MessageFault::BadShape);
+    }
+    read_stamped(alloc, value)
 }
 
 fn read_each(alloc: Global, values: &[Value]) -> Result<Vec<(Name, Stamp)>, MessageFault>
@@ -156,10 +168,11 @@ fn has_id(name: &Name) -> bool
     }
 }
 
-/// Judges the stamp at a place.
+/// Judges the name and the stamp at a place: the count is one from 1 to 10^18, and then a policy's id has 1 to 256
+/// bytes. Takes no memory.
 #[tactic(auto, unfolding(crate::specs::Summaries::judged))]
-fn judge(place: usize, stamp: &(Name, Stamp)) -> Result<(), MessageFault>
-    ensures { Gives MessageFault.NoMemory (λ u. stamp.now) result (judged place stamp.now) }
+pub fn judge_stamp(place: usize, stamp: &(Name, Stamp)) -> Result<(), MessageFault>
+    ensures { GivesAlways (λ u. stamp.now) result (judged place stamp.now) }
 {
     if !(1 <= stamp.1.count && stamp.1.count <= 1_000_000_000_000_000_000) {
         return Err(MessageFault::CountRange(place));
@@ -174,7 +187,7 @@ fn judge_all(stamps: &[(Name, Stamp)]) -> Result<(), MessageFault>
     ensures { Gives MessageFault.NoMemory (λ u. stamps.now) result (each judged 0 stamps.now) }
 {
     for (place, stamp) in stamps.iter().enumerate() {
-        judge(place, stamp)?;
+        judge_stamp(place, stamp)?;
     }
     Ok(())
 }

@@ -64,6 +64,10 @@ abbrev pub demanded : {A : Type 0} → Option A → Result A EvalFault
 demanded None = Err TypeError
 demanded (Some a) = Ok a
 
+-- what was asked of two values, of the first first
+abbrev pub two_demanded : {A B : Type 0} → Option A → Option B → Result (A × B) EvalFault
+two_demanded a b = and_then (demanded a) (λ x. and_then (demanded b) (λ y. Ok (x, y)))
+
 abbrev pub truth : Bool → Outcome
 truth b = Ok (boolean b)
 
@@ -101,7 +105,7 @@ in_value E a (set vs) = and_then (in_members E a (list_of vs)) truth
 in_value E a v = Err TypeError
 
 abbrev pub numbers : (ℤ → ℤ → Outcome) → PlainValue → PlainValue → Outcome
-numbers f v w = and_then (demanded (long_in v)) (λ x. and_then (demanded (long_in w)) (λ y. f x y))
+numbers f v w = and_then (two_demanded (long_in v) (long_in w)) (λ p. f p.0 p.1)
 
 abbrev pub sets : (List PlainValue → List PlainValue → Bool) → PlainValue → PlainValue → Outcome
 sets f v w = and_then (demanded (members_in v)) (λ x. and_then (demanded (members_in w)) (λ y. truth (f x y)))
@@ -166,7 +170,7 @@ apply_unary_call IsLoopback v = tested (λ n. told (in_either_decided n loopback
 apply_unary_call IsMulticast v = tested (λ n. told (in_either_decided n multicast_v4 multicast_v6)) v
 
 abbrev pub decimals : (ℤ → ℤ → Bool) → PlainValue → PlainValue → Outcome
-decimals f v w = and_then (demanded (decimal_in v)) (λ x. and_then (demanded (decimal_in w)) (λ y. truth (f x y)))
+decimals f v w = and_then (two_demanded (decimal_in v) (decimal_in w)) (λ p. truth (f p.0 p.1))
 
 abbrev pub networks : (Network → Network → Bool) → PlainValue → PlainValue → Outcome
 networks f v w = and_then (demanded (network_in v)) (λ x. and_then (demanded (network_in w)) (λ y. truth (f x y)))

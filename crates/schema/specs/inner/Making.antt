@@ -44,13 +44,6 @@ pub record IsMade (commons : Declarations) (o : Option Qualified) (t : Cedar) : 
 abbrev pub shape_in : BTreeMap (List ℕ) EntityDecl → List ℕ → Option Cedar
 shape_in shapes n = option_map (λ d. cedar_view d.shape) (get text_cmp shapes n)
 
-abbrev pub is_in : Option (BTreeSet (List ℕ)) → List ℕ → Bool
-is_in None n = false
-is_in (Some s) n = contains text_cmp s n
-
-abbrev pub may_have_in : BTreeMap (List ℕ) (BTreeSet (List ℕ)) → List ℕ → List ℕ → Bool
-may_have_in above child parent = is_in (get text_cmp above child) parent
-
 -- ---- shapes
 
 abbrev pub ShapeMay : Declarations → FoundEntityType → List ℕ → EntityDecl → Type 0
@@ -189,24 +182,6 @@ AreTypes parents = (u a : EntityUid) → Contains (parents u) a → a.id ≡ []
 
 abbrev pub IsTypesAbove : Parents → List ℕ → BTreeSet (List ℕ) → Type 0
 IsTypesAbove parents n s = (q : List ℕ) → IsTrue (contains text_cmp s q) ↔ Above parents (type_uid q) (type_uid n)
-
-abbrev pub TypesMay : Parents → FoundEntityType → List ℕ → BTreeSet (List ℕ) → Type 0
-TypesMay parents e n s = (e.name ≡ n) × IsTypesAbove parents n s
-
-abbrev pub AddsTypes : Parents → FoundEntityType → BTreeMap (List ℕ) (BTreeSet (List ℕ))
-    → BTreeMap (List ℕ) (BTreeSet (List ℕ)) → Type 0
-AddsTypes parents e old new =
-    Adds (TypesMay parents e) (ShapeMust e) ⊤ (get text_cmp old) (get text_cmp new)
-
-abbrev pub AddsAllTypes : Parents → List FoundEntityType → BTreeMap (List ℕ) (BTreeSet (List ℕ))
-    → BTreeMap (List ℕ) (BTreeSet (List ℕ)) → Type 0
-AddsAllTypes parents es old new =
-    AddsEach (TypesMay parents) ShapeMust (λ e. ⊤) es (get text_cmp old) (get text_cmp new)
-
--- the types above these, and above no other
-abbrev pub AreTypesAbove : Parents → List FoundEntityType → BTreeMap (List ℕ) (BTreeSet (List ℕ)) → Type 0
-AreTypesAbove parents es above =
-    AddsEach (TypesMay parents) ShapeMust (λ e. ⊤) es (λ n. None) (get text_cmp above)
 
 abbrev pub has_type : List EntityUid → List ℕ → Bool
 has_type us q = list_any (λ u. is_eq (text_cmp u.type_name q)) us

@@ -1,11 +1,11 @@
 use Rattle.std.proofs.Common.{◌≡◌, ◌∙◌, ◌<◌, ◌++◌, ◌∷◌, [], length, refl, sym, ap, true, false, not, take, Err, arith}
 use Rattle.std.proofs.lemmas.Result.{err_from_is_err_and}
 use Rattle.std.specs.Prelude.{is_some}
-use Rattle.std.specs.BTreeMap.{get}
-use Rattle.values.specs.Names.{uid_cmp}
 use Rattle.serde_json.specs.View.{view, items_view}
 use Rattle.json_words.specs.Each.{each, list_of}
 use Rattle.json_words.proofs.EachLemmas.{each_next, items_fail, items_end}
+use Rattle.values.specs.declared.entity_uid.EntityUid.{EntityUid}
+use Rattle.entity_store.specs.Keeping.{kept_in}
 use Rattle.decision_texts.specs.Refusals.{no_memory}
 use Rattle.decision_texts.specs.Bare.{entity_at, entities_in}
 use Rattle.decision_texts.proofs.EntitiesLemmas.{before_is, at_new, at_again, at_fault, had, is_before, taken, left-over, some-left}
@@ -14,7 +14,7 @@ use Rattle.decision_texts.proofs.entity_file.read_array.Goals as goal
 
 pub loop-place-init : goal.loop-place-init
 unfolding each
-loop-place-init c = ([], refl, (λ q. rw c.new-edges.ensures.empty refl), c.from_vec-rest.ensures.items)
+loop-place-init c = ([], refl, (λ q. rw c.new-store.ensures refl), c.from_vec-rest.ensures.items)
 
 pub returns-in_err-entity : goal.returns-in_err-entity
 unfolding entities_in
@@ -38,8 +38,8 @@ returns-then-not-branch c told =
     let e = c.in_ok-entity.entity in
     let place = c.loop-place.place in
     let again : is_before e.uid (take place ds) ≡ true =
-    had e.uid (take place ds) before.0 (is_some (get uid_cmp c.loop-place.edges e.uid)) c.in_ok-put.field-0 c.in_ok-put.ensures.first
-    (has_stated c.loop-place.edges before.0 before.2 e.uid) (before_is vs place before.0 e.uid before.1) ∙ ap not c.if-not-branch.true in
+    had e.uid (take place ds) before.0 (is_some (kept_in c.loop-place.store e.uid)) c.in_ok-put.field-0 (ap (λ (u : EntityUid). is_some (kept_in c.loop-place.store u)) (sym c.without_attributes.ensures.uid) ∙ c.in_ok-put.ensures.first)
+    (has_stated c.loop-place.store before.0 before.2 e.uid) (before_is vs place before.0 e.uid before.1) ∙ ap not c.if-not-branch.true in
     items_fail (entity_at ds) vs place c.in-Some.value before.0 no_memory c.bad_shape.result below
     (taken vs c.loop-place.rest.items c.pop_front.new.self.items place c.in-Some.value below before.3 c.in-Some.ensures.items)
     before.1 (λ o. at_again ds place (view c.in-Some.value) e c.in_ok-entity.ensures again ∙ ap Err (sym c.bad_shape.ensures)) told
@@ -52,14 +52,16 @@ loop-place-preserved c =
     let before = c.loop-place.invariant in
     let e = c.in_ok-entity.entity in
     let place = c.loop-place.place in
-    let absent : is_some (get uid_cmp c.loop-place.edges e.uid) ≡ false = c.in_ok-put.ensures.first ∙ ap not c.if-not-branch.false in
+    let absent : is_some (kept_in c.loop-place.store e.uid) ≡ false =
+    ap (λ (u : EntityUid). is_some (kept_in c.loop-place.store u)) (sym c.without_attributes.ensures.uid) ∙ c.in_ok-put.ensures.first ∙ ap not c.if-not-branch.false in
     let new : is_before e.uid (take place ds) ≡ false =
-    before_is vs place before.0 e.uid before.1 ∙ sym (has_stated c.loop-place.edges before.0 before.2 e.uid) ∙ absent in (
+    before_is vs place before.0 e.uid before.1 ∙ sym (has_stated c.loop-place.store before.0 before.2 e.uid) ∙ absent in (
       before.0 ++ e ∷ [],
       each_next view (entity_at ds) vs place c.in-Some.value before.0 e below
           (taken vs c.loop-place.rest.items c.pop_front.new.self.items place c.in-Some.value below before.3 c.in-Some.ensures.items)
           before.1 (at_new ds place (view c.in-Some.value) e c.in_ok-entity.ensures new),
-      holds_more c.loop-place.edges c.put.new.edges before.0 e c.in_ok-put.ensures.puts absent before.2,
+      holds_more c.loop-place.store c.put.new.self before.0 e c.without_attributes.result c.without_attributes.ensures.uid c.without_attributes.ensures.attrs c.without_attributes.ensures.parents
+          (c.in_ok-put.ensures.puts c.if-not-branch.false) absent before.2,
       left-over vs c.loop-place.rest.items c.pop_front.new.self.items place c.in-Some.value below before.3 c.in-Some.ensures.items,
     )
 
@@ -76,5 +78,5 @@ returns c =
     record {
       entities = before.0;
       are = items_end (entity_at (list_of (items_view vs))) vs c.loop-place.place before.0 (omega (arith, c.args.values.ok)) before.1;
-      world_is = held_world c.of.result c.loop-place.edges before.0 c.of.ensures.edges c.of.ensures.nothing before.2;
+      world_is = held_world c.loop-place.store before.0 before.2;
     }

@@ -2,11 +2,11 @@ use Rattle.std.proofs.Common.{ℕ, List, ◌++◌, Err, length, sym, ap, ◌∙�
 use Rattle.std.specs.Prelude.{IsTrue, IsFalse}
 use Rattle.std.specs.Io.KnownBytes.{Consumes}
 use Rattle.std.proofs.KnownBytes.{Consumes-trans, Consumes-kept}
-use Rattle.http_streams.specs.Fetch.{IsBadReply, IsUnfinishedReply}
-use Rattle.http_streams.specs.inner.Cuts.{IsReplyAt}
-use Rattle.http_streams.proofs.OneReplyLemmas.{nothing_unfinished}
-use Rattle.http_streams.proofs.ReplyLemmas.{unfinished_short}
-use Rattle.http_streams.proofs.StreamLemmas.{FailsAtLast-now}
+use Rattle.http_framing.specs.Reply.{IsBadReply, IsUnfinishedReply}
+use Rattle.http_framing.specs.Reply.{IsReplyAt}
+use Rattle.http_framing.proofs.OneReply.{nothing_unfinished}
+use Rattle.http_framing.proofs.OneReply.{unfinished_short}
+use Rattle.counted_devices.proofs.LastCall.{FailsAtLast-now}
 use Rattle.http_streams.proofs.fetch.read_whole.Goals as goal
 
 pub turns-init : goal.turns-init

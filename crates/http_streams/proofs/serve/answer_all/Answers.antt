@@ -1,9 +1,10 @@
 use Rattle.std.proofs.Common.{ℕ, List, [], ◌++◌, length, drop, false, refl, sym, ap, ◌∙◌, subst, inl, inr, arith, length-drop}
 use Rattle.std.proofs.lemmas.List.{drop-drop, take_rest}
-use Rattle.http_streams.specs.Request.{IsRefused}
+use Rattle.http_framing.specs.Request.{IsRefused}
 use Rattle.http_streams.specs.Stream.{Exchanges}
 use Rattle.std.proofs.KnownBytes.{Appends-nil, Appends-trans}
-use Rattle.http_streams.proofs.StreamLemmas.{Serves-none, Serves-push, Ends-after, Ends-now, Stops-after, Stops-now, Exchanges-at, Halts-at, FailsAtLast-from}
+use Rattle.http_streams.proofs.StreamLemmas.{Serves-none, Serves-push, Ends-after, Ends-now, Stops-after, Stops-now, Exchanges-at, Halts-at}
+use Rattle.counted_devices.proofs.LastCall.{FailsAtLast-from}
 use Rattle.http_streams.proofs.serve.answer_all.Goals as goal
 
 pub requests-init : goal.requests-init

@@ -1,7 +1,7 @@
 use Rattle.std.proofs.Common.{[], refl}
 use Rattle.std.proofs.KnownBytes.{Appends-nil, Consumes-nil}
 use Rattle.http_streams.proofs.StreamLemmas.{Rests-from, Serves-none}
-use Rattle.http_streams.proofs.UniqueLemmas.{nothing_unfinished}
+use Rattle.http_framing.proofs.OneRequest.{nothing_unfinished}
 use Rattle.http_streams.proofs.serve.serve.Goals as goal
 
 pub returns-in_default-clause-memory : goal.returns-in_default-clause-memory

@@ -1,5 +1,5 @@
 use Rattle.std.proofs.Common.{◌≡◌}
-use Rattle.schema_names.specs.Qualifying.{action_type, uid_of}
+use Rattle.named_types.specs.Actions.{action_type, uid_of}
 use Rattle.schema_names.proofs.AddLemmas.{uid_added}
 use Rattle.schema_names.proofs.declaring.add_action.Goals as goal
 

@@ -3,7 +3,7 @@ use Rattle.std.proofs.lemmas.Result.{err_from_is_err_and}
 use Rattle.json_words.specs.Each.{each}
 use Rattle.json_words.proofs.EachLemmas.{each_fails, each_ends}
 use Rattle.schema_types.specs.declared.fault.SchemaFault.TheVariants.{NoMemory}
-use Rattle.schema_types.specs.NamesViews.{scope_of, is_action_of}
+use Rattle.named_types.specs.NamesViews.{scope_of, is_action_of}
 use Rattle.schema_file.specs.StatedViews.{action_view}
 use Rattle.schema_names.specs.FoundViews.{found_action_view}
 use Rattle.schema_names.specs.Qualifying.{qualified_action, qualified_actions}

@@ -3,7 +3,7 @@ use Rattle.std.proofs.lemmas.Result.{err_from_is_err_and}
 use Rattle.json_words.specs.Each.{each}
 use Rattle.json_words.proofs.EachLemmas.{each_next}
 use Rattle.schema_types.specs.declared.fault.SchemaFault.TheVariants.{NoMemory}
-use Rattle.schema_types.specs.NamesViews.{is_action_of}
+use Rattle.named_types.specs.NamesViews.{is_action_of}
 use Rattle.schema_names.specs.Qualifying.{parent_named, parents_named}
 use Rattle.json_words.proofs.EachSame.{same_fails, same_ends}
 use Rattle.schema_names.proofs.qualifying.qualify_parents.Goals as goal

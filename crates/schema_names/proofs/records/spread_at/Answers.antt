@@ -1,5 +1,5 @@
 use Rattle.std.proofs.Common.{List, map, subst}
-use Rattle.schema_types.specs.NamesViews.{scope_of}
+use Rattle.named_types.specs.NamesViews.{scope_of}
 use Rattle.schema_file.specs.declared.stated.StatedCommon.{StatedCommon}
 use Rattle.schema_file.specs.StatedViews.{common_view}
 use Rattle.schema_names.specs.Qualifying.{common_in}

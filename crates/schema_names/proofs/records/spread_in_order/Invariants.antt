@@ -1,5 +1,5 @@
 use Rattle.std.proofs.Common.{map}
-use Rattle.schema_types.specs.NamesViews.{scope_of}
+use Rattle.named_types.specs.NamesViews.{scope_of}
 use Rattle.schema_file.specs.StatedViews.{namespace_view}
 use Rattle.schema_names.specs.Qualifying.{commons_declared}
 use Rattle.schema_names.specs.inner.Spreading.{KeepsNames}

@@ -1,4 +1,4 @@
-use Rattle.schema_types.specs.NamesViews.{scope_of}
+use Rattle.named_types.specs.NamesViews.{scope_of}
 use Rattle.schema_names.proofs.SpreadLemmas.{kept_one}
 use Rattle.schema_names.proofs.records.spread_one.Goals as goal
 

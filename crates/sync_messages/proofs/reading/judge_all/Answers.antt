@@ -15,11 +15,11 @@ pub loop-place-init : goal.loop-place-init
 unfolding each
 loop-place-init c = refl
 
-pub returns-in_err-judge : goal.returns-in_err-judge
-returns-in_err-judge c =
+pub returns-in_err-judge_stamp : goal.returns-in_err-judge_stamp
+returns-in_err-judge_stamp c =
     let p = err_from_is_err_and c.from_residual.result c.from_residual.ensures.1 in
-    rw (p.1, p.2) (same_fails judged c.args.stamps.now c.loop-place.place c.index-stamps-place.result (take c.loop-place.place c.args.stamps.now) NoMemory c.in_err-judge.field-0.0
-    c.loop-place-test.true c.index-stamps-place.is c.loop-place.invariant c.in_err-judge.ensures)
+    rw (p.1, p.2) (same_fails judged c.args.stamps.now c.loop-place.place c.index-stamps-place.result (take c.loop-place.place c.args.stamps.now) NoMemory c.in_err-judge_stamp.field-0.0
+    c.loop-place-test.true c.index-stamps-place.is c.loop-place.invariant (λ other. c.in_err-judge_stamp.ensures))
 
 pub loop-place-preserved : goal.loop-place-preserved
 loop-place-preserved c =
@@ -27,7 +27,7 @@ loop-place-preserved c =
     let i = c.loop-place.place in
     let v = c.index-stamps-place.result in
     let more : take (i + 1) es ≡ take i es ++ v ∷ [] = take_more es i v c.loop-place-test.true ∙ ap (λ (u : Name × Stamp). take i es ++ u ∷ []) (sym c.index-stamps-place.is) in
-    each_next (λ u. u) judged es i v (take i es) v c.loop-place-test.true c.index-stamps-place.is c.loop-place.invariant c.in_ok-judge.ensures
+    each_next (λ u. u) judged es i v (take i es) v c.loop-place-test.true c.index-stamps-place.is c.loop-place.invariant c.in_ok-judge_stamp.ensures
     ∙ ap (λ (l : Summary). Ok l) (sym more)
 
 pub returns : goal.returns

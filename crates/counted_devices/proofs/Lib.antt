@@ -1,0 +1,2 @@
+-- LastCall is meant to be imported by the crates above.
+pub mod LastCall

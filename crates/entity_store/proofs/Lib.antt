@@ -1,0 +1,4 @@
+mod ActionLemmas
+mod AlikeLemmas
+mod ApartLemmas
+mod UidLemmas

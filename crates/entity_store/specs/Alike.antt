@@ -1,0 +1,23 @@
+-- Worlds with the same entities, in which the same stand above one another, are alike to whoever asks.
+use Rattle.std.specs.Prelude.{◌↔◌, List}
+use Rattle.values.specs.declared.entity_uid.EntityUid.{EntityUid}
+use Rattle.values.specs.declared.request.Request.{Request}
+use Rattle.ancestor_closure.specs.Hierarchy.{Parents, Above}
+use Rattle.expressions.specs.declared.expr.Expr.{Expr}
+use Rattle.evaluator.specs.Outcomes.{Outcome}
+use Rattle.evaluator.specs.Operators.{World}
+use Rattle.evaluator.specs.Evaluation.{Gives}
+use Rattle.authoriser.specs.declared.answer.Answer.{Answer}
+use Rattle.authoriser.specs.Answers.{Named, IsAnswer}
+
+-- the same entities are above one another, and so the same are on cycles
+abbrev pub LeadAlike : Parents → Parents → Type 0
+LeadAlike parents others = (a b : EntityUid) → Above parents a b ↔ Above others a b
+
+-- each expression gives the same
+abbrev pub GiveAlike : World → World → Type 0
+GiveAlike W V = (q : Request) (x : Expr) (r : Outcome) → Gives W q x r ↔ Gives V q x r
+
+-- each request has the same answer, over whichever policies
+abbrev pub AnswerAlike : World → World → Type 0
+AnswerAlike W V = (q : Request) (policies : List Named) (a : Answer) → IsAnswer W q policies a ↔ IsAnswer V q policies a

@@ -1,0 +1,51 @@
+-- What is true of the definitions: an action has as parents all that is above it by `memberOf`, and that is no matter:
+-- over the edges by `memberOf` alone the same entities are above one another, each expression gives the same, and each
+-- answer is the same.
+use Rattle.std.specs.Prelude.{◌≡◌, ℕ, List, Option, None, Ok, option_map}
+use Rattle.serde_json.specs.Data.{Data}
+use Rattle.values.specs.declared.entity_uid.EntityUid.{EntityUid}
+use Rattle.values.specs.Fields.{Field}
+use Rattle.ancestor_closure.specs.Hierarchy.{Parents}
+use Rattle.evaluator.specs.Operators.{World, world_of}
+use Rattle.schema_names.specs.Qualifying.{FoundSchema}
+use Rattle.schema.specs.Schemas.{StatedSchema, IsSchemaOf, action_parents}
+use Rattle.entities.specs.declared.entity.Entity.{Entity}
+use Rattle.entities.specs.Entities.{entity_in}
+use Rattle.entity_store.specs.Entities.{EntityMap, Actions, with_actions, world_in}
+use Rattle.entity_store.specs.Alike.{LeadAlike, GiveAlike, AnswerAlike}
+
+-- whatever the edges are: it is enough that they lead to the same
+abbrev pub ReachDecides : Type 0
+ReachDecides = (stored : EntityUid → Option (List Field)) (parents others : Parents) → LeadAlike parents others
+    → GiveAlike (world_of stored parents) (world_of stored others)
+    × AnswerAlike (world_of stored parents) (world_of stored others)
+
+-- the actions of a schema, each with the parents that its `memberOf` states
+abbrev pub by_member_of : FoundSchema → StatedSchema → Actions
+by_member_of s v u = option_map (λ above. action_parents s u) (v.ancestors u)
+
+-- what the entities are with these actions, and with all that is above an action as its parents
+abbrev pub stated_world : FoundSchema → StatedSchema → EntityMap → World
+stated_world s v entities = world_in (with_actions (by_member_of s v) entities)
+
+abbrev pub closed_world : StatedSchema → EntityMap → World
+closed_world v entities = world_in (with_actions v.ancestors entities)
+
+-- the same entities are above one another,
+abbrev pub MemberOfLeadsAlike : Type 0
+MemberOfLeadsAlike = (bytes : List ℕ) (v : StatedSchema) (stated : IsSchemaOf bytes v) (entities : EntityMap)
+    → LeadAlike (stated_world stated.named v entities).parents (closed_world v entities).parents
+
+-- each expression gives the same, and each request has the same answer
+abbrev pub MemberOfGivesAlike : Type 0
+MemberOfGivesAlike = (bytes : List ℕ) (v : StatedSchema) (stated : IsSchemaOf bytes v) (entities : EntityMap)
+    → GiveAlike (stated_world stated.named v entities) (closed_world v entities)
+
+abbrev pub MemberOfAnswersAlike : Type 0
+MemberOfAnswersAlike = (bytes : List ℕ) (v : StatedSchema) (stated : IsSchemaOf bytes v) (entities : EntityMap)
+    → AnswerAlike (stated_world stated.named v entities) (closed_world v entities)
+
+-- no entity that is read under a schema is an action of it, so that what is kept and the actions are apart
+abbrev pub NoEntityIsAnAction : Type 0
+NoEntityIsAnAction = (bytes : List ℕ) (v : StatedSchema) → IsSchemaOf bytes v → (d : Data) (e : Entity)
+    → entity_in v d ≡ Ok e → v.ancestors e.uid ≡ None

@@ -1,0 +1,22 @@
+// Laws of the definitions; the functions do nothing.
+ghost use Rattle.entity_store.specs.Laws.{ReachDecides, MemberOfLeadsAlike, MemberOfGivesAlike, MemberOfAnswersAlike};
+ghost use Rattle.entity_store.specs.Laws.{NoEntityIsAnAction};
+
+/// That what expressions give and what is answered follows from the attributes of the entities and from who is above
+/// whom, whichever edges lead there.
+pub fn reach_decides()
+    ensures { ReachDecides }
+{}
+
+/// That an action may have all that is above it as its parents: over the edges by `memberOf` alone the same entities
+/// are above one another and on cycles, each expression gives the same, and each request has the same answer.
+pub fn actions_may_be_closed()
+    ensures alike { MemberOfLeadsAlike }
+    ensures gives { MemberOfGivesAlike }
+    ensures answers { MemberOfAnswersAlike }
+{}
+
+/// That an entity that is read under a schema is none of its actions, whose types alone end in `Action`.
+pub fn entities_are_no_actions()
+    ensures { NoEntityIsAnAction }
+{}

@@ -1,0 +1,5 @@
+-- OneRequest and OneReply are meant to be imported by the crates above.
+pub mod CutLemmas
+pub mod OneReply
+pub mod OneRequest
+pub mod ReplyLemmas

@@ -1,0 +1,5 @@
+pub mod Fields
+pub mod Request
+pub mod Reply
+pub mod Laws
+pub mod inner

@@ -1,0 +1,127 @@
+-- Where the requests of a stream end, and which of them are refused (RFC 9112, sections 3 to 6).
+use Rattle.std.specs.Prelude.{◌≡◌, ℕ, ◌<◌, ◌≤◌, ◌⊎◌, Bool, ◌||◌, List, [], ◌∷◌, ◌++◌, length, map, drop}
+use Rattle.std.specs.Prelude.{if◌then◌else◌, ◌==◌, codes, bytes_eq}
+use Rattle.std.specs.List.{list_any}
+use Rattle.httparse.specs.Grammar.{RequestHead, print_request, ReadsRequest, HasNoRequest, NeverHasRequest}
+use Rattle.httparse.specs.Grammar.{MayBecomeRequest}
+use Rattle.httparse.specs.Spans.{span_bytes, name_and_value}
+use Rattle.http_framing.specs.Fields.{Pair, announced, is_close, is_named, values_named}
+use Rattle.http_framing.specs.declared.fields.Announced.{Announced}
+use Rattle.http_framing.specs.declared.fields.Announced.TheVariants.{Size, TooLong, NoNumber}
+use Rattle.http_framing.specs.declared.cut.Framing.{Framing}
+use Rattle.http_framing.specs.declared.cut.Framing.TheVariants.{Body, Refused}
+use Rattle.http_framing.specs.declared.cut.Parts.{Parts}
+use Rattle.http_framing.specs.declared.cut.Cut.{Cut}
+use Rattle.http_framing.specs.declared.cut.Cut.TheVariants as Cuts
+use Rattle.http_texts.specs.declared.status.Status.{Status}
+use Rattle.http_texts.specs.declared.status.Status.TheVariants.{BadRequest, LengthRequired, PayloadTooLarge}
+use Rattle.http_texts.specs.declared.status.Status.TheVariants.{NotImplemented}
+use Rattle.http_framing.specs.declared.TheConstants.{MAX_HEAD, MAX_FIELDS, MAX_BODY}
+
+-- a request with this method has to announce its length
+abbrev pub needs_length : List ℕ → Bool
+needs_length method = bytes_eq method (codes "PUT") || bytes_eq method (codes "POST")
+
+-- what one announcement comes to
+abbrev pub framing_by : Announced → Framing
+framing_by (Size n) = Body n
+framing_by TooLong = Refused PayloadTooLarge
+framing_by NoNumber = Refused BadRequest
+
+-- what the values of Content-Length come to
+abbrev pub framing_by_lengths : List ℕ → List (List ℕ) → Framing
+framing_by_lengths method [] = if needs_length method then Refused LengthRequired else Body 0
+framing_by_lengths method (v ∷ []) = framing_by (announced MAX_BODY v)
+framing_by_lengths method (v ∷ w ∷ vs) = Refused BadRequest
+
+-- how long the body is, or with which status the head is refused
+abbrev pub framing : List ℕ → List Pair → Framing
+framing method ps =
+    if list_any (is_named (codes "transfer-encoding")) ps then Refused NotImplemented
+    else framing_by_lengths method (values_named (codes "content-length") ps)
+
+-- the names and values of the head's fields
+abbrev pub pairs : RequestHead → List Pair
+pairs h = map name_and_value h.fields
+
+abbrev pub framing_of : RequestHead → Framing
+framing_of h = framing h.method (pairs h)
+
+-- the connection ends after a request of this version with these fields
+abbrev pub closes : ℕ → List Pair → Bool
+closes minor ps = (minor == 0) || list_any is_close ps
+
+abbrev pub closes_of : RequestHead → Bool
+closes_of h = closes h.minor (pairs h)
+
+-- bytes begin with the head h, which is within the limits, and then rest
+pub record Admits (bytes : List ℕ) (h : RequestHead) (rest : List ℕ) : Type 0 where
+  pub reads : ReadsRequest bytes h rest
+  pub short : length (print_request h) ≤ MAX_HEAD
+  pub few : length h.fields ≤ MAX_FIELDS
+
+-- bytes begin with no head within the limits
+abbrev pub HasNoAdmitted : List ℕ → Type 0
+HasNoAdmitted bytes = (h : RequestHead) (rest : List ℕ) → Admits bytes h rest → ⊥
+
+-- bytes are the request with head h and this body, and then rest
+pub record ReadsWhole (bytes : List ℕ) (h : RequestHead) (body rest : List ℕ) : Type 0 where
+  pub head : Admits bytes h (body ++ rest)
+  pub framed : framing_of h ≡ Body (length body)
+
+-- bytes begin with a head that is refused with this status
+pub record RefusesHead (bytes : List ℕ) (status : Status) : Type 0 where
+  pub head : RequestHead
+  pub rest : List ℕ
+  pub admits : Admits bytes head rest
+  pub framed : framing_of head ≡ Refused status
+
+-- no admitted head can come: bytes begin with a whole head of too many fields, or are too many
+abbrev pub IsTooLarge : List ℕ → Type 0
+IsTooLarge bytes =
+    ((h : RequestHead) × (rest : List ℕ) × ReadsRequest bytes h rest × (MAX_FIELDS < length h.fields))
+    ⊎ (MAX_HEAD < length bytes)
+
+-- bytes begin with no admitted head, and none can come
+abbrev pub IsBadHead : List ℕ → Type 0
+IsBadHead bytes = HasNoAdmitted bytes × (IsTooLarge bytes ⊎ NeverHasRequest bytes)
+
+-- bytes are refused with this status
+abbrev pub IsRefused : List ℕ → Status → Type 0
+IsRefused bytes status = RefusesHead bytes status ⊎ ((status ≡ BadRequest) × IsBadHead bytes)
+
+-- bytes begin with an admitted head whose body is cut off
+pub record IsCutOff (bytes : List ℕ) : Type 0 where
+  pub head : RequestHead
+  pub rest : List ℕ
+  pub size : ℕ
+  pub admits : Admits bytes head rest
+  pub framed : framing_of head ≡ Body size
+  pub short : length rest < size
+
+-- bytes are less than a head, and more may come
+pub record IsPartOfHead (bytes : List ℕ) : Type 0 where
+  pub none : HasNoRequest bytes
+  pub short : length bytes ≤ MAX_HEAD
+  pub open_still : MayBecomeRequest bytes
+
+-- bytes are less than a request, and get nothing
+abbrev pub IsUnfinished : List ℕ → Type 0
+IsUnfinished bytes = IsCutOff bytes ⊎ IsPartOfHead bytes
+
+-- the parts lie in bytes where the request has them
+pub record IsWholeAt (bytes : List ℕ) (p : Parts) : Type 0 where
+  pub head : RequestHead
+  pub ordered : (p.body ≤ p.end) × (p.end ≤ length bytes) × (0 < p.end)
+  pub method_in : (p.method.start ≤ p.method.end) × (p.method.end ≤ p.body)
+  pub target_in : (p.target.start ≤ p.target.end) × (p.target.end ≤ p.body)
+  pub reads : ReadsWhole bytes head (span_bytes bytes (record { start = p.body; end = p.end })) (drop p.end bytes)
+  pub method : span_bytes bytes p.method ≡ head.method
+  pub target : span_bytes bytes p.target ≡ head.target
+  pub closes : p.closes ≡ closes_of head
+
+-- what stands at the front of bytes
+abbrev pub IsCut : List ℕ → Cut → Type 0
+IsCut bytes (Cuts.Whole p) = IsWholeAt bytes p
+IsCut bytes (Cuts.Refused status) = IsRefused bytes status
+IsCut bytes Cuts.Unfinished = IsUnfinished bytes

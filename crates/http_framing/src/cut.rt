@@ -1,0 +1,132 @@
+//! Where the requests of a stream end.
+ghost use Rattle.std.specs.Prelude.{◌≡◌, ◌≤◌, length, map, take, All};
+ghost use Rattle.httparse.specs.Spans.{IsHeaderWithin, IsRequestOf, IsRequestWithin, header_bytes};
+ghost use Rattle.http_framing.specs.Request.{IsCut, closes, framing, framing_by, needs_length};
+
+use crate::fields::{Announced, Found, asks_to_close, has_header, length_of, values_of};
+use crate::limits::{first_bytes, has_too_many, is_cut_off};
+use crate::{MAX_BODY, MAX_FIELDS, MAX_HEAD};
+use http_texts::status::Status;
+use httparse::Status as Parsed;
+use httparse::spans::{HeaderSpan, RequestSpans, Span, parse_request};
+
+/// How long a body is, or with which status its head is refused.
+#[derive(Clone, Copy)]
+pub enum Framing {
+    Body(usize),
+    Refused(Status),
+}
+
+/// Where the parts of a request are.
+#[derive(Clone, Copy)]
+pub struct Parts {
+    pub method: Span,
+    pub target: Span,
+    /// Where the body begins.
+    pub body: usize,
+    /// Where the body ends, and the request with it.
+    pub end: usize,
+    /// Whether the reply to the request is the last one.
+    pub closes: bool,
+}
+
+/// What stands at the front of some bytes.
+#[derive(Clone, Copy)]
+pub enum Cut {
+    Whole(Parts),
+    Refused(Status),
+    Unfinished,
+}
+
+/// What one announcement comes to.
+fn framing_by(length: Announced) -> Framing
+    ensures { result ≡ framing_by length }
+{
+    match length {
+        Announced::Size(size) => Framing::Body(size),
+        Announced::TooLong => Framing::Refused(Status::PayloadTooLarge),
+        Announced::NoNumber => Framing::Refused(Status::BadRequest),
+    }
+}
+
+/// Whether a request with this method has to announce its length.
+fn needs_length(method: &[u8]) -> bool
+    ensures { result ≡ needs_length method.now }
+{
+    method == b"PUT".as_slice() || method == b"POST".as_slice()
+}
+
+/// How long the body is, or with which status the head is refused.
+fn framing_at(buf: &[u8], headers: &[HeaderSpan], method: &[u8]) -> Framing
+    requires { All (IsHeaderWithin (length buf.now)) headers.now }
+    ensures { result ≡ framing method.now (map (header_bytes buf.now) headers.now) }
+{
+    if has_header(buf, headers, b"transfer-encoding") {
+        return Framing::Refused(Status::NotImplemented);
+    }
+    match values_of(buf, headers, b"content-length") {
+        Found::Absent if needs_length(method) => Framing::Refused(Status::LengthRequired),
+        Found::Absent => Framing::Body(0),
+        Found::Once(text) => framing_by(length_of(text, MAX_BODY)),
+        Found::Many => Framing::Refused(Status::BadRequest),
+    }
+}
+
+/// Whether the connection ends after the request.
+fn closes(buf: &[u8], headers: &[HeaderSpan], minor: u8) -> bool
+    requires { All (IsHeaderWithin (length buf.now)) headers.now }
+    ensures { result ≡ closes minor (map (header_bytes buf.now) headers.now) }
+{
+    if minor == 0 {
+        return true;
+    }
+    for header in headers {
+        if asks_to_close(buf, header) {
+            return true;
+        }
+    }
+    false
+}
+
+/// What stands at the front of `buf`, whose first bytes `seen` begin with the head.
+fn cut_body(buf: &[u8], seen: &[u8], headers: &[HeaderSpan], head: &RequestSpans) -> Cut
+    requires seen { seen.now ≡ take MAX_HEAD buf.now }
+    requires few { length headers.now ≤ MAX_FIELDS }
+    requires count { length headers.now ≡ head.now.headers }
+    requires within { IsRequestWithin seen.now headers.now head.now }
+    requires complete { IsRequestOf seen.now headers.now head.now }
+    ensures { IsCut buf.now result }
+{
+    let left = buf.len() - head.len;
+    match framing_at(seen, headers, head.method.of(seen)) {
+        Framing::Refused(status) => Cut::Refused(status),
+        Framing::Body(size) if is_cut_off(left, size) => Cut::Unfinished,
+        Framing::Body(size) => Cut::Whole(Parts {
+            method: head.method,
+            target: head.path,
+            body: head.len,
+            end: head.len + size,
+            closes: closes(seen, headers, head.version),
+        }),
+    }
+}
+
+/// What stands at the front of `buf`. `room` has a header for each byte that a head may have, so that a head of
+/// too many fields is seen whole.
+pub fn cut_request(buf: &[u8], room: &mut [HeaderSpan]) -> Cut
+    requires { MAX_HEAD ≤ length room.old }
+    ensures { IsCut buf.now result }
+{
+    let seen = first_bytes(buf);
+    match parse_request(seen, room) {
+        Ok(Parsed::Complete(head)) => {
+            if has_too_many(head.headers) {
+                return Cut::Refused(Status::BadRequest);
+            }
+            cut_body(buf, seen, &room[..head.headers], &head)
+        }
+        Ok(Parsed::Partial) if buf.len() <= MAX_HEAD => Cut::Unfinished,
+        Ok(Parsed::Partial) => Cut::Refused(Status::BadRequest),
+        Err(_) => Cut::Refused(Status::BadRequest),
+    }
+}

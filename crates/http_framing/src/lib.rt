@@ -1,0 +1,22 @@
+//! Where requests and replies of HTTP/1.1 end in a stream of bytes, and which of them are refused.
+//!
+//! Nothing here reads or writes, and no memory is asked for.
+#![tactic(auto)]
+
+pub mod cut;
+mod fields;
+pub mod laws;
+mod limits;
+pub mod reply_cut;
+
+/// The most bytes of a head, its empty line included.
+pub const MAX_HEAD: usize = 16_384;
+
+/// The most fields of a head.
+pub const MAX_FIELDS: usize = 64;
+
+/// The most bytes of a request's body.
+pub const MAX_BODY: usize = 8_388_608;
+
+/// The most bytes of the body of a reply that is fetched.
+pub const MAX_REPLY: usize = 67_108_864;

@@ -1,0 +1,31 @@
+//! What a head may have.
+ghost use Rattle.std.specs.Prelude.{◌≡◌, ◌≤◌, ◌<◌, true, false, take};
+
+use crate::{MAX_FIELDS, MAX_HEAD};
+
+/// As much as a head may have.
+pub(crate) fn first_bytes(buf: &[u8]) -> &[u8]
+    ensures { result.now ≡ take MAX_HEAD buf.now }
+{
+    if buf.len() > MAX_HEAD {
+        &buf[..MAX_HEAD]
+    } else {
+        buf
+    }
+}
+
+/// Whether a head has more fields than it may.
+pub(crate) fn has_too_many(fields: usize) -> bool
+    ensures over { result ≡ true → MAX_FIELDS < fields }
+    ensures fits { result ≡ false → fields ≤ MAX_FIELDS }
+{
+    fields > MAX_FIELDS
+}
+
+/// Whether the `left` bytes behind a head are less than its body of this size.
+pub(crate) fn is_cut_off(left: usize, size: usize) -> bool
+    ensures cut { result ≡ true → left < size }
+    ensures whole { result ≡ false → size ≤ left }
+{
+    left < size
+}

@@ -1,0 +1,86 @@
+//! Where the reply at the front of a stream ends.
+ghost use Rattle.std.specs.Prelude.{◌≡◌, ◌≤◌, length, map, take, All};
+ghost use Rattle.httparse.specs.Spans.{IsHeaderWithin, IsResponseOf, IsResponseWithin, header_bytes};
+ghost use Rattle.http_framing.specs.Reply.{IsReplyCut, reply_length};
+
+use crate::fields::{Announced, Found, has_header, length_of, values_of};
+use crate::limits::{first_bytes, has_too_many, is_cut_off};
+use crate::{MAX_FIELDS, MAX_HEAD, MAX_REPLY};
+use httparse::Status as Parsed;
+use httparse::spans::{HeaderSpan, ResponseSpans, parse_response};
+
+/// Where the parts of a reply are.
+#[derive(Clone, Copy)]
+pub struct ReplyParts {
+    /// The three digits of the status, as a number.
+    pub code: u16,
+    /// Where the body begins.
+    pub body: usize,
+    /// Where the body ends.
+    pub end: usize,
+}
+
+/// What stands at the front of some bytes.
+#[derive(Clone, Copy)]
+pub enum ReplyCut {
+    Whole(ReplyParts),
+    /// They begin no reply of one length within the limits.
+    Bad,
+    Unfinished,
+}
+
+/// How long the body of a reply is.
+fn length_at(buf: &[u8], headers: &[HeaderSpan]) -> Announced
+    requires { All (IsHeaderWithin (length buf.now)) headers.now }
+    ensures { result ≡ reply_length (map (header_bytes buf.now) headers.now) }
+{
+    if has_header(buf, headers, b"transfer-encoding") {
+        return Announced::NoNumber;
+    }
+    match values_of(buf, headers, b"content-length") {
+        Found::Once(text) => length_of(text, MAX_REPLY),
+        _ => Announced::NoNumber,
+    }
+}
+
+/// What stands at the front of `buf`, whose first bytes `seen` begin with the head.
+fn cut_reply_body(buf: &[u8], seen: &[u8], headers: &[HeaderSpan], head: &ResponseSpans) -> ReplyCut
+    requires seen { seen.now ≡ take MAX_HEAD buf.now }
+    requires few { length headers.now ≤ MAX_FIELDS }
+    requires count { length headers.now ≡ head.now.headers }
+    requires within { IsResponseWithin seen.now headers.now head.now }
+    requires complete { IsResponseOf seen.now headers.now head.now }
+    ensures { IsReplyCut buf.now result }
+{
+    let left = buf.len() - head.len;
+    match length_at(seen, headers) {
+        Announced::NoNumber => ReplyCut::Bad,
+        Announced::TooLong => ReplyCut::Bad,
+        Announced::Size(size) if is_cut_off(left, size) => ReplyCut::Unfinished,
+        Announced::Size(size) => ReplyCut::Whole(ReplyParts {
+            code: head.code,
+            body: head.len,
+            end: head.len + size,
+        }),
+    }
+}
+
+/// What stands at the front of `buf`. `room` has a header for each byte that a head may have, so that a head of too many
+/// fields is seen whole.
+pub fn cut_reply(buf: &[u8], room: &mut [HeaderSpan]) -> ReplyCut
+    requires { MAX_HEAD ≤ length room.old }
+    ensures { IsReplyCut buf.now result }
+{
+    let seen = first_bytes(buf);
+    match parse_response(seen, room) {
+        Ok(Parsed::Complete(head)) => {
+            if has_too_many(head.headers) {
+                return ReplyCut::Bad;
+            }
+            cut_reply_body(buf, seen, &room[..head.headers], &head)
+        }
+        Ok(Parsed::Partial) if buf.len() <= MAX_HEAD => ReplyCut::Unfinished,
+        Ok(Parsed::Partial) => ReplyCut::Bad,
+        Err(_) => ReplyCut::Bad,
+    }
+}

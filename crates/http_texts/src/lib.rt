@@ -1,0 +1,6 @@
+//! Requests and replies of HTTP/1.1 as they are written.
+#![tactic(auto)]
+
+pub mod reply;
+pub mod request;
+pub mod status;

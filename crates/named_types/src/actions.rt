@@ -1,0 +1,53 @@
+//! Finding the action that a type and an id mean.
+ghost use Rattle.std.specs.Prelude.{◌≡◌, IfOk};
+ghost use Rattle.named_types.specs.Actions.{action_type, declared_action, action_of_type};
+ghost use Rattle.named_types.specs.NamesViews.{is_action_of};
+
+use crate::names::{Names, full_name, is_qualified};
+use plain::{NoMemory, Text};
+use std::alloc::Global;
+use values::{EntityUid, TypeName};
+
+/// The type of the actions of a namespace.
+pub fn action_type(alloc: Global, own: &Option<TypeName>) -> Result<TypeName, NoMemory>
+    ensures { IfOk result (λ t. t ≡ action_type own.now) }
+{
+    let word = TypeName::from_words(alloc, ["Action"].as_slice())?;
+    full_name(alloc, own, &word)
+}
+
+/// The action of this type and id, where it is declared.
+pub fn declared_action(
+    names: &Names,
+    type_name: TypeName,
+    id: &Text,
+) -> Result<Option<EntityUid>, NoMemory>
+    ensures { IfOk result (λ o. o ≡ declared_action (is_action_of names.now) type_name id.now) }
+{
+    let id = id.copy()?;
+    let uid = EntityUid { type_name, id };
+    if names.actions.contains(&uid) {
+        return Ok(Some(uid));
+    }
+    Ok(None)
+}
+
+/// The action that a type as written and an id mean: in the own namespace, then in the empty one.
+#[tactic(auto, unfolding(crate::specs::Actions::action_of_type))]
+pub fn find_action_of_type(
+    alloc: Global,
+    names: &Names,
+    own: &Option<TypeName>,
+    word: &TypeName,
+    id: &Text,
+) -> Result<Option<EntityUid>, NoMemory>
+    ensures { IfOk result (λ o. o ≡ action_of_type (is_action_of names.now) own.now word.now id.now) }
+{
+    if !is_qualified(word.as_str()) {
+        let full = full_name(alloc, own, word)?;
+        if let Some(uid) = declared_action(names, full, id)? {
+            return Ok(Some(uid));
+        }
+    }
+    declared_action(names, word.copy()?, id)
+}

@@ -1,0 +1,269 @@
+//! The types above each type, kept in lines.
+//!
+//! A line is a run of types, each of which has the one before it as its only parent. So above a type are those before
+//! it in its line, and what is above the first of them. A type whose only parent is of a line stands behind that
+//! parent, in its line or beside it. So a chain of types takes memory once a type, and not once a pair.
+ghost use Rattle.std.specs.Prelude.{◌≡◌, ◌<◌, ℕ, List, suc, true, None, IfOk, OnOk, map, if◌then◌else◌};
+ghost use Rattle.std.specs.BTreeMap.{get};
+ghost use Rattle.values.specs.Names.{text_cmp};
+ghost use Rattle.ancestor_closure.specs.contracts.searched.SearchedAncestry.TheImpl as searched;
+ghost use Rattle.schema_names.specs.FoundViews.{found_entity_type_view};
+ghost use Rattle.schema.specs.Schemas.{type_uid};
+ghost use Rattle.schema.specs.inner.Making.{AreTypes};
+ghost use Rattle.schema.specs.inner.Lines.{IsOnlyParent, MayBeNext, IsBehind, MayBeBehind, Hangs, StandsAlone, Adds};
+ghost use Rattle.schema.specs.inner.Lines.{KeepsLines, AreLines};
+ghost use Rattle.ancestor_closure.specs.Hierarchy.{Parents};
+
+use crate::hierarchies::{type_uid, types_of};
+use crate::maps::put;
+use ancestor_closure::{Ancestry, ParentsOf, Searched};
+use plain::NoMemory;
+use schema_names::FoundEntityType;
+use std::alloc::Global;
+use std::collections::{BTreeMap, BTreeSet};
+use values::{EntityUid, TypeName};
+
+/// Where a type stands.
+#[derive(Clone, Copy)]
+pub struct Standing {
+    /// The number of its line.
+    pub line: usize,
+    /// Those of the line with a lesser number are above it.
+    pub bound: usize,
+    /// Whether it is of the line, with this number.
+    pub is_member: bool,
+}
+
+/// The lines of some types.
+#[derive(Drop)]
+pub(crate) struct Lines {
+    pub(crate) standings: BTreeMap<TypeName, Standing>,
+    /// Of each line the types above its first.
+    pub(crate) beyond: Vec<BTreeSet<TypeName>>,
+    /// How many types the last line has.
+    pub(crate) count: usize,
+}
+
+/// The only parent of a type; None where it has none, or several.
+fn only_parent(edges: &Searched, uid: &EntityUid) -> Result<Option<TypeName>, NoMemory>
+    ensures { IfOk result (λ o. IsOnlyParent (searched.parents-value.it edges.now) uid.now o) }
+{
+    let parents = edges.parents_of(uid);
+    if parents.len() == 1 {
+        return Ok(Some(parents[0].type_name.copy()?));
+    }
+    Ok(None)
+}
+
+/// Whether a line is the last of so many.
+fn is_last(line: usize, lines: usize) -> bool
+    ensures { result ≡ true → suc line ≡ lines }
+{
+    line < lines && lines - line == 1
+}
+
+/// What stands behind one of a line: in that line, where it is the last of the last.
+fn next_place(lines: &Lines, found: Standing) -> Option<Standing>
+    ensures { MayBeNext lines.now found result }
+{
+    if !found.is_member {
+        return None;
+    }
+    if found.bound >= 4294967295 {
+        return None;
+    }
+    let bound = found.bound + 1;
+    let is_member = is_last(found.line, lines.beyond.len()) && bound == lines.count;
+    Some(Standing {
+        line: found.line,
+        bound,
+        is_member,
+    })
+}
+
+fn behind_type(lines: &Lines, parent: &TypeName) -> Option<Standing>
+    ensures { IsBehind lines.now parent.now result }
+{
+    match lines.standings.get(parent) {
+        Some(found) => next_place(lines, *found),
+        None => None,
+    }
+}
+
+fn behind(lines: &Lines, parent: &Option<TypeName>) -> Option<Standing>
+    ensures { MayBeBehind lines.now parent.now result }
+{
+    match parent {
+        Some(name) => behind_type(lines, name),
+        None => None,
+    }
+}
+
+fn next_count(standing: Standing, count: usize) -> usize
+    requires { standing.bound < 4294967296 }
+    ensures { result ≡ (if standing.is_member then suc standing.bound else count) }
+{
+    if standing.is_member {
+        standing.bound + 1
+    } else {
+        count
+    }
+}
+
+/// Lets a type stand so.
+fn hang(name: &TypeName, standing: Standing, lines: &mut Lines) -> Result<(), NoMemory>
+    requires { standing.bound < 4294967296 }
+    ensures { OnOk result (Hangs name.now standing lines.old lines.new) }
+{
+    let key = name.copy()?;
+    put(&mut lines.standings, key, standing)?;
+    lines.count = next_count(standing, lines.count);
+    Ok(())
+}
+
+/// Gives a type a line of its own.
+fn add_alone(
+    alloc: Global,
+    edges: &Searched,
+    uid: &EntityUid,
+    name: &TypeName,
+    lines: &mut Lines,
+) -> Result<(), NoMemory>
+    requires types { AreTypes (searched.parents-value.it edges.now) }
+    requires uid { uid.now ≡ type_uid name.now }
+    ensures { OnOk result (StandsAlone (searched.parents-value.it edges.now) name.now lines.old lines.new) }
+{
+    let found = edges.ancestors(uid)?;
+    let beyond = types_of(alloc, found.as_slice())?;
+    let key = name.copy()?;
+    let standing = Standing {
+        line: lines.beyond.len(),
+        bound: 0,
+        is_member: true,
+    };
+    lines.beyond.push(beyond)?;
+    put(&mut lines.standings, key, standing)?;
+    lines.count = 1;
+    Ok(())
+}
+
+/// Lets a type stand behind its only parent, or in a line of its own.
+fn add_new(
+    alloc: Global,
+    edges: &Searched,
+    name: &TypeName,
+    lines: &mut Lines,
+) -> Result<(), NoMemory>
+    requires types { AreTypes (searched.parents-value.it edges.now) }
+    requires none { get text_cmp lines.old.standings name.now ≡ None }
+    ensures { OnOk result (Adds (searched.parents-value.it edges.now) name.now lines.old lines.new) }
+{
+    let uid = type_uid(alloc, name)?;
+    let parent = only_parent(edges, &uid)?;
+    if let Some(standing) = behind(lines, &parent) {
+        hang(name, standing, lines)?;
+        return Ok(());
+    }
+    add_alone(alloc, edges, &uid, name, lines)?;
+    Ok(())
+}
+
+fn add_one(
+    alloc: Global,
+    edges: &Searched,
+    name: &TypeName,
+    lines: &mut Lines,
+) -> Result<(), NoMemory>
+    requires { AreTypes (searched.parents-value.it edges.now) }
+    ensures { OnOk result (Adds (searched.parents-value.it edges.now) name.now lines.old lines.new) }
+{
+    if lines.standings.contains_key(name) {
+        return Ok(());
+    }
+    add_new(alloc, edges, name, lines)?;
+    Ok(())
+}
+
+/// The types above one that stand nowhere yet, as far as each has one parent, and at most so many.
+///
+/// No clause says so: types may be added in any order, and a type behind its parent costs least.
+fn path_from(
+    alloc: Global,
+    edges: &Searched,
+    name: &TypeName,
+    lines: &Lines,
+    most: usize,
+) -> Result<Vec<TypeName>, NoMemory> {
+    let mut path = Vec::new(alloc);
+    let mut last = name.copy()?;
+    for _ in 0..most {
+        let uid = type_uid(alloc, &last)?;
+        let Some(parent) = only_parent(edges, &uid)? else {
+            break;
+        };
+        if lines.standings.contains_key(&parent) {
+            break;
+        }
+        path.push(parent.copy()?)?;
+        last = parent;
+    }
+    path.reverse();
+    Ok(path)
+}
+
+/// Adds a type, and before it those above it.
+fn add_type(
+    alloc: Global,
+    edges: &Searched,
+    name: &TypeName,
+    most: usize,
+    lines: &mut Lines,
+) -> Result<(), NoMemory>
+    requires { AreTypes (searched.parents-value.it edges.now) }
+    ensures { OnOk result (Adds (searched.parents-value.it edges.now) name.now lines.old lines.new) }
+{
+    if lines.standings.contains_key(name) {
+        return Ok(());
+    }
+    let path = path_from(alloc, edges, name, lines, most)?;
+    for next in &path {
+        add_one(alloc, edges, next, lines)?;
+    }
+    add_one(alloc, edges, name, lines)?;
+    Ok(())
+}
+
+/// No type stands anywhere yet.
+fn no_lines(alloc: Global) -> Lines
+    ensures keeps { (parents : Parents) → KeepsLines parents result }
+    ensures empty { (n : List ℕ) → get text_cmp result.standings n ≡ None }
+{
+    Lines {
+        standings: BTreeMap::new(alloc),
+        beyond: Vec::new(alloc),
+        count: 0,
+    }
+}
+
+/// The lines of entity types.
+pub(crate) fn make_lines(
+    alloc: Global,
+    edges: &Searched,
+    entity_types: &[FoundEntityType],
+) -> Result<Lines, NoMemory>
+    requires { AreTypes (searched.parents-value.it edges.now) }
+    ensures { IfOk result (λ l. AreLines (searched.parents-value.it edges.now)
+        (map found_entity_type_view entity_types.now) l) }
+{
+    let mut lines = no_lines(alloc);
+    for entity_type in entity_types {
+        add_type(
+            alloc,
+            edges,
+            &entity_type.name,
+            entity_types.len(),
+            &mut lines,
+        )?;
+    }
+    Ok(lines)
+}

@@ -1,0 +1,145 @@
+-- The entries of a delta are those updates of its store that are news, in their order.
+use Rattle.std.proofs.Common.{◌≡◌, ◌∙◌, ℕ, List, [], ◌∷◌, ◌++◌, map, Bool, true, false, Option, Some, None, refl, sym, ap, T}
+use Rattle.std.specs.Prelude.{◌&&◌, cond, codes, if◌then◌else◌}
+use Rattle.std.specs.List.{AllByRecursion, filter, flat_map}
+use Rattle.std.specs.FinMap.{FinMap, IsAntisymmetric, entries, entries_sorted, get, get-entries, get-retain_keys, retain_keys, from_sorted, entries-from_sorted, get-from_sorted, same_map}
+use Rattle.std.specs.FinMap.Entries.{find, is_sorted, below_all, where_key, is_sorted-where_key, find-where_key}
+use Rattle.std.specs.Cmp.{IsTotalOrder, tied_itself}
+use Rattle.std.specs.Ordering.{is_eq, is_lt, ordering_reverse}
+use Rattle.std.specs.declared.cmp.Ordering.{Ordering}
+use Rattle.std.specs.declared.cmp.Ordering.TheVariants.{Less, Equal, Greater}
+use Rattle.std.proofs.lemmas.List.{append-nil, map-append}
+use Rattle.std.proofs.lemmas.List.Concat.{flat_map-append}
+use Rattle.serde_json.specs.Data.{Data}
+use Rattle.serde_json.specs.View.{view}
+use Rattle.serde_json.specs.declared.value.Value.{Value}
+use Rattle.values.specs.declared.name.Name.{Name}
+use Rattle.values.specs.declared.entity_uid.EntityUid.{EntityUid}
+use Rattle.values.specs.Names.{name_cmp, name_cmp-IsTotalOrder, name_cmp-IsAntisymmetric}
+use Rattle.stamped_store.specs.declared.entry.Entry.{Entry}
+use Rattle.stamped_store.specs.EntryOrder.{PlainEntry, plain_entry}
+use Rattle.stamped_store.specs.Deltas.{Summary, is_news, delta}
+use Rattle.stamped_store.specs.Shown.{shown_entry, shown_entries}
+use Rattle.stamped_store.specs.Store.{Store, Update, updates, Kept, shown_store, shown_updates, id_name, entity_name}
+use Rattle.stamped_store.specs.Stored.{value_at}
+use Rattle.state_messages.specs.Messages.{entry_json, message_json, state_json, delta_json}
+use Rattle.state_messages.specs.inner.Writing.{is_new, news_json, all_news_json}
+
+-- ---- the JSON of those that are news
+pub news_are : (m : Summary) (us : List Update) → flat_map (news_json m) us ≡ map entry_json (filter (is_new m) us)
+news_are m [] = refl
+news_are m (u ∷ us) =
+    elim (is_new m u) as (λ b. (if b then entry_json u ∷ [] else []) ++ flat_map (news_json m) us ≡ map entry_json (cond b (u ∷ filter (is_new m) us) (filter (is_new m) us))) [
+      | true ↦ ap (λ (ds : List Data). entry_json u ∷ ds) (news_are m us)
+      | false ↦ news_are m us
+    ]
+
+-- ---- the entries of a map whose keys pass a test
+module _ {K X : Type 0} {R : K → K → Ordering} (o : IsTotalOrder R) (same : IsAntisymmetric R) where
+  entries_kept : (s : FinMap R X) (p : K → Bool) → entries (retain_keys s p) ≡ where_key R p (entries s)
+  entries_kept s p =
+      let alike : (q x : K) → R q x ≡ Equal → p x ≡ p q = λ q x e. ap p (sym (same q x e)) in
+      let rises : T (is_sorted R (where_key R p (entries s))) = is_sorted-where_key R p (entries s) (entries_sorted s) in
+      ap entries (same_map o same (retain_keys s p) (from_sorted (where_key R p (entries s))) (λ q.
+      get-retain_keys s p q (alike q) ∙ ap (λ (x : Option X). cond (p q) x None) (get-entries s q) ∙ sym (find-where_key R p q (alike q) (entries s))
+      ∙ sym (get-from_sorted R (where_key R p (entries s)) q rises)))
+      ∙ entries-from_sorted R (where_key R p (entries s)) rises
+
+left : (a b : Bool) → T (a && b) → T a
+left true b h = tt
+left false b h = h
+
+right : (a b : Bool) → T (a && b) → T b
+right true b h = h
+right false b h = absurd h
+
+is_less : (r : Ordering) → T (is_lt r) → r ≡ Less
+is_less Less h = refl
+is_less Equal h = absurd h
+is_less Greater h = absurd h
+
+-- ---- each update is what its store has at its name
+abbrev IsAt : List Update → Update → Type 0
+IsAt all u = find name_cmp u.0 all ≡ Some u.1
+
+later : (x : Update) (all us : List Update) → T (below_all name_cmp x.0 us) → AllByRecursion (IsAt all) us → AllByRecursion (IsAt (x ∷ all)) us
+later x all [] below h = tt
+later x all (u ∷ us) below h =
+    let less = is_less (name_cmp x.0 u.0) (left (is_lt (name_cmp x.0 u.0)) (below_all name_cmp x.0 us) below) in
+    let above : name_cmp u.0 x.0 ≡ Greater = name_cmp-IsTotalOrder.antisymm u.0 x.0 ∙ ap ordering_reverse less in
+    (ap (λ (r : Ordering). cond (is_eq r) (Some x.1) (find name_cmp u.0 all)) above ∙ h.0, later x all us (right (is_lt (name_cmp x.0 u.0)) (below_all name_cmp x.0 us) below) h.1)
+
+each_at : (us : List Update) → T (is_sorted name_cmp us) → AllByRecursion (IsAt us) us
+each_at [] h = tt
+each_at (u ∷ us) h = (
+  ap (λ (r : Ordering). cond (is_eq r) (Some u.1) (find name_cmp u.0 us)) (tied_itself name_cmp-IsTotalOrder u.0),
+  later u us us (left (below_all name_cmp u.0 us) (is_sorted name_cmp us) h) (each_at us (right (below_all name_cmp u.0 us) (is_sorted name_cmp us) h)),
+)
+
+filter_along : (all : List Update) (p : Name → Option PlainEntry → Bool) (us : List Update) → AllByRecursion (IsAt all) us
+    → filter (λ u. p u.0 (find name_cmp u.0 all)) us ≡ filter (λ u. p u.0 (Some u.1)) us
+filter_along all p [] h = refl
+filter_along all p (u ∷ us) h =
+    let rest = filter_along all p us h.1 in
+    ap (λ (o : Option PlainEntry). cond (p u.0 o) (u ∷ filter (λ v. p v.0 (find name_cmp v.0 all)) us) (filter (λ v. p v.0 (find name_cmp v.0 all)) us)) h.0
+    ∙ ap (λ (vs : List Update). cond (p u.0 (Some u.1)) (u ∷ vs) vs) rest
+
+filter_same : (p q : Update → Bool) → ((u : Update) → p u ≡ q u) → (us : List Update) → filter p us ≡ filter q us
+filter_same p q same [] = refl
+filter_same p q same (u ∷ us) =
+    ap (λ (b : Bool). cond b (u ∷ filter p us) (filter p us)) (same u) ∙ ap (λ (vs : List Update). cond (q u) (u ∷ vs) vs) (filter_same p q same us)
+
+delta_news : (s : Store) (m : Summary) → updates (delta s m) ≡ filter (is_new m) (updates s)
+delta_news s m =
+    entries_kept name_cmp-IsTotalOrder name_cmp-IsAntisymmetric s (λ q. is_news (value_at name_cmp m q) (get s q))
+    ∙ filter_same (λ u. is_news (value_at name_cmp m u.0) (get s u.0)) (λ u. is_news (value_at name_cmp m u.0) (find name_cmp u.0 (updates s)))
+    (λ u. ap (is_news (value_at name_cmp m u.0)) (get-entries s u.0)) (updates s)
+    ∙ filter_along (updates s) (λ q o. is_news (value_at name_cmp m q) o) (updates s) (each_at (updates s) (entries_sorted s))
+
+-- ---- what the code writes, policies and then entities
+store_news : {P E : Type 0} (k : Kept P E) (m : Summary) → updates (shown_store k) ≡ shown_updates k
+    → all_news_json id_name m k.policies ++ all_news_json entity_name m k.entities ≡ map entry_json (updates (delta (shown_store k) m))
+store_news k m order =
+    sym (flat_map-append (news_json m) (shown_entries id_name k.policies) (shown_entries entity_name k.entities))
+    ∙ ap (flat_map (news_json m)) (sym order)
+    ∙ news_are m (updates (shown_store k))
+    ∙ ap (map entry_json) (sym (delta_news (shown_store k) m))
+
+-- one more
+pub entities_more : {A P : Type 0} (see : A → EntityUid × Entry P) (m : Summary) (xs : List A) (x : A) (before after : List Data) (uid : EntityUid)
+    → before ≡ all_news_json entity_name m (map see xs) → uid ≡ (see x).0 → after ≡ before ++ news_json m (entity_name uid, plain_entry (see x).1)
+    → after ≡ all_news_json entity_name m (map see (xs ++ x ∷ []))
+entities_more see m xs x before after uid so same more =
+    let one : Update = (entity_name (see x).0, plain_entry (see x).1) in
+    let all = shown_entries entity_name (map see xs) in
+    let shown : shown_entries entity_name (map see (xs ++ x ∷ [])) ≡ all ++ one ∷ [] =
+    ap (shown_entries entity_name) (map-append see xs (x ∷ [])) ∙ map-append (shown_entry entity_name) (map see xs) (see x ∷ []) in
+    more ∙ ap (λ (u : EntityUid). before ++ news_json m (entity_name u, plain_entry (see x).1)) same
+    ∙ ap (λ (ds : List Data). ds ++ news_json m one) so
+    ∙ ap (λ (ds : List Data). flat_map (news_json m) all ++ ds) (sym (append-nil (news_json m one)))
+    ∙ sym (flat_map-append (news_json m) all (one ∷ [])) ∙ ap (flat_map (news_json m)) (sym shown)
+
+pub written_news : {P E : Type 0} (k : Kept P E) (m : Summary) (ps es all : List Value) → updates (shown_store k) ≡ shown_updates k
+    → map view ps ≡ all_news_json id_name m k.policies → map view es ≡ all_news_json entity_name m k.entities → all ≡ ps ++ es
+    → map view all ≡ map entry_json (updates (delta (shown_store k) m))
+written_news k m ps es all order p e both =
+    ap (map view) both ∙ map-append view ps es
+    ∙ ap (λ (ds : List Data). ds ++ map view es) p ∙ ap (λ (ds : List Data). all_news_json id_name m k.policies ++ ds) e
+    ∙ store_news k m order
+
+-- the JSON of a delta against one summary is that against another that is the same
+pub along : (label : List ℕ) (s : Store) (m n : Summary) (value : Data) → value ≡ delta_json label (delta s m) → m ≡ n → value ≡ delta_json label (delta s n)
+along label s m n value is same = is ∙ ap (λ (k : Summary). delta_json label (delta s k)) same
+
+-- ---- a delta against nothing is the whole
+all_news : (o : Option PlainEntry) → cond (is_news None o) o None ≡ o
+all_news None = refl
+all_news (Some e) = refl
+
+whole : (s : Store) → delta s [] ≡ s
+whole s = same_map name_cmp-IsTotalOrder name_cmp-IsAntisymmetric (delta s []) s (λ q.
+    get-retain_keys s (λ x. is_news (value_at name_cmp [] x) (get s x)) q (λ x e. ap (λ y. is_news (value_at name_cmp [] y) (get s y)) (sym (name_cmp-IsAntisymmetric q x e)))
+    ∙ all_news (get s q))
+
+pub whole_json : (label : List ℕ) (s : Store) (value : Data) → value ≡ message_json (codes "state") label (updates (delta s [])) → value ≡ state_json label s
+whole_json label s value is = is ∙ ap (λ (t : Store). state_json label t) (whole s)

@@ -1,0 +1,22 @@
+-- The JSON of those entries of a store that are news to a summary.
+use Rattle.std.specs.Prelude.{List, [], ◌∷◌, Bool, Some, if◌then◌else◌}
+use Rattle.std.specs.List.{flat_map}
+use Rattle.serde_json.specs.Data.{Data}
+use Rattle.values.specs.declared.name.Name.{Name}
+use Rattle.values.specs.Names.{name_cmp}
+use Rattle.stamped_store.specs.declared.entry.Entry.{Entry}
+use Rattle.stamped_store.specs.Deltas.{Summary, is_news}
+use Rattle.stamped_store.specs.Stored.{value_at}
+use Rattle.stamped_store.specs.Shown.{shown_entries}
+use Rattle.stamped_store.specs.Store.{Update}
+use Rattle.state_messages.specs.Messages.{entry_json}
+
+abbrev pub is_new : Summary → Update → Bool
+is_new m u = is_news (value_at name_cmp m u.0) (Some u.1)
+
+-- the one of an update, or none
+abbrev pub news_json : Summary → Update → List Data
+news_json m u = if is_new m u then entry_json u ∷ [] else []
+
+abbrev pub all_news_json : {K P : Type 0} → (K → Name) → Summary → List (K × Entry P) → List Data
+all_news_json name m es = flat_map (news_json m) (shown_entries name es)

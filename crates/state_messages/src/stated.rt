@@ -1,0 +1,129 @@
+//! What a message states, before any entry is judged and any text is read.
+ghost use Rattle.std.specs.Prelude.{◌≡◌, ◌||◌, map, codes};
+ghost use Rattle.serde_json.specs.View.{view, items_view};
+ghost use Rattle.json_words.specs.Gives.{Gives};
+ghost use Rattle.sync_messages.specs.declared.fault.MessageFault.TheVariants as MessageFault;
+ghost use Rattle.state_messages.specs.Messages.{body_in, entry_in, entries_of, entries_in, is_kind as names_kind};
+ghost use Rattle.state_messages.specs.Messages.{updates_in, updates_stated};
+ghost use Rattle.state_messages.specs.inner.Reading.{stated_update};
+
+use json_words::{only_keys, read_json, text_at};
+use plain::Text;
+use serde_json::Value;
+use stamped_store::Stamp;
+use std::alloc::Global;
+use sync_messages::{MessageFault, number_at, read_stamped};
+use values::Name;
+
+/// What an entry states: a name with a stamp, and a body that is nothing or a text.
+#[derive(Drop)]
+pub struct Stated {
+    pub(crate) stamped: (Name, Stamp),
+    pub(crate) body: Option<Text>,
+}
+
+/// A text, or null for nothing.
+#[tactic(auto, unfolding(crate::specs::Messages::body_in, crate::specs::Messages::text_in))]
+fn read_body(alloc: Global, value: &Value) -> Result<Option<Text>, MessageFault>
+    ensures { Gives MessageFault.NoMemory (λ b. b) result (body_in (view value.now)) }
+{
+    if value.is_null() {
+        return Ok(None);
+    }
+    let Some(text) = value.as_str() else {
+        return Err(MessageFault::BadShape);
+    };
+    Ok(Some(Text::from_str(alloc, text)?))
+}
+
+#[tactic(auto, unfolding(crate::specs::Messages::entry_in))]
+fn read_entry(alloc: Global, value: &Value) -> Result<Stated, MessageFault>
+    ensures { Gives MessageFault.NoMemory stated_update result (entry_in (view value.now)) }
+{
+    if !only_keys(value, &["body", "count", "name", "site"]) {
+        return Err(MessageFault::BadShape);
+    }
+    let Some(found) = value.get("body") else {
+        return Err(MessageFault::BadShape);
+    };
+    let body = read_body(alloc, found)?;
+    let stamped = read_stamped(alloc, value)?;
+    Ok(Stated { stamped, body })
+}
+
+fn read_each(alloc: Global, values: &[Value]) -> Result<Vec<Stated>, MessageFault>
+    ensures { Gives MessageFault.NoMemory (λ es. map stated_update es.items) result
+        (entries_of (items_view values.now)) }
+{
+    let mut entries = Vec::with_capacity(alloc, values.len())?;
+    for value in values {
+        let entry = read_entry(alloc, value)?;
+        entries.push(entry)?;
+    }
+    Ok(entries)
+}
+
+#[tactic(auto, unfolding(crate::specs::Messages::entries_in))]
+fn read_entries(alloc: Global, value: &Value) -> Result<Vec<Stated>, MessageFault>
+    ensures { Gives MessageFault.NoMemory (λ es. map stated_update es.items) result (entries_in (view value.now)) }
+{
+    let Some(found) = value.get("entries") else {
+        return Err(MessageFault::BadShape);
+    };
+    let Some(list) = found.as_array() else {
+        return Err(MessageFault::BadShape);
+    };
+    read_each(alloc, list)
+}
+
+/// Whether a message of this kind states updates.
+fn is_kind(kind: &str) -> bool
+    ensures { result ≡ names_kind kind.now }
+{
+    kind == "state" || kind == "delta"
+}
+
+/// The updates that a value states.
+#[tactic(auto, unfolding(crate::specs::Messages::updates_in))]
+fn read_value(alloc: Global, label: &str, value: &Value) -> Result<Vec<Stated>, MessageFault>
+    ensures { Gives MessageFault.NoMemory (λ es. map stated_update es.items) result
+        (updates_in label.now (view value.now)) }
+{
+    if number_at(value, "version")? != 1 {
+        return Err(MessageFault::Version);
+    }
+    if !only_keys(value, &["entries", "kind", "schema", "version"]) {
+        return Err(MessageFault::BadShape);
+    }
+    let Some(kind) = text_at(value, "kind") else {
+        return Err(MessageFault::BadShape);
+    };
+    if !is_kind(kind) {
+        return Err(MessageFault::BadShape);
+    }
+    let Some(schema) = text_at(value, "schema") else {
+        return Err(MessageFault::BadShape);
+    };
+    let entries = read_entries(alloc, value)?;
+    if schema != label {
+        return Err(MessageFault::OtherSchema);
+    }
+    Ok(entries)
+}
+
+/// The updates that bytes state under the schema of this label, in their order, or the first fault before any entry is
+/// judged. The JSON is given up before any text is read.
+#[tactic(auto, unfolding(crate::specs::Messages::updates_stated))]
+pub(crate) fn read_stated(
+    alloc: Global,
+    label: &str,
+    bytes: &[u8],
+) -> Result<Vec<Stated>, MessageFault>
+    ensures { Gives MessageFault.NoMemory (λ es. map stated_update es.items) result
+        (updates_stated label.now bytes.now) }
+{
+    match read_json(alloc, bytes)? {
+        Some(value) => read_value(alloc, label, &value),
+        None => Err(MessageFault::NotJson),
+    }
+}

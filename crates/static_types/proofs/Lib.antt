@@ -1,0 +1,9 @@
+mod Booleans
+mod CommonFields
+mod EqualRow
+mod FieldLists
+mod FieldPlaces
+mod Listed
+mod OrderedTypes
+mod RecordFields
+mod Weighing

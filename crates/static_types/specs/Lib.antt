@@ -1,0 +1,4 @@
+pub mod FromSchemas
+pub mod Laws
+pub mod Views
+pub mod inner

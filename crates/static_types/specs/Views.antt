@@ -1,0 +1,85 @@
+-- What the types and the faults at hand are, and what they are typed against, as the rules of typing have them.
+use Rattle.std.specs.Prelude.{◌≡◌, ◌≢◌, ℕ, List, [], ◌∷◌}
+use Rattle.std.specs.Prelude.{Bool, Result, Ok, Err, IfErr, MatchResult}
+use Rattle.std.specs.Borrow.{Bor}
+use Rattle.typing.specs.Types as types
+use Rattle.typing.specs.Types.{true_type, false_type, boolean_type, long_type, text_type, entity_type, set_type}
+use Rattle.typing.specs.Types.{record_type, decimal_type, ipaddr_type, FieldTypes, no_field_types, field_type}
+use Rattle.typing.specs.Environment as environment
+use Rattle.typing.specs.Environment.{Environment}
+use Rattle.typing.specs.Rows.{Row}
+use Rattle.schema_types.specs.CedarViews.{cedar_view, cedar_fields_view}
+use Rattle.schema.specs.Views.{schema_view, environment_view}
+use Rattle.static_types.specs.FromSchemas.{static, static_fields, environment_of}
+use Rattle.static_types.specs.declared.fault.TypeFault.{TypeFault}
+use Rattle.static_types.specs.declared.fault.TypeFault.TheVariants.{Unexpected, NoCommonType, AttributeMayBeMissing}
+use Rattle.static_types.specs.declared.fault.TypeFault.TheVariants.{EmptySet, BadExtensionLiteral, NoMemory}
+use Rattle.static_types.specs.declared.static_type.BooleanType.{BooleanType}
+use Rattle.static_types.specs.declared.static_type.BooleanType.TheVariants as truth
+use Rattle.static_types.specs.declared.static_type.Leaf.{Leaf}
+use Rattle.static_types.specs.declared.static_type.Leaf.TheVariants as leaf
+use Rattle.static_types.specs.declared.static_type.StaticType.{StaticType, fold-StaticType}
+use Rattle.static_types.specs.declared.static_type.StaticType.TheOpen.{StaticType-F}
+use Rattle.static_types.specs.declared.environment.TypingEnvironment.{TypingEnvironment}
+
+-- ---- types
+
+abbrev pub boolean_view : BooleanType → types.StaticType
+boolean_view truth.True = true_type
+boolean_view truth.False = false_type
+boolean_view truth.Either = boolean_type
+
+abbrev pub leaf_view : Leaf → types.StaticType
+leaf_view (leaf.Boolean b) = boolean_view b
+leaf_view leaf.Long = long_type
+leaf_view leaf.Text = text_type
+leaf_view (leaf.Entity n) = entity_type n.now
+leaf_view leaf.Decimal = decimal_type
+leaf_view leaf.Ipaddr = ipaddr_type
+
+abbrev pub built_fields : List (Bor (List ℕ) × types.StaticType × Bool) → FieldTypes
+built_fields [] = no_field_types
+built_fields (f ∷ fs) = field_type f.0.now f.1 f.2 (built_fields fs)
+
+abbrev pub static_step : StaticType-F types.StaticType → types.StaticType
+static_step (StaticType-F.Leaf l) = leaf_view l
+static_step (StaticType-F.DeclaredSet t) = set_type (static (cedar_view t.now))
+static_step (StaticType-F.DeclaredRecord fs) = record_type (static_fields (cedar_fields_view fs.now))
+static_step (StaticType-F.Set t) = set_type t
+static_step (StaticType-F.Record fs) = record_type (built_fields fs)
+
+abbrev pub static_view : StaticType → types.StaticType
+static_view = fold-StaticType types.StaticType static_step
+
+-- ---- faults
+
+-- a refused growth tells of no fault
+abbrev pub fault_view : TypeFault → environment.TypeFault
+fault_view Unexpected = environment.unexpected
+fault_view NoCommonType = environment.no_common_type
+fault_view AttributeMayBeMissing = environment.attribute_may_be_missing
+fault_view EmptySet = environment.empty_set
+fault_view BadExtensionLiteral = environment.bad_extension_literal
+fault_view NoMemory = environment.unexpected
+
+-- the refusals by number
+abbrev pub code_of : TypeFault → ℕ
+code_of NoMemory = 1
+code_of Unexpected = 42
+code_of NoCommonType = 43
+code_of AttributeMayBeMissing = 44
+code_of EmptySet = 45
+code_of BadExtensionLiteral = 46
+
+-- what was returned is what the row says, unless memory was refused
+abbrev pub Answers : Result StaticType TypeFault → Row → Type 0
+Answers r row = MatchResult r (λ t. row ≡ Ok (static_view t)) (λ f. f ≢ NoMemory → row ≡ Err (fault_view f))
+
+-- no memory was asked for
+abbrev pub TakesNoMemory : Result StaticType TypeFault → Type 0
+TakesNoMemory r = IfErr r (λ f. f ≢ NoMemory)
+
+-- ---- environments
+
+abbrev pub typing_environment : TypingEnvironment → Environment
+typing_environment e = environment_of (schema_view e.schema.now) (environment_view e.environment.now)

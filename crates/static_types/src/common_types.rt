@@ -1,0 +1,192 @@
+//! The common type of two.
+ghost use Rattle.std.specs.Prelude.{◌≡◌, Some, option_map, IfOk};
+ghost use Rattle.typing.specs.Types.{set_type, record_type, common, common_fields};
+ghost use Rattle.static_types.specs.Views.{boolean_view, leaf_view, static_view};
+ghost use Rattle.static_types.specs.inner.Parts.{part_view, built_view, fields_view};
+ghost use Rattle.static_types.specs.inner.Rows.{paired};
+
+use crate::parts::{FieldPart, Fields, Kind, Pair, Part};
+use crate::static_type::{BooleanType, Leaf, StaticType};
+use plain::{Items, NoMemory, Shared};
+use std::alloc::Global;
+
+/// The common type of two types, where there is one, or `NoMemory`: of equal types that type, of types of booleans that
+/// differ any boolean, of sets by their members, and of records with equal keys and equal requirements field by field.
+///
+/// Takes time linear in the smaller one's parts.
+pub fn common<'a>(
+    alloc: Global,
+    left: &StaticType<'a>,
+    right: &StaticType<'a>,
+) -> Result<Option<StaticType<'a>>, NoMemory>
+    ensures { IfOk result (λ o. option_map (λ t. static_view t) o
+        ≡ common (static_view left.now) (static_view right.now)) }
+{
+    common_of(alloc, Part::Built(left), Part::Built(right))
+}
+
+/// The common type of two types of booleans.
+fn common_boolean(left: BooleanType, right: BooleanType) -> BooleanType
+    ensures { common (boolean_view left) (boolean_view right) ≡ Some (boolean_view result) }
+{
+    match left {
+        BooleanType::True => match right {
+            BooleanType::True => BooleanType::True,
+            BooleanType::False | BooleanType::Either => BooleanType::Either,
+        },
+        BooleanType::False => match right {
+            BooleanType::False => BooleanType::False,
+            BooleanType::True | BooleanType::Either => BooleanType::Either,
+        },
+        BooleanType::Either => BooleanType::Either,
+    }
+}
+
+fn common_leaf<'a>(left: Leaf<'a>, right: Leaf<'a>) -> Option<Leaf<'a>>
+    ensures { option_map leaf_view result ≡ common (leaf_view left.entry) (leaf_view right.entry) }
+{
+    match left {
+        Leaf::Boolean(a) => match right {
+            Leaf::Boolean(b) => Some(Leaf::Boolean(common_boolean(a, b))),
+            Leaf::Long | Leaf::Text | Leaf::Entity(_) | Leaf::Decimal | Leaf::Ipaddr => None,
+        },
+        Leaf::Long => match right {
+            Leaf::Long => Some(Leaf::Long),
+            Leaf::Boolean(_) | Leaf::Text | Leaf::Entity(_) | Leaf::Decimal | Leaf::Ipaddr => None,
+        },
+        Leaf::Text => match right {
+            Leaf::Text => Some(Leaf::Text),
+            Leaf::Boolean(_) | Leaf::Long | Leaf::Entity(_) | Leaf::Decimal | Leaf::Ipaddr => None,
+        },
+        Leaf::Entity(a) => match right {
+            Leaf::Entity(b) => {
+                if a.as_str() == b.as_str() {
+                    Some(Leaf::Entity(a))
+                } else {
+                    None
+                }
+            }
+            Leaf::Boolean(_) | Leaf::Long | Leaf::Text | Leaf::Decimal | Leaf::Ipaddr => None,
+        },
+        Leaf::Decimal => match right {
+            Leaf::Decimal => Some(Leaf::Decimal),
+            Leaf::Boolean(_) | Leaf::Long | Leaf::Text | Leaf::Entity(_) | Leaf::Ipaddr => None,
+        },
+        Leaf::Ipaddr => match right {
+            Leaf::Ipaddr => Some(Leaf::Ipaddr),
+            Leaf::Boolean(_) | Leaf::Long | Leaf::Text | Leaf::Entity(_) | Leaf::Decimal => None,
+        },
+    }
+}
+
+/// The type of sets of these members, where there are any.
+fn set_of<'a>(
+    alloc: Global,
+    member: Option<StaticType<'a>>,
+) -> Result<Option<StaticType<'a>>, NoMemory>
+    ensures { IfOk result (λ o. option_map (λ t. static_view t) o
+        ≡ option_map set_type (option_map (λ t. static_view t) member.entry)) }
+{
+    match member {
+        Some(ty) => Ok(Some(StaticType::Set(Shared::new(alloc, ty)?))),
+        None => Ok(None),
+    }
+}
+
+/// The type of records with these fields.
+fn record_of<'a>(
+    alloc: Global,
+    fields: Vec<(&'a str, StaticType<'a>, bool)>,
+) -> Result<Option<StaticType<'a>>, NoMemory>
+    ensures { IfOk result (λ o. option_map (λ t. static_view t) o
+        ≡ Some (record_type (built_view fields.entry.items))) }
+{
+    let fields = Shared::new(alloc, Items::from_vec(fields))?;
+    Ok(Some(StaticType::Record(fields)))
+}
+
+#[cycle(common_of)]
+pub(crate) fn common_of<'a>(
+    alloc: Global,
+    left: Part<'_, 'a>,
+    right: Part<'_, 'a>,
+) -> Result<Option<StaticType<'a>>, NoMemory>
+    ensures { IfOk result (λ o. option_map (λ t. static_view t) o
+        ≡ common (part_view left.entry) (part_view right.entry)) }
+{
+    match left.kind() {
+        Kind::Leaf(a) => match right.kind() {
+            Kind::Leaf(b) => Ok(leaf_type(common_leaf(a, b))),
+            Kind::Set(_) | Kind::Record(_) => Ok(None),
+        },
+        Kind::Set(a) => match right.kind() {
+            Kind::Set(b) => set_of(alloc, common_of(alloc, a, b)?),
+            Kind::Leaf(_) | Kind::Record(_) => Ok(None),
+        },
+        Kind::Record(a) => match right.kind() {
+            Kind::Record(b) => common_record(alloc, a, b),
+            Kind::Leaf(_) | Kind::Set(_) => Ok(None),
+        },
+    }
+}
+
+fn leaf_type<'a>(leaf: Option<Leaf<'a>>) -> Option<StaticType<'a>>
+    ensures { option_map (λ t. static_view t) result ≡ option_map leaf_view leaf.entry }
+{
+    match leaf {
+        Some(leaf) => Some(StaticType::Leaf(leaf)),
+        None => None,
+    }
+}
+
+fn paired<'r, 's, 'a>(
+    left: Option<FieldPart<'r, 'a>>,
+    right: Option<FieldPart<'s, 'a>>,
+) -> Option<Pair<'r, 's, 'a>>
+    ensures { result ≡ paired left.entry right.entry }
+{
+    match left {
+        Some(a) => match right {
+            Some(b) => {
+                if a.key == b.key && a.required == b.required {
+                    Some(Pair {
+                        key: a.key,
+                        left: a.part,
+                        right: b.part,
+                        required: a.required,
+                    })
+                } else {
+                    None
+                }
+            }
+            None => None,
+        },
+        None => None,
+    }
+}
+
+#[cycle(common_of)]
+fn common_record<'a>(
+    alloc: Global,
+    left: Fields<'_, 'a>,
+    right: Fields<'_, 'a>,
+) -> Result<Option<StaticType<'a>>, NoMemory>
+    ensures { IfOk result (λ o. option_map (λ t. static_view t) o
+        ≡ option_map record_type (common_fields (fields_view left.entry) (fields_view right.entry))) }
+{
+    let mut fields = Vec::new(alloc);
+    let count = left.len();
+    for at in 0..count {
+        match paired(left.get(at), right.get(at)) {
+            Some(pair) => match common_of(alloc, pair.left, pair.right)? {
+                Some(ty) => fields.push((pair.key, ty, pair.required))?,
+                None => return Ok(None),
+            },
+            None => return Ok(None),
+        }
+    }
+    match right.get(count) {
+        Some(_) => Ok(None),
+        None => record_of(alloc, fields),
+    }
+}

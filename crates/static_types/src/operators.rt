@@ -1,0 +1,356 @@
+//! What operators and calls demand of their operands' types, and their types then.
+ghost use Rattle.std.specs.Prelude.{◌≡◌, Ok, option_map};
+ghost use Rattle.expressions.specs.declared.operator.Unary.TheVariants.{Not};
+ghost use Rattle.expressions.specs.declared.operator.Binary.TheVariants.{In};
+ghost use Rattle.typing.specs.Types.{common};
+ghost use Rattle.typing.specs.Rows.{unary_type, binary_type, and_type, or_type, address_test_type, call_type};
+ghost use Rattle.typing.specs.Rows.{if_common, equal_type, may_be_in, of_numbers};
+ghost use Rattle.static_types.specs.Views.{boolean_view, leaf_view, static_view};
+ghost use Rattle.static_types.specs.Views.{typing_environment, Answers, TakesNoMemory};
+ghost use Rattle.static_types.specs.inner.Parts.{part_view, kind_view};
+ghost use Rattle.static_types.specs.inner.Rows.{entity_in, entities_in, are_unequal, contains_type, sets_type};
+ghost use Rattle.static_types.specs.inner.Rows.{is_decimal, is_ipaddr, and_of, or_of};
+
+use crate::common_types::common_of;
+use crate::environment::{TypingEnvironment, is_action_type};
+use crate::fault::TypeFault;
+use crate::literals::truth_type;
+use crate::parts::{Kind, Part};
+use crate::static_type::{BooleanType, Leaf, StaticType};
+use expressions::{Binary, BinaryCall, Unary};
+use std::alloc::Global;
+use values::TypeName;
+
+/// The type of a boolean that is turned round.
+fn turned(truth: BooleanType) -> BooleanType
+    ensures { unary_type Not (boolean_view truth) ≡ Ok (boolean_view result) }
+{
+    match truth {
+        BooleanType::True => BooleanType::False,
+        BooleanType::False => BooleanType::True,
+        BooleanType::Either => BooleanType::Either,
+    }
+}
+
+fn unary_of<'a>(operator: &Unary, operand: Kind<'_, 'a>) -> Result<StaticType<'a>, TypeFault>
+    ensures row { Answers result (unary_type operator.now (kind_view operand.entry)) }
+    ensures memory { TakesNoMemory result }
+{
+    match operator {
+        Unary::Not => match operand {
+            Kind::Leaf(Leaf::Boolean(truth)) => Ok(StaticType::boolean(turned(truth))),
+            _ => Err(TypeFault::Unexpected),
+        },
+        Unary::Negate => match operand {
+            Kind::Leaf(Leaf::Long) => Ok(StaticType::Leaf(Leaf::Long)),
+            _ => Err(TypeFault::Unexpected),
+        },
+        Unary::Like(_) => match operand {
+            Kind::Leaf(Leaf::Text) => Ok(StaticType::boolean(BooleanType::Either)),
+            _ => Err(TypeFault::Unexpected),
+        },
+        Unary::Is(name) => match operand {
+            Kind::Leaf(Leaf::Entity(found)) => {
+                let truth = found.as_str() == name.as_str();
+                Ok(StaticType::boolean(truth_type(truth)))
+            }
+            _ => Err(TypeFault::Unexpected),
+        },
+    }
+}
+
+/// The type of an operator's result on an operand of this type; takes no memory.
+///
+/// Refused where the operator demands another.
+pub fn unary_type<'a>(
+    operator: &Unary,
+    operand: StaticType<'a>,
+) -> Result<StaticType<'a>, TypeFault>
+    ensures row { Answers result (unary_type operator.now (static_view operand.entry)) }
+    ensures memory { TakesNoMemory result }
+{
+    unary_of(operator, Part::Built(&operand).kind())
+}
+
+/// The type of an operator's result on operands of these types, or `NoMemory`.
+///
+/// Refused where the operator demands other kinds of types, and then where it demands a common type and there is none.
+pub fn binary_type<'a>(
+    alloc: Global,
+    env: TypingEnvironment<'a>,
+    operator: Binary,
+    left: StaticType<'a>,
+    right: StaticType<'a>,
+) -> Result<StaticType<'a>, TypeFault>
+    ensures { Answers result
+        (binary_type (typing_environment env.entry) operator (static_view left.entry) (static_view right.entry)) }
+{
+    binary_of(
+        alloc,
+        env,
+        operator,
+        Part::Built(&left),
+        Part::Built(&right),
+    )
+}
+
+fn binary_of<'a>(
+    alloc: Global,
+    env: TypingEnvironment<'a>,
+    operator: Binary,
+    left: Part<'_, 'a>,
+    right: Part<'_, 'a>,
+) -> Result<StaticType<'a>, TypeFault>
+    ensures { Answers result
+        (binary_type (typing_environment env.entry) operator (part_view left.entry) (part_view right.entry)) }
+{
+    match operator {
+        Binary::Equal => equal_of(alloc, left, right),
+        Binary::In => in_of(env, left.kind(), right.kind()),
+        Binary::Less | Binary::LessOrEqual => {
+            of_numbers(
+                Leaf::Boolean(BooleanType::Either),
+                left.kind(),
+                right.kind(),
+            )
+        }
+        Binary::Add | Binary::Subtract | Binary::Multiply => {
+            of_numbers(Leaf::Long, left.kind(), right.kind())
+        }
+        Binary::Contains => contains_of(alloc, left.kind(), right),
+        Binary::ContainsAll | Binary::ContainsAny => sets_of(alloc, left.kind(), right.kind()),
+    }
+}
+
+/// Any boolean where two types have a common type.
+fn if_common<'a>(
+    alloc: Global,
+    left: Part<'_, 'a>,
+    right: Part<'_, 'a>,
+) -> Result<StaticType<'a>, TypeFault>
+    ensures { Answers result (if_common (common (part_view left.entry) (part_view right.entry))) }
+{
+    if common_of(alloc, left, right)?.is_some() {
+        Ok(StaticType::boolean(BooleanType::Either))
+    } else {
+        Err(TypeFault::NoCommonType)
+    }
+}
+
+/// The name where a type is an entity type.
+fn entity_of<'a>(kind: Kind<'_, 'a>) -> Option<&'a TypeName>
+    ensures { option_map (λ n. n.now) result ≡ entity_in (kind_view kind.entry) }
+{
+    match kind {
+        Kind::Leaf(Leaf::Entity(name)) => Some(name),
+        _ => None,
+    }
+}
+
+/// The name where a type is an entity type, or a set of one.
+fn entities_of<'a>(kind: Kind<'_, 'a>) -> Option<&'a TypeName>
+    ensures { option_map (λ n. n.now) result ≡ entities_in (kind_view kind.entry) }
+{
+    match kind {
+        Kind::Set(member) => entity_of(member.kind()),
+        Kind::Leaf(_) | Kind::Record(_) => entity_of(kind),
+    }
+}
+
+/// False for entities of two types; else any boolean where there is a common type.
+fn equal_of<'a>(
+    alloc: Global,
+    left: Part<'_, 'a>,
+    right: Part<'_, 'a>,
+) -> Result<StaticType<'a>, TypeFault>
+    ensures { Answers result (equal_type (part_view left.entry) (part_view right.entry)) }
+{
+    if are_unequal(entity_of(left.kind()), entity_of(right.kind())) {
+        return Ok(StaticType::boolean(BooleanType::False));
+    }
+    if_common(alloc, left, right)
+}
+
+/// Whether there are two names, and they differ.
+fn are_unequal(left: Option<&TypeName>, right: Option<&TypeName>) -> bool
+    ensures { result ≡ are_unequal (option_map (λ n. n.now) left.entry) (option_map (λ n. n.now) right.entry) }
+{
+    match left {
+        Some(a) => match right {
+            Some(b) => a.as_str() != b.as_str(),
+            None => false,
+        },
+        None => false,
+    }
+}
+
+/// Whether an entity of one type may be in one of another.
+fn may_be_in(env: TypingEnvironment<'_>, left: &TypeName, right: &TypeName) -> bool
+    ensures { result ≡ may_be_in (typing_environment env.entry) left.now right.now }
+{
+    is_action_type(left)
+        || is_action_type(right)
+        || left.as_str() == right.as_str()
+        || env.may_be_below(left, right)
+}
+
+fn in_of<'a>(
+    env: TypingEnvironment<'a>,
+    left: Kind<'_, 'a>,
+    right: Kind<'_, 'a>,
+) -> Result<StaticType<'a>, TypeFault>
+    ensures { Answers result
+        (binary_type (typing_environment env.entry) In (kind_view left.entry) (kind_view right.entry)) }
+{
+    let (Some(below), Some(above)) = (entity_of(left), entities_of(right)) else {
+        return Err(TypeFault::Unexpected);
+    };
+    if may_be_in(env, below, above) {
+        Ok(StaticType::boolean(BooleanType::Either))
+    } else {
+        Ok(StaticType::boolean(BooleanType::False))
+    }
+}
+
+/// This type, of two numbers.
+fn of_numbers<'a>(
+    given: Leaf<'a>,
+    left: Kind<'_, 'a>,
+    right: Kind<'_, 'a>,
+) -> Result<StaticType<'a>, TypeFault>
+    ensures { Answers result (of_numbers (leaf_view given.entry) (kind_view left.entry) (kind_view right.entry)) }
+{
+    match (left, right) {
+        (Kind::Leaf(Leaf::Long), Kind::Leaf(Leaf::Long)) => Ok(StaticType::Leaf(given)),
+        _ => Err(TypeFault::Unexpected),
+    }
+}
+
+fn contains_of<'a>(
+    alloc: Global,
+    left: Kind<'_, 'a>,
+    right: Part<'_, 'a>,
+) -> Result<StaticType<'a>, TypeFault>
+    ensures { Answers result (contains_type (kind_view left.entry) (part_view right.entry)) }
+{
+    match left {
+        Kind::Set(member) => if_common(alloc, member, right),
+        Kind::Leaf(_) | Kind::Record(_) => Err(TypeFault::Unexpected),
+    }
+}
+
+fn sets_of<'a>(
+    alloc: Global,
+    left: Kind<'_, 'a>,
+    right: Kind<'_, 'a>,
+) -> Result<StaticType<'a>, TypeFault>
+    ensures { Answers result (sets_type (kind_view left.entry) (kind_view right.entry)) }
+{
+    match right {
+        Kind::Set(member) => contains_of(alloc, left, member),
+        Kind::Leaf(_) | Kind::Record(_) => Err(TypeFault::Unexpected),
+    }
+}
+
+/// What `&&` is by the booleans that its sides are.
+fn and_of(left: Option<BooleanType>, right: Option<BooleanType>) -> BooleanType
+    ensures { result ≡ and_of left right }
+{
+    match right {
+        Some(BooleanType::False) => BooleanType::False,
+        Some(BooleanType::True) => match left {
+            Some(BooleanType::True) => BooleanType::True,
+            Some(BooleanType::False | BooleanType::Either) | None => BooleanType::Either,
+        },
+        Some(BooleanType::Either) | None => BooleanType::Either,
+    }
+}
+
+/// What `||` is by the boolean that its right is.
+fn or_of(right: Option<BooleanType>) -> BooleanType
+    ensures { result ≡ or_of right }
+{
+    match right {
+        Some(BooleanType::True) => BooleanType::True,
+        Some(BooleanType::False | BooleanType::Either) | None => BooleanType::Either,
+    }
+}
+
+/// The type of `&&` whose left may be true, by the types of its sides; takes no memory.
+pub fn and_type<'a>(left: &StaticType<'a>, right: &StaticType<'a>) -> StaticType<'a>
+    ensures { static_view result ≡ and_type (static_view left.now) (static_view right.now) }
+{
+    StaticType::boolean(and_of(left.as_boolean(), right.as_boolean()))
+}
+
+/// The type of `||` whose left is true or false, by the type of its right; takes no memory.
+pub fn or_type<'a>(right: &StaticType<'a>) -> StaticType<'a>
+    ensures { static_view result ≡ or_type (static_view right.now) }
+{
+    StaticType::boolean(or_of(right.as_boolean()))
+}
+
+/// The type of a test of an address, by its operand's type; takes no memory.
+///
+/// Refused where that is another.
+pub fn address_test_type<'a>(operand: StaticType<'a>) -> Result<StaticType<'a>, TypeFault>
+    ensures row { Answers result (address_test_type (static_view operand.entry)) }
+    ensures memory { TakesNoMemory result }
+{
+    match Part::Built(&operand).kind() {
+        Kind::Leaf(Leaf::Ipaddr) => Ok(StaticType::boolean(BooleanType::Either)),
+        _ => Err(TypeFault::Unexpected),
+    }
+}
+
+/// The type of a method of an extension, by its operands' types; takes no memory.
+///
+/// Refused where these are not of the extension.
+pub fn call_type<'a>(
+    called: BinaryCall,
+    left: StaticType<'a>,
+    right: StaticType<'a>,
+) -> Result<StaticType<'a>, TypeFault>
+    ensures row { Answers result (call_type called (static_view left.entry) (static_view right.entry)) }
+    ensures memory { TakesNoMemory result }
+{
+    call_of(
+        called,
+        Part::Built(&left).kind(),
+        Part::Built(&right).kind(),
+    )
+}
+
+fn is_decimal(kind: Kind<'_, '_>) -> bool
+    ensures { result ≡ is_decimal (kind_view kind.entry) }
+{
+    matches!(kind, Kind::Leaf(Leaf::Decimal))
+}
+
+fn is_ipaddr(kind: Kind<'_, '_>) -> bool
+    ensures { result ≡ is_ipaddr (kind_view kind.entry) }
+{
+    matches!(kind, Kind::Leaf(Leaf::Ipaddr))
+}
+
+fn call_of<'a>(
+    called: BinaryCall,
+    left: Kind<'_, 'a>,
+    right: Kind<'_, 'a>,
+) -> Result<StaticType<'a>, TypeFault>
+    ensures row { Answers result (call_type called (kind_view left.entry) (kind_view right.entry)) }
+    ensures memory { TakesNoMemory result }
+{
+    let fits = match called {
+        BinaryCall::LessThan
+        | BinaryCall::LessThanOrEqual
+        | BinaryCall::GreaterThan
+        | BinaryCall::GreaterThanOrEqual => is_decimal(left) && is_decimal(right),
+        BinaryCall::IsInRange => is_ipaddr(left) && is_ipaddr(right),
+    };
+    if fits {
+        Ok(StaticType::boolean(BooleanType::Either))
+    } else {
+        Err(TypeFault::Unexpected)
+    }
+}

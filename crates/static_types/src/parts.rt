@@ -1,0 +1,169 @@
+//! What a type is made of, layer by layer, wherever it stands.
+ghost use Rattle.std.specs.Prelude.{◌≡◌, suc, IfOk};
+ghost use Rattle.schema_types.specs.CedarViews.{cedar_view, cedar_fields_view};
+ghost use Rattle.static_types.specs.FromSchemas.{static, static_fields};
+ghost use Rattle.static_types.specs.Views.{static_view};
+ghost use Rattle.static_types.specs.inner.Parts.{part_view, kind_view, built_view};
+ghost use Rattle.static_types.specs.inner.Parts.{fields_view, fields_count, fields_behind, before};
+
+use crate::static_type::{BooleanType, Leaf, StaticType, same_leaf};
+use plain::{NoMemory, Text};
+use schema_types::CedarType;
+
+/// A type, in what an expression built or in the schema.
+#[derive(Clone, Copy)]
+pub(crate) enum Part<'r, 'a> {
+    Built(&'r StaticType<'a>),
+    Declared(&'a CedarType),
+}
+
+/// The fields of a record type.
+#[derive(Clone, Copy)]
+pub(crate) enum Fields<'r, 'a> {
+    Built(&'r [(&'a str, StaticType<'a>, bool)]),
+    Declared(&'a [(Text, CedarType, bool)]),
+}
+
+/// What a type is.
+#[derive(Clone, Copy)]
+pub(crate) enum Kind<'r, 'a> {
+    Leaf(Leaf<'a>),
+    /// The type of the members.
+    Set(Part<'r, 'a>),
+    Record(Fields<'r, 'a>),
+}
+
+/// A field of a record type.
+#[derive(Clone, Copy)]
+pub(crate) struct FieldPart<'r, 'a> {
+    pub(crate) key: &'a str,
+    pub(crate) part: Part<'r, 'a>,
+    pub(crate) required: bool,
+}
+
+/// Two fields of one key that are required or optional alike.
+#[derive(Clone, Copy)]
+pub(crate) struct Pair<'r, 's, 'a> {
+    pub(crate) key: &'a str,
+    pub(crate) left: Part<'r, 'a>,
+    pub(crate) right: Part<'s, 'a>,
+    pub(crate) required: bool,
+}
+
+impl<'r, 'a> Part<'r, 'a> {
+    /// What the type is.
+    pub(crate) fn kind(self) -> Kind<'r, 'a>
+        ensures { kind_view result ≡ part_view self.entry }
+    {
+        match self {
+            Part::Built(ty) => kind_of(ty),
+            Part::Declared(ty) => declared_kind(ty),
+        }
+    }
+
+    /// The type by itself.
+    pub(crate) fn taken(self) -> Result<StaticType<'a>, NoMemory>
+        ensures { IfOk result (λ t. static_view t ≡ part_view self.entry) }
+    {
+        match self {
+            Part::Built(ty) => ty.copy(),
+            Part::Declared(ty) => Ok(StaticType::declared(ty)),
+        }
+    }
+}
+
+fn kind_of<'r, 'a>(ty: &'r StaticType<'a>) -> Kind<'r, 'a>
+    ensures { kind_view result ≡ static_view ty.now }
+{
+    match ty {
+        StaticType::Leaf(leaf) => Kind::Leaf(same_leaf(leaf)),
+        StaticType::DeclaredSet(member) => Kind::Set(Part::Declared(*member)),
+        StaticType::DeclaredRecord(fields) => Kind::Record(Fields::Declared(*fields)),
+        StaticType::Set(member) => Kind::Set(Part::Built(member.get())),
+        StaticType::Record(fields) => Kind::Record(Fields::Built(fields.get().as_slice())),
+    }
+}
+
+fn declared_kind<'r, 'a>(ty: &'a CedarType) -> Kind<'r, 'a>
+    ensures { kind_view result ≡ static (cedar_view ty.now) }
+{
+    match ty {
+        CedarType::Text => Kind::Leaf(Leaf::Text),
+        CedarType::Long => Kind::Leaf(Leaf::Long),
+        CedarType::Boolean => Kind::Leaf(Leaf::Boolean(BooleanType::Either)),
+        CedarType::Decimal => Kind::Leaf(Leaf::Decimal),
+        CedarType::Ipaddr => Kind::Leaf(Leaf::Ipaddr),
+        CedarType::Set(element) => Kind::Set(Part::Declared(element.get())),
+        CedarType::Record(fields) => Kind::Record(Fields::Declared(fields.get().as_slice())),
+        CedarType::Entity(name) => Kind::Leaf(Leaf::Entity(name)),
+    }
+}
+
+impl<'r, 'a> Fields<'r, 'a> {
+    /// How many there are.
+    pub(crate) fn len(self) -> usize
+        ensures { result ≡ fields_count (fields_view self.entry) }
+    {
+        match self {
+            Fields::Built(fields) => built_len(fields),
+            Fields::Declared(fields) => declared_len(fields),
+        }
+    }
+
+    /// The field at a place, counted from 0; None at and behind the end.
+    pub(crate) fn get(self, at: usize) -> Option<FieldPart<'r, 'a>>
+        ensures { fields_behind at (fields_view self.entry)
+            ≡ before result (fields_behind (suc at) (fields_view self.entry)) }
+    {
+        match self {
+            Fields::Built(fields) => built_at(fields, at),
+            Fields::Declared(fields) => declared_at(fields, at),
+        }
+    }
+}
+
+fn built_len(fields: &[(&str, StaticType<'_>, bool)]) -> usize
+    ensures { result ≡ fields_count (built_view fields.now) }
+{
+    fields.len()
+}
+
+fn declared_len(fields: &[(Text, CedarType, bool)]) -> usize
+    ensures { result ≡ fields_count (static_fields (cedar_fields_view fields.now)) }
+{
+    fields.len()
+}
+
+fn built_at<'r, 'a>(
+    fields: &'r [(&'a str, StaticType<'a>, bool)],
+    at: usize,
+) -> Option<FieldPart<'r, 'a>>
+    ensures { fields_behind at (built_view fields.now)
+        ≡ before result (fields_behind (suc at) (built_view fields.now)) }
+{
+    match fields.get(at) {
+        Some(field) => Some(FieldPart {
+            key: field.0,
+            part: Part::Built(&field.1),
+            required: field.2,
+        }),
+        None => None,
+    }
+}
+
+fn declared_at<'r, 'a>(
+    fields: &'a [(Text, CedarType, bool)],
+    at: usize,
+) -> Option<FieldPart<'r, 'a>>
+    ensures { fields_behind at (static_fields (cedar_fields_view fields.now))
+        ≡ before result (fields_behind (suc at) (static_fields (cedar_fields_view fields.now))) }
+{
+    match fields.get(at) {
+        Some(field) => Some(FieldPart {
+            key: field.0.as_str(),
+            part: Part::Declared(&field.1),
+            required: field.2,
+        }),
+        None => None,
+    }
+}

@@ -1,0 +1,92 @@
+-- What is said of what stands beside the texts is said of the store.
+use Rattle.std.specs.Prelude.{◌≡◌, ◌↔◌, ℕ, List, Bool, true, false, Option, Some, IsTrue, Result, Ok, Err, IfOk}
+use Rattle.std.proofs.Common.{◌∙◌, sym, subst}
+use Rattle.values.specs.declared.entity_uid.EntityUid.{EntityUid}
+use Rattle.values.specs.declared.request.Request.{Request}
+use Rattle.policy_grammar.specs.declared.policy.Policy.{Policy}
+use Rattle.ancestor_closure.specs.Hierarchy.{IsOnCycle, with_parents}
+use Rattle.evaluator.specs.Operators.{World, world_of}
+use Rattle.authoriser.specs.declared.answer.Answer.{Answer}
+use Rattle.authoriser.specs.Answers.{Named, IsAnswer}
+use Rattle.schema.specs.Kept as schema_kept
+use Rattle.schema.specs.Views.{schema_view}
+use Rattle.entity_store.specs.Entities.{EntityMap, entities_under, attributes_of, parents_of}
+use Rattle.stored_world.specs.declared.stored_entities.StoredEntities.{StoredEntities}
+use Rattle.schema.specs.Schemas.{StatedSchema}
+use Rattle.entities.specs.declared.entity.Entity.{Entity}
+use Rattle.stamped_store.specs.Store.{Kept, updates, shown_store, shown_updates}
+use Rattle.stamped_store.specs.Reading.{IsKeptRead}
+use Rattle.stored_world.specs.Said.{data_in, world_under, parents_with, IsAnswerOver, MakesCycle, MakesNoCycle}
+use Rattle.stored_world.specs.Kept.{policies_read, entity_at}
+use Rattle.stored_world.proofs.PolicyLemmas.{policies_are}
+use Rattle.stored_world.proofs.EntityLemmas.{entities_are}
+
+module _ {R E : Type 0} (Policies : R → List ℕ → List ℕ → Policy → Type 0) (Entities : R → EntityUid → List ℕ → Entity → Type 0)
+    (schema : StatedSchema) (k : Kept Policy Entity) (in_order : updates (shown_store k) ≡ shown_updates k) where
+  pub answer_said : (q : Request) (result : Result Answer E)
+      → IfOk result (IsAnswer (world_under schema (entity_at k.entities)) q (policies_read k.policies))
+      → IfOk result (λ a. (r : R) → IsKeptRead (Policies r) (Entities r) k
+      → IsAnswerOver (Policies r) (Entities r) schema (shown_store k) q a)
+  answer_said q (Ok a) is = λ r h. record {
+    policies = policies_read k.policies;
+    are_policies = policies_are (Policies r) k h.policies in_order;
+    entities = entity_at k.entities;
+    are_entities = entities_are (Entities r) k h.entities in_order;
+    is_answer = is;
+  }
+  answer_said q (Err e) is = tt
+
+  pub cycle_said : (e : Entity) (result : Result Bool E)
+      → IfOk result (λ yes. IsTrue yes ↔ IsOnCycle (parents_with schema (entity_at k.entities) e) e.uid)
+      → IfOk result (λ yes. yes ≡ true → (r : R) → IsKeptRead (Policies r) (Entities r) k
+      → MakesCycle (Entities r) schema (shown_store k) e)
+  cycle_said e (Ok t) is = λ yes r h. record {
+    entities = entity_at k.entities;
+    are_entities = entities_are (Entities r) k h.entities in_order;
+    cycle = is.0 yes;
+  }
+  cycle_said e (Err f) is = tt
+
+  pub no_cycle_said : (e : Entity) (result : Result Bool E)
+      → IfOk result (λ yes. IsTrue yes ↔ IsOnCycle (parents_with schema (entity_at k.entities) e) e.uid)
+      → IfOk result (λ yes. yes ≡ false → (r : R) → IsKeptRead (Policies r) (Entities r) k
+      → MakesNoCycle (Entities r) schema (shown_store k) e)
+  no_cycle_said e (Ok t) is = λ turned r h. record {
+    entities = entity_at k.entities;
+    are_entities = entities_are (Entities r) k h.entities in_order;
+    none = λ cycle. let both : true ≡ false = sym (is.1 cycle) ∙ turned in absurd (cc);
+  }
+  no_cycle_said e (Err f) is = tt
+
+-- ---- what the code sees of a store and a schema
+abbrev Seen : Type 0
+Seen = StoredEntities × Option schema_kept.Kept
+
+-- the entities that it asks about
+abbrev asked : Seen → EntityMap
+asked w = entities_under w.1 (data_in (entity_at w.0.store.now.entities))
+
+abbrev world_seen : Seen → World
+world_seen w = world_of (λ u. attributes_of (asked w u)) (λ u. parents_of (asked w u))
+
+abbrev world_kept : schema_kept.Kept → Kept Policy Entity → World
+world_kept schema k = world_under (schema_view schema) (entity_at k.entities)
+
+pub answered : {E : Type 0} (result : Result Answer E) (q : Request) (schema : schema_kept.Kept) (k : Kept Policy Entity)
+    (w : Seen) (e : StoredEntities) (ps : List Named) → w ≡ (e, Some schema) → e.store.now ≡ k → ps ≡ policies_read k.policies
+    → IfOk result (IsAnswer (world_seen w) q ps)
+    → IfOk result (IsAnswer (world_kept schema k) q (policies_read k.policies))
+answered result q schema k w e ps is_seen is_kept are h =
+    let seen = subst (λ (x : Seen). IfOk result (IsAnswer (world_seen x) q ps)) is_seen h in
+    let known = subst (λ (s : Kept Policy Entity). IfOk result (IsAnswer (world_kept schema s) q ps)) is_kept seen in
+    subst (λ (xs : List Named). IfOk result (IsAnswer (world_kept schema k) q xs)) are known
+
+abbrev tells_cycle : {E : Type 0} → Result Bool E → World → Entity → Type 0
+tells_cycle result W e = IfOk result (λ yes. IsTrue yes ↔ IsOnCycle (with_parents W.parents e.uid e.parents) e.uid)
+
+pub cycled : {E : Type 0} (result : Result Bool E) (schema : schema_kept.Kept) (k : Kept Policy Entity) (w : Seen) (s : StoredEntities)
+    (e : Entity) → w ≡ (s, Some schema) → s.store.now ≡ k
+    → tells_cycle result (world_seen w) e → tells_cycle result (world_kept schema k) e
+cycled result schema k w s e is_seen is_kept h =
+    let seen = subst (λ (x : Seen). tells_cycle result (world_seen x) e) is_seen h in
+    subst (λ (l : Kept Policy Entity). tells_cycle result (world_kept schema l) e) is_kept seen

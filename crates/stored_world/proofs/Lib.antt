@@ -1,0 +1,6 @@
+pub mod Zips
+pub mod PolicyLemmas
+pub mod EntityLemmas
+pub mod UidLemmas
+pub mod AnsweringLemmas
+pub mod OneAnswer

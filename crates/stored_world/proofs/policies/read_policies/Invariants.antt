@@ -1,0 +1,12 @@
+use Rattle.std.proofs.Common.{◌≡◌, ◌++◌, map}
+use Rattle.std.specs.Map.Iter.{deref_pair}
+use Rattle.authoriser.specs.Views.{named}
+use Rattle.stored_world.specs.Kept.{policies_read}
+use Rattle.stored_world.proofs.policies.read_policies.Given as goal
+
+-- what was found so far
+abbrev pub invariant-loop-id : goal.invariant-loop-id
+invariant-loop-id l = record {
+  rest : map deref_pair l.yielded ++ l.id-iterator ≡ l.store.policies;
+  found : named l.found.items ≡ policies_read (map deref_pair l.yielded);
+}

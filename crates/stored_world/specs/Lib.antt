@@ -1,0 +1,4 @@
+pub mod Said
+pub mod Kept
+pub mod Listed
+pub mod inner

@@ -1,0 +1,41 @@
+//! The policies of a store.
+ghost use Rattle.std.specs.Prelude.{◌≡◌, IfOk, map};
+ghost use Rattle.authoriser.specs.Views.{named};
+ghost use Rattle.authoriser.specs.Laws.{AreIdsAscending};
+ghost use Rattle.stamped_store.specs.Store.{updates, shown_store, shown_updates};
+ghost use Rattle.stored_world.specs.Kept.{policies_read};
+
+use entities::Entity;
+use plain::NoMemory;
+use policy_grammar::Policy;
+use stamped_store::PolicyStore;
+use std::alloc::Global;
+
+/// The policies that stand beside the texts of a store, in the order of their names.
+fn read_policies<'s>(
+    alloc: Global,
+    store: &'s PolicyStore<Policy, Entity>,
+) -> Result<Vec<(&'s str, &'s Policy)>, NoMemory>
+    ensures read { IfOk result (λ ps. named ps.items ≡ policies_read store.now.policies) }
+    ensures in_order { updates (shown_store store.now) ≡ shown_updates store.now }
+{
+    let mut found = Vec::new(alloc);
+    for (id, entry) in store.policies() {
+        if let Some(text) = &entry.body {
+            found.push((id.as_str(), &text.read))?;
+        }
+    }
+    Ok(found)
+}
+
+/// The policies of a store that have a text, each as its text was read, ascending by id: what `decide` takes. One pass
+/// over all names of policies. Errors: `NoMemory` alone.
+pub fn policies_in<'s>(
+    alloc: Global,
+    store: &'s PolicyStore<Policy, Entity>,
+) -> Result<Vec<(&'s str, &'s Policy)>, NoMemory>
+    ensures read { IfOk result (λ ps. named ps.items ≡ policies_read store.now.policies) }
+    ensures ascending { IfOk result (λ ps. AreIdsAscending (map (λ p. p.id) (named ps.items))) }
+{
+    read_policies(alloc, store)
+}

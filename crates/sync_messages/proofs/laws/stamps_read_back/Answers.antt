@@ -1,0 +1,12 @@
+use Rattle.sync_messages.proofs.RoundTrip.{name_again, judged_again}
+use Rattle.sync_messages.proofs.Sound.{judged_in_range}
+use Rattle.sync_messages.proofs.laws.stamps_read_back.Goals as goal
+
+pub returns-clause-names : goal.returns-clause-names
+returns-clause-names c = name_again c.paths_are_told.ensures.paths
+
+pub returns-clause-judged : goal.returns-clause-judged
+returns-clause-judged c = judged_again
+
+pub returns-clause-sound : goal.returns-clause-sound
+returns-clause-sound c = judged_in_range c.names_read_back.ensures.found
