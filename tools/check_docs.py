@@ -38,7 +38,9 @@ def crates():
 
 def about_crates():
     product = {it for it in crates() if not BESIDE.search(it)}
-    table = set(re.findall(r"(?m)^(?:\| |- )`(\w+)`[ :]", text_of("README.md")))
+    # a line of the list may be of several crates: - `one`, `two`: what they are
+    heads = re.findall(r"(?m)^(?:\| |- )((?:`\w+`(?:, )?)+)[ :]", text_of("README.md"))
+    table = {it for head in heads for it in re.findall(r"`(\w+)`", head)}
     proved = set(re.findall(r"(?m)^## `(\w+)`", text_of("docs/proved.md")))
     for name, found in (("README.md", table), ("docs/proved.md", proved)):
         yield from (f"{name} has nothing of the crate {it}" for it in sorted(product - found))
