@@ -5,7 +5,8 @@ cd "$(dirname "${BASH_SOURCE[0]}")/photos"
 site=${PROGRAM:-../../cedar_site}
 failed=0
 
-# name, wanted status, file with the wanted line, stream (1 or 2), words
+# name, wanted status, the wanted lines ("nothing" where none are wanted; empty where they are not compared),
+# stream (1 or 2), words
 wants() {
     local name=$1 status=$2 line=$3 stream=$4
     shift 4
@@ -15,7 +16,7 @@ wants() {
     got=$?
     local told=$out
     [ "$stream" = 2 ] && told=$err
-    if [ "$got" != "$status" ] || { [ -n "$line" ] && [ "$(cat "$told")" != "$line" ]; }; then
+    if [ "$got" != "$status" ] || { [ -n "$line" ] && [ "$(cat "$told")" != "${line#nothing}" ]; }; then
         echo "$name: status $got, told: $(cat "$told")"
         failed=1
     fi
@@ -34,7 +35,9 @@ wants "a guest comments" 0 "$(cat guest_answer.txt)" 1 "${decide[@]}" --request 
 wants "bob downloads" 0 "$(cat download_answer.txt)" 1 "${decide[@]}" --request download.json
 wants "a guest downloads" 0 "$(cat guest_download_answer.txt)" 1 "${decide[@]}" --request guest_download.json
 wants "help" 0 "" 1 --help
-wants "a wrong option" 2 "" 2 "${decide[@]}" --request request.json --schema s
+wants "a wrong option" 2 "" 2 "${decide[@]}" --request request.json --scheme s
+wants "no command" 2 "" 2
+wants "check without a schema" 2 "" 2 check policies.cedar
 wants "a missing file" 3 "fault: nowhere.json" 2 "${decide[@]}" --request nowhere.json
 wants "broken JSON" 1 '{"error":{"code":30,"place":null,"within":null}}' 2 decide --policies policies.cedar --entities "$broken/entities.json" --request request.json
 wants "a broken policy" 1 '{"error":{"code":11,"place":24,"within":null}}' 2 decide --policies "$broken/policies.cedar" --entities entities.json --request request.json
@@ -54,6 +57,27 @@ refused 16 20 'permit(principal == ?principal, action, resource);'
 refused 19 0 '@id("") permit(principal, action, resource);'
 printf '[{"uid":{"type":"User"}}]' >"$broken/entities.json"
 wants "code 30" 1 '{"error":{"code":30,"place":0,"within":null}}' 2 decide --policies policies.cedar --entities "$broken/entities.json" --request request.json
+
+
+# The clinic: policies that are checked under a schema, attributes and a context.
+cd ../clinic
+decide=(decide --schema schema.json --policies policies.cedar --entities entities.json)
+wants "the clinic's policies" 0 "$(cat policies_verdicts.txt)" 1 check --schema schema.json policies.cedar
+wants "the clinic's draft" 1 "$(cat draft_verdicts.txt)" 1 check --schema schema.json draft.cedar
+for asked in ben_reads ben_writes ben_away ann_writes; do
+    wants "$asked" 0 "$(cat ${asked}_answer.txt)" 1 "${decide[@]}" --request $asked.json
+done
+wants "a draft decides nothing" 1 '{"error":{"code":44,"place":0,"within":null}}' 2 decide --schema schema.json --policies draft.cedar --entities entities.json --request ben_reads.json
+: >"$broken/empty.cedar"
+wants "no policies" 0 nothing 1 check --schema schema.json "$broken/empty.cedar"
+printf '{"":{"entityTypes":{"Staff":{"memberOfTypes":["Crew"]}}}}' >"$broken/schema.json"
+wants "a type that is not declared" 1 '{"error":{"code":22,"place":null,"within":null}}' 2 check --schema "$broken/schema.json" policies.cedar
+wants "a broken policy under a schema" 1 '{"error":{"code":11,"place":24,"within":null}}' 2 check --schema schema.json "$broken/policies.cedar"
+wants "a missing schema" 3 "fault: nowhere.json" 2 check --schema nowhere.json nowhere.cedar
+printf '[{"uid":{"type":"Staff","id":"eve"},"attrs":{"ward":"north"}},{"uid":{"type":"Staff","id":"joe"}}]' >"$broken/staff.json"
+wants "an entity without its ward" 1 '{"error":{"code":34,"place":1,"within":null}}' 2 decide --schema schema.json --policies policies.cedar --entities "$broken/staff.json" --request ben_reads.json
+printf '{"principal":"Staff::\"ben\"","action":"Action::\"chart\"","resource":"Chart::\"c1\""}' >"$broken/chart.json"
+wants "an action that applies to nothing" 1 '{"error":{"code":39,"place":null,"within":null}}' 2 "${decide[@]}" --request "$broken/chart.json"
 
 [ $failed = 0 ] && echo "examples: as they should be"
 exit $failed

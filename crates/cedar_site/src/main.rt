@@ -1,4 +1,4 @@
-//! The program: one request, decided over a file of policies and a file of entities.
+//! The program: policies checked under a schema, and requests decided over files.
 #![tactic(auto)]
 
 use site_commands::{FAILED, SystemHost, run};

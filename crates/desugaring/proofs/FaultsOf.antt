@@ -5,22 +5,22 @@ use Rattle.policy_tokens.specs.declared.token.Token.{Token}
 use Rattle.policy_tokens.specs.Lexing.{spelling_of}
 use Rattle.token_readers.specs.declared.tree.PathTree.{PathTree}
 use Rattle.token_readers.specs.declared.tree.UidTree.{UidTree}
-use Rattle.expression_syntax.specs.declared.tree.Access.{Access}
-use Rattle.expression_syntax.specs.declared.tree.Access.TheVariants as access
-use Rattle.expression_syntax.specs.declared.tree.Comparison.{Comparison}
-use Rattle.expression_syntax.specs.declared.tree.Entry.{Entry}
-use Rattle.expression_syntax.specs.declared.tree.KeyTree.{KeyTree}
-use Rattle.expression_syntax.specs.declared.tree.Variable.{Variable}
-use Rattle.expression_syntax.specs.declared.tree.Term.{Term}
-use Rattle.expression_syntax.specs.declared.tree.ExprTree.{ExprTree, out-ExprTree, roll-ExprTree, map-ExprTree, fold_out-ExprTree, roll-out-ExprTree}
-use Rattle.expression_syntax.specs.declared.tree.ExprTree.TheVariants as t
-use Rattle.expression_syntax.specs.declared.tree.ExprTree.TheOpen.{ExprTree-F as tree}
-use Rattle.expression_syntax.specs.declared.tree.ExprTree.TheFolds.{fold-roll-ExprTree}
+use Rattle.expression_trees.specs.declared.tree.Access.{Access}
+use Rattle.expression_trees.specs.declared.tree.Access.TheVariants as access
+use Rattle.expression_trees.specs.declared.tree.Comparison.{Comparison}
+use Rattle.expression_trees.specs.declared.tree.Entry.{Entry}
+use Rattle.expression_trees.specs.declared.tree.KeyTree.{KeyTree}
+use Rattle.expression_trees.specs.declared.tree.Variable.{Variable}
+use Rattle.expression_trees.specs.declared.tree.Term.{Term}
+use Rattle.expression_trees.specs.declared.tree.ExprTree.{ExprTree, out-ExprTree, roll-ExprTree, map-ExprTree, fold_out-ExprTree, roll-out-ExprTree}
+use Rattle.expression_trees.specs.declared.tree.ExprTree.TheVariants as t
+use Rattle.expression_trees.specs.declared.tree.ExprTree.TheOpen.{ExprTree-F as tree}
+use Rattle.expression_trees.specs.declared.tree.ExprTree.TheFolds.{fold-roll-ExprTree}
 use Rattle.desugaring.specs.Numbers.{fits, fits_negated}
 use Rattle.desugaring.specs.Core.{in_access}
 use Rattle.desugaring.specs.Repeats.{repeat_faults}
 use Rattle.desugaring.specs.Faults.{Faulty, fault_step, fault_meaning, faults_of, negated_faults, range, function_faults, access_faults, key_of}
-use Rattle.expression_syntax.proofs.Flat.{joined, flat_map_map, flat_map_each}
+use Rattle.expression_trees.proofs.Flat.{joined, flat_map_map, flat_map_each}
 use Rattle.desugaring.proofs.Lists.{map_map, map_accesses, length-mapped}
 
 module _ (text : List ℕ) where

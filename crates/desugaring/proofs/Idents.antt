@@ -8,7 +8,7 @@ use Rattle.policy_tokens.specs.declared.token.Kind.TheVariants as k
 use Rattle.policy_tokens.specs.declared.token.Token.{Token}
 use Rattle.policy_tokens.specs.Idents.{is_ident}
 use Rattle.policy_tokens.specs.Strings.{is_string}
-use Rattle.expression_syntax.specs.Expressions.{patterns}
+use Rattle.expression_trees.specs.Patterns.{patterns}
 use Rattle.policy_tokens.specs.Lexing.{spelling_of}
 use Rattle.token_readers.specs.Grammar.{identifiers}
 use Rattle.token_readers.specs.Kinds.{only, same_kind}

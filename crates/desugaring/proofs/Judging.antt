@@ -6,15 +6,15 @@ use Rattle.policy_tokens.specs.declared.token.Token.{Token}
 use Rattle.policy_tokens.specs.Lexing.{spelling_of}
 use Rattle.token_readers.specs.declared.tree.PathTree.{PathTree}
 use Rattle.token_readers.specs.declared.tree.UidTree.{UidTree}
-use Rattle.expression_syntax.specs.declared.tree.Access.{Access}
-use Rattle.expression_syntax.specs.declared.tree.Access.TheVariants as access
-use Rattle.expression_syntax.specs.declared.tree.Comparison.{Comparison}
-use Rattle.expression_syntax.specs.declared.tree.Entry.{Entry}
-use Rattle.expression_syntax.specs.declared.tree.KeyTree.{KeyTree}
-use Rattle.expression_syntax.specs.declared.tree.Variable.{Variable}
-use Rattle.expression_syntax.specs.declared.tree.Term.{Term}
-use Rattle.expression_syntax.specs.declared.tree.ExprTree.{ExprTree}
-use Rattle.expression_syntax.specs.declared.tree.ExprTree.TheVariants as t
+use Rattle.expression_trees.specs.declared.tree.Access.{Access}
+use Rattle.expression_trees.specs.declared.tree.Access.TheVariants as access
+use Rattle.expression_trees.specs.declared.tree.Comparison.{Comparison}
+use Rattle.expression_trees.specs.declared.tree.Entry.{Entry}
+use Rattle.expression_trees.specs.declared.tree.KeyTree.{KeyTree}
+use Rattle.expression_trees.specs.declared.tree.Variable.{Variable}
+use Rattle.expression_trees.specs.declared.tree.Term.{Term}
+use Rattle.expression_trees.specs.declared.tree.ExprTree.{ExprTree}
+use Rattle.expression_trees.specs.declared.tree.ExprTree.TheVariants as t
 use Rattle.expressions.specs.declared.operator.Unary.TheVariants.{Not, Negate, Like, Is}
 use Rattle.expressions.specs.declared.operator.Binary.TheVariants.{In, Multiply}
 use Rattle.expressions.specs.declared.expr.Expr.{Expr}
@@ -34,7 +34,7 @@ use Rattle.desugaring.specs.Refused.{earlier_of, least}
 use Rattle.desugaring.specs.Faults.{faults_of, range, call_faults, function_faults, access_faults, key_of}
 use Rattle.desugaring.specs.Judged.{judgement, of, of_row, judged, judged_negated}
 use Rattle.desugaring.specs.Sums.{nothing, leaf, above, beside, paired, called, with_fault, judged_all, judged_chain, judged_term, judged_entry, judged_compared, judged_call, judged_access}
-use Rattle.expression_syntax.proofs.Flat.{flat_map_map}
+use Rattle.expression_trees.proofs.Flat.{flat_map_map}
 use Rattle.desugaring.proofs.Lists.{length-mapped}
 use Rattle.desugaring.proofs.Least.{least-append, earlier_same}
 use Rattle.desugaring.proofs.Sizing.{same, capped_above, of-Literal, of-Variable, of-Unary, of-Field, of-Has, of-Set, of-And, of-Or, of-Binary, of-If, of-compared, of-called, of-method, row-snoc, fused, fold_map, fold_snoc}

@@ -1,12 +1,13 @@
 -- Lists that a loop goes over or makes.
-use Rattle.std.proofs.Common.{◌≡◌, ℕ, zero, suc, ◌+◌, ◌<◌, List, [], ◌∷◌, ◌++◌, length, drop, get_or, map, refl, sym, ◌∙◌, ap, arith, add-one, Result, Ok, Err, IfOk}
+use Rattle.std.proofs.Common.{◌≡◌, ℕ, zero, suc, ◌+◌, ◌<◌, List, [], ◌∷◌, ◌++◌, length, drop, take, get_or, map, refl, sym, ◌∙◌, ap, arith, add-one, Result, Ok, Err, IfOk}
 use Rattle.std.proofs.Math.Seq.{drop-cons}
+use Rattle.std.proofs.lemmas.List.{map-append, take_more}
 use Rattle.std.specs.List.{AllByRecursion}
 use Rattle.policy_tokens.specs.declared.token.Token.{Token}
-use Rattle.expression_syntax.specs.declared.tree.Access.{Access}
-use Rattle.expression_syntax.specs.declared.tree.Access.TheVariants as access
-use Rattle.expression_syntax.specs.declared.tree.ExprTree.{ExprTree}
-use Rattle.expression_syntax.specs.declared.tree.KeyTree.{KeyTree}
+use Rattle.expression_trees.specs.declared.tree.Access.{Access}
+use Rattle.expression_trees.specs.declared.tree.Access.TheVariants as access
+use Rattle.expression_trees.specs.declared.tree.ExprTree.{ExprTree}
+use Rattle.expression_trees.specs.declared.tree.KeyTree.{KeyTree}
 use Rattle.plain.specs.Words.{AreIdents, IsIdent}
 
 -- an item of a list of which each is so
@@ -43,3 +44,15 @@ map_accesses g h f field method (access.Method name arguments ∷ xs) =
 pub length-mapped : {A B : Type 0} (f : A → B) (xs : List A) → length (map f xs) ≡ length xs
 length-mapped f [] = refl
 length-mapped f (x ∷ xs) = ap (λ n. suc n) (length-mapped f xs)
+
+-- a turn of a loop: what is made from here on is what was made from there on
+pub stepped : {A B X : Type 0} (going : A → List X → B) (f : A → X → A) → ((a : A) (x : X) (xs : List X) → going a (x ∷ xs) ≡ going (f a x) xs) → (xs : List X) (i : ℕ) (x : X) (left more : A) →
+    x ≡ get_or xs i x → i < length xs → more ≡ f left x → going more (drop (i + 1) xs) ≡ going left (drop i xs)
+stepped going f here xs i x left more same below made =
+    ap (λ a. going a (drop (i + 1) xs)) made ∙ sym (here left x (drop (i + 1) xs)) ∙ ap (λ y. going left (y ∷ drop (i + 1) xs)) same ∙ sym (ap (going left) (next xs i x below))
+
+-- a turn of a loop that maps a list
+pub taken : {A B : Type 0} (f : A → B) (xs : List A) (i : ℕ) (x : A) (made more : List B) (y : B) → x ≡ get_or xs i x → i < length xs → made ≡ map f (take i xs) → y ≡ f x → more ≡ made ++ y ∷ [] →
+    more ≡ map f (take (i + 1) xs)
+taken f xs i x made more y same below before is pushed =
+    pushed ∙ ap (λ ys. ys ++ y ∷ []) before ∙ ap (λ z. map f (take i xs) ++ z ∷ []) (is ∙ ap f same) ∙ sym (ap (map f) (take_more xs i x below) ∙ map-append f (take i xs) (get_or xs i x ∷ []))

@@ -3,8 +3,8 @@ use Rattle.std.proofs.lemmas.Bool.{cases_Bool, eqb-true}
 use Rattle.std.proofs.Common.{◌≡◌, Bool, true, false, inl, inr, ℕ, suc, ◌+◌, max, refl, ap, ◌∙◌, sym, arith, List, [], ◌∷◌, ◌++◌, map, length, Option, Some, None, append_assoc, nat_eq, if◌then◌else◌}
 use Rattle.std.proofs.lemmas.List.{append-nil, map-append}
 use Rattle.std.specs.List.{fold, flat_map}
-use Rattle.expression_syntax.specs.declared.tree.Comparison.{Comparison}
-use Rattle.expression_syntax.specs.declared.tree.Comparison.TheVariants as is
+use Rattle.expression_trees.specs.declared.tree.Comparison.{Comparison}
+use Rattle.expression_trees.specs.declared.tree.Comparison.TheVariants as is
 use Rattle.expressions.specs.declared.expr.Expr.{Expr}
 use Rattle.expressions.specs.declared.expr.Expr.TheVariants as core
 use Rattle.expressions.specs.declared.leaf.Literal.{Literal}

@@ -5,12 +5,12 @@ use Rattle.std.specs.List.{AllByRecursion}
 use Rattle.policy_tokens.specs.declared.token.Token.{Token}
 use Rattle.policy_tokens.specs.Lexing.{IsSpelledIn}
 use Rattle.token_readers.specs.declared.tree.PathTree.{PathTree}
-use Rattle.expression_syntax.specs.declared.tree.ExprTree.{ExprTree}
+use Rattle.expression_trees.specs.declared.tree.ExprTree.{ExprTree}
 use Rattle.token_readers.specs.Grammar.{identifiers}
 use Rattle.token_readers.specs.Kinds.{Kinds}
-use Rattle.expression_syntax.specs.Parts.{Part, parts_of}
-use Rattle.expression_syntax.specs.Stands.{TokenStands, PathStands, ExprStands}
-use Rattle.expression_syntax.proofs.Flat.{all_as}
+use Rattle.expression_trees.specs.Parts.{Part, parts_of}
+use Rattle.expression_trees.specs.Stands.{TokenStands, PathStands, ExprStands}
+use Rattle.expression_trees.proofs.Flat.{all_as}
 use Rattle.desugaring.specs.inner.Standing.{TokenIn, PathIn, Stands}
 
 -- an item of a list of which each is so

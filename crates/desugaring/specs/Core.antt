@@ -15,15 +15,15 @@ use Rattle.expressions.specs.declared.expr.Named.{Named}
 use Rattle.expressions.specs.declared.expr.Expr.{Expr}
 use Rattle.expressions.specs.declared.expr.Expr.TheVariants as core
 use Rattle.token_readers.specs.declared.tree.PathTree.{PathTree}
-use Rattle.expression_syntax.specs.declared.tree.Access.{Access}
-use Rattle.expression_syntax.specs.declared.tree.Access.TheVariants as access
-use Rattle.expression_syntax.specs.declared.tree.Comparison.{Comparison}
-use Rattle.expression_syntax.specs.declared.tree.Comparison.TheVariants as is
-use Rattle.expression_syntax.specs.declared.tree.Entry.{Entry}
-use Rattle.expression_syntax.specs.declared.tree.Term.{Term}
-use Rattle.expression_syntax.specs.declared.tree.ExprTree.{ExprTree}
-use Rattle.expression_syntax.specs.declared.tree.ExprTree.TheOpen.{ExprTree-F as tree}
-use Rattle.expression_syntax.specs.declared.tree.ExprTree.TheFolds.{fold-ExprTree}
+use Rattle.expression_trees.specs.declared.tree.Access.{Access}
+use Rattle.expression_trees.specs.declared.tree.Access.TheVariants as access
+use Rattle.expression_trees.specs.declared.tree.Comparison.{Comparison}
+use Rattle.expression_trees.specs.declared.tree.Comparison.TheVariants as is
+use Rattle.expression_trees.specs.declared.tree.Entry.{Entry}
+use Rattle.expression_trees.specs.declared.tree.Term.{Term}
+use Rattle.expression_trees.specs.declared.tree.ExprTree.{ExprTree}
+use Rattle.expression_trees.specs.declared.tree.ExprTree.TheOpen.{ExprTree-F as tree}
+use Rattle.expression_trees.specs.declared.tree.ExprTree.TheFolds.{fold-ExprTree}
 use Rattle.desugaring.specs.declared.leaves.Chain.{Chain}
 use Rattle.desugaring.specs.declared.leaves.Chain.TheVariants as chain
 use Rattle.desugaring.specs.declared.names.Method.{Method}

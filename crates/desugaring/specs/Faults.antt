@@ -6,12 +6,12 @@ use Rattle.std.specs.List.{flat_map}
 use Rattle.policy_tokens.specs.declared.token.Token.{Token}
 use Rattle.policy_tokens.specs.Lexing.{spelling_of}
 use Rattle.token_readers.specs.declared.tree.PathTree.{PathTree}
-use Rattle.expression_syntax.specs.declared.tree.Access.{Access}
-use Rattle.expression_syntax.specs.declared.tree.Access.TheVariants as access
-use Rattle.expression_syntax.specs.declared.tree.Entry.{Entry}
-use Rattle.expression_syntax.specs.declared.tree.ExprTree.{ExprTree}
-use Rattle.expression_syntax.specs.declared.tree.ExprTree.TheOpen.{ExprTree-F as tree}
-use Rattle.expression_syntax.specs.declared.tree.ExprTree.TheFolds.{fold-ExprTree}
+use Rattle.expression_trees.specs.declared.tree.Access.{Access}
+use Rattle.expression_trees.specs.declared.tree.Access.TheVariants as access
+use Rattle.expression_trees.specs.declared.tree.Entry.{Entry}
+use Rattle.expression_trees.specs.declared.tree.ExprTree.{ExprTree}
+use Rattle.expression_trees.specs.declared.tree.ExprTree.TheOpen.{ExprTree-F as tree}
+use Rattle.expression_trees.specs.declared.tree.ExprTree.TheFolds.{fold-ExprTree}
 use Rattle.desugaring.specs.declared.fault.DesugarFault.{DesugarFault}
 use Rattle.desugaring.specs.declared.fault.DesugarFault.TheVariants.{NumberRange, UnknownCall, Arity}
 use Rattle.desugaring.specs.Names.{method_of, function_takes, method_takes}

@@ -9,12 +9,12 @@ use Rattle.expressions.specs.declared.operator.Binary.{Binary}
 use Rattle.expressions.specs.declared.operator.Binary.TheVariants.{Add, Subtract}
 use Rattle.token_readers.specs.declared.tree.PathTree.{PathTree}
 use Rattle.token_readers.specs.declared.tree.UidTree.{UidTree}
-use Rattle.expression_syntax.specs.declared.tree.KeyTree.{KeyTree}
-use Rattle.expression_syntax.specs.declared.tree.KeyTree.TheVariants.{Word, Quoted}
-use Rattle.expression_syntax.specs.declared.tree.Sign.{Sign}
-use Rattle.expression_syntax.specs.declared.tree.Sign.TheVariants.{Plus, Minus}
-use Rattle.expression_syntax.specs.declared.tree.Variable as tree
-use Rattle.expression_syntax.specs.declared.tree.Variable.TheVariants as word
+use Rattle.expression_trees.specs.declared.tree.KeyTree.{KeyTree}
+use Rattle.expression_trees.specs.declared.tree.KeyTree.TheVariants.{Word, Quoted}
+use Rattle.expression_trees.specs.declared.tree.Sign.{Sign}
+use Rattle.expression_trees.specs.declared.tree.Sign.TheVariants.{Plus, Minus}
+use Rattle.expression_trees.specs.declared.tree.Variable as tree
+use Rattle.expression_trees.specs.declared.tree.Variable.TheVariants as word
 use Rattle.desugaring.specs.Strings.{value_of}
 
 abbrev pub variable_of : tree.Variable → Variable

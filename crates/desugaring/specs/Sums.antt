@@ -7,13 +7,13 @@ use Rattle.expressions.specs.declared.operator.Unary.{Unary}
 use Rattle.expressions.specs.declared.expr.Expr.{Expr}
 use Rattle.expressions.specs.declared.expr.Expr.TheVariants as core
 use Rattle.token_readers.specs.declared.tree.PathTree.{PathTree}
-use Rattle.expression_syntax.specs.declared.tree.Access.{Access}
-use Rattle.expression_syntax.specs.declared.tree.Access.TheVariants as access
-use Rattle.expression_syntax.specs.declared.tree.Comparison.{Comparison}
-use Rattle.expression_syntax.specs.declared.tree.Comparison.TheVariants as is
-use Rattle.expression_syntax.specs.declared.tree.Entry.{Entry}
-use Rattle.expression_syntax.specs.declared.tree.Term.{Term}
-use Rattle.expression_syntax.specs.declared.tree.ExprTree.{ExprTree}
+use Rattle.expression_trees.specs.declared.tree.Access.{Access}
+use Rattle.expression_trees.specs.declared.tree.Access.TheVariants as access
+use Rattle.expression_trees.specs.declared.tree.Comparison.{Comparison}
+use Rattle.expression_trees.specs.declared.tree.Comparison.TheVariants as is
+use Rattle.expression_trees.specs.declared.tree.Entry.{Entry}
+use Rattle.expression_trees.specs.declared.tree.Term.{Term}
+use Rattle.expression_trees.specs.declared.tree.ExprTree.{ExprTree}
 use Rattle.desugaring.specs.declared.fault.DesugarFault.{DesugarFault}
 use Rattle.desugaring.specs.declared.judgement.Judgement.{Judgement}
 use Rattle.desugaring.specs.Refused.{earlier_of, least}

@@ -14,7 +14,7 @@ use crate::leaves::{
 };
 use crate::names::method_named;
 use crate::words::{name, sign};
-use expression_syntax::{Access, Entry, ExprTree, Term};
+use expression_trees::{Access, Entry, ExprTree, Term};
 use expressions::{Expr, Named, Unary};
 use plain::{Items, NoMemory};
 use policy_tokens::spelling;

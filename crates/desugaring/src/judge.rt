@@ -14,6 +14,7 @@ ghost use Rattle.desugaring.specs.Faults.{range, call_faults, function_faults};
 ghost use Rattle.desugaring.specs.Judged.{judged, judged_negated};
 ghost use Rattle.desugaring.specs.inner.Standing.{Stands, TokenIn, PathIn, AllStand, EntryStands, TermStands};
 ghost use Rattle.desugaring.specs.inner.Standing.{AccessStands};
+ghost use Rattle.desugaring.specs.inner.Giving.{Gave};
 ghost use Rattle.desugaring.specs.Sums as spec;
 
 use crate::fault::DesugarFault;
@@ -21,11 +22,14 @@ use crate::judgement::Judgement;
 use crate::names::{function_named, method_named};
 use crate::numbers::{fits, fits_negated};
 use crate::repeats::repeated_key;
-use expression_syntax::{Access, Comparison, Entry, ExprTree, PathTree, Term};
+use expression_trees::{Access, Comparison, Entry, ExprTree, PathTree, Term};
 use expressions::UnaryCall;
 use plain::{Items, NoMemory};
 use policy_tokens::{Token, spelling};
 use std::alloc::Global;
+
+/// What is told, but for want of memory.
+type Told = Result<Judgement, NoMemory>;
 
 /// The fault of a number that is out of range.
 fn range_fault(within: bool, token: Token) -> Option<DesugarFault>
@@ -118,9 +122,58 @@ fn judge_comparison(operator: Comparison, left: Judgement, right: Judgement) -> 
     }
 }
 
+/// Of a form over what is judged.
+fn above(operand: Told) -> Told
+    ensures { IfOk result (λ j. Gave operand (λ i. j ≡ spec.above i)) }
+{
+    Ok(operand?.above())
+}
+
+/// Of a function's call, of its arguments and the fault of the call itself.
+fn call(fault: Option<DesugarFault>, arguments: Told) -> Told
+    ensures { IfOk result (λ j. Gave arguments (λ i. j ≡ spec.called fault (spec.with_fault fault i))) }
+{
+    Ok(arguments?.with_fault(fault).called(fault))
+}
+
+/// Of a record, of its entries and the fault of its keys.
+fn record(fault: Result<Option<DesugarFault>, NoMemory>, entries: Told) -> Told
+    ensures { IfOk result (λ j. Gave fault (λ o. Gave entries (λ i. j ≡ spec.above (spec.with_fault o i)))) }
+{
+    let fault = fault?;
+    Ok(entries?.with_fault(fault).above())
+}
+
+/// `left operator right`
+fn compare(operator: Comparison, left: Told, right: Told) -> Told
+    ensures { IfOk result (λ j. Gave left (λ i. Gave right (λ k. j ≡ spec.judged_compared operator i k))) }
+{
+    let left = left?;
+    Ok(judge_comparison(operator, left, right?))
+}
+
+/// `operand is path in ancestor`, in which the operand stands twice.
+fn is_in(operand: Told, ancestor: Told) -> Told
+    ensures { IfOk result (λ j. Gave operand (λ i. Gave ancestor
+        (λ k. j ≡ spec.paired (spec.above i) (spec.paired i k)))) }
+{
+    let operand = operand?;
+    Ok(operand.above().paired(operand.paired(ancestor?)))
+}
+
+/// `if test then consequent else alternative`
+fn if_then_else(test: Told, consequent: Told, alternative: Told) -> Told
+    ensures { IfOk result (λ j. Gave test (λ i. Gave consequent
+        (λ k. Gave alternative (λ l. j ≡ spec.above (spec.beside i (spec.beside k l)))))) }
+{
+    let test = test?;
+    let consequent = consequent?;
+    Ok(test.beside(consequent.beside(alternative?)).above())
+}
+
 /// What is told of a tree.
 #[cycle(judge)]
-pub(crate) fn judge_tree(alloc: Global, text: &str, tree: &ExprTree) -> Result<Judgement, NoMemory>
+pub(crate) fn judge_tree(alloc: Global, text: &str, tree: &ExprTree) -> Told
     requires { Stands text.now tree.now }
     ensures { IfOk result (λ j. j ≡ judged text.now tree.now) }
 {
@@ -130,76 +183,73 @@ pub(crate) fn judge_tree(alloc: Global, text: &str, tree: &ExprTree) -> Result<J
         ExprTree::Text(_) => Ok(Judgement::leaf(None)),
         ExprTree::Variable(_) => Ok(Judgement::leaf(None)),
         ExprTree::Uid(_) => Ok(Judgement::leaf(None)),
-        ExprTree::Call(path, arguments) => {
-            let row = judge_all(alloc, text, arguments.as_slice())?;
-            let fault = function_fault(text, path, arguments.len());
-            Ok(row.with_fault(fault).called(fault))
-        }
+        ExprTree::Call(path, arguments) => call(
+            function_fault(text, path, arguments.len()),
+            judge_all(alloc, text, arguments.as_slice()),
+        ),
         ExprTree::Parentheses(inner) => judge_tree(alloc, text, inner.get()),
-        ExprTree::Set(members) => Ok(judge_all(alloc, text, members.as_slice())?.above()),
-        ExprTree::Record(entries) => {
-            let row = judge_entries(alloc, text, entries.as_slice())?;
-            let fault = repeated_key(alloc, text, entries.as_slice())?;
-            Ok(row.with_fault(fault).above())
-        }
+        ExprTree::Set(members) => above(judge_all(alloc, text, members.as_slice())),
+        ExprTree::Record(entries) => record(
+            repeated_key(alloc, text, entries.as_slice()),
+            judge_entries(alloc, text, entries.as_slice()),
+        ),
         ExprTree::Member(inner, accesses) => {
-            let receiver = judge_tree(alloc, text, inner.get())?;
-            judge_accesses(alloc, text, accesses.as_slice(), receiver)
+            let first = judge_tree(alloc, text, inner.get());
+            judge_accesses(alloc, text, accesses.as_slice(), first)
         }
-        ExprTree::Not(inner) => Ok(judge_tree(alloc, text, inner.get())?.above()),
+        ExprTree::Not(inner) => above(judge_tree(alloc, text, inner.get())),
         ExprTree::Minus(inner) => judge_behind_minus(alloc, text, inner.get()),
         ExprTree::Product(inner, more) => {
-            let first = judge_tree(alloc, text, inner.get())?;
+            let first = judge_tree(alloc, text, inner.get());
             judge_chain(alloc, text, more.as_slice(), first)
         }
         ExprTree::Sum(inner, terms) => {
-            let first = judge_tree(alloc, text, inner.get())?;
+            let first = judge_tree(alloc, text, inner.get());
             judge_terms(alloc, text, terms.as_slice(), first)
         }
-        ExprTree::Compare(left, operator, right) => {
-            let one = judge_tree(alloc, text, left.get())?;
-            let other = judge_tree(alloc, text, right.get())?;
-            Ok(judge_comparison(*operator, one, other))
-        }
-        ExprTree::Has(inner, _) => Ok(judge_tree(alloc, text, inner.get())?.above()),
-        ExprTree::Like(inner, _) => Ok(judge_tree(alloc, text, inner.get())?.above()),
-        ExprTree::Is(inner, _) => Ok(judge_tree(alloc, text, inner.get())?.above()),
-        ExprTree::IsIn(inner, _, outer) => {
-            let one = judge_tree(alloc, text, inner.get())?;
-            let other = judge_tree(alloc, text, outer.get())?;
-            Ok(one.above().paired(one.paired(other)))
-        }
+        ExprTree::Compare(left, operator, right) => compare(
+            *operator,
+            judge_tree(alloc, text, left.get()),
+            judge_tree(alloc, text, right.get()),
+        ),
+        ExprTree::Has(inner, _) => above(judge_tree(alloc, text, inner.get())),
+        ExprTree::Like(inner, _) => above(judge_tree(alloc, text, inner.get())),
+        ExprTree::Is(inner, _) => above(judge_tree(alloc, text, inner.get())),
+        ExprTree::IsIn(inner, _, outer) => is_in(
+            judge_tree(alloc, text, inner.get()),
+            judge_tree(alloc, text, outer.get()),
+        ),
         ExprTree::And(inner, more) => {
-            let first = judge_tree(alloc, text, inner.get())?;
+            let first = judge_tree(alloc, text, inner.get());
             judge_chain(alloc, text, more.as_slice(), first)
         }
         ExprTree::Or(inner, more) => {
-            let first = judge_tree(alloc, text, inner.get())?;
+            let first = judge_tree(alloc, text, inner.get());
             judge_chain(alloc, text, more.as_slice(), first)
         }
         ExprTree::If(test, consequent, alternative) => {
-            let one = judge_tree(alloc, text, test.get())?;
-            let two = judge_tree(alloc, text, consequent.get())?;
-            let three = judge_tree(alloc, text, alternative.get())?;
-            Ok(one.beside(two.beside(three)).above())
+            let first = judge_tree(alloc, text, test.get());
+            let second = judge_tree(alloc, text, consequent.get());
+            let third = judge_tree(alloc, text, alternative.get());
+            if_then_else(first, second, third)
         }
     }
 }
 
 /// Of a tree behind a minus, which joins a number.
 #[cycle(judge)]
-fn judge_behind_minus(alloc: Global, text: &str, tree: &ExprTree) -> Result<Judgement, NoMemory>
+fn judge_behind_minus(alloc: Global, text: &str, tree: &ExprTree) -> Told
     requires { Stands text.now tree.now }
     ensures { IfOk result (λ j. j ≡ judged_negated text.now tree.now) }
 {
     match tree {
         ExprTree::Number(token) => Ok(judge_negated_number(text, *token)),
-        _ => Ok(judge_tree(alloc, text, tree)?.above()),
+        _ => above(judge_tree(alloc, text, tree)),
     }
 }
 
 #[cycle(judge)]
-fn judge_all(alloc: Global, text: &str, trees: &[ExprTree]) -> Result<Judgement, NoMemory>
+fn judge_all(alloc: Global, text: &str, trees: &[ExprTree]) -> Told
     requires { AllStand text.now trees.now }
     ensures { IfOk result (λ j. j ≡ spec.judged_all text.now trees.now) }
 {
@@ -211,11 +261,7 @@ fn judge_all(alloc: Global, text: &str, trees: &[ExprTree]) -> Result<Judgement,
 }
 
 #[cycle(judge)]
-fn judge_entries(
-    alloc: Global,
-    text: &str,
-    entries: &[Entry<ExprTree>],
-) -> Result<Judgement, NoMemory>
+fn judge_entries(alloc: Global, text: &str, entries: &[Entry<ExprTree>]) -> Told
     requires { AllByRecursion (EntryStands text.now) entries.now }
     ensures { IfOk result (λ j. j ≡ fold (spec.judged_entry text.now) spec.nothing entries.now) }
 {
@@ -227,16 +273,11 @@ fn judge_entries(
 }
 
 #[cycle(judge)]
-fn judge_chain(
-    alloc: Global,
-    text: &str,
-    more: &[ExprTree],
-    first: Judgement,
-) -> Result<Judgement, NoMemory>
+fn judge_chain(alloc: Global, text: &str, more: &[ExprTree], first: Told) -> Told
     requires { AllStand text.now more.now }
-    ensures { IfOk result (λ j. j ≡ spec.judged_chain text.now first more.now) }
+    ensures { IfOk result (λ j. Gave first (λ i. j ≡ spec.judged_chain text.now i more.now)) }
 {
-    let mut left = first;
+    let mut left = first?;
     for tree in more {
         left = left.paired(judge_tree(alloc, text, tree)?);
     }
@@ -244,16 +285,11 @@ fn judge_chain(
 }
 
 #[cycle(judge)]
-fn judge_terms(
-    alloc: Global,
-    text: &str,
-    terms: &[Term<ExprTree>],
-    first: Judgement,
-) -> Result<Judgement, NoMemory>
+fn judge_terms(alloc: Global, text: &str, terms: &[Term<ExprTree>], first: Told) -> Told
     requires { AllByRecursion (TermStands text.now) terms.now }
-    ensures { IfOk result (λ j. j ≡ fold (spec.judged_term text.now) first terms.now) }
+    ensures { IfOk result (λ j. Gave first (λ i. j ≡ fold (spec.judged_term text.now) i terms.now)) }
 {
-    let mut left = first;
+    let mut left = first?;
     for term in terms {
         left = left.paired(judge_tree(alloc, text, &term.operand)?);
     }
@@ -265,12 +301,12 @@ fn judge_accesses(
     alloc: Global,
     text: &str,
     accesses: &[Access<Items<ExprTree>>],
-    receiver: Judgement,
-) -> Result<Judgement, NoMemory>
+    receiver: Told,
+) -> Told
     requires { AllByRecursion (AccessStands text.now) accesses.now }
-    ensures { IfOk result (λ j. j ≡ fold (spec.judged_access text.now) receiver accesses.now) }
+    ensures { IfOk result (λ j. Gave receiver (λ i. j ≡ fold (spec.judged_access text.now) i accesses.now)) }
 {
-    let mut left = receiver;
+    let mut left = receiver?;
     for access in accesses {
         left = judge_access(alloc, text, access, left)?;
     }
@@ -283,7 +319,7 @@ fn judge_access(
     text: &str,
     access: &Access<Items<ExprTree>>,
     receiver: Judgement,
-) -> Result<Judgement, NoMemory>
+) -> Told
     requires { AccessStands text.now access.now }
     ensures { IfOk result (λ j. j ≡ spec.judged_access text.now receiver access.now) }
 {

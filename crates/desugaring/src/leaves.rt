@@ -7,7 +7,7 @@ ghost use Rattle.expressions.specs.declared.operator.Unary.TheVariants as unary;
 ghost use Rattle.expressions.specs.declared.operator.Binary.TheVariants as binary;
 ghost use Rattle.expressions.specs.declared.expr.Expr.TheVariants as core;
 ghost use Rattle.token_readers.specs.Kinds.{only};
-ghost use Rattle.expression_syntax.specs.Expressions.{patterns};
+ghost use Rattle.expression_trees.specs.Patterns.{patterns};
 ghost use Rattle.desugaring.specs.Strings.{value_of, pattern_of};
 ghost use Rattle.desugaring.specs.Numbers.{positive, negative};
 ghost use Rattle.desugaring.specs.Meaning.{variable_of, path_name, uid_of, name_of};
@@ -19,7 +19,7 @@ ghost use Rattle.desugaring.specs.inner.Standing.{TokenIn, KeyIn, PathIn, UidIn}
 use crate::names::Method;
 use crate::numbers;
 use crate::words::{name, path_type, pattern, string};
-use expression_syntax::{Comparison, KeyTree, PathTree, UidTree};
+use expression_trees::{Comparison, KeyTree, PathTree, UidTree};
 use expressions::{Binary, Expr, Literal, Named, Unary, UnaryCall, Variable};
 use plain::{Items, NoMemory};
 use policy_tokens::{Token, spelling};
@@ -40,14 +40,14 @@ pub(crate) fn boolean_literal(value: bool) -> Expr
     Expr::Literal(Literal::Boolean(value))
 }
 
-pub(crate) fn variable(word: expression_syntax::Variable) -> Expr
+pub(crate) fn variable(word: expression_trees::Variable) -> Expr
     ensures { result ≡ core.Variable (variable_of word) }
 {
     match word {
-        expression_syntax::Variable::Principal => Expr::Variable(Variable::Principal),
-        expression_syntax::Variable::Action => Expr::Variable(Variable::Action),
-        expression_syntax::Variable::Resource => Expr::Variable(Variable::Resource),
-        expression_syntax::Variable::Context => Expr::Variable(Variable::Context),
+        expression_trees::Variable::Principal => Expr::Variable(Variable::Principal),
+        expression_trees::Variable::Action => Expr::Variable(Variable::Action),
+        expression_trees::Variable::Resource => Expr::Variable(Variable::Resource),
+        expression_trees::Variable::Context => Expr::Variable(Variable::Context),
     }
 }
 

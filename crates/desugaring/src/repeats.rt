@@ -9,7 +9,7 @@ ghost use Rattle.desugaring.specs.inner.Searching.{TellsLeast, lesser_of, repeat
 
 use crate::fault::DesugarFault;
 use crate::words::{name, place};
-use expression_syntax::{Entry, ExprTree};
+use expression_trees::{Entry, ExprTree};
 use plain::{NoMemory, Text};
 use std::alloc::Global;
 use std::collections::BTreeSet;

@@ -1,6 +1,6 @@
 //! A whole tree: what is told of it, and then its core expression.
 ghost use Rattle.std.specs.Prelude.{◌≡◌, [], IfOk};
-ghost use Rattle.expression_syntax.specs.Stands.{ExprStands, PathStands};
+ghost use Rattle.expression_trees.specs.Stands.{ExprStands, PathStands};
 ghost use Rattle.desugaring.specs.Standing.{StandsIn};
 ghost use Rattle.desugaring.specs.Meaning.{path_name};
 ghost use Rattle.desugaring.specs.Core.{core_of};
@@ -11,7 +11,7 @@ use crate::build::build_tree;
 use crate::judge::judge_tree;
 use crate::judgement::Judgement;
 use crate::words::path_type;
-use expression_syntax::{ExprTree, PathTree};
+use expression_trees::{ExprTree, PathTree};
 use expressions::Expr;
 use plain::NoMemory;
 use std::alloc::Global;

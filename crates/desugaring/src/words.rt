@@ -4,12 +4,12 @@ ghost use Rattle.plain.specs.Words.{AreIdents};
 ghost use Rattle.policy_tokens.specs.Lexing.{spelling_of};
 ghost use Rattle.policy_tokens.specs.declared.token.Kind.TheVariants as k;
 ghost use Rattle.token_readers.specs.Kinds.{only};
-ghost use Rattle.expression_syntax.specs.Expressions.{patterns};
+ghost use Rattle.expression_trees.specs.Patterns.{patterns};
 ghost use Rattle.desugaring.specs.inner.Standing.{TokenIn, KeyIn, PathIn};
 ghost use Rattle.desugaring.specs.Strings.{value_of, pattern_of};
 ghost use Rattle.desugaring.specs.Meaning.{sign_of, path_name, name_of, place_of};
 
-use expression_syntax::{KeyTree, PathTree, Sign};
+use expression_trees::{KeyTree, PathTree, Sign};
 use expressions::{Binary, Pattern};
 use plain::{NoMemory, Text};
 use policy_tokens::{Token, decode_pattern, decode_string, spelling};

@@ -4,15 +4,15 @@ use Rattle.policy_tokens.specs.declared.token.Token.{Token}
 use Rattle.policy_tokens.specs.declared.token.Kind.{Kind}
 use Rattle.policy_tokens.specs.declared.token.Kind.TheVariants as k
 use Rattle.token_readers.specs.declared.tree.PathTree.{PathTree}
-use Rattle.expression_syntax.specs.declared.tree.Access.{Access}
-use Rattle.expression_syntax.specs.declared.tree.Comparison.{Comparison}
-use Rattle.expression_syntax.specs.declared.tree.Entry.{Entry}
-use Rattle.expression_syntax.specs.declared.tree.KeyTree.{KeyTree}
-use Rattle.expression_syntax.specs.declared.tree.KeyTree.TheVariants.{Word, Quoted}
-use Rattle.expression_syntax.specs.declared.tree.Sign.{Sign}
-use Rattle.expression_syntax.specs.declared.tree.Term.{Term}
-use Rattle.expression_syntax.specs.declared.tree.ExprTree.{ExprTree}
-use Rattle.expression_syntax.specs.declared.tree.ExprTree.TheVariants as tree
+use Rattle.expression_trees.specs.declared.tree.Access.{Access}
+use Rattle.expression_trees.specs.declared.tree.Comparison.{Comparison}
+use Rattle.expression_trees.specs.declared.tree.Entry.{Entry}
+use Rattle.expression_trees.specs.declared.tree.KeyTree.{KeyTree}
+use Rattle.expression_trees.specs.declared.tree.KeyTree.TheVariants.{Word, Quoted}
+use Rattle.expression_trees.specs.declared.tree.Sign.{Sign}
+use Rattle.expression_trees.specs.declared.tree.Term.{Term}
+use Rattle.expression_trees.specs.declared.tree.ExprTree.{ExprTree}
+use Rattle.expression_trees.specs.declared.tree.ExprTree.TheVariants as tree
 use Rattle.token_readers.specs.Kinds.{Kinds, only, same_kind}
 use Rattle.token_readers.specs.Lang.{Lang}
 use Rattle.token_readers.specs.Lang as lang

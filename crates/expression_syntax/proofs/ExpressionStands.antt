@@ -5,10 +5,10 @@ use Rattle.policy_tokens.specs.declared.token.Kind.{Kind}
 use Rattle.policy_tokens.specs.declared.token.Kind.TheVariants as k
 use Rattle.policy_tokens.specs.declared.token.Token.{Token}
 use Rattle.token_readers.specs.declared.tree.PathTree.{PathTree}
-use Rattle.expression_syntax.specs.declared.tree.Access.TheVariants as access
-use Rattle.expression_syntax.specs.declared.tree.ExprTree.{ExprTree}
-use Rattle.expression_syntax.specs.declared.tree.KeyTree.TheVariants.{Word, Quoted}
-use Rattle.expression_syntax.specs.declared.tree.ExprTree.TheVariants as tree
+use Rattle.expression_trees.specs.declared.tree.Access.TheVariants as access
+use Rattle.expression_trees.specs.declared.tree.ExprTree.{ExprTree}
+use Rattle.expression_trees.specs.declared.tree.KeyTree.TheVariants.{Word, Quoted}
+use Rattle.expression_trees.specs.declared.tree.ExprTree.TheVariants as tree
 use Rattle.token_readers.specs.Kinds.{only}
 use Rattle.token_readers.specs.Lang.{Lang}
 use Rattle.token_readers.specs.Lang as lang
@@ -17,7 +17,7 @@ use Rattle.token_readers.specs.Reads.{ReadsWithin}
 use Rattle.token_readers.specs.declared.fault.SyntaxFault.{SyntaxFault}
 use Rattle.expression_syntax.specs.Expressions as g
 use Rattle.expression_syntax.specs.Expressions.{boolean_of, variable_of, sign_of, comparison_of, patterns, joined, accessed, is_in, is_positive, expr}
-use Rattle.expression_syntax.specs.Stands.{TokenStands, PathStands, ExprStands}
+use Rattle.expression_trees.specs.Stands.{TokenStands, PathStands, ExprStands}
 use Rattle.token_readers.proofs.StandsLemmas.{Makes, token_in, nothing_in, both_in, past_in, giving_in, or_in, maybe_in, many_in, gate_in, path_in, uid_in}
 use Rattle.expression_syntax.proofs.SymbolRules.{symbol_in}
 use Rattle.expression_syntax.proofs.TreeStands as form

@@ -1,5 +1,3 @@
-pub mod Flat
-pub mod PartsOf
 pub mod Follows
 pub mod SymbolRules
 pub mod NamedRules

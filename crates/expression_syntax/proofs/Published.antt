@@ -1,6 +1,5 @@
 -- The rule of expressions, and what their trees are made of, for the proofs of readers above: this file is meant to be
--- imported, as the library of `token_readers` is, and so are Flat and PartsOf, for what is said of trees. The other
--- files of this folder are the crate's own.
+-- imported, as the library of `token_readers` is. The other files of this folder are the crate's own.
 pub use Rattle.expression_syntax.proofs.Follows.{after_expr}
 pub use Rattle.expression_syntax.proofs.ExpressionRules.{expr_rule, alive_expr}
 pub use Rattle.expression_syntax.proofs.ExpressionStands.{expr_in}

@@ -6,21 +6,22 @@ use Rattle.policy_tokens.specs.declared.token.Kind.{Kind}
 use Rattle.policy_tokens.specs.declared.token.Kind.TheVariants as k
 use Rattle.policy_tokens.specs.declared.token.Token.{Token}
 use Rattle.token_readers.specs.declared.tree.PathTree.{PathTree}
-use Rattle.expression_syntax.specs.declared.tree.Access.{Access}
-use Rattle.expression_syntax.specs.declared.tree.Access.TheVariants as access
-use Rattle.expression_syntax.specs.declared.tree.Comparison.{Comparison}
-use Rattle.expression_syntax.specs.declared.tree.Comparison.TheVariants as comparison
-use Rattle.expression_syntax.specs.declared.tree.Entry.{Entry}
-use Rattle.expression_syntax.specs.declared.tree.KeyTree.{KeyTree}
-use Rattle.expression_syntax.specs.declared.tree.KeyTree.TheVariants.{Word, Quoted}
-use Rattle.expression_syntax.specs.declared.tree.Sign.{Sign}
-use Rattle.expression_syntax.specs.declared.tree.Sign.TheVariants.{Plus, Minus}
-use Rattle.expression_syntax.specs.declared.tree.Term.{Term}
-use Rattle.expression_syntax.specs.declared.tree.ExprTree.{ExprTree}
-use Rattle.expression_syntax.specs.declared.tree.ExprTree.TheVariants as tree
-use Rattle.expression_syntax.specs.declared.tree.Variable.{Variable}
-use Rattle.expression_syntax.specs.declared.tree.Variable.TheVariants as variable
+use Rattle.expression_trees.specs.declared.tree.Access.{Access}
+use Rattle.expression_trees.specs.declared.tree.Access.TheVariants as access
+use Rattle.expression_trees.specs.declared.tree.Comparison.{Comparison}
+use Rattle.expression_trees.specs.declared.tree.Comparison.TheVariants as comparison
+use Rattle.expression_trees.specs.declared.tree.Entry.{Entry}
+use Rattle.expression_trees.specs.declared.tree.KeyTree.{KeyTree}
+use Rattle.expression_trees.specs.declared.tree.KeyTree.TheVariants.{Word, Quoted}
+use Rattle.expression_trees.specs.declared.tree.Sign.{Sign}
+use Rattle.expression_trees.specs.declared.tree.Sign.TheVariants.{Plus, Minus}
+use Rattle.expression_trees.specs.declared.tree.Term.{Term}
+use Rattle.expression_trees.specs.declared.tree.ExprTree.{ExprTree}
+use Rattle.expression_trees.specs.declared.tree.ExprTree.TheVariants as tree
+use Rattle.expression_trees.specs.declared.tree.Variable.{Variable}
+use Rattle.expression_trees.specs.declared.tree.Variable.TheVariants as variable
 use Rattle.token_readers.specs.Kinds.{Kinds}
+pub use Rattle.expression_trees.specs.Patterns.{patterns}
 use Rattle.token_readers.specs.Lang.{Lang, of, one, empty, ◌>>=◌, ◌>>◌, ◌giving◌, ◌or◌, optional, many, never}
 use Rattle.token_readers.specs.Lang.{at_any, gate}
 use Rattle.token_readers.specs.Grammar.{identifiers, path, uid}
@@ -81,12 +82,6 @@ comparisons = known comparison_of
 abbrev pub keys : Kinds
 keys k.Text = true
 keys kind = identifiers kind
-
--- Pattern: a String, in which `\*` may stand
-abbrev pub patterns : Kinds
-patterns k.Text = true
-patterns k.StarText = true
-patterns _ = false
 
 -- ## Productions
 

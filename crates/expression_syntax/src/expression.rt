@@ -6,13 +6,13 @@ ghost use Rattle.expression_syntax.specs.Expressions as grammar;
 ghost use Rattle.expression_syntax.specs.Expressions.{is_positive};
 ghost use Rattle.token_readers.specs.Gives.{Gives};
 ghost use Rattle.expression_syntax.specs.inner.Nests.{Nests};
-ghost use Rattle.expression_syntax.specs.declared.tree.ExprTree.TheVariants as tree;
+ghost use Rattle.expression_trees.specs.declared.tree.ExprTree.TheVariants as tree;
 ghost use Rattle.token_readers.specs.Reads.{ReadsFrontWithin};
 ghost use Rattle.token_readers.specs.declared.fault.Halt.TheVariants as halt;
 
 use crate::held::{beside, three};
 use crate::primary::Reader;
-use crate::tree::ExprTree;
+use expression_trees::ExprTree;
 use plain::Boxed;
 use policy_tokens::Kind;
 use std::alloc::{AllocError, Global};

@@ -12,11 +12,10 @@ mod primary;
 mod read;
 mod symbols;
 mod token_sets;
-mod tree;
 
 pub use expression::expr;
+pub use expression_trees::{Access, Comparison, Entry, ExprTree, KeyTree, Sign, Term, Variable};
 pub use held::beside;
 pub use laws::expression_is_unique;
 pub use read::{NESTING_LIMIT, read_expression};
 pub use token_readers::{Cursor, Halt, PathTree, SyntaxFault, UidTree, path, refusal, uid};
-pub use tree::{Access, Comparison, Entry, ExprTree, KeyTree, Sign, Term, Variable};

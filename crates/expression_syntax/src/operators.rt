@@ -6,13 +6,13 @@ ghost use Rattle.expression_syntax.specs.Expressions.{is_positive, joined, acces
 ghost use Rattle.token_readers.specs.Gives.{Gives};
 ghost use Rattle.expression_syntax.specs.inner.Nests.{Nests};
 ghost use Rattle.expression_syntax.specs.inner.Prefixes as prefixes;
-ghost use Rattle.expression_syntax.specs.declared.tree.ExprTree.TheVariants as tree;
+ghost use Rattle.expression_trees.specs.declared.tree.ExprTree.TheVariants as tree;
 
 use crate::held::{beside, two};
 use crate::primary::{Reader, indexed, key};
 use crate::symbols::take_symbol;
 use crate::token_sets::TokenSet;
-use crate::tree::{Access, Comparison, ExprTree, KeyTree, Sign, Term};
+use expression_trees::{Access, Comparison, ExprTree, KeyTree, Sign, Term};
 use plain::{Boxed, Items};
 use policy_tokens::{Kind, Token};
 use std::alloc::{AllocError, Global};

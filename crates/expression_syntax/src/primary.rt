@@ -10,7 +10,7 @@ ghost use Rattle.token_readers.specs.declared.fault.Halt.TheVariants as halt;
 use crate::held::beside;
 use crate::symbols::{Symbol, take_symbol};
 use crate::token_sets::TokenSet;
-use crate::tree::{Access, Entry, ExprTree, KeyTree, Variable};
+use expression_trees::{Access, Entry, ExprTree, KeyTree, Variable};
 use plain::{Boxed, Items};
 use policy_tokens::{Kind, Token};
 use std::alloc::Global;

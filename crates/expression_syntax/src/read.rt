@@ -3,11 +3,11 @@
 ghost use Rattle.std.specs.Prelude.{◌≡◌, ◌-◌, IfOk, length};
 ghost use Rattle.expression_syntax.specs.Expressions as grammar;
 ghost use Rattle.token_readers.specs.Reads.{ReadsWithin};
-ghost use Rattle.expression_syntax.specs.Stands.{ExprStands};
+ghost use Rattle.expression_trees.specs.Stands.{ExprStands};
 ghost use Rattle.expression_syntax.specs.inner.Whole.{whole_of};
 
 use crate::expression::expr;
-use crate::tree::ExprTree;
+use expression_trees::ExprTree;
 use policy_tokens::Token;
 use std::alloc::Global;
 use token_readers::{Cursor, Halt, SyntaxFault, refusal};

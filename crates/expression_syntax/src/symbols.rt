@@ -7,7 +7,7 @@ ghost use Rattle.token_readers.specs.declared.fault.Halt.TheVariants as halt;
 ghost use Rattle.expression_syntax.specs.Expressions.{boolean_of, variable_of, sign_of, comparison_of};
 ghost use Rattle.expression_syntax.specs.ExpressionReading as spec;
 
-use crate::tree::{Comparison, Sign, Variable};
+use expression_trees::{Comparison, Sign, Variable};
 use policy_tokens::Kind;
 use token_readers::{Cursor, Halt};
 

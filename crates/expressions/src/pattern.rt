@@ -40,6 +40,13 @@ impl Pattern {
         }
     }
 
+    /// Whether two patterns are equal, literal text by literal text; takes no memory.
+    pub fn same(&self, other: &Pattern) -> bool
+        ensures { IsTrue result ↔ (self.now ≡ other.now) }
+    {
+        same_texts(&self.before, &other.before) && self.last.same(&other.last)
+    }
+
     /// Whether the text is a joining of pieces, one for each element of the pattern in order: a literal text's piece
     /// equals it, a wildcard's is any text. Takes no memory, and time of at most the length of the pattern by that of
     /// the text.
@@ -79,4 +86,20 @@ fn others_match(middle: &[Text], last: &str, text: &str) -> bool
         rest = after;
     }
     rest.ends_with(last)
+}
+
+/// Whether two lists have equal texts, place by place.
+fn same_texts(ones: &Items<Text>, twos: &Items<Text>) -> bool
+    ensures { IsTrue result ↔ (ones.now ≡ twos.now) }
+{
+    if ones.len() != twos.len() {
+        return false;
+    }
+    let others = twos.as_slice();
+    for (at, one) in ones.as_slice().iter().enumerate() {
+        if !one.same(&others[at]) {
+            return false;
+        }
+    }
+    true
 }

@@ -1,5 +1,5 @@
 -- What was made answers as it is to.
-use Rattle.std.proofs.Common.{◌≡◌, ◌∙◌, ℕ, Bool, true, false, cond, List, [], ◌∷◌, map, Option, Some, None, refl, sym, ap, subst, inl, inr}
+use Rattle.std.proofs.Common.{◌≡◌, ◌∙◌, ℕ, Bool, true, false, List, [], ◌∷◌, map, Option, Some, None, refl, sym, ap, subst, inl, inr}
 use Rattle.std.specs.Prelude.{Contains, IsTrue, IsSome, ◌↔◌, ◌⊎◌, ◌&&◌, ◌||◌, ◌==◌, nat_lt, option_map}
 use Rattle.std.specs.BTreeMap.{BTreeMap, get, keys, IsOrdered}
 use Rattle.std.specs.BTreeSet.{BTreeSet}
@@ -17,9 +17,9 @@ use Rattle.schema_types.specs.Cedar.{Cedar}
 use Rattle.schema_types.specs.CedarViews.{cedar_view}
 use Rattle.schema_types.specs.declared.cedar.CedarType.{CedarType}
 use Rattle.schema_names.specs.Qualifying.{FoundEntityType, FoundSchema}
-use Rattle.schema.specs.declared.parts.Place.{Place}
-use Rattle.schema.specs.declared.parts.Environment.{Environment}
-use Rattle.schema.specs.declared.parts.EntityDecl.{EntityDecl}
+use Rattle.schema_parts.specs.declared.parts.Place.{Place}
+use Rattle.schema_parts.specs.declared.parts.Environment.{Environment}
+use Rattle.schema_parts.specs.declared.parts.EntityDecl.{EntityDecl}
 use Rattle.schema.specs.declared.reading.Types.{Types}
 use Rattle.schema.specs.declared.reading.Hierarchies.{Hierarchies}
 use Rattle.sha2.specs.Sha256.{sha256}
@@ -27,12 +27,14 @@ use Rattle.hex.specs.Hex.{encode_lower}
 use Rattle.schema_names.specs.Naming.{StatesNamed}
 use Rattle.schema.specs.Schemas.{EnvironmentOf, Answers, IsSound, IsSchemaOf, IsShape, IsAction, IsEnvironment, IsPlace, IsRecordOf, action_parents, type_parents, type_uid, place_cmp}
 use Rattle.schema.specs.Kept.{kept}
-use Rattle.schema.specs.Views as views
-use Rattle.schema.specs.Views.{environment_view, is_among, is_before, is_above, schema_view}
-use Rattle.schema.specs.declared.lines.Standing.{Standing}
+use Rattle.schema_parts.specs.Places.{environment_of}
+use Rattle.schema_parts.specs.LookUps as look_ups
+use Rattle.schema_parts.specs.LookUps.{is_among, is_before, is_above}
+use Rattle.schema.specs.Views.{environment_view, schema_view}
+use Rattle.schema_parts.specs.declared.parts.Standing.{Standing}
 use Rattle.schema.specs.declared.lines.Lines.{Lines}
 use Rattle.schema.specs.inner.Lines.{is_in, stands_below, below_by, may_have_in, Before, StandsBelow, AreLines}
-use Rattle.schema.specs.inner.Making.{shape_in, Places, AreShapes, ArePlaces, AreAncestors, environment_of}
+use Rattle.schema.specs.inner.Making.{shape_in, Places, AreShapes, ArePlaces, AreAncestors}
 use Rattle.schema.specs.inner.Reading.{AreTypesOf, AreHierarchiesOf}
 use Rattle.schema.proofs.PlaceLemmas.{place_cmp-IsTotalOrder, place_cmp-IsAntisymmetric}
 use Rattle.schema.proofs.HierarchyLemmas.{is_declared}
@@ -196,7 +198,7 @@ among_at : (beyond : List (BTreeSet (List ℕ))) (i : ℕ) (n : List ℕ) → is
 among_at beyond i n = ap (λ (o : Option (List (List ℕ))). is_among o n) (slice_get-map (λ (s : BTreeSet (List ℕ)). s.keys) beyond i) ∙ among_keys (slice_get beyond i) n
 
 below_in : (standings : BTreeMap (List ℕ) Standing) (beyond : List (BTreeSet (List ℕ))) (o : Option Standing) (n : List ℕ)
-    → views.stands_below standings.entries (map (λ s. s.keys) beyond) o n ≡ below_by (get text_cmp standings) beyond o n
+    → look_ups.stands_below standings.entries (map (λ s. s.keys) beyond) o n ≡ below_by (get text_cmp standings) beyond o n
 below_in standings beyond None n = refl
 below_in standings beyond (Some s) n = ap (λ (b : Bool). is_before (get text_cmp standings n) s || b) (among_at beyond s.line n)
 

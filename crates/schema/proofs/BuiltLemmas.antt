@@ -1,18 +1,17 @@
 -- For a sound file there is a schema that answers as it is to.
 use Rattle.std.proofs.Common.{◌≡◌, ◌∙◌, ℕ, List, [], ◌∷◌, ◌++◌, map, Bool, true, false, cond, Option, Some, None, refl, sym, ap, subst, inl, inr}
-use Rattle.std.specs.Prelude.{Contains, IsTrue, IsSome, ◌⊎◌, ◌↔◌}
+use Rattle.std.specs.Prelude.{Contains, IsTrue, IsSome, ◌⊎◌}
 use Rattle.std.specs.List.{list_any}
 use Rattle.std.specs.List.Sorted.{IsStrictlySortedBy}
 use Rattle.std.specs.Ordering.{is_eq}
 use Rattle.std.specs.Cmp.{tied_itself}
-use Rattle.std.proofs.lemmas.List.{map-append}
 use Rattle.std.proofs.lemmas.List.Elements.{Contains-append_left, Contains-append_right, Contains-append_cases}
 use Rattle.std.proofs.lemmas.Map.Views.{tells_apart}
 use Rattle.sha2.specs.Sha256.{sha256}
 use Rattle.hex.specs.Hex.{encode_lower}
 use Rattle.values.specs.declared.entity_uid.EntityUid.{EntityUid}
 use Rattle.values.specs.Names.{text_cmp, text_cmp-IsTotalOrder, text_cmp-IsAntisymmetric, uid_cmp, uid_cmp-IsTotalOrder, uid_cmp-IsAntisymmetric}
-use Rattle.ancestor_closure.specs.Hierarchy.{IsAllAbove, IsAscending, no_parents}
+use Rattle.ancestor_closure.specs.Hierarchy.{IsAllAbove, IsAscending}
 use Rattle.ancestor_closure.specs.Decided.{PathsAreDecided, is_same, reaches}
 use Rattle.ancestor_closure.specs.Deciding.{Contains-here, Contains-there, Contains-cases, Contains-none, any_from, any_at, same_uid, same_self}
 use Rattle.schema_types.specs.Qualified.{Qualified}
@@ -22,12 +21,12 @@ use Rattle.schema_types.specs.declared.fault.SchemaFault.{SchemaFault}
 use Rattle.schema_names.specs.Qualifying.{FoundEntityType, FoundUse, FoundAction, FoundSchema}
 use Rattle.schema_names.specs.Naming.{StatesNamed}
 use Rattle.schema_names.specs.Laws as names
-use Rattle.schema.specs.declared.parts.Place.{Place}
+use Rattle.schema_parts.specs.declared.parts.Place.{Place}
 use Rattle.schema.specs.Schemas as schemas
 use Rattle.schema.specs.Schemas.{EnvironmentOf, StatedSchema, Answers, IsAction, IsShape, IsEnvironment, IsPlace, Applies, IsRecordOf, IsWritten, StandsIn, IsSound, IsUnsound, IsSchemaOf, action_parents, type_parents, type_uid, with_types, place_cmp}
 use Rattle.schema.specs.Outcomes as outcomes
 use Rattle.schema.specs.Outcomes.{Outcome, SomeOutcome}
-use Rattle.schema.specs.inner.Making.{place_of}
+use Rattle.schema_parts.specs.Places.{place_of}
 use Rattle.schema.proofs.AnswersLemmas.{contains_map}
 use Rattle.schema.proofs.PlaceLemmas.{place_cmp-IsTotalOrder, place_cmp-IsAntisymmetric}
 use Rattle.schema.proofs.InOrder.{in_order, in_order_ascends, from_in_order, all_in_order}

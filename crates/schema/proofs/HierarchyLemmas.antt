@@ -1,36 +1,20 @@
 -- Hierarchies of actions and of entity types.
-use Rattle.std.proofs.Common.{◌≡◌, ◌∙◌, Bool, true, false, cond, ℕ, List, [], ◌∷◌, map, Option, Some, None, refl, sym, ap, subst, inl, inr}
-use Rattle.std.specs.Prelude.{Contains, ◌⊎◌, ◌||◌, option_copied, slice_get}
+use Rattle.std.proofs.Common.{◌≡◌, ◌∙◌, ◌+◌, ◌<◌, ◌≤◌, length, drop, get_or, Bool, true, false, cond, ℕ, List, [], ◌∷◌, map, refl, sym, ap, subst, inl, inr}
+use Rattle.std.specs.Prelude.{Contains, ◌⊎◌, ◌||◌}
 use Rattle.std.specs.Borrow.{Bor}
 use Rattle.std.specs.Ordering.{is_eq}
-use Rattle.std.specs.BTreeSet.{BTreeSet, contains}
+use Rattle.std.specs.BTreeSet.{BTreeSet, contains, Updates}
+use Rattle.std.proofs.lemmas.List.{drop_all}
+use Rattle.json_words.proofs.EachSame.{cut}
 use Rattle.std.specs.Cmp.{tied_itself}
 use Rattle.std.proofs.lemmas.Map.Views.{tells_apart}
 use Rattle.values.specs.declared.entity_uid.EntityUid.{EntityUid}
 use Rattle.values.specs.Names.{uid_cmp, text_cmp, text_cmp-IsTotalOrder, text_cmp-IsAntisymmetric}
-use Rattle.ancestor_closure.specs.Hierarchy.{Parents, Path, Above, IsAllAbove, AreOnCycles, names, no_parents, with_parents}
+use Rattle.ancestor_closure.specs.Hierarchy.{Parents, Path, Above, IsAllAbove, names, no_parents, with_parents}
 use Rattle.ancestor_closure.specs.Deciding.{Contains-here, Contains-there, Contains-cases, Contains-none, any_from, any_at, same_uid}
 use Rattle.schema_names.specs.Qualifying.{FoundEntityType}
 use Rattle.schema.specs.Schemas.{type_uid, with_types}
-use Rattle.schema.specs.inner.Making.{HasCycle, AreTypes, IsTypesAbove, has_type}
-
--- ---- cycles
-
-first_found : (parents : Parents) (xs : List (Bor EntityUid)) → AreOnCycles parents (names xs) → (x : Bor EntityUid) → Some x ≡ slice_get xs 0 → HasCycle parents
-first_found parents [] all x e = absurd cc
-first_found parents (y ∷ ys) all x e = (y.now, (all y.now).0 (Contains-here y.now (names ys)))
-
-pub cycle_found : (parents : Parents) (xs ys : List (Bor EntityUid)) → AreOnCycles parents (names xs) → ys ≡ xs → (r : Option (Bor (Bor EntityUid))) (x : Bor (Bor EntityUid))
-    → option_copied r ≡ slice_get ys 0 → r ≡ Some x → HasCycle parents
-cycle_found parents xs ys all same r x value is = first_found parents xs all x.now (sym (ap option_copied is) ∙ value ∙ ap (λ (zs : List (Bor EntityUid)). slice_get zs 0) same)
-
-none_found : (parents : Parents) (xs : List (Bor EntityUid)) → AreOnCycles parents (names xs) → None ≡ slice_get xs 0 → HasCycle parents → ⊥
-none_found parents [] all e h = Contains-none h.0 ((all h.0).1 h.1)
-none_found parents (y ∷ ys) all e h = cc
-
-pub cycle_none : (parents : Parents) (xs ys : List (Bor EntityUid)) → AreOnCycles parents (names xs) → ys ≡ xs → (r : Option (Bor (Bor EntityUid)))
-    → option_copied r ≡ slice_get ys 0 → r ≡ None → HasCycle parents → ⊥
-cycle_none parents xs ys all same r value is = none_found parents xs all (sym (ap option_copied is) ∙ value ∙ ap (λ (zs : List (Bor EntityUid)). slice_get zs 0) same)
+use Rattle.schema.specs.inner.Making.{AreTypes, IsTypesAbove, has_type}
 
 -- ---- types as points of a hierarchy
 
@@ -125,7 +109,27 @@ type_edge es u a h = elim (edge_from no_parents es u a h) [
 ]
 
 -- one more type in a set
-pub or_step : (b c r whole : Bool) → (c || (b || r)) ≡ whole → (cond b true c || r) ≡ whole
+or_none : (a b : Bool) → (a || false) ≡ b → a ≡ b
+or_none true b e = e
+or_none false b e = e
+
+or_step : (b c r whole : Bool) → (c || (b || r)) ≡ whole → (cond b true c || r) ≡ whole
 or_step true true r whole e = e
 or_step true false r whole e = e
 or_step false c r whole e = e
+
+pub type_added : (xs : List (Bor EntityUid)) (i : ℕ) (x : Bor EntityUid) → i < length xs → x ≡ get_or xs i x → (key : List ℕ) → key ≡ x.now.type_name → (s n : BTreeSet (List ℕ)) (q : List ℕ)
+    → Updates text_cmp s n key true → (contains text_cmp s q || has_type (names (drop i xs)) q) ≡ has_type (names xs) q
+    → (contains text_cmp n q || has_type (names (drop (i + 1) xs)) q) ≡ has_type (names xs) q
+type_added xs i x lt at key is s n q updates h =
+    let rest = has_type (names (drop (i + 1) xs)) q in
+    let here = subst (λ (zs : List (Bor EntityUid)). (contains text_cmp s q || has_type (names zs) q) ≡ has_type (names xs) q) (cut xs i x lt at) h in
+    let now = or_step (is_eq (text_cmp x.now.type_name q)) (contains text_cmp s q) rest (has_type (names xs) q) here in
+    let by_key = subst (λ (k : List ℕ). (cond (is_eq (text_cmp k q)) true (contains text_cmp s q) || rest) ≡ has_type (names xs) q) (sym is) now in
+    ap (λ (b : Bool). b || rest) (updates.0 q) ∙ by_key
+
+pub none_left : (xs : List (Bor EntityUid)) (i : ℕ) → length xs ≤ i → (s : BTreeSet (List ℕ)) (q : List ℕ)
+    → (contains text_cmp s q || has_type (names (drop i xs)) q) ≡ has_type (names xs) q → contains text_cmp s q ≡ has_type (names xs) q
+none_left xs i le s q h =
+    or_none (contains text_cmp s q) (has_type (names xs) q)
+    (subst (λ (zs : List (Bor EntityUid)). (contains text_cmp s q || has_type (names zs) q) ≡ has_type (names xs) q) (drop_all i xs le) h)

@@ -1,5 +1,5 @@
 -- Lines of types, made one type after the other.
-use Rattle.std.proofs.Common.{◌≡◌, ◌∙◌, ◌⊎◌, inl, inr, ℕ, zero, suc, ◌+◌, ◌<◌, ◌≤◌, arith, Bool, true, false, cond, List, [], ◌∷◌, ◌++◌, length, Option, Some, None, get_or, refl, sym, ap, subst}
+use Rattle.std.proofs.Common.{◌≡◌, ◌∙◌, ◌⊎◌, inl, inr, ℕ, zero, suc, ◌<◌, ◌≤◌, arith, Bool, true, false, cond, List, [], ◌∷◌, ◌++◌, length, Option, Some, None, get_or, refl, sym, ap, subst}
 use Rattle.std.specs.Prelude.{⊤, Contains, IsTrue, IsSome, ◌↔◌, nat_lt}
 use Rattle.std.proofs.lemmas.Bool.{ltb-true, ltb-false}
 use Rattle.std.specs.List.{slice_get}
@@ -11,7 +11,7 @@ use Rattle.values.specs.declared.entity_uid.EntityUid.{EntityUid}
 use Rattle.values.specs.Names.{text_cmp, text_cmp-IsAntisymmetric}
 use Rattle.ancestor_closure.specs.Hierarchy.{Parents, Path, Above}
 use Rattle.ancestor_closure.specs.Deciding.{Contains-here, Contains-cases, Contains-none}
-use Rattle.schema.specs.declared.lines.Standing.{Standing}
+use Rattle.schema_parts.specs.declared.parts.Standing.{Standing}
 use Rattle.schema.specs.declared.lines.Lines.{Lines}
 use Rattle.schema.specs.Schemas.{type_uid}
 use Rattle.schema.specs.inner.Making.{AreTypes, IsTypesAbove, ShapeMust}

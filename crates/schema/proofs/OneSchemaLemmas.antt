@@ -17,7 +17,7 @@ use Rattle.schema_file.specs.Once.{AreApart}
 use Rattle.schema_names.specs.Qualifying.{FoundEntityType, FoundUse, FoundAction, FoundSchema}
 use Rattle.schema_names.specs.Laws as names
 use Rattle.schema_names.specs.Laws.{DeclaresOnce}
-use Rattle.schema.specs.declared.parts.Place.{Place}
+use Rattle.schema_parts.specs.declared.parts.Place.{Place}
 use Rattle.schema.specs.Schemas.{StatedSchema, EnvironmentOf, Answers, Applies, IsRecordOf, IsEnvironment, IsPlace, place_cmp}
 use Rattle.schema.specs.Outcomes.{OneSchema}
 use Rattle.schema.proofs.PlaceLemmas.{place_cmp-IsTotalOrder}

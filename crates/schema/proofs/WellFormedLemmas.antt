@@ -1,9 +1,9 @@
 -- What holds of each schema that bytes state.
 use Rattle.std.proofs.Common.{◌≡◌, ℕ, arith, List, [], ◌∷◌, Option, Some, None, refl, sym, ap, subst, inl, inr}
-use Rattle.std.specs.Prelude.{◌⊎◌, ◌<◌, Contains, IsTrue, IsSome, ◌↔◌}
+use Rattle.std.specs.Prelude.{◌⊎◌, Contains, IsSome}
 use Rattle.std.specs.List.Sorted.{IsStrictlySortedBy}
 use Rattle.values.specs.declared.entity_uid.EntityUid.{EntityUid}
-use Rattle.ancestor_closure.specs.Hierarchy.{Parents, Path, Above, IsAscending, no_parents}
+use Rattle.ancestor_closure.specs.Hierarchy.{Parents, Path, Above}
 use Rattle.ancestor_closure.specs.Deciding.{Above-joined}
 use Rattle.schema_types.specs.Qualified.{Qualified}
 use Rattle.schema_types.specs.Cedar.{Cedar, CedarFields, record_of, no_fields, IsTooLarge}
@@ -12,11 +12,10 @@ use Rattle.schema_types.specs.Ascending.{Ascend, KeysAscend}
 use Rattle.schema_types.specs.AscendingLaw.{WrittenTypesAscend}
 use Rattle.schema_types.specs.Law.{OneWritten, WrittenEntitiesAreNamed}
 use Rattle.schema_types.specs.Mentions.{MentionsEntity, NamesEntity}
-use Rattle.schema_names.specs.Qualifying.{FoundEntityType, FoundUse, FoundAction, FoundSchema}
-use Rattle.schema_names.specs.Naming.{StatesNamed}
+use Rattle.schema_names.specs.Qualifying.{FoundEntityType, FoundSchema}
 use Rattle.schema_names.specs.Laws as names
 use Rattle.schema_names.specs.Laws.{IsShapeOrContext, DeclaresOnce, TypesAscend, IsEntityType, NamesItsEntityTypes}
-use Rattle.schema.specs.Schemas.{EnvironmentOf, StatedSchema, Answers, IsAction, IsRecordOf, IsSound, IsSchemaOf, shape_or_context, action_parents, type_parents, type_uid, with_types, place_cmp}
+use Rattle.schema.specs.Schemas.{StatedSchema, Answers, IsRecordOf, IsSound, shape_or_context, action_parents, type_parents, type_uid}
 use Rattle.schema.proofs.AnswersLemmas.{contains_map}
 use Rattle.schema.proofs.HierarchyLemmas.{is_declared, type_edge}
 use Rattle.schema.specs.WellFormed.{AreAttributes, IsWellFormed, StatedSchemasAreWellFormed}

@@ -3,9 +3,9 @@ use Rattle.std.specs.Prelude.{ℕ, List, map}
 use Rattle.std.specs.BTreeMap.{BTreeMap}
 use Rattle.std.specs.BTreeSet.{BTreeSet}
 use Rattle.values.specs.declared.entity_uid.EntityUid.{EntityUid}
-use Rattle.schema.specs.declared.parts.Environment.{Environment}
-use Rattle.schema.specs.declared.parts.EntityDecl.{EntityDecl}
-use Rattle.schema.specs.declared.lines.Standing.{Standing}
+use Rattle.schema_parts.specs.declared.parts.Environment.{Environment}
+use Rattle.schema_parts.specs.declared.parts.EntityDecl.{EntityDecl}
+use Rattle.schema_parts.specs.declared.parts.Standing.{Standing}
 
 pub record Kept : Type 0 where
   pub label : List ℕ

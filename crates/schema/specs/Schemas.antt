@@ -3,12 +3,9 @@
 -- this product: the limits on types, that no action is above itself, and the order of refusals.
 use Rattle.std.specs.Prelude.{◌≡◌, ◌↔◌, ℕ, List, [], ◌∷◌, map, Contains, IsTrue, IsSome, Bool, Option, Some, None}
 use Rattle.std.specs.List.Sorted.{IsStrictlySortedBy}
-use Rattle.std.specs.Ordering.{ordering_then}
-use Rattle.std.specs.declared.cmp.Ordering.{Ordering}
 use Rattle.sha2.specs.Sha256.{sha256}
 use Rattle.hex.specs.Hex.{encode_lower}
 use Rattle.values.specs.declared.entity_uid.EntityUid.{EntityUid}
-use Rattle.values.specs.Names.{uid_cmp, text_cmp}
 use Rattle.ancestor_closure.specs.Hierarchy.{Parents, Above, IsAllAbove, IsAscending, IsOnCycle, no_parents}
 use Rattle.ancestor_closure.specs.Hierarchy.{with_parents}
 use Rattle.schema_types.specs.Qualified as qualified
@@ -21,16 +18,10 @@ use Rattle.schema_types.specs.declared.fault.SchemaFault.TheVariants.{TypeCycle,
 use Rattle.schema_names.specs.Qualifying.{FoundEntityType, FoundUse, FoundAction, FoundSchema}
 use Rattle.schema_names.specs.Naming.{StatesNamed, NamingRefused}
 use Rattle.schema_names.specs.Laws.{IsShapeOrContext}
-use Rattle.schema.specs.declared.parts.Place.{Place}
+use Rattle.schema_parts.specs.declared.parts.Place.{Place}
+pub use Rattle.schema_parts.specs.Places.{place_cmp}
 
 -- ---- what a schema answers
-
--- A place is an action, a type of principals and a type of resources. Places are in order by the action, then by the
--- principal's type, then by the resource's.
-abbrev pub place_cmp : Place → Place → Ordering
-place_cmp p q =
-    ordering_then (uid_cmp p.action q.action)
-    (ordering_then (text_cmp p.principal q.principal) (text_cmp p.resource q.resource))
 
 -- a place, with the type of the action's context
 pub record EnvironmentOf : Type 0 where

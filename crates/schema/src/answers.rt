@@ -1,14 +1,7 @@
 //! What a schema answers.
-ghost use Rattle.std.specs.Prelude.{◌≡◌};
-ghost use Rattle.std.specs.List.{slice_get};
-ghost use Rattle.std.specs.BTreeMap.{get};
-ghost use Rattle.values.specs.Names.{text_cmp};
-ghost use Rattle.schema.specs.Views.{is_before};
-ghost use Rattle.schema.specs.inner.Lines.{is_in, may_have_in};
 
-use crate::lines::Standing;
-use crate::parts::{EntityDecl, Environment};
 use plain::{Items, Text};
+use schema_parts::{EntityDecl, Environment, Standing, ancestors_at, may_have_parent};
 use std::collections::{BTreeMap, BTreeSet};
 use std::marker::Model;
 use values::{EntityUid, TypeName};
@@ -82,10 +75,7 @@ impl Schema {
     pub fn action_ancestors(&self, uid: &EntityUid) -> Option<&[EntityUid]>
         ensures { option_map (λ us. us.now) result ≡ (schema_view self.now).ancestors uid.now }
     {
-        match self.ancestors.get(uid) {
-            Some(above) => Some(above.as_slice()),
-            None => None,
-        }
+        ancestors_at(&self.ancestors, uid)
     }
 
     /// Whether an entity of the child's type may have a parent of the other: whether one or more steps by
@@ -93,7 +83,7 @@ impl Schema {
     pub fn may_have_parent(&self, child: &TypeName, parent: &TypeName) -> bool
         ensures { result ≡ (schema_view self.now).may_have_parent child.now parent.now }
     {
-        is_parent(&self.standings, self.beyond.as_slice(), child, parent)
+        may_have_parent(&self.standings, self.beyond.as_slice(), child, parent)
     }
 
     /// The label: 64 lower case hexadecimal digits, SHA-256 of the bytes that were read.
@@ -101,48 +91,5 @@ impl Schema {
         ensures { result.now ≡ (schema_view self.now).label }
     {
         self.label.as_str()
-    }
-}
-
-/// Whether a type stands before another in its line.
-fn stands_before(
-    standings: &BTreeMap<TypeName, Standing>,
-    name: &TypeName,
-    standing: Standing,
-) -> bool
-    ensures { result ≡ is_before (get text_cmp standings.now name.now) standing }
-{
-    match standings.get(name) {
-        Some(found) => {
-            found.is_member && found.line == standing.line && found.bound < standing.bound
-        }
-        None => false,
-    }
-}
-
-/// Whether a type is beyond a line.
-fn is_beyond(beyond: &[BTreeSet<TypeName>], line: usize, name: &TypeName) -> bool
-    ensures { result ≡ is_in (slice_get beyond.now line) name.now }
-{
-    match beyond.get(line) {
-        Some(types) => types.contains(name),
-        None => false,
-    }
-}
-
-/// Whether the parent is one of the types above the child's.
-fn is_parent(
-    standings: &BTreeMap<TypeName, Standing>,
-    beyond: &[BTreeSet<TypeName>],
-    child: &TypeName,
-    parent: &TypeName,
-) -> bool
-    ensures { result ≡ may_have_in standings.now beyond.now child.now parent.now }
-{
-    match standings.get(child) {
-        Some(standing) => {
-            stands_before(standings, parent, *standing) || is_beyond(beyond, standing.line, parent)
-        }
-        None => false,
     }
 }

@@ -1,45 +1,26 @@
-//! The environments of a schema.
-ghost use Rattle.std.specs.Prelude.{◌≡◌, ◌≢◌, IfOk, OnOk, MatchResult, map, option_map};
-ghost use Rattle.std.specs.BTreeMap.{IsOrdered};
+//! The places of a schema, with their contexts.
+ghost use Rattle.std.specs.Prelude.{◌≢◌, OnOk, MatchResult, map, option_map};
 ghost use Rattle.schema_types.specs.QualifiedViews.{qualified_view};
 ghost use Rattle.schema_types.specs.WrittenOut.{Declarations};
 ghost use Rattle.written_types.specs.Knowledge.{AreWritten};
 ghost use Rattle.written_types.specs.TableViews.{knowledge};
 ghost use Rattle.schema_types.specs.declared.fault.SchemaFault.TheVariants as SchemaFault;
 ghost use Rattle.schema_names.specs.FoundViews.{found_use_view, found_action_view};
-ghost use Rattle.schema.specs.Schemas.{place_cmp};
-ghost use Rattle.schema.specs.inner.Making.{place_of, environment_of, IsClosedAt};
+ghost use Rattle.schema.specs.inner.Making.{IsClosedAt};
 ghost use Rattle.schema.specs.inner.Making.{IsRefusedAt, AddsPlace, AddsResources};
 ghost use Rattle.schema.specs.inner.Making.{AddsPrincipals, AddsUse, AddsAction, IsContextClosed, IsContextRefused};
 ghost use Rattle.schema.specs.inner.Making.{AreContextsClosed, SomeContextIsRefused, ArePlaces};
 
 use crate::maps::put;
-use crate::parts::{Environment, Place};
 use crate::shapes::make_record;
-use plain::{Items, NoMemory, Shared};
+use plain::{NoMemory, Shared};
 use schema_names::{FoundAction, FoundUse};
+use schema_parts::{Place, make_place};
 use schema_types::{CedarType, SchemaFault};
 use std::alloc::Global;
 use std::collections::BTreeMap;
 use values::{EntityUid, TypeName};
 use written_types::Table;
-
-fn make_place(
-    action: &EntityUid,
-    principal: &TypeName,
-    resource: &TypeName,
-) -> Result<Place, NoMemory>
-    ensures { IfOk result (λ p. p ≡ place_of action.now principal.now resource.now) }
-{
-    let action = action.copy()?;
-    let principal = principal.copy()?;
-    let resource = resource.copy()?;
-    Ok(Place {
-        action,
-        principal,
-        resource,
-    })
-}
 
 /// Adds one place with the type of its context.
 fn add_place(
@@ -151,19 +132,4 @@ pub(crate) fn make_places(
         add_action(alloc, action, table, &mut places)?;
     }
     Ok(places)
-}
-
-/// The entries of a map as environments, in order.
-pub(crate) fn listed(
-    alloc: Global,
-    places: BTreeMap<Place, Shared<CedarType>>,
-) -> Result<Items<Environment>, NoMemory>
-    ensures items { IfOk result (λ es. es ≡ map environment_of places.entries) }
-    ensures ordered { IsOrdered place_cmp places }
-{
-    let mut environments = Items::new(alloc);
-    for (place, context) in places {
-        environments.push(Environment { place, context })?;
-    }
-    Ok(environments)
 }

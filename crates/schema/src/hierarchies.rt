@@ -1,20 +1,18 @@
 //! The hierarchies of actions and of entity types.
-ghost use Rattle.std.specs.Prelude.{◌≡◌, ◌≢◌, ℕ, List, IfOk, OnOk, MatchResult, map};
+ghost use Rattle.std.specs.Prelude.{◌≡◌, ℕ, List, IfOk, OnOk, map};
 ghost use Rattle.std.specs.BTreeMap.{keys};
 ghost use Rattle.std.specs.BTreeSet.{contains};
 ghost use Rattle.values.specs.Names.{uid_cmp, text_cmp};
 ghost use Rattle.ancestor_closure.specs.Hierarchy.{IsAllAbove, IsAscending, names, no_parents, with_parents};
 ghost use Rattle.ancestor_closure.specs.contracts.searched.SearchedAncestry.TheImpl as searched;
-ghost use Rattle.schema_types.specs.declared.fault.SchemaFault.TheVariants as SchemaFault;
 ghost use Rattle.schema_names.specs.FoundViews.{found_action_view, found_entity_type_view};
 ghost use Rattle.schema.specs.Schemas.{with_actions, with_types, type_uid};
-ghost use Rattle.schema.specs.inner.Making.{HasCycle, AddsAncestors, AreAncestors, has_type};
+ghost use Rattle.schema.specs.inner.Making.{AddsAncestors, AreAncestors, has_type};
 
 use crate::maps::put;
 use ancestor_closure::{Ancestry, Hierarchy, Searched};
 use plain::{Items, NoMemory, Text};
 use schema_names::{FoundAction, FoundEntityType};
-use schema_types::SchemaFault;
 use std::alloc::Global;
 use std::collections::{BTreeMap, BTreeSet};
 use values::{EntityUid, TypeName};
@@ -111,19 +109,6 @@ pub(crate) fn type_edges(
         set_type(alloc, &mut edges, entity_type)?;
     }
     Ok(edges)
-}
-
-/// Refuses a hierarchy in which something is above itself.
-pub(crate) fn demand_no_cycle(edges: &Searched) -> Result<(), SchemaFault>
-    ensures { MatchResult result (λ u. HasCycle (searched.parents-value.it edges.now) → ⊥)
-        (λ f. f ≢ SchemaFault.NoMemory
-        → (f ≡ SchemaFault.ActionCycle) × HasCycle (searched.parents-value.it edges.now)) }
-{
-    let found = edges.cyclic()?;
-    match found.first() {
-        Some(_) => Err(SchemaFault::ActionCycle),
-        None => Ok(()),
-    }
 }
 
 /// All that is above a uid, ascending.

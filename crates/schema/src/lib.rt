@@ -5,16 +5,14 @@
 mod answers;
 mod environments;
 mod hierarchies;
-mod label;
 mod laws;
 mod lines;
 mod maps;
-mod parts;
 mod reading;
 mod shapes;
 
 pub use answers::Schema;
 pub use laws::{bytes_have_one_outcome, stated_schemas_are_well_formed};
-pub use parts::{EntityDecl, Environment, Place};
 pub use reading::read_schema;
+pub use schema_parts::{EntityDecl, Environment, Place};
 pub use schema_types::{CedarType, SchemaFault};

@@ -3,15 +3,15 @@
 //! A line is a run of types, each of which has the one before it as its only parent. So above a type are those before
 //! it in its line, and what is above the first of them. A type whose only parent is of a line stands behind that
 //! parent, in its line or beside it. So a chain of types takes memory once a type, and not once a pair.
-ghost use Rattle.std.specs.Prelude.{◌≡◌, ◌<◌, ℕ, List, suc, true, None, IfOk, OnOk, map, if◌then◌else◌};
+ghost use Rattle.std.specs.Prelude.{◌≡◌, ◌<◌, ℕ, List, suc, true, None, IfOk, OnOk, map, option_map, if◌then◌else◌};
 ghost use Rattle.std.specs.BTreeMap.{get};
 ghost use Rattle.values.specs.Names.{text_cmp};
 ghost use Rattle.ancestor_closure.specs.contracts.searched.SearchedAncestry.TheImpl as searched;
 ghost use Rattle.schema_names.specs.FoundViews.{found_entity_type_view};
 ghost use Rattle.schema.specs.Schemas.{type_uid};
-ghost use Rattle.schema.specs.inner.Making.{AreTypes};
-ghost use Rattle.schema.specs.inner.Lines.{IsOnlyParent, MayBeNext, IsBehind, MayBeBehind, Hangs, StandsAlone, Adds};
-ghost use Rattle.schema.specs.inner.Lines.{KeepsLines, AreLines};
+ghost use Rattle.schema.specs.inner.Making.{AreTypes, IsTypesAbove};
+ghost use Rattle.schema.specs.inner.Lines.{IsOnlyParent, MayBeNext, IsBehind, MayBeBehind, Hangs, Alone, StandsAlone};
+ghost use Rattle.schema.specs.inner.Lines.{Adds, KeepsLines, AreLines};
 ghost use Rattle.ancestor_closure.specs.Hierarchy.{Parents};
 
 use crate::hierarchies::{type_uid, types_of};
@@ -19,20 +19,10 @@ use crate::maps::put;
 use ancestor_closure::{Ancestry, ParentsOf, Searched};
 use plain::NoMemory;
 use schema_names::FoundEntityType;
+use schema_parts::Standing;
 use std::alloc::Global;
 use std::collections::{BTreeMap, BTreeSet};
 use values::{EntityUid, TypeName};
-
-/// Where a type stands.
-#[derive(Clone, Copy)]
-pub struct Standing {
-    /// The number of its line.
-    pub line: usize,
-    /// Those of the line with a lesser number are above it.
-    pub bound: usize,
-    /// Whether it is of the line, with this number.
-    pub is_member: bool,
-}
 
 /// The lines of some types.
 #[derive(Drop)]
@@ -45,14 +35,26 @@ pub(crate) struct Lines {
 }
 
 /// The only parent of a type; None where it has none, or several.
-fn only_parent(edges: &Searched, uid: &EntityUid) -> Result<Option<TypeName>, NoMemory>
-    ensures { IfOk result (λ o. IsOnlyParent (searched.parents-value.it edges.now) uid.now o) }
+fn only_parent<'e>(edges: &'e Searched, uid: &EntityUid) -> Option<&'e TypeName>
+    ensures { IsOnlyParent (searched.parents-value.it edges.now) uid.now (option_map (λ p. p.now) result) }
 {
     let parents = edges.parents_of(uid);
     if parents.len() == 1 {
-        return Ok(Some(parents[0].type_name.copy()?));
+        return Some(&parents[0].type_name);
     }
-    Ok(None)
+    None
+}
+
+fn parent_of<'e>(
+    alloc: Global,
+    edges: &'e Searched,
+    name: &TypeName,
+) -> Result<Option<&'e TypeName>, NoMemory>
+    ensures { IfOk result (λ o.
+        IsOnlyParent (searched.parents-value.it edges.now) (type_uid name.now) (option_map (λ p. p.now) o)) }
+{
+    let uid = type_uid(alloc, name)?;
+    Ok(only_parent(edges, &uid))
 }
 
 /// Whether a line is the last of so many.
@@ -90,8 +92,8 @@ fn behind_type(lines: &Lines, parent: &TypeName) -> Option<Standing>
     }
 }
 
-fn behind(lines: &Lines, parent: &Option<TypeName>) -> Option<Standing>
-    ensures { MayBeBehind lines.now parent.now result }
+fn behind(lines: &Lines, parent: Option<&TypeName>) -> Option<Standing>
+    ensures { MayBeBehind lines.now (option_map (λ p. p.now) parent.entry) result }
 {
     match parent {
         Some(name) => behind_type(lines, name),
@@ -121,30 +123,52 @@ fn hang(name: &TypeName, standing: Standing, lines: &mut Lines) -> Result<(), No
     Ok(())
 }
 
-/// Gives a type a line of its own.
-fn add_alone(
+/// The types above a type.
+fn types_above(
     alloc: Global,
     edges: &Searched,
-    uid: &EntityUid,
     name: &TypeName,
+) -> Result<BTreeSet<TypeName>, NoMemory>
+    requires { AreTypes (searched.parents-value.it edges.now) }
+    ensures { IfOk result (λ s. IsTypesAbove (searched.parents-value.it edges.now) name.now s) }
+{
+    let uid = type_uid(alloc, name)?;
+    let found = edges.ancestors(&uid)?;
+    types_of(alloc, found.as_slice())
+}
+
+/// Begins a line with a type, beyond which these are.
+fn begin_line(
+    name: &TypeName,
+    beyond: BTreeSet<TypeName>,
     lines: &mut Lines,
 ) -> Result<(), NoMemory>
-    requires types { AreTypes (searched.parents-value.it edges.now) }
-    requires uid { uid.now ≡ type_uid name.now }
-    ensures { OnOk result (StandsAlone (searched.parents-value.it edges.now) name.now lines.old lines.new) }
+    ensures { OnOk result (Alone name.now beyond lines.old lines.new) }
 {
-    let found = edges.ancestors(uid)?;
-    let beyond = types_of(alloc, found.as_slice())?;
-    let key = name.copy()?;
     let standing = Standing {
         line: lines.beyond.len(),
         bound: 0,
         is_member: true,
     };
     lines.beyond.push(beyond)?;
+    let key = name.copy()?;
     put(&mut lines.standings, key, standing)?;
     lines.count = 1;
     Ok(())
+}
+
+/// Gives a type a line of its own.
+fn add_alone(
+    alloc: Global,
+    edges: &Searched,
+    name: &TypeName,
+    lines: &mut Lines,
+) -> Result<(), NoMemory>
+    requires types { AreTypes (searched.parents-value.it edges.now) }
+    ensures { OnOk result (StandsAlone (searched.parents-value.it edges.now) name.now lines.old lines.new) }
+{
+    let beyond = types_above(alloc, edges, name)?;
+    begin_line(name, beyond, lines)
 }
 
 /// Lets a type stand behind its only parent, or in a line of its own.
@@ -158,14 +182,11 @@ fn add_new(
     requires none { get text_cmp lines.old.standings name.now ≡ None }
     ensures { OnOk result (Adds (searched.parents-value.it edges.now) name.now lines.old lines.new) }
 {
-    let uid = type_uid(alloc, name)?;
-    let parent = only_parent(edges, &uid)?;
-    if let Some(standing) = behind(lines, &parent) {
-        hang(name, standing, lines)?;
-        return Ok(());
+    let parent = parent_of(alloc, edges, name)?;
+    match behind(lines, parent) {
+        Some(standing) => hang(name, standing, lines),
+        None => add_alone(alloc, edges, name, lines),
     }
-    add_alone(alloc, edges, &uid, name, lines)?;
-    Ok(())
 }
 
 fn add_one(
@@ -187,25 +208,24 @@ fn add_one(
 /// The types above one that stand nowhere yet, as far as each has one parent, and at most so many.
 ///
 /// No clause says so: types may be added in any order, and a type behind its parent costs least.
-fn path_from(
+fn path_from<'e>(
     alloc: Global,
-    edges: &Searched,
+    edges: &'e Searched,
     name: &TypeName,
     lines: &Lines,
     most: usize,
-) -> Result<Vec<TypeName>, NoMemory> {
+) -> Result<Vec<&'e TypeName>, NoMemory> {
     let mut path = Vec::new(alloc);
-    let mut last = name.copy()?;
+    let mut next = parent_of(alloc, edges, name)?;
     for _ in 0..most {
-        let uid = type_uid(alloc, &last)?;
-        let Some(parent) = only_parent(edges, &uid)? else {
+        let Some(parent) = next else {
             break;
         };
-        if lines.standings.contains_key(&parent) {
+        if lines.standings.contains_key(parent) {
             break;
         }
-        path.push(parent.copy()?)?;
-        last = parent;
+        path.push(parent)?;
+        next = parent_of(alloc, edges, parent)?;
     }
     path.reverse();
     Ok(path)

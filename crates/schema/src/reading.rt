@@ -14,15 +14,14 @@ ghost use Rattle.schema.specs.inner.Reading.{AreEdges, AreTypesClosed, AreTypesO
 ghost use Rattle.schema.specs.inner.Reading.{AreHierarchiesOf, TypesRefused, EdgesRefused};
 
 use crate::answers::Schema;
-use crate::environments::{listed, make_places};
-use crate::hierarchies::{action_edges, demand_no_cycle, make_ancestors, type_edges, uids_of};
-use crate::label::label_of;
+use crate::environments::make_places;
+use crate::hierarchies::{action_edges, make_ancestors, type_edges, uids_of};
 use crate::lines::{Lines, make_lines};
-use crate::parts::{EntityDecl, Environment};
 use crate::shapes::make_shapes;
 use ancestor_closure::Searched;
 use plain::{Items, NoMemory};
 use schema_names::{Found, files_name_their_own, read_named};
+use schema_parts::{EntityDecl, Environment, demand_no_cycle, label_of, listed};
 use schema_types::SchemaFault;
 use std::alloc::Global;
 use std::collections::BTreeMap;
@@ -113,9 +112,9 @@ fn make_schema(
         (λ f. f ≢ SchemaFault.NoMemory
         → TypesRefused (found_view found.now).commons (found_view found.now) f) }
 {
-    let types = make_types(alloc, found, table)?;
-    let hierarchies = make_hierarchies(alloc, found, edges)?;
     let label = label_of(alloc, bytes)?;
+    let hierarchies = make_hierarchies(alloc, found, edges)?;
+    let types = make_types(alloc, found, table)?;
     Ok(Schema {
         label,
         environments: types.environments,

@@ -12,9 +12,9 @@ ghost use Rattle.schema.specs.inner.Making.{IsClosedAt, IsMade, IsRefusedAt, Add
 ghost use Rattle.schema.specs.inner.Making.{SomeShapeIsRefused, AreShapes};
 
 use crate::maps::put;
-use crate::parts::EntityDecl;
 use plain::{Items, Shared};
 use schema_names::FoundEntityType;
+use schema_parts::EntityDecl;
 use schema_types::{CedarType, QualifiedType, SchemaFault};
 use std::alloc::Global;
 use std::collections::BTreeMap;
@@ -62,8 +62,8 @@ fn add_shape(
     ensures { MatchResult result (λ u. AddsShape commons (found_entity_type_view entity_type.now) shapes.old shapes.new)
         (λ f. f ≢ SchemaFault.NoMemory → IsRefusedAt commons (option_map qualified_view entity_type.now.shape) f) }
 {
-    let shape = make_record(alloc, &entity_type.shape, table)?;
     let name = entity_type.name.copy()?;
+    let shape = make_record(alloc, &entity_type.shape, table)?;
     put(shapes, name, EntityDecl { shape })?;
     Ok(())
 }

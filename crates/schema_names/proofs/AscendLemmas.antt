@@ -1,18 +1,15 @@
 -- In each type of a file with its names found the keys ascend.
-use Rattle.std.proofs.Common.{◌≡◌, ℕ, List, map, inl, inr, ap, subst}
+use Rattle.std.proofs.Common.{List, map, inl, inr, ap, subst}
 use Rattle.std.specs.Prelude.{Contains}
 use Rattle.schema_types.specs.Raw.{Raw}
-use Rattle.schema_types.specs.Qualified.{Qualified}
-use Rattle.schema_types.specs.WrittenOut.{Declares}
-use Rattle.schema_types.specs.Ascending.{RawAscends, QualifiedAscends}
+use Rattle.schema_types.specs.Ascending.{RawAscends}
 use Rattle.schema_types.specs.AscendingLaw.{JsonAscends, FoundTypesAscend}
 use Rattle.schema_file.specs.Stated.{NamespaceOf}
 use Rattle.schema_file.specs.Laws.{IsTypeOf, common, shape, context}
 use Rattle.schema_file.specs.Laws as file
-use Rattle.schema_names.specs.Qualifying.{CommonOf, common_in, commons_declared, scope_in, FoundSchema}
-use Rattle.schema_names.specs.Naming.{StatesNamed}
+use Rattle.schema_names.specs.Qualifying.{CommonOf, common_in, commons_declared, scope_in}
 use Rattle.schema_names.specs.Records.{StandsAsRecord}
-use Rattle.schema_names.specs.Laws.{IsShapeOrContext, TypesAscend, FilesTypesAscend}
+use Rattle.schema_names.specs.Laws.{FilesTypesAscend}
 use Rattle.schema_names.proofs.FoundLemmas.{all_of_from, map_from, record_from, common_from}
 
 module _ (ns : List NamespaceOf) (ascend : (n : NamespaceOf) → Contains ns n → (r : Raw) → IsTypeOf n r → RawAscends r) where

@@ -7,12 +7,11 @@ use Rattle.std.proofs.lemmas.Slice.Eq.{bytes_eq-Decides}
 use Rattle.serde_json.specs.Data.{Data}
 use Rattle.json_words.specs.Json.{json_of}
 use Rattle.plain.proofs.Members.{Contains-here, Contains-there}
-use Rattle.schema_types.specs.Raw.{Raw}
 use Rattle.schema_types.specs.declared.fault.SchemaFault.{SchemaFault}
 use Rattle.schema_file.specs.Stated.{NamespaceOf, stated}
 use Rattle.schema_names.specs.Qualifying.{CommonOf, commons_declared, scope_in, FoundSchema, qualified}
-use Rattle.schema_names.specs.Records.{common_meant, is_no_record, MeansNoRecord, form, named, SomeIsNoRecord}
-use Rattle.schema_names.specs.inner.Spreading.{means_by, means_now, NamesNoRecord, TellsRecords, are_records}
+use Rattle.schema_names.specs.Records.{SomeIsNoRecord}
+use Rattle.schema_names.specs.inner.Spreading.{means_now, NamesNoRecord, TellsRecords, are_records}
 use Rattle.schema_names.specs.Naming.{no_record, unknown, not_json, bad_shape, bad_names}
 use Rattle.schema_names.specs.Laws.{Outcome, SomeOutcome, states, refused}
 use Rattle.schema_names.proofs.FoundLemmas.{member_cases}

@@ -3,20 +3,19 @@ use Rattle.std.proofs.Common.{◌≡◌, ◌∙◌, ℕ, List, map, true, Option
 use Rattle.std.specs.Prelude.{Contains}
 use Rattle.std.specs.Str.{bytes_eq}
 use Rattle.std.proofs.lemmas.Slice.Eq.{bytes_eq-Decides}
-use Rattle.json_words.specs.Gives.{◌>>=◌, or_fault}
+use Rattle.json_words.specs.Gives.{◌>>=◌}
 use Rattle.json_words.proofs.EachLemmas.{bind_ok}
 use Rattle.schema_types.specs.Raw as raw
 use Rattle.schema_types.specs.Qualified as qualified_types
 use Rattle.schema_types.specs.Qualified.{Qualified}
 use Rattle.schema_types.specs.Mentions.{MentionsEntity}
 use Rattle.schema_types.specs.Law.{FoundEntitiesAreDeclared}
-use Rattle.schema_types.specs.Names.{Scope, full_name, found, entity_named, qualified_of}
+use Rattle.schema_types.specs.Names.{Scope, full_name, entity_named, qualified_of}
 use Rattle.schema_types.specs.declared.fault.SchemaFault.{SchemaFault}
-use Rattle.schema_types.specs.declared.fault.SchemaFault.TheVariants.{UnknownName}
-use Rattle.schema_file.specs.Stated.{EntityTypeOf, UseOf, ActionOf, NamespaceOf}
+use Rattle.schema_file.specs.Stated.{EntityTypeOf, UseOf, NamespaceOf}
 use Rattle.schema_names.specs.Naming.{StatesNamed}
 use Rattle.schema_names.specs.Laws.{IsEntityType, NamesItsEntityTypes}
-use Rattle.schema_names.specs.Qualifying.{all_of, entity_types_declared, scope_in, is_action_in, FoundEntityType, FoundUse, FoundAction, FoundSchema, entity_type_named, entity_types_named, type_named, qualified_entity_type, qualified_use, qualified_action, qualified_entity_types, qualified_actions, qualified}
+use Rattle.schema_names.specs.Qualifying.{entity_types_declared, scope_in, is_action_in, FoundEntityType, FoundUse, FoundAction, FoundSchema, entity_type_named, entity_types_named, type_named, qualified_entity_type, qualified_use, qualified_action, qualified_entity_types, qualified_actions, qualified}
 use Rattle.schema_names.proofs.FoundLemmas.{ok_same, read_from, read_to, all_of_from, all_of_to, map_from, some_passes, parts_of, namespace_from, namespace_to, namespace_parts, applies_from, record_from, common_from}
 
 abbrev ok : {A : Type 0} → A → Result A SchemaFault

@@ -1,15 +1,13 @@
 -- Whether each shape and each context is a record.
-use Rattle.std.proofs.Common.{◌≡◌, ◌∙◌, inl, inr, ℕ, suc, zero, ◌+◌, ◌<◌, ◌≤◌, Bool, true, false, Option, Some, None, List, [], ◌∷◌, map, length, drop, get_or, String, Global, refl, sym, ap, arith, true≢false}
+use Rattle.std.proofs.Common.{◌≡◌, ◌∙◌, inl, inr, ℕ, suc, zero, ◌+◌, ◌<◌, ◌≤◌, Bool, true, false, Option, Some, None, List, [], ◌∷◌, map, length, drop, get_or, refl, sym, ap, arith, true≢false}
 use Rattle.std.specs.Prelude.{◌&&◌, not, Contains}
 use Rattle.std.specs.List.{list_all}
-use Rattle.std.specs.BTreeSet.{BTreeSet}
 use Rattle.std.proofs.lemmas.Bool.{cases_Bool}
 use Rattle.std.proofs.lemmas.List.{drop_all}
 use Rattle.schema_types.specs.Raw.{Raw}
 use Rattle.schema_file.specs.Stated.{UseOf, ActionOf, NamespaceOf}
 use Rattle.schema_names.specs.Qualifying.{scope_in}
 use Rattle.schema_names.specs.Records.{StandsAsRecord, SomeIsNoRecord}
-use Rattle.schema_names.specs.inner.Adding.{has_name}
 use Rattle.schema_names.specs.inner.Spreading.{means_now, TellsRecords, is_record_at, is_record_in, are_shapes, are_contexts, are_records_of, are_records}
 use Rattle.json_words.proofs.EachSame.{cut}
 

@@ -1,18 +1,19 @@
 -- Rounds that find the common types that mean no record.
-use Rattle.std.proofs.Common.{◌≡◌, ◌∙◌, ◌⊎◌, inl, inr, ℕ, suc, zero, ◌+◌, ◌<◌, Bool, true, false, cond, Option, Some, None, List, [], ◌∷◌, ◌++◌, map, length, drop, get_or, String, Global, string_bytes, string_cmp, refl, sym, ap, arith, subst, true≢false}
+use Rattle.std.proofs.Common.{◌≡◌, ◌∙◌, ◌⊎◌, inl, inr, ℕ, suc, zero, ◌+◌, ◌<◌, ◌≤◌, Bool, true, false, cond, Option, Some, None, List, [], ◌∷◌, ◌++◌, map, length, drop, get_or, String, Global, string_bytes, string_cmp, refl, sym, ap, arith, subst, true≢false}
 use Rattle.std.specs.Prelude.{◌||◌, not, Contains, if◌then◌else◌}
 use Rattle.std.specs.Str.{bytes_eq}
 use Rattle.std.specs.BTreeSet.{BTreeSet, contains, btree_set_len, Updates}
 use Rattle.std.proofs.lemmas.Bool.{cases_Bool}
 use Rattle.std.proofs.lemmas.List.Elements.{Contains-append_left, Contains-append_right, Contains-append_cases}
 use Rattle.std.proofs.lemmas.Slice.Eq.{bytes_eq-Decides}
-use Rattle.schema_types.specs.Raw.{Raw}
 use Rattle.schema_types.specs.Names.{Scope}
 use Rattle.schema_file.specs.Stated.{NamespaceOf}
 use Rattle.schema_names.specs.Qualifying.{CommonOf, common_in, commons_declared, scope_in}
-use Rattle.schema_names.specs.Records.{common_meant, is_no_record, MeansNoRecord, form, named}
 use Rattle.schema_names.specs.inner.Adding.{has_name}
-use Rattle.schema_names.specs.inner.Spreading.{means_by, means_now, NamesNoRecord, IsSound, AreAmong, IsSettled, KeepsNames, Spreads, TellsRecords}
+use Rattle.schema_names.specs.inner.Spreading.{means_now, NamesNoRecord, IsSound, AreAmong, IsSettled, KeepsNames, Spreads, TellsRecords, tried_one, tried_of, tried_at, tried_in_order}
+use Rattle.schema_names.specs.declared.records.Place.{Place}
+use Rattle.std.specs.List.{slice_get}
+use Rattle.std.proofs.lemmas.List.{drop_all, drop_more}
 use Rattle.schema_file.specs.declared.stated.StatedCommon.{StatedCommon}
 use Rattle.schema_file.specs.declared.stated.StatedNamespace.{StatedNamespace}
 use Rattle.schema_file.specs.StatedViews.{common_view, namespace_view}
@@ -144,3 +145,48 @@ pub kept_at : (s : Scope) (all : List StatedNamespace) (i : ℕ) (n : StatedName
 kept_at s all i n old new lt at h = λ ns e among so.
     h ns e (λ c here. among c (outer_drop i all c (subst (λ (l : List StatedNamespace). Contains (commons_declared (map namespace_view l)) c) (sym (cut all i n lt at))
     (Contains-append_left (map (λ x. common_in n.name x) (map common_view n.commons)) (commons_declared (map namespace_view (drop (i + 1) all))) c here)))) so
+
+-- ---- what is tried at a place
+
+item_at : {A B : Type 0} (f : A → B) (xs : List A) (i : ℕ) (x : A) → i < length xs → x ≡ get_or xs i x → slice_get (map f xs) i ≡ Some (f x)
+item_at f [] i x lt e = absurd (omega (arith, lt))
+item_at f (y ∷ ys) zero x lt e = ap (λ z. Some (f z)) (sym e)
+item_at f (y ∷ ys) (suc i) x lt e = item_at f ys i x (omega (arith, lt)) e
+
+none_at : {A B : Type 0} (f : A → B) (xs : List A) (i : ℕ) → length xs ≤ i → slice_get (map f xs) i ≡ None
+none_at f [] i le = refl
+none_at f (y ∷ ys) zero le = absurd (omega (arith, le))
+none_at f (y ∷ ys) (suc i) le = none_at f ys i (omega (arith, le))
+
+twice : {A B C : Type 0} (f : B → C) (g : A → B) (xs : List A) → map f (map g xs) ≡ map (λ x. f (g x)) xs
+twice f g [] = refl
+twice f g (x ∷ xs) = ap (λ ys. f (g x) ∷ ys) (twice f g xs)
+
+pub tried_there : (s : Scope) (own : Option (List ℕ)) (cs : List StatedCommon) (i : ℕ) (c : StatedCommon) (old new : Names) → i < length cs → c ≡ get_or cs i c
+    → Spreads s (common_in own (common_view c) ∷ []) old new → Spreads s (tried_one (slice_get (map (λ x. common_in own x) (map common_view cs)) i)) old new
+tried_there s own cs i c old new lt at h =
+    let here = ap (λ (ds : List CommonOf). slice_get ds i) (twice (λ x. common_in own x) common_view cs) ∙ item_at (λ x. common_in own (common_view x)) cs i c lt at in
+    subst (λ (o : Option CommonOf). Spreads s (tried_one o) old new) (sym here) h
+
+pub tried_nowhere : (s : Scope) (own : Option (List ℕ)) (cs : List StatedCommon) (i : ℕ) (t : Names) → length cs ≤ i
+    → Spreads s (tried_one (slice_get (map (λ x. common_in own x) (map common_view cs)) i)) t t
+tried_nowhere s own cs i t le =
+    let here = ap (λ (ds : List CommonOf). slice_get ds i) (twice (λ x. common_in own x) common_view cs) ∙ none_at (λ x. common_in own (common_view x)) cs i le in
+    subst (λ (o : Option CommonOf). Spreads s (tried_one o) t t) (sym here) (spreads_none s t)
+
+pub tried_in_namespace : (s : Scope) (all : List StatedNamespace) (i j : ℕ) (n : StatedNamespace) (old new : Names) → i < length all → n ≡ get_or all i n
+    → Spreads s (tried_one (slice_get (map (λ x. common_in n.name x) (map common_view n.commons)) j)) old new → Spreads s (tried_of (slice_get (map namespace_view all) i) j) old new
+tried_in_namespace s all i j n old new lt at h =
+    subst (λ (o : Option NamespaceOf). Spreads s (tried_of o j) old new) (sym (item_at namespace_view all i n lt at)) h
+
+pub tried_in_none : (s : Scope) (all : List StatedNamespace) (i j : ℕ) (t : Names) → length all ≤ i → Spreads s (tried_of (slice_get (map namespace_view all) i) j) t t
+tried_in_none s all i j t le = subst (λ (o : Option NamespaceOf). Spreads s (tried_of o j) t t) (sym (none_at namespace_view all i le)) (spreads_none s t)
+
+pub tried_step : (s : Scope) (ns : List NamespaceOf) (places : List Place) (order : List ℕ) (i : ℕ) (old mid new : Names) → i < length order
+    → Spreads s (tried_at ns (slice_get places (get_or order i 0))) old mid → Spreads s (tried_in_order ns places (drop (i + 1) order)) mid new → Spreads s (tried_in_order ns places (drop i order)) old new
+tried_step s ns places order i old mid new lt h rest =
+    subst (λ (is : List ℕ). Spreads s (tried_in_order ns places is) old new) (sym (drop_more order i 0 lt))
+    (spreads_both s (tried_at ns (slice_get places (get_or order i 0))) (tried_in_order ns places (drop (i + 1) order)) old mid new h rest)
+
+pub tried_end : (s : Scope) (ns : List NamespaceOf) (places : List Place) (order : List ℕ) (i : ℕ) (t : Names) → length order ≤ i → Spreads s (tried_in_order ns places (drop i order)) t t
+tried_end s ns places order i t le = subst (λ (is : List ℕ). Spreads s (tried_in_order ns places is) t t) (sym (drop_all i order le)) (spreads_none s t)

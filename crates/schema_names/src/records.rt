@@ -1,6 +1,6 @@
 //! Shapes and contexts are records.
 ghost use Rattle.std.specs.Prelude.{◌≡◌, ◌∷◌, [], ◌<◌, ◌^◌, OnOk, IfOk, MatchResult, map, option_map, true};
-ghost use Rattle.std.specs.Prelude.{false};
+ghost use Rattle.std.specs.Prelude.{false, slice_get, Some};
 ghost use Rattle.std.specs.BTreeSet.{btree_set_len};
 ghost use Rattle.schema_types.specs.Views.{raw_view};
 ghost use Rattle.named_types.specs.NamesViews.{scope_of};
@@ -9,6 +9,7 @@ ghost use Rattle.schema_names.specs.Records.{common_meant, SomeIsNoRecord};
 ghost use Rattle.schema_names.specs.Qualifying.{common_in, commons_declared};
 ghost use Rattle.schema_names.specs.inner.Adding.{has_name, Declares};
 ghost use Rattle.schema_names.specs.inner.Spreading.{means_now, IsSettled, KeepsNames, Spreads, TellsRecords};
+ghost use Rattle.schema_names.specs.inner.Spreading.{tried_one, tried_at, tried_in_order};
 ghost use Rattle.schema_names.specs.inner.Spreading.{is_record_at, is_record_in, are_shapes, are_contexts};
 ghost use Rattle.schema_names.specs.inner.Spreading.{are_records_of, are_records, MayRefuseRecords};
 
@@ -284,8 +285,10 @@ fn spread_one(
     place: usize,
     known: &mut BTreeSet<String>,
 ) -> Result<(), NoMemory>
-    ensures { OnOk result (KeepsNames (scope_of names.now) (map (λ c. common_in own.now c)
+    ensures keeps { OnOk result (KeepsNames (scope_of names.now) (map (λ c. common_in own.now c)
         (map common_view commons.now)) known.old known.new) }
+    ensures tries { OnOk result (Spreads (scope_of names.now) (tried_one (slice_get
+        (map (λ c. common_in own.now c) (map common_view commons.now)) place)) known.old known.new) }
 {
     if place < commons.len() {
         let common = &commons[place];
@@ -302,8 +305,10 @@ fn spread_at(
     place: Place,
     known: &mut BTreeSet<String>,
 ) -> Result<(), NoMemory>
-    ensures { OnOk result (KeepsNames (scope_of names.now)
+    ensures keeps { OnOk result (KeepsNames (scope_of names.now)
         (commons_declared (map namespace_view stated.now)) known.old known.new) }
+    ensures tries { OnOk result (Spreads (scope_of names.now)
+        (tried_at (map namespace_view stated.now) (Some place)) known.old known.new) }
 {
     let at = place.namespace;
     if at < stated.len() {
@@ -329,8 +334,10 @@ fn spread_listed(
     at: usize,
     known: &mut BTreeSet<String>,
 ) -> Result<(), NoMemory>
-    ensures { OnOk result (KeepsNames (scope_of names.now)
+    ensures keeps { OnOk result (KeepsNames (scope_of names.now)
         (commons_declared (map namespace_view stated.now)) known.old known.new) }
+    ensures tries { OnOk result (Spreads (scope_of names.now)
+        (tried_at (map namespace_view stated.now) (slice_get places.now at)) known.old known.new) }
 {
     match places.get(at) {
         Some(place) => spread_at(alloc, names, stated, *place, known),
@@ -347,8 +354,10 @@ fn spread_in_order(
     order: &[usize],
     known: &mut BTreeSet<String>,
 ) -> Result<(), NoMemory>
-    ensures { OnOk result (KeepsNames (scope_of names.now)
+    ensures keeps { OnOk result (KeepsNames (scope_of names.now)
         (commons_declared (map namespace_view stated.now)) known.old known.new) }
+    ensures tries { OnOk result (Spreads (scope_of names.now)
+        (tried_in_order (map namespace_view stated.now) places.now order.now) known.old known.new) }
 {
     for at in order {
         spread_listed(alloc, names, stated, places, *at, known)?;

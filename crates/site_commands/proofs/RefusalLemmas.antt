@@ -2,10 +2,9 @@
 use Rattle.std.proofs.Common.{◌≡◌, ◌⊎◌, inl, inr, ℕ, zero, suc, List, Option, None, Some, refl}
 use Rattle.decision_texts.specs.declared.refusal.Refusal.{Refusal}
 use Rattle.decision_texts.specs.Refusals.{no_memory}
-use Rattle.decision_texts.specs.Decisions.{IsRefused}
 use Rattle.site_commands.specs.Events.{Event}
 use Rattle.site_commands.specs.Reports.{IsRefusalTold, IsMemoryTold}
-use Rattle.site_commands.specs.Runs.{IsJudged}
+use Rattle.site_commands.specs.Runs.{IsRefusedFor, IsLineOrRefusal}
 
 one_or : (n : ℕ) → (n ≡ 1) ⊎ (n ≡ 1 → ⊥)
 one_or zero = inr (λ e. absurd cc)
@@ -30,19 +29,21 @@ by_parts r (inl c) (inl p) (inl w) = inl (made_of r c p w)
 is_no_memory : (r : Refusal) → (r ≡ no_memory) ⊎ (r ≡ no_memory → ⊥)
 is_no_memory r = by_parts r (one_or r.code) (none_or r.place) (none_or r.within)
 
-judged : (policies entities request : List ℕ) (refusal : Refusal) (events : List Event) (end : ℕ)
-    → (refusal ≡ no_memory) ⊎ (refusal ≡ no_memory → ⊥)
-    → ((refusal ≡ no_memory → ⊥) → IsRefused policies entities request refusal)
-    → IsRefusalTold refusal events end ⊎ IsMemoryTold events end
-    → IsJudged policies entities request events end
-judged policies entities request refusal events end which due (inr told) = inr (inr told)
-judged policies entities request refusal events end (inl is) due (inl told) = inr (inr (inl (rw (← is) told)))
-judged policies entities request refusal events end (inr other) due (inl told) = inr (inl (refusal, due other, told))
+module _ (Refused : Refusal → Type 0) where
+  told_as : (refusal : Refusal) (events : List Event) (end : ℕ) → (refusal ≡ no_memory) ⊎ (refusal ≡ no_memory → ⊥)
+      → ((refusal ≡ no_memory → ⊥) → Refused refusal) → IsRefusalTold refusal events end ⊎ IsMemoryTold events end
+      → IsRefusedFor Refused events end
+  told_as refusal events end which due (inr told) = inr told
+  told_as refusal events end (inl is) due (inl told) = inr (inl (rw (← is) told))
+  told_as refusal events end (inr other) due (inl told) = inl (refusal, due other, told)
 
--- what texts are refused for is told, or that memory was refused
-pub judged_refused : (policies entities request : List ℕ) (refusal : Refusal) (end : ℕ)
-    → ((refusal ≡ no_memory → ⊥) → IsRefused policies entities request refusal)
-    → (events : List Event) → IsRefusalTold refusal events end ⊎ IsMemoryTold events end
-    → IsJudged policies entities request events end
-judged_refused policies entities request refusal end due events told =
-    judged policies entities request refusal events end (is_no_memory refusal) due told
+  -- what texts are refused for is told, or that memory was refused
+  pub refused_for : (refusal : Refusal) (end : ℕ) → ((refusal ≡ no_memory → ⊥) → Refused refusal)
+      → (events : List Event) → IsRefusalTold refusal events end ⊎ IsMemoryTold events end → IsRefusedFor Refused events end
+  refused_for refusal end due events told = told_as refusal events end (is_no_memory refusal) due told
+
+  -- and where a line could have been
+  pub line_refused : (Decided : List ℕ → Type 0) (refusal : Refusal) (end : ℕ) → ((refusal ≡ no_memory → ⊥) → Refused refusal)
+      → (events : List Event) → IsRefusalTold refusal events end ⊎ IsMemoryTold events end
+      → IsLineOrRefusal Decided Refused events end
+  line_refused Decided refusal end due events told = inr (refused_for refusal end due events told)

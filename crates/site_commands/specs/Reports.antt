@@ -31,6 +31,13 @@ IsTold stream line status events end = (done : Bool)
 abbrev pub IsAnswerTold : List ℕ → List Event → ℕ → Type 0
 IsAnswerTold line = IsTold Answers line 0
 
+-- the lines of policies go to standard output; where there are none, nothing is written; the run ends with 1 where a
+-- policy is refused
+abbrev pub AreLinesTold : List ℕ → Bool → List Event → ℕ → Type 0
+AreLinesTold [] some_refused events end = (events ≡ []) × (end ≡ (if some_refused then 1 else 0))
+AreLinesTold (byte ∷ text) some_refused events end =
+    IsTold Answers (byte ∷ text) (if some_refused then 1 else 0) events end
+
 -- a refusal's line goes to standard error, and the run ends with 1
 abbrev pub IsRefusalTold : Refusal → List Event → ℕ → Type 0
 IsRefusalTold refusal = IsTold Faults (error_line refusal) 1

@@ -1,11 +1,11 @@
 //! What a run writes at its end, and the status that it ends with.
-ghost use Rattle.std.specs.Prelude.{◌≡◌, ◌⊎◌, ◌++◌, is_ok};
+ghost use Rattle.std.specs.Prelude.{◌≡◌, ◌⊎◌, ◌++◌, is_ok, if◌then◌else◌};
 ghost use Rattle.std.specs.Process.{exit_status};
 ghost use Rattle.clap.specs.Words.{kind_of};
 ghost use Rattle.decision_texts.specs.Refusals.{error_line, no_memory};
 ghost use Rattle.site_commands.specs.Events.{Runs};
 ghost use Rattle.site_commands.specs.Reports.{IsTold, IsAnswerTold, IsRefusalTold, IsMemoryTold, IsFileTold};
-ghost use Rattle.site_commands.specs.Reports.{IsErrorTold, IsFaultTold, is_help, status_after};
+ghost use Rattle.site_commands.specs.Reports.{IsErrorTold, IsFaultTold, AreLinesTold, is_help, status_after};
 
 use crate::host::Host;
 use crate::line::LineFault;
@@ -18,7 +18,7 @@ use std::process::ExitCode;
 /// An answer was given, or help.
 const ANSWERED: u8 = 0;
 
-/// The texts are refused.
+/// The texts are refused, or a policy of them is.
 const REFUSED: u8 = 1;
 
 /// The words are no command line.
@@ -54,6 +54,25 @@ pub fn tell_answer<H: Host>(host: &mut H, line: &[u8]) -> ExitCode
     ensures { Runs H.does host.old host.new (λ events. IsAnswerTold line.now events (exit_status result)) }
 {
     tell(host, Stream::Answers, "", line, ANSWERED)
+}
+
+/// The status of a run that tells of policies.
+fn check_status(some_refused: bool) -> u8
+    ensures { result ≡ if some_refused then 1 else 0 }
+{
+    if some_refused { REFUSED } else { ANSWERED }
+}
+
+/// Writes the lines of policies, if there are any.
+pub fn tell_lines<H: Host>(host: &mut H, lines: &[u8], some_refused: bool) -> ExitCode
+    ensures { Runs H.does host.old host.new
+        (λ events. AreLinesTold lines.now some_refused events (exit_status result)) }
+{
+    let status = check_status(some_refused);
+    if lines.is_empty() {
+        return ExitCode::from(status);
+    }
+    tell(host, Stream::Answers, "", lines, status)
 }
 
 /// Writes that memory was refused.

@@ -6,16 +6,16 @@ use Rattle.policy_tokens.specs.declared.token.Token.{Token}
 use Rattle.policy_tokens.specs.Lexing.{IsSpelledIn}
 use Rattle.token_readers.specs.declared.tree.PathTree.{PathTree}
 use Rattle.token_readers.specs.declared.tree.UidTree.{UidTree}
-use Rattle.expression_syntax.specs.declared.tree.Access.{Access}
-use Rattle.expression_syntax.specs.declared.tree.Access.TheVariants as access
-use Rattle.expression_syntax.specs.declared.tree.Entry.{Entry}
-use Rattle.expression_syntax.specs.declared.tree.KeyTree.{KeyTree}
-use Rattle.expression_syntax.specs.declared.tree.KeyTree.TheVariants.{Word, Quoted}
-use Rattle.expression_syntax.specs.declared.tree.Term.{Term}
-use Rattle.expression_syntax.specs.declared.tree.ExprTree.{ExprTree}
+use Rattle.expression_trees.specs.declared.tree.Access.{Access}
+use Rattle.expression_trees.specs.declared.tree.Access.TheVariants as access
+use Rattle.expression_trees.specs.declared.tree.Entry.{Entry}
+use Rattle.expression_trees.specs.declared.tree.KeyTree.{KeyTree}
+use Rattle.expression_trees.specs.declared.tree.KeyTree.TheVariants.{Word, Quoted}
+use Rattle.expression_trees.specs.declared.tree.Term.{Term}
+use Rattle.expression_trees.specs.declared.tree.ExprTree.{ExprTree}
 use Rattle.token_readers.specs.Kinds.{Kinds, only}
 use Rattle.token_readers.specs.Grammar.{identifiers}
-use Rattle.expression_syntax.specs.Parts.{parts_of}
+use Rattle.expression_trees.specs.Parts.{parts_of}
 
 -- The token is spelled in the text, and of these kinds.
 pub record TokenIn (text : List ℕ) (kinds : Kinds) (token : Token) : Type 0 where

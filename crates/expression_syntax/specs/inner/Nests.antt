@@ -3,7 +3,7 @@ use Rattle.std.specs.Prelude.{ℕ, Result}
 use Rattle.std.specs.declared.alloc.Global.{Global}
 use denote.Ref.{MutBor}
 use Rattle.token_readers.specs.declared.cursor.Cursor.{Cursor}
-use Rattle.expression_syntax.specs.declared.tree.ExprTree.{ExprTree}
+use Rattle.expression_trees.specs.declared.tree.ExprTree.{ExprTree}
 use Rattle.token_readers.specs.declared.fault.Halt.{Halt}
 use Rattle.token_readers.specs.Gives.{Gives}
 use Rattle.expression_syntax.specs.ExpressionReading.{expr}

@@ -3,8 +3,8 @@ use Rattle.policy_tokens.specs.declared.token.Kind.{Kind}
 use Rattle.policy_tokens.specs.declared.token.Kind.TheVariants as k
 use Rattle.expression_syntax.specs.declared.operators.Prefix.{Prefix}
 use Rattle.expression_syntax.specs.declared.operators.Prefix.TheVariants.{Not, Minus}
-use Rattle.expression_syntax.specs.declared.tree.ExprTree.{ExprTree}
-use Rattle.expression_syntax.specs.declared.tree.ExprTree.TheVariants as tree
+use Rattle.expression_trees.specs.declared.tree.ExprTree.{ExprTree}
+use Rattle.expression_trees.specs.declared.tree.ExprTree.TheVariants as tree
 
 abbrev pub kind_of : Prefix → Kind
 kind_of Not = k.Not

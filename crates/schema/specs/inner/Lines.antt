@@ -7,10 +7,10 @@ use Rattle.std.specs.BTreeSet.{BTreeSet, contains}
 use Rattle.values.specs.declared.entity_uid.EntityUid.{EntityUid}
 use Rattle.values.specs.Names.{text_cmp}
 use Rattle.ancestor_closure.specs.Hierarchy.{Parents, Above}
-use Rattle.schema.specs.declared.lines.Standing.{Standing}
+use Rattle.schema_parts.specs.declared.parts.Standing.{Standing}
 use Rattle.schema.specs.declared.lines.Lines.{Lines}
 use Rattle.schema.specs.Schemas.{type_uid}
-use Rattle.schema.specs.Views.{is_before}
+use Rattle.schema_parts.specs.LookUps.{is_before}
 use Rattle.schema_names.specs.Qualifying.{FoundEntityType}
 use Rattle.schema.specs.inner.Filling.{AddsEach}
 use Rattle.schema.specs.inner.Making.{IsTypesAbove, ShapeMust}

@@ -1,12 +1,12 @@
 -- What the parts of a schema are made of, as code makes them one after the other.
-use Rattle.std.specs.Prelude.{◌≡◌, ◌↔◌, ⊤, ℕ, List, [], Contains, IsTrue, Bool, false, Option, Some, None, option_map}
+use Rattle.std.specs.Prelude.{◌≡◌, ◌↔◌, ⊤, ℕ, List, [], Contains, IsTrue, Bool, Option, Some, None, option_map}
 use Rattle.std.specs.List.{list_any}
 use Rattle.std.specs.Ordering.{is_eq}
 use Rattle.std.specs.BTreeMap.{BTreeMap, get}
 use Rattle.std.specs.BTreeSet.{BTreeSet, contains}
 use Rattle.values.specs.declared.entity_uid.EntityUid.{EntityUid}
 use Rattle.values.specs.Names.{uid_cmp, text_cmp}
-use Rattle.ancestor_closure.specs.Hierarchy.{Parents, Above, IsAllAbove, IsAscending, IsOnCycle}
+use Rattle.ancestor_closure.specs.Hierarchy.{Parents, Above, IsAllAbove, IsAscending}
 use Rattle.schema_types.specs.Qualified.{Qualified}
 use Rattle.schema_types.specs.Cedar.{Cedar}
 use Rattle.schema_types.specs.CedarViews.{cedar_view}
@@ -16,10 +16,10 @@ use Rattle.schema_types.specs.Outcome.{TypeRefused}
 use Rattle.schema_types.specs.declared.fault.SchemaFault.{SchemaFault}
 use Rattle.schema_types.specs.declared.cedar.CedarType.{CedarType}
 use Rattle.schema_names.specs.Qualifying.{FoundEntityType, FoundUse, FoundAction}
-use Rattle.schema.specs.declared.parts.Environment.{Environment}
-use Rattle.schema.specs.declared.parts.Place.{Place}
-use Rattle.schema.specs.declared.parts.EntityDecl.{EntityDecl}
-use Rattle.schema.specs.Schemas.{place_cmp, type_uid, IsRecordOf, IsWritten}
+use Rattle.schema_parts.specs.declared.parts.Place.{Place}
+use Rattle.schema_parts.specs.declared.parts.EntityDecl.{EntityDecl}
+use Rattle.schema_parts.specs.Places.{place_cmp, place_of}
+use Rattle.schema.specs.Schemas.{type_uid, IsRecordOf, IsWritten}
 use Rattle.schema.specs.inner.Filling.{Adds, AddsEach, SomeMay, SomeMust, AllTold}
 
 -- ---- types, written out
@@ -74,9 +74,6 @@ AreShapes commons es shapes =
     AddsEach (ShapeMay commons) ShapeMust (λ e. IsWrittenAt commons e.shape) es (λ n. None) (get text_cmp shapes)
 
 -- ---- environments
-
-abbrev pub place_of : EntityUid → List ℕ → List ℕ → Place
-place_of action principal resource = record { action = action; principal = principal; resource = resource }
 
 abbrev pub Places : Type 0
 Places = BTreeMap Place CedarType
@@ -147,13 +144,7 @@ abbrev pub ArePlaces : Declarations → List FoundAction → Places → Type 0
 ArePlaces commons us places =
     AddsEach (ActionMay commons) ActionMust (IsContextWritten commons) us (λ p. None) (get place_cmp places)
 
-abbrev pub environment_of : Place × CedarType → Environment
-environment_of e = record { place = e.0; context = e.1 }
-
 -- ---- hierarchies
-
-abbrev pub HasCycle : Parents → Type 0
-HasCycle parents = (u : EntityUid) × IsOnCycle parents u
 
 abbrev pub AncestorsMay : Parents → FoundAction → EntityUid → List EntityUid → Type 0
 AncestorsMay parents a u us = (a.uid ≡ u) × IsAscending us × IsAllAbove parents u us

@@ -11,10 +11,11 @@ use Rattle.schema_types.specs.declared.fault.SchemaFault.{SchemaFault}
 use Rattle.schema_types.specs.declared.fault.SchemaFault.TheVariants.{ActionCycle}
 use Rattle.schema_names.specs.Qualifying.{FoundSchema}
 use Rattle.schema_names.specs.Laws.{IsShapeOrContext}
+use Rattle.schema_parts.specs.Places.{environment_of}
 use Rattle.schema.specs.declared.reading.Types.{Types}
 use Rattle.schema.specs.declared.reading.Hierarchies.{Hierarchies}
 use Rattle.schema.specs.Schemas.{action_parents, type_parents, SomeActionIsOnCycle, place_cmp}
-use Rattle.schema.specs.inner.Making.{AreShapes, ArePlaces, Places, environment_of, AreAncestors}
+use Rattle.schema.specs.inner.Making.{AreShapes, ArePlaces, Places, AreAncestors}
 use Rattle.schema.specs.inner.Lines.{AreLines}
 
 -- these are the edges of the actions, and none is above itself

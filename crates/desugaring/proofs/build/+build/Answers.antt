@@ -1,22 +1,57 @@
-use Rattle.std.proofs.Common.{rules, refl, ◌≡◌, ◌∙◌, ap, sym, subst, List, map, IfOk}
+use Rattle.std.proofs.Common.{rules, refl, ◌≡◌, ◌∙◌, ◌+◌, ap, sym, subst, ℕ, List, map, drop, IfOk}
 use Rattle.std.specs.List.{AllByRecursion, fold}
-use Rattle.expression_syntax.specs.declared.tree.Entry.{Entry}
-use Rattle.expression_syntax.specs.declared.tree.ExprTree.{ExprTree, the_lemmas}
+use Rattle.expression_trees.specs.declared.tree.Access.{Access}
+use Rattle.expression_trees.specs.declared.tree.Entry.{Entry}
+use Rattle.expression_trees.specs.declared.tree.Term.{Term}
+use Rattle.expression_trees.specs.declared.tree.ExprTree.{ExprTree, the_lemmas}
 use Rattle.expressions.specs.declared.operator.Unary.TheVariants as unary
 use Rattle.expressions.specs.declared.operator.Binary.TheVariants as binary
+use Rattle.expressions.specs.declared.expr.Expr.{Expr}
 use Rattle.expressions.specs.declared.expr.Expr.TheVariants as core
 use Rattle.desugaring.specs.Strings.{pattern_of}
-use Rattle.desugaring.specs.Meaning.{path_name, name_of}
+use Rattle.desugaring.specs.Meaning.{path_name, name_of, sign_of}
 use Rattle.desugaring.specs.Core.{core_of, negated, field, in_entry, in_term, in_access, added, accessed, joined_by, compared, called, function}
+use Rattle.desugaring.specs.declared.leaves.Chain.{Chain}
 use Rattle.desugaring.specs.declared.leaves.Chain.TheVariants as chain
 use Rattle.policy_tokens.specs.Lexing.{spelling_of}
 use Rattle.desugaring.specs.inner.Standing.{Stands, AllStand, EntryStands, TermStands, AccessStands}
 use Rattle.desugaring.specs.inner.Giving.{Gave}
-use Rattle.desugaring.proofs.Lists.{all-at}
-use Rattle.desugaring.proofs.Gaving.{one, two}
+use Rattle.desugaring.proofs.Lists.{all-at, stepped, taken}
+use Rattle.desugaring.proofs.Gaving.{one, two, still}
 use Rattle.desugaring.proofs.PartsOf.{of-Uid, of-Call, of-Set, of-Record, of-Member, of-Product, of-Sum, of-Compare, of-Has, of-Like, of-Is, of-IsIn, of-And, of-Or, of-If}
 use Rattle.desugaring.proofs.Cores.{core-Boolean, core-Number, core-Text, core-Variable, core-Uid, core-Call, core-Set, core-Record, core-Member, core-Not, core-Product, core-Sum, core-Compare, core-Has, core-Like, core-Is, core-IsIn, core-And, core-Or, core-If, negated-Number, negated-other}
 use Rattle.desugaring.proofs.build.+build.Goals as goal
+
+abbrev chained : List ℕ → Chain → Expr → List ExprTree → Expr
+chained text by e xs = fold (joined_by by) e (map (core_of text) xs)
+
+abbrev summed : List ℕ → Expr → List (Term ExprTree) → Expr
+summed text e xs = fold added e (map (in_term (core_of text)) xs)
+
+abbrev reached : List ℕ → Expr → List (Access (List ExprTree)) → Expr
+reached text e xs = fold (accessed text) e (map (in_access (core_of text)) xs)
+
+pub build_all-loop-tree-preserved : goal.build_all-loop-tree-preserved
+build_all-loop-tree-preserved t c = taken (core_of c.args.text.now) c.args.trees.now c.loop-tree.tree-index c.tree-item.result c.loop-tree.row.items c.push.new.self.items c.in_ok-built.built c.tree-item.is c.loop-tree-test.true c.loop-tree.invariant c.in_ok-built.ensures c.in_ok-push.ensures.items
+
+pub build_chain-loop-tree-preserved : goal.build_chain-loop-tree-preserved
+build_chain-loop-tree-preserved t c =
+    let right = subst (λ r. IfOk r (λ e. e ≡ core_of c.args.text.now c.tree-item.result)) c.in_ok-kept.ensures.made c.build_tree.ensures in
+    still (λ a. chained c.args.text.now c.args.chain a c.args.more.now) (chained c.args.text.now c.args.chain c.in_ok-left-2.left (drop (c.loop-tree.tree-index + 1) c.args.more.now)) (chained c.args.text.now c.args.chain c.loop-tree.left (drop c.loop-tree.tree-index c.args.more.now)) c.args.first
+    (stepped (chained c.args.text.now c.args.chain) (λ e x. joined_by c.args.chain e (core_of c.args.text.now x)) (λ e x xs. refl) c.args.more.now c.loop-tree.tree-index c.tree-item.result c.loop-tree.left c.in_ok-left-2.left c.tree-item.is c.loop-tree-test.true
+    (c.in_ok-left-2.ensures ∙ ap (λ e. joined_by c.args.chain e c.in_ok-kept.right) c.in_ok-kept.ensures.kept ∙ ap (joined_by c.args.chain c.loop-tree.left) right)) c.loop-tree.invariant
+
+pub build_terms-loop-term-preserved : goal.build_terms-loop-term-preserved
+build_terms-loop-term-preserved t c =
+    let right = subst (λ r. IfOk r (λ e. e ≡ core_of c.args.text.now c.term-item.result.operand)) c.in_ok-kept.ensures.made c.build_tree.ensures in
+    still (λ a. summed c.args.text.now a c.args.terms.now) (summed c.args.text.now c.in_ok-left-2.left (drop (c.loop-term.term-index + 1) c.args.terms.now)) (summed c.args.text.now c.loop-term.left (drop c.loop-term.term-index c.args.terms.now)) c.args.first
+    (stepped (summed c.args.text.now) (λ e x. added e (in_term (core_of c.args.text.now) x)) (λ e x xs. refl) c.args.terms.now c.loop-term.term-index c.term-item.result c.loop-term.left c.in_ok-left-2.left c.term-item.is c.loop-term-test.true
+    (c.in_ok-left-2.ensures ∙ ap (λ s. core.Binary s c.in_ok-kept.kept c.in_ok-kept.right) c.sign.ensures ∙ ap (λ e. core.Binary (sign_of c.term-item.result.sign) e c.in_ok-kept.right) c.in_ok-kept.ensures.kept ∙ ap (core.Binary (sign_of c.term-item.result.sign) c.loop-term.left) right)) c.loop-term.invariant
+
+pub build_accesses-loop-access-preserved : goal.build_accesses-loop-access-preserved
+build_accesses-loop-access-preserved t c =
+    still (λ a. reached c.args.text.now a c.args.accesses.now) (reached c.args.text.now c.in_ok-left-2.left (drop (c.loop-access.access-index + 1) c.args.accesses.now)) (reached c.args.text.now c.loop-access.left (drop c.loop-access.access-index c.args.accesses.now)) c.args.receiver
+    (stepped (reached c.args.text.now) (λ e x. accessed c.args.text.now e (in_access (core_of c.args.text.now) x)) (λ e x xs. refl) c.args.accesses.now c.loop-access.access-index c.access-item.result c.loop-access.left c.in_ok-left-2.left c.access-item.is c.loop-access-test.true c.in_ok-left-2.ensures) c.loop-access.invariant
 
 pub build_tree-build_all-requires : goal.build_tree-build_all-requires
 build_tree-build_all-requires t c = (search (rules, the_lemmas), subst (AllStand c.args.text.now) (sym c.as_slice.ensures) (of-Call c.args.text.now c.args.tree.now c.in-Call.path c.in-Call.arguments c.in-Call.is c.requires.1.1).1)

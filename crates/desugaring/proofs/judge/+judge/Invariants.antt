@@ -2,6 +2,7 @@ use Rattle.std.proofs.Common.{◌≡◌, ◌+◌, ◌*◌, drop}
 use Rattle.std.specs.List.{fold}
 use Rattle.desugaring.specs.Judged.{judged}
 use Rattle.desugaring.specs.Sums.{nothing, beside, judged_all, judged_chain, judged_term, judged_entry, judged_access}
+use Rattle.desugaring.specs.inner.Giving.{Gave}
 use Rattle.desugaring.proofs.judge.+judge.Given as goal
 
 abbrev pub invariant-judge_all-loop-tree : goal.invariant-judge_all-loop-tree
@@ -11,13 +12,13 @@ abbrev pub invariant-judge_entries-loop-entry : goal.invariant-judge_entries-loo
 invariant-judge_entries-loop-entry l = fold (judged_entry l.text) l.row (drop l.entry-index l.entries) ≡ fold (judged_entry l.text) nothing l.entries
 
 abbrev pub invariant-judge_chain-loop-tree : goal.invariant-judge_chain-loop-tree
-invariant-judge_chain-loop-tree l = judged_chain l.text l.left (drop l.tree-index l.more) ≡ judged_chain l.text l.fn.first l.more
+invariant-judge_chain-loop-tree l = Gave l.fn.first (λ i. judged_chain l.text l.left (drop l.tree-index l.more) ≡ judged_chain l.text i l.more)
 
 abbrev pub invariant-judge_terms-loop-term : goal.invariant-judge_terms-loop-term
-invariant-judge_terms-loop-term l = fold (judged_term l.text) l.left (drop l.term-index l.terms) ≡ fold (judged_term l.text) l.fn.first l.terms
+invariant-judge_terms-loop-term l = Gave l.fn.first (λ i. fold (judged_term l.text) l.left (drop l.term-index l.terms) ≡ fold (judged_term l.text) i l.terms)
 
 abbrev pub invariant-judge_accesses-loop-access : goal.invariant-judge_accesses-loop-access
-invariant-judge_accesses-loop-access l = fold (judged_access l.text) l.left (drop l.access-index l.accesses) ≡ fold (judged_access l.text) l.fn.receiver l.accesses
+invariant-judge_accesses-loop-access l = Gave l.fn.receiver (λ i. fold (judged_access l.text) l.left (drop l.access-index l.accesses) ≡ fold (judged_access l.text) i l.accesses)
 
 -- An access is as deep as the deepest of its arguments: so the helpers that go down it stand above those that go over the arguments.
 abbrev pub decreases-judge_tree : goal.decreases-judge_tree

@@ -3,7 +3,7 @@ use Rattle.std.specs.BTreeMap.{get}
 use Rattle.values.specs.Names.{text_cmp}
 use Rattle.ancestor_closure.specs.contracts.searched.SearchedAncestry.TheImpl as searched
 use Rattle.schema_names.specs.FoundViews.{found_entity_type_view}
-use Rattle.schema.specs.declared.lines.Standing.{Standing}
+use Rattle.schema_parts.specs.declared.parts.Standing.{Standing}
 use Rattle.schema.specs.inner.Lines.{KeepsLines, AddsNames}
 use Rattle.schema.proofs.lines.make_lines.Given as goal
 

@@ -1,6 +1,6 @@
 use Rattle.std.proofs.Common.{List, map, subst}
 use Rattle.std.proofs.lemmas.Result.{err_from_is_err_and, MatchResult-weaker}
-use Rattle.written_types.specs.Knowledge.{AreWritten, AreWhole}
+use Rattle.written_types.specs.Knowledge.{AreWritten}
 use Rattle.schema_types.specs.Outcome.{CommonsRefused, SizesRefused}
 use Rattle.schema_types.specs.QualifiedViews.{found_common_view}
 use Rattle.written_types.specs.TableViews.{knowledge}

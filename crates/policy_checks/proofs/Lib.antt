@@ -1,0 +1,4 @@
+pub mod FaultLemmas
+pub mod LineLemmas
+pub mod TellingLemmas
+pub mod OutcomeLemmas

@@ -1,0 +1,5 @@
+pub mod Refusals
+pub mod Lines
+pub mod Checks
+pub mod Outcomes
+pub mod inner

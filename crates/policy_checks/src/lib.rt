@@ -1,0 +1,14 @@
+//! From the texts of a schema and of policies to the lines that tell what each policy came to, or to a refusal.
+#![tactic(auto)]
+
+mod checking;
+mod laws;
+mod lines;
+mod reading;
+mod refusal;
+
+pub use checking::check_texts;
+pub use decision_texts::Refusal;
+pub use laws::checks_have_one_outcome;
+pub use reading::{policies_in, schema_in};
+pub use refusal::{check_refusal, policies_refusal, schema_refusal};

@@ -1,0 +1,48 @@
+//! The refusals of the texts of a schema and of policies, told as [`decision_texts`] tells refusals: by a number, a
+//! place and the number of a refusal inside.
+ghost use Rattle.std.specs.Prelude.{◌≡◌};
+ghost use Rattle.decision_texts.specs.Decisions as decisions;
+ghost use Rattle.policy_checks.specs.Refusals.{schema_refusal, check_refusal};
+
+use decision_texts::Refusal;
+use policy_grammar::ReadFault;
+use schema::SchemaFault;
+use validator::CheckFault;
+
+/// A fault of the schema (20 to 25, or 1), which has no place.
+pub fn schema_refusal(fault: SchemaFault) -> Refusal
+    ensures { result ≡ schema_refusal fault }
+{
+    Refusal {
+        code: fault.code(),
+        place: None,
+        within: None,
+    }
+}
+
+/// A fault of the policies' text (10 to 19, or 1), at the same byte.
+pub fn policies_refusal(fault: ReadFault) -> Refusal
+    ensures { result ≡ decisions.refusal_by fault }
+{
+    Refusal {
+        code: fault.code(),
+        place: fault.place(),
+        within: None,
+    }
+}
+
+/// A fault of a policy that does not pass (40 to 46): the place is the policy's in its file, counted from 0. Want of
+/// memory (1) has no place.
+pub fn check_refusal(place: usize, fault: CheckFault) -> Refusal
+    ensures { result ≡ check_refusal place fault }
+{
+    let place = match fault {
+        CheckFault::NoMemory => None,
+        _ => Some(place),
+    };
+    Refusal {
+        code: fault.code(),
+        place,
+        within: None,
+    }
+}

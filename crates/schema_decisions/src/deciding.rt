@@ -1,0 +1,187 @@
+//! The line of the answer to a request.
+ghost use Rattle.std.specs.Prelude.{◌≡◌, IfOk, IfErr, Some, map, string_bytes};
+ghost use Rattle.authoriser.specs.Answers.{IsAnswer};
+ghost use Rattle.authoriser.specs.Views.{named};
+ghost use Rattle.schema.specs.Views.{schema_view};
+ghost use Rattle.decision_texts.specs.Decisions.{named_policies, IsInOrder};
+ghost use Rattle.schema_decisions.specs.Refusals.{OrNoMemory};
+ghost use Rattle.schema_decisions.specs.Requests.{IsRequestRefused};
+ghost use Rattle.schema_decisions.specs.Decisions.{IsAnswerTo, IsAnswered, IsUnanswered};
+ghost use Rattle.schema_decisions.specs.Decisions.{IsDecidedUnder, IsRefusedUnder, IsDecided, IsRefused};
+ghost use Rattle.schema_decisions.specs.inner.Stores.{world_held, IsLineIn, IsLineTo};
+
+use crate::entity_array::read_entities;
+use crate::policies::passing_policies;
+use crate::question::request_in;
+use authoriser::{Answer, decide};
+use decision_texts::{Refusal, answer_line};
+use entity_store::{EntityStore, World};
+use plain::NoMemory;
+use policy_checks::schema_in;
+use policy_grammar::Policy;
+use schema::Schema;
+use std::alloc::Global;
+use values::Request;
+
+/// The policies by reference, in the same order.
+fn referred<'p>(
+    alloc: Global,
+    policies: &'p [(String, Policy)],
+) -> Result<Vec<(&'p str, &'p Policy)>, NoMemory>
+    ensures { IfOk result (λ refs. named refs.items ≡ named_policies (map (λ p. string_bytes p.0) policies.now)
+        (map (λ p. p.1) policies.now)) }
+{
+    let mut refs = Vec::with_capacity(alloc, policies.len())?;
+    for (id, policy) in policies {
+        refs.push((id.as_str(), policy))?;
+    }
+    Ok(refs)
+}
+
+/// The policies by reference, ascending by name.
+fn in_order<'p>(
+    alloc: Global,
+    policies: &'p [(String, Policy)],
+) -> Result<Vec<(&'p str, &'p Policy)>, NoMemory>
+    ensures { IfOk result (λ refs. IsInOrder
+        (named_policies (map (λ p. string_bytes p.0) policies.now) (map (λ p. p.1) policies.now)) (named refs.items)) }
+{
+    let mut refs = referred(alloc, policies)?;
+    refs.sort_by_key(|p| p.0)?;
+    Ok(refs)
+}
+
+/// These entities, and the actions of the schema beside them.
+fn with_actions<'a>(
+    alloc: Global,
+    schema: &'a Schema,
+    store: &'a EntityStore,
+) -> World<'a, EntityStore>
+    ensures { result ≡ (store.now, Some schema.now) }
+{
+    World::new(alloc, store, Some(schema))
+}
+
+/// The answer to a request over these policies and entities, and the schema's actions.
+fn answer_over(
+    alloc: Global,
+    schema: &Schema,
+    policies: &[(&str, &Policy)],
+    store: &EntityStore,
+    request: &Request,
+) -> Result<Answer, NoMemory>
+    ensures { IfOk result
+        (IsAnswer (world_held (schema_view schema.now) store.now) request.now (named policies.now)) }
+{
+    let world = with_actions(alloc, schema, store);
+    decide(alloc, policies, request, &world)
+}
+
+/// The same over the policies of a file, tried in the order of their names.
+fn answer_to(
+    alloc: Global,
+    schema: &Schema,
+    policies: &[(String, Policy)],
+    store: &EntityStore,
+    request: &Request,
+) -> Result<Answer, NoMemory>
+    ensures { IfOk result (IsAnswerTo
+        (named_policies (map (λ p. string_bytes p.0) policies.now) (map (λ p. p.1) policies.now))
+        (world_held (schema_view schema.now) store.now) request.now) }
+{
+    let ordered = in_order(alloc, policies)?;
+    answer_over(alloc, schema, &ordered, store, request)
+}
+
+/// The line of that answer.
+fn line_of(
+    alloc: Global,
+    schema: &Schema,
+    policies: &[(String, Policy)],
+    store: &EntityStore,
+    request: &Request,
+) -> Result<Vec<u8>, NoMemory>
+    ensures { IfOk result (λ line. IsLineIn
+        (named_policies (map (λ p. string_bytes p.0) policies.now) (map (λ p. p.1) policies.now))
+        (world_held (schema_view schema.now) store.now) request.now line.items) }
+{
+    let answer = answer_to(alloc, schema, policies, store, request)?;
+    answer_line(alloc, &answer)
+}
+
+/// The line of the answer to the request of a text, over these policies and entities.
+fn line_to(
+    alloc: Global,
+    schema: &Schema,
+    policies: &[(String, Policy)],
+    store: &EntityStore,
+    request: &[u8],
+) -> Result<Vec<u8>, Refusal>
+    ensures told { IfOk result (λ line. IsLineTo (schema_view schema.now)
+        (named_policies (map (λ p. string_bytes p.0) policies.now) (map (λ p. p.1) policies.now))
+        (world_held (schema_view schema.now) store.now) request.now line.items) }
+    ensures refused { IfErr result (OrNoMemory (IsRequestRefused (schema_view schema.now) request.now)) }
+{
+    let request = request_in(alloc, schema, request)?;
+    Ok(line_of(alloc, schema, policies, store, &request)?)
+}
+
+/// The line of the answer over these policies and the entities of a text.
+fn answer_texts(
+    alloc: Global,
+    schema: &Schema,
+    policies: &[(String, Policy)],
+    entities: &[u8],
+    request: &[u8],
+) -> Result<Vec<u8>, Refusal>
+    ensures answered { IfOk result (λ line. IsAnswered (schema_view schema.now)
+        (named_policies (map (λ p. string_bytes p.0) policies.now) (map (λ p. p.1) policies.now))
+        entities.now request.now line.items) }
+    ensures refused { IfErr result
+        (OrNoMemory (IsUnanswered (schema_view schema.now) entities.now request.now)) }
+{
+    let store = read_entities(alloc, schema, entities)?;
+    line_to(alloc, schema, policies, &store, request)
+}
+
+/// The line of the answer under a schema.
+fn decide_texts(
+    alloc: Global,
+    schema: &Schema,
+    policies: &[u8],
+    entities: &[u8],
+    request: &[u8],
+) -> Result<Vec<u8>, Refusal>
+    ensures decided { IfOk result
+        (λ line. IsDecidedUnder (schema_view schema.now) policies.now entities.now request.now line.items) }
+    ensures refused { IfErr result
+        (OrNoMemory (IsRefusedUnder (schema_view schema.now) policies.now entities.now request.now)) }
+{
+    let policies = passing_policies(alloc, schema, policies)?;
+    answer_texts(alloc, schema, &policies, entities, request)
+}
+
+/// The line of the answer to a request under a schema, over a file of policies and an array of entities, with the
+/// schema's actions beside them; or the first refusal.
+///
+/// Refused in this order: the schema (20 to 25, without a place); the file of policies (10 to 19, at a byte); in the
+/// file's order the first policy that does not pass (40 to 46, at the policy's place, from 0); the entities in their
+/// order (30 to 38, at the place in the array, from 0, or 30 without a place where there is no array), and 30 at the
+/// second of two entities of one uid; the request (30 to 39, without a place). `NoMemory` (1) may come at any point.
+/// The parents of an entity need not stand in the array, and cycles among entities are no fault: the answer is then a
+/// denial that names those on cycles.
+///
+/// Source: Cedar reference guide, "Authorization" and "Policy validation".
+pub fn decide_under(
+    alloc: Global,
+    schema: &[u8],
+    policies: &[u8],
+    entities: &[u8],
+    request: &[u8],
+) -> Result<Vec<u8>, Refusal>
+    ensures decided { IfOk result (λ line. IsDecided schema.now policies.now entities.now request.now line.items) }
+    ensures refused { IfErr result (OrNoMemory (IsRefused schema.now policies.now entities.now request.now)) }
+{
+    let schema = schema_in(alloc, schema)?;
+    decide_texts(alloc, &schema, policies, entities, request)
+}

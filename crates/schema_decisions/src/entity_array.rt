@@ -1,0 +1,91 @@
+//! The entities of an array.
+ghost use Rattle.std.specs.Prelude.{◌≡◌, Some, option_map};
+ghost use Rattle.serde_json.specs.Find.{as_array};
+ghost use Rattle.serde_json.specs.View.{view, items_view};
+ghost use Rattle.json_words.specs.Gives.{Gives};
+ghost use Rattle.schema.specs.Views.{schema_view};
+ghost use Rattle.entities.specs.Entities.{entity_in};
+ghost use Rattle.decision_texts.specs.Refusals.{no_memory, bad_shape};
+ghost use Rattle.schema_decisions.specs.EntityArrays.{placed, entities_in, entities_of};
+ghost use Rattle.schema_decisions.specs.inner.Stores.{GivesStore};
+
+use crate::refusal::entity_refusal;
+use decision_texts::Refusal;
+use entities::{Entity, EntityFault, read_entity};
+use entity_store::EntityStore;
+use json_words::read_json;
+use schema::Schema;
+use serde_json::Value;
+use std::alloc::Global;
+use std::collections::VecDeque;
+
+/// JSON that is no array, or an entity whose uid stands before.
+fn bad_shape(place: Option<usize>) -> Refusal
+    ensures { result ≡ bad_shape place }
+{
+    entity_refusal(place, EntityFault::BadShape)
+}
+
+/// The entity at a place of the array.
+fn read_entity_at(
+    alloc: Global,
+    schema: &Schema,
+    value: &Value,
+    place: usize,
+) -> Result<Entity, Refusal>
+    ensures { Gives no_memory (λ e. e) result (placed place (entity_in (schema_view schema.now) (view value.now))) }
+{
+    match read_entity(alloc, schema, value) {
+        Ok(entity) => Ok(entity),
+        Err(fault) => Err(entity_refusal(Some(place), fault)),
+    }
+}
+
+/// The entities of an array, each the only one of its uid. The JSON of each is given up before the next is read.
+fn read_array(alloc: Global, schema: &Schema, values: Vec<Value>) -> Result<EntityStore, Refusal>
+    ensures { GivesStore result (entities_in (schema_view schema.now) (items_view values.items)) }
+{
+    let count = values.len();
+    let mut rest = VecDeque::from_vec(values);
+    let mut store = EntityStore::new(alloc);
+    for place in 0..count {
+        let Some(value) = rest.pop_front() else {
+            unreachable!();
+        };
+        let read = read_entity_at(alloc, schema, &value, place);
+        drop(value);
+        let entity = read?;
+        if !store.put(entity)? {
+            return Err(bad_shape(Some(place)));
+        }
+    }
+    Ok(store)
+}
+
+/// The items of an array.
+fn into_array(value: Value) -> Option<Vec<Value>>
+    ensures { option_map (λ values. items_view values.items) result ≡ as_array (view value) }
+{
+    match value {
+        Value::Array(values) => Some(values),
+        _ => None,
+    }
+}
+
+/// The entities of a text.
+#[tactic(auto, unfolding(crate::specs::EntityArrays::entities_of))]
+pub(crate) fn read_entities(
+    alloc: Global,
+    schema: &Schema,
+    text: &[u8],
+) -> Result<EntityStore, Refusal>
+    ensures { GivesStore result (entities_of (schema_view schema.now) text.now) }
+{
+    let Some(value) = read_json(alloc, text)? else {
+        return Err(bad_shape(None));
+    };
+    match into_array(value) {
+        Some(values) => read_array(alloc, schema, values),
+        None => Err(bad_shape(None)),
+    }
+}

@@ -1,0 +1,32 @@
+//! Laws of the definitions; the functions do nothing.
+ghost use Rattle.schema_decisions.specs.Outcomes.{OneLine, NotBoth, OneRefusal, LineOrRefusal};
+ghost use Rattle.schema_decisions.specs.Outcomes.{ListsOfLinesAscend, MemberOfDecidesAlike};
+
+use authoriser::answers_are_lawful;
+use entities::requests_have_one_outcome;
+use entity_store::actions_may_be_closed;
+use policy_checks::checks_have_one_outcome;
+use policy_grammar::{file_names_differ, texts_have_one_reading};
+use schema::bytes_have_one_outcome;
+use validator::policies_have_one_outcome;
+
+/// That four texts come to exactly one thing, a line or a refusal; that the lists of an answer's line ascend; and that
+/// the answer is the same where an action has as parents what its `memberOf` states, and no more. It does nothing; its
+/// clauses are laws of the definitions.
+pub fn texts_have_one_outcome()
+    ensures one_line { OneLine }
+    ensures not_both { NotBoth }
+    ensures one_refusal { OneRefusal }
+    ensures some { LineOrRefusal }
+    ensures ascending { ListsOfLinesAscend }
+    ensures alike { MemberOfDecidesAlike }
+{
+    bytes_have_one_outcome();
+    texts_have_one_reading();
+    file_names_differ();
+    checks_have_one_outcome();
+    policies_have_one_outcome();
+    requests_have_one_outcome();
+    actions_may_be_closed();
+    answers_are_lawful();
+}

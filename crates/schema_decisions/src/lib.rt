@@ -1,0 +1,12 @@
+//! From the texts of a schema, of policies, of entities and of a request to the line of an answer or a refusal.
+#![tactic(auto)]
+
+mod deciding;
+mod entity_array;
+mod laws;
+mod policies;
+mod question;
+mod refusal;
+
+pub use deciding::decide_under;
+pub use laws::texts_have_one_outcome;

@@ -1,0 +1,106 @@
+-- What is handed in, judged: faults as those of a site, and the one text of an entity read back.
+use Rattle.std.specs.Prelude.{◌≡◌, ◌≢◌, ◌≤◌, ◌↔◌, ℕ, List, Bool, true, false, IsTrue, Some, None, Result, Ok, Err, IfOk, cond}
+use Rattle.std.proofs.Common.{sym, ap, ◌∙◌, subst, refl}
+use Rattle.std.specs.Str.{bytes_eq, is_utf8, IsUtf8}
+use Rattle.std.proofs.lemmas.Str.{IsUtf8-from_is_utf8}
+use Rattle.std.proofs.lemmas.Slice.Eq.{bytes_eq-Decides}
+use Rattle.serde_json.specs.Data.{Data, depth}
+use Rattle.serde_json.specs.Read.{max_depth, read}
+use Rattle.json_words.specs.Json.{json_of}
+use Rattle.values.specs.declared.entity_uid.EntityUid.{EntityUid}
+use Rattle.ancestor_closure.specs.Decided.{is_same}
+use Rattle.ancestor_closure.specs.Deciding.{same_self}
+use Rattle.policy_grammar.specs.declared.policy.Policy.{Policy}
+use Rattle.policy_grammar.specs.declared.fault.ReadFault.{ReadFault}
+use Rattle.policy_grammar.specs.declared.fault.ReadFault.TheVariants as reading
+use Rattle.policy_grammar.specs.Limits.{IsId}
+use Rattle.policy_grammar.specs.PolicyText.{IsPolicyText, IsPolicyRefused, OrNoMemory}
+use Rattle.schema.specs.Schemas.{StatedSchema}
+use Rattle.entities.specs.declared.entity.Entity.{Entity}
+use Rattle.entities.specs.Canonical.{canonical_json, canonical_text}
+use Rattle.entities.specs.Entities.{entity_in}
+use Rattle.validator.specs.declared.fault.CheckFault.{CheckFault}
+use Rattle.validator.specs.declared.fault.CheckFault.TheVariants as checking
+use Rattle.validator.specs.Passing.{Passes, IsImpossible, IsRefused}
+use Rattle.stamped_store.specs.declared.entry.ReadText.{ReadText}
+use Rattle.stored_texts.specs.Texts.{entity_of_text, ReadsEntity}
+use Rattle.site.specs.declared.fault.SiteFault.{SiteFault}
+use Rattle.site.specs.declared.fault.SiteFault.TheVariants as fault
+use Rattle.site.specs.Admitted.{IsNotAdmitted, no_policy, not_passing}
+use Rattle.site.specs.Faults.{of_reading, of_checking}
+use Rattle.site.specs.inner.Recording.{IsJudged}
+
+module _ (s : StatedSchema) (id text : List ℕ) (named : IsId id) (r : SiteFault) where
+  -- a text that is no policy's
+  unread : (f : ReadFault) → IsPolicyRefused text f → r ≡ fault.Policy f → IsNotAdmitted s id text r
+  unread f h e = subst (λ x. IsNotAdmitted s id text x) (sym e) (no_policy f named h)
+
+  pub not_read : (f : ReadFault) → OrNoMemory (IsPolicyRefused text) f → r ≡ of_reading f → r ≢ fault.NoMemory
+      → IsNotAdmitted s id text r
+  not_read reading.NoMemory h e apart = absurd (apart e)
+  not_read (reading.BadToken at) h e apart = unread (reading.BadToken at) h e
+  not_read (reading.Unexpected at) h e apart = unread (reading.Unexpected at) h e
+  not_read (reading.NumberRange at) h e apart = unread (reading.NumberRange at) h e
+  not_read (reading.UnknownCall at) h e apart = unread (reading.UnknownCall at) h e
+  not_read (reading.Arity at) h e apart = unread (reading.Arity at) h e
+  not_read (reading.RepeatedKey at) h e apart = unread (reading.RepeatedKey at) h e
+  not_read (reading.Slot at) h e apart = unread (reading.Slot at) h e
+  not_read (reading.TooDeep at) h e apart = unread (reading.TooDeep at) h e
+  not_read reading.TooLong h e apart = unread reading.TooLong h e
+  not_read reading.BadId h e apart = unread reading.BadId h e
+
+  -- a policy that does not pass
+  unpassed : (p : Policy) → IsPolicyText text p → (f : CheckFault) → IsRefused s p f → r ≡ fault.Check f
+      → IsNotAdmitted s id text r
+  unpassed p is f h e = subst (λ x. IsNotAdmitted s id text x) (sym e) (not_passing p f named is h)
+
+  pub not_passed : (p : Policy) → IsPolicyText text p → (f : CheckFault) → (f ≢ checking.NoMemory → IsRefused s p f)
+      → r ≡ of_checking f → r ≢ fault.NoMemory → IsNotAdmitted s id text r
+  not_passed p is checking.NoMemory h e apart = absurd (apart e)
+  not_passed p is checking.UnknownType h e apart = unpassed p is checking.UnknownType (h (λ x. cc)) e
+  not_passed p is checking.UnknownAction h e apart = unpassed p is checking.UnknownAction (h (λ x. cc)) e
+  not_passed p is checking.Unexpected h e apart = unpassed p is checking.Unexpected (h (λ x. cc)) e
+  not_passed p is checking.NoCommonType h e apart = unpassed p is checking.NoCommonType (h (λ x. cc)) e
+  not_passed p is checking.AttributeMayBeMissing h e apart = unpassed p is checking.AttributeMayBeMissing (h (λ x. cc)) e
+  not_passed p is checking.EmptySet h e apart = unpassed p is checking.EmptySet (h (λ x. cc)) e
+  not_passed p is checking.BadExtensionLiteral h e apart = unpassed p is checking.BadExtensionLiteral (h (λ x. cc)) e
+
+-- ---- the one text of an entity
+
+bytes_eq_same : (s : List ℕ) → bytes_eq s s ≡ true
+bytes_eq_same s = (bytes_eq-Decides s s).1 refl
+
+utf8_where : (bytes : List ℕ) (b : Bool) (d : Data) → is_utf8 bytes ≡ b → cond b (read bytes) None ≡ Some d → IsUtf8 bytes
+utf8_where bytes true d is h = IsUtf8-from_is_utf8 bytes is
+utf8_where bytes false d is h = absurd (cc)
+
+-- JSON is UTF-8
+pub json_utf8 : (bytes : List ℕ) (d : Data) → json_of bytes ≡ Some d → IsUtf8 bytes
+unfolding json_of
+json_utf8 bytes d h = utf8_where bytes (is_utf8 bytes) d refl h
+
+-- a text whose JSON is that of an entity, and which is its one text, is read as this entity under its uid
+pub reads_again : (s : StatedSchema) (e : Entity) (text : List ℕ) → text ≡ canonical_text e
+    → json_of text ≡ Some (canonical_json e) → entity_in s (canonical_json e) ≡ Ok e → ReadsEntity s e.uid text e
+unfolding entity_of_text
+reads_again s e text is json again =
+    rw json (rw again (rw is (rw (bytes_eq_same (canonical_text e)) (rw (same_self e.uid) refl))))
+
+-- ---- a policy with its verdict
+pub judged_by : {E : Type 0} → (s : StatedSchema) (id text : List ℕ) (p : Policy) (verdict : Result Bool SiteFault)
+    (t : Result (List ℕ) E) (b : ReadText Policy) (impossible : Bool) → IsId id → IsPolicyText text p
+    → IfOk verdict (λ yes. Passes s p × (IsTrue yes ↔ IsImpossible s p)) → IfOk t (λ x. x ≡ text) → b.read ≡ p
+    → verdict ≡ Ok impossible → t ≡ Ok b.text → IsJudged s id text b impossible
+judged_by {E} s id text p verdict t b impossible named is passes same read told kept =
+    let both = subst (λ v. IfOk v (λ yes. Passes s p × (IsTrue yes ↔ IsImpossible s p))) told passes in
+    record {
+      same = subst (λ (v : Result (List ℕ) E). IfOk v (λ x. x ≡ text)) kept same;
+      admitted = record {
+        named = named;
+        reads = record {
+          is_text = subst (λ (q : Policy). IsPolicyText text q) (sym read) is;
+          passes = subst (λ (q : Policy). Passes s q) (sym read) both.0;
+        };
+      };
+      told = subst (λ (q : Policy). IsTrue impossible ↔ IsImpossible s q) (sym read) both.1;
+    }

@@ -1,0 +1,4 @@
+pub mod JudgingLemmas
+pub mod UnderSchema
+pub mod Recording
+pub mod Taking

@@ -1,0 +1,79 @@
+-- What is admitted at a site of a schema: policies, entities, requests and updates as they are handed in. It is the
+-- same at every site of that schema, whatever is stored there.
+-- Sources: Cedar reference guide 4.0, "Policy validation", "Entities and context: JSON format" and "Authorization
+-- request". Rules of this product: a policy's id has 1 to 256 bytes, and is judged before the text; an entity is handed
+-- in as JSON; the order of the refusals.
+use Rattle.std.specs.Prelude.{◌≡◌, ℕ, List, Option, Some, None, Result}
+use Rattle.serde_json.specs.Data.{Data}
+use Rattle.json_words.specs.Gives.{◌>>=◌, or_fault}
+use Rattle.values.specs.declared.entity_uid.EntityUid.{EntityUid}
+use Rattle.values.specs.declared.request.Request.{Request}
+use Rattle.policy_grammar.specs.declared.policy.Policy.{Policy}
+use Rattle.policy_grammar.specs.declared.fault.ReadFault.{ReadFault}
+use Rattle.policy_grammar.specs.declared.fault.ReadFault.TheVariants.{BadId}
+use Rattle.policy_grammar.specs.Limits.{IsId}
+use Rattle.policy_grammar.specs.PolicyText.{IsPolicyText, IsPolicyRefused}
+use Rattle.schema.specs.Schemas.{StatedSchema}
+use Rattle.entities.specs.declared.entity.Entity.{Entity}
+use Rattle.entities.specs.declared.fault.EntityFault.{EntityFault}
+use Rattle.entities.specs.declared.fault.EntityFault.TheVariants.{BadShape}
+use Rattle.entities.specs.Entities.{entity_in}
+use Rattle.entities.specs.Requests.{StatesRequest, RequestRefused}
+use Rattle.validator.specs.declared.fault.CheckFault.{CheckFault}
+use Rattle.validator.specs.Passing.{IsRefused}
+use Rattle.sync_messages.specs.Summaries.{IsStamped}
+use Rattle.state_messages.specs.declared.update.Update.{Update}
+use Rattle.state_messages.specs.Updates.{shown_update, stamped, IsUpdateRead}
+use Rattle.stored_texts.specs.Texts.{ReadsPolicy, ReadsEntity}
+use Rattle.site.specs.declared.fault.SiteFault.{SiteFault}
+use Rattle.site.specs.declared.fault.SiteFault.TheVariants as fault
+
+-- ---- what a text in the store is read as: that of a policy whatever its id, that of an entity under its uid
+
+abbrev pub IsPolicyUnder : StatedSchema → List ℕ → List ℕ → Policy → Type 0
+IsPolicyUnder schema id text p = ReadsPolicy schema text p
+
+abbrev pub IsEntityUnder : StatedSchema → EntityUid → List ℕ → Entity → Type 0
+IsEntityUnder schema uid text e = ReadsEntity schema uid text e
+
+-- ---- policies
+
+-- this text may be put under this id, as this policy: the text is the policy's, and the policy passes
+pub record IsAdmitted (schema : StatedSchema) (id text : List ℕ) (p : Policy) : Type 0 where
+  pub named : IsId id
+  pub reads : ReadsPolicy schema text p
+
+-- it may not be put: the id is judged first, then the text, then the policy
+pub data IsNotAdmitted (schema : StatedSchema) (id text : List ℕ) : SiteFault → Type 0 where
+  bad_id : (IsId id → ⊥) → IsNotAdmitted schema id text (fault.Policy BadId)
+  no_policy : (f : ReadFault) → IsId id → IsPolicyRefused text f → IsNotAdmitted schema id text (fault.Policy f)
+  not_passing : (p : Policy) (f : CheckFault) → IsId id → IsPolicyText text p → IsRefused schema p f
+      → IsNotAdmitted schema id text (fault.Check f)
+
+-- ---- entities
+
+-- the entity that JSON states, or the first fault; bytes that are no JSON (None) have not its form
+abbrev pub entity_stated : StatedSchema → Option Data → Result Entity EntityFault
+entity_stated schema json = do
+  d ← or_fault BadShape json
+  entity_in schema d
+
+-- ---- requests
+
+-- JSON states this request
+abbrev pub IsRequestOf : StatedSchema → Option Data → Request → Type 0
+IsRequestOf schema None q = ⊥
+IsRequestOf schema (Some d) q = StatesRequest schema d q
+
+-- it states none, and this is the first fault
+abbrev pub IsNoRequest : StatedSchema → Option Data → EntityFault → Type 0
+IsNoRequest schema None f = f ≡ BadShape
+IsNoRequest schema (Some d) f = RequestRefused schema d f
+
+-- ---- updates that another site sent
+
+-- an update is valid: its name and stamp are in their ranges, and its text, if it has one, is read as what stands
+-- beside it
+pub record IsValid (schema : StatedSchema) (u : Update Policy Entity) : Type 0 where
+  pub in_range : IsStamped (stamped (shown_update u))
+  pub is_read : IsUpdateRead (IsPolicyUnder schema) (IsEntityUnder schema) u

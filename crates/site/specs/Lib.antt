@@ -1,0 +1,5 @@
+pub mod Faults
+pub mod Admitted
+pub mod Seen
+pub mod Steps
+pub mod inner

@@ -1,0 +1,32 @@
+-- What contracts see of a site: its schema, its number, and what it keeps.
+-- A rule of this product: a store of stamped texts is all that a site keeps, each text beside what it was read as.
+use Rattle.std.specs.Prelude.{◌≡◌, ℕ}
+use Rattle.policy_grammar.specs.declared.policy.Policy.{Policy}
+use Rattle.schema.specs.Kept as kept_schema
+use Rattle.schema.specs.Schemas.{StatedSchema}
+use Rattle.schema.specs.Views.{schema_view}
+use Rattle.entities.specs.declared.entity.Entity.{Entity}
+use Rattle.stamped_store.specs.Reading.{IsKeptRead}
+use Rattle.stamped_store.specs.Store.{Store, Kept, shown_store}
+use Rattle.site.specs.Admitted.{IsPolicyUnder, IsEntityUnder}
+
+pub record Seen : Type 0 where
+  pub schema : kept_schema.Kept
+  pub number : ℕ
+  pub kept : Kept Policy Entity
+
+-- the schema, as what it states
+abbrev pub schema_of : Seen → StatedSchema
+schema_of a = schema_view a.schema
+
+-- the plain store: at each name at most one stamped body
+abbrev pub store_in : Seen → Store
+store_in a = shown_store a.kept
+
+-- schema and number stay
+abbrev pub IsSameSite : Seen → Seen → Type 0
+IsSameSite a b = (b.schema ≡ a.schema) × (b.number ≡ a.number)
+
+-- what is always true of what a site keeps: each text is read as what stands beside it, under the site's schema
+abbrev pub IsHeld : StatedSchema → Kept Policy Entity → Type 0
+IsHeld schema k = IsKeptRead (IsPolicyUnder schema) (IsEntityUnder schema) k

@@ -1,0 +1,15 @@
+//! A site: a store of stamped texts under one schema, changed by its own commands and by messages, and asked.
+//!
+//! The store is the only owner of policies and entities. Answers come from what stands beside its texts, as these were
+//! read, and the hierarchy is searched in place.
+#![tactic(auto)]
+
+mod fault;
+mod judging;
+mod outcome;
+mod site;
+mod under_schema;
+
+pub use fault::SiteFault;
+pub use outcome::{Put, Taken};
+pub use site::Site;

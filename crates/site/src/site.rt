@@ -1,0 +1,465 @@
+//! A site and its calls.
+ghost use Rattle.std.specs.Prelude.{◌≡◌, ◌≢◌, ◌++◌, ◌∷◌, [], IfOk, IsTrue, is_some, true, false};
+ghost use Rattle.std.specs.Prelude.{option_map, Some, None, Ok, Err, MatchResult, string_bytes};
+ghost use Rattle.std.specs.FinMap.{get};
+ghost use Rattle.std.specs.List.{AllByRecursion};
+ghost use Rattle.serde_json.specs.View.{view};
+ghost use Rattle.schema.specs.Views.{schema_view};
+ghost use Rattle.entities.specs.declared.entity.Entity.{Entity};
+ghost use Rattle.entities.specs.Canonical.{canonical_text};
+ghost use Rattle.stamped_store.specs.Contents.{text_under};
+ghost use Rattle.stamped_store.specs.Deltas.{delta, summary_of};
+ghost use Rattle.stamped_store.specs.EntryOrder.{body_bytes, plain_entry};
+ghost use Rattle.stamped_store.specs.Reading.{IsBodyRead, IsEntryRead};
+ghost use Rattle.stamped_store.specs.Store.{store_of, updates, shown_store};
+ghost use Rattle.stamped_store.specs.Store.{policy_name, entity_name, issued, KeepsOtherNames};
+ghost use Rattle.stored_world.specs.Said.{MakesCycle, MakesNoCycle};
+ghost use Rattle.sync_messages.specs.Summaries.{summary_text};
+ghost use Rattle.state_messages.specs.Messages.{state_text, delta_text};
+ghost use Rattle.state_messages.specs.Updates.{shown_update, shown_updates};
+ghost use Rattle.site.specs.Admitted.{IsPolicyUnder, IsEntityUnder, IsValid, entity_stated};
+ghost use Rattle.site.specs.Seen.{schema_of, store_in, IsSameSite};
+ghost use Rattle.site.specs.Steps.{PutsPolicy, PutsEntity, Deletes, Takes, Answers, policy_found};
+ghost use Rattle.site.specs.inner.Recording.{RecordsOr, PutsUnless, IsNext, put_result};
+
+use crate::fault::SiteFault;
+use crate::judging::{Judged, judged_policy, stated_entity, stated_request};
+use crate::outcome::{Put, Taken};
+use crate::under_schema::{answer_under, readings_stay, would_cycle};
+use authoriser::Answer;
+use entities::Entity;
+use plain::NoMemory;
+use policy_grammar::Policy;
+use schema::Schema;
+use serde_json::Value;
+use stamped_store::laws::{stamps_are_issued, updates_have_one_store};
+use stamped_store::{COUNT_MAX, Entry, PolicyStore, ReadText, Stamp};
+use state_messages::{Update, write_delta, write_state};
+use std::alloc::Global;
+use std::marker::Model;
+use sync_messages::{Summary, write_summary};
+use values::EntityUid;
+
+/// A site: a schema, a number, and a store of stamped texts, each kept with what it was read as under the schema.
+///
+/// Contracts see these three, and speak of the plain store: at each name at most one stamped body.
+#[derive(Drop)]
+pub struct Site {
+    alloc: Global,
+    schema: Schema,
+    number: u16,
+    store: PolicyStore<Policy, Entity>,
+}
+
+impl Model for Site {
+    ghost use Rattle.std.specs.Coded.{codes};
+    ghost use Rattle.schema_types.specs.contracts.cedar.CedarType as cedar;
+    ghost use Rattle.values.specs.ValueCode.{value_code};
+    ghost use Rattle.expressions.specs.contracts.expr.Expr as expr;
+    ghost use Rattle.schema.specs.Views.{schema_view};
+    ghost use Rattle.site.specs.Seen.{Seen, IsHeld};
+
+    ghost Value = { Seen };
+
+    ghost coded = { Prim.hlevel (codes, cedar.the_row.coded, value_code, expr.the_row.coded) };
+
+    ghost view = { λ a. record { schema = a.schema; number = a.number; kept = a.store } };
+
+    ghost invariant = { λ a. IsHeld (schema_view a.schema) a.store };
+}
+
+/// The outcome of a put: its stamp, and whether the policy is impossible.
+fn put_of(stamped: Result<Stamp, SiteFault>, impossible: bool) -> Result<Put, SiteFault>
+    ensures { result ≡ put_result impossible stamped }
+{
+    match stamped {
+        Ok(stamp) => Ok(Put { stamp, impossible }),
+        Err(fault) => Err(fault),
+    }
+}
+
+/// The outcome of storing an entry: its stamp, or want of memory.
+fn stamped<T: Drop>(taken: Result<(), T>, stamp: Stamp) -> Result<Stamp, SiteFault>
+    ensures { MatchResult taken (λ _. result ≡ Ok stamp) (λ _. result ≡ Err SiteFault.NoMemory) }
+{
+    match taken {
+        Ok(()) => Ok(stamp),
+        Err(_) => Err(SiteFault::NoMemory),
+    }
+}
+
+/// Whether an entry was stored.
+fn is_taken<T: Drop>(taken: Result<(), T>) -> bool
+    ensures { MatchResult taken (λ _. result ≡ true) (λ _. result ≡ false) }
+{
+    match taken {
+        Ok(()) => true,
+        Err(_) => false,
+    }
+}
+
+/// A refusal of what would have been stored, which is dropped.
+fn refused<T: Drop>(_dropped: T, fault: SiteFault) -> Result<Stamp, SiteFault>
+    ensures { result ≡ Err fault }
+{
+    Err(fault)
+}
+
+/// The stamp of the next local command at a site; None where no stamp is left.
+fn next_stamp(store: &PolicyStore<Policy, Entity>, number: u16) -> Option<Stamp>
+    ensures { IsNext number (shown_store store.now) result }
+{
+    if store.greatest_count() >= COUNT_MAX {
+        return None;
+    }
+    Some(store.issue(number))
+}
+
+impl Site {
+    /// A site with nothing stored, under a schema. Its number goes into its stamps, and is not 0. Takes no memory.
+    pub fn new(alloc: Global, schema: Schema, number: u16) -> Self
+        requires { number ≢ 0 }
+        ensures schema { result.schema ≡ schema }
+        ensures number { result.number ≡ number }
+        ensures empty { store_in result ≡ store_of [] }
+    {
+        readings_stay();
+        Site {
+            alloc,
+            schema,
+            number,
+            store: PolicyStore::new(alloc),
+        }
+    }
+
+    /// The schema.
+    pub fn schema(&self) -> &Schema
+        ensures { result.now ≡ self.now.schema }
+    {
+        &self.schema
+    }
+
+    // ---- questions
+
+    /// The text and the stamp of the policy of this id; None where it has no text, because it was never put or was
+    /// deleted. In logarithmic time, and without memory.
+    pub fn get_policy(&self, id: &str) -> Option<(&str, Stamp)>
+        ensures { option_map (λ f. (f.0.now, f.1)) result ≡ policy_found (store_in self.now) id.now }
+    {
+        match self.store.get_policy(id) {
+            Some(entry) => match &entry.body {
+                Some(body) => Some((body.text.as_str(), entry.stamp)),
+                None => None,
+            },
+            None => None,
+        }
+    }
+
+    /// The whole store as a message to other sites of the schema. Fails for memory alone.
+    pub fn state(&self) -> Result<Vec<u8>, NoMemory>
+        ensures { IfOk result (λ b. b.items ≡ state_text (schema_of self.now).label (store_in self.now)) }
+    {
+        write_state(self.alloc, self.schema.label(), &self.store)
+    }
+
+    /// The names of the store with their stamps, as a message to other sites of the schema, who tell by it what is news
+    /// to this one. Fails for memory alone.
+    pub fn summary(&self) -> Result<Vec<u8>, NoMemory>
+        ensures { IfOk result
+            (λ b. b.items ≡ summary_text (schema_of self.now).label (summary_of (store_in self.now))) }
+    {
+        write_summary(self.alloc, self.schema.label(), &self.store)
+    }
+
+    /// The part of the store that is news to whoever has this summary, as a message. Fails for memory alone.
+    pub fn delta(&self, since: &Summary) -> Result<Vec<u8>, NoMemory>
+        ensures { IfOk result
+            (λ b. b.items ≡ delta_text (schema_of self.now).label (delta (store_in self.now) since.now)) }
+    {
+        write_delta(self.alloc, self.schema.label(), &self.store, since)
+    }
+
+    /// The answer to the request that JSON states, over what is stored: the policies and entities that the texts of the
+    /// store are read as, and the actions of the schema.
+    ///
+    /// Refused where the JSON states no request under the schema (63, with the refusal's own number inside). Tries
+    /// every policy, and searches the hierarchy for cycles: linear in the store. Changes nothing.
+    pub fn authorize(&self, json: &Value) -> Result<Answer, SiteFault>
+        ensures { Answers (schema_of self.now) (store_in self.now) (Some (view json.now)) result }
+    {
+        let request = stated_request(self.alloc, &self.schema, json)?;
+        Ok(answer_under(self.alloc, &self.schema, &self.store, &request)?)
+    }
+
+    // ---- commands
+
+    /// Stamps a policy's body and stores it.
+    fn record_policy(
+        &mut self,
+        id: String,
+        body: Option<ReadText<Policy>>,
+    ) -> Result<Stamp, SiteFault>
+        requires { IsBodyRead (IsPolicyUnder (schema_of self.old) (string_bytes id)) body }
+        ensures records { RecordsOr self.old.number (store_in self.old) (policy_name (string_bytes id))
+            (body_bytes body) result (store_in self.new) }
+        ensures others { KeepsOtherNames (policy_name (string_bytes id)) (store_in self.old) (store_in self.new) }
+        ensures same { IsSameSite self.old self.new }
+    {
+        readings_stay();
+        match next_stamp(&self.store, self.number) {
+            Some(stamp) => {
+                let entry = Entry { stamp, body };
+                let taken = self.store.take_policy(id, entry);
+                stamped(taken, stamp)
+            }
+            None => refused((id, body), SiteFault::ClockFull),
+        }
+    }
+
+    /// Stamps an entity's body and stores it.
+    fn record_entity(
+        &mut self,
+        uid: EntityUid,
+        body: Option<ReadText<Entity>>,
+    ) -> Result<Stamp, SiteFault>
+        requires { IsBodyRead (IsEntityUnder (schema_of self.old) uid) body }
+        ensures records { RecordsOr self.old.number (store_in self.old) (entity_name uid) (body_bytes body) result
+            (store_in self.new) }
+        ensures others { KeepsOtherNames (entity_name uid) (store_in self.old) (store_in self.new) }
+        ensures same { IsSameSite self.old self.new }
+    {
+        readings_stay();
+        match next_stamp(&self.store, self.number) {
+            Some(stamp) => {
+                let entry = Entry { stamp, body };
+                let taken = self.store.take_entity(uid, entry);
+                stamped(taken, stamp)
+            }
+            None => refused((uid, body), SiteFault::ClockFull),
+        }
+    }
+
+    /// Puts a policy's text under an id, in place of what is there, and tells whether the policy is impossible: False
+    /// in each environment of the schema.
+    ///
+    /// Refused in this order: the id has not 1 to 256 bytes (19); the text is no policy's (10 to 18); the policy does
+    /// not pass under the schema (40 to 46); no stamp is left (62). What is refused changes nothing, nor does want of
+    /// memory.
+    pub fn put_policy(&mut self, id: &str, text: &str) -> Result<Put, SiteFault>
+        ensures puts { PutsPolicy (schema_of self.old) self.old.number (store_in self.old) id.now text.now result
+            (store_in self.new) }
+        ensures stands { IfOk result
+            (λ put. get (store_in self.new) (policy_name id.now) ≡ Some (issued put.stamp (Some text.now))) }
+        ensures others { KeepsOtherNames (policy_name id.now) (store_in self.old) (store_in self.new) }
+        ensures same { IsSameSite self.old self.new }
+    {
+        stamps_are_issued();
+        match judged_policy(self.alloc, &self.schema, id, text) {
+            Ok(judged) => {
+                let Judged {
+                    id,
+                    body,
+                    impossible,
+                } = judged;
+                let stamped = self.record_policy(id, Some(body));
+                put_of(stamped, impossible)
+            }
+            Err(fault) => Err(fault),
+        }
+    }
+
+    /// Whether a policy has a text.
+    fn has_policy(&self, id: &str) -> bool
+        ensures { result ≡ is_some (text_under (store_in self.now) (policy_name id.now)) }
+    {
+        match self.store.get_policy(id) {
+            Some(entry) => entry.body.is_some(),
+            None => false,
+        }
+    }
+
+    /// Whether an entity has a text.
+    fn has_entity(&self, uid: &EntityUid) -> bool
+        ensures { result ≡ is_some (text_under (store_in self.now) (entity_name uid.now)) }
+    {
+        match self.store.get_entity(uid) {
+            Some(entry) => entry.body.is_some(),
+            None => false,
+        }
+    }
+
+    /// Stamps and stores that a policy is taken away.
+    fn remove_policy(&mut self, id: &str) -> Result<Stamp, SiteFault>
+        ensures records { RecordsOr self.old.number (store_in self.old) (policy_name id.now) None result
+            (store_in self.new) }
+        ensures others { KeepsOtherNames (policy_name id.now) (store_in self.old) (store_in self.new) }
+        ensures same { IsSameSite self.old self.new }
+    {
+        let id = String::from_str(self.alloc, id)?;
+        self.record_policy(id, None)
+    }
+
+    /// Takes a policy away: its id gets a tombstone.
+    ///
+    /// Refused where the id has no text (60), then where no stamp is left (62). What is refused changes nothing, nor
+    /// does want of memory.
+    pub fn delete_policy(&mut self, id: &str) -> Result<Stamp, SiteFault>
+        ensures deletes { Deletes self.old.number (store_in self.old) (policy_name id.now) result (store_in self.new) }
+        ensures stands { IfOk result
+            (λ stamp. get (store_in self.new) (policy_name id.now) ≡ Some (issued stamp None)) }
+        ensures others { KeepsOtherNames (policy_name id.now) (store_in self.old) (store_in self.new) }
+        ensures same { IsSameSite self.old self.new }
+    {
+        if !self.has_policy(id) {
+            return Err(SiteFault::NotThere);
+        }
+        stamps_are_issued();
+        self.remove_policy(id)
+    }
+
+    /// Stamps and stores that an entity is taken away.
+    fn remove_entity(&mut self, uid: &EntityUid) -> Result<Stamp, SiteFault>
+        ensures records { RecordsOr self.old.number (store_in self.old) (entity_name uid.now) None result
+            (store_in self.new) }
+        ensures others { KeepsOtherNames (entity_name uid.now) (store_in self.old) (store_in self.new) }
+        ensures same { IsSameSite self.old self.new }
+    {
+        let uid = uid.copy()?;
+        self.record_entity(uid, None)
+    }
+
+    /// Takes an entity away: its uid gets a tombstone. Edges to it stay, and lead to an entity that is not stored.
+    ///
+    /// Refused where the uid has no text (60), then where no stamp is left (62). What is refused changes nothing, nor
+    /// does want of memory.
+    pub fn delete_entity(&mut self, uid: &EntityUid) -> Result<Stamp, SiteFault>
+        ensures deletes { Deletes self.old.number (store_in self.old) (entity_name uid.now) result (store_in self.new) }
+        ensures stands { IfOk result
+            (λ stamp. get (store_in self.new) (entity_name uid.now) ≡ Some (issued stamp None)) }
+        ensures others { KeepsOtherNames (entity_name uid.now) (store_in self.old) (store_in self.new) }
+        ensures same { IsSameSite self.old self.new }
+    {
+        if !self.has_entity(uid) {
+            return Err(SiteFault::NotThere);
+        }
+        stamps_are_issued();
+        self.remove_entity(uid)
+    }
+
+    /// Whether an entity would be on a cycle once it is put.
+    fn makes_cycle(&self, entity: &Entity) -> Result<bool, NoMemory>
+        ensures yes { IfOk result (λ yes. yes ≡ true → MakesCycle (IsEntityUnder (schema_of self.now))
+            (schema_of self.now) (store_in self.now) entity.now) }
+        ensures no { IfOk result (λ yes. yes ≡ false → MakesNoCycle (IsEntityUnder (schema_of self.now))
+            (schema_of self.now) (store_in self.now) entity.now) }
+    {
+        would_cycle(self.alloc, &self.schema, &self.store, entity)
+    }
+
+    /// Puts an entity that was read, unless it would be on a cycle.
+    fn put_unless(
+        &mut self,
+        cycle: Result<bool, NoMemory>,
+        uid: EntityUid,
+        body: ReadText<Entity>,
+    ) -> Result<Stamp, SiteFault>
+        requires { IsEntityUnder (schema_of self.old) uid body.text body.read }
+        ensures puts { PutsUnless self.old.number (store_in self.old) cycle uid body.text result (store_in self.new) }
+        ensures others { KeepsOtherNames (entity_name uid) (store_in self.old) (store_in self.new) }
+        ensures same { IsSameSite self.old self.new }
+    {
+        match cycle {
+            Ok(false) => self.record_entity(uid, Some(body)),
+            Ok(true) => refused((uid, body), SiteFault::WouldCycle),
+            Err(_) => refused((uid, body), SiteFault::NoMemory),
+        }
+    }
+
+    /// Puts the entity that JSON states, as its canonical text, in place of what its uid has.
+    ///
+    /// Refused in this order: the JSON states no entity under the schema (30 to 38); the entity would be on a cycle
+    /// once it is put (61), whatever cycles of others there are; no stamp is left (62). What is refused changes
+    /// nothing, nor does want of memory. Asking for a cycle is linear in what is above the entity.
+    pub fn put_entity(&mut self, json: &Value) -> Result<Stamp, SiteFault>
+        ensures puts { PutsEntity (schema_of self.old) self.old.number (store_in self.old) (Some (view json.now)) result
+            (store_in self.new) }
+        ensures stands { IfOk result (λ stamp. (e : Entity)
+            × (entity_stated (schema_of self.old) (Some (view json.now)) ≡ Ok e)
+            × (get (store_in self.new) (entity_name e.uid) ≡ Some (issued stamp (Some (canonical_text e))))
+            × KeepsOtherNames (entity_name e.uid) (store_in self.old) (store_in self.new)) }
+        ensures same { IsSameSite self.old self.new }
+    {
+        stamps_are_issued();
+        match stated_entity(self.alloc, &self.schema, json) {
+            Ok(stated) => {
+                let (uid, body) = stated;
+                let cycle = self.makes_cycle(&body.read);
+                self.put_unless(cycle, uid, body)
+            }
+            Err(fault) => Err(fault),
+        }
+    }
+
+    // ---- updates of another site
+
+    /// Joins one update of a policy, unless memory is refused.
+    fn take_policy(&mut self, id: String, entry: Entry<Policy>) -> bool
+        requires { IsEntryRead (IsPolicyUnder (schema_of self.old) (string_bytes id)) entry }
+        ensures taken { IsTrue result → store_in self.new
+            ≡ store_of (updates (store_in self.old) ++ (policy_name (string_bytes id), plain_entry entry) ∷ []) }
+        ensures refused { result ≡ false → store_in self.new ≡ store_in self.old }
+        ensures same { IsSameSite self.old self.new }
+    {
+        readings_stay();
+        let taken = self.store.take_policy(id, entry);
+        is_taken(taken)
+    }
+
+    /// Joins one update of an entity, unless memory is refused.
+    fn take_entity(&mut self, uid: EntityUid, entry: Entry<Entity>) -> bool
+        requires { IsEntryRead (IsEntityUnder (schema_of self.old) uid) entry }
+        ensures taken { IsTrue result → store_in self.new
+            ≡ store_of (updates (store_in self.old) ++ (entity_name uid, plain_entry entry) ∷ []) }
+        ensures refused { result ≡ false → store_in self.new ≡ store_in self.old }
+        ensures same { IsSameSite self.old self.new }
+    {
+        readings_stay();
+        let taken = self.store.take_entity(uid, entry);
+        is_taken(taken)
+    }
+
+    /// Joins one update, unless memory is refused.
+    fn take_one(&mut self, update: Update<Policy, Entity>) -> bool
+        requires { IsValid (schema_of self.old) update }
+        ensures taken { IsTrue result → store_in self.new
+            ≡ store_of (updates (store_in self.old) ++ shown_update update ∷ []) }
+        ensures refused { result ≡ false → store_in self.new ≡ store_in self.old }
+        ensures same { IsSameSite self.old self.new }
+    {
+        match update {
+            Update::Policy { id, entry } => self.take_policy(id.into_string(), entry),
+            Update::Entity { uid, entry } => self.take_entity(uid, entry),
+        }
+    }
+
+    /// Takes updates of another site in their order: each is joined at its name, where the greater entry stands. All
+    /// are counted, also those that lose. Where memory is refused, exactly the first ones are taken, and the rest is
+    /// dropped. An entity may come to be on a cycle; no update is refused for that.
+    ///
+    /// Each update is valid under the site's schema, as those are that [`state_messages::read_message`] answers.
+    pub fn take(&mut self, updates: Vec<Update<Policy, Entity>>) -> Taken
+        requires { AllByRecursion (IsValid (schema_of self.old)) updates.items }
+        ensures takes { Takes (store_in self.old) (shown_updates updates.items) result (store_in self.new) }
+        ensures same { IsSameSite self.old self.new }
+    {
+        updates_have_one_store();
+        let mut taken = 0;
+        for update in updates {
+            if !self.take_one(update) {
+                return Taken::Short(taken);
+            }
+            taken += 1;
+        }
+        Taken::All(taken)
+    }
+}

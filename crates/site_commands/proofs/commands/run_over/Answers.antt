@@ -1,0 +1,41 @@
+use Rattle.std.proofs.Common.{ℕ, List, Option, option_map, Bor}
+use Rattle.site_commands.specs.Runs.{Course, Reads, IsJudged}
+use Rattle.site_commands.proofs.EventLemmas.{reads_on, reads_none}
+use Rattle.site_commands.proofs.commands.run_over.Goals as goal
+
+-- what is left to do once the entities are read, and once the policies are
+abbrev over_both : Option (List ℕ) → List ℕ → List ℕ → List ℕ → Course
+over_both schema request policies entities = Reads request (IsJudged schema policies entities)
+
+abbrev over_policies : Option (List ℕ) → List ℕ → List ℕ → List ℕ → Course
+over_policies schema entities request policies = Reads entities (over_both schema request policies)
+
+-- what a schema holds, if there is one
+abbrev held : Option (Bor (List ℕ)) → Option (List ℕ)
+held = option_map (λ s. s.now)
+
+pub returns-in_default : goal.returns-in_default
+returns-in_default g c =
+    reads_none g.H.Host.does _ _ _ _ (over_policies (held c.args.schema) c.args.entities.now c.args.request.now) _ c.in_default.ensures c.tell_file.ensures
+
+pub returns-in_default-read : goal.returns-in_default-read
+returns-in_default-read g c =
+    reads_on g.H.Host.does _ _ _ _ _ (over_policies (held c.args.schema) c.args.entities.now c.args.request.now) _ c.in-Some.ensures (
+    reads_none g.H.Host.does _ _ _ _ (over_both (held c.args.schema) c.args.request.now c.in-Some.policies.items) _ c.in_default-read.ensures
+    c.tell_file-in_default-read.ensures)
+
+pub returns-in_default-read-2 : goal.returns-in_default-read-2
+returns-in_default-read-2 g c =
+    let policies = c.in-Some.policies.items in
+    reads_on g.H.Host.does _ _ _ _ _ (over_policies (held c.args.schema) c.args.entities.now c.args.request.now) _ c.in-Some.ensures (
+    reads_on g.H.Host.does _ _ _ _ _ (over_both (held c.args.schema) c.args.request.now policies) _ c.in-Some-read.ensures (
+    reads_none g.H.Host.does _ _ _ _ (IsJudged (held c.args.schema) policies c.in-Some-read.entities.items) _ c.in_default-read-2.ensures
+    c.tell_file-in_default-read-2.ensures))
+
+pub returns : goal.returns
+returns g c =
+    let policies = c.in-Some.policies.items in
+    reads_on g.H.Host.does _ _ _ _ _ (over_policies (held c.args.schema) c.args.entities.now c.args.request.now) _ c.in-Some.ensures (
+    reads_on g.H.Host.does _ _ _ _ _ (over_both (held c.args.schema) c.args.request.now policies) _ c.in-Some-read.ensures (
+    reads_on g.H.Host.does _ _ _ _ _ (IsJudged (held c.args.schema) policies c.in-Some-read.entities.items) _ c.in-Some-read-2.ensures (
+    rw (c.deref.ensures.value, c.deref-2.ensures.value, c.deref-3.ensures.value) at c.judge.ensures)))

@@ -1,0 +1,3 @@
+pub mod CanonicalTexts
+pub mod FaultLemmas
+pub mod Readings

@@ -1,0 +1,24 @@
+//! Laws of the definitions, by the contract of a function that does nothing.
+ghost use Rattle.stored_texts.specs.Laws.{PoliciesHaveOneReading, EntitiesHaveOneReading};
+ghost use Rattle.stored_texts.specs.Laws.{PoliciesHaveNoOtherName, CanonicalTextsAreRead};
+
+use entities::entities_read_back;
+use validator::policies_have_one_outcome;
+
+/// That under a schema each text is that of one policy that passes, or refused for one fault, and never both; and so of
+/// entities, under each uid.
+pub fn stored_texts_have_one_reading()
+    ensures policies { PoliciesHaveOneReading }
+    ensures entities { EntitiesHaveOneReading }
+    ensures named { PoliciesHaveNoOtherName }
+{
+    policy_grammar::texts_have_one_reading();
+    policies_have_one_outcome();
+}
+
+/// That what is written of an entity is read again as that entity, under the schema that allowed it.
+pub fn canonical_texts_are_read()
+    ensures { CanonicalTextsAreRead }
+{
+    entities_read_back();
+}

@@ -1,0 +1,9 @@
+//! What the texts of a store are read as under a schema: policies that pass the validator, and entities in their
+//! canonical text. A message's bodies and a site's commands are judged by this alone.
+#![tactic(auto)]
+
+mod laws;
+mod texts;
+
+pub use laws::{canonical_texts_are_read, stored_texts_have_one_reading};
+pub use texts::SchemaTexts;

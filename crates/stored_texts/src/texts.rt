@@ -1,0 +1,206 @@
+//! Texts of policies and of entities, read under a schema.
+ghost use Rattle.std.specs.Prelude.{◌≡◌, ◌≢◌, ℕ, List, IfOk, IfErr, MatchResult, Ok, Err};
+ghost use Rattle.std.specs.Str.{bytes_eq};
+ghost use Rattle.serde_json.specs.View.{view};
+ghost use Rattle.json_words.specs.Gives.{Gives, GivesAlways, or_fault, demand};
+ghost use Rattle.json_words.specs.Json.{json_of};
+ghost use Rattle.ancestor_closure.specs.Decided.{is_same};
+ghost use Rattle.policy_grammar.specs.Faults as grammar;
+ghost use Rattle.policy_grammar.specs.PolicyText.{IsPolicyText};
+ghost use Rattle.schema.specs.Schemas.{StatedSchema};
+ghost use Rattle.schema.specs.Views.{schema_view};
+ghost use Rattle.entities.specs.Entities.{entity_in};
+ghost use Rattle.entities.specs.Canonical.{canonical_text};
+ghost use Rattle.validator.specs.Faults as validation;
+ghost use Rattle.validator.specs.Passing.{Passes};
+ghost use Rattle.state_messages.specs.Bodies.{OrNoMemory};
+ghost use Rattle.stored_texts.specs.Texts.{ReadsPolicy, RefusesPolicy, RefusesEntity};
+ghost use Rattle.stored_texts.specs.Texts.{entity_of_text, refused_by};
+
+use crate::laws::stored_texts_have_one_reading;
+use entities::{Entity, EntityFault, canonical_text, read_entity};
+use json_words::read_json;
+use policy_grammar::{Policy, ReadFault, parse_policy};
+use schema::Schema;
+use serde_json::Value;
+use stamped_store::Readings;
+use state_messages::{Bodies, BodyFault};
+use std::alloc::Global;
+use validator::{CheckFault, check};
+use values::EntityUid;
+
+/// What texts are read as under a schema. Contracts see what the schema states.
+#[derive(Clone, Copy)]
+pub struct SchemaTexts<'a> {
+    /// The schema.
+    pub schema: &'a Schema,
+}
+
+impl<'a> SchemaTexts<'a> {
+    /// Texts under this schema. Takes no memory.
+    pub fn under(schema: &'a Schema) -> Self
+        ensures { result.schema.now ≡ schema.now }
+    {
+        SchemaTexts { schema }
+    }
+}
+
+impl Readings<Policy, Entity> for SchemaTexts<'_> {
+    ghost use Rattle.schema.specs.Views.{schema_view};
+    ghost use Rattle.stored_texts.specs.Texts.{ReadsPolicy, ReadsEntity};
+
+    ghost reads_policy = { λ t _ text p. ReadsPolicy (schema_view t.schema.now) text p };
+
+    ghost reads_entity = { λ t uid text e. ReadsEntity (schema_view t.schema.now) uid text e };
+}
+
+/// The fault of a text that is no policy's, by its number.
+fn grammar_fault(fault: ReadFault) -> BodyFault
+    ensures memory { fault ≡ ReadFault.NoMemory → result ≡ BodyFault.NoMemory }
+    ensures refused { fault ≢ ReadFault.NoMemory → result ≡ BodyFault.Refused (grammar.code_of fault) }
+{
+    match fault {
+        ReadFault::NoMemory => BodyFault::NoMemory,
+        _ => BodyFault::Refused(fault.code()),
+    }
+}
+
+/// The fault of a policy that does not pass, by its number.
+fn validation_fault(fault: CheckFault) -> BodyFault
+    ensures memory { fault ≡ CheckFault.NoMemory → result ≡ BodyFault.NoMemory }
+    ensures refused { fault ≢ CheckFault.NoMemory → result ≡ BodyFault.Refused (validation.code_of fault) }
+{
+    match fault {
+        CheckFault::NoMemory => BodyFault::NoMemory,
+        _ => BodyFault::Refused(fault.code()),
+    }
+}
+
+/// The policy that a text is, whether it passes or not.
+fn policy_in(alloc: Global, text: &str) -> Result<Policy, BodyFault>
+    ensures read { IfOk result (IsPolicyText text.now) }
+    ensures refused { IfErr result (λ f. (s : StatedSchema)
+        → OrNoMemory BodyFault.NoMemory (RefusesPolicy s text.now) f) }
+{
+    match parse_policy(alloc, text) {
+        Ok(policy) => Ok(policy),
+        Err(fault) => Err(grammar_fault(fault)),
+    }
+}
+
+/// That the policy of a text passes.
+fn demand_passing(alloc: Global, schema: &Schema, policy: &Policy) -> Result<(), BodyFault>
+    ensures passes { IfOk result (λ _. Passes (schema_view schema.now) policy.now) }
+    ensures refused { IfErr result (λ f. (text : List ℕ) → IsPolicyText text policy.now
+        → OrNoMemory BodyFault.NoMemory (RefusesPolicy (schema_view schema.now) text) f) }
+{
+    match check(alloc, schema, policy) {
+        Ok(_) => Ok(()),
+        Err(fault) => Err(validation_fault(fault)),
+    }
+}
+
+/// What goes on to be kept, or the fault for which it does not.
+fn where_passing<P: Drop>(policy: P, passing: Result<(), BodyFault>) -> Result<P, BodyFault>
+    ensures { MatchResult passing (λ _. result ≡ Ok policy) (λ f. result ≡ Err f) }
+{
+    match passing {
+        Ok(()) => Ok(policy),
+        Err(cause) => Err(cause),
+    }
+}
+
+/// The policy that a text is, where it passes.
+fn passing_policy(alloc: Global, schema: &Schema, text: &str) -> Result<Policy, BodyFault>
+    ensures read { IfOk result (ReadsPolicy (schema_view schema.now) text.now) }
+    ensures refused { IfErr result (OrNoMemory BodyFault.NoMemory (RefusesPolicy (schema_view schema.now) text.now)) }
+{
+    match policy_in(alloc, text) {
+        Ok(policy) => {
+            let passing = demand_passing(alloc, schema, &policy);
+            where_passing(policy, passing)
+        }
+        Err(fault) => Err(fault),
+    }
+}
+
+/// The JSON of a text.
+fn json_in(alloc: Global, text: &str) -> Result<Value, BodyFault>
+    ensures { Gives BodyFault.NoMemory view result (or_fault (BodyFault.Refused 30) (json_of text.now)) }
+{
+    match read_json(alloc, text.as_bytes())? {
+        Some(json) => Ok(json),
+        None => Err(BodyFault::Refused(30)),
+    }
+}
+
+/// The entity that JSON states, or its fault by number.
+fn allowed_entity(alloc: Global, schema: &Schema, json: &Value) -> Result<Entity, BodyFault>
+    ensures { Gives BodyFault.NoMemory (λ e. e) result
+        (refused_by (entity_in (schema_view schema.now) (view json.now))) }
+{
+    match read_entity(alloc, schema, json) {
+        Ok(entity) => Ok(entity),
+        Err(EntityFault::NoMemory) => Err(BodyFault::NoMemory),
+        Err(fault) => Err(BodyFault::Refused(fault.code())),
+    }
+}
+
+/// That a text is the canonical one of an entity.
+fn demand_canonical(alloc: Global, entity: &Entity, text: &str) -> Result<(), BodyFault>
+    ensures { Gives BodyFault.NoMemory (λ u. u) result
+        (demand (BodyFault.Refused 57) (bytes_eq (canonical_text entity.now) text.now)) }
+{
+    let canonical = canonical_text(alloc, entity)?;
+    if canonical.as_slice() == text.as_bytes() {
+        Ok(())
+    } else {
+        Err(BodyFault::Refused(57))
+    }
+}
+
+/// That an entity is of this uid.
+fn demand_uid(entity: &Entity, uid: &EntityUid) -> Result<(), BodyFault>
+    ensures { GivesAlways (λ u. u) result (demand BodyFault.OtherName (is_same entity.now.uid uid.now)) }
+{
+    if entity.uid == *uid {
+        Ok(())
+    } else {
+        Err(BodyFault::OtherName)
+    }
+}
+
+/// The entity whose canonical text this is.
+#[tactic(auto, unfolding(crate::specs::Texts::entity_of_text))]
+fn canonical_entity(
+    alloc: Global,
+    schema: &Schema,
+    uid: &EntityUid,
+    text: &str,
+) -> Result<Entity, BodyFault>
+    ensures { Gives BodyFault.NoMemory (λ e. e) result (entity_of_text (schema_view schema.now) uid.now text.now) }
+{
+    let json = json_in(alloc, text)?;
+    let entity = allowed_entity(alloc, schema, &json)?;
+    demand_canonical(alloc, &entity, text)?;
+    demand_uid(&entity, uid)?;
+    Ok(entity)
+}
+
+impl Bodies<Policy, Entity> for SchemaTexts<'_> {
+    ghost refuses_policy = { λ t _ text f. RefusesPolicy (schema_view t.schema.now) text f };
+
+    ghost refuses_entity = { λ t uid text f. RefusesEntity (schema_view t.schema.now) uid text f };
+
+    fn read_policy(&self, alloc: Global, _id: &str, text: &str) -> Result<Policy, BodyFault> {
+        passing_policy(alloc, self.schema, text)
+    }
+
+    fn read_entity(&self, alloc: Global, uid: &EntityUid, text: &str) -> Result<Entity, BodyFault> {
+        canonical_entity(alloc, self.schema, uid, text)
+    }
+
+    fn texts_have_one_outcome(&self) {
+        stored_texts_have_one_reading();
+    }
+}

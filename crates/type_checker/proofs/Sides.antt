@@ -1,0 +1,24 @@
+-- What `||` learns, by the type of its right.
+use Rattle.std.proofs.Common.{◌≡◌, List, [], sym, subst}
+use Rattle.typing.specs.Types as types
+use Rattle.typing.specs.Learned as learned
+use Rattle.typing.specs.Learned.{Pairs, InBoth}
+use Rattle.static_types.specs.Views.{boolean_view}
+use Rattle.static_types.specs.declared.static_type.BooleanType.{BooleanType}
+use Rattle.static_types.specs.declared.static_type.BooleanType.TheVariants as truth
+use Rattle.type_checker.specs.declared.known.Pair.{Pair}
+use Rattle.type_checker.specs.inner.Pairs.{pairs}
+
+pub or_none : {b : BooleanType} {L M : Pairs} {ps : List Pair} → b ≡ truth.True → ps ≡ []
+    → learned.OrLearns (boolean_view b) L M (pairs ps)
+or_none {b} {L} {M} {ps} e f =
+    subst (λ c. learned.OrLearns (boolean_view c) L M (pairs ps)) (sym e)
+    (subst (λ qs. learned.OrLearns types.true_type L M (pairs qs)) (sym f) learned.or_learns_none)
+
+pub or_left : {b : BooleanType} {L M : Pairs} → b ≡ truth.False → learned.OrLearns (boolean_view b) L M L
+or_left {b} {L} {M} e = subst (λ c. learned.OrLearns (boolean_view c) L M L) (sym e) learned.or_learns_left
+
+pub or_both : {b : BooleanType} {L M N : Pairs} → b ≡ truth.Either → InBoth L M N
+    → learned.OrLearns (boolean_view b) L M N
+or_both {b} {L} {M} {N} e h =
+    subst (λ c. learned.OrLearns (boolean_view c) L M N) (sym e) (learned.or_learns_both h)

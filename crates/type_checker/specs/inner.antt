@@ -1,0 +1,4 @@
+pub mod Joining
+pub mod Judged
+pub mod Literals
+pub mod Pairs

@@ -1,0 +1,11 @@
+-- The literal that a borrowed one is.
+use Rattle.expressions.specs.declared.leaf.Literal.{Literal}
+use Rattle.expressions.specs.declared.leaf.Literal.TheVariants as literal
+use Rattle.type_checker.specs.declared.literals.LiteralRef.{LiteralRef}
+use Rattle.type_checker.specs.declared.literals.LiteralRef.TheVariants.{Boolean, Long, Text, Entity}
+
+abbrev pub literal_of : LiteralRef → Literal
+literal_of (Boolean b) = literal.Boolean b
+literal_of (Long z) = literal.Long z
+literal_of (Text t) = literal.Text t.now
+literal_of (Entity u) = literal.Entity u.now

@@ -1,0 +1,79 @@
+//! The types of calls with one operand.
+ghost use Rattle.std.specs.Prelude.{◌≡◌, ◌≢◌, ◌↔◌, ℕ, List, IsTrue, MatchOption, MatchResult, true, false};
+ghost use Rattle.expressions.specs.declared.leaf.Literal.TheVariants as literal;
+ghost use Rattle.expressions.specs.declared.operator.UnaryCall.TheVariants as unary_call;
+ghost use Rattle.expressions.specs.declared.expr.Expr.TheVariants as form;
+ghost use Rattle.typing.specs.Types as types;
+ghost use Rattle.typing.specs.Literals.{ReadsLiteral};
+ghost use Rattle.static_types.specs.Views.{static_view, leaf_view};
+ghost use Rattle.type_checker.specs.inner.Judged.{CallTyped};
+
+use expressions::{Expr, Literal, UnaryCall};
+use extensions::{Decimal, IpNet};
+use plain::Text;
+use static_types::{Leaf, StaticType, TypeFault, address_test_type};
+
+/// The text that an expression is a literal of.
+fn as_text(expr: &Expr) -> Option<&Text>
+    ensures { MatchOption result ((t : List ℕ) → expr.now ≢ form.Literal (literal.Text t))
+        (λ t. expr.now ≡ form.Literal (literal.Text t.now)) }
+{
+    match expr {
+        Expr::Literal(Literal::Text(content)) => Some(content),
+        _ => None,
+    }
+}
+
+/// Whether an expression is a literal of a decimal's text.
+fn is_decimal(expr: &Expr) -> bool
+    ensures { IsTrue result ↔ ReadsLiteral unary_call.Decimal expr.now types.decimal_type }
+{
+    match as_text(expr) {
+        Some(text) => match Decimal::parse(text.as_str()) {
+            Some(_) => true,
+            None => false,
+        },
+        None => false,
+    }
+}
+
+/// Whether an expression is a literal of an address's text.
+fn is_network(expr: &Expr) -> bool
+    ensures { IsTrue result ↔ ReadsLiteral unary_call.Ip expr.now types.ipaddr_type }
+{
+    match as_text(expr) {
+        Some(text) => match IpNet::parse(text.as_str()) {
+            Some(_) => true,
+            None => false,
+        },
+        None => false,
+    }
+}
+
+/// A type where the operand is a literal of its extension.
+fn if_literal<'a>(is_literal: bool, leaf: Leaf<'a>) -> Result<StaticType<'a>, TypeFault>
+    ensures { MatchResult result (λ t. (is_literal ≡ true) × (static_view t ≡ leaf_view leaf.entry))
+        (λ f. (is_literal ≡ false) × (f ≡ TypeFault.BadExtensionLiteral)) }
+{
+    if is_literal {
+        Ok(StaticType::Leaf(leaf))
+    } else {
+        Err(TypeFault::BadExtensionLiteral)
+    }
+}
+
+/// The type of a call, by its operand and the operand's type.
+pub(crate) fn unary_call_type<'a>(
+    called: UnaryCall,
+    operand: &Expr,
+    kind: StaticType<'a>,
+) -> Result<StaticType<'a>, TypeFault>
+    ensures { CallTyped called operand.now (static_view kind.entry) result }
+{
+    match called {
+        UnaryCall::Ip => if_literal(is_network(operand), Leaf::Ipaddr),
+        UnaryCall::Decimal => if_literal(is_decimal(operand), Leaf::Decimal),
+        UnaryCall::IsIpv4 | UnaryCall::IsIpv6 | UnaryCall::IsLoopback | UnaryCall::IsMulticast =>
+            address_test_type(kind),
+    }
+}

@@ -1,0 +1,83 @@
+//! Expressions that are joined by `&&`, to the right: one part after the other.
+ghost use Rattle.std.specs.Prelude.{◌≡◌, ◌≢◌, ◌++◌, Some, option_map, MatchResult};
+ghost use Rattle.expressions.specs.declared.expr.Expr.{Expr};
+ghost use Rattle.expressions.specs.declared.expr.Expr.TheVariants as form;
+ghost use Rattle.typing.specs.Types.{IsBoolean};
+ghost use Rattle.typing.specs.Learned.{Pairs};
+ghost use Rattle.typing.specs.Typing.{Types};
+ghost use Rattle.typing.specs.Faults.{Faults};
+ghost use Rattle.static_types.specs.Views.{boolean_view, static_view, fault_view, typing_environment};
+ghost use Rattle.type_checker.specs.inner.Pairs.{pairs};
+ghost use Rattle.type_checker.specs.inner.Joining.{and_so_far, IsSide};
+
+use crate::finishing::and_truth;
+use crate::judging::type_of;
+use crate::known::{Pair, know_too};
+use crate::typed::Typed;
+use expressions::Expr;
+use static_types::{BooleanType, StaticType, TypeFault, TypingEnvironment};
+use std::alloc::Global;
+
+/// Which type of booleans a left of `&&` has; what it learns is put on top of what is known.
+fn known_left<'a>(known: &mut Vec<Pair<'a>>, typed: &Typed<'a>) -> Result<BooleanType, TypeFault>
+    ensures { MatchResult result
+        (λ b. (static_view typed.now.kind ≡ boolean_view b)
+        × (known.new.items ≡ known.old.items ++ typed.now.learns.items))
+        (λ f. f ≢ TypeFault.NoMemory → (f ≡ TypeFault.Unexpected) × ¬ IsBoolean (static_view typed.now.kind)) }
+{
+    match typed.kind.as_boolean() {
+        Some(truth) => match know_too(known, &typed.learns) {
+            Ok(()) => Ok(truth),
+            Err(_) => Err(TypeFault::NoMemory),
+        },
+        None => Err(TypeFault::Unexpected),
+    }
+}
+
+/// Which type of booleans a left of `&&` has where these pairs are known; what it learns is put on top of them.
+pub(crate) fn left_type<'a>(
+    alloc: Global,
+    env: TypingEnvironment<'a>,
+    left: &'a Expr,
+    known: &mut Vec<Pair<'a>>,
+) -> Result<BooleanType, TypeFault>
+    ensures { let E = typing_environment env.entry in MatchResult result
+        (λ b. (L : Pairs) × Types E (pairs known.old.items) left.entry.now (boolean_view b) L
+        × (pairs known.new.items ≡ pairs known.old.items ++ L))
+        (λ f. f ≢ TypeFault.NoMemory
+        → (b : Expr) → Faults E (pairs known.old.items) (form.And left.entry.now b) (fault_view f)) }
+{
+    match type_of(alloc, left, env, known) {
+        Ok(typed) => known_left(known, &typed),
+        Err(fault) => Err(fault),
+    }
+}
+
+/// The type of the parts so far, with one more behind them.
+pub(crate) fn and_one_more(so_far: Option<BooleanType>, truth: BooleanType) -> Option<BooleanType>
+    ensures { option_map boolean_view result
+        ≡ Some (and_so_far (option_map boolean_view so_far) (boolean_view truth)) }
+{
+    match so_far {
+        Some(left) => Some(and_truth(left, truth)),
+        None => Some(truth),
+    }
+}
+
+/// The type of the parts with the last one, by the types of both.
+pub(crate) fn and_last<'a>(
+    so_far: Option<BooleanType>,
+    last: StaticType<'a>,
+) -> Result<StaticType<'a>, TypeFault>
+    ensures { let s = option_map boolean_view so_far in MatchResult result
+        (λ t. IsSide s (static_view last.entry) × (static_view t ≡ and_so_far s (static_view last.entry)))
+        (λ f. (f ≡ TypeFault.Unexpected) × ¬ IsSide s (static_view last.entry)) }
+{
+    match so_far {
+        Some(left) => match last.as_boolean() {
+            Some(truth) => Ok(StaticType::boolean(and_truth(left, truth))),
+            None => Err(TypeFault::Unexpected),
+        },
+        None => Ok(last),
+    }
+}

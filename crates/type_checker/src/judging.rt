@@ -1,0 +1,322 @@
+//! The recursion over an expression.
+ghost use Rattle.std.specs.Prelude.{◌≡◌, map};
+ghost use Rattle.expressions.specs.declared.expr.Expr.{Expr};
+ghost use Rattle.expressions.specs.declared.expr.Expr.TheVariants as form;
+ghost use Rattle.typing.specs.Learned.{Pairs};
+ghost use Rattle.typing.specs.Literals.{IsUnsettled};
+ghost use Rattle.static_types.specs.Views.{typing_environment};
+ghost use Rattle.type_checker.specs.inner.Pairs.{pairs};
+ghost use Rattle.type_checker.specs.inner.Judged.{Judged, JudgedBehind, JudgedEach, ThenJudged};
+
+use crate::finishing::{
+    and_typed, binary_typed, branches, call_typed, field_typed, has_typed, or_behind_false,
+    or_typed, put_type, record_typed, set_typed, unary_call_typed, unary_typed,
+};
+use crate::known::{Pair, forget_above, know_too};
+use crate::literals::settled;
+use crate::typed::{Then, Typed, both, is_looked_at, learned_too, only, plain, truth_type};
+use expressions::{Binary, BinaryCall, Expr, Named};
+use plain::{Items, Shared};
+use static_types::{BooleanType, StaticType, TypeFault, TypingEnvironment, literal_type};
+use std::alloc::Global;
+
+/// What is judged of an expression where these pairs are known. They are a stack, which is as it was wherever there is
+/// a type.
+#[cycle(judge)]
+pub(crate) fn type_of<'a>(
+    alloc: Global,
+    expr: &'a Expr,
+    env: TypingEnvironment<'a>,
+    known: &mut Vec<Pair<'a>>,
+) -> Result<Typed<'a>, TypeFault>
+    ensures { Judged (typing_environment env.entry) (pairs known.old.items) expr.entry.now result
+        (pairs known.new.items) }
+{
+    match expr {
+        Expr::Literal(literal) => Ok(plain(alloc, literal_type(literal))),
+        Expr::Variable(variable) => Ok(plain(alloc, env.variable_type(*variable))),
+        Expr::If(test, consequent, alternative) => {
+            let test = type_of(alloc, test.get(), env, known);
+            let then = type_then(alloc, consequent, env, known, test);
+            type_else(alloc, alternative, env, known, then)
+        }
+        Expr::And(left, right) => {
+            let left = type_of(alloc, left.get(), env, known);
+            second_conjunct(alloc, right, env, known, left)
+        }
+        Expr::Or(left, right) => {
+            let left = type_of(alloc, left.get(), env, known);
+            second_disjunct(alloc, right, env, known, left)
+        }
+        Expr::Unary(operator, operand) => {
+            let operand = type_of(alloc, operand.get(), env, known);
+            unary_typed(alloc, operator, operand)
+        }
+        Expr::Binary(operator, left, right) => {
+            match settled(env, *operator, left.get(), right.get()) {
+                Some(truth) => Ok(plain(alloc, StaticType::boolean(truth_type(truth)))),
+                None => {
+                    let left = type_of(alloc, left.get(), env, known);
+                    second_operand(alloc, right, env, known, *operator, left)
+                }
+            }
+        }
+        Expr::Field(owner, name) => {
+            let typed = type_of(alloc, owner.get(), env, known);
+            field_typed(alloc, env, known, owner.get(), name.as_str(), typed)
+        }
+        Expr::Has(owner, name) => {
+            let typed = type_of(alloc, owner.get(), env, known);
+            has_typed(alloc, env, known, owner.get(), name.as_str(), typed)
+        }
+        Expr::Set(members) => {
+            let types = types_of(alloc, members, env, known);
+            set_typed(alloc, types)
+        }
+        Expr::Record(fields) => {
+            let types = types_of_fields(alloc, fields, env, known);
+            record_typed(alloc, fields.as_slice(), types)
+        }
+        Expr::UnaryCall(called, operand) => {
+            let typed = type_of(alloc, operand.get(), env, known);
+            unary_call_typed(alloc, *called, operand.get(), typed)
+        }
+        Expr::BinaryCall(called, left, right) => {
+            let left = type_of(alloc, left.get(), env, known);
+            second_called(alloc, right, env, known, *called, left)
+        }
+    }
+}
+
+/// What is judged of an expression where these are known too; what it learns has them in front.
+#[cycle(judge)]
+#[inline(never)]
+fn type_behind<'a>(
+    alloc: Global,
+    expr: &'a Shared<Expr>,
+    env: TypingEnvironment<'a>,
+    known: &mut Vec<Pair<'a>>,
+    learns: Vec<Pair<'a>>,
+) -> Result<Typed<'a>, TypeFault>
+    ensures { JudgedBehind (typing_environment env.entry) (pairs known.old.items) (pairs learns.entry.items)
+        expr.entry.now result (pairs known.new.items) }
+{
+    let height = known.len();
+    match know_too(known, &learns) {
+        Ok(()) => {
+            let typed = type_of(alloc, expr.get(), env, known);
+            forget_above(known, height);
+            learned_too(learns, typed)
+        }
+        Err(_) => Err(TypeFault::NoMemory),
+    }
+}
+
+/// `&&` behind its left.
+#[cycle(judge)]
+#[inline(never)]
+fn second_conjunct<'a>(
+    alloc: Global,
+    right: &'a Shared<Expr>,
+    env: TypingEnvironment<'a>,
+    known: &mut Vec<Pair<'a>>,
+    left: Result<Typed<'a>, TypeFault>,
+) -> Result<Typed<'a>, TypeFault>
+    ensures { let E = typing_environment env.entry in
+        (K : Pairs) (a : Expr) → Judged E K a left.entry (pairs known.old.items)
+        → Judged E K (form.And a right.entry.now) result (pairs known.new.items) }
+{
+    match left {
+        Ok(left) => match left.kind.as_boolean() {
+            Some(truth) => {
+                if !is_looked_at(truth) {
+                    return Ok(plain(alloc, StaticType::boolean(BooleanType::False)));
+                }
+                let right = type_behind(alloc, right, env, known, left.learns);
+                and_typed(truth, right)
+            }
+            None => Err(TypeFault::Unexpected),
+        },
+        Err(fault) => Err(fault),
+    }
+}
+
+/// `||` behind its left.
+#[cycle(judge)]
+#[inline(never)]
+fn second_disjunct<'a>(
+    alloc: Global,
+    right: &'a Shared<Expr>,
+    env: TypingEnvironment<'a>,
+    known: &mut Vec<Pair<'a>>,
+    left: Result<Typed<'a>, TypeFault>,
+) -> Result<Typed<'a>, TypeFault>
+    ensures { let E = typing_environment env.entry in
+        (K : Pairs) (a : Expr) → Judged E K a left.entry (pairs known.old.items)
+        → Judged E K (form.Or a right.entry.now) result (pairs known.new.items) }
+{
+    match left {
+        Ok(left) => match left.kind.as_boolean() {
+            Some(BooleanType::True) => Ok(plain(alloc, StaticType::boolean(BooleanType::True))),
+            Some(BooleanType::False) => {
+                let right = type_of(alloc, right.get(), env, known);
+                or_behind_false(right)
+            }
+            Some(BooleanType::Either) => {
+                let right = type_of(alloc, right.get(), env, known);
+                or_typed(alloc, left.learns, right)
+            }
+            None => Err(TypeFault::Unexpected),
+        },
+        Err(fault) => Err(fault),
+    }
+}
+
+/// `if` behind its test.
+#[cycle(judge)]
+#[inline(never)]
+fn type_then<'a>(
+    alloc: Global,
+    consequent: &'a Shared<Expr>,
+    env: TypingEnvironment<'a>,
+    known: &mut Vec<Pair<'a>>,
+    test: Result<Typed<'a>, TypeFault>,
+) -> Result<Then<'a>, TypeFault>
+    ensures { let E = typing_environment env.entry in
+        (K : Pairs) (a : Expr) → Judged E K a test.entry (pairs known.old.items)
+        → ThenJudged E K a consequent.entry.now result (pairs known.new.items) }
+{
+    match test {
+        Ok(test) => match test.kind.as_boolean() {
+            Some(BooleanType::True) => {
+                only(type_behind(alloc, consequent, env, known, test.learns))
+            }
+            Some(BooleanType::False) => Ok(Then::Skipped),
+            Some(BooleanType::Either) => {
+                both(type_behind(alloc, consequent, env, known, test.learns))
+            }
+            None => Err(TypeFault::Unexpected),
+        },
+        Err(fault) => Err(fault),
+    }
+}
+
+/// `if` behind its `then`.
+#[cycle(judge)]
+#[inline(never)]
+fn type_else<'a>(
+    alloc: Global,
+    alternative: &'a Shared<Expr>,
+    env: TypingEnvironment<'a>,
+    known: &mut Vec<Pair<'a>>,
+    then: Result<Then<'a>, TypeFault>,
+) -> Result<Typed<'a>, TypeFault>
+    ensures { let E = typing_environment env.entry in
+        (K : Pairs) (a b : Expr) → ThenJudged E K a b then.entry (pairs known.old.items)
+        → Judged E K (form.If a b alternative.entry.now) result (pairs known.new.items) }
+{
+    match then {
+        Ok(Then::Skipped) => type_of(alloc, alternative.get(), env, known),
+        Ok(Then::Only(typed)) => Ok(typed),
+        Ok(Then::Both(typed)) => {
+            let other = type_of(alloc, alternative.get(), env, known);
+            branches(alloc, typed, other)
+        }
+        Err(fault) => Err(fault),
+    }
+}
+
+/// An operator behind its first operand.
+#[cycle(judge)]
+#[inline(never)]
+fn second_operand<'a>(
+    alloc: Global,
+    right: &'a Shared<Expr>,
+    env: TypingEnvironment<'a>,
+    known: &mut Vec<Pair<'a>>,
+    operator: Binary,
+    left: Result<Typed<'a>, TypeFault>,
+) -> Result<Typed<'a>, TypeFault>
+    ensures { let E = typing_environment env.entry in
+        (K : Pairs) (a : Expr) → IsUnsettled E operator a right.entry.now
+        → Judged E K a left.entry (pairs known.old.items)
+        → Judged E K (form.Binary operator a right.entry.now) result (pairs known.new.items) }
+{
+    match left {
+        Ok(left) => {
+            let right = type_of(alloc, right.get(), env, known);
+            binary_typed(alloc, env, operator, left, right)
+        }
+        Err(fault) => Err(fault),
+    }
+}
+
+/// A method of an extension behind its receiver.
+#[cycle(judge)]
+#[inline(never)]
+fn second_called<'a>(
+    alloc: Global,
+    right: &'a Shared<Expr>,
+    env: TypingEnvironment<'a>,
+    known: &mut Vec<Pair<'a>>,
+    called: BinaryCall,
+    left: Result<Typed<'a>, TypeFault>,
+) -> Result<Typed<'a>, TypeFault>
+    ensures { let E = typing_environment env.entry in
+        (K : Pairs) (a : Expr) → Judged E K a left.entry (pairs known.old.items)
+        → Judged E K (form.BinaryCall called a right.entry.now) result (pairs known.new.items) }
+{
+    match left {
+        Ok(left) => {
+            let right = type_of(alloc, right.get(), env, known);
+            call_typed(alloc, called, left, right)
+        }
+        Err(fault) => Err(fault),
+    }
+}
+
+/// The types of the members of a set.
+#[cycle(judge)]
+#[inline(never)]
+fn types_of<'a>(
+    alloc: Global,
+    exprs: &'a Items<Expr>,
+    env: TypingEnvironment<'a>,
+    known: &mut Vec<Pair<'a>>,
+) -> Result<Vec<StaticType<'a>>, TypeFault>
+    ensures { JudgedEach (typing_environment env.entry) (pairs known.old.items) exprs.entry.now result
+        (pairs known.new.items) }
+{
+    let mut types = Vec::new(alloc);
+    for expr in exprs.as_slice() {
+        let typed = type_of(alloc, expr, env, known);
+        match put_type(&mut types, typed) {
+            Ok(()) => {}
+            Err(fault) => return Err(fault),
+        }
+    }
+    Ok(types)
+}
+
+/// The types of the fields of a record, in the order in which they are written.
+#[cycle(judge)]
+#[inline(never)]
+fn types_of_fields<'a>(
+    alloc: Global,
+    fields: &'a Items<Named<Expr>>,
+    env: TypingEnvironment<'a>,
+    known: &mut Vec<Pair<'a>>,
+) -> Result<Vec<StaticType<'a>>, TypeFault>
+    ensures { JudgedEach (typing_environment env.entry) (pairs known.old.items)
+        (map (λ f. f.value) fields.entry.now) result (pairs known.new.items) }
+{
+    let mut types = Vec::new(alloc);
+    for field in fields.as_slice() {
+        let typed = type_of(alloc, &field.value, env, known);
+        match put_type(&mut types, typed) {
+            Ok(()) => {}
+            Err(fault) => return Err(fault),
+        }
+    }
+    Ok(types)
+}

@@ -1,0 +1,14 @@
+//! What type an expression has under the strict validator's rules, or why it has none.
+#![tactic(auto)]
+
+mod calls;
+mod equal;
+mod finishing;
+mod joining;
+mod judging;
+mod known;
+mod literals;
+mod typed;
+mod whole;
+
+pub use whole::{judge, judge_all};

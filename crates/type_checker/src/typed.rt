@@ -1,0 +1,104 @@
+//! What is judged of an expression, while it is judged.
+ghost use Rattle.std.specs.Prelude.{◌≡◌, ◌≢◌, ◌↔◌, ◌++◌, [], IsTrue, Ok, Err, MatchResult};
+ghost use Rattle.typing.specs.Types as types;
+ghost use Rattle.typing.specs.Rows.{MayBeTrue};
+ghost use Rattle.static_types.specs.Views.{boolean_view};
+ghost use Rattle.static_types.specs.declared.fault.TypeFault.TheVariants.{NoMemory};
+ghost use Rattle.type_checker.specs.inner.Judged.{IsRow, AddsLearned, IsBranch};
+
+use crate::known::{Pair, know_too};
+use static_types::{BooleanType, StaticType, TypeFault};
+use std::alloc::Global;
+
+/// The type of an expression, and what it learns.
+#[derive(Drop)]
+pub(crate) struct Typed<'a> {
+    pub(crate) kind: StaticType<'a>,
+    pub(crate) learns: Vec<Pair<'a>>,
+}
+
+/// What an `if` has come to behind its `then`.
+#[derive(Drop)]
+pub(crate) enum Then<'a> {
+    /// The test is False: only `else` is looked at.
+    Skipped,
+    /// The test is True: only `then` is. It learns what both do.
+    Only(Typed<'a>),
+    /// Both branches are looked at.
+    Both(Typed<'a>),
+}
+
+/// The type of an answer that is known.
+pub(crate) fn truth_type(truth: bool) -> BooleanType
+    ensures { boolean_view result ≡ types.truth_type truth }
+{
+    if truth {
+        BooleanType::True
+    } else {
+        BooleanType::False
+    }
+}
+
+/// Whether what stands behind a left of `&&` is looked at: where that may be true.
+pub(crate) fn is_looked_at(left: BooleanType) -> bool
+    ensures { IsTrue result ↔ MayBeTrue (boolean_view left) }
+{
+    left.may_be_true()
+}
+
+/// A type, of what learns nothing.
+pub(crate) fn plain<'a>(alloc: Global, kind: StaticType<'a>) -> Typed<'a>
+    ensures kind { result.kind ≡ kind.entry }
+    ensures learns { result.learns.items ≡ [] }
+{
+    Typed {
+        kind,
+        learns: Vec::new(alloc),
+    }
+}
+
+/// The type of a row, of what learns nothing.
+pub(crate) fn typed_row<'a>(
+    alloc: Global,
+    row: Result<StaticType<'a>, TypeFault>,
+) -> Result<Typed<'a>, TypeFault>
+    ensures { IsRow row.entry result }
+{
+    match row {
+        Ok(kind) => Ok(plain(alloc, kind)),
+        Err(fault) => Err(fault),
+    }
+}
+
+/// What learns these pairs too, before its own.
+pub(crate) fn learned_too<'a>(
+    learns: Vec<Pair<'a>>,
+    typed: Result<Typed<'a>, TypeFault>,
+) -> Result<Typed<'a>, TypeFault>
+    ensures { AddsLearned learns.entry.items typed.entry result }
+{
+    let Typed { kind, learns: own } = typed?;
+    let mut learns = learns;
+    know_too(&mut learns, &own)?;
+    Ok(Typed { kind, learns })
+}
+
+/// The only branch.
+pub(crate) fn only<'a>(typed: Result<Typed<'a>, TypeFault>) -> Result<Then<'a>, TypeFault>
+    ensures { IsBranch (λ t. Then.Only t) typed.entry result }
+{
+    match typed {
+        Ok(typed) => Ok(Then::Only(typed)),
+        Err(fault) => Err(fault),
+    }
+}
+
+/// The first branch of two.
+pub(crate) fn both<'a>(typed: Result<Typed<'a>, TypeFault>) -> Result<Then<'a>, TypeFault>
+    ensures { IsBranch (λ t. Then.Both t) typed.entry result }
+{
+    match typed {
+        Ok(typed) => Ok(Then::Both(typed)),
+        Err(fault) => Err(fault),
+    }
+}

@@ -1,0 +1,44 @@
+-- What is read under a schema is of the types that the schema declares.
+-- Source: cedar-spec, cedar-lean/Cedar/Validation/RequestEntityValidator.lean (`instanceOfType`,
+-- `instanceOfEntitySchema`, `instanceOfRequestType`).
+use Rattle.std.specs.Prelude.{◌≡◌, List, Contains, Ok}
+use Rattle.serde_json.specs.Data.{Data}
+use Rattle.values.specs.declared.request.Request.{Request}
+use Rattle.values.specs.Fields.{Field}
+use Rattle.values.specs.Values.{PlainValue, record_of, fields_of}
+use Rattle.schema_types.specs.Cedar.{Cedar}
+use Rattle.schema.specs.Schemas.{EnvironmentOf, StatedSchema}
+use Rattle.typed_values.specs.Typing.{typed, record_in}
+use Rattle.entities.specs.declared.entity.Entity.{Entity}
+use Rattle.entities.specs.Entities.{entity_in}
+use Rattle.entities.specs.Requests.{StatesRequest}
+use Rattle.typing.specs.Types.{record_type}
+use Rattle.typing.specs.Environment.{Environment}
+use Rattle.typing.specs.Membership.{Of}
+use Rattle.static_types.specs.FromSchemas.{static, fields_in, attributes_of, environment_of}
+
+-- what JSON is read as by a type is of that type
+abbrev pub ValuesAreOfTheirTypes : Type 0
+ValuesAreOfTheirTypes = (t : Cedar) (d : Data) (v : PlainValue) → typed t d ≡ Ok v → Of v (static t)
+
+-- so it is of the fields of a record: each required one is there, and none that is not declared
+abbrev pub RecordsAreOfTheirTypes : Type 0
+RecordsAreOfTheirTypes = (t : Cedar) (d : Data) (fs : List Field) → record_in t d ≡ Ok fs
+    → Of (record_of (fields_of fs)) (record_type (fields_in t))
+
+-- the attributes of an entity are those of its type
+abbrev pub EntitiesAreOfTheirTypes : Type 0
+EntitiesAreOfTheirTypes = (s : StatedSchema) (d : Data) (e : Entity) → entity_in s d ≡ Ok e
+    → Of (record_of (fields_of e.attrs)) (record_type (attributes_of s e.uid.type_name))
+
+-- the request is of the environment's kind
+pub record IsOfKind (env : Environment) (q : Request) : Type 0 where
+  pub principal : q.principal.type_name ≡ env.principal
+  pub action : q.action ≡ env.action
+  pub resource : q.resource.type_name ≡ env.resource
+  pub context : Of (record_of (fields_of q.context)) (record_type env.context)
+
+-- a request is of one of the schema's environments
+abbrev pub RequestsAreOfAnEnvironment : Type 0
+RequestsAreOfAnEnvironment = (s : StatedSchema) (d : Data) (q : Request) → StatesRequest s d q
+    → (e : EnvironmentOf) × Contains s.environments e × IsOfKind (environment_of s e) q

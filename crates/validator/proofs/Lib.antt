@@ -1,0 +1,5 @@
+pub mod CheckLemmas
+pub mod JudgeLemmas
+pub mod KnownLemmas
+pub mod OutcomeLemmas
+pub mod WalkLemmas

@@ -1,0 +1,14 @@
+use Rattle.std.proofs.Common.{Bool, true, Result, drop}
+use Rattle.schema.specs.Views.{schema_view}
+use Rattle.policy_grammar.specs.Whole.{expression_of}
+use Rattle.validator.specs.declared.fault.CheckFault.{CheckFault}
+use Rattle.validator.specs.inner.Checking.{typed_in, AreJudged}
+use Rattle.validator.proofs.checking.is_false_everywhere.Given as goal
+
+-- what is left to judge, with what is known so far, comes to what all come to
+abbrev pub invariant-loop-environment : goal.invariant-loop-environment
+invariant-loop-environment l =
+    let x = expression_of l.policy in
+    let s = schema_view l.schema in
+    (r : Result Bool CheckFault) → AreJudged x l.all_false (typed_in s (drop l.environment-index l.environments)) r
+    → AreJudged x true (typed_in s l.environments) r

@@ -1,0 +1,6 @@
+use Rattle.std.proofs.Common.{◌≡◌, map, take}
+use Rattle.policy_grammar.specs.Whole.{entity_literal}
+use Rattle.validator.proofs.scope.entity_literals.Given as goal
+
+abbrev pub invariant-loop-uid : goal.invariant-loop-uid
+invariant-loop-uid l = l.literals.items ≡ map entity_literal (take l.uid-index l.uids)

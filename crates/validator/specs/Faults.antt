@@ -1,0 +1,36 @@
+-- The refusals by number, which are a rule of this product, and those of typing among them.
+use Rattle.std.specs.Prelude.{ℕ}
+use Rattle.typing.specs.Environment as typing
+use Rattle.static_types.specs.declared.fault.TypeFault.{TypeFault}
+use Rattle.static_types.specs.declared.fault.TypeFault.TheVariants as found
+use Rattle.validator.specs.declared.fault.CheckFault.{CheckFault}
+use Rattle.validator.specs.declared.fault.CheckFault.TheVariants.{NoMemory, UnknownType, UnknownAction, Unexpected}
+use Rattle.validator.specs.declared.fault.CheckFault.TheVariants.{NoCommonType, AttributeMayBeMissing, EmptySet}
+use Rattle.validator.specs.declared.fault.CheckFault.TheVariants.{BadExtensionLiteral}
+
+abbrev pub code_of : CheckFault → ℕ
+code_of NoMemory = 1
+code_of UnknownType = 40
+code_of UnknownAction = 41
+code_of Unexpected = 42
+code_of NoCommonType = 43
+code_of AttributeMayBeMissing = 44
+code_of EmptySet = 45
+code_of BadExtensionLiteral = 46
+
+-- that an expression has no type
+abbrev pub of_typing : typing.TypeFault → CheckFault
+of_typing typing.unexpected = Unexpected
+of_typing typing.no_common_type = NoCommonType
+of_typing typing.attribute_may_be_missing = AttributeMayBeMissing
+of_typing typing.empty_set = EmptySet
+of_typing typing.bad_extension_literal = BadExtensionLiteral
+
+-- what typing tells
+abbrev pub of_types : TypeFault → CheckFault
+of_types found.NoMemory = NoMemory
+of_types found.Unexpected = Unexpected
+of_types found.NoCommonType = NoCommonType
+of_types found.AttributeMayBeMissing = AttributeMayBeMissing
+of_types found.EmptySet = EmptySet
+of_types found.BadExtensionLiteral = BadExtensionLiteral

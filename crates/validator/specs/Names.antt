@@ -1,0 +1,59 @@
+-- The names of entity types and of entities that stand in a policy, in the order of its text.
+-- Source: Cedar reference guide 4.0, "Policy validation" and "Grammar specification for Cedar policy syntax".
+-- A core expression keeps its operands in the order of the text, whatever was rewritten. Where an operand is written
+-- out twice, as `e is T in f` is `e is T && e in f`, its names stand again behind T: so the first name of some kind is
+-- the same here and in the text.
+use Rattle.std.specs.Prelude.{ℕ, List, [], ◌∷◌, ◌++◌}
+use Rattle.values.specs.declared.entity_uid.EntityUid.{EntityUid}
+use Rattle.expressions.specs.Size.{values_of}
+use Rattle.expressions.specs.declared.leaf.Literal.{Literal}
+use Rattle.expressions.specs.declared.leaf.Literal.TheVariants as literal
+use Rattle.expressions.specs.declared.operator.Unary.{Unary}
+use Rattle.expressions.specs.declared.operator.Unary.TheVariants.{Is}
+use Rattle.expressions.specs.declared.expr.Expr.{Expr}
+use Rattle.expressions.specs.declared.expr.Expr.TheOpen.{Expr-F}
+use Rattle.expressions.specs.declared.expr.Expr.TheFolds.{fold-Expr}
+use Rattle.policy_grammar.specs.declared.policy.Policy.{Policy}
+use Rattle.policy_grammar.specs.Whole.{expression_of}
+
+pub data Name : Type 0 where
+  -- the entity type behind `is`
+  tested_type : List ℕ → Name
+  -- an entity that is written out
+  entity : EntityUid → Name
+
+abbrev pub literal_names : Literal → List Name
+literal_names (literal.Entity u) = entity u ∷ []
+literal_names l = []
+
+abbrev pub operator_names : Unary → List Name
+operator_names (Is n) = tested_type n ∷ []
+operator_names op = []
+
+-- those of several parts, one after the other
+abbrev pub joined : List (List Name) → List Name
+joined [] = []
+joined (names ∷ rest) = names ++ joined rest
+
+-- the names of a form over parts that have these
+abbrev pub names_step : Expr-F (List Name) → List Name
+names_step (Expr-F.Literal l) = literal_names l
+names_step (Expr-F.Variable x) = []
+names_step (Expr-F.If a b c) = a ++ (b ++ c)
+names_step (Expr-F.And a b) = a ++ b
+names_step (Expr-F.Or a b) = a ++ b
+names_step (Expr-F.Unary op a) = a ++ operator_names op
+names_step (Expr-F.Binary op a b) = a ++ b
+names_step (Expr-F.Field a k) = a
+names_step (Expr-F.Has a k) = a
+names_step (Expr-F.Set xs) = joined xs
+names_step (Expr-F.Record fs) = joined (values_of fs)
+names_step (Expr-F.UnaryCall called a) = a
+names_step (Expr-F.BinaryCall called a b) = a ++ b
+
+abbrev pub names_in : Expr → List Name
+names_in = fold-Expr (List Name) names_step
+
+-- those of the scope's three parts, and then those of the conditions
+abbrev pub names_of : Policy → List Name
+names_of policy = names_in (expression_of policy)

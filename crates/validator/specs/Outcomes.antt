@@ -1,0 +1,52 @@
+-- That each policy comes to exactly one thing under a schema, and what is true of one that passes.
+use Rattle.std.specs.Prelude.{◌≡◌, ◌≢◌, Bool, true, [], All, Contains, Ok}
+use Rattle.values.specs.declared.entity_uid.EntityUid.{EntityUid}
+use Rattle.values.specs.declared.request.Request.{Request}
+use Rattle.values.specs.Values.{boolean}
+use Rattle.ancestor_closure.specs.Decided as hierarchy
+use Rattle.policy_grammar.specs.declared.policy.Policy.{Policy}
+use Rattle.policy_grammar.specs.Whole.{expression_of}
+use Rattle.schema.specs.Schemas.{StatedSchema}
+use Rattle.evaluator.specs.Operators.{World}
+use Rattle.evaluator.specs.Outcomes as evaluation
+use Rattle.evaluator.specs.Evaluation.{Gives}
+use Rattle.typing.specs.Types.{boolean_type}
+use Rattle.typing.specs.Environment.{Environment}
+use Rattle.typing.specs.Conforming.{Conforms, Fits}
+use Rattle.validator.specs.declared.fault.CheckFault.{CheckFault}
+use Rattle.validator.specs.Names.{names_of}
+use Rattle.validator.specs.Unknown.{IsKnown}
+use Rattle.validator.specs.Passing.{environments_of, Passes, IsImpossible, IsVerdict, IsRefused}
+
+-- it passes, possible or impossible, or it is refused
+pub data Outcome : Type 0 where
+  passes : Bool → Outcome
+  refused : CheckFault → Outcome
+
+abbrev pub ComesTo : StatedSchema → Policy → Outcome → Type 0
+ComesTo s policy (passes impossible) = IsVerdict s policy impossible
+ComesTo s policy (refused f) = IsRefused s policy f
+
+-- exactly one of these, whatever schema and policy
+abbrev pub PoliciesHaveOneOutcome : Type 0
+PoliciesHaveOneOutcome = (s : StatedSchema) (policy : Policy)
+    → (o : Outcome) × ComesTo s policy o × ((p : Outcome) → ComesTo s policy p → p ≡ o)
+
+-- what passes is not refused
+abbrev pub PassingIsNotRefused : Type 0
+PassingIsNotRefused = (s : StatedSchema) (policy : Policy) (f : CheckFault) → Passes s policy → IsRefused s policy f → ⊥
+
+-- where a schema has no environment, a policy all names of which are known passes, and is impossible
+abbrev pub NoEnvironmentIsImpossible : Type 0
+NoEnvironmentIsImpossible = (s : StatedSchema) (policy : Policy) → s.environments ≡ []
+    → All (IsKnown s) (names_of policy) → ComesTo s policy (passes true)
+
+-- A policy that passes does not go wrong: where a request and the entities conform to an environment of the schema,
+-- whatever its expression gives is a boolean, or an error because an entity is not stored or a number leaves its
+-- bounds; and where the policy is impossible, it is never true.
+abbrev pub PassingPoliciesGoRight : Type 0
+PassingPoliciesGoRight = (s : StatedSchema) (policy : Policy) → Passes s policy
+    → (W : World) (above : EntityUid → EntityUid → Bool) → hierarchy.Decides W.parents above
+    → (env : Environment) → Contains (environments_of s) env → (q : Request) → Conforms env W q
+    → (r : evaluation.Outcome) → Gives W q (expression_of policy) r
+    → Fits boolean_type r × (IsImpossible s policy → r ≢ Ok (boolean true))

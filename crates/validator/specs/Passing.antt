@@ -1,0 +1,61 @@
+-- Whether a policy passes under a schema, whether it can never be true, and why it is refused.
+-- Source: Cedar reference guide 4.0, "Policy validation" (strict mode); cedar-spec,
+-- cedar-lean/Cedar/Validation/Validator.lean (`typecheckPolicyWithEnvironments`). Rules of this
+-- product: names go before types, and the first environment that has a fault tells it. A policy that is False in each
+-- environment passes, and is noted as impossible; where a schema has no environment, so is each policy all names of
+-- which are known.
+use Rattle.std.specs.Prelude.{◌↔◌, List, [], ◌∷◌, map, All, Bool, IsTrue}
+use Rattle.expressions.specs.declared.expr.Expr.{Expr}
+use Rattle.policy_grammar.specs.declared.policy.Policy.{Policy}
+use Rattle.policy_grammar.specs.Whole.{expression_of}
+use Rattle.schema.specs.Schemas.{StatedSchema}
+use Rattle.typing.specs.Types.{StaticType, false_type, IsBoolean}
+use Rattle.typing.specs.Environment.{Environment, TypeFault}
+use Rattle.typing.specs.Learned.{Pairs}
+use Rattle.typing.specs.Typing.{Types}
+use Rattle.typing.specs.Faults.{Faults}
+use Rattle.static_types.specs.FromSchemas.{environment_of}
+use Rattle.validator.specs.declared.fault.CheckFault.{CheckFault}
+use Rattle.validator.specs.Faults.{of_typing}
+use Rattle.validator.specs.Names.{names_of}
+use Rattle.validator.specs.Unknown.{IsKnown, FirstUnknown}
+
+-- the schema's environments in order: by the action, the principal's type, the resource's type
+abbrev pub environments_of : StatedSchema → List Environment
+environments_of s = map (environment_of s) s.environments
+
+-- the expression has this type in the environment, where no pair is known
+abbrev pub HasType : Expr → StaticType → Environment → Type 0
+HasType x t env = (L : Pairs) × Types env [] x t L
+
+-- a boolean type: True, False or Bool
+abbrev pub HasBooleanType : Expr → Environment → Type 0
+HasBooleanType x env = (t : StaticType) × IsBoolean t × HasType x t env
+
+-- the first of these environments in which the expression has no type, and why
+pub data FirstFaulty (x : Expr) : List Environment → TypeFault → Type 0 where
+  faulty_here : {env : Environment} {envs : List Environment} {n : TypeFault} → Faults env [] x n
+      → FirstFaulty x (env ∷ envs) n
+  faulty_later : {env : Environment} {envs : List Environment} {n : TypeFault} → HasBooleanType x env
+      → FirstFaulty x envs n → FirstFaulty x (env ∷ envs) n
+
+-- all names of the policy are known, and it has a boolean type in each environment
+pub record Passes (s : StatedSchema) (policy : Policy) : Type 0 where
+  pub known : All (IsKnown s) (names_of policy)
+  pub typed : All (HasBooleanType (expression_of policy)) (environments_of s)
+
+-- it is False in each environment
+abbrev pub IsImpossible : StatedSchema → Policy → Type 0
+IsImpossible s policy = All (HasType (expression_of policy) false_type) (environments_of s)
+
+-- what is told of a policy that passes: whether it is impossible
+pub record IsVerdict (s : StatedSchema) (policy : Policy) (told : Bool) : Type 0 where
+  pub passes : Passes s policy
+  pub impossible : IsTrue told ↔ IsImpossible s policy
+
+-- The policy is refused: the first name in the order of its text that is not known, or else, where all are known, the
+-- fault of the first environment that has one.
+pub data IsRefused (s : StatedSchema) (policy : Policy) : CheckFault → Type 0 where
+  for_name : {f : CheckFault} → FirstUnknown s (names_of policy) f → IsRefused s policy f
+  for_type : {n : TypeFault} → All (IsKnown s) (names_of policy)
+      → FirstFaulty (expression_of policy) (environments_of s) n → IsRefused s policy (of_typing n)

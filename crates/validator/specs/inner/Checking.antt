@@ -1,0 +1,49 @@
+-- A policy's expression in parts, and what its environments come to in turn.
+use Rattle.std.specs.Prelude.{◌≡◌, ◌≢◌, List, [], ◌∷◌, map, All, Bool, true, Result, Ok, Err}
+use Rattle.std.specs.Bool.{Decides}
+use Rattle.expressions.specs.declared.leaf.Variable.TheVariants.{Principal, Resource}
+use Rattle.expressions.specs.declared.expr.Expr.{Expr}
+use Rattle.policy_grammar.specs.declared.policy.Scope.{Scope}
+use Rattle.policy_grammar.specs.Whole.{entity_part, action_part}
+use Rattle.schema_parts.specs.declared.parts.Environment as given
+use Rattle.schema.specs.Schemas.{StatedSchema}
+use Rattle.schema.specs.Views.{environment_view}
+use Rattle.typing.specs.Types.{false_type}
+use Rattle.typing.specs.Environment.{Environment, TypeFault}
+use Rattle.typing.specs.Faults.{Faults}
+use Rattle.static_types.specs.FromSchemas.{environment_of}
+use Rattle.static_types.specs.declared.fault.TypeFault.{TypeFault as FoundFault}
+use Rattle.static_types.specs.declared.static_type.StaticType.{StaticType}
+use Rattle.static_types.specs.Views.{static_view}
+use Rattle.validator.specs.declared.fault.CheckFault.{CheckFault}
+use Rattle.validator.specs.declared.fault.CheckFault.TheVariants.{NoMemory}
+use Rattle.validator.specs.Faults.{of_typing, of_types}
+use Rattle.validator.specs.Passing.{HasType, HasBooleanType, FirstFaulty}
+
+-- the three parts of a scope, in order
+abbrev pub scope_parts : Scope → List Expr
+scope_parts scope =
+    entity_part Principal scope.principal ∷ action_part scope.action ∷ entity_part Resource scope.resource ∷ []
+
+-- these environments of the schema, as policies are typed in them
+abbrev pub typed_in : StatedSchema → List given.Environment → List Environment
+typed_in s ps = map (λ p. environment_of s (environment_view p)) ps
+
+-- whether a type that was found is False, or why none was
+abbrev pub TellsFalse : Result StaticType FoundFault → Result Bool CheckFault → Type 0
+TellsFalse (Ok t) (Ok b) = Decides b (static_view t ≡ false_type)
+TellsFalse (Ok t) (Err f) = ⊥
+TellsFalse (Err f) (Ok b) = ⊥
+TellsFalse (Err f) (Err g) = g ≡ of_types f
+
+-- whether the expression is False in the environment, or why it has no type there
+abbrev pub IsJudged : Environment → Expr → Result Bool CheckFault → Type 0
+IsJudged env x (Ok b) = HasBooleanType x env × Decides b (HasType x false_type env)
+IsJudged env x (Err f) = f ≢ NoMemory → (n : TypeFault) × (f ≡ of_typing n) × Faults env [] x n
+
+-- Whether it is False in each of these environments, where `before` says whether it was so in those before them; or
+-- the first fault.
+abbrev pub AreJudged : Expr → Bool → List Environment → Result Bool CheckFault → Type 0
+AreJudged x before envs (Ok b) =
+    All (HasBooleanType x) envs × Decides b ((before ≡ true) × All (HasType x false_type) envs)
+AreJudged x before envs (Err f) = f ≢ NoMemory → (n : TypeFault) × (f ≡ of_typing n) × FirstFaulty x envs n

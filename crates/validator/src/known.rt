@@ -1,0 +1,80 @@
+//! Whether a schema knows a name.
+ghost use Rattle.std.specs.Prelude.{◌≡◌, is_some};
+ghost use Rattle.schema.specs.Views.{schema_view};
+ghost use Rattle.validator.specs.inner.Walking.{is_type_of_action, is_declared_action, tested_type_told};
+ghost use Rattle.validator.specs.inner.Walking.{action_told, other_told, entity_told};
+
+use crate::fault::CheckFault;
+use schema::{Schema, stated_schemas_are_well_formed};
+use static_types::is_action_type;
+use values::{EntityUid, TypeName};
+
+fn is_entity_type(schema: &Schema, name: &TypeName) -> bool
+    ensures { result ≡ is_some ((schema_view schema.now).shape name.now) }
+{
+    match schema.entity_type(name) {
+        Some(_) => true,
+        None => false,
+    }
+}
+
+fn is_type_of_action(schema: &Schema, name: &TypeName) -> bool
+    ensures { result ≡ is_type_of_action (schema_view schema.now) name.now }
+{
+    for action in schema.actions() {
+        if action.type_name.as_str() == name.as_str() {
+            return true;
+        }
+    }
+    false
+}
+
+/// Looked up by its ancestors: just the declared actions have such.
+fn is_declared_action(schema: &Schema, uid: &EntityUid) -> bool
+    ensures { result ≡ is_declared_action (schema_view schema.now) uid.now }
+{
+    schema.is_stated();
+    stated_schemas_are_well_formed();
+    match schema.action_ancestors(uid) {
+        Some(_) => true,
+        None => false,
+    }
+}
+
+/// A type behind `is`: an entity type, or the type of an action.
+pub(crate) fn check_tested_type(schema: &Schema, name: &TypeName) -> Result<(), CheckFault>
+    ensures { result ≡ tested_type_told (schema_view schema.now) name.now }
+{
+    if is_entity_type(schema, name) || is_type_of_action(schema, name) {
+        return Ok(());
+    }
+    Err(CheckFault::UnknownType)
+}
+
+fn check_action(schema: &Schema, uid: &EntityUid) -> Result<(), CheckFault>
+    ensures { result ≡ action_told (schema_view schema.now) uid.now }
+{
+    if is_declared_action(schema, uid) {
+        return Ok(());
+    }
+    Err(CheckFault::UnknownAction)
+}
+
+fn check_other(schema: &Schema, uid: &EntityUid) -> Result<(), CheckFault>
+    ensures { result ≡ other_told (schema_view schema.now) uid.now }
+{
+    if is_entity_type(schema, &uid.type_name) {
+        return Ok(());
+    }
+    Err(CheckFault::UnknownType)
+}
+
+/// An entity that is written out: a declared action, or one of a declared type.
+pub(crate) fn check_entity(schema: &Schema, uid: &EntityUid) -> Result<(), CheckFault>
+    ensures { result ≡ entity_told (schema_view schema.now) uid.now }
+{
+    if is_action_type(&uid.type_name) {
+        return check_action(schema, uid);
+    }
+    check_other(schema, uid)
+}

@@ -1,0 +1,92 @@
+//! The walk over the names of an expression, in the order of the text.
+ghost use Rattle.std.specs.Prelude.{◌≡◌, map};
+ghost use Rattle.schema.specs.Views.{schema_view};
+ghost use Rattle.validator.specs.inner.Walking.{in_turn, literal_told, operator_told, walk, named_walk};
+ghost use Rattle.expressions.specs.Size.{values_of};
+
+use crate::fault::CheckFault;
+use crate::known::{check_entity, check_tested_type};
+use expressions::{Expr, Literal, Named, Unary};
+use plain::Shared;
+use schema::Schema;
+
+fn check_literal(schema: &Schema, literal: &Literal) -> Result<(), CheckFault>
+    ensures { result ≡ literal_told (schema_view schema.now) literal.now }
+{
+    match literal {
+        Literal::Entity(uid) => check_entity(schema, uid),
+        Literal::Boolean(_) | Literal::Long(_) | Literal::Text(_) => Ok(()),
+    }
+}
+
+fn check_operator(schema: &Schema, operator: &Unary) -> Result<(), CheckFault>
+    ensures { result ≡ operator_told (schema_view schema.now) operator.now }
+{
+    match operator {
+        Unary::Is(name) => check_tested_type(schema, name),
+        Unary::Not | Unary::Negate | Unary::Like(_) => Ok(()),
+    }
+}
+
+/// The first name of an expression that the schema does not know, whether or not the operand that it stands in is ever
+/// looked at. Takes no memory; its stack grows with the height of the expression.
+#[cycle(walk)]
+pub(crate) fn walk(schema: &Schema, expr: &Expr) -> Result<(), CheckFault>
+    ensures { result ≡ walk (schema_view schema.now) expr.now }
+{
+    match expr {
+        Expr::Literal(literal) => check_literal(schema, literal),
+        Expr::Variable(_) => Ok(()),
+        Expr::If(test, consequent, alternative) => {
+            walk(schema, test.get())?;
+            walk(schema, consequent.get())?;
+            walk(schema, alternative.get())
+        }
+        Expr::And(left, right) => {
+            walk(schema, left.get())?;
+            walk(schema, right.get())
+        }
+        Expr::Or(left, right) => {
+            walk(schema, left.get())?;
+            walk(schema, right.get())
+        }
+        Expr::Unary(operator, operand) => {
+            walk(schema, operand.get())?;
+            check_operator(schema, operator)
+        }
+        Expr::Binary(_, left, right) => {
+            walk(schema, left.get())?;
+            walk(schema, right.get())
+        }
+        Expr::Field(owner, _) => walk(schema, owner.get()),
+        Expr::Has(owner, _) => walk(schema, owner.get()),
+        Expr::Set(members) => walk_each(schema, members.as_slice()),
+        Expr::Record(fields) => walk_fields(schema, fields.as_slice()),
+        Expr::UnaryCall(_, operand) => walk(schema, operand.get()),
+        Expr::BinaryCall(_, left, right) => {
+            walk(schema, left.get())?;
+            walk(schema, right.get())
+        }
+    }
+}
+
+/// The first of several expressions in turn.
+#[cycle(walk)]
+pub(crate) fn walk_each(schema: &Schema, exprs: &[Expr]) -> Result<(), CheckFault>
+    ensures { result ≡ in_turn (map (walk (schema_view schema.now)) exprs.now) }
+{
+    for expr in exprs {
+        walk(schema, expr)?;
+    }
+    Ok(())
+}
+
+#[cycle(walk)]
+fn walk_fields(schema: &Schema, fields: &[Named<Expr>]) -> Result<(), CheckFault>
+    ensures { result ≡ in_turn (values_of (map (named_walk (schema_view schema.now)) fields.now)) }
+{
+    for field in fields {
+        walk(schema, &field.value)?;
+    }
+    Ok(())
+}
