@@ -76,7 +76,7 @@ wants "a broken policy under a schema" 1 '{"error":{"code":11,"place":24,"within
 wants "a missing schema" 3 "fault: nowhere.json" 2 check --schema nowhere.json nowhere.cedar
 printf '[{"uid":{"type":"Staff","id":"eve"},"attrs":{"ward":"north"}},{"uid":{"type":"Staff","id":"joe"}}]' >"$broken/staff.json"
 wants "an entity without its ward" 1 '{"error":{"code":34,"place":1,"within":null}}' 2 decide --schema schema.json --policies policies.cedar --entities "$broken/staff.json" --request ben_reads.json
-printf '{"principal":"Staff::\"ben\"","action":"Action::\"chart\"","resource":"Chart::\"c1\""}' >"$broken/chart.json"
+printf '%s' '{"principal":"Staff::\"ben\"","action":"Action::\"chart\"","resource":"Chart::\"c1\""}' >"$broken/chart.json"
 wants "an action that applies to nothing" 1 '{"error":{"code":39,"place":null,"within":null}}' 2 "${decide[@]}" --request "$broken/chart.json"
 
 [ $failed = 0 ] && echo "examples: as they should be"

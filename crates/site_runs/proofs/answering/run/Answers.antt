@@ -1,0 +1,54 @@
+use Rattle.std.proofs.Common.{◌≡◌, ◌+◌, ◌++◌, ◌∷◌, [], sym, ap, ◌∙◌, subst, List, length, take, arith, length-append}
+use Rattle.std.proofs.Math.Seq.{take-length}
+use Rattle.std.proofs.lemmas.List.{take_more}
+use Rattle.schema.specs.Views.{schema_view}
+use Rattle.site.specs.Seen.{schema_of, store_in}
+use Rattle.site_runs.specs.declared.input.Input.{Input}
+use Rattle.site_runs.specs.declared.reply.Reply.{Reply}
+use Rattle.site_runs.specs.Runs.{Run, Step}
+use Rattle.site_runs.proofs.RunLemmas.{AreStores, run_took, run_push, same_step}
+use Rattle.site_runs.proofs.answering.run.Goals as goal
+
+pub loop-input-preserved : goal.loop-input-preserved
+loop-input-preserved c =
+    let i = c.loop-input.invariant in
+    let inputs = c.args.inputs.now in
+    let a = schema_of c.args.site.now in
+    let n = c.args.site.now.number in
+    let s = store_in c.args.site.now in
+    let m = store_in c.loop-input.site in
+    let t = store_in c.apply-reply.new.site in
+    let replies = c.loop-input.replies.items in
+    let reply = c.apply-reply.result in
+    let items = c.in_default.ensures.items in
+    let input = c.input-item.result in
+    let step : Step a n m input reply t = same_step (schema_of c.loop-input.site) a c.loop-input.site.number n m input
+    reply t (ap schema_view i.same.0) i.same.1 c.apply-reply.ensures.step in
+    let grown = run_push a n s (take c.loop-input.input-index inputs) replies m input reply t i.run step in
+    let first : take (c.loop-input.input-index + 1) inputs ≡ take c.loop-input.input-index inputs ++ input ∷ [] =
+    take_more inputs c.loop-input.input-index input (omega arith)
+    ∙ ap (λ (x : Input). take c.loop-input.input-index inputs ++ x ∷ []) (sym c.input-item.is) in
+    record {
+      room = omega arith;
+      count = omega (arith, length-append replies (reply ∷ []), ap length items);
+      same = (c.apply-reply.ensures.same.0 ∙ i.same.0, c.apply-reply.ensures.same.1 ∙ i.same.1);
+      run = subst (λ (is : List Input). Run a n s is c.push.new.self.items t) (sym first)
+          (subst (λ (rs : List Reply). Run a n s (take c.loop-input.input-index inputs ++ input ∷ []) rs t) (sym items)
+          grown);
+    }
+
+pub returns-clause-store : goal.returns-clause-store
+returns-clause-store c =
+    let i = c.loop-input.invariant in
+    let inputs = c.args.inputs.now in
+    let a = schema_of c.args.site.now in
+    let n = c.args.site.now.number in
+    let s = store_in c.args.site.now in
+    let law : AreStores = record {
+      own = c.updates_have_one_store.ensures.own;
+      grouped = c.updates_have_one_store.ensures.grouped;
+    } in
+    let all : c.loop-input.input-index ≡ length inputs = omega arith in
+    run_took law a n s inputs c.loop-input.replies.items (store_in c.loop-input.site)
+    (subst (λ (is : List Input). Run a n s is c.loop-input.replies.items (store_in c.loop-input.site))
+    (ap (λ k. take k inputs) all ∙ take-length inputs) i.run)

@@ -1,0 +1,138 @@
+-- A run of a site: one step after another, each an input with its reply; and which updates entered its store. From
+-- these the store at the end is told without the steps between. Rules of this product: a message is refused whole or its
+-- updates are taken in order; what is refused, and what is asked, changes nothing.
+use Rattle.std.specs.Prelude.{◌≡◌, ℕ, List, [], ◌∷◌, ◌++◌, take, Option, Some, None, option_map, Result, Ok, Err}
+use Rattle.json_words.specs.Json.{json_of}
+use Rattle.policy_grammar.specs.declared.policy.Policy.{Policy}
+use Rattle.schema.specs.Schemas.{StatedSchema}
+use Rattle.entities.specs.declared.entity.Entity.{Entity}
+use Rattle.entities.specs.declared.fault.EntityFault.{EntityFault}
+use Rattle.entities.specs.Canonical.{canonical_text}
+use Rattle.stamped_store.specs.declared.entry.Stamp.{Stamp}
+use Rattle.stamped_store.specs.Deltas as deltas
+use Rattle.stamped_store.specs.Store.{Store, Update, updates, store_of, issued, policy_name, entity_name}
+use Rattle.sync_messages.specs.declared.fault.MessageFault.{MessageFault}
+use Rattle.sync_messages.specs.Summaries.{summary_text, summary_stated}
+use Rattle.state_messages.specs.declared.update.Update.{Update as SentUpdate}
+use Rattle.state_messages.specs.Messages.{state_text, delta_text, updates_stated}
+use Rattle.state_messages.specs.Updates.{IsMessage, IsRefused, shown_updates}
+use Rattle.stored_texts.specs.Texts.{RefusesPolicy, RefusesEntity}
+use Rattle.site.specs.declared.fault.SiteFault.{SiteFault}
+use Rattle.site.specs.declared.fault.SiteFault.TheVariants as fault
+use Rattle.site.specs.declared.outcome.Taken as taking
+use Rattle.site.specs.declared.outcome.Taken.TheVariants.{All, Short}
+use Rattle.site.specs.Admitted.{IsPolicyUnder, IsEntityUnder, entity_stated}
+use Rattle.site.specs.Steps.{PutsPolicy, PutsEntity, Deletes, Takes, Answers, policy_found}
+use Rattle.site_runs.specs.declared.input.Input.{Input}
+use Rattle.site_runs.specs.declared.input.Input.TheVariants as input
+use Rattle.site_runs.specs.declared.reply.Found.{Found}
+use Rattle.site_runs.specs.declared.reply.Reply.{Reply}
+use Rattle.site_runs.specs.declared.reply.Reply.TheVariants as reply
+
+-- ---- messages
+
+-- the bytes are a state or a delta of this schema, each of its updates valid
+abbrev pub IsMessageOf : StatedSchema → List ℕ → List (SentUpdate Policy Entity) → Type 0
+IsMessageOf schema bytes us = IsMessage (IsPolicyUnder schema) (IsEntityUnder schema) schema.label bytes us
+
+-- they are none, and this is the first fault, unless memory was refused
+abbrev pub IsNoMessageOf : StatedSchema → List ℕ → SiteFault → Type 0
+IsNoMessageOf schema bytes fault.NoMemory = Unit {0}
+IsNoMessageOf schema bytes (fault.Message f) =
+    IsRefused (IsPolicyUnder schema) (IsEntityUnder schema) (λ _. RefusesPolicy schema) (RefusesEntity schema)
+    schema.label bytes f
+IsNoMessageOf schema bytes _ = ⊥
+
+-- a message comes: all of its updates are taken, or the first ones, or it is refused whole
+abbrev pub TakesMessage : StatedSchema → Store → List ℕ → Result taking.Taken SiteFault → Store → Type 0
+TakesMessage schema s bytes (Ok taken) t =
+    (us : List (SentUpdate Policy Entity)) × IsMessageOf schema bytes us × Takes s (shown_updates us) taken t
+TakesMessage schema s bytes (Err f) t = IsNoMessageOf schema bytes f × (t ≡ s)
+
+-- ---- questions
+
+-- the text and the stamp of a policy, or that its id has no text
+abbrev pub Finds : Store → List ℕ → Result (Option Found) SiteFault → Type 0
+Finds s id (Ok found) = option_map (λ f. (f.text, f.stamp)) found ≡ policy_found s id
+Finds s id (Err fault.NoMemory) = Unit {0}
+Finds s id (Err _) = ⊥
+
+-- these bytes are written, but for want of memory
+abbrev pub Writes : List ℕ → Result (List ℕ) SiteFault → Type 0
+Writes bytes (Ok written) = written ≡ bytes
+Writes bytes (Err fault.NoMemory) = Unit {0}
+Writes bytes (Err _) = ⊥
+
+-- what is news to whoever has this summary
+abbrev pub WritesDelta : StatedSchema → Store → List ℕ → Result (List ℕ) SiteFault → Type 0
+WritesDelta schema s summary (Ok written) =
+    (m : deltas.Summary) × (summary_stated schema.label summary ≡ Ok m)
+    × (written ≡ delta_text schema.label (deltas.delta s m))
+WritesDelta schema s summary (Err fault.NoMemory) = Unit {0}
+WritesDelta schema s summary (Err (fault.Message f)) = summary_stated schema.label summary ≡ Err f
+WritesDelta schema s summary (Err _) = ⊥
+
+-- ---- one step
+
+-- from s, the site with number n may give this reply to the input and go on to t
+abbrev pub Step : StatedSchema → ℕ → Store → Input → Reply → Store → Type 0
+Step schema n s (input.PutPolicy id text) (reply.Put r) t = PutsPolicy schema n s id text r t
+Step schema n s (input.DeletePolicy id) (reply.Stamped r) t = Deletes n s (policy_name id) r t
+Step schema n s (input.PutEntity bytes) (reply.Stamped r) t = PutsEntity schema n s (json_of bytes) r t
+Step schema n s (input.DeleteEntity uid) (reply.Stamped r) t = Deletes n s (entity_name uid) r t
+Step schema n s (input.Take bytes) (reply.Taken r) t = TakesMessage schema s bytes r t
+Step schema n s (input.Authorize bytes) (reply.Answered r) t = Answers schema s (json_of bytes) r × (t ≡ s)
+Step schema n s (input.GetPolicy id) (reply.Found r) t = Finds s id r × (t ≡ s)
+Step schema n s input.State (reply.Written r) t = Writes (state_text schema.label s) r × (t ≡ s)
+Step schema n s input.Summary (reply.Written r) t =
+    Writes (summary_text schema.label (deltas.summary_of s)) r × (t ≡ s)
+Step schema n s (input.Delta bytes) (reply.Written r) t = WritesDelta schema s bytes r × (t ≡ s)
+Step schema n s _ _ t = ⊥
+
+-- ---- runs
+
+-- from s to t by one step for each input, each with its reply
+abbrev pub Run : StatedSchema → ℕ → Store → List Input → List Reply → Store → Type 0
+Run schema n s [] [] t = t ≡ s
+Run schema n s [] (r ∷ rs) t = ⊥
+Run schema n s (i ∷ is) [] t = ⊥
+Run schema n s (i ∷ is) (r ∷ rs) t = (m : Store) × Step schema n s i r m × Run schema n m is rs t
+
+-- the update that puts the entity that was stated, as its canonical text
+abbrev pub update_of_entity : Stamp → Result Entity EntityFault → List Update
+update_of_entity stamp (Ok e) = (entity_name e.uid, issued stamp (Some (canonical_text e))) ∷ []
+update_of_entity stamp (Err f) = []
+
+-- the updates that were stated
+abbrev pub updates_of_message : Result (List Update) MessageFault → List Update
+updates_of_message (Ok us) = us
+updates_of_message (Err f) = []
+
+-- the updates that entered by an input with this reply: what a command was given a stamp for, or a message's, all or
+-- the first k
+abbrev pub took_by : StatedSchema → Input → Reply → List Update
+took_by schema (input.PutPolicy id text) (reply.Put (Ok put)) = (policy_name id, issued put.stamp (Some text)) ∷ []
+took_by schema (input.DeletePolicy id) (reply.Stamped (Ok stamp)) = (policy_name id, issued stamp None) ∷ []
+took_by schema (input.PutEntity bytes) (reply.Stamped (Ok stamp)) =
+    update_of_entity stamp (entity_stated schema (json_of bytes))
+took_by schema (input.DeleteEntity uid) (reply.Stamped (Ok stamp)) = (entity_name uid, issued stamp None) ∷ []
+took_by schema (input.Take bytes) (reply.Taken (Ok (All k))) =
+    updates_of_message (updates_stated schema.label bytes)
+took_by schema (input.Take bytes) (reply.Taken (Ok (Short k))) =
+    take k (updates_of_message (updates_stated schema.label bytes))
+took_by schema _ _ = []
+
+-- the updates that entered in a run, in their order: by each input with its reply
+abbrev pub took : StatedSchema → List Input → List Reply → List Update
+took schema [] rs = []
+took schema (i ∷ is) [] = []
+took schema (i ∷ is) (r ∷ rs) = took_by schema i r ++ took schema is rs
+
+-- t is what a site of this schema holds after a run, us being the updates that it had and those that it took
+pub record HoldsAfter (schema : StatedSchema) (us : List Update) (t : Store) : Type 0 where
+  pub number : ℕ
+  pub first : Store
+  pub inputs : List Input
+  pub replies : List Reply
+  pub run : Run schema number first inputs replies t
+  pub all : us ≡ updates first ++ took schema inputs replies

@@ -1,0 +1,16 @@
+//! Runs of a site: what comes to it, what it answers, and what its store is after all of it.
+//!
+//! The store at the end is told without the steps between: it is that of the updates that the site had and of those
+//! that it took. So sites of one schema that took equal sets of updates hold equal stores, in whatever order, as often
+//! and in whatever groups the updates came.
+#![tactic(auto)]
+
+mod answering;
+mod input;
+mod laws;
+mod reply;
+
+pub use answering::run;
+pub use input::Input;
+pub use laws::equal_updates_leave_equal_stores;
+pub use reply::{Found, Reply};
