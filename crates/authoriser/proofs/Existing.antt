@@ -27,7 +27,7 @@ use Rattle.authoriser.specs.declared.outcome.Outcome.{Outcome}
 use Rattle.authoriser.specs.declared.outcome.Outcome.TheVariants.{Satisfied, NotSatisfied, Errs}
 use Rattle.authoriser.specs.declared.outcome.PolicyError.{PolicyError}
 use Rattle.authoriser.specs.declared.outcome.PolicyError.TheVariants.{EntityDoesNotExist, AttrDoesNotExist, TypeError, ArithBoundsError, ExtensionError}
-use Rattle.authoriser.specs.Answers.{Named, Judged, IsJudged, fault_of, ComesTo, AreJudged, answer_by, IsAnswer}
+use Rattle.authoriser.specs.Answers.{Named, PolicyOutcome, IsPolicyOutcome, fault_of, ComesTo, ArePolicyOutcomes, answer_by, IsAnswer}
 use Rattle.authoriser.specs.Laws.{OneAnswerAtMost, OneAnswerInFiniteHierarchies}
 use Rattle.plain.proofs.Members.{Contains-here, Contains-there, Contains-cases, Contains-none}
 use Rattle.authoriser.proofs.Lawful.{Determined}
@@ -97,12 +97,12 @@ module _ (W : World) (q : Request) (given : Determined W q) (memory : (x : Expr)
       at true g = (Satisfied, g)
       at false g = (NotSatisfied, g)
 
-  all_judged : (ps : List Named) → (js : List Judged) × AreJudged W q ps js
+  all_judged : (ps : List Named) → (js : List PolicyOutcome) × ArePolicyOutcomes W q ps js
   all_judged [] = ([], tt)
   all_judged (p ∷ ps) =
       let one = comes_to p.policy in
       let more = all_judged ps in
-      let is : IsJudged W q p (record { id = p.id; effect = p.policy.effect; outcome = one.0 }) = record { id = refl; effect = refl; outcome = one.1 } in
+      let is : IsPolicyOutcome W q p (record { id = p.id; effect = p.policy.effect; outcome = one.0 }) = record { id = refl; effect = refl; outcome = one.1 } in
       (record { id = p.id; effect = p.policy.effect; outcome = one.0 } ∷ more.0, (is, more.1))
 
 -- ---- the entities on cycles
@@ -153,7 +153,7 @@ module _ (parents : Parents) (stored : List EntityUid) (all : HaveAllParents par
 -- ---- an answer
 
 module _ (W : World) (q : Request) (ps : List Named) where
-  by_cycle : (xs : List EntityUid) → AreOnCycles W.parents xs → IsAscending xs → ((js : List Judged) × AreJudged W q ps js) → (a : Answer) × IsAnswer W q ps a
+  by_cycle : (xs : List EntityUid) → AreOnCycles W.parents xs → IsAscending xs → ((js : List PolicyOutcome) × ArePolicyOutcomes W q ps js) → (a : Answer) × IsAnswer W q ps a
   by_cycle [] named ascends judged = (
     answer_by judged.0,
     inr (record { acyclic = λ u above. Contains-none u ((named u).1 above); judged = judged.0; outcomes = judged.1; answer = refl }),

@@ -24,13 +24,13 @@ use Rattle.authoriser.specs.declared.outcome.PolicyError.{PolicyError}
 use Rattle.authoriser.specs.declared.outcome.PolicyError.TheVariants.{EntityDoesNotExist, AttrDoesNotExist, TypeError, ArithBoundsError, ExtensionError}
 use Rattle.authoriser.specs.declared.outcome.Outcome.{Outcome}
 use Rattle.authoriser.specs.declared.outcome.Outcome.TheVariants.{Satisfied, NotSatisfied, Errs}
-use Rattle.authoriser.specs.declared.answer.Erring.{Erring}
+use Rattle.authoriser.specs.declared.answer.ErringPolicy.{ErringPolicy}
 use Rattle.authoriser.specs.declared.answer.Decision.TheVariants.{Deny}
-use Rattle.authoriser.specs.declared.placed.Placed.{Placed}
-use Rattle.authoriser.specs.declared.placed.Standing.{Standing}
+use Rattle.authoriser.specs.declared.placed.WithAncestors.{WithAncestors}
+use Rattle.authoriser.specs.declared.placed.RequestAncestors.{RequestAncestors}
 use Rattle.authoriser.specs.declared.tally.Tally.{Tally}
 use Rattle.authoriser.specs.Scopes.{IsIn, IsEntityScopeTrue, IsActionScopeTrue, IsScopeTrue}
-use Rattle.authoriser.specs.Answers.{Named, Judged, IsJudged, AreJudged, fault_of, ComesTo, decided, answer_by, IsAnswer}
+use Rattle.authoriser.specs.Answers.{Named, PolicyOutcome, IsPolicyOutcome, ArePolicyOutcomes, fault_of, ComesTo, decided, answer_by, IsAnswer}
 use Rattle.authoriser.specs.Views.{named, IsWithin, IsPlaced, IsStanding, AreAllPlaced, AreAscending, IsTrueOf, ConditionComesTo, outcome_by, ids, faults, Counts}
 use Rattle.plain.proofs.Members.{Contains-none}
 use Rattle.authoriser.specs.Parts.{TrueScopesLeaveToConditions, OtherScopesGiveFalse}
@@ -50,7 +50,7 @@ action_scope W W' u v same over (action.In e) h = over e h
 action_scope W W' u v same over (action.InList es) h = (h.0, h.1, over h.0 h.2)
 
 -- what was looked up says who is in whom
-module _ {parents : Parents} {uid : EntityUid} {p : Placed} (placed : IsPlaced parents uid p) where
+module _ {parents : Parents} {uid : EntityUid} {p : WithAncestors} (placed : IsPlaced parents uid p) where
   within_is_in : (of : EntityUid) → IsWithin p of → IsIn parents uid of
   within_is_in of (inl e) = inl (sym placed.same ∙ e)
   within_is_in of (inr h) = inr ((placed.all of).0 h)
@@ -71,11 +71,11 @@ module _ {parents : Parents} {uid : EntityUid} {p : Placed} (placed : IsPlaced p
   action_back : (scope : ActionScope) → IsActionScopeTrue (IsIn parents uid) scope uid → IsActionScopeTrue (IsWithin p) scope p.uid.now
   action_back = action_scope (IsIn parents uid) (IsWithin p) uid p.uid.now (sym placed.same) in_is_within
 
-scope_there : (parents : Parents) (q : Request) (s : Standing) (scope : Scope) → IsStanding parents q s → IsTrueOf scope s → IsScopeTrue parents scope q
+scope_there : (parents : Parents) (q : Request) (s : RequestAncestors) (scope : Scope) → IsStanding parents q s → IsTrueOf scope s → IsScopeTrue parents scope q
 scope_there parents q s scope standing h =
     (entity_there standing.principal scope.principal h.0, action_there standing.action scope.action h.1, entity_there standing.resource scope.resource h.2)
 
-scope_back : (parents : Parents) (q : Request) (s : Standing) (scope : Scope) → IsStanding parents q s → IsScopeTrue parents scope q → IsTrueOf scope s
+scope_back : (parents : Parents) (q : Request) (s : RequestAncestors) (scope : Scope) → IsStanding parents q s → IsScopeTrue parents scope q → IsTrueOf scope s
 scope_back parents q s scope standing h =
     (entity_back standing.principal scope.principal h.0, action_back standing.action scope.action h.1, entity_back standing.resource scope.resource h.2)
 
@@ -103,25 +103,25 @@ fault_comes_to W q x f error is g =
     test_errs (subst (λ e. Gives W q x (Err e)) is (g (λ refused. no_refused_memory error (sym is ∙ refused))))
 
 -- ---- policies
-pub true_scope : TrueScopesLeaveToConditions → (W : World) (q : Request) (s : Standing) (p : Policy) (o : Outcome) → IsStanding W.parents q s → IsTrueOf p.scope s → ConditionComesTo W q p.condition o → ComesTo W q p o
+pub true_scope : TrueScopesLeaveToConditions → (W : World) (q : Request) (s : RequestAncestors) (p : Policy) (o : Outcome) → IsStanding W.parents q s → IsTrueOf p.scope s → ConditionComesTo W q p.condition o → ComesTo W q p o
 true_scope leaves W q s p Satisfied standing h c = (leaves W q p (scope_there W.parents q s p.scope standing h)).gives true c
 true_scope leaves W q s p NotSatisfied standing h c = (leaves W q p (scope_there W.parents q s p.scope standing h)).gives false c
 true_scope leaves W q s p (Errs error) standing h c = (leaves W q p (scope_there W.parents q s p.scope standing h)).errs (fault_of error) c
 
-pub other_scope : OtherScopesGiveFalse → (W : World) (above : EntityUid → EntityUid → Bool) → Decides W.parents above → (q : Request) (s : Standing) (p : Policy) → IsStanding W.parents q s → (IsTrueOf p.scope s → ⊥) → ComesTo W q p NotSatisfied
+pub other_scope : OtherScopesGiveFalse → (W : World) (above : EntityUid → EntityUid → Bool) → Decides W.parents above → (q : Request) (s : RequestAncestors) (p : Policy) → IsStanding W.parents q s → (IsTrueOf p.scope s → ⊥) → ComesTo W q p NotSatisfied
 other_scope idle W above D q s p standing n = idle W above D q p (λ h. n (scope_back W.parents q s p.scope standing h))
 
-placed_itself : {parents : Parents} {uid : EntityUid} {p : Placed} → IsPlaced parents uid p → IsPlaced parents p.uid.now p
+placed_itself : {parents : Parents} {uid : EntityUid} {p : WithAncestors} → IsPlaced parents uid p → IsPlaced parents p.uid.now p
 placed_itself {parents} {uid} {p} h = record { same = refl; all = subst (λ (u : EntityUid). IsAllAbove parents u (names p.ancestors.items)) (sym h.same) h.all; ascending = h.ascending }
 
-pub all_placed : (parents : Parents) (q : Request) (s : Standing) → IsStanding parents q s → AreAllPlaced parents s
+pub all_placed : (parents : Parents) (q : Request) (s : RequestAncestors) → IsStanding parents q s → AreAllPlaced parents s
 all_placed parents q s h = record { principal = placed_itself h.principal; action = placed_itself h.action; resource = placed_itself h.resource }
 
-pub are_ascending : (parents : Parents) (q : Request) (s : Standing) → IsStanding parents q s → AreAscending s
+pub are_ascending : (parents : Parents) (q : Request) (s : RequestAncestors) → IsStanding parents q s → AreAscending s
 are_ascending parents q s standing = record { principal = standing.principal.ascending; action = standing.action.ascending; resource = standing.resource.ascending }
 
 -- ---- policy by policy
-judged_push : (W : World) (q : Request) (ps : List Named) (p : Named) (js : List Judged) (j : Judged) → AreJudged W q ps js → IsJudged W q p j → AreJudged W q (ps ++ p ∷ []) (js ++ j ∷ [])
+judged_push : (W : World) (q : Request) (ps : List Named) (p : Named) (js : List PolicyOutcome) (j : PolicyOutcome) → ArePolicyOutcomes W q ps js → IsPolicyOutcome W q p j → ArePolicyOutcomes W q (ps ++ p ∷ []) (js ++ j ∷ [])
 judged_push W q [] p [] j h g = (g, tt)
 judged_push W q [] p (k ∷ js) j h g = absurd h
 judged_push W q (n ∷ ps) p [] j h g = absurd h
@@ -137,22 +137,22 @@ named_push (n ∷ ps) p = ap (λ r. one_named n ∷ r) (named_push ps p)
 
 pub next_policy : (W : World) (q : Request) (ps : List (Bor (List ℕ) × Bor Policy)) (i : ℕ) (p : Bor (List ℕ) × Bor Policy) (old new : Tally) (o : Outcome) →
     i < length ps → p ≡ slice_index_or ps i p → ComesTo W q p.1.now o →
-    ((js : List Judged) → Counts old js → Counts new (js ++ record { id = p.0.now; effect = p.1.now.effect; outcome = o } ∷ [])) →
-    ((js : List Judged) × AreJudged W q (named (take i ps)) js × Counts old js) →
-    (js : List Judged) × AreJudged W q (named (take (i + 1) ps)) js × Counts new js
+    ((js : List PolicyOutcome) → Counts old js → Counts new (js ++ record { id = p.0.now; effect = p.1.now.effect; outcome = o } ∷ [])) →
+    ((js : List PolicyOutcome) × ArePolicyOutcomes W q (named (take i ps)) js × Counts old js) →
+    (js : List PolicyOutcome) × ArePolicyOutcomes W q (named (take (i + 1) ps)) js × Counts new js
 unfolding one_named
 next_policy W q ps i p old new o within is outcome noted before =
-    let j : Judged = record { id = p.0.now; effect = p.1.now.effect; outcome = o } in
-    let judgement : IsJudged W q (one_named p) j = record { id = refl; effect = refl; outcome = outcome } in
+    let j : PolicyOutcome = record { id = p.0.now; effect = p.1.now.effect; outcome = o } in
+    let judgement : IsPolicyOutcome W q (one_named p) j = record { id = refl; effect = refl; outcome = outcome } in
     let taken : take (i + 1) ps ≡ take i ps ++ p ∷ [] = take_more ps i p within ∙ ap (λ x. take i ps ++ x ∷ []) (sym is) in
     let seen : named (take (i + 1) ps) ≡ named (take i ps) ++ one_named p ∷ [] = ap named taken ∙ named_push (take i ps) p in
-    (before.0 ++ j ∷ [], subst (λ ns. AreJudged W q ns (before.0 ++ j ∷ [])) (sym seen) (judged_push W q (named (take i ps)) (one_named p) before.0 j before.1 judgement), noted before.0 before.2)
+    (before.0 ++ j ∷ [], subst (λ ns. ArePolicyOutcomes W q ns (before.0 ++ j ∷ [])) (sym seen) (judged_push W q (named (take i ps)) (one_named p) before.0 j before.1 judgement), noted before.0 before.2)
 
-pub counted : (t : Tally) (js : List Judged) → Counts t js → decided (ids t.permits.items) (ids t.forbids.items) (faults t.errors.items) ≡ answer_by js
+pub counted : (t : Tally) (js : List PolicyOutcome) → Counts t js → decided (ids t.permits.items) (ids t.forbids.items) (faults t.errors.items) ≡ answer_by js
 counted t js c i = decided (c.permits i) (c.forbids i) (c.errors i)
 
-pub all_judged : (W : World) (q : Request) (ps : List (Bor (List ℕ) × Bor Policy)) (i : ℕ) (js : List Judged) → length ps ≤ i → AreJudged W q (named (take i ps)) js → AreJudged W q (named ps) js
-all_judged W q ps i js le h = subst (λ xs. AreJudged W q (named xs) js) (take_all i ps le) h
+pub all_judged : (W : World) (q : Request) (ps : List (Bor (List ℕ) × Bor Policy)) (i : ℕ) (js : List PolicyOutcome) → length ps ≤ i → ArePolicyOutcomes W q (named (take i ps)) js → ArePolicyOutcomes W q (named ps) js
+all_judged W q ps i js le h = subst (λ xs. ArePolicyOutcomes W q (named xs) js) (take_all i ps le) h
 
 -- ---- no cycle, or a cycle
 pub acyclic : (parents : Parents) (uids : List (Bor EntityUid)) → AreOnCycles parents (names uids) → uids ≡ [] → (uid : EntityUid) → Above parents uid uid → ⊥
@@ -170,7 +170,7 @@ none_before P xs i x within is not_here before e h p =
       | inr here ↦ not_here (subst P (sym here) p)
     ]
 
-pub denial : (W : World) (q : Request) (ps : List Named) (uids : List (Bor EntityUid)) (cycle : List EntityUid) (reason : List (List ℕ)) (errors : List Erring) →
+pub denial : (W : World) (q : Request) (ps : List Named) (uids : List (Bor EntityUid)) (cycle : List EntityUid) (reason : List (List ℕ)) (errors : List ErringPolicy) →
     cycle ≡ names uids → reason ≡ [] → errors ≡ [] → AreOnCycles W.parents (names uids) → IsAscending (names uids) → (uids ≡ [] → ⊥) →
     IsAnswer W q ps (record { decision = Deny; reason = reason; errors = errors; cycle = cycle })
 denial W q ps uids cycle reason errors same no_reason no_errors named ascending some = inl (record {

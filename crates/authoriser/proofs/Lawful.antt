@@ -21,13 +21,13 @@ use Rattle.evaluator.specs.Operators.{World}
 use Rattle.evaluator.specs.Evaluation.{Gives}
 use Rattle.evaluator.specs.Laws.{HasOneOutcome, HaveOneOutcome}
 use Rattle.authoriser.specs.declared.answer.Answer.{Answer}
-use Rattle.authoriser.specs.declared.answer.Erring.{Erring}
+use Rattle.authoriser.specs.declared.answer.ErringPolicy.{ErringPolicy}
 use Rattle.authoriser.specs.declared.answer.Decision.TheVariants.{Deny}
 use Rattle.authoriser.specs.declared.outcome.Outcome.{Outcome}
 use Rattle.authoriser.specs.declared.outcome.Outcome.TheVariants.{Satisfied, NotSatisfied, Errs}
 use Rattle.authoriser.specs.declared.outcome.PolicyError.{PolicyError}
 use Rattle.authoriser.specs.declared.outcome.PolicyError.TheVariants.{EntityDoesNotExist, AttrDoesNotExist, TypeError, ArithBoundsError, ExtensionError}
-use Rattle.authoriser.specs.Answers.{Named, Judged, IsJudged, fault_of, ComesTo, AreJudged, if_satisfied, satisfied, if_erring, erring, decided, answer_by, IsCycleDenial, IsPolicyAnswer}
+use Rattle.authoriser.specs.Answers.{Named, PolicyOutcome, IsPolicyOutcome, fault_of, ComesTo, ArePolicyOutcomes, if_satisfied, satisfied, if_erring, erring, decided, answer_by, IsCycleDenial, IsPolicyAnswer}
 use Rattle.authoriser.specs.Laws.{HasOneAnswerAtMost, OneAnswerAtMost, HaveSameMembers, AreAlike, AreIdsAscending, ListsAscend}
 use Rattle.plain.proofs.Members.{Contains-here, Contains-there, Contains-cases, Contains-none}
 use Rattle.plain.proofs.Ascending.{one_list}
@@ -75,14 +75,14 @@ module _ (W : World) (q : Request) (p : Policy) (given : HasOneOutcome W q (expr
 abbrev pub Determined : World → Request → Type 0
 Determined W q = (x : Expr) → HasOneOutcome W q x
 
-pub one_judgement : (W : World) (q : Request) → Determined W q → (p : Named) (j k : Judged) → IsJudged W q p j → IsJudged W q p k → j ≡ k
+pub one_judgement : (W : World) (q : Request) → Determined W q → (p : Named) (j k : PolicyOutcome) → IsPolicyOutcome W q p j → IsPolicyOutcome W q p k → j ≡ k
 one_judgement W q given p j k h g =
     let id : j.id ≡ k.id = h.id ∙ sym g.id in
     let effect : j.effect ≡ k.effect = h.effect ∙ sym g.effect in
     let outcome : j.outcome ≡ k.outcome = one_outcome W q p.policy (given (expression_of p.policy)) j.outcome k.outcome h.outcome g.outcome in
     λ i. record { id = id i; effect = effect i; outcome = outcome i }
 
-one_list_judged : (W : World) (q : Request) → Determined W q → (ps : List Named) (js ks : List Judged) → AreJudged W q ps js → AreJudged W q ps ks → js ≡ ks
+one_list_judged : (W : World) (q : Request) → Determined W q → (ps : List Named) (js ks : List PolicyOutcome) → ArePolicyOutcomes W q ps js → ArePolicyOutcomes W q ps ks → js ≡ ks
 one_list_judged W q given [] [] [] h g = refl
 one_list_judged W q given [] [] (k ∷ ks) h g = absurd g
 one_list_judged W q given [] (j ∷ js) ks h g = absurd h
@@ -120,17 +120,17 @@ pub one_answer_at_most : HaveOneOutcome → OneAnswerAtMost
 one_answer_at_most law W above D = has_one_answer W (law W above D)
 
 -- ---- default deny, and forbids decide
-pub denied : (permits forbids : List (List ℕ)) (errors : List Erring) → permits ≡ [] → (decided permits forbids errors).decision ≡ Deny
+pub denied : (permits forbids : List (List ℕ)) (errors : List ErringPolicy) → permits ≡ [] → (decided permits forbids errors).decision ≡ Deny
 denied permits (f ∷ forbids) errors e = refl
 denied [] [] errors e = refl
 denied (p ∷ permits) [] errors e = absurd (cc)
 
-pub forbidden : (permits forbids : List (List ℕ)) (errors : List Erring) → forbids ≢ [] → ((decided permits forbids errors).decision ≡ Deny) × ((decided permits forbids errors).reason ≡ forbids)
+pub forbidden : (permits forbids : List (List ℕ)) (errors : List ErringPolicy) → forbids ≢ [] → ((decided permits forbids errors).decision ≡ Deny) × ((decided permits forbids errors).reason ≡ forbids)
 forbidden permits [] errors ne = absurd (ne refl)
 forbidden permits (f ∷ forbids) errors ne = (refl, refl)
 
 -- ---- idle policies
-idle_satisfied : (wanted : Effect) (j : Judged) → j.outcome ≡ NotSatisfied → if_satisfied wanted j ≡ []
+idle_satisfied : (wanted : Effect) (j : PolicyOutcome) → j.outcome ≡ NotSatisfied → if_satisfied wanted j ≡ []
 idle_satisfied wanted j e = at wanted j.effect j.outcome e
   where
     at : (wanted effect : Effect) (outcome : Outcome) → outcome ≡ NotSatisfied → if_satisfied wanted (record { id = j.id; effect = effect; outcome = outcome }) ≡ []
@@ -141,7 +141,7 @@ idle_satisfied wanted j e = at wanted j.effect j.outcome e
     at wanted effect Satisfied h = absurd (cc)
     at wanted effect (Errs error) h = absurd (cc)
 
-idle_erring : (j : Judged) → j.outcome ≡ NotSatisfied → if_erring j ≡ []
+idle_erring : (j : PolicyOutcome) → j.outcome ≡ NotSatisfied → if_erring j ≡ []
 idle_erring j e = at j.outcome e
   where
     at : (outcome : Outcome) → outcome ≡ NotSatisfied → if_erring (record { id = j.id; effect = j.effect; outcome = outcome }) ≡ []
@@ -150,34 +150,34 @@ idle_erring j e = at j.outcome e
     at (Errs error) h = absurd (cc)
 
 -- one that gives nothing may be left out
-left_out : {X : Type 0} (f : Judged → List X) (front back : List Judged) (j : Judged) → f j ≡ [] → flat_map f (front ++ j ∷ back) ≡ flat_map f (front ++ back)
+left_out : {X : Type 0} (f : PolicyOutcome → List X) (front back : List PolicyOutcome) (j : PolicyOutcome) → f j ≡ [] → flat_map f (front ++ j ∷ back) ≡ flat_map f (front ++ back)
 left_out f [] back j e = ap (λ r. r ++ flat_map f back) e
 left_out f (k ∷ front) back j e = ap (λ rest. f k ++ rest) (left_out f front back j e)
 
-pub idle_left_out : (front back : List Judged) (j : Judged) → j.outcome ≡ NotSatisfied → answer_by (front ++ j ∷ back) ≡ answer_by (front ++ back)
+pub idle_left_out : (front back : List PolicyOutcome) (j : PolicyOutcome) → j.outcome ≡ NotSatisfied → answer_by (front ++ j ∷ back) ≡ answer_by (front ++ back)
 idle_left_out front back j e i =
     decided (left_out (if_satisfied Permit) front back j (idle_satisfied Permit j e) i) (left_out (if_satisfied Forbid) front back j (idle_satisfied Forbid j e) i) (left_out if_erring front back j (idle_erring j e) i)
 
 -- ---- the order does not matter
-module _ {X : Type 0} (f : Judged → List X) where
-  pub picked : (js : List Judged) (x : X) → Contains (flat_map f js) x → (j : Judged) × Contains js j × Contains (f j) x
+module _ {X : Type 0} (f : PolicyOutcome → List X) where
+  pub picked : (js : List PolicyOutcome) (x : X) → Contains (flat_map f js) x → (j : PolicyOutcome) × Contains js j × Contains (f j) x
   picked [] x h = Contains-none x h
   picked (j ∷ js) x h = elim (Contains-append_cases (f j) (flat_map f js) x h) [
     | inl a ↦ (j, Contains-here j js, a)
     | inr b ↦ let (k, at, has) = picked js x b in (k, Contains-there j js k at, has)
   ]
 
-  pub put_back : (js : List Judged) (j : Judged) (x : X) → Contains js j → Contains (f j) x → Contains (flat_map f js) x
+  pub put_back : (js : List PolicyOutcome) (j : PolicyOutcome) (x : X) → Contains js j → Contains (f j) x → Contains (flat_map f js) x
   put_back [] j x h g = Contains-none j h
   put_back (k ∷ js) j x h g = elim (Contains-cases k js j h) [
     | inl e ↦ Contains-append_left (f k) (flat_map f js) x (subst (λ m. Contains (f m) x) (sym e) g)
     | inr t ↦ Contains-append_right (f k) (flat_map f js) x (put_back js j x t g)
   ]
 
-  goes_over : (js ks : List Judged) → ((j : Judged) → Contains js j → Contains ks j) → (x : X) → Contains (flat_map f js) x → Contains (flat_map f ks) x
+  goes_over : (js ks : List PolicyOutcome) → ((j : PolicyOutcome) → Contains js j → Contains ks j) → (x : X) → Contains (flat_map f js) x → Contains (flat_map f ks) x
   goes_over js ks within x h = let (j, at, has) = picked js x h in put_back ks j x (within j at) has
 
-  same_gathered : (js ks : List Judged) → HaveSameMembers js ks → HaveSameMembers (flat_map f js) (flat_map f ks)
+  same_gathered : (js ks : List PolicyOutcome) → HaveSameMembers js ks → HaveSameMembers (flat_map f js) (flat_map f ks)
   same_gathered js ks same x = (goes_over js ks (λ j. (same j).0) x, goes_over ks js (λ j. (same j).1) x)
 
 none_here : {X : Type 0} (x : X) (xs : List X) {G : Type 0} → HaveSameMembers (x ∷ xs) [] → G
@@ -186,7 +186,7 @@ none_here x xs same = Contains-none x ((same x).0 (Contains-here x xs))
 none_there : {X : Type 0} (x : X) (xs : List X) {G : Type 0} → HaveSameMembers [] (x ∷ xs) → G
 none_there x xs same = Contains-none x ((same x).1 (Contains-here x xs))
 
-alike : (p p' f f' : List (List ℕ)) (e e' : List Erring) → HaveSameMembers p p' → HaveSameMembers f f' → HaveSameMembers e e' → AreAlike (decided p f e) (decided p' f' e')
+alike : (p p' f f' : List (List ℕ)) (e e' : List ErringPolicy) → HaveSameMembers p p' → HaveSameMembers f f' → HaveSameMembers e e' → AreAlike (decided p f e) (decided p' f' e')
 alike p p' (f ∷ fs) (f' ∷ fs') e e' sp sf se = record { decision = refl; reason = sf; errors = se; cycle = refl }
 alike p p' (f ∷ fs) [] e e' sp sf se = none_here f fs sf
 alike p p' [] (f' ∷ fs') e e' sp sf se = none_there f' fs' sf
@@ -195,26 +195,26 @@ alike (p ∷ ps) [] [] [] e e' sp sf se = none_here p ps sp
 alike [] (p' ∷ ps') [] [] e e' sp sf se = none_there p' ps' sp
 alike (p ∷ ps) (p' ∷ ps') [] [] e e' sp sf se = record { decision = refl; reason = sp; errors = se; cycle = refl }
 
-pub alike_judged : (js ks : List Judged) → HaveSameMembers js ks → AreAlike (answer_by js) (answer_by ks)
+pub alike_judged : (js ks : List PolicyOutcome) → HaveSameMembers js ks → AreAlike (answer_by js) (answer_by ks)
 alike_judged js ks same =
     alike (satisfied Permit js) (satisfied Permit ks) (satisfied Forbid js) (satisfied Forbid ks) (erring js) (erring ks)
     (same_gathered (if_satisfied Permit) js ks same) (same_gathered (if_satisfied Forbid) js ks same) (same_gathered if_erring js ks same)
 
 -- ---- the lists ascend
 -- gives of each policy its id, or none
-abbrev GivesIds : (Judged → List (List ℕ)) → Type 0
-GivesIds f = (j : Judged) → (f j ≡ []) ⊎ (f j ≡ j.id ∷ [])
+abbrev GivesIds : (PolicyOutcome → List (List ℕ)) → Type 0
+GivesIds f = (j : PolicyOutcome) → (f j ≡ []) ⊎ (f j ≡ j.id ∷ [])
 
 -- some of ascending ids, in their order, ascend
-module _ (f : Judged → List (List ℕ)) (gives : GivesIds f) where
-  all_kept : (P : List ℕ → Type 0) (js : List Judged) → AllByRecursion P (map (λ j. j.id) js) → AllByRecursion P (flat_map f js)
+module _ (f : PolicyOutcome → List (List ℕ)) (gives : GivesIds f) where
+  all_kept : (P : List ℕ → Type 0) (js : List PolicyOutcome) → AllByRecursion P (map (λ j. j.id) js) → AllByRecursion P (flat_map f js)
   all_kept P [] h = h
   all_kept P (j ∷ js) h = elim (gives j) [
     | inl e ↦ subst (λ k. AllByRecursion P (k ++ flat_map f js)) (sym e) (all_kept P js h.1)
     | inr e ↦ subst (λ k. AllByRecursion P (k ++ flat_map f js)) (sym e) (h.0, all_kept P js h.1)
   ]
 
-  kept_ascend : (js : List Judged) → AreIdsAscending (map (λ j. j.id) js) → AreIdsAscending (flat_map f js)
+  kept_ascend : (js : List PolicyOutcome) → AreIdsAscending (map (λ j. j.id) js) → AreIdsAscending (flat_map f js)
   unfolding IsStrictlySortedBy
   kept_ascend [] h = h
   kept_ascend (j ∷ js) h = elim (gives j) [
@@ -236,7 +236,7 @@ satisfied_gives wanted j = at wanted j.effect j.outcome
     at Forbid Forbid NotSatisfied = inl refl
     at Forbid Forbid (Errs error) = inl refl
 
-abbrev policy_if_erring : Judged → List (List ℕ)
+abbrev policy_if_erring : PolicyOutcome → List (List ℕ)
 policy_if_erring j = map (λ e. e.policy) (if_erring j)
 
 erring_gives : GivesIds policy_if_erring
@@ -248,12 +248,12 @@ erring_gives j = at j.outcome
     at NotSatisfied = inl refl
     at (Errs error) = inr refl
 
-policies_erring : (js : List Judged) → map (λ e. e.policy) (erring js) ≡ flat_map policy_if_erring js
+policies_erring : (js : List PolicyOutcome) → map (λ e. e.policy) (erring js) ≡ flat_map policy_if_erring js
 policies_erring [] = refl
 policies_erring (j ∷ js) = map-append (λ e. e.policy) (if_erring j) (erring js) ∙ ap (λ rest. policy_if_erring j ++ rest) (policies_erring js)
 
 -- judging keeps the ids
-same_ids : (W : World) (q : Request) (ps : List Named) (js : List Judged) → AreJudged W q ps js → map (λ p. p.id) ps ≡ map (λ j. j.id) js
+same_ids : (W : World) (q : Request) (ps : List Named) (js : List PolicyOutcome) → ArePolicyOutcomes W q ps js → map (λ p. p.id) ps ≡ map (λ j. j.id) js
 same_ids W q [] [] h = refl
 same_ids W q [] (j ∷ js) h = absurd h
 same_ids W q (p ∷ ps) [] h = absurd h
@@ -262,14 +262,14 @@ same_ids W q (p ∷ ps) (j ∷ js) h = let rest = same_ids W q ps js h.1 in λ i
 abbrev Ascends : Answer → Type 0
 Ascends a = AreIdsAscending a.reason × AreIdsAscending (map (λ e. e.policy) a.errors) × IsAscending a.cycle
 
-decided_ascends : (permits forbids : List (List ℕ)) (errors : List Erring) → AreIdsAscending permits → AreIdsAscending forbids → AreIdsAscending (map (λ e. e.policy) errors) →
+decided_ascends : (permits forbids : List (List ℕ)) (errors : List ErringPolicy) → AreIdsAscending permits → AreIdsAscending forbids → AreIdsAscending (map (λ e. e.policy) errors) →
     Ascends (decided permits forbids errors)
 unfolding IsStrictlySortedBy
 decided_ascends permits (f ∷ forbids) errors p s e = (s, e, tt)
 decided_ascends [] [] errors p s e = (p, e, tt)
 decided_ascends (x ∷ permits) [] errors p s e = (p, e, tt)
 
-answer_ascends : (js : List Judged) → AreIdsAscending (map (λ j. j.id) js) → Ascends (answer_by js)
+answer_ascends : (js : List PolicyOutcome) → AreIdsAscending (map (λ j. j.id) js) → Ascends (answer_by js)
 answer_ascends js h =
     decided_ascends (satisfied Permit js) (satisfied Forbid js) (erring js) (kept_ascend (if_satisfied Permit) (satisfied_gives Permit) js h)
     (kept_ascend (if_satisfied Forbid) (satisfied_gives Forbid) js h)

@@ -27,7 +27,7 @@ use Rattle.policy_grammar.specs.declared.policy.ActionScope.TheVariants as actio
 use Rattle.policy_grammar.specs.declared.policy.Scope.{Scope}
 use Rattle.policy_grammar.specs.declared.policy.Policy.{Policy}
 use Rattle.policy_grammar.specs.Whole.{entity_literal, is_equal, is_in, entity_part, action_part, expression_of}
-use Rattle.evaluator.specs.Outcomes.{Tells, holds, fails, entity_in}
+use Rattle.evaluator.specs.Outcomes.{IsTruthOf, holds, fails, entity_in}
 use Rattle.evaluator.specs.Operators as op
 use Rattle.evaluator.specs.Operators.{World}
 use Rattle.evaluator.specs.Evaluation as rule
@@ -121,13 +121,13 @@ module _ (made : SetsHoldTheirMembers) (W : World) (q : Request) where
   literals (u ∷ us) = rule.each_more (rule.gives_literal (literal.Entity u)) (literals us)
 
   module _ (x : Variable) (uid : EntityUid) (is : variable_value x q ≡ entity uid) where
-    equal_gives : (of : EntityUid) (t : Bool) → Tells (entity uid ≡ entity of) (Ok (boolean t)) → Gives W q (is_equal x of) (Ok (boolean t))
+    equal_gives : (of : EntityUid) (t : Bool) → IsTruthOf (entity uid ≡ entity of) (Ok (boolean t)) → Gives W q (is_equal x of) (Ok (boolean t))
     equal_gives of t told = rule.gives_binary Equal (core.Variable x) (entity_literal of) (stands_for x uid is) (rule.gives_literal (literal.Entity of)) (op.equal told)
 
-    in_gives : (of : EntityUid) (t : Bool) → Tells (op.IsIn W uid of) (Ok (boolean t)) → Gives W q (is_in x of) (Ok (boolean t))
+    in_gives : (of : EntityUid) (t : Bool) → IsTruthOf (op.IsIn W uid of) (Ok (boolean t)) → Gives W q (is_in x of) (Ok (boolean t))
     in_gives of t told = rule.gives_binary In (core.Variable x) (entity_literal of) (stands_for x uid is) (rule.gives_literal (literal.Entity of)) (op.in_entity told)
 
-    is_gives : (name : List ℕ) (t : Bool) → Tells (uid.type_name ≡ name) (Ok (boolean t)) → Gives W q (core.Unary (Is name) (core.Variable x)) (Ok (boolean t))
+    is_gives : (name : List ℕ) (t : Bool) → IsTruthOf (uid.type_name ≡ name) (Ok (boolean t)) → Gives W q (core.Unary (Is name) (core.Variable x)) (Ok (boolean t))
     is_gives name t told = rule.gives_unary (Is name) (core.Variable x) (stands_for x uid is) (op.is_entity told)
 
     entity_holds : (scope : EntityScope) → IsEntityScopeTrue (IsIn W.parents uid) scope uid → Gives W q (entity_part x scope) (Ok (boolean true))
@@ -147,7 +147,7 @@ module _ (made : SetsHoldTheirMembers) (W : World) (q : Request) where
       | inr other ↦ rule.and_false (core.Unary (Is name) (core.Variable x)) (is_in x of) (is_gives name false (fails other))
     ]
 
-    some_gives : (us : List EntityUid) (t : Bool) → ((ws : List EntityUid) → ((u : EntityUid) → Contains ws u ↔ Contains us u) → Tells ((u : EntityUid) × Contains ws u × op.IsIn W uid u) (Ok (boolean t))) →
+    some_gives : (us : List EntityUid) (t : Bool) → ((ws : List EntityUid) → ((u : EntityUid) → Contains ws u ↔ Contains us u) → IsTruthOf ((u : EntityUid) × Contains ws u × op.IsIn W uid u) (Ok (boolean t))) →
         Gives W q (core.Binary In (core.Variable x) (core.Set (map entity_literal us))) (Ok (boolean t))
     some_gives us t told =
         let found = set_entities made us in

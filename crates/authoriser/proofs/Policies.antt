@@ -11,7 +11,7 @@ use Rattle.evaluator.specs.Laws.{HaveOneOutcome, NothingWantsMemory}
 use Rattle.authoriser.specs.declared.answer.Answer.{Answer}
 use Rattle.authoriser.specs.declared.outcome.Outcome.{Outcome}
 use Rattle.authoriser.specs.declared.outcome.Outcome.TheVariants.{Satisfied, NotSatisfied, Errs}
-use Rattle.authoriser.specs.Answers.{Named, Judged, IsJudged, ComesTo, AreJudged, if_satisfied, satisfied, erring, answer_by, IsAnswer, IsPolicyAnswer}
+use Rattle.authoriser.specs.Answers.{Named, PolicyOutcome, IsPolicyOutcome, ComesTo, ArePolicyOutcomes, if_satisfied, satisfied, erring, answer_by, IsAnswer, IsPolicyAnswer}
 use Rattle.authoriser.specs.Laws.{IsSatisfied, DefaultDeny, IsIdle, IdleChangesNothing, LeavingOutChangesNothing, AreAlike, OrderDoesNotMatter}
 use Rattle.plain.proofs.Members.{Contains-here, Contains-there, Contains-cases, Contains-none}
 use Rattle.authoriser.proofs.Lawful.{Determined, one_outcome, one_judgement, one_denial, not_both, denied, idle_left_out, picked, put_back, alike_judged}
@@ -21,7 +21,7 @@ use Rattle.authoriser.proofs.Existing.{comes_to}
 only_one : (x y : List ℕ) → Contains (x ∷ []) y → x ≡ y
 only_one x y c = elim (Contains-cases x [] y c) [ inl e ↦ e | inr t ↦ Contains-none y t ]
 
-counted : (wanted : Effect) (j : Judged) (id : List ℕ) → Contains (if_satisfied wanted j) id → (j.effect ≡ wanted) × (j.outcome ≡ Satisfied) × (j.id ≡ id)
+counted : (wanted : Effect) (j : PolicyOutcome) (id : List ℕ) → Contains (if_satisfied wanted j) id → (j.effect ≡ wanted) × (j.outcome ≡ Satisfied) × (j.id ≡ id)
 counted wanted j id = at wanted j.effect j.outcome
   where
     at : (wanted effect : Effect) (outcome : Outcome) → Contains (if_satisfied wanted (record { id = j.id; effect = effect; outcome = outcome })) id →
@@ -35,7 +35,7 @@ counted wanted j id = at wanted j.effect j.outcome
     at Forbid Forbid NotSatisfied c = Contains-none id c
     at Forbid Forbid (Errs error) c = Contains-none id c
 
-is_counted : (wanted : Effect) (j : Judged) → j.effect ≡ wanted → j.outcome ≡ Satisfied → Contains (if_satisfied wanted j) j.id
+is_counted : (wanted : Effect) (j : PolicyOutcome) → j.effect ≡ wanted → j.outcome ≡ Satisfied → Contains (if_satisfied wanted j) j.id
 is_counted wanted j = at wanted j.effect j.outcome
   where
     at : (wanted effect : Effect) (outcome : Outcome) → effect ≡ wanted → outcome ≡ Satisfied →
@@ -55,25 +55,25 @@ none_of (x ∷ xs) h = absurd (h x (Contains-here x xs))
 
 -- ---- judgements and policies
 module _ (W : World) (q : Request) where
-  judged_from : (ps : List Named) (js : List Judged) → AreJudged W q ps js → (j : Judged) → Contains js j → (p : Named) × Contains ps p × IsJudged W q p j
+  judged_from : (ps : List Named) (js : List PolicyOutcome) → ArePolicyOutcomes W q ps js → (j : PolicyOutcome) → Contains js j → (p : Named) × Contains ps p × IsPolicyOutcome W q p j
   judged_from [] [] h j c = Contains-none j c
   judged_from [] (k ∷ js) h j c = absurd h
   judged_from (p ∷ ps) [] h j c = absurd h
   judged_from (p ∷ ps) (k ∷ js) h j c = elim (Contains-cases k js j c) [
-    | inl e ↦ (p, Contains-here p ps, subst (IsJudged W q p) e h.0)
+    | inl e ↦ (p, Contains-here p ps, subst (IsPolicyOutcome W q p) e h.0)
     | inr t ↦ let found = judged_from ps js h.1 j t in (found.0, Contains-there p ps found.0 found.1, found.2)
   ]
 
-  judged_to : (ps : List Named) (js : List Judged) → AreJudged W q ps js → (p : Named) → Contains ps p → (j : Judged) × Contains js j × IsJudged W q p j
+  judged_to : (ps : List Named) (js : List PolicyOutcome) → ArePolicyOutcomes W q ps js → (p : Named) → Contains ps p → (j : PolicyOutcome) × Contains js j × IsPolicyOutcome W q p j
   judged_to [] js h p c = Contains-none p c
   judged_to (f ∷ ps) [] h p c = absurd h
   judged_to (f ∷ ps) (k ∷ js) h p c = elim (Contains-cases f ps p c) [
-    | inl e ↦ (k, Contains-here k js, subst (λ g. IsJudged W q g k) e h.0)
+    | inl e ↦ (k, Contains-here k js, subst (λ g. IsPolicyOutcome W q g k) e h.0)
     | inr t ↦ let found = judged_to ps js h.1 p t in (found.0, Contains-there k js found.0 found.1, found.2)
   ]
 
   -- what is counted as satisfied is a satisfied policy,
-  pub satisfied_from : (ps : List Named) (js : List Judged) → AreJudged W q ps js → (wanted : Effect) (id : List ℕ) → Contains (satisfied wanted js) id →
+  pub satisfied_from : (ps : List Named) (js : List PolicyOutcome) → ArePolicyOutcomes W q ps js → (wanted : Effect) (id : List ℕ) → Contains (satisfied wanted js) id →
       (p : Named) × Contains ps p × (p.id ≡ id) × IsSatisfied W q wanted p
   satisfied_from ps js h wanted id c =
       let one = picked (if_satisfied wanted) js id c in
@@ -84,37 +84,37 @@ module _ (W : World) (q : Request) where
 
   module _ (given : Determined W q) where
     -- and each satisfied policy is counted
-    pub satisfied_to : (ps : List Named) (js : List Judged) → AreJudged W q ps js → (wanted : Effect) (p : Named) → Contains ps p → IsSatisfied W q wanted p → Contains (satisfied wanted js) p.id
+    pub satisfied_to : (ps : List Named) (js : List PolicyOutcome) → ArePolicyOutcomes W q ps js → (wanted : Effect) (p : Named) → Contains ps p → IsSatisfied W q wanted p → Contains (satisfied wanted js) p.id
     satisfied_to ps js h wanted p c s =
         let one = judged_to ps js h p c in
         let is = one.2 in
         let outcome = one_outcome W q p.policy (given (expression_of p.policy)) one.0.outcome Satisfied is.outcome s.1 in
         subst (Contains (satisfied wanted js)) is.id (put_back (if_satisfied wanted) js one.0 one.0.id one.1 (is_counted wanted one.0 (is.effect ∙ s.0) outcome))
 
-    same_judged : (ps others : List Named) (js ks : List Judged) → AreJudged W q ps js → AreJudged W q others ks →
-        ((p : Named) → Contains ps p → Contains others p) → (j : Judged) → Contains js j → Contains ks j
+    same_judged : (ps others : List Named) (js ks : List PolicyOutcome) → ArePolicyOutcomes W q ps js → ArePolicyOutcomes W q others ks →
+        ((p : Named) → Contains ps p → Contains others p) → (j : PolicyOutcome) → Contains js j → Contains ks j
     same_judged ps others js ks h g within j c =
         let from = judged_from ps js h j c in
         let to = judged_to others ks g from.0 (within from.0 from.1) in
         subst (Contains ks) (one_judgement W q given from.0 to.0 j to.2 from.2) to.1
 
   -- a list of judgements, cut where the policies are
-  front_judged : (front back : List Named) (js : List Judged) → AreJudged W q (front ++ back) js →
-      (fs : List Judged) × (bs : List Judged) × (js ≡ fs ++ bs) × AreJudged W q front fs × AreJudged W q back bs
+  front_judged : (front back : List Named) (js : List PolicyOutcome) → ArePolicyOutcomes W q (front ++ back) js →
+      (fs : List PolicyOutcome) × (bs : List PolicyOutcome) × (js ≡ fs ++ bs) × ArePolicyOutcomes W q front fs × ArePolicyOutcomes W q back bs
   front_judged [] back js h = ([], js, refl, tt, h)
   front_judged (p ∷ front) back [] h = absurd h
   front_judged (p ∷ front) back (j ∷ js) h =
       let cut = front_judged front back js h.1 in
       (j ∷ cut.0, cut.1, ap (λ ks. j ∷ ks) cut.2, (h.0, cut.3), cut.4)
 
-  join_judged : (front back : List Named) (fs bs : List Judged) → AreJudged W q front fs → AreJudged W q back bs → AreJudged W q (front ++ back) (fs ++ bs)
+  join_judged : (front back : List Named) (fs bs : List PolicyOutcome) → ArePolicyOutcomes W q front fs → ArePolicyOutcomes W q back bs → ArePolicyOutcomes W q (front ++ back) (fs ++ bs)
   join_judged [] back [] bs h g = g
   join_judged [] back (f ∷ fs) bs h g = absurd h
   join_judged (p ∷ front) back [] bs h g = absurd h
   join_judged (p ∷ front) back (f ∷ fs) bs h g = (h.0, join_judged front back fs bs h.1 g)
 
-  first_judged : (p : Named) (back : List Named) (bs : List Judged) → AreJudged W q (p ∷ back) bs →
-      (j : Judged) × (more : List Judged) × (bs ≡ j ∷ more) × IsJudged W q p j × AreJudged W q back more
+  first_judged : (p : Named) (back : List Named) (bs : List PolicyOutcome) → ArePolicyOutcomes W q (p ∷ back) bs →
+      (j : PolicyOutcome) × (more : List PolicyOutcome) × (bs ≡ j ∷ more) × IsPolicyOutcome W q p j × ArePolicyOutcomes W q back more
   first_judged p back [] h = absurd h
   first_judged p back (j ∷ more) h = (j, more, refl, h.0, h.1)
 
@@ -141,8 +141,8 @@ module _ (W : World) (q : Request) where
   idle_in : (front back : List Named) (p : Named) (a : Answer) → ComesTo W q p.policy NotSatisfied → IsPolicyAnswer W q (front ++ back) a → IsPolicyAnswer W q (front ++ p ∷ back) a
   idle_in front back p a comes r =
       let cut = front_judged front back r.judged r.outcomes in
-      let j : Judged = record { id = p.id; effect = p.policy.effect; outcome = NotSatisfied } in
-      let is : IsJudged W q p j = record { id = refl; effect = refl; outcome = comes } in
+      let j : PolicyOutcome = record { id = p.id; effect = p.policy.effect; outcome = NotSatisfied } in
+      let is : IsPolicyOutcome W q p j = record { id = refl; effect = refl; outcome = comes } in
       record {
         acyclic = r.acyclic;
         judged = cut.0 ++ j ∷ cut.1;

@@ -8,22 +8,22 @@ use Rattle.policy_grammar.specs.Whole.{expression_of}
 use Rattle.evaluator.specs.Operators.{World}
 use Rattle.evaluator.specs.Laws.{HaveOneOutcome}
 use Rattle.authoriser.specs.declared.answer.Answer.{Answer}
-use Rattle.authoriser.specs.declared.answer.Erring.{Erring}
+use Rattle.authoriser.specs.declared.answer.ErringPolicy.{ErringPolicy}
 use Rattle.authoriser.specs.declared.answer.Decision.TheVariants.{Allow}
 use Rattle.authoriser.specs.declared.outcome.Outcome.{Outcome}
 use Rattle.authoriser.specs.declared.outcome.Outcome.TheVariants.{Satisfied, NotSatisfied, Errs}
 use Rattle.authoriser.specs.declared.outcome.PolicyError.{PolicyError}
-use Rattle.authoriser.specs.Answers.{Named, Judged, IsJudged, ComesTo, AreJudged, if_satisfied, satisfied, if_erring, erring, decided, IsCycleDenial}
+use Rattle.authoriser.specs.Answers.{Named, PolicyOutcome, IsPolicyOutcome, ComesTo, ArePolicyOutcomes, if_satisfied, satisfied, if_erring, erring, decided, IsCycleDenial}
 use Rattle.authoriser.specs.Laws.{IsSatisfied, AreIdsOf, no_id, its_id, not_its_id, AreErrorsOf, no_error, its_error, not_its_error, IsAcyclic, ForbidDecides, PermitsDecide, ErrorsAreTold}
 use Rattle.plain.proofs.Members.{Contains-none}
 use Rattle.authoriser.proofs.Lawful.{Determined, one_outcome, some_member, forbidden}
 use Rattle.authoriser.proofs.Policies.{none_of, satisfied_from, satisfied_to}
 
 -- a judgement is counted as satisfied, or it is not
-abbrev IsCounted : Effect → Judged → Type 0
+abbrev IsCounted : Effect → PolicyOutcome → Type 0
 IsCounted wanted j = (j.effect ≡ wanted) × (j.outcome ≡ Satisfied)
 
-counted_or_not : (wanted : Effect) (j : Judged) → (IsCounted wanted j × (if_satisfied wanted j ≡ j.id ∷ [])) ⊎ (¬ IsCounted wanted j × (if_satisfied wanted j ≡ []))
+counted_or_not : (wanted : Effect) (j : PolicyOutcome) → (IsCounted wanted j × (if_satisfied wanted j ≡ j.id ∷ [])) ⊎ (¬ IsCounted wanted j × (if_satisfied wanted j ≡ []))
 counted_or_not wanted j = at wanted j.effect j.outcome
   where
     at : (wanted effect : Effect) (outcome : Outcome) →
@@ -39,7 +39,7 @@ counted_or_not wanted j = at wanted j.effect j.outcome
     at Forbid Forbid (Errs error) = inr ((λ h. let e = h.1 in cc), refl)
 
 -- a judgement is an error, or it is none
-erring_or_not : (j : Judged) →
+erring_or_not : (j : PolicyOutcome) →
     ((error : PolicyError) × (j.outcome ≡ Errs error) × (if_erring j ≡ record { policy = j.id; error = error } ∷ [])) ⊎ (((error : PolicyError) → ¬ (j.outcome ≡ Errs error)) × (if_erring j ≡ []))
 erring_or_not j = at j.outcome
   where
@@ -51,12 +51,12 @@ erring_or_not j = at j.outcome
     at (Errs error) = inl (error, refl, refl)
 
 module _ (W : World) (q : Request) (given : Determined W q) where
-  comes_once : (p : Named) (j : Judged) → IsJudged W q p j → (o : Outcome) → ComesTo W q p.policy o → j.outcome ≡ o
+  comes_once : (p : Named) (j : PolicyOutcome) → IsPolicyOutcome W q p j → (o : Outcome) → ComesTo W q p.policy o → j.outcome ≡ o
   comes_once p j is o c = one_outcome W q p.policy (given (expression_of p.policy)) j.outcome o is.outcome c
 
   -- ---- the satisfied policies of an effect
 
-  one_id : (wanted : Effect) (p : Named) (ps : List Named) (j : Judged) (ids : List (List ℕ)) → IsJudged W q p j → AreIdsOf (IsSatisfied W q wanted) ps ids →
+  one_id : (wanted : Effect) (p : Named) (ps : List Named) (j : PolicyOutcome) (ids : List (List ℕ)) → IsPolicyOutcome W q p j → AreIdsOf (IsSatisfied W q wanted) ps ids →
       AreIdsOf (IsSatisfied W q wanted) (p ∷ ps) (if_satisfied wanted j ++ ids)
   one_id wanted p ps j ids is rest = elim (counted_or_not wanted j) [
     | inl h ↦ subst (λ xs. AreIdsOf (IsSatisfied W q wanted) (p ∷ ps) (xs ++ ids)) (sym h.1)
@@ -66,7 +66,7 @@ module _ (W : World) (q : Request) (given : Determined W q) where
         (not_its_id (λ s. h.0 (is.effect ∙ s.0, comes_once p j is Satisfied s.1)) rest)
   ]
 
-  ids_of : (wanted : Effect) (ps : List Named) (js : List Judged) → AreJudged W q ps js → AreIdsOf (IsSatisfied W q wanted) ps (satisfied wanted js)
+  ids_of : (wanted : Effect) (ps : List Named) (js : List PolicyOutcome) → ArePolicyOutcomes W q ps js → AreIdsOf (IsSatisfied W q wanted) ps (satisfied wanted js)
   ids_of wanted [] [] h = no_id
   ids_of wanted [] (j ∷ js) h = absurd h
   ids_of wanted (p ∷ ps) [] h = absurd h
@@ -74,7 +74,7 @@ module _ (W : World) (q : Request) (given : Determined W q) where
 
   -- ---- the erring policies
 
-  one_error : (p : Named) (ps : List Named) (j : Judged) (errors : List Erring) → IsJudged W q p j → AreErrorsOf W q ps errors → AreErrorsOf W q (p ∷ ps) (if_erring j ++ errors)
+  one_error : (p : Named) (ps : List Named) (j : PolicyOutcome) (errors : List ErringPolicy) → IsPolicyOutcome W q p j → AreErrorsOf W q ps errors → AreErrorsOf W q (p ∷ ps) (if_erring j ++ errors)
   one_error p ps j errors is rest = elim (erring_or_not j) [
     | inl h ↦ subst (λ xs. AreErrorsOf W q (p ∷ ps) (xs ++ errors)) (sym h.2)
         (subst (λ id. AreErrorsOf W q (p ∷ ps) (record { policy = id; error = h.0 } ∷ errors)) (sym is.id)
@@ -83,7 +83,7 @@ module _ (W : World) (q : Request) (given : Determined W q) where
         (not_its_error (λ error c. h.0 error (comes_once p j is (Errs error) c)) rest)
   ]
 
-  errors_of : (ps : List Named) (js : List Judged) → AreJudged W q ps js → AreErrorsOf W q ps (erring js)
+  errors_of : (ps : List Named) (js : List PolicyOutcome) → ArePolicyOutcomes W q ps js → AreErrorsOf W q ps (erring js)
   errors_of [] [] h = no_error
   errors_of [] (j ∷ js) h = absurd h
   errors_of (p ∷ ps) [] h = absurd h
@@ -106,7 +106,7 @@ forbid_decides law W above D q ps a p (inr r) c s =
     )
 
 -- without a forbid
-not_forbidden : (permits forbids : List (List ℕ)) (errors : List Erring) → forbids ≡ [] →
+not_forbidden : (permits forbids : List (List ℕ)) (errors : List ErringPolicy) → forbids ≡ [] →
     (((decided permits forbids errors).decision ≡ Allow) ↔ (permits ≢ [])) × ((decided permits forbids errors).reason ≡ permits)
 not_forbidden permits (f ∷ forbids) errors e = absurd (cc)
 not_forbidden [] [] errors e = (((λ d. absurd (cc)), (λ n. absurd (n refl))), refl)
@@ -130,7 +130,7 @@ permits_decide law W above D q ps a (inr r) acyclic none =
       subst (AreIdsOf (IsSatisfied W q Permit) ps) (sym (ap (λ b. b.reason) r.answer ∙ decides.1)) (ids_of W q given Permit ps js r.outcomes),
     )
 
-errors_stay : (permits forbids : List (List ℕ)) (errors : List Erring) → (decided permits forbids errors).errors ≡ errors
+errors_stay : (permits forbids : List (List ℕ)) (errors : List ErringPolicy) → (decided permits forbids errors).errors ≡ errors
 errors_stay permits (f ∷ forbids) errors = refl
 errors_stay [] [] errors = refl
 errors_stay (p ∷ permits) [] errors = refl

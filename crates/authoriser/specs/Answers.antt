@@ -18,7 +18,7 @@ use Rattle.evaluator.specs.Operators.{World}
 use Rattle.evaluator.specs.Evaluation.{Gives}
 use Rattle.authoriser.specs.declared.answer.Answer.{Answer}
 use Rattle.authoriser.specs.declared.answer.Decision.TheVariants.{Allow, Deny}
-use Rattle.authoriser.specs.declared.answer.Erring.{Erring}
+use Rattle.authoriser.specs.declared.answer.ErringPolicy.{ErringPolicy}
 use Rattle.authoriser.specs.declared.outcome.Outcome.{Outcome}
 use Rattle.authoriser.specs.declared.outcome.Outcome.TheVariants.{Satisfied, NotSatisfied, Errs}
 use Rattle.authoriser.specs.declared.outcome.PolicyError.{PolicyError}
@@ -45,55 +45,55 @@ ComesTo W q policy NotSatisfied = Gives W q (expression_of policy) (Ok (boolean 
 ComesTo W q policy (Errs error) = Gives W q (expression_of policy) (Err (fault_of error))
 
 -- a policy's id and effect, and what it comes to
-pub record Judged : Type 0 where
+pub record PolicyOutcome : Type 0 where
   pub id : List ℕ
   pub effect : Effect
   pub outcome : Outcome
 
-pub record IsJudged (W : World) (q : Request) (p : Named) (j : Judged) : Type 0 where
+pub record IsPolicyOutcome (W : World) (q : Request) (p : Named) (j : PolicyOutcome) : Type 0 where
   pub id : j.id ≡ p.id
   pub effect : j.effect ≡ p.policy.effect
   pub outcome : ComesTo W q p.policy j.outcome
 
 -- each policy in its order
-abbrev pub AreJudged : World → Request → List Named → List Judged → Type 0
-AreJudged W q [] [] = Unit {0}
-AreJudged W q [] (j ∷ js) = ⊥
-AreJudged W q (p ∷ ps) [] = ⊥
-AreJudged W q (p ∷ ps) (j ∷ js) = IsJudged W q p j × AreJudged W q ps js
+abbrev pub ArePolicyOutcomes : World → Request → List Named → List PolicyOutcome → Type 0
+ArePolicyOutcomes W q [] [] = Unit {0}
+ArePolicyOutcomes W q [] (j ∷ js) = ⊥
+ArePolicyOutcomes W q (p ∷ ps) [] = ⊥
+ArePolicyOutcomes W q (p ∷ ps) (j ∷ js) = IsPolicyOutcome W q p j × ArePolicyOutcomes W q ps js
 
 abbrev id_if : Effect → Effect → Outcome → List ℕ → List (List ℕ)
 id_if Permit Permit Satisfied id = id ∷ []
 id_if Forbid Forbid Satisfied id = id ∷ []
 id_if wanted effect outcome id = []
 
-abbrev error_of : Outcome → List ℕ → List Erring
+abbrev error_of : Outcome → List ℕ → List ErringPolicy
 error_of (Errs error) id = record { policy = id; error = error } ∷ []
 error_of Satisfied id = []
 error_of NotSatisfied id = []
 
-abbrev pub if_satisfied : Effect → Judged → List (List ℕ)
+abbrev pub if_satisfied : Effect → PolicyOutcome → List (List ℕ)
 if_satisfied wanted j = id_if wanted j.effect j.outcome j.id
 
 -- the ids of the satisfied policies of an effect, in order
-abbrev pub satisfied : Effect → List Judged → List (List ℕ)
+abbrev pub satisfied : Effect → List PolicyOutcome → List (List ℕ)
 satisfied wanted js = flat_map (if_satisfied wanted) js
 
-abbrev pub if_erring : Judged → List Erring
+abbrev pub if_erring : PolicyOutcome → List ErringPolicy
 if_erring j = error_of j.outcome j.id
 
 -- the erring policies, each with its error, in order
-abbrev pub erring : List Judged → List Erring
+abbrev pub erring : List PolicyOutcome → List ErringPolicy
 erring js = flat_map if_erring js
 
 -- Allow where some permit is satisfied and no forbid is; the reason is then the satisfied permits, else the satisfied
 -- forbids
-abbrev pub decided : List (List ℕ) → List (List ℕ) → List Erring → Answer
+abbrev pub decided : List (List ℕ) → List (List ℕ) → List ErringPolicy → Answer
 decided permits (f ∷ forbids) errors = record { decision = Deny; reason = f ∷ forbids; errors = errors; cycle = [] }
 decided [] [] errors = record { decision = Deny; reason = []; errors = errors; cycle = [] }
 decided (p ∷ permits) [] errors = record { decision = Allow; reason = p ∷ permits; errors = errors; cycle = [] }
 
-abbrev pub answer_by : List Judged → Answer
+abbrev pub answer_by : List PolicyOutcome → Answer
 answer_by js = decided (satisfied Permit js) (satisfied Forbid js) (erring js)
 
 -- some entity is on a cycle: a denial that names all that are, ascending, and no policy
@@ -106,8 +106,8 @@ pub record IsCycleDenial (parents : Parents) (a : Answer) : Type 0 where
 -- no entity is on a cycle: the answer by what the policies come to
 pub record IsPolicyAnswer (W : World) (q : Request) (ps : List Named) (a : Answer) : Type 0 where
   pub acyclic : (uid : EntityUid) → Above W.parents uid uid → ⊥
-  pub judged : List Judged
-  pub outcomes : AreJudged W q ps judged
+  pub judged : List PolicyOutcome
+  pub outcomes : ArePolicyOutcomes W q ps judged
   pub answer : a ≡ answer_by judged
 
 abbrev pub IsAnswer : World → Request → List Named → Answer → Type 0

@@ -12,7 +12,7 @@ use Rattle.policy_grammar.specs.declared.policy.Effect.TheVariants.{Permit, Forb
 use Rattle.evaluator.specs.Operators.{World}
 use Rattle.authoriser.specs.declared.answer.Answer.{Answer}
 use Rattle.authoriser.specs.declared.answer.Decision.TheVariants.{Allow, Deny}
-use Rattle.authoriser.specs.declared.answer.Erring.{Erring}
+use Rattle.authoriser.specs.declared.answer.ErringPolicy.{ErringPolicy}
 use Rattle.authoriser.specs.declared.outcome.Outcome.TheVariants.{Satisfied, Errs}
 use Rattle.authoriser.specs.declared.outcome.PolicyError.{PolicyError}
 use Rattle.authoriser.specs.Answers.{Named, ComesTo, IsAnswer}
@@ -56,12 +56,12 @@ pub data AreIdsOf (P : Named → Type 0) : List Named → List (List ℕ) → Ty
       → AreIdsOf P (p ∷ ps) ids
 
 -- those of the policies that err, in that order, each with its error
-pub data AreErrorsOf (W : World) (q : Request) : List Named → List Erring → Type 0 where
+pub data AreErrorsOf (W : World) (q : Request) : List Named → List ErringPolicy → Type 0 where
   no_error : AreErrorsOf W q [] []
-  its_error : {p : Named} {ps : List Named} {errors : List Erring} {error : PolicyError}
+  its_error : {p : Named} {ps : List Named} {errors : List ErringPolicy} {error : PolicyError}
       → ComesTo W q p.policy (Errs error) → AreErrorsOf W q ps errors
       → AreErrorsOf W q (p ∷ ps) (record { policy = p.id; error = error } ∷ errors)
-  not_its_error : {p : Named} {ps : List Named} {errors : List Erring}
+  not_its_error : {p : Named} {ps : List Named} {errors : List ErringPolicy}
       → ((error : PolicyError) → ¬ ComesTo W q p.policy (Errs error)) → AreErrorsOf W q ps errors
       → AreErrorsOf W q (p ∷ ps) errors
 

@@ -12,49 +12,49 @@ use Rattle.policy_grammar.specs.declared.policy.Effect.TheVariants.{Permit, Forb
 use Rattle.evaluator.specs.Outcomes.{boolean_in}
 use Rattle.evaluator.specs.Operators.{World}
 use Rattle.evaluator.specs.Evaluation.{Gives, TestFails}
-use Rattle.authoriser.specs.declared.answer.Erring.{Erring}
+use Rattle.authoriser.specs.declared.answer.ErringPolicy.{ErringPolicy}
 use Rattle.authoriser.specs.declared.outcome.Outcome.{Outcome}
 use Rattle.authoriser.specs.declared.outcome.Outcome.TheVariants.{Satisfied, NotSatisfied, Errs}
 use Rattle.authoriser.specs.declared.outcome.PolicyError.{PolicyError}
 use Rattle.authoriser.specs.declared.outcome.PolicyError.TheVariants.{TypeError}
-use Rattle.authoriser.specs.declared.placed.Placed.{Placed}
-use Rattle.authoriser.specs.declared.placed.Standing.{Standing}
+use Rattle.authoriser.specs.declared.placed.WithAncestors.{WithAncestors}
+use Rattle.authoriser.specs.declared.placed.RequestAncestors.{RequestAncestors}
 use Rattle.authoriser.specs.declared.tally.Tally.{Tally}
 use Rattle.authoriser.specs.Scopes.{IsEntityScopeTrue, IsActionScopeTrue}
-use Rattle.authoriser.specs.Answers.{Named, Judged, fault_of, satisfied, erring}
+use Rattle.authoriser.specs.Answers.{Named, PolicyOutcome, fault_of, satisfied, erring}
 
 -- the policies that the caller hands in
 abbrev pub named : List (Bor (List ℕ) × Bor Policy) → List Named
 named ps = map (λ p. record { id = p.0.now; policy = p.1.now }) ps
 
 -- the entity is `of` itself, or `of` is among the ancestors that were looked up
-abbrev pub IsWithin : Placed → EntityUid → Type 0
+abbrev pub IsWithin : WithAncestors → EntityUid → Type 0
 IsWithin p of = (p.uid.now ≡ of) ⊎ Contains (names p.ancestors.items) of
 
 -- its ancestors are all that lie above it, ascending
-pub record IsPlaced (parents : Parents) (entity : EntityUid) (p : Placed) : Type 0 where
+pub record IsPlaced (parents : Parents) (entity : EntityUid) (p : WithAncestors) : Type 0 where
   pub same : p.uid.now ≡ entity
   pub all : IsAllAbove parents entity (names p.ancestors.items)
   pub ascending : IsAscending (names p.ancestors.items)
 
-pub record IsStanding (parents : Parents) (q : Request) (s : Standing) : Type 0 where
+pub record IsStanding (parents : Parents) (q : Request) (s : RequestAncestors) : Type 0 where
   pub principal : IsPlaced parents q.principal s.principal
   pub action : IsPlaced parents q.action s.action
   pub resource : IsPlaced parents q.resource s.resource
 
 -- the ancestors of each of the three are all that lie above it
-pub record AreAllPlaced (parents : Parents) (s : Standing) : Type 0 where
+pub record AreAllPlaced (parents : Parents) (s : RequestAncestors) : Type 0 where
   pub principal : IsPlaced parents s.principal.uid.now s.principal
   pub action : IsPlaced parents s.action.uid.now s.action
   pub resource : IsPlaced parents s.resource.uid.now s.resource
 
-pub record AreAscending (s : Standing) : Type 0 where
+pub record AreAscending (s : RequestAncestors) : Type 0 where
   pub principal : IsAscending (names s.principal.ancestors.items)
   pub action : IsAscending (names s.action.ancestors.items)
   pub resource : IsAscending (names s.resource.ancestors.items)
 
 -- the scope is true, by the ancestors that were looked up
-abbrev pub IsTrueOf : Scope → Standing → Type 0
+abbrev pub IsTrueOf : Scope → RequestAncestors → Type 0
 IsTrueOf scope s =
     IsEntityScopeTrue (IsWithin s.principal) scope.principal s.principal.uid.now
     × IsActionScopeTrue (IsWithin s.action) scope.action s.action.uid.now
@@ -78,11 +78,11 @@ outcome_by v = outcome_by_truth (boolean_in v)
 abbrev pub ids : List (Bor (List ℕ)) → List (List ℕ)
 ids xs = map (λ x. x.now) xs
 
-abbrev pub faults : List (Bor (List ℕ) × PolicyError) → List Erring
+abbrev pub faults : List (Bor (List ℕ) × PolicyError) → List ErringPolicy
 faults xs = map (λ x. record { policy = x.0.now; error = x.1 }) xs
 
 -- the tally has the satisfied permits, the satisfied forbids and the erring policies of these
-pub record Counts (t : Tally) (js : List Judged) : Type 0 where
+pub record Counts (t : Tally) (js : List PolicyOutcome) : Type 0 where
   pub permits : ids t.permits.items ≡ satisfied Permit js
   pub forbids : ids t.forbids.items ≡ satisfied Forbid js
   pub errors : faults t.errors.items ≡ erring js

@@ -1,3 +1,4 @@
+//! The answer to a request, with the policies that determined it and those that erred.
 use crate::outcome::PolicyError;
 use plain::{Items, Text};
 use values::EntityUid;
@@ -11,7 +12,7 @@ pub enum Decision {
 
 /// A policy that errs, and how.
 #[derive(Drop)]
-pub struct Erring {
+pub struct ErringPolicy {
     /// The policy's id.
     pub policy: Text,
     pub error: PolicyError,
@@ -25,7 +26,7 @@ pub struct Answer {
     /// forbids.
     pub reason: Items<Text>,
     /// The erring policies, ascending by id.
-    pub errors: Items<Erring>,
+    pub errors: Items<ErringPolicy>,
     /// The entities on cycles, ascending; empty where the hierarchy has no cycle. Where it is not empty, no policy was
     /// tried.
     pub cycle: Items<EntityUid>,

@@ -7,9 +7,9 @@ ghost use Rattle.authoriser.specs.Views.{IsStanding, ConditionComesTo, outcome_b
 
 use crate::laws::scopes_do_not_err;
 use crate::outcome::{Outcome, PolicyError};
-use crate::placed::Standing;
+use crate::placed::RequestAncestors;
 use crate::scopes::is_scope_true;
-use evaluator::{EvalFault, Given, Lookup, evaluate};
+use evaluator::{BorrowedOrOwned, EvalFault, Lookup, evaluate};
 use expressions::Expr;
 use plain::NoMemory;
 use policy_grammar::Policy;
@@ -31,7 +31,7 @@ fn error_by(fault: EvalFault) -> Result<PolicyError, NoMemory>
 }
 
 /// What a condition that gives this comes to: it has to give a boolean.
-fn outcome_by(given: &Given<'_>) -> Outcome
+fn outcome_by(given: &BorrowedOrOwned<'_>) -> Outcome
     ensures { result ≡ outcome_by given.now }
 {
     match given.as_boolean() {
@@ -62,7 +62,7 @@ fn outcome_of_condition<L: Lookup>(
 pub(crate) fn outcome_of<L: Lookup>(
     alloc: Global,
     policy: &Policy,
-    standing: &Standing<'_>,
+    standing: &RequestAncestors<'_>,
     request: &Request,
     store: &L,
 ) -> Result<Outcome, NoMemory>

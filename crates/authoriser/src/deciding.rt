@@ -1,6 +1,7 @@
+//! Decisions: the answer to a request over policies and stored entities.
 ghost use Rattle.std.specs.Prelude.{◌≡◌, ◌↔◌, [], List, map, IsTrue, IfOk};
 ghost use Rattle.evaluator.specs.Operators.{world_of};
-ghost use Rattle.authoriser.specs.Answers.{Judged, AreJudged, answer_by, IsAnswer};
+ghost use Rattle.authoriser.specs.Answers.{PolicyOutcome, ArePolicyOutcomes, answer_by, IsAnswer};
 ghost use Rattle.authoriser.specs.Views.{named};
 
 use crate::answer::{Answer, Decision};
@@ -40,7 +41,7 @@ fn answer_by_known<L: Lookup>(
 ) -> Result<Answer, NoMemory>
     requires { known.now.1 ≡ request.now }
     ensures { let W = world_of (L.stored known.now.0) (L.parents known.now.0) in
-        IfOk result (λ a. (js : List Judged) × AreJudged W request.now (named policies.now) js × (a ≡ answer_by js)) }
+        IfOk result (λ a. (js : List PolicyOutcome) × ArePolicyOutcomes W request.now (named policies.now) js × (a ≡ answer_by js)) }
 {
     let standing = known.standing();
     let mut tally = Tally::new(alloc);
@@ -59,7 +60,7 @@ fn answer_by_policies<L: Lookup>(
     store: &L,
 ) -> Result<Answer, NoMemory>
     ensures { let W = world_of (L.stored store.now) (L.parents store.now) in
-        IfOk result (λ a. (js : List Judged) × AreJudged W request.now (named policies.now) js × (a ≡ answer_by js)) }
+        IfOk result (λ a. (js : List PolicyOutcome) × ArePolicyOutcomes W request.now (named policies.now) js × (a ≡ answer_by js)) }
 {
     let known = Known::of(alloc, store, request)?;
     answer_by_known(alloc, policies, request, &known)

@@ -2,7 +2,7 @@
 ghost use Rattle.std.specs.Prelude.{◌≡◌, IfOk};
 ghost use Rattle.authoriser.specs.Views.{IsStanding};
 
-use crate::placed::{Standing, standing_of};
+use crate::placed::{RequestAncestors, standing_of};
 use ancestor_closure::{Ancestry, is_among};
 use evaluator::Lookup;
 use plain::NoMemory;
@@ -17,7 +17,7 @@ pub(crate) struct Known<'a, L: Lookup> {
     alloc: Global,
     store: &'a L,
     request: &'a Request,
-    standing: Standing<'a>,
+    standing: RequestAncestors<'a>,
 }
 
 impl<'a, L: Lookup> Model for Known<'a, L> {
@@ -50,7 +50,7 @@ impl<'a, L: Lookup> Known<'a, L> {
     }
 
     /// Where the request's three entities stand.
-    pub(crate) fn standing(&self) -> &Standing<'a>
+    pub(crate) fn standing(&self) -> &RequestAncestors<'a>
         ensures { IsStanding (L.parents self.now.0) self.now.1 result.now }
     {
         &self.standing

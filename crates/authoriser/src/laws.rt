@@ -1,3 +1,4 @@
+//! Laws of the definitions; the functions do nothing.
 ghost use Rattle.authoriser.specs.Laws.{OneAnswerAtMost, OneAnswerInFiniteHierarchies, DefaultDeny, ForbidDecides};
 ghost use Rattle.authoriser.specs.Laws.{PermitsDecide, ErrorsAreTold};
 ghost use Rattle.authoriser.specs.Laws.{IdleChangesNothing, LeavingOutChangesNothing, OrderDoesNotMatter, ListsAscend};

@@ -16,7 +16,7 @@ mod placed;
 mod scopes;
 mod tally;
 
-pub use answer::{Answer, Decision, Erring};
+pub use answer::{Answer, Decision, ErringPolicy};
 pub use deciding::decide;
 pub use laws::{answers_are_lawful, scopes_do_not_err};
 pub use outcome::{Outcome, PolicyError};

@@ -1,3 +1,4 @@
+//! What a policy comes to on a request, and why one errs.
 /// Why a policy errs. Cedar reference guide, "Errors"; the wants of memory are none of these.
 #[derive(Clone, Copy, Debug, PartialEq, Eq)]
 pub enum PolicyError {

@@ -9,37 +9,40 @@ use values::{EntityUid, Request, TypeName};
 
 /// An entity and its ancestors, ascending.
 #[derive(Drop)]
-pub(crate) struct Placed<'a> {
+pub(crate) struct WithAncestors<'a> {
     pub(crate) uid: &'a EntityUid,
     pub(crate) ancestors: Vec<&'a EntityUid>,
 }
 
 /// The three entities of a request.
 #[derive(Drop)]
-pub(crate) struct Standing<'a> {
-    pub(crate) principal: Placed<'a>,
-    pub(crate) action: Placed<'a>,
-    pub(crate) resource: Placed<'a>,
+pub(crate) struct RequestAncestors<'a> {
+    pub(crate) principal: WithAncestors<'a>,
+    pub(crate) action: WithAncestors<'a>,
+    pub(crate) resource: WithAncestors<'a>,
 }
 
-fn place<'a, A: Ancestry>(ancestry: &'a A, uid: &'a EntityUid) -> Result<Placed<'a>, NoMemory>
+fn place<'a, A: Ancestry>(
+    ancestry: &'a A,
+    uid: &'a EntityUid,
+) -> Result<WithAncestors<'a>, NoMemory>
     ensures { IfOk result (λ p. IsPlaced (A.parents ancestry.now) uid.now p) }
 {
     let ancestors = ancestry.ancestors(uid)?;
-    Ok(Placed { uid, ancestors })
+    Ok(WithAncestors { uid, ancestors })
 }
 
 /// The request's entities with their ancestors, each asked for once.
 pub(crate) fn standing_of<'a, A: Ancestry>(
     ancestry: &'a A,
     request: &'a Request,
-) -> Result<Standing<'a>, NoMemory>
+) -> Result<RequestAncestors<'a>, NoMemory>
     ensures { IfOk result (λ s. IsStanding (A.parents ancestry.now) request.now s) }
 {
     let principal = place(ancestry, &request.principal)?;
     let action = place(ancestry, &request.action)?;
     let resource = place(ancestry, &request.resource)?;
-    Ok(Standing {
+    Ok(RequestAncestors {
         principal,
         action,
         resource,
@@ -60,7 +63,7 @@ pub(crate) fn is_same_type(a: &TypeName, b: &TypeName) -> bool
     a.as_str() == b.as_str()
 }
 
-impl Placed<'_> {
+impl WithAncestors<'_> {
     /// Whether this is `of`, or `of` is among its ancestors: O(log n), without memory.
     pub(crate) fn is_within(&self, of: &EntityUid) -> bool
         requires { IsAscending (names self.now.ancestors.items) }
@@ -70,9 +73,9 @@ impl Placed<'_> {
     }
 }
 
-impl<'a> Standing<'a> {
+impl<'a> RequestAncestors<'a> {
     /// Where an entity stands, if it is one of the three.
-    pub(crate) fn place_of(&self, uid: &EntityUid) -> Option<&Placed<'a>>
+    pub(crate) fn place_of(&self, uid: &EntityUid) -> Option<&WithAncestors<'a>>
         ensures { MatchOption result ⊤
             (λ p. (parents : Parents) → AreAllPlaced parents self.now → IsPlaced parents uid.now p.now) }
     {

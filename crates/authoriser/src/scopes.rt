@@ -5,11 +5,11 @@ ghost use Rattle.ancestor_closure.specs.Hierarchy.{IsAscending, names};
 ghost use Rattle.authoriser.specs.Scopes.{IsEntityScopeTrue, IsActionScopeTrue};
 ghost use Rattle.authoriser.specs.Views.{IsWithin, AreAscending, IsTrueOf};
 
-use crate::placed::{Placed, Standing, is_same, is_same_type};
+use crate::placed::{RequestAncestors, WithAncestors, is_same, is_same_type};
 use policy_grammar::{ActionScope, EntityScope, Scope};
 use values::EntityUid;
 
-fn is_entity_scope_true(scope: &EntityScope, placed: &Placed<'_>) -> bool
+fn is_entity_scope_true(scope: &EntityScope, placed: &WithAncestors<'_>) -> bool
     requires { IsAscending (names placed.now.ancestors.items) }
     ensures { IsTrue result ↔ IsEntityScopeTrue (IsWithin placed.now) scope.now placed.now.uid.now }
 {
@@ -24,7 +24,7 @@ fn is_entity_scope_true(scope: &EntityScope, placed: &Placed<'_>) -> bool
     }
 }
 
-fn is_action_scope_true(scope: &ActionScope, placed: &Placed<'_>) -> bool
+fn is_action_scope_true(scope: &ActionScope, placed: &WithAncestors<'_>) -> bool
     requires { IsAscending (names placed.now.ancestors.items) }
     ensures { IsTrue result ↔ IsActionScopeTrue (IsWithin placed.now) scope.now placed.now.uid.now }
 {
@@ -36,7 +36,7 @@ fn is_action_scope_true(scope: &ActionScope, placed: &Placed<'_>) -> bool
     }
 }
 
-fn is_within_any(entities: &[EntityUid], placed: &Placed<'_>) -> bool
+fn is_within_any(entities: &[EntityUid], placed: &WithAncestors<'_>) -> bool
     requires { IsAscending (names placed.now.ancestors.items) }
     ensures { IsTrue result ↔ ((entity : EntityUid) × Contains entities.now entity × IsWithin placed.now entity) }
 {
@@ -49,7 +49,7 @@ fn is_within_any(entities: &[EntityUid], placed: &Placed<'_>) -> bool
 }
 
 /// Whether all three parts of a scope are true.
-pub(crate) fn is_scope_true(scope: &Scope, standing: &Standing<'_>) -> bool
+pub(crate) fn is_scope_true(scope: &Scope, standing: &RequestAncestors<'_>) -> bool
     requires { AreAscending standing.now }
     ensures { IsTrue result ↔ IsTrueOf scope.now standing.now }
 {

@@ -1,9 +1,9 @@
 //! The policies that decide and those that err, gathered one after another.
 ghost use Rattle.std.specs.Prelude.{◌≡◌, ◌∷◌, [], ◌++◌, List, map, IfOk, OnOk};
-ghost use Rattle.authoriser.specs.Answers.{Judged, decided};
+ghost use Rattle.authoriser.specs.Answers.{PolicyOutcome, decided};
 ghost use Rattle.authoriser.specs.Views.{Counts, ids, faults};
 
-use crate::answer::{Answer, Decision, Erring};
+use crate::answer::{Answer, Decision, ErringPolicy};
 use crate::outcome::{Outcome, PolicyError};
 use plain::{Items, NoMemory, Text};
 use policy_grammar::Effect;
@@ -35,7 +35,7 @@ impl<'a> Tally<'a> {
         effect: Effect,
         outcome: Outcome,
     ) -> Result<(), NoMemory>
-        ensures { OnOk result ((js : List Judged) → Counts self.old js
+        ensures { OnOk result ((js : List PolicyOutcome) → Counts self.old js
             → Counts self.new (js ++ record { id = id.now; effect = effect; outcome = outcome } ∷ [])) }
     {
         match (outcome, effect) {
@@ -89,13 +89,16 @@ fn copy_ids(alloc: Global, ids: &[&str]) -> Result<Items<Text>, NoMemory>
     Ok(Items::from_vec(copies))
 }
 
-fn copy_errors(alloc: Global, errors: &[(&str, PolicyError)]) -> Result<Items<Erring>, NoMemory>
+fn copy_errors(
+    alloc: Global,
+    errors: &[(&str, PolicyError)],
+) -> Result<Items<ErringPolicy>, NoMemory>
     ensures { IfOk result (λ copies. copies ≡ faults errors.now) }
 {
     let mut copies = Vec::with_capacity(alloc, errors.len())?;
     for (id, error) in errors {
         let policy = Text::from_str(alloc, id)?;
-        copies.push(Erring {
+        copies.push(ErringPolicy {
             policy,
             error: *error,
         })?;

@@ -1,21 +1,35 @@
-//! The program: policies checked under a schema, and requests decided over files.
+//! The program: policies checked under a schema, requests decided over files, and sites of policies that are served,
+//! pulled from and merged.
 #![tactic(auto)]
 
-use site_commands::{FAILED, SystemHost, run};
+use command_lines::LineFault;
+use site_commands::{SystemHost, run, tell_words};
 use std::env;
+use std::io::ErrorKind;
 use std::process::ExitCode;
 
+/// The words of the command line, the first of which is the program's own name.
+fn words(rt: &HostRuntime) -> Result<Vec<String>, LineFault> {
+    match env::args(rt) {
+        Ok(words) => match words.collect::<Vec<String>>(rt.alloc()) {
+            Ok(words) => Ok(words),
+            Err(_) => Err(LineFault::NoMemory),
+        },
+        Err(error) => match error.kind() {
+            ErrorKind::OutOfMemory => Err(LineFault::NoMemory),
+            _ => Err(LineFault::NotText),
+        },
+    }
+}
+
 fn main(rt: HostRuntime) -> ExitCode {
-    let Ok(words) = env::args(&rt) else {
-        return ExitCode::from(FAILED);
-    };
-    let Ok(words) = words.collect::<Vec<String>>(rt.alloc()) else {
-        return ExitCode::from(FAILED);
-    };
     let mut host = SystemHost {
         files: &rt,
         answers: rt.stdout(),
         faults: rt.stderr(),
     };
-    run(rt.alloc(), &mut host, words.as_slice())
+    match words(&rt) {
+        Ok(words) => run(rt.alloc(), &mut host, words.as_slice()),
+        Err(fault) => tell_words(&mut host, &fault),
+    }
 }

@@ -1,66 +1,17 @@
 //! Conditions and policies over entities with attributes.
 
-ghost use Rattle.std.specs.Prelude.{◌≡◌, [], None};
-ghost use Rattle.std.specs.BTreeMap.{get};
-ghost use Rattle.values.specs.declared.entity_uid.EntityUid.{EntityUid};
-ghost use Rattle.values.specs.Names.{uid_cmp};
-ghost use Rattle.ancestor_closure.specs.contracts.searched.SearchedAncestry.TheImpl as searched;
-
 use crate::texts::{policy_when, text_of};
-use ancestor_closure::{Ancestry, Searched};
 use authoriser::{Answer, decide};
 use decision_texts::answer_line;
-use evaluator::{EvalFault, Given, Lookup, evaluate};
+use entity_worlds::{Entity, EntityStore, NoActions, World};
+use evaluator::{BorrowedOrOwned, EvalFault, Lookup, evaluate};
 use extensions::IpNet;
-use plain::{NoMemory, Text};
+use plain::{Items, NoMemory, Text};
 use policy_grammar::{Policy, parse_policies, parse_policy};
 use std::alloc::{AllocError, Global};
-use std::collections::BTreeMap;
 use values::{EntityUid, Record, Request, TypeName, Value};
 
-/// Entities with their attributes; none has parents.
-#[derive(Drop)]
-struct Site {
-    hierarchy: Searched,
-    attributes: BTreeMap<EntityUid, Record>,
-    // One that is not stored has no parents.
-    ghost alone: { (uid : EntityUid) → get uid_cmp attributes uid ≡ None
-        → searched.parents-value.it hierarchy uid ≡ [] },
-}
-
-impl Ancestry for Site {
-    ghost use Rattle.ancestor_closure.specs.contracts.searched.SearchedAncestry.TheImpl as searched;
-    ghost use Rattle.ancestor_closure.specs.SearchedMeaning.{searched_is_decided};
-
-    ghost parents = { λ s. searched.parents-value.it s.hierarchy };
-
-    ghost above = { λ s. searched.above-value.it s.hierarchy };
-
-    ghost above_is = { λ s. searched_is_decided s.hierarchy };
-
-    fn is_ancestor(&self, a: &EntityUid, b: &EntityUid) -> Result<bool, NoMemory> {
-        self.hierarchy.is_ancestor(a, b)
-    }
-
-    fn ancestors(&self, uid: &EntityUid) -> Result<Vec<&EntityUid>, NoMemory> {
-        self.hierarchy.ancestors(uid)
-    }
-
-    fn cyclic(&self) -> Result<Vec<&EntityUid>, NoMemory> {
-        self.hierarchy.cyclic()
-    }
-}
-
-impl Lookup for Site {
-    ghost use Rattle.std.specs.BTreeMap.{get};
-    ghost use Rattle.values.specs.Names.{uid_cmp};
-
-    ghost stored = { λ s uid. get uid_cmp s.attributes uid };
-
-    fn attrs_of(&self, uid: &EntityUid) -> Option<&Record> {
-        self.attributes.get(uid)
-    }
-}
+type Entities<'a> = World<'a, EntityStore, NoActions>;
 
 fn uid(alloc: Global, type_name: &str, id: &str) -> Result<EntityUid, NoMemory> {
     let Some(type_name) = TypeName::parse(alloc, type_name)? else {
@@ -90,27 +41,39 @@ fn doc(alloc: Global) -> Result<Record, NoMemory> {
     Ok(doc)
 }
 
-type Attributes = BTreeMap<EntityUid, Record>;
-
-fn store(attributes: &mut Attributes, uid: EntityUid, record: Record) -> Result<(), NoMemory> {
-    drop(attributes.insert(uid, record)?);
+fn store(
+    alloc: Global,
+    entities: &mut EntityStore,
+    uid: EntityUid,
+    attrs: Record,
+) -> Result<(), NoMemory> {
+    let parents = Items::new(alloc);
+    entities.put(Entity {
+        uid,
+        attrs,
+        parents,
+    })?;
     Ok(())
 }
 
-/// User alice has a name and an age; Doc d has an owner, User bob, who is not stored.
-fn fill(alloc: Global, attributes: &mut Attributes) -> Result<(), NoMemory> {
-    store(attributes, uid(alloc, "User", "alice")?, alice(alloc)?)?;
-    store(attributes, uid(alloc, "Doc", "d")?, doc(alloc)?)
+fn store_alice(alloc: Global, entities: &mut EntityStore) -> Result<(), NoMemory> {
+    let alice = alice(alloc)?;
+    let (alice, uid) = beside(alice, uid(alloc, "User", "alice"))?;
+    store(alloc, entities, uid, alice)
 }
 
-fn stored(alloc: Global) -> Result<Site, NoMemory> {
-    let mut attributes = BTreeMap::<EntityUid, Record>::new(alloc);
-    fill(alloc, &mut attributes)?;
-    let site = Site {
-        hierarchy: Searched::new(alloc),
-        attributes,
-    };
-    Ok(site)
+fn store_doc(alloc: Global, entities: &mut EntityStore) -> Result<(), NoMemory> {
+    let doc = doc(alloc)?;
+    let (doc, uid) = beside(doc, uid(alloc, "Doc", "d"))?;
+    store(alloc, entities, uid, doc)
+}
+
+/// User alice has a name and an age; Doc d has an owner, User bob, who is not stored. None has parents.
+fn stored(alloc: Global) -> Result<EntityStore, NoMemory> {
+    let mut entities = EntityStore::new(alloc);
+    store_alice(alloc, &mut entities)?;
+    store_doc(alloc, &mut entities)?;
+    Ok(entities)
 }
 
 /// A set of Alice and nine more users.
@@ -174,7 +137,7 @@ fn request(alloc: Global, texts: u32) -> Result<Request, NoMemory> {
 }
 
 /// What came out, in a word.
-fn told(found: &Result<Given<'_>, EvalFault>) -> &'static str {
+fn told(found: &Result<BorrowedOrOwned<'_>, EvalFault>) -> &'static str {
     match found {
         Ok(given) => match given.as_boolean() {
             Some(true) => "true",
@@ -189,39 +152,46 @@ fn told(found: &Result<Given<'_>, EvalFault>) -> &'static str {
 }
 
 /// What the condition gives, in a word, the last of so many times.
-fn last_told(
+fn last_told<L: Lookup>(
     alloc: Global,
     policy: &Policy,
     request: &Request,
-    site: &Site,
+    entities: &L,
     times: u32,
 ) -> &'static str {
     let mut word = "not asked";
     for _ in 0..times {
-        word = told(&evaluate(alloc, &policy.condition, request, site));
+        word = told(&evaluate(alloc, &policy.condition, request, entities));
     }
     word
 }
 
 /// What the condition of a policy gives, in a word.
-fn given(alloc: Global, policy: &str, request: &Request, site: &Site, times: u32) -> &'static str {
+fn given<L: Lookup>(
+    alloc: Global,
+    policy: &str,
+    request: &Request,
+    entities: &L,
+    times: u32,
+) -> &'static str {
     let read = parse_policy(alloc, policy);
     let word = match &read {
-        Ok(policy) => last_told(alloc, policy, request, site, times),
+        Ok(policy) => last_told(alloc, policy, request, entities, times),
         Err(_) => "no condition",
     };
     drop(read);
     word
 }
 
-fn over_site(
+fn over_entities(
     alloc: Global,
     policy: &str,
     request: &Request,
     times: u32,
 ) -> Result<&'static str, NoMemory> {
-    let site = stored(alloc)?;
-    Ok(given(alloc, policy, request, &site, times))
+    let store = stored(alloc)?;
+    let entities = World::new(alloc, &store, NoActions);
+    Ok(given(alloc, policy, request, &entities, times))
 }
 
 fn over_request(
@@ -231,7 +201,7 @@ fn over_request(
     times: u32,
 ) -> Result<&'static str, NoMemory> {
     let request = request(alloc, texts)?;
-    over_site(alloc, policy, &request, times)
+    over_entities(alloc, policy, &request, times)
 }
 
 fn asked(alloc: Global, condition: &str, texts: u32, times: u32) -> Result<&'static str, NoMemory> {
@@ -276,19 +246,19 @@ fn answer_by(
     alloc: Global,
     policies: &[(String, Policy)],
     request: &Request,
-    site: &Site,
+    entities: &Entities<'_>,
 ) -> Result<Answer, NoMemory> {
     let policies = referred(alloc, policies)?;
-    decide(alloc, &policies, request, site)
+    decide(alloc, &policies, request, entities)
 }
 
 fn line_by(
     alloc: Global,
     policies: &[(String, Policy)],
     request: &Request,
-    site: &Site,
+    entities: &Entities<'_>,
 ) -> Result<String, NoMemory> {
-    let answer = answer_by(alloc, policies, request, site)?;
+    let answer = answer_by(alloc, policies, request, entities)?;
     line_of(alloc, &answer)
 }
 
@@ -296,11 +266,11 @@ fn answered(
     alloc: Global,
     policies: &str,
     request: &Request,
-    site: &Site,
+    entities: &Entities<'_>,
 ) -> Result<String, NoMemory> {
     let read = parse_policies(alloc, policies);
     let line = match &read {
-        Ok(policies) => line_by(alloc, policies, request, site),
+        Ok(policies) => line_by(alloc, policies, request, entities),
         Err(_) => String::from_str(alloc, "no policies"),
     };
     drop(read);
@@ -308,8 +278,9 @@ fn answered(
 }
 
 fn answered_over(alloc: Global, policies: &str, request: &Request) -> Result<String, NoMemory> {
-    let site = stored(alloc)?;
-    answered(alloc, policies, request, &site)
+    let store = stored(alloc)?;
+    let entities = World::new(alloc, &store, NoActions);
+    answered(alloc, policies, request, &entities)
 }
 
 /// The answer by a file of policies, in the order in which they stand, over these entities.

@@ -18,6 +18,7 @@ pub struct Known {
 }
 
 impl Known {
+    /// No texts yet.
     pub fn new(alloc: Global) -> Known {
         Known {
             entities: Vec::new(alloc),

@@ -19,6 +19,7 @@ pub struct Declared {
 }
 
 impl Declared {
+    /// No schema yet.
     pub fn new() -> Declared {
         Declared { schema: None }
     }

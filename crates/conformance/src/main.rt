@@ -21,8 +21,8 @@
 //! - `under`: gives the rows below their schema; `entity`: the one text of an entity under it, which is also read back;
 //!   `context`: the one text of a `context` for an `action`; `request`: that of a request.
 //!
-//! A text that is refused comes to the refusal's number and place. In a text `⟦3×ab⟧` stands for `ababab`, and `⟦0a
-//! ff⟧` for two bytes. A line that is empty or begins with `#` is printed as it is, so that line N of what is read is
+//! A text that is refused comes to the refusal's number and place. In a text `⟦3×ab⟧` stands for `ababab`, `⟦2№a#+⟧`
+//! for `a01a12`, and `⟦0a ff⟧` for two bytes. A line that is empty or begins with `#` is printed as it is, so that line N of what is read is
 //! line N of what is printed.
 #![tactic(auto)]
 

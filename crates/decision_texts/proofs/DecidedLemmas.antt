@@ -4,7 +4,7 @@ use Rattle.values.specs.declared.request.Request.{Request}
 use Rattle.policy_grammar.specs.declared.policy.Policy.{Policy}
 use Rattle.evaluator.specs.Operators.{World}
 use Rattle.authoriser.specs.Answers.{IsAnswer}
-use Rattle.entity_store.specs.Keeping.{Entries}
+use Rattle.entity_worlds.specs.Keeping.{Entries}
 use Rattle.decision_texts.specs.declared.refusal.Refusal.{Refusal}
 use Rattle.decision_texts.specs.Refusals.{bad_shape}
 use Rattle.decision_texts.specs.Bare.{entities_of}

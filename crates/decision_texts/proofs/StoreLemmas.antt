@@ -11,11 +11,11 @@ use Rattle.values.specs.Uids.{equal-is}
 use Rattle.plain.proofs.Members.{Contains-here, Contains-there, Contains-none}
 use Rattle.ancestor_closure.specs.Decided.{is_same, HaveAllParents}
 use Rattle.evaluator.specs.Operators.{world_of}
-use Rattle.entities.specs.declared.entity.Entity.{Entity}
-use Rattle.entity_store.specs.declared.data.EntityData.{EntityData}
-use Rattle.entity_store.specs.Entities.{EntityMap, attributes_of, parents_of}
-use Rattle.entity_store.specs.Keeping.{Entries, kept_in, Puts}
-use Rattle.entity_store.specs.Keeping.{data_of as data_in}
+use Rattle.entity_worlds.specs.declared.entity.Entity.{Entity}
+use Rattle.entity_worlds.specs.declared.data.EntityData.{EntityData}
+use Rattle.entity_worlds.specs.Entities.{EntityMap, attributes_of, parents_of}
+use Rattle.entity_worlds.specs.Keeping.{Entries, kept_in, Puts}
+use Rattle.entity_worlds.specs.Keeping.{data_of as data_in}
 use Rattle.decision_texts.specs.declared.bare.BareEntity.{BareEntity}
 use Rattle.decision_texts.specs.Decisions.{parents_in, stored_in, world_in}
 use Rattle.decision_texts.specs.inner.Stores.{data_of, stated_at, Holds, world_held}

@@ -7,7 +7,7 @@ use Rattle.uid_json.specs.Uids.{uid_json}
 use Rattle.authoriser.specs.declared.answer.Answer.{Answer}
 use Rattle.authoriser.specs.declared.answer.Decision.{Decision}
 use Rattle.authoriser.specs.declared.answer.Decision.TheVariants.{Allow, Deny}
-use Rattle.authoriser.specs.declared.answer.Erring.{Erring}
+use Rattle.authoriser.specs.declared.answer.ErringPolicy.{ErringPolicy}
 use Rattle.authoriser.specs.declared.outcome.PolicyError.{PolicyError}
 use Rattle.authoriser.specs.declared.outcome.PolicyError.TheVariants.{EntityDoesNotExist, AttrDoesNotExist, TypeError}
 use Rattle.authoriser.specs.declared.outcome.PolicyError.TheVariants.{ArithBoundsError, ExtensionError}
@@ -23,7 +23,7 @@ error_word TypeError = codes "typeError"
 error_word ArithBoundsError = codes "arithBoundsError"
 error_word ExtensionError = codes "extensionError"
 
-abbrev pub erring_json : Erring → Data
+abbrev pub erring_json : ErringPolicy → Data
 erring_json e = object (member (codes "error") (string (error_word e.error))
     (member (codes "policy") (string e.policy) no_members))
 

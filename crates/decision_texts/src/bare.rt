@@ -1,3 +1,4 @@
+//! Entities without attributes, as JSON states them where no schema is given.
 ghost use Rattle.std.specs.Prelude.{◌≡◌, option_map};
 ghost use Rattle.serde_json.specs.View.{view, items_view};
 ghost use Rattle.json_words.specs.Gives.{Gives};

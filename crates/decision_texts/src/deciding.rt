@@ -1,3 +1,4 @@
+//! The line of the answer to three texts: policies, entities and a request.
 ghost use Rattle.std.specs.Prelude.{◌≡◌, map, string_bytes, IfOk, IfErr};
 ghost use Rattle.authoriser.specs.Answers.{IsAnswer};
 ghost use Rattle.authoriser.specs.Views.{named};
@@ -11,7 +12,7 @@ use crate::policies::{read_policies, refusal_by};
 use crate::refusal::Refusal;
 use crate::request::read_request;
 use authoriser::{Answer, decide};
-use entity_store::{EntityStore, World};
+use entity_worlds::{EntityStore, NoActions, World};
 use plain::NoMemory;
 use policy_grammar::Policy;
 use std::alloc::Global;
@@ -54,7 +55,7 @@ fn answer_over(
 ) -> Result<Answer, NoMemory>
     ensures { IfOk result (IsAnswer (world_held store.now) request.now (named policies.now)) }
 {
-    let world = World::new(alloc, store, None);
+    let world = World::new(alloc, store, NoActions);
     decide(alloc, policies, request, &world)
 }
 

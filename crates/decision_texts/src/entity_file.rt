@@ -10,7 +10,7 @@ ghost use Rattle.decision_texts.specs.inner.Stores.{GivesStore};
 use crate::bare::{BareEntity, ShapeFault, read_entity};
 use crate::refusal::Refusal;
 use crate::store::without_attributes;
-use entity_store::EntityStore;
+use entity_worlds::EntityStore;
 use json_words::read_json;
 use serde_json::Value;
 use std::alloc::Global;

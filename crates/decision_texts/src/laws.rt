@@ -1,4 +1,4 @@
-// Laws of the definitions.
+//! Laws of the definitions.
 ghost use Rattle.decision_texts.specs.Outcomes.{OneLine, NotBoth, OneRefusal, LineOrRefusal};
 ghost use Rattle.decision_texts.specs.Outcomes.{ListsOfLinesAscend};
 

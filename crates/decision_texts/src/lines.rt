@@ -1,3 +1,4 @@
+//! The line of an answer, and that of a refusal.
 ghost use Rattle.std.specs.Prelude.{◌≡◌, IfOk};
 ghost use Rattle.serde_json.specs.Data.{string};
 ghost use Rattle.serde_json.specs.View.{view};
@@ -5,7 +6,7 @@ ghost use Rattle.uid_json.specs.Uids.{uid_json};
 ghost use Rattle.decision_texts.specs.Lines.{decision_word, error_word, erring_json, each_json, under_keys};
 ghost use Rattle.decision_texts.specs.Lines.{answer_json, answer_line};
 
-use authoriser::{Answer, Decision, Erring, PolicyError};
+use authoriser::{Answer, Decision, ErringPolicy, PolicyError};
 use json_words::write_json;
 use plain::{NoMemory, Text};
 use serde_json::{Value, json};
@@ -34,7 +35,7 @@ fn error_word(error: PolicyError) -> &'static str
     }
 }
 
-fn erring_value(alloc: Global, erring: &Erring) -> Result<Value, NoMemory>
+fn erring_value(alloc: Global, erring: &ErringPolicy) -> Result<Value, NoMemory>
     ensures { IfOk result (λ v. view v ≡ erring_json erring.now) }
 {
     json!(in alloc; {"error": error_word(erring.error), "policy": erring.policy.as_str()})
@@ -50,7 +51,7 @@ fn cycle_value(alloc: Global, uids: &[EntityUid]) -> Result<Value, NoMemory>
     Ok(Value::Array(items))
 }
 
-fn errors_value(alloc: Global, errors: &[Erring]) -> Result<Value, NoMemory>
+fn errors_value(alloc: Global, errors: &[ErringPolicy]) -> Result<Value, NoMemory>
     ensures { IfOk result (λ v. view v ≡ each_json erring_json errors.now) }
 {
     let mut items = Vec::new(alloc);

@@ -1,3 +1,4 @@
+//! The policies of a file, each with its name.
 ghost use Rattle.std.specs.Prelude.{◌≡◌, IfOk, IfErr, map, string_bytes};
 ghost use Rattle.policy_grammar.specs.PolicyText.{OrNoMemory};
 ghost use Rattle.decision_texts.specs.Decisions.{ArePoliciesOf, IsFileFault, refusal_by};

@@ -1,3 +1,4 @@
+//! Refusals: their code, their place, and their line.
 ghost use Rattle.std.specs.Prelude.{◌≡◌, IfOk};
 ghost use Rattle.serde_json.specs.View.{view};
 ghost use Rattle.decision_texts.specs.Refusals.{no_memory, bad_shape, number_or_null, refusal_json, error_line};

@@ -1,10 +1,10 @@
 //! The entities of a file, as they are kept.
 ghost use Rattle.std.specs.Prelude.{◌≡◌, [], IfOk, OnOk, IsTrue, is_some, not};
-ghost use Rattle.entity_store.specs.Keeping.{kept_in};
+ghost use Rattle.entity_worlds.specs.Keeping.{kept_in};
 ghost use Rattle.decision_texts.specs.inner.Stores.{data_of};
 
 use crate::bare::BareEntity;
-use entities::Entity;
+use entity_worlds::Entity;
 use std::alloc::Global;
 use values::Record;
 

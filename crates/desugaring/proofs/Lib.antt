@@ -7,7 +7,7 @@ pub mod Repeating
 pub mod Cores
 pub mod FaultsOf
 pub mod Sizing
-pub mod Judging
+pub mod MeasureLemmas
 pub mod PartsOf
 pub mod Gaving
 pub mod Telling

@@ -1,4 +1,4 @@
--- Judgements of core forms, from those of their parts.
+-- Measures of core forms, from those of their parts.
 use Rattle.std.proofs.lemmas.Bool.{cases_Bool, eqb-true}
 use Rattle.std.proofs.Common.{◌≡◌, Bool, true, false, inl, inr, ℕ, suc, ◌+◌, max, refl, ap, ◌∙◌, sym, arith, List, [], ◌∷◌, ◌++◌, map, length, Option, Some, None, append_assoc, nat_eq, if◌then◌else◌}
 use Rattle.std.proofs.lemmas.List.{append-nil, map-append}
@@ -19,7 +19,7 @@ use Rattle.expressions.specs.Size.{height, height_step, forms, forms_step, cappe
 use Rattle.expressions.proofs.Forms.{fold_literal, fold_variable, fold_if, fold_and, fold_or, fold_unary, fold_binary, fold_field, fold_has, fold_set, fold_unary_call, fold_binary_call}
 use Rattle.desugaring.specs.declared.fault.DesugarFault.{DesugarFault}
 use Rattle.desugaring.specs.declared.fault.DesugarFault.TheVariants.{UnknownCall, Arity}
-use Rattle.desugaring.specs.declared.judgement.Judgement.{Judgement}
+use Rattle.desugaring.specs.declared.measure.Measure.{Measure}
 use Rattle.desugaring.specs.declared.names.Method.{Method}
 use Rattle.desugaring.specs.declared.names.Method.TheVariants as method
 use Rattle.desugaring.specs.Refused.{earlier_of, least}
@@ -27,27 +27,27 @@ use Rattle.desugaring.specs.Names.{function_takes, method_takes}
 use Rattle.desugaring.specs.Core.{compared, method_called, no_call}
 use Rattle.desugaring.specs.Core as spec
 use Rattle.desugaring.specs.Faults.{call_faults}
-use Rattle.desugaring.specs.Judged.{judgement, of, of_row}
-use Rattle.desugaring.specs.Sums.{leaf, above, beside, paired, called, with_fault, judged_compared}
+use Rattle.desugaring.specs.Measured.{measure, of, of_row}
+use Rattle.desugaring.specs.Sums.{leaf, above, beside, paired, called, with_fault, measured_compared}
 use Rattle.desugaring.proofs.Least.{least-append}
 
-pub same : (h k f g : ℕ) (o p : Option DesugarFault) → h ≡ k → f ≡ g → o ≡ p → judgement h f o ≡ judgement k g p
-same h k f g o p a b c = ap (λ x. judgement x f o) a ∙ ap (λ x. judgement k x o) b ∙ ap (judgement k g) c
+pub same : (h k f g : ℕ) (o p : Option DesugarFault) → h ≡ k → f ≡ g → o ≡ p → measure h f o ≡ measure k g p
+same h k f g o p a b c = ap (λ x. measure x f o) a ∙ ap (λ x. measure k x o) b ∙ ap (measure k g) c
 
 -- without the cap
-abbrev as_is : ℕ → ℕ → Option DesugarFault → Judgement
+abbrev as_is : ℕ → ℕ → Option DesugarFault → Measure
 as_is h f o = record { height = h; forms = f; fault = o }
 
 made : (h k f g : ℕ) (o : Option DesugarFault) → h ≡ k → f ≡ g → as_is h f o ≡ as_is k g o
 made h k f g o a b = ap (λ x. as_is x f o) a ∙ ap (λ x. as_is k x o) b
 
-pub capped_above : (h f : ℕ) (o : Option DesugarFault) → judgement (h + 1) (f + 1) o ≡ above (judgement h f o)
+pub capped_above : (h f : ℕ) (o : Option DesugarFault) → measure (h + 1) (f + 1) o ≡ above (measure h f o)
 capped_above h f o =
     let e : capped (h + 1) ≡ capped (capped h + 1) = omega arith in
     let d : capped (f + 1) ≡ capped (capped f + 1) = omega arith in
     made (capped (h + 1)) (capped (capped h + 1)) (capped (f + 1)) (capped (capped f + 1)) o e d
 
-capped_beside : (h k f g : ℕ) (o p : Option DesugarFault) → judgement (max h k) (f + g) (earlier_of o p) ≡ beside (judgement h f o) (judgement k g p)
+capped_beside : (h k f g : ℕ) (o p : Option DesugarFault) → measure (max h k) (f + g) (earlier_of o p) ≡ beside (measure h f o) (measure k g p)
 capped_beside h k f g o p =
     let e : capped (max h k) ≡ capped (max (capped h) (capped k)) = omega arith in
     let d : capped (f + g) ≡ capped (capped f + capped g) = omega arith in
@@ -74,9 +74,9 @@ of-Has a name fs = same _ _ _ _ _ _ (fold_has ℕ height_step a name) (fold_has 
 pub of-Set : (es : List Expr) (fs : List DesugarFault) → of (core.Set es) fs ≡ above (of_row es fs)
 of-Set es fs = same _ _ _ _ _ _ (fold_set ℕ height_step es) (fold_set ℕ forms_step es) refl ∙ capped_above (greatest (map height es)) (total (map forms es)) (least fs)
 
-two : (h k f g : ℕ) (fs gs : List DesugarFault) → judgement (max h k + 1) (f + g + 1) (least (fs ++ gs)) ≡ paired (judgement h f (least fs)) (judgement k g (least gs))
+two : (h k f g : ℕ) (fs gs : List DesugarFault) → measure (max h k + 1) (f + g + 1) (least (fs ++ gs)) ≡ paired (measure h f (least fs)) (measure k g (least gs))
 two h k f g fs gs =
-    ap (judgement (max h k + 1) (f + g + 1)) (least-append fs gs) ∙ capped_above (max h k) (f + g) (earlier_of (least fs) (least gs))
+    ap (measure (max h k + 1) (f + g + 1)) (least-append fs gs) ∙ capped_above (max h k) (f + g) (earlier_of (least fs) (least gs))
     ∙ ap above (capped_beside h k f g (least fs) (least gs))
 
 pub of-And : (a b : Expr) (fs gs : List DesugarFault) → of (core.And a b) (fs ++ gs) ≡ paired (of a fs) (of b gs)
@@ -100,9 +100,9 @@ of-If a b c fs gs hs =
     same _ _ _ _ _ _ (fold_if ℕ height_step a b c) (fold_if ℕ forms_step a b c ∙ three (forms a) (forms b) (forms c)) refl
     ∙ two (height a) (max (height b) (height c)) (forms a) (forms b + forms c) fs (gs ++ hs)
     ∙ ap (λ j. above (beside (of a fs) j))
-    (ap (judgement (max (height b) (height c)) (forms b + forms c)) (least-append gs hs) ∙ capped_beside (height b) (height c) (forms b) (forms c) (least gs) (least hs))
+    (ap (measure (max (height b) (height c)) (forms b + forms c)) (least-append gs hs) ∙ capped_beside (height b) (height c) (forms b) (forms c) (least gs) (least hs))
 
-pub of-compared : (operator : Comparison) (a b : Expr) (fs gs : List DesugarFault) → of (compared operator a b) (fs ++ gs) ≡ judged_compared operator (of a fs) (of b gs)
+pub of-compared : (operator : Comparison) (a b : Expr) (fs gs : List DesugarFault) → of (compared operator a b) (fs ++ gs) ≡ measured_compared operator (of a fs) (of b gs)
 of-compared is.Less a b fs gs = of-Binary Less a b fs gs
 of-compared is.LessOrEqual a b fs gs = of-Binary LessOrEqual a b fs gs
 of-compared is.Greater a b fs gs = of-Unary Not (core.Binary LessOrEqual a b) (fs ++ gs) ∙ ap above (of-Binary LessOrEqual a b fs gs)
@@ -128,17 +128,17 @@ row-snoc es e fs gs =
     ∙ capped_beside (greatest (map height es)) (height e) (total (map forms es)) (forms e) (least fs) (least gs)
 
 -- with a row of no expressions, and faults of none
-no_row : (h f : ℕ) (fs gs : List DesugarFault) → judgement h f (least (fs ++ gs)) ≡ beside (judgement h f (least fs)) (of_row [] gs)
+no_row : (h f : ℕ) (fs gs : List DesugarFault) → measure h f (least (fs ++ gs)) ≡ beside (measure h f (least fs)) (of_row [] gs)
 no_row h f fs gs =
     let e : capped h ≡ capped (max (capped h) (capped 0)) = omega arith in
     let d : capped f ≡ capped (capped f + capped 0) = omega arith in
-    ap (judgement h f) (least-append fs gs) ∙ made (capped h) (capped (max (capped h) (capped 0))) (capped f) (capped (capped f + capped 0)) (earlier_of (least fs) (least gs)) e d
+    ap (measure h f) (least-append fs gs) ∙ made (capped h) (capped (max (capped h) (capped 0))) (capped f) (capped (capped f + capped 0)) (earlier_of (least fs) (least gs)) e d
 
 row_one : (e : Expr) (fs : List DesugarFault) → of_row (e ∷ []) fs ≡ of e fs
 row_one e fs = let a : max (height e) 0 ≡ height e = omega arith in let b : forms e + 0 ≡ forms e = omega arith in same _ _ _ _ _ _ a b refl
 
 -- a chain, whatever is put together
-pub fused : {S X : Type 0} (told : S → List DesugarFault → Judgement) (step : S → X → S) (extra : X → List DesugarFault) (sum : Judgement → X → Judgement) →
+pub fused : {S X : Type 0} (told : S → List DesugarFault → Measure) (step : S → X → S) (extra : X → List DesugarFault) (sum : Measure → X → Measure) →
     ((s : S) (fs : List DesugarFault) (x : X) → told (step s x) (fs ++ extra x) ≡ sum (told s fs) x) → (xs : List X) (s : S) (fs : List DesugarFault) →
     told (fold step s xs) (fs ++ flat_map extra xs) ≡ fold sum (told s fs) xs
 fused told step extra sum each [] s fs = ap (told s) (append-nil fs)
@@ -175,12 +175,12 @@ refused_behind : (e : DesugarFault) (fs gs : List DesugarFault) → of no_call (
 refused_behind e fs gs = of-Literal _ (fs ++ (e ∷ gs)) ∙ ap leaf (least-append fs (e ∷ gs))
 
 -- a call that is refused for its count of arguments
-count_refused : (right : Bool) (at : ℕ) (gs : List DesugarFault) (row : Judgement) → right ≡ false → row.fault ≡ least gs →
+count_refused : (right : Bool) (at : ℕ) (gs : List DesugarFault) (row : Measure) → right ≡ false → row.fault ≡ least gs →
     of no_call (of_fault right at ++ gs) ≡ called (least (of_fault right at)) (with_fault (least (of_fault right at)) row)
 count_refused true at gs row no' is = absurd (cc)
 count_refused false at gs row no' is = refused (Arity at) gs ∙ ap (λ o. leaf (earlier_of (Some (Arity at)) o)) (sym is)
 
-method_refused : (right : Bool) (at : ℕ) (e : Expr) (fs gs : List DesugarFault) (row : Judgement) → right ≡ false → row.fault ≡ least gs →
+method_refused : (right : Bool) (at : ℕ) (e : Expr) (fs gs : List DesugarFault) (row : Measure) → right ≡ false → row.fault ≡ least gs →
     of no_call (fs ++ (of_fault right at ++ gs)) ≡ called (least (of_fault right at)) (beside (of e fs) (with_fault (least (of_fault right at)) row))
 method_refused true at e fs gs row no' is = absurd (cc)
 method_refused false at e fs gs row no' is = refused_behind (Arity at) fs gs ∙ ap (λ o. leaf (earlier_of (least fs) (earlier_of (Some (Arity at)) o))) (sym is)

@@ -1,6 +1,6 @@
 pub mod Core
 pub mod Faults
-pub mod Judged
+pub mod Measured
 pub mod Meaning
 pub mod Names
 pub mod Numbers

@@ -1,4 +1,4 @@
--- Judgements put together.
+-- Measures put together.
 use Rattle.std.specs.Prelude.{◌≡◌, ℕ, ◌+◌, ◌++◌, max, List, length, Option, Some, None}
 use Rattle.std.specs.List.{fold}
 use Rattle.policy_tokens.specs.Lexing.{spelling_of}
@@ -15,36 +15,36 @@ use Rattle.expression_trees.specs.declared.tree.Entry.{Entry}
 use Rattle.expression_trees.specs.declared.tree.Term.{Term}
 use Rattle.expression_trees.specs.declared.tree.ExprTree.{ExprTree}
 use Rattle.desugaring.specs.declared.fault.DesugarFault.{DesugarFault}
-use Rattle.desugaring.specs.declared.judgement.Judgement.{Judgement}
+use Rattle.desugaring.specs.declared.measure.Measure.{Measure}
 use Rattle.desugaring.specs.Refused.{earlier_of, least}
 use Rattle.desugaring.specs.Names.{method_of, method_takes}
 use Rattle.desugaring.specs.Faults.{call_faults, function_faults}
-use Rattle.desugaring.specs.Judged.{judgement, of, judged}
+use Rattle.desugaring.specs.Measured.{measure, of, measured}
 
 -- of nothing, and of a form without operands
-abbrev pub nothing : Judgement
-nothing = judgement 0 0 None
+abbrev pub nothing : Measure
+nothing = measure 0 0 None
 
-abbrev pub leaf : Option DesugarFault → Judgement
-leaf fault = judgement 1 1 fault
+abbrev pub leaf : Option DesugarFault → Measure
+leaf fault = measure 1 1 fault
 
 -- of a form over these
-abbrev pub above : Judgement → Judgement
-above j = judgement (j.height + 1) (j.forms + 1) j.fault
+abbrev pub above : Measure → Measure
+above j = measure (j.height + 1) (j.forms + 1) j.fault
 
 -- of two side by side
-abbrev pub beside : Judgement → Judgement → Judgement
-beside i j = judgement (max i.height j.height) (i.forms + j.forms) (earlier_of i.fault j.fault)
+abbrev pub beside : Measure → Measure → Measure
+beside i j = measure (max i.height j.height) (i.forms + j.forms) (earlier_of i.fault j.fault)
 
-abbrev pub paired : Judgement → Judgement → Judgement
+abbrev pub paired : Measure → Measure → Measure
 paired i j = above (beside i j)
 
 -- of a call with these operands that may have a fault of its own
-abbrev pub called : Option DesugarFault → Judgement → Judgement
+abbrev pub called : Option DesugarFault → Measure → Measure
 called None operands = above operands
 called (Some fault) operands = leaf operands.fault
 
-abbrev pub with_fault : Option DesugarFault → Judgement → Judgement
+abbrev pub with_fault : Option DesugarFault → Measure → Measure
 with_fault fault j = record { height = j.height; forms = j.forms; fault = earlier_of fault j.fault }
 
 -- ## Laws
@@ -64,40 +64,40 @@ AndIsPaired = (a b : Expr) (faults more : List DesugarFault) →
 -- ## Of lists of trees
 
 -- of trees side by side
-abbrev pub judged_all : List ℕ → List ExprTree → Judgement
-judged_all text xs = fold (λ j x. beside j (judged text x)) nothing xs
+abbrev pub measured_all : List ℕ → List ExprTree → Measure
+measured_all text xs = fold (λ j x. beside j (measured text x)) nothing xs
 
--- of a chain of operands, the first of which is judged
-abbrev pub judged_chain : List ℕ → Judgement → List ExprTree → Judgement
-judged_chain text = fold (λ j x. paired j (judged text x))
+-- of a chain of operands, the first of which is measured
+abbrev pub measured_chain : List ℕ → Measure → List ExprTree → Measure
+measured_chain text = fold (λ j x. paired j (measured text x))
 
 -- of one term more
-abbrev pub judged_term : List ℕ → Judgement → Term ExprTree → Judgement
-judged_term text j term = paired j (judged text term.operand)
+abbrev pub measured_term : List ℕ → Measure → Term ExprTree → Measure
+measured_term text j term = paired j (measured text term.operand)
 
 -- of one entry more
-abbrev pub judged_entry : List ℕ → Judgement → Entry ExprTree → Judgement
-judged_entry text j entry = beside j (judged text entry.value)
+abbrev pub measured_entry : List ℕ → Measure → Entry ExprTree → Measure
+measured_entry text j entry = beside j (measured text entry.value)
 
 -- of a comparison
-abbrev pub judged_compared : Comparison → Judgement → Judgement → Judgement
-judged_compared is.Less i j = paired i j
-judged_compared is.LessOrEqual i j = paired i j
-judged_compared is.Greater i j = above (paired i j)
-judged_compared is.GreaterOrEqual i j = above (paired i j)
-judged_compared is.Equal i j = paired i j
-judged_compared is.NotEqual i j = above (paired i j)
-judged_compared is.In i j = paired i j
+abbrev pub measured_compared : Comparison → Measure → Measure → Measure
+measured_compared is.Less i j = paired i j
+measured_compared is.LessOrEqual i j = paired i j
+measured_compared is.Greater i j = above (paired i j)
+measured_compared is.GreaterOrEqual i j = above (paired i j)
+measured_compared is.Equal i j = paired i j
+measured_compared is.NotEqual i j = above (paired i j)
+measured_compared is.In i j = paired i j
 
 -- of a function's call
-abbrev pub judged_call : List ℕ → PathTree → List ExprTree → Judgement
-judged_call text path arguments =
+abbrev pub measured_call : List ℕ → PathTree → List ExprTree → Measure
+measured_call text path arguments =
     let fault = least (function_faults text path (length arguments)) in
-    called fault (with_fault fault (judged_all text arguments))
+    called fault (with_fault fault (measured_all text arguments))
 
--- of an access to what is judged
-abbrev pub judged_access : List ℕ → Judgement → Access (List ExprTree) → Judgement
-judged_access text j (access.Field key) = above j
-judged_access text j (access.Method name arguments) =
+-- of an access to what is measured
+abbrev pub measured_access : List ℕ → Measure → Access (List ExprTree) → Measure
+measured_access text j (access.Field key) = above j
+measured_access text j (access.Method name arguments) =
     let fault = least (call_faults name.start (method_takes (method_of (spelling_of text name))) (length arguments)) in
-    called fault (beside j (with_fault fault (judged_all text arguments)))
+    called fault (beside j (with_fault fault (measured_all text arguments)))

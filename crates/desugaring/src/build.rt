@@ -6,12 +6,12 @@ ghost use Rattle.desugaring.specs.Core.{core_of, negated};
 ghost use Rattle.desugaring.specs.inner.Giving.{Gave};
 ghost use Rattle.desugaring.specs.inner.Standing.{Stands, AllStand, EntryStands, TermStands, AccessStands};
 
-use crate::judge::function_at;
 use crate::leaves::{
     Chain, apply, beside, boolean_literal, both, call, call_method, compare, field, has,
     if_then_else, is, is_in, join, like, negated_literal, number_literal, record, set,
     text_literal, uid_literal, variable,
 };
+use crate::measuring::function_at;
 use crate::names::method_named;
 use crate::words::{name, sign};
 use expression_trees::{Access, Entry, ExprTree, Term};

@@ -1,3 +1,4 @@
+//! Why a tree has no core expression.
 ghost use Rattle.std.specs.Prelude.{◌≡◌};
 ghost use Rattle.desugaring.specs.Refused as spec;
 

@@ -29,7 +29,7 @@ pub fn repeats_stand_again()
 
 /// That the size and the fault told of a literal, of an operator on one operand and of `&&` are those told of its
 /// parts, put together: it does nothing, and its clauses are laws of the definitions.
-pub fn judgements_add_up()
+pub fn measures_add_up()
     ensures literal { LiteralIsLeaf }
     ensures unary { UnaryIsAbove }
     ensures and { AndIsPaired }

@@ -4,10 +4,10 @@
 
 mod build;
 mod fault;
-mod judge;
-mod judgement;
 mod laws;
 mod leaves;
+mod measure;
+mod measuring;
 mod names;
 mod numbers;
 mod repeats;
@@ -15,7 +15,7 @@ mod whole;
 mod words;
 
 pub use fault::{DesugarFault, earlier_of};
-pub use judgement::Judgement;
-pub use laws::{judgements_add_up, least_fault_is_told, repeats_stand_again, strings_are_read};
-pub use repeats::{Mark, least_repeat};
-pub use whole::{build_expr, judge_expr, type_name};
+pub use laws::{least_fault_is_told, measures_add_up, repeats_stand_again, strings_are_read};
+pub use measure::Measure;
+pub use repeats::{Mark, first_duplicate};
+pub use whole::{build_expr, measure_expr, type_name};

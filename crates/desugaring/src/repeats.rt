@@ -66,7 +66,7 @@ fn fault_at(place: Option<usize>) -> Option<DesugarFault>
 /// The fault of a name that stands again, the one at the least place. It takes time of n log n for n names; the only
 /// error is `NoMemory`.
 #[tactic(auto, using(crate::proofs::Again::fault_told))]
-pub fn least_repeat(alloc: Global, marks: &[Mark<'_>]) -> Result<Option<DesugarFault>, NoMemory>
+pub fn first_duplicate(alloc: Global, marks: &[Mark<'_>]) -> Result<Option<DesugarFault>, NoMemory>
     ensures { IfOk result (λ fault. fault ≡ least (repeat_faults (shown marks.now))) }
 {
     let place = least_place(alloc, marks)?;
@@ -114,5 +114,5 @@ pub(crate) fn repeated_key(
 {
     let keys = keys_of(alloc, text, entries)?;
     let marks = marks_of(alloc, &keys)?;
-    least_repeat(alloc, &marks)
+    first_duplicate(alloc, &marks)
 }

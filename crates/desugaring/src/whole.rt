@@ -5,11 +5,11 @@ ghost use Rattle.desugaring.specs.Standing.{StandsIn};
 ghost use Rattle.desugaring.specs.Meaning.{path_name};
 ghost use Rattle.desugaring.specs.Core.{core_of};
 ghost use Rattle.desugaring.specs.Faults.{faults_of};
-ghost use Rattle.desugaring.specs.Judged.{judged};
+ghost use Rattle.desugaring.specs.Measured.{measured};
 
 use crate::build::build_tree;
-use crate::judge::judge_tree;
-use crate::judgement::Judgement;
+use crate::measure::Measure;
+use crate::measuring::measure_tree;
 use crate::words::path_type;
 use expression_trees::{ExprTree, PathTree};
 use expressions::Expr;
@@ -20,11 +20,11 @@ use values::TypeName;
 /// What is told of a tree before anything is built: how large its core expression is, and its fault at the least
 /// place. Takes memory for the keys of records alone, and time in proportion to the tree but for these, of which n
 /// take n log n. The only error is `NoMemory`.
-pub fn judge_expr(alloc: Global, text: &str, tree: &ExprTree) -> Result<Judgement, NoMemory>
+pub fn measure_expr(alloc: Global, text: &str, tree: &ExprTree) -> Result<Measure, NoMemory>
     requires { StandsIn text.now (λ tokens. ExprStands tokens tree.now) }
-    ensures { IfOk result (λ judgement. judgement ≡ judged text.now tree.now) }
+    ensures { IfOk result (λ measure. measure ≡ measured text.now tree.now) }
 {
-    judge_tree(alloc, text, tree)
+    measure_tree(alloc, text, tree)
 }
 
 /// The core expression that a tree without faults stands for. The only error is `NoMemory`.

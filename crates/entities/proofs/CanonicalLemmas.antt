@@ -8,7 +8,7 @@ use Rattle.json_words.proofs.CompactLemmas.{text_of, no_float_items}
 use Rattle.values.specs.Values.{record_of, fields_of}
 use Rattle.uid_json.specs.Uids.{uid_json}
 use Rattle.typed_values.specs.Laws.{NoFloatIsWritten}
-use Rattle.entities.specs.declared.entity.Entity.{Entity}
+use Rattle.entity_worlds.specs.declared.entity.Entity.{Entity}
 use Rattle.entities.specs.Canonical.{canonical_json, canonical_text}
 
 no_float : NoFloatIsWritten → (e : Entity) → has_float (canonical_json e) ≡ false

@@ -26,11 +26,11 @@ use Rattle.typed_values.specs.Laws.{RecordIsReadAgain, RecordNests}
 use Rattle.entities.specs.declared.fault.EntityFault.{EntityFault}
 use Rattle.entities.specs.declared.fault.EntityFault.TheVariants.{BadShape, ActionEntity, UnknownType, TagsLeftOut}
 use Rattle.entities.specs.declared.stated.StatedEntity.{StatedEntity}
-use Rattle.entities.specs.declared.entity.Entity.{Entity}
+use Rattle.entity_worlds.specs.declared.entity.Entity.{Entity}
 use Rattle.entities.specs.Faults.{told}
 use Rattle.entities.specs.Stated.{uid_of, uids_of, parents_of, has_objects, is_absent_or_empty, or_empty, stated_in}
 use Rattle.entities.specs.Entities.{is_action_type, shape_of, attributes_in, parent_fits, parents_fit, parents_in, entity_in}
-use Rattle.entities.specs.UidSets.{uid_set}
+use Rattle.entity_worlds.specs.UidSets.{uid_set}
 use Rattle.entities.specs.Canonical.{canonical_json}
 use Rattle.entities.specs.Laws.{CanonicalIsRead, CanonicalNests, CanonicalIsOne, ParentsAscend}
 use Rattle.entities.proofs.UidSetLemmas.{all_set, sorted_set, set_same}

@@ -1,3 +1,4 @@
+mod ActionTypeLemmas
 mod CanonicalLemmas
 mod EntityLemmas
 mod ParentLemmas

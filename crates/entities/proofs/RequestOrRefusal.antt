@@ -5,9 +5,9 @@ use Rattle.serde_json.specs.Find.{get, as_str}
 use Rattle.values.specs.declared.entity_uid.EntityUid.{EntityUid}
 use Rattle.values.specs.declared.request.Request.{Request}
 use Rattle.values.specs.Fields.{Field}
-use Rattle.policy_grammar.specs.declared.fault.ReadFault.{ReadFault}
-use Rattle.policy_grammar.specs.PolicyText.{IsUidText, IsUidRefused}
-use Rattle.policy_grammar.specs.Unique.{HasOneReading}
+use Rattle.uid_json.specs.passed_on.policy_grammar.{ReadFault}
+use Rattle.uid_json.specs.passed_on.policy_grammar.{IsUidText, IsUidRefused}
+use Rattle.uid_json.specs.passed_on.policy_grammar.{HasOneReading}
 use Rattle.uid_json.specs.Uids.{IsUid, NamesEntity, IsRead, uid_in}
 use Rattle.uid_json.specs.Laws.{UidsAreFound}
 use Rattle.schema.specs.Schemas.{StatedSchema}

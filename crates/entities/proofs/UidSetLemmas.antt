@@ -8,7 +8,7 @@ use Rattle.std.specs.Cmp.{IsEquivalence}
 use Rattle.values.specs.declared.entity_uid.EntityUid.{EntityUid}
 use Rattle.values.specs.Names.{text_cmp, uid_cmp, uid_cmp-IsTotalOrder, uid_cmp-IsAntisymmetric}
 use Rattle.ancestor_closure.specs.Hierarchy.{IsAscending}
-use Rattle.entities.specs.UidSets.{put_uid, uid_set}
+use Rattle.entity_worlds.specs.UidSets.{put_uid, uid_set}
 
 -- ---- what holds of each
 

@@ -7,7 +7,7 @@ use Rattle.serde_json.specs.Written.{compact_text}
 use Rattle.values.specs.Values.{fields_of}
 use Rattle.uid_json.specs.Uids.{uid_json}
 use Rattle.typed_values.specs.Canonical.{fields_json}
-use Rattle.entities.specs.declared.entity.Entity.{Entity}
+use Rattle.entity_worlds.specs.declared.entity.Entity.{Entity}
 
 abbrev pub canonical_json : Entity → Data
 canonical_json e = object (member (codes "attrs") (object (fields_json (fields_of e.attrs)))

@@ -10,7 +10,7 @@ use Rattle.values.specs.declared.entity_uid.EntityUid.{EntityUid}
 use Rattle.values.specs.Fields.{Field}
 use Rattle.ancestor_closure.specs.Decided.{is_same}
 use Rattle.schema_types.specs.Cedar.{Cedar}
-use Rattle.schema_parts.specs.declared.parts.Place.{Place}
+use Rattle.schema.specs.passed_on.schema_parts.{Place}
 use Rattle.schema.specs.Schemas.{EnvironmentOf, StatedSchema}
 use Rattle.typed_values.specs.Typing.{record_in}
 use Rattle.entities.specs.declared.fault.EntityFault.{EntityFault}

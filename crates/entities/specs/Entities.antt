@@ -17,10 +17,10 @@ use Rattle.typed_values.specs.Typing.{record_in}
 use Rattle.entities.specs.declared.fault.EntityFault.{EntityFault}
 use Rattle.entities.specs.declared.fault.EntityFault.TheVariants.{UnknownType, ActionEntity, BadParent, SelfParent}
 use Rattle.entities.specs.declared.fault.EntityFault.TheVariants.{TagsLeftOut}
-use Rattle.entities.specs.declared.entity.Entity.{Entity}
+use Rattle.entity_worlds.specs.declared.entity.Entity.{Entity}
 use Rattle.entities.specs.Faults.{told}
 use Rattle.entities.specs.Stated.{is_absent_or_empty, or_empty, stated_in}
-use Rattle.entities.specs.UidSets.{uid_set}
+use Rattle.entity_worlds.specs.UidSets.{uid_set}
 
 -- the last word of a type's name is `Action`
 abbrev pub is_action_type : List ℕ → Bool

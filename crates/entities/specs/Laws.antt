@@ -1,18 +1,24 @@
 -- Laws of entities and requests under a schema.
-use Rattle.std.specs.Prelude.{◌≡◌, ◌↔◌, ◌⊎◌, ◌≤◌, List, Contains, Ok}
+use Rattle.std.specs.Prelude.{◌≡◌, ◌↔◌, ◌⊎◌, ◌≤◌, ℕ, List, Contains, IsTrue, Ok}
 use Rattle.serde_json.specs.Data.{Data, depth}
 use Rattle.serde_json.specs.Read.{max_depth}
 use Rattle.values.specs.declared.entity_uid.EntityUid.{EntityUid}
 use Rattle.values.specs.declared.request.Request.{Request}
 use Rattle.ancestor_closure.specs.Hierarchy.{IsAscending}
 use Rattle.schema.specs.Schemas.{StatedSchema}
-use Rattle.schema.specs.WellFormed.{IsWellFormed}
+use Rattle.schema.specs.WellFormed.{IsActionType, IsWellFormed}
 use Rattle.entities.specs.declared.fault.EntityFault.{EntityFault}
-use Rattle.entities.specs.declared.entity.Entity.{Entity}
-use Rattle.entities.specs.Entities.{entity_in}
+use Rattle.entity_worlds.specs.declared.entity.Entity.{Entity}
+use Rattle.entities.specs.Entities.{is_action_type, entity_in}
 use Rattle.entities.specs.Requests.{StatesRequest, RequestRefused}
 use Rattle.entities.specs.Canonical.{canonical_json}
-use Rattle.entities.specs.UidSets.{uid_set}
+use Rattle.entity_worlds.specs.UidSets.{uid_set}
+
+-- ---- types of actions
+
+-- the test tells the types that the actions of a namespace, or of none, have
+abbrev pub ActionTypesAreTold : Type 0
+ActionTypesAreTold = (name : List ℕ) → IsTrue (is_action_type name) ↔ IsActionType name
 
 -- ---- entities
 

@@ -7,7 +7,7 @@ ghost use Rattle.json_words.specs.Json.{json_of};
 ghost use Rattle.uid_json.specs.Uids.{uid_json};
 ghost use Rattle.entities.specs.Canonical.{canonical_json, canonical_text};
 
-use crate::entity::Entity;
+use entity_worlds::Entity;
 use json_words::write_json;
 use plain::NoMemory;
 use serde_json::{Value, json};

@@ -1,11 +1,10 @@
-// Laws of the definitions; the functions do nothing.
+//! Laws of the definitions; the functions do nothing.
 ghost use Rattle.entities.specs.Laws.{CanonicalIsRead, CanonicalNests, CanonicalIsOne, ParentsAscend};
-ghost use Rattle.entities.specs.Laws.{SetsHoldTheirMembers};
+ghost use Rattle.entities.specs.Laws.{SetsHoldTheirMembers, ActionTypesAreTold};
 ghost use Rattle.entities.specs.Laws.{OneRequest, NotBoth, OneRefusal, RequestOrRefusal};
 
-use policy_grammar::texts_have_one_reading;
 use typed_values::records_are_read_again;
-use uid_json::names_read_back;
+use uid_json::{names_read_back, texts_have_one_reading};
 
 /// That the one JSON of an entity that was read is read as that entity under the same schema, can be written, and is
 /// that of no other; and that its parents ascend, and are those that were stated.
@@ -19,6 +18,11 @@ pub fn entities_read_back()
     names_read_back();
     records_are_read_again();
 }
+
+/// That whether a type's name is one of an action's is told right: it is where its last word is `Action`.
+pub fn action_types_are_told()
+    ensures { ActionTypesAreTold }
+{}
 
 /// That a value states exactly one request or is refused for exactly one fault, and never both.
 pub fn requests_have_one_outcome()

@@ -6,7 +6,6 @@
 
 mod canonical;
 mod contexts;
-mod entity;
 mod fault;
 mod laws;
 mod parents;
@@ -17,8 +16,8 @@ mod uid_set;
 
 pub use canonical::canonical_text;
 pub use contexts::read_context;
-pub use entity::Entity;
+pub use entity_worlds::Entity;
 pub use fault::EntityFault;
-pub use laws::{entities_read_back, requests_have_one_outcome};
+pub use laws::{action_types_are_told, entities_read_back, requests_have_one_outcome};
 pub use reading::read_entity;
 pub use requests::read_request;

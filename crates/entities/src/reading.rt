@@ -10,10 +10,10 @@ ghost use Rattle.entities.specs.Faults.{told};
 ghost use Rattle.entities.specs.Stated.{or_empty};
 ghost use Rattle.entities.specs.Entities.{is_action_type, shape_of, attributes_in, entity_in};
 
-use crate::entity::Entity;
 use crate::fault::EntityFault;
 use crate::parents::checked_parents;
 use crate::stated::{StatedEntity, is_absent_or_empty, read_stated};
+use entity_worlds::Entity;
 use schema::Schema;
 use schema_types::CedarType;
 use serde_json::{Map, Value};

@@ -1,6 +1,6 @@
 //! Uids in order.
 ghost use Rattle.std.specs.Prelude.{◌≡◌, IfOk};
-ghost use Rattle.entities.specs.UidSets.{uid_set};
+ghost use Rattle.entity_worlds.specs.UidSets.{uid_set};
 
 use ancestor_closure::laws::ascending_lists_are_one;
 use plain::{Items, NoMemory};

@@ -9,7 +9,7 @@ use Rattle.ancestor_closure.specs.Deciding.{Contains-here, Contains-there, Conta
 use Rattle.schema_names.specs.Qualifying.{FoundAction, FoundSchema}
 use Rattle.schema.specs.Schemas.{StatedSchema, Answers, IsAction, action_parents}
 use Rattle.schema.specs.Schemas.{with_actions as with_action_parents}
-use Rattle.entity_store.specs.Entities.{EntityMap, parents_of, attributes_of, action_or}
+use Rattle.entity_worlds.specs.Entities.{EntityMap, parents_of, attributes_of, action_or}
 use Rattle.entity_store.specs.Laws.{stated_world, closed_world}
 use Rattle.entity_store.specs.Alike.{LeadAlike}
 

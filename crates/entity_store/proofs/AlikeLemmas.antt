@@ -9,7 +9,7 @@ use Rattle.ancestor_closure.specs.Hierarchy.{Parents}
 use Rattle.expressions.specs.declared.expr.Expr.{Expr}
 use Rattle.expressions.specs.declared.operator.Binary.{Binary}
 use Rattle.evaluator.specs.declared.fault.EvalFault.{EvalFault}
-use Rattle.evaluator.specs.Outcomes.{Outcome, Tells, holds, fails}
+use Rattle.evaluator.specs.Outcomes.{Outcome, IsTruthOf, holds, fails}
 use Rattle.evaluator.specs.Operators as op
 use Rattle.evaluator.specs.Operators.{World, world_of, IsIn, BinaryGives, FieldGives, HasGives}
 use Rattle.evaluator.specs.Evaluation as rule
@@ -19,10 +19,10 @@ use Rattle.policy_grammar.specs.declared.policy.Policy.{Policy}
 use Rattle.authoriser.specs.declared.outcome.Outcome.{Outcome as Verdict}
 use Rattle.authoriser.specs.declared.outcome.Outcome.TheVariants.{Satisfied, NotSatisfied, Errs}
 use Rattle.authoriser.specs.declared.answer.Answer.{Answer}
-use Rattle.authoriser.specs.Answers.{Named, Judged, ComesTo, AreJudged, IsCycleDenial, IsAnswer}
+use Rattle.authoriser.specs.Answers.{Named, PolicyOutcome, ComesTo, ArePolicyOutcomes, IsCycleDenial, IsAnswer}
 use Rattle.entity_store.specs.Alike.{LeadAlike, GiveAlike, AnswerAlike}
 
-told : {P Q : Type 0} (r : Outcome) → (P → Q) → (Q → P) → Tells P r → Tells Q r
+told : {P Q : Type 0} (r : Outcome) → (P → Q) → (Q → P) → IsTruthOf P r → IsTruthOf Q r
 told _ f g (holds p) = holds (f p)
 told _ f g (fails n) = fails (λ h. n (g h))
 
@@ -115,7 +115,7 @@ module _ (stored : EntityUid → Option (List Field)) (P Q : Parents) (alike : L
     comes_to p NotSatisfied h = gives (expression_of p) _ h
     comes_to p (Errs e) h = gives (expression_of p) _ h
 
-    judged : (ps : List Named) (js : List Judged) → AreJudged W q ps js → AreJudged V q ps js
+    judged : (ps : List Named) (js : List PolicyOutcome) → ArePolicyOutcomes W q ps js → ArePolicyOutcomes V q ps js
     judged [] [] h = h
     judged [] (j ∷ js) h = h
     judged (p ∷ ps) [] h = h

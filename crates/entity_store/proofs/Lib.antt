@@ -1,4 +1,3 @@
 mod ActionLemmas
 mod AlikeLemmas
 mod ApartLemmas
-mod UidLemmas

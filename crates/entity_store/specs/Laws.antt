@@ -9,9 +9,9 @@ use Rattle.ancestor_closure.specs.Hierarchy.{Parents}
 use Rattle.evaluator.specs.Operators.{World, world_of}
 use Rattle.schema_names.specs.Qualifying.{FoundSchema}
 use Rattle.schema.specs.Schemas.{StatedSchema, IsSchemaOf, action_parents}
-use Rattle.entities.specs.declared.entity.Entity.{Entity}
+use Rattle.entity_worlds.specs.declared.entity.Entity.{Entity}
 use Rattle.entities.specs.Entities.{entity_in}
-use Rattle.entity_store.specs.Entities.{EntityMap, Actions, with_actions, world_in}
+use Rattle.entity_worlds.specs.Entities.{EntityMap, Actions, with_actions, world_in}
 use Rattle.entity_store.specs.Alike.{LeadAlike, GiveAlike, AnswerAlike}
 
 -- whatever the edges are: it is enough that they lead to the same

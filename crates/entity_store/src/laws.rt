@@ -1,6 +1,9 @@
-// Laws of the definitions; the functions do nothing.
+//! Laws of the definitions; the functions do nothing.
 ghost use Rattle.entity_store.specs.Laws.{ReachDecides, MemberOfLeadsAlike, MemberOfGivesAlike, MemberOfAnswersAlike};
 ghost use Rattle.entity_store.specs.Laws.{NoEntityIsAnAction};
+
+use entities::action_types_are_told;
+use schema::stated_schemas_are_well_formed;
 
 /// That what expressions give and what is answered follows from the attributes of the entities and from who is above
 /// whom, whichever edges lead there.
@@ -19,4 +22,7 @@ pub fn actions_may_be_closed()
 /// That an entity that is read under a schema is none of its actions, whose types alone end in `Action`.
 pub fn entities_are_no_actions()
     ensures { NoEntityIsAnAction }
-{}
+{
+    stated_schemas_are_well_formed();
+    action_types_are_told();
+}

@@ -1,17 +1,14 @@
-//! Entities, kept once for all who ask: evaluation, decisions and whoever asks who is above whom.
+//! Entities under a schema: its actions stand beside those that are kept.
 //!
-//! Whoever keeps entities lends them by one small trait; under a schema its actions stand beside them.
+//! Whoever keeps entities lends them by one small trait (`entity_worlds`); here a schema lends its actions.
 #![tactic(auto)]
 
-mod data;
+mod actions;
 mod laws;
-mod source;
-mod store;
-mod uids;
 mod world;
 
-pub use data::EntityData;
+pub use actions::SchemaActions;
+pub use entities::Entity;
+pub use entity_worlds::{EntityData, EntitySource, EntityStore};
 pub use laws::{actions_may_be_closed, entities_are_no_actions, reach_decides};
-pub use source::EntitySource;
-pub use store::EntityStore;
-pub use world::World;
+pub use world::{World, world_under};

@@ -28,7 +28,7 @@ use Rattle.expressions.specs.declared.operator.BinaryCall.TheVariants as two
 use Rattle.evaluator.specs.declared.fault.EvalFault.TheVariants.{AttrDoesNotExist, TypeError, ExtensionError}
 use Rattle.extensions.specs.Decided.{Decided, told}
 use Rattle.extensions.specs.TextsDecided.{decimal_text_decided, network_text_decided, in_either_decided, within_decided}
-use Rattle.evaluator.specs.Outcomes.{Outcome, Tells, boolean_in, long_in, text_in, entity_in, members_in, fields_in, decimal_in, network_in}
+use Rattle.evaluator.specs.Outcomes.{Outcome, IsTruthOf, boolean_in, long_in, text_in, entity_in, members_in, fields_in, decimal_in, network_in}
 use Rattle.evaluator.specs.Operators as rule
 use Rattle.evaluator.specs.Operators.{World, IsIn, UnaryGives, BinaryGives, FieldGives, HasGives, UnaryCallGives, BinaryCallGives, NumbersGive, TakesNumbers, TakesSets, IsTested, TakesAddress, AreCompared, TakesDecimals}
 use Rattle.evaluator.specs.inner.Computing.{Entities, entities_of, and_then, demanded, two_demanded, truth, bounded, apply_unary, is_in, in_members, in_value, numbers, sets, apply_binary, found_or, attribute, field_of, has_attribute, has_field, decimal_read, network_read, is_v4, tested, apply_unary_call, decimals, networks, apply_binary_call}
@@ -149,7 +149,7 @@ no_address_is one.IsIpv6 v h e = other_is (λ n. truth (not (is_v4 n.version))) 
 no_address_is one.IsLoopback v h e = other_is (λ n. truth (told (in_either_decided n loopback_v4 loopback_v6))) (network_in v) e
 no_address_is one.IsMulticast v h e = other_is (λ n. truth (told (in_either_decided n multicast_v4 multicast_v6))) (network_in v) e
 
-of_address_is : (called : UnaryCall) → TakesAddress called → (n : Network) (r : Outcome) → Tells (IsTested called n) r → apply_unary_call called (ipaddr n) ≡ r
+of_address_is : (called : UnaryCall) → TakesAddress called → (n : Network) (r : Outcome) → IsTruthOf (IsTested called n) r → apply_unary_call called (ipaddr n) ≡ r
 of_address_is one.Ip h n r t = absurd h
 of_address_is one.Decimal h n r t = absurd h
 of_address_is one.IsIpv4 h n r t = test_is (is_v4 n.version) (v4_iff n.version) r t
@@ -197,7 +197,7 @@ no_decimals_are two.GreaterThan v w takes h = two_others_are (λ p. truth (int_l
 no_decimals_are two.GreaterThanOrEqual v w takes h = two_others_are (λ p. truth (int_le p.1 p.0)) (decimal_in v) (decimal_in w) h
 no_decimals_are two.IsInRange v w takes h = absurd takes
 
-of_decimals_is : (called : BinaryCall) → TakesDecimals called → (x y : ℤ) (r : Outcome) → Tells (AreCompared called x y) r → apply_binary_call called (decimal x) (decimal y) ≡ r
+of_decimals_is : (called : BinaryCall) → TakesDecimals called → (x y : ℤ) (r : Outcome) → IsTruthOf (AreCompared called x y) r → apply_binary_call called (decimal x) (decimal y) ≡ r
 of_decimals_is two.LessThan h x y r t = test_is (int_lt x y) (int_lt_iff x y) r t
 of_decimals_is two.LessThanOrEqual h x y r t = test_is (int_le x y) (int_le_iff x y) r t
 of_decimals_is two.GreaterThan h x y r t = test_is (int_lt y x) (int_lt_iff y x) r t

@@ -17,7 +17,7 @@ use Rattle.values.specs.ValueOrder.{value_cmp, value_cmp-IsTotalOrder, value_cmp
 use Rattle.plain.proofs.Members.{Contains-here, Contains-there, Contains-cases, Contains-none}
 use Rattle.ancestor_closure.specs.Decided.{Decides}
 use Rattle.evaluator.specs.declared.fault.EvalFault.TheVariants.{ArithBoundsError}
-use Rattle.evaluator.specs.Outcomes.{Outcome, Tells, holds, fails, Comes, fits, overflows}
+use Rattle.evaluator.specs.Outcomes.{Outcome, IsTruthOf, holds, fails, IsChecked, fits, overflows}
 use Rattle.evaluator.specs.Operators.{World, IsIn}
 use Rattle.evaluator.specs.inner.Computing.{entities_of, truth, is_bounded, bounded, is_in, is_v4}
 
@@ -25,11 +25,11 @@ pub told_iff : {P : Type 0} (d : Decided P) → IsTrue (told d) ↔ P
 told_iff (inl p) = ((λ t. p), (λ p. refl))
 told_iff (inr n) = ((λ t. absurd (false≢true t)), (λ p. absurd (n p)))
 
-pub tells_test : {P : Type 0} (b : Bool) → (IsTrue b ↔ P) → Tells P (truth b)
+pub tells_test : {P : Type 0} (b : Bool) → (IsTrue b ↔ P) → IsTruthOf P (truth b)
 tells_test true i = holds (i.0 refl)
 tells_test false i = fails (λ p. false≢true (i.1 p))
 
-pub test_is : {P : Type 0} (b : Bool) → (IsTrue b ↔ P) → (r : Outcome) → Tells P r → truth b ≡ r
+pub test_is : {P : Type 0} (b : Bool) → (IsTrue b ↔ P) → (r : Outcome) → IsTruthOf P r → truth b ≡ r
 test_is true i _ (holds p) = refl
 test_is true i _ (fails n) = absurd (n (i.0 refl))
 test_is false i _ (holds p) = absurd (false≢true (i.1 p))
@@ -50,11 +50,11 @@ bounded_iff z = (there, back)
     back : FitsSigned w64 z → IsTrue (is_bounded z)
     back f = and_from (int_le (neg_ℤ (pos 9223372036854775808)) z) (int_lt z (pos 9223372036854775808)) ((int_le_iff (neg_ℤ (pos 9223372036854775808)) z).1 (omega (arith, ints, f))) ((int_lt_iff z (pos 9223372036854775808)).1 (omega (arith, ints, f)))
 
-comes_test : (z : ℤ) (b : Bool) → (IsTrue b ↔ FitsSigned w64 z) → Comes z (if b then Ok (long z) else Err ArithBoundsError)
+comes_test : (z : ℤ) (b : Bool) → (IsTrue b ↔ FitsSigned w64 z) → IsChecked z (if b then Ok (long z) else Err ArithBoundsError)
 comes_test z true i = fits (i.0 refl)
 comes_test z false i = overflows (λ p. false≢true (i.1 p))
 
-pub comes_bounded : (z : ℤ) → Comes z (bounded z)
+pub comes_bounded : (z : ℤ) → IsChecked z (bounded z)
 comes_bounded z = comes_test z (is_bounded z) (bounded_iff z)
 
 pub value_eq_iff : (v w : PlainValue) → IsTrue (is_eq (value_cmp v w)) ↔ (v ≡ w)
@@ -119,10 +119,10 @@ module _ {X : Type 0} (p : X → Bool) (P : X → Type 0) (i : (x : X) → IsTru
 pub is_in_iff : (W : World) (above : EntityUid → EntityUid → Bool) → Decides W.parents above → (a b : EntityUid) → IsTrue (is_in (entities_of W.stored above) a b) ↔ IsIn W a b
 is_in_iff W above d a b = either_iff (is_eq (uid_cmp a b)) (above b a) (equal-is uid_cmp-IsTotalOrder uid_cmp-IsAntisymmetric a b) (d b a)
 
-pub bounded_is : (z : ℤ) (r : Outcome) → Comes z r → bounded z ≡ r
+pub bounded_is : (z : ℤ) (r : Outcome) → IsChecked z r → bounded z ≡ r
 bounded_is z r h = by (is_bounded z) (bounded_iff z) r h
   where
-    by : (b : Bool) → (IsTrue b ↔ FitsSigned w64 z) → (r : Outcome) → Comes z r → (if b then Ok (long z) else Err ArithBoundsError) ≡ r
+    by : (b : Bool) → (IsTrue b ↔ FitsSigned w64 z) → (r : Outcome) → IsChecked z r → (if b then Ok (long z) else Err ArithBoundsError) ≡ r
     by true i _ (fits f) = refl
     by true i _ (overflows n) = absurd (n (i.0 refl))
     by false i _ (fits f) = absurd (false≢true (i.1 f))

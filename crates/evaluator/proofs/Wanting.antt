@@ -10,7 +10,7 @@ use Rattle.expressions.specs.declared.operator.BinaryCall.{BinaryCall}
 use Rattle.expressions.specs.declared.expr.Expr.{Expr}
 use Rattle.evaluator.specs.declared.fault.EvalFault.{EvalFault}
 use Rattle.evaluator.specs.declared.fault.EvalFault.TheVariants.{EntityDoesNotExist, AttrDoesNotExist, TypeError, ArithBoundsError, ExtensionError, NoMemory}
-use Rattle.evaluator.specs.Outcomes.{Outcome, Tells, holds, fails, Comes, fits, overflows}
+use Rattle.evaluator.specs.Outcomes.{Outcome, IsTruthOf, holds, fails, IsChecked, fits, overflows}
 use Rattle.evaluator.specs.Operators as op
 use Rattle.evaluator.specs.Operators.{World, UnaryGives, NumbersGive, BinaryGives, FieldGives, HasGives, UnaryCallGives, BinaryCallGives}
 use Rattle.evaluator.specs.Evaluation as rule
@@ -31,11 +31,11 @@ abbrev IsProper : {A : Type 0} → Result A EvalFault → Type 0
 IsProper (Ok v) = Unit {0}
 IsProper (Err e) = IsError e
 
-told : {P : Type 0} (r : Outcome) → Tells P r → IsProper r
+told : {P : Type 0} (r : Outcome) → IsTruthOf P r → IsProper r
 told _ (holds p) = tt
 told _ (fails n) = tt
 
-comes : (z : ℤ) (r : Outcome) → Comes z r → IsProper r
+comes : (z : ℤ) (r : Outcome) → IsChecked z r → IsProper r
 comes _ _ (fits f) = tt
 comes _ _ (overflows n) = tt
 

@@ -27,7 +27,7 @@ use Rattle.expressions.specs.declared.operator.BinaryCall.TheVariants.{LessThan,
 use Rattle.expressions.specs.declared.operator.BinaryCall.TheVariants.{GreaterThanOrEqual, IsInRange}
 use Rattle.evaluator.specs.declared.fault.EvalFault.TheVariants.{EntityDoesNotExist, AttrDoesNotExist, TypeError}
 use Rattle.evaluator.specs.declared.fault.EvalFault.TheVariants.{ExtensionError}
-use Rattle.evaluator.specs.Outcomes.{Outcome, Tells, Comes, boolean_in, long_in, text_in, entity_in, members_in}
+use Rattle.evaluator.specs.Outcomes.{Outcome, IsTruthOf, IsChecked, boolean_in, long_in, text_in, entity_in, members_in}
 use Rattle.evaluator.specs.Outcomes.{fields_in, decimal_in, network_in}
 
 -- the attributes of each stored entity, and the parents of each entity
@@ -46,23 +46,23 @@ IsIn W a b = (a ≡ b) ⊎ Above W.parents b a
 pub data UnaryGives : Unary → PlainValue → Outcome → Type 0 where
   negation : {b : Bool} → UnaryGives Not (boolean b) (Ok (boolean (not b)))
   negation_of_other : {v : PlainValue} → boolean_in v ≡ None → UnaryGives Not v (Err TypeError)
-  opposite : {z : ℤ} {r : Outcome} → Comes (neg_ℤ z) r → UnaryGives Negate (long z) r
+  opposite : {z : ℤ} {r : Outcome} → IsChecked (neg_ℤ z) r → UnaryGives Negate (long z) r
   opposite_of_other : {v : PlainValue} → long_in v ≡ None → UnaryGives Negate v (Err TypeError)
-  like_text : {pattern : List (List ℕ)} {t : List ℕ} {r : Outcome} → Tells (Matches pattern t) r
+  like_text : {pattern : List (List ℕ)} {t : List ℕ} {r : Outcome} → IsTruthOf (Matches pattern t) r
       → UnaryGives (Like pattern) (text t) r
   like_of_other : {pattern : List (List ℕ)} {v : PlainValue} → text_in v ≡ None
       → UnaryGives (Like pattern) v (Err TypeError)
-  is_entity : {name : List ℕ} {u : EntityUid} {r : Outcome} → Tells (u.type_name ≡ name) r
+  is_entity : {name : List ℕ} {u : EntityUid} {r : Outcome} → IsTruthOf (u.type_name ≡ name) r
       → UnaryGives (Is name) (entity u) r
   is_of_other : {name : List ℕ} {v : PlainValue} → entity_in v ≡ None → UnaryGives (Is name) v (Err TypeError)
 
 -- what two numbers give under an operator that takes numbers
 abbrev pub NumbersGive : Binary → ℤ → ℤ → Outcome → Type 0
-NumbersGive Less x y r = Tells (x <ℤ y) r
-NumbersGive LessOrEqual x y r = Tells (x ≤ℤ y) r
-NumbersGive Add x y r = Comes (x +ℤ y) r
-NumbersGive Subtract x y r = Comes (x -ℤ y) r
-NumbersGive Multiply x y r = Comes (x *ℤ y) r
+NumbersGive Less x y r = IsTruthOf (x <ℤ y) r
+NumbersGive LessOrEqual x y r = IsTruthOf (x ≤ℤ y) r
+NumbersGive Add x y r = IsChecked (x +ℤ y) r
+NumbersGive Subtract x y r = IsChecked (x -ℤ y) r
+NumbersGive Multiply x y r = IsChecked (x *ℤ y) r
 NumbersGive op x y r = ⊥
 
 -- these take two numbers, these two sets
@@ -82,26 +82,26 @@ TakesSets op = ⊥
 -- An operator on two values. `a in b` of two entities asks whether a is in b; of a set, all of whose members have to be
 -- entities, whether a is in some of them.
 pub data BinaryGives (W : World) : Binary → PlainValue → PlainValue → Outcome → Type 0 where
-  equal : {v w : PlainValue} {r : Outcome} → Tells (v ≡ w) r → BinaryGives W Equal v w r
+  equal : {v w : PlainValue} {r : Outcome} → IsTruthOf (v ≡ w) r → BinaryGives W Equal v w r
   of_numbers : {op : Binary} {x y : ℤ} {r : Outcome} → NumbersGive op x y r → BinaryGives W op (long x) (long y) r
   no_numbers : {op : Binary} {v w : PlainValue} → TakesNumbers op → (long_in v ≡ None) ⊎ (long_in w ≡ None)
       → BinaryGives W op v w (Err TypeError)
-  in_entity : {a b : EntityUid} {r : Outcome} → Tells (IsIn W a b) r → BinaryGives W In (entity a) (entity b) r
+  in_entity : {a b : EntityUid} {r : Outcome} → IsTruthOf (IsIn W a b) r → BinaryGives W In (entity a) (entity b) r
   in_set : {a : EntityUid} {vs : PlainValues} {r : Outcome} (us : List EntityUid) → list_of vs ≡ map entity us →
-      Tells ((u : EntityUid) × Contains us u × IsIn W a u) r → BinaryGives W In (entity a) (set vs) r
+      IsTruthOf ((u : EntityUid) × Contains us u × IsIn W a u) r → BinaryGives W In (entity a) (set vs) r
   in_mixed_set : {a : EntityUid} {vs : PlainValues} (v : PlainValue) → Contains (list_of vs) v → entity_in v ≡ None
       → BinaryGives W In (entity a) (set vs) (Err TypeError)
   in_other : {a : EntityUid} {w : PlainValue} → entity_in w ≡ None → members_in w ≡ None
       → BinaryGives W In (entity a) w (Err TypeError)
   other_in : {v w : PlainValue} → entity_in v ≡ None → BinaryGives W In v w (Err TypeError)
-  contains : {vs : PlainValues} {w : PlainValue} {r : Outcome} → Tells (Contains (list_of vs) w) r
+  contains : {vs : PlainValues} {w : PlainValue} {r : Outcome} → IsTruthOf (Contains (list_of vs) w) r
       → BinaryGives W ContainsOne (set vs) w r
   other_contains : {v w : PlainValue} → members_in v ≡ None → BinaryGives W ContainsOne v w (Err TypeError)
   contains_all : {vs ws : PlainValues} {r : Outcome}
-      → Tells ((v : PlainValue) → Contains (list_of ws) v → Contains (list_of vs) v) r →
+      → IsTruthOf ((v : PlainValue) → Contains (list_of ws) v → Contains (list_of vs) v) r →
       BinaryGives W ContainsAll (set vs) (set ws) r
   contains_any : {vs ws : PlainValues} {r : Outcome}
-      → Tells ((v : PlainValue) × Contains (list_of ws) v × Contains (list_of vs) v) r →
+      → IsTruthOf ((v : PlainValue) × Contains (list_of ws) v × Contains (list_of vs) v) r →
       BinaryGives W ContainsAny (set vs) (set ws) r
   no_sets : {op : Binary} {v w : PlainValue} → TakesSets op → (members_in v ≡ None) ⊎ (members_in w ≡ None)
       → BinaryGives W op v w (Err TypeError)
@@ -121,10 +121,10 @@ pub data FieldGives (W : World) (name : List ℕ) : PlainValue → Outcome → T
 
 -- `v has name`
 pub data HasGives (W : World) (name : List ℕ) : PlainValue → Outcome → Type 0 where
-  has_field : {fs : PlainFields} {r : Outcome} → Tells (IsSome (find_field name (pairs_of fs))) r
+  has_field : {fs : PlainFields} {r : Outcome} → IsTruthOf (IsSome (find_field name (pairs_of fs))) r
       → HasGives W name (record_of fs) r
   has_attribute : {u : EntityUid} {r : Outcome} (fs : List Field) → W.stored u ≡ Some fs
-      → Tells (IsSome (find_field name fs)) r → HasGives W name (entity u) r
+      → IsTruthOf (IsSome (find_field name fs)) r → HasGives W name (entity u) r
   none_stored : {u : EntityUid} → W.stored u ≡ None → HasGives W name (entity u) (Ok (boolean false))
   has_of_other : {v : PlainValue} → fields_in v ≡ None → entity_in v ≡ None → HasGives W name v (Err TypeError)
 
@@ -150,7 +150,7 @@ pub data UnaryCallGives : UnaryCall → PlainValue → Outcome → Type 0 where
   reads_address : {t : List ℕ} {n : Network} → IsNetworkText t n → UnaryCallGives Ip (text t) (Ok (ipaddr n))
   no_address : {t : List ℕ} → ((n : Network) → ¬ IsNetworkText t n) → UnaryCallGives Ip (text t) (Err ExtensionError)
   address_of_other : {v : PlainValue} → text_in v ≡ None → UnaryCallGives Ip v (Err TypeError)
-  of_address : {called : UnaryCall} {n : Network} {r : Outcome} → TakesAddress called → Tells (IsTested called n) r
+  of_address : {called : UnaryCall} {n : Network} {r : Outcome} → TakesAddress called → IsTruthOf (IsTested called n) r
       → UnaryCallGives called (ipaddr n) r
   of_no_address : {called : UnaryCall} {v : PlainValue} → TakesAddress called → network_in v ≡ None
       → UnaryCallGives called v (Err TypeError)
@@ -170,9 +170,9 @@ TakesDecimals called = ⊤
 
 -- a call with two operands
 pub data BinaryCallGives : BinaryCall → PlainValue → PlainValue → Outcome → Type 0 where
-  of_decimals : {called : BinaryCall} {x y : ℤ} {r : Outcome} → TakesDecimals called → Tells (AreCompared called x y) r
+  of_decimals : {called : BinaryCall} {x y : ℤ} {r : Outcome} → TakesDecimals called → IsTruthOf (AreCompared called x y) r
       → BinaryCallGives called (decimal x) (decimal y) r
-  in_range : {m n : Network} {r : Outcome} → Tells (IsWithin m n) r → BinaryCallGives IsInRange (ipaddr m) (ipaddr n) r
+  in_range : {m n : Network} {r : Outcome} → IsTruthOf (IsWithin m n) r → BinaryCallGives IsInRange (ipaddr m) (ipaddr n) r
   no_decimals : {called : BinaryCall} {v w : PlainValue} → TakesDecimals called → (decimal_in v ≡ None)
       ⊎ (decimal_in w ≡ None) →
       BinaryCallGives called v w (Err TypeError)

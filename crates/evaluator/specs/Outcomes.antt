@@ -49,11 +49,11 @@ network_in (ipaddr n) = Some n
 network_in v = None
 
 -- the boolean that tells whether P holds
-pub data Tells (P : Type 0) : Outcome → Type 0 where
-  holds : P → Tells P (Ok (boolean true))
-  fails : ¬ P → Tells P (Ok (boolean false))
+pub data IsTruthOf (P : Type 0) : Outcome → Type 0 where
+  holds : P → IsTruthOf P (Ok (boolean true))
+  fails : ¬ P → IsTruthOf P (Ok (boolean false))
 
 -- a number, if signed 64 bits hold it
-pub data Comes : ℤ → Outcome → Type 0 where
-  fits : {z : ℤ} → FitsSigned w64 z → Comes z (Ok (long z))
-  overflows : {z : ℤ} → ¬ FitsSigned w64 z → Comes z (Err ArithBoundsError)
+pub data IsChecked : ℤ → Outcome → Type 0 where
+  fits : {z : ℤ} → FitsSigned w64 z → IsChecked z (Ok (long z))
+  overflows : {z : ℤ} → ¬ FitsSigned w64 z → IsChecked z (Err ArithBoundsError)

@@ -1,4 +1,4 @@
-// What the functions and methods of extensions give on values.
+//! What the functions and methods of extensions give on values.
 ghost use Rattle.std.specs.Prelude.{◌≡◌, not, int_lt, int_le};
 ghost use Rattle.extensions.specs.Network.{loopback_v4, loopback_v6, multicast_v4, multicast_v6};
 ghost use Rattle.extensions.specs.Decided.{told};
@@ -8,7 +8,7 @@ ghost use Rattle.evaluator.specs.inner.Computing.{decimal_read, network_read, is
 ghost use Rattle.evaluator.specs.inner.Computing.{apply_binary_call, and_then, truth};
 
 use crate::fault::EvalFault;
-use crate::given::Given;
+use crate::given::BorrowedOrOwned;
 use crate::operands::{decimals_of, network_of, text_of};
 use expressions::{BinaryCall, UnaryCall};
 use extensions::decimal::one_decimal_a_text;
@@ -98,7 +98,7 @@ fn greater_or_equal(numbers: Result<(Decimal, Decimal), EvalFault>) -> Result<Va
 }
 
 /// What a call with one operand gives on a value.
-pub(crate) fn unary_call(called: UnaryCall, given: &Given<'_>) -> Result<Value, EvalFault>
+pub(crate) fn unary_call(called: UnaryCall, given: &BorrowedOrOwned<'_>) -> Result<Value, EvalFault>
     ensures { result ≡ apply_unary_call called given.now }
 {
     match called {
@@ -114,8 +114,8 @@ pub(crate) fn unary_call(called: UnaryCall, given: &Given<'_>) -> Result<Value, 
 /// What a call with two operands gives on values.
 pub(crate) fn binary_call(
     called: BinaryCall,
-    a: &Given<'_>,
-    b: &Given<'_>,
+    a: &BorrowedOrOwned<'_>,
+    b: &BorrowedOrOwned<'_>,
 ) -> Result<Value, EvalFault>
     ensures { result ≡ apply_binary_call called a.now b.now }
 {

@@ -11,7 +11,7 @@ ghost use Rattle.evaluator.specs.inner.Computing.{apply_unary_call, apply_binary
 use crate::calls::{binary_call, unary_call};
 use crate::fault::EvalFault;
 use crate::fields::{field, has};
-use crate::given::Given;
+use crate::given::BorrowedOrOwned;
 use crate::laws::meanings_are_given;
 use crate::leaves::{literal_of, variable_of};
 use crate::lookup::Lookup;
@@ -36,7 +36,7 @@ pub fn evaluate<'a, L: Lookup>(
     expr: &'a Expr,
     request: &'a Request,
     store: &'a L,
-) -> Result<Given<'a>, EvalFault>
+) -> Result<BorrowedOrOwned<'a>, EvalFault>
     ensures given { AnswersWhatIsGiven (world_of (L.stored store.now) (L.parents store.now)) request.now expr.now
         result }
     ensures all { AnswersAllThatIsGiven (world_of (L.stored store.now) (L.parents store.now)) request.now expr.now
@@ -53,7 +53,7 @@ fn outcome_of<'a, L: Lookup>(
     expr: &'a Expr,
     request: &'a Request,
     store: &'a L,
-) -> Result<Given<'a>, EvalFault>
+) -> Result<BorrowedOrOwned<'a>, EvalFault>
     ensures { Answers result (meaning request.now (entities_of (L.stored store.now) (L.above store.now)) expr.now) }
 {
     match expr {
@@ -116,13 +116,13 @@ fn second_conjunct<'a, L: Lookup>(
     left: bool,
     request: &'a Request,
     store: &'a L,
-) -> Result<Given<'a>, EvalFault>
+) -> Result<BorrowedOrOwned<'a>, EvalFault>
     ensures { Answers result (if left
         then and_then (as_test (meaning request.now (entities_of (L.stored store.now) (L.above store.now)) right.now))
         truth else truth false) }
 {
     let holds = left && test_of(alloc, right, request, store)?;
-    Ok(Given::computed(Value::boolean(holds)))
+    Ok(BorrowedOrOwned::computed(Value::boolean(holds)))
 }
 
 /// What `||` gives behind its first operand: the second is evaluated only where that is false.
@@ -134,13 +134,13 @@ fn second_disjunct<'a, L: Lookup>(
     left: bool,
     request: &'a Request,
     store: &'a L,
-) -> Result<Given<'a>, EvalFault>
+) -> Result<BorrowedOrOwned<'a>, EvalFault>
     ensures { Answers result (if left then truth true
         else and_then (as_test (meaning request.now (entities_of (L.stored store.now) (L.above store.now)) right.now))
         truth) }
 {
     let holds = left || test_of(alloc, right, request, store)?;
-    Ok(Given::computed(Value::boolean(holds)))
+    Ok(BorrowedOrOwned::computed(Value::boolean(holds)))
 }
 
 /// What an operator gives on an expression's value.
@@ -152,13 +152,13 @@ fn one_operand<'a, L: Lookup>(
     operand: &'a Shared<Expr>,
     request: &'a Request,
     store: &'a L,
-) -> Result<Given<'a>, EvalFault>
+) -> Result<BorrowedOrOwned<'a>, EvalFault>
     ensures { Answers result (and_then
         (meaning request.now (entities_of (L.stored store.now) (L.above store.now)) operand.now)
         (apply_unary operator.now)) }
 {
     let given = outcome_of(alloc, operand.get(), request, store)?;
-    Ok(Given::computed(unary(operator, &given)?))
+    Ok(BorrowedOrOwned::computed(unary(operator, &given)?))
 }
 
 /// What an operator gives on a value and an expression's value.
@@ -168,15 +168,15 @@ fn second_operand<'a, L: Lookup>(
     alloc: Global,
     right: &'a Shared<Expr>,
     operator: Binary,
-    left: &Given<'_>,
+    left: &BorrowedOrOwned<'_>,
     request: &'a Request,
     store: &'a L,
-) -> Result<Given<'a>, EvalFault>
+) -> Result<BorrowedOrOwned<'a>, EvalFault>
     ensures { let entities = entities_of (L.stored store.now) (L.above store.now) in
         Answers result (and_then (meaning request.now entities right.now) (apply_binary entities operator left.now)) }
 {
     let right = outcome_of(alloc, right.get(), request, store)?;
-    Ok(Given::computed(binary(store, operator, left, &right)?))
+    Ok(BorrowedOrOwned::computed(binary(store, operator, left, &right)?))
 }
 
 /// What a call gives on an expression's value.
@@ -188,13 +188,13 @@ fn one_called<'a, L: Lookup>(
     operand: &'a Shared<Expr>,
     request: &'a Request,
     store: &'a L,
-) -> Result<Given<'a>, EvalFault>
+) -> Result<BorrowedOrOwned<'a>, EvalFault>
     ensures { Answers result (and_then
         (meaning request.now (entities_of (L.stored store.now) (L.above store.now)) operand.now)
         (apply_unary_call called)) }
 {
     let given = outcome_of(alloc, operand.get(), request, store)?;
-    Ok(Given::computed(unary_call(called, &given)?))
+    Ok(BorrowedOrOwned::computed(unary_call(called, &given)?))
 }
 
 /// What a call gives on a value and an expression's value.
@@ -204,16 +204,16 @@ fn second_called<'a, L: Lookup>(
     alloc: Global,
     right: &'a Shared<Expr>,
     called: BinaryCall,
-    left: &Given<'_>,
+    left: &BorrowedOrOwned<'_>,
     request: &'a Request,
     store: &'a L,
-) -> Result<Given<'a>, EvalFault>
+) -> Result<BorrowedOrOwned<'a>, EvalFault>
     ensures { Answers result (and_then
         (meaning request.now (entities_of (L.stored store.now) (L.above store.now)) right.now)
         (apply_binary_call called left.now)) }
 {
     let right = outcome_of(alloc, right.get(), request, store)?;
-    Ok(Given::computed(binary_call(called, left, &right)?))
+    Ok(BorrowedOrOwned::computed(binary_call(called, left, &right)?))
 }
 
 /// A field or an attribute of an expression's value.
@@ -225,7 +225,7 @@ fn field_of<'a, L: Lookup>(
     name: &Text,
     request: &'a Request,
     store: &'a L,
-) -> Result<Given<'a>, EvalFault>
+) -> Result<BorrowedOrOwned<'a>, EvalFault>
     ensures { Answers result (and_then
         (meaning request.now (entities_of (L.stored store.now) (L.above store.now)) owner.now)
         (field_of (entities_of (L.stored store.now) (L.above store.now)) name.now)) }
@@ -243,13 +243,13 @@ fn has_of<'a, L: Lookup>(
     name: &Text,
     request: &'a Request,
     store: &'a L,
-) -> Result<Given<'a>, EvalFault>
+) -> Result<BorrowedOrOwned<'a>, EvalFault>
     ensures { Answers result (and_then
         (meaning request.now (entities_of (L.stored store.now) (L.above store.now)) owner.now)
         (has_field (entities_of (L.stored store.now) (L.above store.now)) name.now)) }
 {
     let given = outcome_of(alloc, owner.get(), request, store)?;
-    Ok(Given::computed(has(store, &given, name.as_str())?))
+    Ok(BorrowedOrOwned::computed(has(store, &given, name.as_str())?))
 }
 
 /// The set of what expressions give.
@@ -260,13 +260,13 @@ fn set_of<'a, L: Lookup>(
     members: &'a Items<Expr>,
     request: &'a Request,
     store: &'a L,
-) -> Result<Given<'a>, EvalFault>
+) -> Result<BorrowedOrOwned<'a>, EvalFault>
     ensures { Answers result (and_then
         (each (map (meaning request.now (entities_of (L.stored store.now) (L.above store.now))) members.now))
         (λ vs. Ok (set (values_of (set_list vs))))) }
 {
     let members = evaluate_each(alloc, members, request, store)?;
-    Ok(Given::computed(Value::set(members)?))
+    Ok(BorrowedOrOwned::computed(Value::set(members)?))
 }
 
 /// The record of what the expressions under names give.
@@ -277,13 +277,13 @@ fn record_of<'a, L: Lookup>(
     fields: &'a Items<Named<Expr>>,
     request: &'a Request,
     store: &'a L,
-) -> Result<Given<'a>, EvalFault>
+) -> Result<BorrowedOrOwned<'a>, EvalFault>
     ensures { Answers result (and_then
         (each_field (map (named_meaning request.now (entities_of (L.stored store.now) (L.above store.now))) fields.now)
         []) (λ done. Ok (record_of (fields_of done)))) }
 {
     let fields = evaluate_fields(alloc, fields, request, store)?;
-    Ok(Given::computed(Value::from_record(fields)))
+    Ok(BorrowedOrOwned::computed(Value::from_record(fields)))
 }
 
 /// What expressions give, in order.

@@ -1,4 +1,4 @@
-// Why an expression gives no value.
+//! Why an expression gives no value.
 ghost use Rattle.std.specs.Prelude.{◌≡◌};
 ghost use Rattle.evaluator.specs.declared.fault.EvalFault.TheVariants.{NoMemory};
 

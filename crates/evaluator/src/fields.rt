@@ -1,31 +1,31 @@
-// The fields of records and the attributes of entities.
+//! The fields of records and the attributes of entities.
 ghost use Rattle.std.specs.Prelude.{◌≡◌, option_map};
 ghost use Rattle.evaluator.specs.Borrowed.{of_borrowed};
 ghost use Rattle.evaluator.specs.inner.Computing.{entities_of, Answers, found_or, attribute, field_of, has_field};
 
 use crate::fault::EvalFault;
-use crate::given::{Given, Origin};
+use crate::given::{BorrowedOrOwned, Origin};
 use crate::kinds::{BorrowedKind, same_kind};
 use crate::lookup::Lookup;
 use std::alloc::Global;
 use values::{EntityUid, Kind, Value};
 
 /// The value that was found.
-fn found<'a>(found: Option<&'a Value>) -> Result<Given<'a>, EvalFault>
+fn found<'a>(found: Option<&'a Value>) -> Result<BorrowedOrOwned<'a>, EvalFault>
     ensures { result ≡ found_or EvalFault.AttrDoesNotExist (option_map (λ v. v.now) found.entry) }
 {
     match found {
-        Some(value) => Ok(Given::borrowed(value)),
+        Some(value) => Ok(BorrowedOrOwned::borrowed(value)),
         None => Err(EvalFault::AttrDoesNotExist),
     }
 }
 
 /// The value that was found, copied.
-fn copy_found<'a>(alloc: Global, found: Option<&Value>) -> Result<Given<'a>, EvalFault>
+fn copy_found<'a>(alloc: Global, found: Option<&Value>) -> Result<BorrowedOrOwned<'a>, EvalFault>
     ensures { Answers result (found_or EvalFault.AttrDoesNotExist (option_map (λ v. v.now) found.entry)) }
 {
     match found {
-        Some(value) => Ok(Given::computed(value.copy(alloc)?)),
+        Some(value) => Ok(BorrowedOrOwned::computed(value.copy(alloc)?)),
         None => Err(EvalFault::AttrDoesNotExist),
     }
 }
@@ -35,7 +35,7 @@ fn attribute<'a, L: Lookup>(
     store: &'a L,
     uid: &EntityUid,
     name: &str,
-) -> Result<Given<'a>, EvalFault>
+) -> Result<BorrowedOrOwned<'a>, EvalFault>
     ensures { result ≡ attribute (L.stored store.now uid.now) name.now }
 {
     match store.attrs_of(uid) {
@@ -50,7 +50,7 @@ fn field_of_borrowed<'a, L: Lookup>(
     store: &'a L,
     owner: BorrowedKind<'a>,
     name: &str,
-) -> Result<Given<'a>, EvalFault>
+) -> Result<BorrowedOrOwned<'a>, EvalFault>
     ensures { result ≡ field_of (entities_of (L.stored store.now) (L.above store.now)) name.now
         (of_borrowed owner.entry) }
 {
@@ -68,7 +68,7 @@ fn field_of_computed<'a, L: Lookup>(
     store: &'a L,
     owner: &Value,
     name: &str,
-) -> Result<Given<'a>, EvalFault>
+) -> Result<BorrowedOrOwned<'a>, EvalFault>
     ensures { Answers result (field_of (entities_of (L.stored store.now) (L.above store.now)) name.now owner.now) }
 {
     match owner.kind() {
@@ -82,9 +82,9 @@ fn field_of_computed<'a, L: Lookup>(
 pub(crate) fn field<'a, L: Lookup>(
     alloc: Global,
     store: &'a L,
-    owner: &Given<'a>,
+    owner: &BorrowedOrOwned<'a>,
     name: &str,
-) -> Result<Given<'a>, EvalFault>
+) -> Result<BorrowedOrOwned<'a>, EvalFault>
     ensures { Answers result (field_of (entities_of (L.stored store.now) (L.above store.now)) name.now owner.now) }
 {
     match &owner.origin {
@@ -95,7 +95,11 @@ pub(crate) fn field<'a, L: Lookup>(
 
 /// Whether a field or an attribute is there.
 #[tactic(auto, using(crate::proofs::Conversions::conversions))]
-pub(crate) fn has<L: Lookup>(store: &L, owner: &Given<'_>, name: &str) -> Result<Value, EvalFault>
+pub(crate) fn has<L: Lookup>(
+    store: &L,
+    owner: &BorrowedOrOwned<'_>,
+    name: &str,
+) -> Result<Value, EvalFault>
     ensures { result ≡ has_field (entities_of (L.stored store.now) (L.above store.now)) name.now owner.now }
 {
     match owner.kind() {

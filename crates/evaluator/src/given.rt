@@ -1,4 +1,4 @@
-// What expressions give.
+//! What expressions give.
 ghost use Rattle.std.specs.Prelude.{◌≡◌, IfOk};
 ghost use Rattle.values.specs.ValueOrder.{value_cmp};
 ghost use Rattle.evaluator.specs.Outcomes.{boolean_in};
@@ -14,7 +14,7 @@ use values::Value;
 /// What an expression gives: a value, borrowed where it stands in the expression, the request or the stored entities.
 /// Contracts see the value.
 #[derive(Drop)]
-pub struct Given<'a> {
+pub struct BorrowedOrOwned<'a> {
     pub(crate) origin: Origin<'a>,
 }
 
@@ -25,7 +25,7 @@ pub(crate) enum Origin<'a> {
     Computed(Value),
 }
 
-impl<'a> Model for Given<'a> {
+impl<'a> Model for BorrowedOrOwned<'a> {
     ghost use Rattle.values.specs.Values.{PlainValue};
     ghost use Rattle.values.specs.ValueCode.{value_code};
 
@@ -38,21 +38,21 @@ impl<'a> Model for Given<'a> {
     ghost view = { λ a. of_origin a.origin };
 }
 
-impl<'a> Given<'a> {
+impl<'a> BorrowedOrOwned<'a> {
     /// A value that stands somewhere.
-    pub(crate) fn borrowed(value: &'a Value) -> Given<'a>
+    pub(crate) fn borrowed(value: &'a Value) -> BorrowedOrOwned<'a>
         ensures { result ≡ value.now }
     {
-        Given {
+        BorrowedOrOwned {
             origin: Origin::Borrowed(borrowed_kind(value)),
         }
     }
 
     /// What was computed.
-    pub(crate) fn computed(value: Value) -> Given<'a>
+    pub(crate) fn computed(value: Value) -> BorrowedOrOwned<'a>
         ensures { result ≡ value }
     {
-        Given {
+        BorrowedOrOwned {
             origin: Origin::Computed(value),
         }
     }
@@ -68,7 +68,7 @@ impl<'a> Given<'a> {
     }
 
     /// The order of values.
-    pub(crate) fn compare(&self, other: &Given<'_>) -> Ordering
+    pub(crate) fn compare(&self, other: &BorrowedOrOwned<'_>) -> Ordering
         ensures { result ≡ value_cmp self.now other.now }
     {
         let a = self.kind();
@@ -100,7 +100,7 @@ impl<'a> Given<'a> {
     pub fn into_value(self, alloc: Global) -> Result<Value, NoMemory>
         ensures { IfOk result (λ v. v ≡ self.entry) }
     {
-        let Given { origin } = self;
+        let BorrowedOrOwned { origin } = self;
         match origin {
             Origin::Borrowed(kind) => copied(alloc, kind),
             Origin::Computed(value) => Ok(value),

@@ -1,4 +1,4 @@
-// What values are, borrowed.
+//! What values are, borrowed.
 ghost use Rattle.std.specs.Prelude.{◌≡◌, IfOk};
 ghost use Rattle.values.specs.ValueOrder.{kind_rank};
 ghost use Rattle.evaluator.specs.Borrowed.{of_borrowed};

@@ -1,9 +1,9 @@
-// The values of literals and of variables.
+//! The values of literals and of variables.
 ghost use Rattle.std.specs.Prelude.{◌≡◌};
 ghost use Rattle.evaluator.specs.Borrowed.{of_borrowed};
 ghost use Rattle.evaluator.specs.Evaluation.{literal_value, variable_value};
 
-use crate::given::{Given, Origin};
+use crate::given::{BorrowedOrOwned, Origin};
 use crate::kinds::BorrowedKind;
 use expressions::{Literal, Variable};
 use values::Request;
@@ -21,10 +21,10 @@ fn literal_kind(literal: &Literal) -> BorrowedKind<'_>
 }
 
 /// The value of a literal.
-pub(crate) fn literal_of(literal: &Literal) -> Given<'_>
+pub(crate) fn literal_of(literal: &Literal) -> BorrowedOrOwned<'_>
     ensures { result ≡ literal_value literal.now }
 {
-    Given {
+    BorrowedOrOwned {
         origin: Origin::Borrowed(literal_kind(literal)),
     }
 }
@@ -42,10 +42,10 @@ fn variable_kind(variable: Variable, request: &Request) -> BorrowedKind<'_>
 }
 
 /// The part of the request that a variable stands for.
-pub(crate) fn variable_of(variable: Variable, request: &Request) -> Given<'_>
+pub(crate) fn variable_of(variable: Variable, request: &Request) -> BorrowedOrOwned<'_>
     ensures { result ≡ variable_value variable request.now }
 {
-    Given {
+    BorrowedOrOwned {
         origin: Origin::Borrowed(variable_kind(variable, request)),
     }
 }

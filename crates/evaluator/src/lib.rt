@@ -15,7 +15,7 @@ mod operators;
 
 pub use evaluating::evaluate;
 pub use fault::EvalFault;
-pub use given::Given;
+pub use given::BorrowedOrOwned;
 pub use laws::expressions_have_one_outcome;
 pub use lookup::Lookup;
 pub use plain::NoMemory;

@@ -1,4 +1,4 @@
-// What is asked of the stored entities.
+//! What is asked of the stored entities.
 ghost use Rattle.std.specs.Prelude.{◌≡◌, ⊤, Option, List, [], MatchOption, option_map};
 ghost use Rattle.values.specs.declared.entity_uid.EntityUid.{EntityUid};
 ghost use Rattle.values.specs.Fields.{Field};

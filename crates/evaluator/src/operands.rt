@@ -1,17 +1,17 @@
-// What of a value is asked for: what it holds, if it is of that kind.
+//! What of a value is asked for: what it holds, if it is of that kind.
 ghost use Rattle.std.specs.Prelude.{◌≡◌, MatchResult, Ok, Err};
 ghost use Rattle.evaluator.specs.Outcomes.{boolean_in, long_in, text_in, entity_in, members_in, decimal_in, network_in};
 ghost use Rattle.evaluator.specs.inner.Computing.{demanded, two_demanded};
 
 use crate::fault::EvalFault;
-use crate::given::Given;
+use crate::given::BorrowedOrOwned;
 use crate::kinds::BorrowedKind;
 use extensions::{Decimal, IpNet};
 use plain::Text;
 use values::{EntityUid, Set};
 
 /// The value as a boolean.
-pub(crate) fn boolean_of(given: &Given<'_>) -> Result<bool, EvalFault>
+pub(crate) fn boolean_of(given: &BorrowedOrOwned<'_>) -> Result<bool, EvalFault>
     ensures { result ≡ demanded (boolean_in given.now) }
 {
     match given.kind() {
@@ -21,7 +21,7 @@ pub(crate) fn boolean_of(given: &Given<'_>) -> Result<bool, EvalFault>
 }
 
 /// The value as a number.
-pub(crate) fn long_of(given: &Given<'_>) -> Result<i64, EvalFault>
+pub(crate) fn long_of(given: &BorrowedOrOwned<'_>) -> Result<i64, EvalFault>
     ensures { result ≡ demanded (long_in given.now) }
 {
     match given.kind() {
@@ -31,7 +31,7 @@ pub(crate) fn long_of(given: &Given<'_>) -> Result<i64, EvalFault>
 }
 
 /// The value as a text.
-pub(crate) fn text_of<'g>(given: &'g Given<'_>) -> Result<&'g Text, EvalFault>
+pub(crate) fn text_of<'g>(given: &'g BorrowedOrOwned<'_>) -> Result<&'g Text, EvalFault>
     ensures { MatchResult result (λ t. demanded (text_in given.now) ≡ Ok t.now)
         (λ e. demanded (text_in given.now) ≡ Err e) }
 {
@@ -42,7 +42,7 @@ pub(crate) fn text_of<'g>(given: &'g Given<'_>) -> Result<&'g Text, EvalFault>
 }
 
 /// The value as an entity.
-pub(crate) fn entity_of<'g>(given: &'g Given<'_>) -> Result<&'g EntityUid, EvalFault>
+pub(crate) fn entity_of<'g>(given: &'g BorrowedOrOwned<'_>) -> Result<&'g EntityUid, EvalFault>
     ensures { MatchResult result (λ u. demanded (entity_in given.now) ≡ Ok u.now)
         (λ e. demanded (entity_in given.now) ≡ Err e) }
 {
@@ -54,7 +54,7 @@ pub(crate) fn entity_of<'g>(given: &'g Given<'_>) -> Result<&'g EntityUid, EvalF
 
 /// The value as a set.
 #[tactic(auto, using(crate::proofs::Conversions::conversions))]
-pub(crate) fn set_of<'g>(given: &'g Given<'_>) -> Result<&'g Set, EvalFault>
+pub(crate) fn set_of<'g>(given: &'g BorrowedOrOwned<'_>) -> Result<&'g Set, EvalFault>
     ensures { MatchResult result (λ s. demanded (members_in given.now) ≡ Ok s.now)
         (λ e. demanded (members_in given.now) ≡ Err e) }
 {
@@ -65,7 +65,7 @@ pub(crate) fn set_of<'g>(given: &'g Given<'_>) -> Result<&'g Set, EvalFault>
 }
 
 /// The value as a decimal.
-pub(crate) fn decimal_of(given: &Given<'_>) -> Result<Decimal, EvalFault>
+pub(crate) fn decimal_of(given: &BorrowedOrOwned<'_>) -> Result<Decimal, EvalFault>
     ensures { result ≡ demanded (decimal_in given.now) }
 {
     match given.kind() {
@@ -75,7 +75,7 @@ pub(crate) fn decimal_of(given: &Given<'_>) -> Result<Decimal, EvalFault>
 }
 
 /// The value as an address.
-pub(crate) fn network_of(given: &Given<'_>) -> Result<IpNet, EvalFault>
+pub(crate) fn network_of(given: &BorrowedOrOwned<'_>) -> Result<IpNet, EvalFault>
     ensures { result ≡ demanded (network_in given.now) }
 {
     match given.kind() {
@@ -85,7 +85,10 @@ pub(crate) fn network_of(given: &Given<'_>) -> Result<IpNet, EvalFault>
 }
 
 /// Both values as numbers; one step of the caller for two that may fail.
-pub(crate) fn longs_of(a: &Given<'_>, b: &Given<'_>) -> Result<(i64, i64), EvalFault>
+pub(crate) fn longs_of(
+    a: &BorrowedOrOwned<'_>,
+    b: &BorrowedOrOwned<'_>,
+) -> Result<(i64, i64), EvalFault>
     ensures { result ≡ two_demanded (long_in a.now) (long_in b.now) }
 {
     let first = long_of(a)?;
@@ -93,7 +96,10 @@ pub(crate) fn longs_of(a: &Given<'_>, b: &Given<'_>) -> Result<(i64, i64), EvalF
 }
 
 /// Both values as decimals.
-pub(crate) fn decimals_of(a: &Given<'_>, b: &Given<'_>) -> Result<(Decimal, Decimal), EvalFault>
+pub(crate) fn decimals_of(
+    a: &BorrowedOrOwned<'_>,
+    b: &BorrowedOrOwned<'_>,
+) -> Result<(Decimal, Decimal), EvalFault>
     ensures { result ≡ two_demanded (decimal_in a.now) (decimal_in b.now) }
 {
     let first = decimal_of(a)?;

@@ -1,4 +1,4 @@
-// What operators give on values.
+//! What operators give on values.
 ghost use Rattle.std.specs.Prelude.{◌≡◌, ◌⊎◌, ◌↔◌, ◌+ℤ◌, ◌-ℤ◌, ◌*ℤ◌, int_lt, int_le, IsTrue, Contains, IfOk};
 ghost use Rattle.std.specs.Prelude.{MatchResult, Ok, Err};
 ghost use Rattle.std.specs.List.{list_all, list_any};
@@ -11,7 +11,7 @@ ghost use Rattle.evaluator.specs.inner.Computing.{apply_binary, is_in, in_member
 ghost use Rattle.evaluator.specs.inner.Computing.{sets};
 
 use crate::fault::EvalFault;
-use crate::given::Given;
+use crate::given::BorrowedOrOwned;
 use crate::kinds::BorrowedKind;
 use crate::lookup::Lookup;
 use crate::operands::{boolean_of, entity_of, long_of, longs_of, set_of, text_of};
@@ -22,7 +22,7 @@ use std::cmp::Ordering;
 use values::{EntityUid, Kind, Set, Value, sets_hold_their_members};
 
 /// What an operator gives on a value.
-pub(crate) fn unary(operator: &Unary, given: &Given<'_>) -> Result<Value, EvalFault>
+pub(crate) fn unary(operator: &Unary, given: &BorrowedOrOwned<'_>) -> Result<Value, EvalFault>
     ensures { result ≡ apply_unary operator.now given.now }
 {
     match operator {
@@ -127,7 +127,11 @@ fn in_members<L: Lookup>(store: &L, a: &EntityUid, members: &[Value]) -> Result<
 
 /// Whether `a` is in an entity, or in some member of a set.
 #[tactic(auto, using(crate::proofs::Conversions::conversions))]
-fn in_value<L: Lookup>(store: &L, a: &EntityUid, b: &Given<'_>) -> Result<Value, EvalFault>
+fn in_value<L: Lookup>(
+    store: &L,
+    a: &EntityUid,
+    b: &BorrowedOrOwned<'_>,
+) -> Result<Value, EvalFault>
     ensures { Answers result (in_value (entities_of (L.stored store.now) (L.above store.now)) a.now b.now) }
 {
     match b.kind() {
@@ -138,14 +142,14 @@ fn in_value<L: Lookup>(store: &L, a: &EntityUid, b: &Given<'_>) -> Result<Value,
 }
 
 /// How a member compares with a value.
-fn compare_member(member: &Value, given: &Given<'_>) -> Ordering
+fn compare_member(member: &Value, given: &BorrowedOrOwned<'_>) -> Ordering
     ensures { result ≡ value_cmp member.now given.now }
 {
-    Given::borrowed(member).compare(given)
+    BorrowedOrOwned::borrowed(member).compare(given)
 }
 
 /// Whether a value is a member; takes no memory, and logarithmic time.
-fn is_member(members: &Set, given: &Given<'_>) -> bool
+fn is_member(members: &Set, given: &BorrowedOrOwned<'_>) -> bool
     ensures { result ≡ has_member members.now given.now }
 {
     sets_hold_their_members();
@@ -156,14 +160,14 @@ fn is_member(members: &Set, given: &Given<'_>) -> bool
 }
 
 /// Whether each member of the second set is one of the first.
-fn contains_all(a: &Given<'_>, b: &Given<'_>) -> Result<Value, EvalFault>
+fn contains_all(a: &BorrowedOrOwned<'_>, b: &BorrowedOrOwned<'_>) -> Result<Value, EvalFault>
     ensures { result ≡ sets (λ x y. list_all (has_member x) y) a.now b.now }
 {
     Ok(Value::boolean(set_of(a)?.contains_all(set_of(b)?)))
 }
 
 /// Whether some member of the second set is one of the first.
-fn contains_any(a: &Given<'_>, b: &Given<'_>) -> Result<Value, EvalFault>
+fn contains_any(a: &BorrowedOrOwned<'_>, b: &BorrowedOrOwned<'_>) -> Result<Value, EvalFault>
     ensures { result ≡ sets (λ x y. list_any (has_member x) y) a.now b.now }
 {
     Ok(Value::boolean(set_of(a)?.contains_any(set_of(b)?)))
@@ -173,8 +177,8 @@ fn contains_any(a: &Given<'_>, b: &Given<'_>) -> Result<Value, EvalFault>
 pub(crate) fn binary<L: Lookup>(
     store: &L,
     operator: Binary,
-    a: &Given<'_>,
-    b: &Given<'_>,
+    a: &BorrowedOrOwned<'_>,
+    b: &BorrowedOrOwned<'_>,
 ) -> Result<Value, EvalFault>
     ensures { Answers result
         (apply_binary (entities_of (L.stored store.now) (L.above store.now)) operator a.now b.now) }

@@ -171,13 +171,13 @@ module _ (o : Bool) (E : Lang ExprTree) where
   pub starts_call : (name : PathTree) → Starts (call_behind o E name) (only k.LParen)
   starts_call name = starts_both (g.called o E) (λ found. lang.empty (tree.Call name found)) (only k.LParen) starts_called
 
-  abbrev pub some_called : Lang (Option (List ExprTree))
-  some_called = lang.◌giving◌ (g.called o E) Some
+  abbrev pub call_arguments : Lang (Option (List ExprTree))
+  call_arguments = lang.◌giving◌ (g.called o E) Some
 
-  pub opening_some : Opening some_called (only k.LParen)
+  pub opening_some : Opening call_arguments (only k.LParen)
   opening_some = opening_then (g.called o E) (λ found. lang.empty (Some found)) (only k.LParen) opening_called (λ found. alive_empty (Some found))
 
-  pub starts_some : Starts some_called (only k.LParen)
+  pub starts_some : Starts call_arguments (only k.LParen)
   starts_some = starts_both (g.called o E) (λ found. lang.empty (Some found)) (only k.LParen) starts_called
 
   -- ---- entries
@@ -265,7 +265,7 @@ module _ (o : Bool) (E : Lang ExprTree) where
   accessing = lang.◌or◌ (g.dotted o E) g.indexed
 
   pub alive_maybe_called : Begins (g.maybe_called o E) []
-  alive_maybe_called = alive_right (lang.gate o some_called) (lang.empty None) [] (alive_empty None)
+  alive_maybe_called = alive_right (lang.gate o call_arguments) (lang.empty None) [] (alive_empty None)
 
   abbrev pub behind_dot : Lang (Access (List ExprTree))
   behind_dot = lang.◌>>=◌ (lang.of identifiers) (λ name. lang.◌>>=◌ (g.maybe_called o E) (λ found. lang.empty (accessed name found)))
@@ -378,15 +378,15 @@ module _ (o : Bool) (E : Lang ExprTree) where
   abbrev pub like_or : ExprTree → Lang ExprTree
   like_or x = lang.◌or◌ (g.like o E x) (typed_or_alone x)
 
-  abbrev pub tested : ExprTree → Lang ExprTree
-  tested x = lang.◌or◌ (g.has o E x) (like_or x)
+  abbrev pub test_tail : ExprTree → Lang ExprTree
+  test_tail x = lang.◌or◌ (g.has o E x) (like_or x)
 
   abbrev pub related : ExprTree → Lang ExprTree
-  related x = lang.◌or◌ (g.compared o E x) (tested x)
+  related x = lang.◌or◌ (g.compared o E x) (test_tail x)
 
   pub alive_related : (x : ExprTree) → Begins (related x) []
   alive_related x =
-      alive_right (g.compared o E x) (tested x) [] (alive_right (g.has o E x) (like_or x) []
+      alive_right (g.compared o E x) (test_tail x) [] (alive_right (g.has o E x) (like_or x) []
       (alive_right (g.like o E x) (typed_or_alone x) [] (alive_right (g.typed o E x) (lang.empty x) [] (alive_empty x))))
 
   pub alive_relation : Begins (g.relation o E) []
@@ -421,11 +421,11 @@ module _ (o : Bool) (E : Lang ExprTree) where
   abbrev pub decided : ExprTree → ExprTree → Lang ExprTree
   decided test consequent = lang.◌>>=◌ else_expr (λ alternative. lang.empty (tree.If test consequent alternative))
 
-  abbrev pub tried : ExprTree → Lang ExprTree
-  tried test = lang.◌>>=◌ then_expr (decided test)
+  abbrev pub conditional_tail : ExprTree → Lang ExprTree
+  conditional_tail test = lang.◌>>=◌ then_expr (decided test)
 
   abbrev pub behind_if : Lang ExprTree
-  behind_if = lang.◌>>=◌ E tried
+  behind_if = lang.◌>>=◌ E conditional_tail
 
   pub alive_level : Begins (g.level o E) []
   alive_level = alive_right (lang.gate o (g.conditional o E)) (g.disjunction o E) [] alive_disjunction
@@ -458,7 +458,7 @@ module _ (o : Bool) (E : Lang ExprTree) where
     pub alive_decided : (test consequent : ExprTree) → Begins (decided test consequent) []
     alive_decided test consequent = go (go_one k.Else (λ _. alive)) (λ alternative. alive_empty (tree.If test consequent alternative))
 
-    pub alive_tried : (test : ExprTree) → Begins (tried test) []
+    pub alive_tried : (test : ExprTree) → Begins (conditional_tail test) []
     alive_tried test = go (go_one k.Then (λ _. alive)) (alive_decided test)
 
     pub alive_behind_if : Begins behind_if []

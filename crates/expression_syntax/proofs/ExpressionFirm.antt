@@ -158,8 +158,8 @@ module _ (o : Bool) (E : Lang ExprTree) (p : Parser ExprTree) (D : Levels) (i : 
 
   -- ---- Member
 
-  firm_some : o ≡ true → Firm (a.some_called o E) (r.some_called o p)
-  unfolding r.some_called
+  firm_some : o ≡ true → Firm (a.call_arguments o E) (r.call_arguments o p)
+  unfolding r.call_arguments
   firm_some h = firm_free (giving Some none D (rules.called_rule o o E E p p D i h))
 
   firm_maybe_called : Firm (g.maybe_called o E) (r.maybe_called o p)
@@ -308,8 +308,8 @@ module _ (o : Bool) (E : Lang ExprTree) (p : Parser ExprTree) (D : Levels) (i : 
   fresh_typed : (x : ExprTree) → Fresh (only k.Is) (r.typed o p x)
   fresh_typed x = fresh_opening (rules.typed_rule o o E E p p D i x) (opening_one k.Is _ (λ _. go alive_path (a.alive_behind_type o E x)))
 
-  firm_tested : (x : ExprTree) → Firm (a.tested o E x) (r.tested o p x)
-  unfolding r.tested same_kind
+  firm_tested : (x : ExprTree) → Firm (a.test_tail o E x) (r.test_tail o p x)
+  unfolding r.test_tail same_kind
   firm_tested x =
       firm_or (only k.Has) after_relation (starts_one k.Has _) (rules.leads_like o o E E p p D i x (only k.Has) refl refl refl) (firm_has x)
       (firm_or (only k.Like) after_relation (starts_one k.Like _) (rules.leads_typed o o E E p p D i x (only k.Like) refl refl) (firm_like x)
@@ -327,7 +327,7 @@ module _ (o : Bool) (E : Lang ExprTree) (p : Parser ExprTree) (D : Levels) (i : 
   unfolding r.relation same_kind
   firm_relation =
       firm_seq (rules.sum_rule o o E E p p D i) (rules.related_rule o o E E p p D i)
-      (λ x. leads_or (g.compared o E x) (a.tested o E x) after_sum after_relation
+      (λ x. leads_or (g.compared o E x) (a.test_tail o E x) after_sum after_relation
       (leads_starts (g.compared o E x) comparisons after_sum after_relation (a.starts_compared o E x) refl) (rules.leads_tested o o E E p p D i x after_sum refl refl refl refl))
       firm_sum firm_related
 
@@ -367,13 +367,13 @@ module _ (o : Bool) (E : Lang ExprTree) (p : Parser ExprTree) (D : Levels) (i : 
   unfolding r.decided
   firm_decided h test consequent = firm_giving (rules.alternative_rule o o E E p p D i h) after_expr refl (tree.If test consequent) (firm_alternative h)
 
-  firm_tried : o ≡ true → (test : ExprTree) → Firm (a.tried o E test) (r.tried o p test)
-  unfolding r.tried same_kind
+  firm_tried : o ≡ true → (test : ExprTree) → Firm (a.conditional_tail o E test) (r.conditional_tail o p test)
+  unfolding r.conditional_tail same_kind
   firm_tried h test =
       firm_seq (rules.consequent_rule o o E E p p D i h) (rules.decided_rule o o E E p p D i h test) (λ consequent. leads_first (only k.Else) after_expr after_expr (starts_one k.Else (λ _. E)) refl)
       (firm_consequent h) (firm_decided h test)
 
-  leads_then : (test : ExprTree) → Leads (a.tried o E test) after_expr after_expr
+  leads_then : (test : ExprTree) → Leads (a.conditional_tail o E test) after_expr after_expr
   unfolding same_kind
   leads_then test = leads_first (only k.Then) after_expr after_expr (starts_one k.Then (λ _. E)) refl
 

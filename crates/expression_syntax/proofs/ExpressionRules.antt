@@ -252,17 +252,17 @@ module _ (o o' : Bool) (E F : Lang ExprTree) (p q : Parser ExprTree) (D : Levels
 
   -- ---- Member
 
-  pub some_rule : o ≡ true → Rule (a.some_called o E) (a.some_called o' F) (r.some_called o p) (r.some_called o' q) after_access D
-  unfolding r.some_called
+  pub some_rule : o ≡ true → Rule (a.call_arguments o E) (a.call_arguments o' F) (r.call_arguments o p) (r.call_arguments o' q) after_access D
+  unfolding r.call_arguments
   some_rule h = giving Some after_access D (called_rule h)
 
   pub maybe_called_rule : Rule (g.maybe_called o E) (g.maybe_called o' F) (r.maybe_called o p) (r.maybe_called o' q) after_access D
   unfolding r.maybe_called same_kind
   maybe_called_rule =
-      gated o o' (a.some_called o E) (a.some_called o' F) (lang.empty None) (lang.empty None) _ _ _ _ (only k.LParen) after_access D i.wide some_rule (nothing None after_access D)
+      gated o o' (a.call_arguments o E) (a.call_arguments o' F) (lang.empty None) (lang.empty None) _ _ _ _ (only k.LParen) after_access D i.wide some_rule (nothing None after_access D)
       (a.starts_some o E)
       (leads_empty None (only k.LParen) after_access refl)
-      (λ d. opening_gate o' (a.some_called o' F) (only k.LParen) (i.deeper d) (a.opening_some o' F))
+      (λ d. opening_gate o' (a.call_arguments o' F) (only k.LParen) (i.deeper d) (a.opening_some o' F))
       i.alike
 
   dotted_rule : Rule (g.dotted o E) (g.dotted o' F) (r.dotted o p) (r.dotted o' q) after_access D
@@ -401,11 +401,11 @@ module _ (o o' : Bool) (E F : Lang ExprTree) (p q : Parser ExprTree) (D : Levels
   pub leads_like : (x : ExprTree) (ks : Kinds) → apart (only k.Like) ks ≡ true → apart (only k.Is) ks ≡ true → within ks after_relation ≡ true → Leads (a.like_or o E x) ks after_relation
   leads_like x ks like is w = leads_or (g.like o E x) (a.typed_or_alone o E x) ks after_relation (leads_one k.Like ks after_relation like) (leads_typed x ks is w)
 
-  pub leads_tested : (x : ExprTree) (ks : Kinds) → apart (only k.Has) ks ≡ true → apart (only k.Like) ks ≡ true → apart (only k.Is) ks ≡ true → within ks after_relation ≡ true → Leads (a.tested o E x) ks after_relation
+  pub leads_tested : (x : ExprTree) (ks : Kinds) → apart (only k.Has) ks ≡ true → apart (only k.Like) ks ≡ true → apart (only k.Is) ks ≡ true → within ks after_relation ≡ true → Leads (a.test_tail o E x) ks after_relation
   leads_tested x ks has like is w = leads_or (g.has o E x) (a.like_or o E x) ks after_relation (leads_one k.Has ks after_relation has) (leads_like x ks like is w)
 
-  tested_rule : (x : ExprTree) → Rule (a.tested o E x) (a.tested o' F x) (r.tested o p x) (r.tested o' q x) after_relation D
-  unfolding r.tested same_kind
+  tested_rule : (x : ExprTree) → Rule (a.test_tail o E x) (a.test_tail o' F x) (r.test_tail o p x) (r.test_tail o' q x) after_relation D
+  unfolding r.test_tail same_kind
   tested_rule x =
       or (g.has o E x) (g.has o' F x) (a.like_or o E x) (a.like_or o' F x) _ _ _ _ (only k.Has) after_relation D (has_rule x)
       (or (g.like o E x) (g.like o' F x) (a.typed_or_alone o E x) (a.typed_or_alone o' F x) _ _ _ _ (only k.Like) after_relation D (like_rule x)
@@ -417,14 +417,14 @@ module _ (o o' : Bool) (E F : Lang ExprTree) (p q : Parser ExprTree) (D : Levels
   pub related_rule : (x : ExprTree) → Rule (a.related o E x) (a.related o' F x) (r.related o p x) (r.related o' q x) after_relation D
   unfolding r.related same_kind
   related_rule x =
-      or (g.compared o E x) (g.compared o' F x) (a.tested o E x) (a.tested o' F x) _ _ _ _ comparisons after_relation D (compared_rule x) (tested_rule x)
+      or (g.compared o E x) (g.compared o' F x) (a.test_tail o E x) (a.test_tail o' F x) _ _ _ _ comparisons after_relation D (compared_rule x) (tested_rule x)
       (a.starts_compared o E x) (leads_tested x comparisons refl refl refl refl)
 
   pub relation_rule : Rule (g.relation o E) (g.relation o' F) (r.relation o p) (r.relation o' q) after_relation D
   unfolding r.relation same_kind
   relation_rule =
       seq sum_rule related_rule
-      (λ x. leads_or (g.compared o E x) (a.tested o E x) after_sum after_relation
+      (λ x. leads_or (g.compared o E x) (a.test_tail o E x) after_sum after_relation
       (leads_starts (g.compared o E x) comparisons after_sum after_relation (a.starts_compared o E x) refl) (leads_tested x after_sum refl refl refl refl))
       (a.alive_related o E)
 
@@ -464,8 +464,8 @@ module _ (o o' : Bool) (E F : Lang ExprTree) (p q : Parser ExprTree) (D : Levels
       seq (alternative_rule h) (λ alternative. nothing (tree.If test consequent alternative) after_expr D) (λ alternative. leads_empty (tree.If test consequent alternative) after_expr after_expr refl)
       (λ alternative. alive_empty (tree.If test consequent alternative))
 
-  pub tried_rule : o ≡ true → (test : ExprTree) → Rule (a.tried o E test) (a.tried o' F test) (r.tried o p test) (r.tried o' q test) after_expr D
-  unfolding r.tried same_kind
+  pub tried_rule : o ≡ true → (test : ExprTree) → Rule (a.conditional_tail o E test) (a.conditional_tail o' F test) (r.conditional_tail o p test) (r.conditional_tail o' q test) after_expr D
+  unfolding r.conditional_tail same_kind
   tried_rule h test =
       seq (consequent_rule h) (decided_rule h test) (λ consequent. leads_first (only k.Else) after_expr after_expr (starts_one k.Else (λ _. E)) refl) (a.alive_decided o E (i.alive h) test)
 

@@ -179,11 +179,11 @@ module _ (may : Bool) (inner : Parser ExprTree) where
 
   -- ---- accesses
 
-  unfoldable pub some_called : Parser (Option (List ExprTree))
-  some_called = called >>= (λ found. pure (Some found))
+  unfoldable pub call_arguments : Parser (Option (List ExprTree))
+  call_arguments = called >>= (λ found. pure (Some found))
 
   unfoldable pub maybe_called : Parser (Option (List ExprTree))
-  maybe_called = either (only k.LParen) (gate may some_called) (pure None)
+  maybe_called = either (only k.LParen) (gate may call_arguments) (pure None)
 
   unfoldable pub dotted : Parser (Access (List ExprTree))
   dotted = do
@@ -273,11 +273,11 @@ module _ (may : Bool) (inner : Parser ExprTree) where
     y ← maybe_inside
     pure (is_in x type_name y)
 
-  unfoldable pub tested : ExprTree → Parser ExprTree
-  tested x = either (only k.Has) (has x) (either (only k.Like) (like x) (either (only k.Is) (typed x) (pure x)))
+  unfoldable pub test_tail : ExprTree → Parser ExprTree
+  test_tail x = either (only k.Has) (has x) (either (only k.Like) (like x) (either (only k.Is) (typed x) (pure x)))
 
   unfoldable pub related : ExprTree → Parser ExprTree
-  related x = either comparisons (compared x) (tested x)
+  related x = either comparisons (compared x) (test_tail x)
 
   unfoldable pub relation : Parser ExprTree
   relation = sum >>= related
@@ -315,14 +315,14 @@ module _ (may : Bool) (inner : Parser ExprTree) where
   unfoldable pub decided : ExprTree → ExprTree → Parser ExprTree
   decided test then_tree = alternative >>= (λ else_tree. pure (tree.If test then_tree else_tree))
 
-  unfoldable pub tried : ExprTree → Parser ExprTree
-  tried test = consequent >>= decided test
+  unfoldable pub conditional_tail : ExprTree → Parser ExprTree
+  conditional_tail test = consequent >>= decided test
 
   unfoldable pub conditional : Parser ExprTree
   conditional = do
     token k.If
     test ← inner
-    tried test
+    conditional_tail test
 
   unfoldable pub level : Parser ExprTree
   level = either (only k.If) (gate may conditional) disjunction

@@ -1,3 +1,4 @@
 pub mod ExpressionReading
 pub mod Expressions
 pub mod inner
+pub mod passed_on

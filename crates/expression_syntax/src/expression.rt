@@ -72,10 +72,10 @@ impl<F: Fn(Global, &mut Cursor<'_>, usize) -> Result<ExprTree, Halt>> Reader<F> 
         Ok(if_of(self.alloc, test, consequent, alternative)?)
     }
 
-    #[tactic(auto, unfolding(crate::specs::ExpressionReading::tried))]
-    fn tried(&self, tokens: &mut Cursor<'_>, test: ExprTree) -> Result<ExprTree, Halt>
+    #[tactic(auto, unfolding(crate::specs::ExpressionReading::conditional_tail))]
+    fn conditional_tail(&self, tokens: &mut Cursor<'_>, test: ExprTree) -> Result<ExprTree, Halt>
         requires { Nests self.now.levels (F.pre self.now.expr) (F.post self.now.expr) }
-        ensures { Gives (spec.tried (is_positive self.now.levels) (spec.expr self.now.levels) test tokens.old.rest.now)
+        ensures { Gives (spec.conditional_tail (is_positive self.now.levels) (spec.expr self.now.levels) test tokens.old.rest.now)
             result tokens.new.rest.now }
     {
         let (test, consequent) = beside(test, self.consequent(tokens))?;
@@ -91,7 +91,7 @@ impl<F: Fn(Global, &mut Cursor<'_>, usize) -> Result<ExprTree, Halt>> Reader<F> 
     {
         tokens.take(Kind::If)?;
         let test = self.inner(tokens)?;
-        self.tried(tokens, test)
+        self.conditional_tail(tokens, test)
     }
 
     /// "if" Expr "then" Expr "else" Expr | Or

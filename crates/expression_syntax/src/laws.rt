@@ -1,4 +1,4 @@
-// Laws of the definitions.
+//! Laws of the definitions.
 ghost use Rattle.expression_syntax.specs.Expressions.{expr, any_expr, nesting_limit};
 ghost use Rattle.token_readers.specs.Reads.{HasOneTree, HasOneAnswerWithin, OpensNextLevel};
 

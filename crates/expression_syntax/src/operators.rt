@@ -152,10 +152,10 @@ fn access(name: Token, found: Option<Items<ExprTree>>) -> Access<Items<ExprTree>
 }
 
 impl<F: Fn(Global, &mut Cursor<'_>, usize) -> Result<ExprTree, Halt>> Reader<F> {
-    #[tactic(auto, unfolding(crate::specs::ExpressionReading::some_called))]
-    fn some_called(&self, tokens: &mut Cursor<'_>) -> Result<Option<Items<ExprTree>>, Halt>
+    #[tactic(auto, unfolding(crate::specs::ExpressionReading::call_arguments))]
+    fn call_arguments(&self, tokens: &mut Cursor<'_>) -> Result<Option<Items<ExprTree>>, Halt>
         requires { Nests self.now.levels (F.pre self.now.expr) (F.post self.now.expr) }
-        ensures { Gives (spec.some_called (is_positive self.now.levels) (spec.expr self.now.levels) tokens.old.rest.now)
+        ensures { Gives (spec.call_arguments (is_positive self.now.levels) (spec.expr self.now.levels) tokens.old.rest.now)
             result tokens.new.rest.now }
     {
         let found = self.called(tokens)?;
@@ -176,7 +176,7 @@ impl<F: Fn(Global, &mut Cursor<'_>, usize) -> Result<ExprTree, Halt>> Reader<F> 
         if self.levels == 0 {
             return Err(Halt::TooDeep);
         }
-        self.some_called(tokens)
+        self.call_arguments(tokens)
     }
 
     /// "." Ident [ "(" Arguments ")" ]
@@ -417,10 +417,10 @@ impl<F: Fn(Global, &mut Cursor<'_>, usize) -> Result<ExprTree, Halt>> Reader<F> 
         Ok(is_of(self.alloc, x, type_name, entity)?)
     }
 
-    #[tactic(auto, unfolding(crate::specs::ExpressionReading::tested))]
-    fn tested(&self, tokens: &mut Cursor<'_>, x: ExprTree) -> Result<ExprTree, Halt>
+    #[tactic(auto, unfolding(crate::specs::ExpressionReading::test_tail))]
+    fn test_tail(&self, tokens: &mut Cursor<'_>, x: ExprTree) -> Result<ExprTree, Halt>
         requires { Nests self.now.levels (F.pre self.now.expr) (F.post self.now.expr) }
-        ensures { Gives (spec.tested (is_positive self.now.levels) (spec.expr self.now.levels) x tokens.old.rest.now)
+        ensures { Gives (spec.test_tail (is_positive self.now.levels) (spec.expr self.now.levels) x tokens.old.rest.now)
             result tokens.new.rest.now }
     {
         if tokens.sees(Kind::Has) {
@@ -444,7 +444,7 @@ impl<F: Fn(Global, &mut Cursor<'_>, usize) -> Result<ExprTree, Halt>> Reader<F> 
         if tokens.sees_one_of(TokenSet::Comparisons) {
             return self.compared(tokens, x);
         }
-        self.tested(tokens, x)
+        self.test_tail(tokens, x)
     }
 
     /// Sum [ comparison Sum | "has" (Ident | String) | "like" Pattern | "is" Path [ "in" Sum ] ]

@@ -1,3 +1,4 @@
+//! The kinds of tokens that readers of expressions ask for.
 ghost use Rattle.expression_syntax.specs.inner.Included.{included as of_expressions};
 
 use policy_tokens::Kind;

@@ -1,3 +1,4 @@
+//! Expressions as they are written.
 use plain::{Boxed, Items};
 use policy_tokens::Token;
 use token_readers::{PathTree, UidTree};

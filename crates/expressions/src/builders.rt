@@ -1,4 +1,4 @@
-// Expressions from their parts. Each takes its parts whatever it answers.
+//! Expressions from their parts. Each takes its parts whatever it answers.
 ghost use Rattle.std.specs.Prelude.{◌≡◌, IfOk};
 
 use crate::expr::Expr;

@@ -1,4 +1,4 @@
-// Core expressions.
+//! Core expressions.
 use crate::leaf::{Literal, Variable};
 use crate::operator::{Binary, BinaryCall, Unary, UnaryCall};
 use plain::{Items, Shared, Text};

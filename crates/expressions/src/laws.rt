@@ -1,4 +1,4 @@
-// Laws of the definitions.
+//! Laws of the definitions.
 ghost use Rattle.expressions.specs.LikeTest.{IsDecided, LiteralsMatchThemselves, WildcardMatchesAll};
 
 /// That the test decides which texts match a pattern, that a pattern without a wildcard matches its literal text alone,

@@ -1,4 +1,4 @@
-// Patterns of `like`.
+//! Patterns of `like`.
 ghost use Rattle.std.specs.Prelude.{◌≡◌, ◌↔◌, ◌<◌, ◌++◌, [], ◌∷◌, IsTrue, length};
 ghost use Rattle.expressions.specs.Like.{Matches, literal, behind_stars};
 ghost use Rattle.expressions.specs.LikeTest.{Joins, is_match};

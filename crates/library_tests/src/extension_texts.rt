@@ -1,4 +1,4 @@
-// Texts of decimals and addresses where memory is refused.
+//! Texts of decimals and addresses where memory is refused.
 use extensions::{Decimal, IpNet, NoMemory};
 use std::alloc::Global;
 use std::process::Abort;

@@ -1,3 +1,4 @@
+//! Hierarchies: questions, changes, cycles, and refused memory.
 use ancestor_closure::{Ancestry, Hierarchy, Searched};
 use plain::{NoMemory, Text};
 use std::alloc::{AllocError, Global};

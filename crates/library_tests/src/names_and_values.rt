@@ -1,4 +1,4 @@
-// Names and values: their orders, and copies, also where memory is refused.
+//! Names and values: their orders, and copies, also where memory is refused.
 use extensions::{Decimal, IpNet};
 use plain::{NoMemory, Text};
 use std::alloc::{AllocError, Global};

@@ -1,4 +1,4 @@
-// Each call once with ample memory, at concrete types.
+//! Each call once with ample memory, at concrete types.
 use plain::*;
 use std::cmp::Ordering;
 use std::process::Abort;

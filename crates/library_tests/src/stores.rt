@@ -1,3 +1,4 @@
+//! Stores: what is looked up, and how they are joined.
 use plain::{NoMemory, Text};
 use stamped_store::{Entry, PolicyStore, ReadText, Stamp, Stamped, laws};
 use std::alloc::{AllocError, Global};

@@ -77,6 +77,7 @@ pub fn find(
     as_declared(declared, word)
 }
 
+/// The type that a word names without any declaration, if it does.
 #[tactic(auto, unfolding(schema_types::specs::Names::built_in))]
 pub fn built_in(word: &str) -> Option<QualifiedType>
     ensures { option_map qualified_view result ≡ built_in_of word.now }

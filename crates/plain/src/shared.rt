@@ -1,3 +1,4 @@
+//! Values that may be held in several places.
 ghost use Rattle.std.specs.Prelude.{◌≡◌, IfOk};
 
 use crate::NoMemory;

@@ -14,7 +14,7 @@ use Rattle.token_readers.specs.declared.tree.UidTree.{UidTree}
 use Rattle.token_readers.specs.Kinds.{only}
 use Rattle.token_readers.specs.Lang.{Lang, at_any}
 use Rattle.token_readers.specs.Reads.{IsRefusedWithin, ComesToWithin, HasOneAnswer, HasOneAnswerWithin}
-use Rattle.expression_syntax.specs.Expressions.{nesting_limit}
+use Rattle.policy_syntax.specs.passed_on.expression_syntax.{nesting_limit}
 use Rattle.policy_syntax.specs.Grammar as grammar
 use Rattle.policy_syntax.specs.Grammar.{effects}
 use Rattle.policy_syntax.specs.Stands.{TokenStands, UidStands, ValueStands, AnnotationStands, PartStands, ActionStands, PolicyStands, IsMadeOfTokens}

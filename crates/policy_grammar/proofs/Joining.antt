@@ -12,9 +12,9 @@ use Rattle.policy_syntax.specs.declared.tree.Condition.{Condition}
 use Rattle.policy_syntax.specs.declared.tree.PolicyTree.{PolicyTree}
 use Rattle.policy_syntax.specs.Stands.{ConditionStands}
 use Rattle.desugaring.specs.declared.fault.DesugarFault.{DesugarFault}
-use Rattle.desugaring.specs.declared.judgement.Judgement.{Judgement}
+use Rattle.desugaring.specs.declared.measure.Measure.{Measure}
 use Rattle.desugaring.specs.Faults.{faults_of}
-use Rattle.desugaring.specs.Judged.{of}
+use Rattle.desugaring.specs.Measured.{of}
 use Rattle.desugaring.specs.Standing.{StandsIn}
 use Rattle.desugaring.specs.Sums.{leaf, paired, LiteralIsLeaf, UnaryIsAbove, AndIsPaired}
 use Rattle.policy_grammar.proofs.Lists.{all-at, next, none-left, none-right}
@@ -29,10 +29,10 @@ judged_behind unary k.Unless e fs = unary Not e fs
 judged_behind unary _ e fs = refl
 
 -- what is told of conditions
-abbrev pub judged_from : List ℕ → List Condition → Judgement
+abbrev pub judged_from : List ℕ → List Condition → Measure
 judged_from text cs = of (conditions_of text cs) (condition_faults text cs)
 
-abbrev pub judged_one : List ℕ → Condition → Judgement
+abbrev pub judged_one : List ℕ → Condition → Measure
 judged_one text c = of (condition_of text c) (faults_of text c.expression)
 
 -- of none

@@ -8,7 +8,7 @@ use Rattle.policy_syntax.specs.declared.tree.PolicyTree.{PolicyTree}
 use Rattle.token_readers.specs.declared.fault.SyntaxFault.{SyntaxFault}
 use Rattle.token_readers.specs.declared.fault.SyntaxFault.TheVariants as syntax
 use Rattle.token_readers.specs.Lang.{Lang, at_any}
-use Rattle.expression_syntax.specs.Expressions.{nesting_limit}
+use Rattle.policy_syntax.specs.passed_on.expression_syntax.{nesting_limit}
 use Rattle.policy_syntax.specs.Grammar as grammar
 use Rattle.token_readers.specs.Reads.{IsRefusedWithin, HasOneTree, HasOneAnswer, HasOneAnswerWithin}
 use Rattle.policy_grammar.specs.declared.policy.Policy.{Policy}

@@ -7,7 +7,7 @@ use Rattle.policy_tokens.specs.declared.token.Token.{Token}
 use Rattle.token_readers.specs.declared.fault.SyntaxFault.{SyntaxFault}
 use Rattle.token_readers.specs.declared.fault.SyntaxFault.TheVariants as syntax
 use Rattle.token_readers.specs.Lang.{Lang}
-use Rattle.expression_syntax.specs.Expressions.{nesting_limit}
+use Rattle.policy_syntax.specs.passed_on.expression_syntax.{nesting_limit}
 use Rattle.token_readers.specs.Reads.{IsRefusedWithin}
 use Rattle.policy_syntax.specs.declared.tree.PolicyTree.{PolicyTree}
 use Rattle.policy_syntax.specs.Grammar as grammar

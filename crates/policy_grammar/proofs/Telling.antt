@@ -5,8 +5,8 @@ use Rattle.std.specs.List.{AllByRecursion, flat_map}
 use Rattle.policy_syntax.specs.declared.tree.PolicyTree.{PolicyTree}
 use Rattle.expressions.specs.Size as size
 use Rattle.desugaring.specs.declared.fault.DesugarFault.{DesugarFault}
-use Rattle.desugaring.specs.declared.judgement.Judgement.{Judgement}
-use Rattle.desugaring.specs.Judged.{of}
+use Rattle.desugaring.specs.declared.measure.Measure.{Measure}
+use Rattle.desugaring.specs.Measured.{of}
 use Rattle.desugaring.specs.Refused.{earlier_of, least, LeastOfBoth}
 use Rattle.desugaring.specs.Repeats.{repeat_faults}
 use Rattle.policy_grammar.specs.declared.fault.ReadFault.{ReadFault}
@@ -20,8 +20,8 @@ use Rattle.policy_grammar.specs.inner.Standing.{TellsPolicy, TellsFile}
 use Rattle.policy_grammar.proofs.Lists.{all-left, all-right}
 use Rattle.policy_grammar.proofs.Sizes.{decides}
 
--- of one policy, by its annotations and by the judgement of its conditions
-pub told-one : LeastOfBoth → (text : List ℕ) (tree : PolicyTree) (repeat : Option DesugarFault) (j : Judgement) (verdict : Verdict) →
+-- of one policy, by its annotations and by the measure of its conditions
+pub told-one : LeastOfBoth → (text : List ℕ) (tree : PolicyTree) (repeat : Option DesugarFault) (j : Measure) (verdict : Verdict) →
     repeat ≡ least (repeat_faults (annotation_marks text tree)) → j ≡ of (conditions_of text tree.conditions) (condition_faults text tree.conditions) →
     (IsTrue verdict.small ↔ IsSmallOver tree j.height j.forms) → verdict.fault ≡ earlier_of repeat j.fault → TellsPolicy text tree verdict
 told-one both text tree repeat j verdict again is small same =

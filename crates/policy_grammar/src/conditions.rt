@@ -3,14 +3,14 @@ ghost use Rattle.std.specs.Prelude.{◌≡◌, [], IfOk};
 ghost use Rattle.std.specs.List.{AllByRecursion};
 ghost use Rattle.expressions.specs.declared.expr.Expr.TheVariants as core;
 ghost use Rattle.desugaring.specs.Faults.{faults_of};
-ghost use Rattle.desugaring.specs.Judged.{of};
+ghost use Rattle.desugaring.specs.Measured.{of};
 ghost use Rattle.policy_syntax.specs.Stands.{ConditionStands};
 ghost use Rattle.policy_grammar.specs.Conditions.{asked_by, condition_of, conditions_of, condition_faults};
 ghost use Rattle.desugaring.specs.Standing.{StandsIn};
 ghost use Rattle.policy_grammar.specs.inner.Standing.{AreSound, judged_by};
 
 use crate::held::beside;
-use desugaring::{Judgement, build_expr, judge_expr, judgements_add_up};
+use desugaring::{Measure, build_expr, measure_expr, measures_add_up};
 use expressions::{Expr, Literal, Unary};
 use plain::NoMemory;
 use policy_syntax::Condition;
@@ -18,23 +18,23 @@ use policy_tokens::Kind;
 use std::alloc::Global;
 
 /// What is told of an expression behind this word.
-fn judge_behind(word: Kind, judgement: Judgement) -> Judgement
-    ensures { result ≡ judged_by word judgement }
+fn judge_behind(word: Kind, measure: Measure) -> Measure
+    ensures { result ≡ judged_by word measure }
 {
     match word {
-        Kind::Unless => judgement.above(),
-        _ => judgement,
+        Kind::Unless => measure.above(),
+        _ => measure,
     }
 }
 
-fn judge_condition(alloc: Global, text: &str, condition: &Condition) -> Result<Judgement, NoMemory>
+fn judge_condition(alloc: Global, text: &str, condition: &Condition) -> Result<Measure, NoMemory>
     requires { StandsIn text.now (λ tokens. ConditionStands tokens condition.now) }
     ensures { IfOk result (λ j. j ≡ of (condition_of text.now condition.now)
         (faults_of text.now condition.now.expression)) }
 {
-    judgements_add_up();
-    let judgement = judge_expr(alloc, text, &condition.expression)?;
-    Ok(judge_behind(condition.word.kind, judgement))
+    measures_add_up();
+    let measure = measure_expr(alloc, text, &condition.expression)?;
+    Ok(judge_behind(condition.word.kind, measure))
 }
 
 /// How large the core expression of the conditions is, and their fault at the least place. Takes memory for the keys
@@ -43,15 +43,15 @@ pub(crate) fn judge_conditions(
     alloc: Global,
     text: &str,
     conditions: &[Condition],
-) -> Result<Judgement, NoMemory>
+) -> Result<Measure, NoMemory>
     requires { StandsIn text.now (λ tokens. AllByRecursion (ConditionStands tokens) conditions.now) }
     ensures { IfOk result (λ j. j ≡ of (conditions_of text.now conditions.now)
         (condition_faults text.now conditions.now)) }
 {
-    judgements_add_up();
+    measures_add_up();
     let mut left = conditions.len();
     if left == 0 {
-        return Ok(Judgement {
+        return Ok(Measure {
             height: 1,
             forms: 1,
             fault: None,

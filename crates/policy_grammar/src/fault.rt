@@ -1,3 +1,4 @@
+//! Why a text is not read as policies.
 ghost use Rattle.std.specs.Prelude.{◌≡◌};
 ghost use Rattle.policy_grammar.specs.declared.fault.ReadFault.TheVariants.{NoMemory};
 ghost use Rattle.policy_grammar.specs.Faults.{code_of, place_of, of_lexing, of_desugaring};

@@ -1,4 +1,4 @@
-// Laws of the definitions.
+//! Laws of the definitions.
 ghost use Rattle.policy_grammar.specs.PolicyText.{IsUidText, IsUidRefused, IsPolicyText, IsPolicyRefused};
 ghost use Rattle.policy_grammar.specs.PolicyText.{IsFileRefused};
 ghost use Rattle.policy_grammar.specs.Unique.{HasOneReading, IsFileOf, ToldIsLeast, EachIsNamed, NamesDiffer};

@@ -10,7 +10,7 @@ ghost use Rattle.policy_grammar.specs.Repeats.{annotation_marks, policy_marks, s
 ghost use Rattle.policy_grammar.specs.inner.Standing.{has_id, looks_placed, meets_place, doubtful_marks};
 
 use crate::names::has_id;
-use desugaring::{DesugarFault, Mark, least_repeat, repeats_stand_again};
+use desugaring::{DesugarFault, Mark, first_duplicate, repeats_stand_again};
 use plain::{NoMemory, Text};
 use policy_syntax::PolicyTree;
 use policy_tokens::spelling;
@@ -45,7 +45,7 @@ pub(crate) fn repeated_annotation(
     ensures { IfOk result (λ fault. fault ≡ least (repeat_faults (annotation_marks text.now tree.now))) }
 {
     let keys = marks_of_annotations(alloc, text, tree)?;
-    least_repeat(alloc, &keys)
+    first_duplicate(alloc, &keys)
 }
 
 /// Where the first token of a policy stands.
@@ -128,5 +128,5 @@ pub(crate) fn repeated_name(
     repeats_stand_again();
     let wide = meets_place(text, names, trees);
     let marks = doubtful_marks(alloc, text, wide, names, trees)?;
-    least_repeat(alloc, &marks)
+    first_duplicate(alloc, &marks)
 }

@@ -1,7 +1,7 @@
 //! Whole texts: a uid, a policy, a file of policies.
 ghost use Rattle.std.specs.Prelude.{◌≡◌, IfOk, IfErr, map, string_bytes, slice_get};
 ghost use Rattle.std.specs.List.{AllByRecursion};
-ghost use Rattle.expression_syntax.specs.Expressions.{nesting_limit};
+ghost use Rattle.policy_syntax.specs.passed_on.expression_syntax.{nesting_limit};
 ghost use Rattle.token_readers.specs.Lang.{at_any};
 ghost use Rattle.policy_syntax.specs.Grammar as grammar;
 ghost use Rattle.policy_syntax.specs.Stands.{UidStands, PolicyStands};

@@ -46,10 +46,10 @@ pub(crate) fn judge_policy(
 {
     least_fault_is_told();
     let repeat = repeated_annotation(alloc, text, tree)?;
-    let judgement = judge_conditions(alloc, text, tree.conditions.as_slice())?;
-    let small = is_small(tree, judgement.height, judgement.forms);
+    let measure = judge_conditions(alloc, text, tree.conditions.as_slice())?;
+    let small = is_small(tree, measure.height, measure.forms);
     Ok(Verdict {
-        fault: earlier_of(repeat, judgement.fault),
+        fault: earlier_of(repeat, measure.fault),
         small,
     })
 }

@@ -11,7 +11,7 @@ use Rattle.policy_syntax.specs.declared.tree.PartTree.TheVariants as part
 use Rattle.policy_syntax.specs.declared.tree.ActionTree.{ActionTree}
 use Rattle.policy_syntax.specs.declared.tree.ActionTree.TheVariants as action
 use Rattle.policy_syntax.specs.declared.tree.ScopeTree.{ScopeTree}
-use Rattle.expression_trees.specs.declared.tree.ExprTree.{ExprTree}
+use Rattle.expression_syntax.specs.passed_on.expression_trees.{ExprTree}
 use Rattle.policy_syntax.specs.declared.tree.Condition.{Condition}
 use Rattle.policy_syntax.specs.declared.tree.PolicyTree.{PolicyTree}
 use Rattle.token_readers.specs.Kinds.{Kinds, only, same_kind}
@@ -49,7 +49,7 @@ abbrev typed_tail : PathTree → Lang PartTree
 typed_tail p = lang.◌>>=◌ (lang.optional g.in_uid) (λ entity. lang.empty (is_in p entity))
 
 abbrev or_any : Lang PartTree
-or_any = lang.◌or◌ g.of_type (lang.empty part.Any)
+or_any = lang.◌or◌ g.type_test (lang.empty part.Any)
 
 abbrev or_in : Lang PartTree
 or_in = lang.◌or◌ (lang.◌giving◌ g.in_uid part.In) or_any
@@ -60,7 +60,7 @@ alive_in_uid = go_one k.In (λ _. alive_uid)
 alive_constraint : Begins g.entity_constraint []
 alive_constraint =
     alive_right (lang.◌giving◌ g.equal_uid part.Equal) or_in []
-    (alive_right (lang.◌giving◌ g.in_uid part.In) or_any [] (alive_right g.of_type (lang.empty part.Any) [] (alive_empty part.Any)))
+    (alive_right (lang.◌giving◌ g.in_uid part.In) or_any [] (alive_right g.type_test (lang.empty part.Any) [] (alive_empty part.Any)))
 
 alive_entity : (variable : Kind) → Begins (g.entity_part variable) []
 alive_entity variable = go_one variable (λ _. alive_constraint)
@@ -90,8 +90,8 @@ module _ (D : Levels) where
       → Rule (lang.◌giving◌ L f) (lang.◌giving◌ L f) (read_giving p f) (read_giving p f) js D
   giving_rule L p f ks js l kj jj = seq l (λ x. nothing (f x) js D) (λ x. leads_empty (f x) ks js kj) (λ x. alive_empty (f x))
 
-  typed_rule : Rule g.of_type g.of_type r.of_type r.of_type after_part D
-  unfolding r.of_type same_kind
+  typed_rule : Rule g.type_test g.type_test r.type_test r.type_test after_part D
+  unfolding r.type_test same_kind
   typed_rule =
       behind k.Is after_part D
       (seq (path_rule D)
@@ -104,18 +104,18 @@ module _ (D : Levels) where
       (go alive_path (λ p. go (alive_maybe g.in_uid) (λ entity. alive_empty (is_in p entity))))
 
   abbrev read_or_any : Parser PartTree
-  read_or_any = either (only k.Is) r.of_type (pure part.Any)
+  read_or_any = either (only k.Is) r.type_test (pure part.Any)
 
   abbrev read_or_in : Parser PartTree
   read_or_in = either (only k.In) (read_giving r.in_uid part.In) read_or_any
 
   or_any_rule : Rule or_any or_any read_or_any read_or_any after_part D
   unfolding same_kind
-  or_any_rule = or g.of_type g.of_type (lang.empty part.Any) (lang.empty part.Any) r.of_type r.of_type (pure part.Any) (pure part.Any) (only k.Is) after_part D
+  or_any_rule = or g.type_test g.type_test (lang.empty part.Any) (lang.empty part.Any) r.type_test r.type_test (pure part.Any) (pure part.Any) (only k.Is) after_part D
       typed_rule (nothing part.Any after_part D) (starts_one k.Is _) (leads_empty part.Any (only k.Is) after_part refl)
 
   leads_any : (ks : Kinds) → apart (only k.Is) ks ≡ true → within ks after_part ≡ true → Leads or_any ks after_part
-  leads_any ks e w = leads_or g.of_type (lang.empty part.Any) ks after_part (leads_one k.Is ks after_part e) (leads_empty part.Any ks after_part w)
+  leads_any ks e w = leads_or g.type_test (lang.empty part.Any) ks after_part (leads_one k.Is ks after_part e) (leads_empty part.Any ks after_part w)
 
   or_in_rule : Rule or_in or_in read_or_in read_or_in after_part D
   unfolding same_kind

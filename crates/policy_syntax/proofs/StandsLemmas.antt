@@ -44,7 +44,7 @@ module _ (all : List Token) where
   is_in_stands : (path : PathTree) → PathStands all path → (entity : UidTree) → UidStands all entity → PartStands all (is_in path (Some entity))
   is_in_stands path p entity u = (p, u)
 
-  typed_in : Makes all g.of_type (PartStands all)
+  typed_in : Makes all g.type_test (PartStands all)
   typed_in =
       past_in all
       (both_in all (path_in all)

@@ -60,8 +60,8 @@ abbrev pub is_in : PathTree → Option UidTree → PartTree
 is_in type_name None = part.Is type_name
 is_in type_name (Some entity) = part.IsIn type_name entity
 
-abbrev pub of_type : Lang PartTree
-of_type = do
+abbrev pub type_test : Lang PartTree
+type_test = do
   one k.Is
   type_name ← path
   entity ← optional in_uid
@@ -69,7 +69,7 @@ of_type = do
 
 -- [ "==" Uid | "in" Uid | "is" Path [ "in" Uid ] ]
 abbrev pub entity_constraint : Lang PartTree
-entity_constraint = (equal_uid giving part.Equal) or (in_uid giving part.In) or of_type or empty part.Any
+entity_constraint = (equal_uid giving part.Equal) or (in_uid giving part.In) or type_test or empty part.Any
 
 -- Principal is the word "principal" and a constraint, and Resource the word "resource" and a constraint.
 abbrev pub entity_part : Kind → Lang PartTree

@@ -1,3 +1,4 @@
 pub mod Grammar
 pub mod Stands
 pub mod inner
+pub mod passed_on

@@ -12,7 +12,7 @@ use Rattle.policy_syntax.specs.declared.tree.Condition.{Condition}
 use Rattle.policy_syntax.specs.declared.tree.PolicyTree.{PolicyTree}
 use Rattle.token_readers.specs.Kinds.{only}
 use Rattle.token_readers.specs.Lang.{Lang}
-pub use Rattle.expression_trees.specs.Stands.{TokenStands, PathStands, UidStands, ExprStands}
+pub use Rattle.expression_syntax.specs.passed_on.expression_trees.{TokenStands, PathStands, UidStands, ExprStands}
 use Rattle.policy_syntax.specs.Grammar.{words, effects, condition_words}
 
 abbrev pub ValueStands : List Token → Option Token → Type 0

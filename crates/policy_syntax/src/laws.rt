@@ -1,4 +1,4 @@
-// Laws of the definitions.
+//! Laws of the definitions.
 ghost use Rattle.std.specs.List.{AllByRecursion};
 ghost use Rattle.policy_syntax.specs.Grammar.{policy, policies, uid};
 ghost use Rattle.policy_syntax.specs.Stands.{IsMadeOfTokens, PolicyStands, UidStands};

@@ -1,3 +1,4 @@
+//! The kinds of tokens that readers of policies ask for.
 ghost use Rattle.policy_syntax.specs.inner.Included.{included as of_policies};
 
 use policy_tokens::Kind;

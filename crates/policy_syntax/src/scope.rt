@@ -29,9 +29,9 @@ fn in_uid(alloc: Global, tokens: &mut Cursor<'_>) -> Result<UidTree, Halt>
 }
 
 /// "is" Path [ "in" Uid ]
-#[tactic(auto, unfolding(crate::specs::inner::Parsing::of_type))]
-fn of_type(alloc: Global, tokens: &mut Cursor<'_>) -> Result<PartTree, Halt>
-    ensures { Gives (spec.of_type tokens.old.rest.now) result tokens.new.rest.now }
+#[tactic(auto, unfolding(crate::specs::inner::Parsing::type_test))]
+fn type_test(alloc: Global, tokens: &mut Cursor<'_>) -> Result<PartTree, Halt>
+    ensures { Gives (spec.type_test tokens.old.rest.now) result tokens.new.rest.now }
 {
     tokens.take(Kind::Is)?;
     let type_name = path(alloc, tokens)?;
@@ -56,7 +56,7 @@ fn entity_constraint(alloc: Global, tokens: &mut Cursor<'_>) -> Result<PartTree,
         return Ok(PartTree::In(entity));
     }
     if tokens.sees(Kind::Is) {
-        return of_type(alloc, tokens);
+        return type_test(alloc, tokens);
     }
     Ok(PartTree::Any)
 }

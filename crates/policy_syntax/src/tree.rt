@@ -1,3 +1,4 @@
+//! Policies as they are written.
 use expression_syntax::ExprTree;
 use plain::Items;
 use policy_tokens::Token;

@@ -1,4 +1,4 @@
-// The bytes that words and numbers are made of, and how many of them come first.
+//! The bytes that words and numbers are made of, and how many of them come first.
 ghost use Rattle.std.specs.Prelude.{◌≡◌, ◌≤◌, length};
 ghost use Rattle.plain.specs.Words.{is_letter, is_digit, is_word_byte};
 ghost use Rattle.policy_tokens.specs.inner.Reading.{run};

@@ -1,3 +1,4 @@
+//! Why a text has no tokens to give.
 ghost use Rattle.std.specs.Prelude.{◌≡◌};
 ghost use Rattle.policy_tokens.specs.declared.fault.LexFault.TheVariants.{NoMemory};
 

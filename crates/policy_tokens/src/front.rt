@@ -1,4 +1,4 @@
-// The token at the front of a text.
+//! The token at the front of a text.
 ghost use Rattle.std.specs.Prelude.{◌≡◌, ◌∷◌, ◌<◌, ◌++◌, List, length, codes, ℕ};
 ghost use Rattle.policy_tokens.specs.inner.Reading.{TellsToken, mark_of};
 

@@ -1,4 +1,4 @@
-// What may stand between tokens.
+//! What may stand between tokens.
 ghost use Rattle.std.specs.Prelude.{◌≡◌, ◌≤◌, length};
 ghost use Rattle.policy_tokens.specs.Lexing.{in_line};
 ghost use Rattle.policy_tokens.specs.inner.Reading.{run, TellsBlank, TellsGap};

@@ -1,4 +1,4 @@
-// Laws of the definitions.
+//! Laws of the definitions.
 ghost use Rattle.policy_tokens.specs.Lexing.{OneLexing, BadIsNotLexed, OneBadPlace};
 ghost use Rattle.policy_tokens.specs.Lexing.{EachIsLexedOrBad, EachIsSpelled};
 ghost use Rattle.policy_tokens.specs.Idents.{IdentsByKind, ReservedByKind, IdentsAreTokens};

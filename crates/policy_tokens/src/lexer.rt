@@ -1,4 +1,4 @@
-// The tokens of a text.
+//! The tokens of a text.
 ghost use Rattle.std.specs.Prelude.{IfOk, IfErr};
 ghost use Rattle.std.specs.List.{AllByRecursion};
 ghost use Rattle.policy_tokens.specs.Lexing.{IsLexed, IsSpelledIn, AreInOrder, IsFault};

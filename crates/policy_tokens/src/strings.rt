@@ -1,4 +1,4 @@
-// What strings stand for.
+//! What strings stand for.
 ghost use Rattle.std.specs.Prelude.{◌≡◌, ◌≤◌, List, IfOk, length, encode_utf8, true};
 ghost use Rattle.policy_tokens.specs.Lexing.{IsSpelledIn, spelling_of, IsBody};
 ghost use Rattle.policy_tokens.specs.inner.Reading.{run, is_plain, character_of, IsLiteral};

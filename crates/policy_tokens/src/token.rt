@@ -1,3 +1,4 @@
+//! Tokens and their kinds.
 ghost use Rattle.std.specs.Prelude.{◌≡◌};
 ghost use Rattle.policy_tokens.specs.Idents.{is_ident, is_reserved};
 

@@ -1,4 +1,4 @@
-// The words of the language, and the marks.
+//! The words of the language, and the marks.
 ghost use Rattle.std.specs.Prelude.{◌≡◌, ◌∷◌, []};
 ghost use Rattle.policy_tokens.specs.Lexing.{kind_of_word, listed, singles, pairs};
 

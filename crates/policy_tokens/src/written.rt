@@ -1,4 +1,4 @@
-// What is written where a token stands.
+//! What is written where a token stands.
 ghost use Rattle.std.specs.Prelude.{◌≡◌, ◌↔◌, ◌∷◌, ◌++◌, [], true};
 ghost use Rattle.plain.specs.Words.{IsIdent, IsReserved};
 ghost use Rattle.policy_tokens.specs.Idents.{is_ident, is_reserved};

@@ -12,8 +12,8 @@ use Rattle.values.specs.declared.entity_uid.EntityUid.{EntityUid}
 use Rattle.values.specs.Names.{uid_cmp, text_cmp, text_cmp-IsTotalOrder, text_cmp-IsAntisymmetric}
 use Rattle.ancestor_closure.specs.Hierarchy.{Parents, Path, Above, IsAllAbove, names, no_parents, with_parents}
 use Rattle.ancestor_closure.specs.Deciding.{Contains-here, Contains-there, Contains-cases, Contains-none, any_from, any_at, same_uid}
-use Rattle.schema_names.specs.Qualifying.{FoundEntityType}
-use Rattle.schema.specs.Schemas.{type_uid, with_types}
+use Rattle.schema_names.specs.Qualifying.{FoundEntityType, FoundAction}
+use Rattle.schema.specs.Schemas.{type_uid, with_types, with_actions}
 use Rattle.schema.specs.inner.Making.{AreTypes, IsTypesAbove, has_type}
 
 -- ---- types as points of a hierarchy
@@ -104,6 +104,27 @@ edge_from parents (e ∷ es) u a h = elim (edge_from (with_parents parents (type
 
 pub type_edge : (es : List FoundEntityType) (u a : EntityUid) → Contains (with_types no_parents es u) a → (e : FoundEntityType) × Contains es e × Contains (map type_uid e.parents) a
 type_edge es u a h = elim (edge_from no_parents es u a h) [
+  | inl found ↦ found
+  | inr none ↦ Contains-none a none
+]
+
+-- and so it is of actions
+action_edge_at : (x : FoundAction) (old : List EntityUid) (a : EntityUid) (b : Bool) → Contains (cond b x.parents old) a → Contains x.parents a ⊎ Contains old a
+action_edge_at x old a true h = inl h
+action_edge_at x old a false h = inr h
+
+action_edge_from : (parents : Parents) (xs : List FoundAction) (u a : EntityUid) → Contains (with_actions parents xs u) a → ((x : FoundAction) × Contains xs x × Contains x.parents a) ⊎ Contains (parents u) a
+action_edge_from parents [] u a h = inr h
+action_edge_from parents (x ∷ xs) u a h = elim (action_edge_from (with_parents parents x.uid x.parents) xs u a h) [
+  | inl found ↦ inl (found.0, Contains-there x xs found.0 found.1, found.2)
+  | inr before ↦ elim (action_edge_at x (parents u) a (is_eq (uid_cmp x.uid u)) before) [
+    | inl here ↦ inl (x, Contains-here x xs, here)
+    | inr older ↦ inr older
+  ]
+]
+
+pub action_edge : (xs : List FoundAction) (u a : EntityUid) → Contains (with_actions no_parents xs u) a → (x : FoundAction) × Contains xs x × Contains x.parents a
+action_edge xs u a h = elim (action_edge_from no_parents xs u a h) [
   | inl found ↦ found
   | inr none ↦ Contains-none a none
 ]

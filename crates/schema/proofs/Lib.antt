@@ -4,6 +4,7 @@ mod FillingLemmas
 mod HierarchyLemmas
 mod InOrder
 mod LineLemmas
+mod NameLemmas
 mod OneSchemaLemmas
 mod OutcomeLemmas
 mod PlaceLemmas

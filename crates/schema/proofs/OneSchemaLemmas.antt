@@ -13,7 +13,7 @@ use Rattle.ancestor_closure.specs.Deciding.{Contains-here, Contains-there, Conta
 use Rattle.schema_types.specs.Qualified.{Qualified}
 use Rattle.schema_types.specs.Cedar.{Cedar}
 use Rattle.schema_types.specs.Law.{OneWritten}
-use Rattle.schema_file.specs.Once.{AreApart}
+use Rattle.schema_names.specs.passed_on.schema_file.{AreApart}
 use Rattle.schema_names.specs.Qualifying.{FoundEntityType, FoundUse, FoundAction, FoundSchema}
 use Rattle.schema_names.specs.Laws as names
 use Rattle.schema_names.specs.Laws.{DeclaresOnce}

@@ -12,13 +12,14 @@ use Rattle.schema_types.specs.Ascending.{Ascend, KeysAscend}
 use Rattle.schema_types.specs.AscendingLaw.{WrittenTypesAscend}
 use Rattle.schema_types.specs.Law.{OneWritten, WrittenEntitiesAreNamed}
 use Rattle.schema_types.specs.Mentions.{MentionsEntity, NamesEntity}
-use Rattle.schema_names.specs.Qualifying.{FoundEntityType, FoundSchema}
+use Rattle.schema_names.specs.Qualifying.{FoundEntityType, FoundAction, FoundSchema}
 use Rattle.schema_names.specs.Laws as names
 use Rattle.schema_names.specs.Laws.{IsShapeOrContext, DeclaresOnce, TypesAscend, IsEntityType, NamesItsEntityTypes}
-use Rattle.schema.specs.Schemas.{StatedSchema, Answers, IsRecordOf, IsSound, shape_or_context, action_parents, type_parents, type_uid}
+use Rattle.schema.specs.Schemas.{StatedSchema, Answers, IsAction, IsRecordOf, IsSound, shape_or_context, action_parents, type_parents, type_uid}
 use Rattle.schema.proofs.AnswersLemmas.{contains_map}
-use Rattle.schema.proofs.HierarchyLemmas.{is_declared, type_edge}
-use Rattle.schema.specs.WellFormed.{AreAttributes, IsWellFormed, StatedSchemasAreWellFormed}
+use Rattle.schema.proofs.HierarchyLemmas.{is_declared, type_edge, action_edge}
+use Rattle.schema.proofs.NameLemmas.{AreNamed, names_of}
+use Rattle.schema.specs.WellFormed.{AreAttributes, IsActionType, IsWellFormed, StatedSchemasAreWellFormed}
 
 none_ascend : Ascend []
 unfolding IsStrictlySortedBy
@@ -80,7 +81,7 @@ module _ (named : WrittenEntitiesAreNamed) (s : FoundSchema) (own : NamesItsEnti
 
 module _ (one : OneWritten) (written : WrittenTypesAscend) (s : FoundSchema) (once : DeclaresOnce s) (ascend : TypesAscend s)
     (records : (r : Qualified) → IsShapeOrContext s r → (t : Cedar) → WrittenOut s.commons r t → (fs : CedarFields) × (t ≡ record_of fs)) (sound : IsSound s)
-    (named : WrittenEntitiesAreNamed) (own : NamesItsEntityTypes s) where
+    (named : WrittenEntitiesAreNamed) (own : NamesItsEntityTypes s) (called : AreNamed s) where
   attributes : (o : Option Qualified) → ((r : Qualified) → o ≡ Some r → IsShapeOrContext s r) → (t : Cedar) → IsRecordOf s.commons o t → AreAttributes t
   attributes None here t e = no_attributes t e
   attributes (Some r) here t w =
@@ -98,6 +99,21 @@ module _ (one : OneWritten) (written : WrittenTypesAscend) (s : FoundSchema) (on
     there : (q : List ℕ) → IsEntityType s q → IsSome (v.shape q)
     there q (e, here, name) = subst (λ (n : List ℕ). IsSome (v.shape n)) name (answers.all_shapes e here)
 
+    -- what is above an action is a parent of one
+    above_is_action : (u w : EntityUid) (us : List EntityUid) → v.ancestors u ≡ Some us → Contains us w → Contains v.actions w
+    above_is_action u w us e h =
+        let above = ((answers.ancestors u us e).2 w).0 h in
+        let last = last_edge (action_parents s) u above.0 w above.1 in
+        let at = action_edge s.actions last.0 w last.1 in
+        (answers.actions w).1 (called.parents at.0 at.1 w at.2)
+
+    action_typed : (u : EntityUid) → IsAction s u → IsActionType u.type_name
+    action_typed u (a, here, same) = subst (λ (x : EntityUid). IsActionType x.type_name) same (called.actions a here)
+
+    shape_apart : (n : List ℕ) (t : Cedar) → v.shape n ≡ Some t → IsActionType n → ⊥
+    shape_apart n t e action =
+        let x = answers.shapes n t e in called.entity_types x.0 x.1 (subst (λ (m : List ℕ). IsActionType m) (sym x.2) action)
+
     well_formed : IsWellFormed v
     well_formed = record {
       shapes = λ n t e. let x = answers.shapes n t e in attributes x.0.shape (λ r is. inl (x.0, x.1, is)) t x.3;
@@ -110,6 +126,9 @@ module _ (one : OneWritten) (written : WrittenTypesAscend) (s : FoundSchema) (on
       ancestors_join = λ u w x us ws e h f i.
           (((answers.ancestors u us e).2 x).1 (Above-joined (action_parents s) u w x (((answers.ancestors u us e).2 w).0 h) (((answers.ancestors w ws f).2 x).0 i)));
       no_cycle = λ u us e h. sound.no_cycle (u, ((answers.ancestors u us e).2 u).0 h);
+      ancestors_declared = above_is_action;
+      actions_typed = λ u h. action_typed u ((answers.actions u).0 h);
+      shapes_apart = λ n h. let x = is_some (v.shape n) h in shape_apart n x.0 x.1;
       parents_join = λ child parent above h i.
           (answers.parents child above).1 (Above-joined (type_parents s) (type_uid child) (type_uid parent) (type_uid above) ((answers.parents child parent).0 h) ((answers.parents parent above).0 i));
       shapes_name = λ n t e q h. let x = answers.shapes n t e in there q (names_declared named s own x.0.shape (λ r is. inl (x.0, x.1, is)) t x.3 q h);
@@ -123,4 +142,4 @@ module _ (one : OneWritten) (written : WrittenTypesAscend) (s : FoundSchema) (on
 
 pub stated_schemas_are_well_formed : OneWritten → WrittenTypesAscend → names.FilesDeclareOnce → names.FilesTypesAscend → names.ShapesAreRecords → names.FilesNameTheirEntityTypes → WrittenEntitiesAreNamed → StatedSchemasAreWellFormed
 stated_schemas_are_well_formed one written once ascend records own named bytes v is =
-    well_formed one written is.named (once bytes is.named is.states) (ascend bytes is.named is.states) (records bytes is.named is.states) is.sound named (own bytes is.named is.states) v is.answers
+    well_formed one written is.named (once bytes is.named is.states) (ascend bytes is.named is.states) (records bytes is.named is.states) is.sound named (own bytes is.named is.states) (names_of bytes is.named is.states) v is.answers

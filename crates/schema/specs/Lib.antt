@@ -4,3 +4,4 @@ pub mod Schemas
 pub mod Views
 pub mod WellFormed
 pub mod inner
+pub mod passed_on

@@ -1,11 +1,12 @@
 -- What holds of each schema that bytes state.
-use Rattle.std.specs.Prelude.{◌≡◌, ◌↔◌, ℕ, List, map, Contains, IsTrue, IsSome, Some}
+use Rattle.std.specs.Prelude.{◌≡◌, ◌↔◌, ℕ, List, map, Contains, IsTrue, IsSome, Option, Some}
 use Rattle.std.specs.List.Sorted.{IsStrictlySortedBy}
 use Rattle.values.specs.declared.entity_uid.EntityUid.{EntityUid}
 use Rattle.ancestor_closure.specs.Hierarchy.{IsAscending}
 use Rattle.schema_types.specs.Cedar.{Cedar, CedarFields, record_of, IsTooLarge}
 use Rattle.schema_types.specs.Mentions.{NamesEntity}
 use Rattle.schema_types.specs.Ascending.{KeysAscend}
+use Rattle.named_types.specs.Actions.{action_type}
 use Rattle.schema.specs.Schemas.{EnvironmentOf, StatedSchema, IsSchemaOf, place_cmp}
 
 -- the attributes of an entity type, or a context: a record within the limits, whose keys ascend, at every depth
@@ -14,6 +15,10 @@ pub record AreAttributes (t : Cedar) : Type 0 where
   pub is_record : t ≡ record_of fields
   pub ascend : KeysAscend t
   pub small : IsTooLarge t → ⊥
+
+-- what the actions of a namespace, or of none, have as their type: a name whose last word is `Action`
+abbrev pub IsActionType : List ℕ → Type 0
+IsActionType name = (namespace : Option (List ℕ)) × (name ≡ action_type namespace)
 
 pub record IsWellFormed (v : StatedSchema) : Type 0 where
   pub shapes : (n : List ℕ) (t : Cedar) → v.shape n ≡ Some t → AreAttributes t
@@ -29,6 +34,12 @@ pub record IsWellFormed (v : StatedSchema) : Type 0 where
   pub ancestors_join : (u w x : EntityUid) (us ws : List EntityUid) → v.ancestors u ≡ Some us → Contains us w
       → v.ancestors w ≡ Some ws → Contains ws x → Contains us x
   pub no_cycle : (u : EntityUid) (us : List EntityUid) → v.ancestors u ≡ Some us → Contains us u → ⊥
+  -- each ancestor is an action
+  pub ancestors_declared : (u w : EntityUid) (us : List EntityUid) → v.ancestors u ≡ Some us → Contains us w
+      → Contains v.actions w
+  -- actions have the types of actions, and no entity type that is declared is one
+  pub actions_typed : (u : EntityUid) → Contains v.actions u → IsActionType u.type_name
+  pub shapes_apart : (n : List ℕ) → IsSome (v.shape n) → IsActionType n → ⊥
   -- what may be a parent of a parent may be one
   pub parents_join : (child parent above : List ℕ) → IsTrue (v.may_have_parent child parent)
       → IsTrue (v.may_have_parent parent above) → IsTrue (v.may_have_parent child above)

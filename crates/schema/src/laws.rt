@@ -29,8 +29,9 @@ pub fn bytes_have_one_outcome()
 }
 
 /// A schema that bytes state has records as attributes and contexts, within the limits and with ascending keys; its
-/// environments, actions and ancestors ascend; no action is above itself; above is transitive; and each entity type
-/// that is named is declared.
+/// environments, actions and ancestors ascend; no action is above itself; above is transitive; each entity type that
+/// is named is declared, and so is each action that is above one; and actions alone have a type whose last word is
+/// `Action`.
 pub fn stated_schemas_are_well_formed()
     ensures { StatedSchemasAreWellFormed }
 {

@@ -7,7 +7,7 @@ use Rattle.evaluator.specs.Operators.{World}
 use Rattle.authoriser.specs.declared.answer.Answer.{Answer}
 use Rattle.authoriser.specs.Answers.{Named, IsAnswer}
 use Rattle.schema.specs.Schemas.{StatedSchema}
-use Rattle.entity_store.specs.Keeping.{Entries}
+use Rattle.entity_worlds.specs.Keeping.{Entries}
 use Rattle.validator.specs.Passing.{Passes}
 use Rattle.decision_texts.specs.declared.refusal.Refusal.{Refusal}
 use Rattle.decision_texts.specs.Decisions.{ArePoliciesOf, IsInOrder}

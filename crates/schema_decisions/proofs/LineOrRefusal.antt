@@ -9,7 +9,7 @@ use Rattle.policy_grammar.specs.declared.policy.Policy.{Policy}
 use Rattle.authoriser.specs.Laws.{OneAnswerInFiniteHierarchies}
 use Rattle.schema.specs.Schemas.{StatedSchema, IsSchemaOf}
 use Rattle.schema.specs.Outcomes as schemas
-use Rattle.entities.specs.declared.entity.Entity.{Entity}
+use Rattle.entity_worlds.specs.declared.entity.Entity.{Entity}
 use Rattle.entities.specs.declared.fault.EntityFault.{EntityFault}
 use Rattle.entities.specs.declared.fault.EntityFault.TheVariants.{BadShape}
 use Rattle.entities.specs.Requests.{StatesRequest, RequestRefused}

@@ -12,10 +12,10 @@ use Rattle.plain.proofs.Members.{Contains-here, Contains-there, Contains-none}
 use Rattle.ancestor_closure.specs.Decided.{is_same, HaveAllParents}
 use Rattle.evaluator.specs.Operators.{world_of}
 use Rattle.schema.specs.Schemas.{StatedSchema, IsSchemaOf}
-use Rattle.entities.specs.declared.entity.Entity.{Entity}
-use Rattle.entity_store.specs.declared.data.EntityData.{EntityData}
-use Rattle.entity_store.specs.Entities.{EntityMap, Actions, action_or, with_actions, world_in, attributes_of, parents_of}
-use Rattle.entity_store.specs.Keeping.{Entries, kept_in, Puts, data_of}
+use Rattle.entity_worlds.specs.declared.entity.Entity.{Entity}
+use Rattle.entity_worlds.specs.declared.data.EntityData.{EntityData}
+use Rattle.entity_worlds.specs.Entities.{EntityMap, Actions, action_or, with_actions, world_in, attributes_of, parents_of}
+use Rattle.entity_worlds.specs.Keeping.{Entries, kept_in, Puts, data_of}
 use Rattle.schema_decisions.specs.Decisions.{stated, world_under}
 use Rattle.schema_decisions.specs.inner.Stores.{Holds, world_held}
 

@@ -10,9 +10,9 @@ use Rattle.evaluator.specs.Operators.{World}
 use Rattle.authoriser.specs.declared.answer.Answer.{Answer}
 use Rattle.authoriser.specs.Answers.{Named, IsAnswer}
 use Rattle.schema.specs.Schemas.{StatedSchema, IsSchemaOf}
-use Rattle.entities.specs.declared.entity.Entity.{Entity}
-use Rattle.entity_store.specs.Entities.{EntityMap, with_actions, world_in}
-use Rattle.entity_store.specs.Keeping.{data_of}
+use Rattle.entity_worlds.specs.declared.entity.Entity.{Entity}
+use Rattle.entity_worlds.specs.Entities.{EntityMap, with_actions, world_in}
+use Rattle.entity_worlds.specs.Keeping.{data_of}
 use Rattle.decision_texts.specs.declared.refusal.Refusal.{Refusal}
 use Rattle.decision_texts.specs.Decisions.{named_policies, IsInOrder}
 use Rattle.decision_texts.specs.Lines.{answer_line}

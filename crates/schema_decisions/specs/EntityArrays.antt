@@ -12,7 +12,7 @@ use Rattle.json_words.specs.Gives.{◌>>=◌, or_fault, demand}
 use Rattle.values.specs.declared.entity_uid.EntityUid.{EntityUid}
 use Rattle.ancestor_closure.specs.Decided.{is_same}
 use Rattle.schema.specs.Schemas.{StatedSchema}
-use Rattle.entities.specs.declared.entity.Entity.{Entity}
+use Rattle.entity_worlds.specs.declared.entity.Entity.{Entity}
 use Rattle.entities.specs.declared.fault.EntityFault.{EntityFault}
 use Rattle.entities.specs.Entities.{entity_in}
 use Rattle.decision_texts.specs.declared.refusal.Refusal.{Refusal}

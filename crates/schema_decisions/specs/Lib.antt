@@ -5,3 +5,4 @@ pub mod Requests
 pub mod Decisions
 pub mod Outcomes
 pub mod inner
+pub mod passed_on

@@ -15,7 +15,7 @@ use crate::policies::passing_policies;
 use crate::question::request_in;
 use authoriser::{Answer, decide};
 use decision_texts::{Refusal, answer_line};
-use entity_store::{EntityStore, World};
+use entity_store::{EntityStore, world_under};
 use plain::NoMemory;
 use policy_checks::schema_in;
 use policy_grammar::Policy;
@@ -51,17 +51,6 @@ fn in_order<'p>(
     Ok(refs)
 }
 
-/// These entities, and the actions of the schema beside them.
-fn with_actions<'a>(
-    alloc: Global,
-    schema: &'a Schema,
-    store: &'a EntityStore,
-) -> World<'a, EntityStore>
-    ensures { result ≡ (store.now, Some schema.now) }
-{
-    World::new(alloc, store, Some(schema))
-}
-
 /// The answer to a request over these policies and entities, and the schema's actions.
 fn answer_over(
     alloc: Global,
@@ -73,7 +62,7 @@ fn answer_over(
     ensures { IfOk result
         (IsAnswer (world_held (schema_view schema.now) store.now) request.now (named policies.now)) }
 {
-    let world = with_actions(alloc, schema, store);
+    let world = world_under(alloc, store, schema);
     decide(alloc, policies, request, &world)
 }
 

@@ -10,3 +10,4 @@ mod refusal;
 
 pub use deciding::decide_under;
 pub use laws::texts_have_one_outcome;
+pub use policy_checks::{check_texts, schema_in};

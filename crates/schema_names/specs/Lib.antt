@@ -4,3 +4,4 @@ pub mod Naming
 pub mod Qualifying
 pub mod Records
 pub mod inner
+pub mod passed_on

@@ -1,14 +1,12 @@
 -- What is handed in, judged: faults as those of a site, and the one text of an entity read back.
-use Rattle.std.specs.Prelude.{◌≡◌, ◌≢◌, ◌≤◌, ◌↔◌, ℕ, List, Bool, true, false, IsTrue, Some, None, Result, Ok, Err, IfOk, cond}
-use Rattle.std.proofs.Common.{sym, ap, ◌∙◌, subst, refl}
+use Rattle.std.specs.Prelude.{◌≡◌, ◌≢◌, ◌↔◌, ℕ, List, Bool, true, false, IsTrue, Some, None, Result, Ok, IfOk, cond}
+use Rattle.std.proofs.Common.{sym, subst, refl}
 use Rattle.std.specs.Str.{bytes_eq, is_utf8, IsUtf8}
 use Rattle.std.proofs.lemmas.Str.{IsUtf8-from_is_utf8}
 use Rattle.std.proofs.lemmas.Slice.Eq.{bytes_eq-Decides}
-use Rattle.serde_json.specs.Data.{Data, depth}
-use Rattle.serde_json.specs.Read.{max_depth, read}
+use Rattle.serde_json.specs.Data.{Data}
+use Rattle.serde_json.specs.Read.{read}
 use Rattle.json_words.specs.Json.{json_of}
-use Rattle.values.specs.declared.entity_uid.EntityUid.{EntityUid}
-use Rattle.ancestor_closure.specs.Decided.{is_same}
 use Rattle.ancestor_closure.specs.Deciding.{same_self}
 use Rattle.policy_grammar.specs.declared.policy.Policy.{Policy}
 use Rattle.policy_grammar.specs.declared.fault.ReadFault.{ReadFault}
@@ -16,12 +14,12 @@ use Rattle.policy_grammar.specs.declared.fault.ReadFault.TheVariants as reading
 use Rattle.policy_grammar.specs.Limits.{IsId}
 use Rattle.policy_grammar.specs.PolicyText.{IsPolicyText, IsPolicyRefused, OrNoMemory}
 use Rattle.schema.specs.Schemas.{StatedSchema}
-use Rattle.entities.specs.declared.entity.Entity.{Entity}
+use Rattle.entity_worlds.specs.declared.entity.Entity.{Entity}
 use Rattle.entities.specs.Canonical.{canonical_json, canonical_text}
 use Rattle.entities.specs.Entities.{entity_in}
-use Rattle.validator.specs.declared.fault.CheckFault.{CheckFault}
-use Rattle.validator.specs.declared.fault.CheckFault.TheVariants as checking
-use Rattle.validator.specs.Passing.{Passes, IsImpossible, IsRefused}
+use Rattle.stored_texts.specs.passed_on.validator.{CheckFault}
+use Rattle.stored_texts.specs.passed_on.validator_CheckFault_variants as checking
+use Rattle.stored_texts.specs.passed_on.validator.{Passes, IsImpossible, IsRefused}
 use Rattle.stamped_store.specs.declared.entry.ReadText.{ReadText}
 use Rattle.stored_texts.specs.Texts.{entity_of_text, ReadsEntity}
 use Rattle.site.specs.declared.fault.SiteFault.{SiteFault}

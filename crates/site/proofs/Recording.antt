@@ -1,35 +1,45 @@
 -- What commands leave in the store, by cases of their outcome.
-use Rattle.std.specs.Prelude.{◌≡◌, ◌↔◌, ◌++◌, ◌∷◌, [], ℕ, List, Bool, true, false, Option, Some, None, IsSome, is_some}
-use Rattle.std.specs.Prelude.{IsTrue, ⊤, Result, Ok, Err, OnOk, OnErr, IfOk, MatchResult}
-use Rattle.std.proofs.Common.{sym, ap, ◌∙◌, subst, refl, append_assoc}
+use Rattle.std.specs.Prelude.{◌≡◌, ◌++◌, ◌∷◌, [], ℕ, List, Bool, true, false, Option, Some, None, IsSome, is_some}
+use Rattle.std.specs.Prelude.{⊤, Result, Ok, Err, OnOk, OnErr, IfOk, MatchResult}
+use Rattle.std.proofs.Common.{sym, ap, ◌∙◌, subst, refl}
 use Rattle.std.specs.FinMap.{get}
 use Rattle.serde_json.specs.Data.{Data}
 use Rattle.values.specs.declared.entity_uid.EntityUid.{EntityUid}
 use Rattle.values.specs.declared.name.Name.{Name}
 use Rattle.policy_grammar.specs.declared.policy.Policy.{Policy}
 use Rattle.schema.specs.Schemas.{StatedSchema}
-use Rattle.entities.specs.declared.entity.Entity.{Entity}
+use Rattle.entity_worlds.specs.declared.entity.Entity.{Entity}
 use Rattle.entities.specs.Canonical.{canonical_text}
 use Rattle.stamped_store.specs.declared.entry.ReadText.{ReadText}
 use Rattle.stamped_store.specs.declared.entry.Stamp.{Stamp}
 use Rattle.stamped_store.specs.Contents.{text_under}
 use Rattle.stamped_store.specs.Store.{Store, Update, Kept, updates, store_of, issue, issued, policy_name, entity_name}
-use Rattle.stamped_store.specs.Store.{KeepsOtherNames}
+use Rattle.stamped_store.specs.Store.{KeepsOtherNames, shown_store}
+use Rattle.sync_messages.specs.Summaries.{IsStamped}
+use Rattle.state_messages.specs.Updates.{AreInRange, stamped}
 use Rattle.stored_world.specs.Said.{MakesCycle, MakesNoCycle}
 use Rattle.site.specs.declared.fault.SiteFault.{SiteFault}
 use Rattle.site.specs.declared.fault.SiteFault.TheVariants as fault
-use Rattle.site.specs.declared.outcome.Put.{Put}
-use Rattle.site.specs.Admitted.{IsEntityUnder, IsAdmitted, IsNotAdmitted, bad_id, no_policy, not_passing, entity_stated}
-use Rattle.site.specs.Seen.{IsHeld}
+use Rattle.site.specs.Admitted.{IsEntityUnder, IsNotAdmitted, bad_id, no_policy, not_passing, entity_stated}
+use Rattle.site.specs.Seen.{IsHeld, IsSite}
 use Rattle.site.specs.Steps.{Records, PutsPolicy, PutsEntity, Deletes}
 use Rattle.site.specs.inner.Recording.{RecordsOr, PutsUnless, IsNext, put_result, IsStatedBy, StatesNone, IsJudged}
 use Rattle.site.specs.inner.Recording.{OrMemory}
 
--- ---- what is always true of what is kept, after a call that may have found no memory
-pub held_after : {A B : Type 0} → (schema : StatedSchema) (k l t : Kept Policy Entity) (r : Result A B) → OnOk r (t ≡ l)
-    → OnErr r (t ≡ k) → IsHeld schema k → IsHeld schema l → IsHeld schema t
-held_after schema k l t (Ok a) e f old new = subst (IsHeld schema) (sym e) new
-held_after schema k l t (Err b) e f old new = subst (IsHeld schema) (sym f) old
+-- ---- what is always true of a site, after a call that may have found no memory
+pub site_after : {A B : Type 0} → (schema : StatedSchema) (number : ℕ) (k l t : Kept Policy Entity) (u : Update)
+    (r : Result A B) → OnOk r (t ≡ l) → OnOk r (shown_store t ≡ store_of (updates (shown_store k) ++ u ∷ []))
+    → OnErr r (t ≡ k) → IsSite schema number k → IsHeld schema l
+    → ((m n : Store) (v : Update) → AreInRange (updates m) → IsStamped (stamped v)
+    → n ≡ store_of (updates m ++ v ∷ []) → AreInRange (updates n))
+    → IsStamped (stamped u) → IsSite schema number t
+site_after schema number k l t u (Ok a) e stored f old new stay in_range = record {
+  held = subst (IsHeld schema) (sym e) new;
+  in_range = stay (shown_store k) (shown_store t) u old.in_range in_range stored;
+  numbered = old.numbered;
+  small = old.small;
+}
+site_after schema number k l t u (Err b) e stored f old new stay in_range = subst (IsSite schema number) (sym f) old
 
 pub others_after : {A B : Type 0} → (name : Name) (s t : Store) (r : Result A B) → OnOk r (KeepsOtherNames name s t)
     → OnErr r (t ≡ s) → KeepsOtherNames name s t

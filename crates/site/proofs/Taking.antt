@@ -1,7 +1,21 @@
--- Updates that are taken one after the other leave the store of all of them.
-use Rattle.std.specs.Prelude.{◌≡◌, ◌++◌, ◌∷◌, [], List}
-use Rattle.std.proofs.Common.{sym, ap, ◌∙◌, append_assoc, append-nil}
-use Rattle.stamped_store.specs.Store.{Store, Update, updates, store_of}
+-- Updates that are taken one after the other leave the store of all of them, and what a site keeps may be read.
+use Rattle.std.specs.Prelude.{◌≡◌, ◌++◌, ◌∷◌, [], ℕ, List, Option, Some, None, string_bytes}
+use Rattle.std.proofs.Common.{sym, ap, ◌∙◌, subst, append_assoc, append-nil}
+use Rattle.std.specs.declared.alloc.Global.{Global}
+use Rattle.std.specs.declared.string.String.{String}
+use Rattle.values.specs.declared.entity_uid.EntityUid.{EntityUid}
+use Rattle.policy_grammar.specs.declared.policy.Policy.{Policy}
+use Rattle.schema.specs.Schemas.{StatedSchema}
+use Rattle.entity_worlds.specs.declared.entity.Entity.{Entity}
+use Rattle.stamped_store.specs.declared.entry.Entry.{Entry}
+use Rattle.stamped_store.specs.declared.entry.ReadText.{ReadText}
+use Rattle.stamped_store.specs.EntryOrder.{body_bytes}
+use Rattle.stamped_store.specs.Reading.{AllNamed, IsBodyRead, IsEntryRead}
+use Rattle.stamped_store.specs.Shown.{shown_entries}
+use Rattle.stamped_store.specs.Store.{Store, Update, Kept, updates, store_of, shown_store, shown_updates, id_name, entity_name}
+use Rattle.state_messages.specs.Updates.{AreValid, IsBodyReadable}
+use Rattle.site.specs.Admitted.{IsPolicyUnder, IsEntityUnder}
+use Rattle.site.specs.Seen.{IsSite, MayBeHeld}
 
 pub stores_none : ((s : Store) → store_of (updates s) ≡ s) → (s : Store) → s ≡ store_of (updates s ++ [])
 stores_none own s = sym (own s) ∙ ap store_of (sym (append-nil (updates s)))
@@ -13,3 +27,38 @@ stores_more grouped s m t us vs h k =
     k ∙ ap (λ x. store_of (updates x ++ vs)) h
     ∙ grouped (updates s ++ us) vs
     ∙ ap store_of (append_assoc (updates s) us vs)
+
+-- ---- what is read from its text may be read
+module _ (schema : StatedSchema) where
+  body_readable : {P : Type 0} (Reads : List ℕ → P → Type 0) (b : Option (ReadText P)) → IsBodyRead Reads b
+      → IsBodyReadable Reads (body_bytes b)
+  body_readable Reads None h = tt
+  body_readable Reads (Some t) h = (t.read, h)
+
+  policies_valid : (es : List (String Global × Entry Policy))
+      → AllNamed string_bytes (λ id. IsEntryRead (IsPolicyUnder schema id)) es
+      → AreValid (IsPolicyUnder schema) (IsEntityUnder schema) (shown_entries id_name es)
+  policies_valid [] h = tt
+  policies_valid (e ∷ es) h =
+      (body_readable (IsPolicyUnder schema (string_bytes e.0)) e.1.body h.0, policies_valid es h.1)
+
+  entities_valid : (es : List (EntityUid × Entry Entity))
+      → AllNamed (λ uid. uid) (λ uid. IsEntryRead (IsEntityUnder schema uid)) es
+      → AreValid (IsPolicyUnder schema) (IsEntityUnder schema) (shown_entries entity_name es)
+  entities_valid [] h = tt
+  entities_valid (e ∷ es) h = (body_readable (IsEntityUnder schema e.0) e.1.body h.0, entities_valid es h.1)
+
+  both_valid : (us vs : List Update) → AreValid (IsPolicyUnder schema) (IsEntityUnder schema) us
+      → AreValid (IsPolicyUnder schema) (IsEntityUnder schema) vs
+      → AreValid (IsPolicyUnder schema) (IsEntityUnder schema) (us ++ vs)
+  both_valid [] vs h k = k
+  both_valid (u ∷ us) vs h k = (h.0, both_valid us vs h.1 k)
+
+  pub may_be_held : (number : ℕ) (k : Kept Policy Entity) → IsSite schema number k
+      → updates (shown_store k) ≡ shown_updates k → MayBeHeld schema (shown_store k)
+  may_be_held number k h in_order = record {
+    in_range = h.in_range;
+    valid = subst (λ (us : List Update). AreValid (IsPolicyUnder schema) (IsEntityUnder schema) us) (sym in_order)
+        (both_valid (shown_entries id_name k.policies) (shown_entries entity_name k.entities)
+        (policies_valid k.policies h.held.policies) (entities_valid k.entities h.held.entities));
+  }

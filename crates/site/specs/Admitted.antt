@@ -14,13 +14,13 @@ use Rattle.policy_grammar.specs.declared.fault.ReadFault.TheVariants.{BadId}
 use Rattle.policy_grammar.specs.Limits.{IsId}
 use Rattle.policy_grammar.specs.PolicyText.{IsPolicyText, IsPolicyRefused}
 use Rattle.schema.specs.Schemas.{StatedSchema}
-use Rattle.entities.specs.declared.entity.Entity.{Entity}
+use Rattle.entity_worlds.specs.declared.entity.Entity.{Entity}
 use Rattle.entities.specs.declared.fault.EntityFault.{EntityFault}
 use Rattle.entities.specs.declared.fault.EntityFault.TheVariants.{BadShape}
 use Rattle.entities.specs.Entities.{entity_in}
 use Rattle.entities.specs.Requests.{StatesRequest, RequestRefused}
-use Rattle.validator.specs.declared.fault.CheckFault.{CheckFault}
-use Rattle.validator.specs.Passing.{IsRefused}
+use Rattle.stored_texts.specs.passed_on.validator.{CheckFault}
+use Rattle.stored_texts.specs.passed_on.validator.{IsRefused}
 use Rattle.sync_messages.specs.Summaries.{IsStamped}
 use Rattle.state_messages.specs.declared.update.Update.{Update}
 use Rattle.state_messages.specs.Updates.{shown_update, stamped, IsUpdateRead}

@@ -6,9 +6,9 @@ use Rattle.policy_grammar.specs.declared.fault.ReadFault.TheVariants as reading
 use Rattle.entities.specs.Faults as entity_faults
 use Rattle.entities.specs.declared.fault.EntityFault.{EntityFault}
 use Rattle.entities.specs.declared.fault.EntityFault.TheVariants as stating
-use Rattle.validator.specs.Faults as check_faults
-use Rattle.validator.specs.declared.fault.CheckFault.{CheckFault}
-use Rattle.validator.specs.declared.fault.CheckFault.TheVariants as checking
+use Rattle.stored_texts.specs.passed_on.validator_Faults as check_faults
+use Rattle.stored_texts.specs.passed_on.validator.{CheckFault}
+use Rattle.stored_texts.specs.passed_on.validator_CheckFault_variants as checking
 use Rattle.sync_messages.specs.Faults as message_faults
 use Rattle.sync_messages.specs.declared.fault.MessageFault.{MessageFault}
 use Rattle.sync_messages.specs.declared.fault.MessageFault.TheVariants as sending

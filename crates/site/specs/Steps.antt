@@ -2,7 +2,7 @@
 -- command is judged by its own causes first and by the clock last, and is stamped with one more than the greatest count
 -- in the whole store; updates of another site are taken in their order; what is refused changes nothing, nor does what
 -- is asked.
-use Rattle.std.specs.Prelude.{◌≡◌, ◌↔◌, ◌<◌, ◌≤◌, ℕ, List, [], ◌∷◌, ◌++◌, length, take, Option, Some, None, IsSome}
+use Rattle.std.specs.Prelude.{◌≡◌, ◌↔◌, ◌<◌, ℕ, List, [], ◌∷◌, ◌++◌, length, take, Option, Some, None, IsSome}
 use Rattle.std.specs.Prelude.{IsTrue, Result, Ok, Err, option_and_then, option_map}
 use Rattle.std.specs.FinMap.{get}
 use Rattle.serde_json.specs.Data.{Data}
@@ -11,7 +11,7 @@ use Rattle.values.specs.declared.request.Request.{Request}
 use Rattle.policy_grammar.specs.declared.policy.Policy.{Policy}
 use Rattle.authoriser.specs.declared.answer.Answer.{Answer}
 use Rattle.schema.specs.Schemas.{StatedSchema}
-use Rattle.entities.specs.declared.entity.Entity.{Entity}
+use Rattle.entity_worlds.specs.declared.entity.Entity.{Entity}
 use Rattle.entities.specs.Canonical.{canonical_text}
 use Rattle.stamped_store.specs.declared.entry.Stamp.{Stamp}
 use Rattle.stamped_store.specs.EntryOrder.{PlainEntry}
@@ -20,7 +20,7 @@ use Rattle.stamped_store.specs.Deltas.{stamp_of}
 use Rattle.stamped_store.specs.Greatest.{greatest_count}
 use Rattle.stamped_store.specs.Store.{Store, Update, updates, store_of, issue, issued, policy_name, entity_name}
 use Rattle.stored_world.specs.Said.{IsAnswerOver, MakesCycle, MakesNoCycle}
-use Rattle.validator.specs.Passing.{IsImpossible}
+use Rattle.stored_texts.specs.passed_on.validator.{IsImpossible}
 use Rattle.site.specs.declared.fault.SiteFault.{SiteFault}
 use Rattle.site.specs.declared.fault.SiteFault.TheVariants as fault
 use Rattle.site.specs.declared.outcome.Put.{Put}
@@ -43,7 +43,7 @@ pub record Records (n : ℕ) (s : Store) (name : Name) (body : Option (List ℕ)
 
 -- no stamp is left, and nothing changes
 abbrev pub IsClockFull : Store → Store → Type 0
-IsClockFull s t = (most_count ≤ greatest_count s) × (t ≡ s)
+IsClockFull s t = (greatest_count s ≡ most_count) × (t ≡ s)
 
 -- a policy is put
 abbrev pub PutsPolicy : StatedSchema → ℕ → Store → List ℕ → List ℕ → Result Put SiteFault → Store → Type 0

@@ -7,8 +7,8 @@ use entities::EntityFault;
 use plain::NoMemory;
 use policy_grammar::ReadFault;
 use std::alloc::AllocFailed;
+use stored_texts::CheckFault;
 use sync_messages::MessageFault;
-use validator::CheckFault;
 
 /// Why a site refuses. What is refused changes nothing.
 #[derive(Clone, Copy, Debug, PartialEq, Eq)]

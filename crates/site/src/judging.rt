@@ -1,13 +1,14 @@
 //! What is handed in, judged under the schema alone.
 ghost use Rattle.std.specs.Prelude.{◌≡◌, ◌≢◌, ◌↔◌, ℕ, List, IsTrue, IfOk, IfErr, Some, Ok, Err, string_bytes};
 ghost use Rattle.serde_json.specs.View.{view};
+ghost use Rattle.plain.specs.Words.{IsPath};
 ghost use Rattle.policy_grammar.specs.Limits.{IsId};
 ghost use Rattle.policy_grammar.specs.PolicyText.{IsPolicyText};
 ghost use Rattle.schema.specs.Schemas.{StatedSchema};
 ghost use Rattle.schema.specs.Views.{schema_view};
 ghost use Rattle.entities.specs.Canonical.{canonical_text};
 ghost use Rattle.entities.specs.Entities.{entity_in};
-ghost use Rattle.validator.specs.Passing.{Passes, IsImpossible};
+ghost use Rattle.stored_texts.specs.passed_on.validator.{Passes, IsImpossible};
 ghost use Rattle.site.specs.Admitted.{IsEntityUnder, IsAdmitted, IsNotAdmitted, IsRequestOf};
 ghost use Rattle.site.specs.inner.Recording.{IsStated, IsStatedBy, StatesNone, AsksNone, IsJudged, OrMemory};
 
@@ -21,7 +22,8 @@ use schema::{Schema, stated_schemas_are_well_formed};
 use serde_json::Value;
 use stamped_store::ReadText;
 use std::alloc::Global;
-use validator::check;
+use stored_texts::check;
+use uid_json::names_read_back;
 use values::{EntityUid, Request};
 
 // ---- policies
@@ -88,6 +90,13 @@ fn with_verdict<P: Drop>(
     })
 }
 
+/// The text of a put: the one that was handed in.
+fn handed_in(alloc: Global, text: &str) -> Result<Text, NoMemory>
+    ensures { IfOk result (λ t. t ≡ text.now) }
+{
+    Text::from_str(alloc, text)
+}
+
 /// The policy that may be put under an id, beside its text, and whether it is impossible. The id is judged first, then
 /// the text, then the policy.
 pub(crate) fn judged_policy(
@@ -108,7 +117,7 @@ pub(crate) fn judged_policy(
         Ok(policy) => {
             let verdict = is_impossible(alloc, schema, &policy);
             let id = String::from_str(alloc, id);
-            let text = Text::from_str(alloc, text);
+            let text = handed_in(alloc, text);
             with_verdict(policy, verdict, id, text)
         }
         Err(fault) => Err(fault),
@@ -120,8 +129,10 @@ pub(crate) fn judged_policy(
 /// The entity that JSON states.
 fn entity_of(alloc: Global, schema: &Schema, json: &Value) -> Result<Entity, SiteFault>
     ensures states { IfOk result (λ e. entity_in (schema_view schema.now) (view json.now) ≡ Ok e) }
+    ensures path { IfOk result (λ e. IsPath e.uid.type_name) }
     ensures refused { IfErr result (OrMemory (StatesNone (schema_view schema.now) (Some (view json.now)))) }
 {
+    names_read_back();
     match read_entity(alloc, schema, json) {
         Ok(entity) => Ok(entity),
         Err(EntityFault::NoMemory) => Err(SiteFault::NoMemory),

@@ -1,30 +1,33 @@
 //! A site and its calls.
-ghost use Rattle.std.specs.Prelude.{◌≡◌, ◌≢◌, ◌++◌, ◌∷◌, [], IfOk, IsTrue, is_some, true, false};
-ghost use Rattle.std.specs.Prelude.{option_map, Some, None, Ok, Err, MatchResult, string_bytes};
+ghost use Rattle.std.specs.Prelude.{◌≡◌, ◌≢◌, ◌≤◌, ◌++◌, ◌∷◌, [], IfOk, IsTrue, is_some, true, false};
+ghost use Rattle.std.specs.Prelude.{option_map, option_and_then, Some, None, Ok, Err, MatchResult, string_bytes};
+ghost use Rattle.std.specs.Option.{option_copied};
 ghost use Rattle.std.specs.FinMap.{get};
 ghost use Rattle.std.specs.List.{AllByRecursion};
 ghost use Rattle.serde_json.specs.View.{view};
-ghost use Rattle.schema.specs.Views.{schema_view};
-ghost use Rattle.entities.specs.declared.entity.Entity.{Entity};
+ghost use Rattle.schema.specs.Views.{schema_view, IsStated};
+ghost use Rattle.entity_worlds.specs.declared.entity.Entity.{Entity};
 ghost use Rattle.entities.specs.Canonical.{canonical_text};
 ghost use Rattle.stamped_store.specs.Contents.{text_under};
 ghost use Rattle.stamped_store.specs.Deltas.{delta, summary_of};
 ghost use Rattle.stamped_store.specs.EntryOrder.{body_bytes, plain_entry};
+ghost use Rattle.stamped_store.specs.Greatest.{greatest_count};
 ghost use Rattle.stamped_store.specs.Reading.{IsBodyRead, IsEntryRead};
 ghost use Rattle.stamped_store.specs.Store.{store_of, updates, shown_store};
 ghost use Rattle.stamped_store.specs.Store.{policy_name, entity_name, issued, KeepsOtherNames};
 ghost use Rattle.stored_world.specs.Said.{MakesCycle, MakesNoCycle};
-ghost use Rattle.sync_messages.specs.Summaries.{summary_text};
-ghost use Rattle.state_messages.specs.Messages.{state_text, delta_text};
+ghost use Rattle.sync_messages.specs.Summaries.{summary_text, summary_stated, IsName, IsStamped};
+ghost use Rattle.state_messages.specs.Messages.{state_text, delta_text, updates_stated};
 ghost use Rattle.state_messages.specs.Updates.{shown_update, shown_updates};
 ghost use Rattle.site.specs.Admitted.{IsPolicyUnder, IsEntityUnder, IsValid, entity_stated};
-ghost use Rattle.site.specs.Seen.{schema_of, store_in, IsSameSite};
-ghost use Rattle.site.specs.Steps.{PutsPolicy, PutsEntity, Deletes, Takes, Answers, policy_found};
+ghost use Rattle.site.specs.Seen.{schema_of, store_in, IsSameSite, MayBeHeld};
+ghost use Rattle.site.specs.Steps.{PutsPolicy, PutsEntity, Deletes, Takes, Answers, policy_found, most_count};
 ghost use Rattle.site.specs.inner.Recording.{RecordsOr, PutsUnless, IsNext, put_result};
 
 use crate::fault::SiteFault;
 use crate::judging::{Judged, judged_policy, stated_entity, stated_request};
 use crate::outcome::{Put, Taken};
+use crate::ranges::ranges_stay;
 use crate::under_schema::{answer_under, readings_stay, would_cycle};
 use authoriser::Answer;
 use entities::Entity;
@@ -57,7 +60,7 @@ impl Model for Site {
     ghost use Rattle.values.specs.ValueCode.{value_code};
     ghost use Rattle.expressions.specs.contracts.expr.Expr as expr;
     ghost use Rattle.schema.specs.Views.{schema_view};
-    ghost use Rattle.site.specs.Seen.{Seen, IsHeld};
+    ghost use Rattle.site.specs.Seen.{Seen, IsSite};
 
     ghost Value = { Seen };
 
@@ -65,7 +68,7 @@ impl Model for Site {
 
     ghost view = { λ a. record { schema = a.schema; number = a.number; kept = a.store } };
 
-    ghost invariant = { λ a. IsHeld (schema_view a.schema) a.store };
+    ghost invariant = { λ a. IsSite (schema_view a.schema) a.number a.store };
 }
 
 /// The outcome of a put: its stamp, and whether the policy is impossible.
@@ -98,6 +101,16 @@ fn is_taken<T: Drop>(taken: Result<(), T>) -> bool
     }
 }
 
+/// Whether an entry is there and has a text.
+fn has_text<P>(entry: Option<&Entry<P>>) -> bool
+    ensures { result ≡ is_some (option_and_then (λ e. e.body) (option_map plain_entry (option_copied entry.entry))) }
+{
+    match entry {
+        Some(entry) => entry.body.is_some(),
+        None => false,
+    }
+}
+
 /// A refusal of what would have been stored, which is dropped.
 fn refused<T: Drop>(_dropped: T, fault: SiteFault) -> Result<Stamp, SiteFault>
     ensures { result ≡ Err fault }
@@ -107,6 +120,7 @@ fn refused<T: Drop>(_dropped: T, fault: SiteFault) -> Result<Stamp, SiteFault>
 
 /// The stamp of the next local command at a site; None where no stamp is left.
 fn next_stamp(store: &PolicyStore<Policy, Entity>, number: u16) -> Option<Stamp>
+    requires { greatest_count (shown_store store.now) ≤ COUNT_MAX }
     ensures { IsNext number (shown_store store.now) result }
 {
     if store.greatest_count() >= COUNT_MAX {
@@ -124,6 +138,7 @@ impl Site {
         ensures empty { store_in result ≡ store_of [] }
     {
         readings_stay();
+        ranges_stay();
         Site {
             alloc,
             schema,
@@ -137,6 +152,17 @@ impl Site {
         ensures { result.now ≡ self.now.schema }
     {
         &self.schema
+    }
+
+    /// Whoever holds a site knows by this that bytes state its schema, that each name and stamp of its store is one
+    /// that messages may have, and that each text may be read under the schema. Does nothing.
+    pub fn holds_valid_updates(&self)
+        ensures stated { IsStated self.now.schema }
+        ensures held { MayBeHeld (schema_of self.now) (store_in self.now) }
+        ensures most { most_count ≡ COUNT_MAX }
+    {
+        self.schema.is_stated();
+        let _ = self.store.policies();
     }
 
     // ---- questions
@@ -155,9 +181,12 @@ impl Site {
         }
     }
 
-    /// The whole store as a message to other sites of the schema. Fails for memory alone.
+    /// The whole store as a message to other sites of the schema, who read it back as the store's updates. Fails for
+    /// memory alone.
     pub fn state(&self) -> Result<Vec<u8>, NoMemory>
-        ensures { IfOk result (λ b. b.items ≡ state_text (schema_of self.now).label (store_in self.now)) }
+        ensures text { IfOk result (λ b. b.items ≡ state_text (schema_of self.now).label (store_in self.now)) }
+        ensures reads_back { IfOk result
+            (λ b. updates_stated (schema_of self.now).label b.items ≡ Ok (updates (store_in self.now))) }
     {
         write_state(self.alloc, self.schema.label(), &self.store)
     }
@@ -165,17 +194,24 @@ impl Site {
     /// The names of the store with their stamps, as a message to other sites of the schema, who tell by it what is news
     /// to this one. Fails for memory alone.
     pub fn summary(&self) -> Result<Vec<u8>, NoMemory>
-        ensures { IfOk result
+        ensures text { IfOk result
             (λ b. b.items ≡ summary_text (schema_of self.now).label (summary_of (store_in self.now))) }
+        ensures reads_back { IfOk result
+            (λ b. summary_stated (schema_of self.now).label b.items ≡ Ok (summary_of (store_in self.now))) }
     {
+        ranges_stay();
         write_summary(self.alloc, self.schema.label(), &self.store)
     }
 
-    /// The part of the store that is news to whoever has this summary, as a message. Fails for memory alone.
+    /// The part of the store that is news to whoever has this summary, as a message, which is read back as that part.
+    /// Fails for memory alone.
     pub fn delta(&self, since: &Summary) -> Result<Vec<u8>, NoMemory>
-        ensures { IfOk result
+        ensures text { IfOk result
             (λ b. b.items ≡ delta_text (schema_of self.now).label (delta (store_in self.now) since.now)) }
+        ensures reads_back { IfOk result (λ b. updates_stated (schema_of self.now).label b.items
+            ≡ Ok (updates (delta (store_in self.now) since.now))) }
     {
+        ranges_stay();
         write_delta(self.alloc, self.schema.label(), &self.store, since)
     }
 
@@ -199,13 +235,15 @@ impl Site {
         id: String,
         body: Option<ReadText<Policy>>,
     ) -> Result<Stamp, SiteFault>
-        requires { IsBodyRead (IsPolicyUnder (schema_of self.old) (string_bytes id)) body }
+        requires named { IsName (policy_name (string_bytes id)) }
+        requires read { IsBodyRead (IsPolicyUnder (schema_of self.old) (string_bytes id)) body }
         ensures records { RecordsOr self.old.number (store_in self.old) (policy_name (string_bytes id))
             (body_bytes body) result (store_in self.new) }
         ensures others { KeepsOtherNames (policy_name (string_bytes id)) (store_in self.old) (store_in self.new) }
         ensures same { IsSameSite self.old self.new }
     {
         readings_stay();
+        ranges_stay();
         match next_stamp(&self.store, self.number) {
             Some(stamp) => {
                 let entry = Entry { stamp, body };
@@ -222,13 +260,15 @@ impl Site {
         uid: EntityUid,
         body: Option<ReadText<Entity>>,
     ) -> Result<Stamp, SiteFault>
-        requires { IsBodyRead (IsEntityUnder (schema_of self.old) uid) body }
+        requires named { IsName (entity_name uid) }
+        requires read { IsBodyRead (IsEntityUnder (schema_of self.old) uid) body }
         ensures records { RecordsOr self.old.number (store_in self.old) (entity_name uid) (body_bytes body) result
             (store_in self.new) }
         ensures others { KeepsOtherNames (entity_name uid) (store_in self.old) (store_in self.new) }
         ensures same { IsSameSite self.old self.new }
     {
         readings_stay();
+        ranges_stay();
         match next_stamp(&self.store, self.number) {
             Some(stamp) => {
                 let entry = Entry { stamp, body };
@@ -272,24 +312,19 @@ impl Site {
     fn has_policy(&self, id: &str) -> bool
         ensures { result ≡ is_some (text_under (store_in self.now) (policy_name id.now)) }
     {
-        match self.store.get_policy(id) {
-            Some(entry) => entry.body.is_some(),
-            None => false,
-        }
+        has_text(self.store.get_policy(id))
     }
 
     /// Whether an entity has a text.
     fn has_entity(&self, uid: &EntityUid) -> bool
         ensures { result ≡ is_some (text_under (store_in self.now) (entity_name uid.now)) }
     {
-        match self.store.get_entity(uid) {
-            Some(entry) => entry.body.is_some(),
-            None => false,
-        }
+        has_text(self.store.get_entity(uid))
     }
 
     /// Stamps and stores that a policy is taken away.
     fn remove_policy(&mut self, id: &str) -> Result<Stamp, SiteFault>
+        requires { IsName (policy_name id.now) }
         ensures records { RecordsOr self.old.number (store_in self.old) (policy_name id.now) None result
             (store_in self.new) }
         ensures others { KeepsOtherNames (policy_name id.now) (store_in self.old) (store_in self.new) }
@@ -314,11 +349,14 @@ impl Site {
             return Err(SiteFault::NotThere);
         }
         stamps_are_issued();
+        ranges_stay();
+        self.holds_valid_updates();
         self.remove_policy(id)
     }
 
     /// Stamps and stores that an entity is taken away.
     fn remove_entity(&mut self, uid: &EntityUid) -> Result<Stamp, SiteFault>
+        requires { IsName (entity_name uid.now) }
         ensures records { RecordsOr self.old.number (store_in self.old) (entity_name uid.now) None result
             (store_in self.new) }
         ensures others { KeepsOtherNames (entity_name uid.now) (store_in self.old) (store_in self.new) }
@@ -343,6 +381,8 @@ impl Site {
             return Err(SiteFault::NotThere);
         }
         stamps_are_issued();
+        ranges_stay();
+        self.holds_valid_updates();
         self.remove_entity(uid)
     }
 
@@ -363,7 +403,8 @@ impl Site {
         uid: EntityUid,
         body: ReadText<Entity>,
     ) -> Result<Stamp, SiteFault>
-        requires { IsEntityUnder (schema_of self.old) uid body.text body.read }
+        requires named { IsName (entity_name uid) }
+        requires read { IsEntityUnder (schema_of self.old) uid body.text body.read }
         ensures puts { PutsUnless self.old.number (store_in self.old) cycle uid body.text result (store_in self.new) }
         ensures others { KeepsOtherNames (entity_name uid) (store_in self.old) (store_in self.new) }
         ensures same { IsSameSite self.old self.new }
@@ -404,26 +445,30 @@ impl Site {
 
     /// Joins one update of a policy, unless memory is refused.
     fn take_policy(&mut self, id: String, entry: Entry<Policy>) -> bool
-        requires { IsEntryRead (IsPolicyUnder (schema_of self.old) (string_bytes id)) entry }
+        requires in_range { IsStamped (policy_name (string_bytes id), entry.stamp) }
+        requires read { IsEntryRead (IsPolicyUnder (schema_of self.old) (string_bytes id)) entry }
         ensures taken { IsTrue result → store_in self.new
             ≡ store_of (updates (store_in self.old) ++ (policy_name (string_bytes id), plain_entry entry) ∷ []) }
         ensures refused { result ≡ false → store_in self.new ≡ store_in self.old }
         ensures same { IsSameSite self.old self.new }
     {
         readings_stay();
+        ranges_stay();
         let taken = self.store.take_policy(id, entry);
         is_taken(taken)
     }
 
     /// Joins one update of an entity, unless memory is refused.
     fn take_entity(&mut self, uid: EntityUid, entry: Entry<Entity>) -> bool
-        requires { IsEntryRead (IsEntityUnder (schema_of self.old) uid) entry }
+        requires in_range { IsStamped (entity_name uid, entry.stamp) }
+        requires read { IsEntryRead (IsEntityUnder (schema_of self.old) uid) entry }
         ensures taken { IsTrue result → store_in self.new
             ≡ store_of (updates (store_in self.old) ++ (entity_name uid, plain_entry entry) ∷ []) }
         ensures refused { result ≡ false → store_in self.new ≡ store_in self.old }
         ensures same { IsSameSite self.old self.new }
     {
         readings_stay();
+        ranges_stay();
         let taken = self.store.take_entity(uid, entry);
         is_taken(taken)
     }

@@ -7,7 +7,7 @@ ghost use Rattle.values.specs.Names.{uid_cmp};
 ghost use Rattle.policy_grammar.specs.declared.policy.Policy.{Policy};
 ghost use Rattle.schema.specs.Kept.{Kept as SchemaKept};
 ghost use Rattle.schema.specs.Views.{schema_view};
-ghost use Rattle.entities.specs.declared.entity.Entity.{Entity};
+ghost use Rattle.entity_worlds.specs.declared.entity.Entity.{Entity};
 ghost use Rattle.stamped_store.specs.declared.entry.Entry.{Entry};
 ghost use Rattle.stamped_store.specs.EntryOrder.{greater};
 ghost use Rattle.stamped_store.specs.Reading.{IsEntryRead};

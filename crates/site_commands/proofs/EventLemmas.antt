@@ -1,12 +1,20 @@
 -- How the events of a run are put together.
-use Rattle.std.proofs.Common.{◌≡◌, inl, inr, ℕ, Bool, List, [], ◌∷◌, None, Some, refl, if◌then◌else◌}
-use Rattle.clap.specs.Words.{kind_of}
-use Rattle.clap.specs.declared.error.Error.{Error}
-use Rattle.site_commands.specs.declared.stream.Stream.{Stream}
-use Rattle.site_commands.specs.declared.stream.Stream.TheVariants.{Answers, Faults}
-use Rattle.site_commands.specs.Events.{Event, read, wrote, printed, Runs}
-use Rattle.site_commands.specs.Reports.{ended, status_after, is_help, IsTold, IsFileTold, IsErrorTold}
-use Rattle.site_commands.specs.Runs.{Course, Reads}
+use Rattle.std.proofs.Common.{◌≡◌, ℕ, Bool, true, false, List, [], ◌∷◌, Option, None, Some, Ok, Err, refl, subst}
+use Rattle.command_lines.specs.declared.fault.LineFault.{LineFault}
+use Rattle.site_commands.specs.declared.device.FileFault.{FileFault}
+use Rattle.site_commands.specs.declared.device.FileFault.TheVariants.{Missing, Failed, NoMemory}
+use Rattle.site_commands.specs.declared.device.Stream.{Stream}
+use Rattle.site_commands.specs.declared.device.Stream.TheVariants.{Answers}
+use Rattle.site_commands.specs.Events.{Event, read, stored, wrote, printed, connected, listened, Runs}
+use Rattle.site_commands.specs.Reports.{ended, status_after, IsTold, IsFileTold, IsFailureTold, IsPrinted}
+use Rattle.site_commands.specs.Courses.{Course, Reads, ReadsIfThere, GoesOnIfThere, Stores, Connects, Listens, Announces}
+use Rattle.site_commands.specs.inner.Ways.{IsUnread, IsUnreadThere, found_as}
+
+pub failed_there : Failed ≡ Missing → ⊥
+failed_there e = absurd cc
+
+pub memory_there : NoMemory ≡ Missing → ⊥
+memory_there e = absurd cc
 
 module _ {H : Type 0} (does : H → Event → H → Type 0) where
   -- a line is written
@@ -15,27 +23,120 @@ module _ {H : Type 0} (does : H → Event → H → Type 0) where
       → Runs does old new (λ events. IsTold stream line status events end)
   told old new stream line done status end step is = (wrote stream (ended line) done ∷ [], (new, step, refl), (done, refl, is))
 
-  -- help or a fault of the words is written, the one or the other as the error says
-  pub printed_as : (old new : H) (error : Error) (help done : Bool) (end : ℕ) → is_help (kind_of error) ≡ help
-      → does old (printed (if help then Answers else Faults) error done) new → end ≡ status_after done (if help then 0 else 2)
-      → Runs does old new (λ events. IsErrorTold error events end)
-  printed_as old new error help done end is step e =
-      (printed (if help then Answers else Faults) error done ∷ [], (new, step, refl), (done, rw is refl, rw is e))
+  -- help or a fault of the words is written
+  pub printed_as : (old new : H) (stream : Stream) (fault : LineFault) (done : Bool) (status end : ℕ)
+      → does old (printed stream fault done) new → end ≡ status_after done status
+      → Runs does old new (λ events. IsPrinted stream fault status events end)
+  printed_as old new stream fault done status end step is = (printed stream fault done ∷ [], (new, step, refl), (done, refl, is))
 
   -- the same, described in another way
   pub runs_as : (old new : H) (P Q : List Event → Type 0) → ((events : List Event) → P events → Q events) → Runs does old new P → Runs does old new Q
   runs_as old new P Q f run = (run.0, run.1, f run.0 run.2)
 
+  -- one event more, before the others
+  step_on : (old next new : H) (event : Event) (P : List Event → Type 0) → does old event next → Runs does next new P
+      → Runs does old new (λ events. (rest : List Event) × (events ≡ event ∷ rest) × P rest)
+  step_on old next new event P step run = (event ∷ run.0, (next, step, run.1), (run.0, refl, run.2))
+
   -- a file is read, and the run goes on
   pub reads_on : (old next new : H) (name bytes : List ℕ) (goes_on : List ℕ → Course) (end : ℕ)
-      → does old (read name (Some bytes)) next → Runs does next new (λ events. goes_on bytes events end)
+      → does old (read name (Ok bytes)) next → Runs does next new (λ events. goes_on bytes events end)
       → Runs does old new (λ events. Reads name goes_on events end)
   reads_on old next new name bytes goes_on end step run =
-      (read name (Some bytes) ∷ run.0, (next, step, run.1), inr (bytes, run.0, refl, run.2))
+      (read name (Ok bytes) ∷ run.0, (next, step, run.1), (Ok bytes, run.0, refl, run.2))
 
-  -- a file can't be read
-  pub reads_none : (old next new : H) (name : List ℕ) (goes_on : List ℕ → Course) (end : ℕ)
-      → does old (read name None) next → Runs does next new (λ events. IsFileTold name events end)
+  -- a file was not read
+  pub reads_none : (old new : H) (name : List ℕ) (goes_on : List ℕ → Course) (end : ℕ)
+      → Runs does old new (λ events. IsUnread name events end)
       → Runs does old new (λ events. Reads name goes_on events end)
-  reads_none old next new name goes_on end step run =
-      (read name None ∷ run.0, (next, step, run.1), inl (run.0, refl, run.2))
+  reads_none old new name goes_on end run = (run.0, run.1, (Err run.2.0, run.2.1, run.2.2, run.2.3))
+
+  -- why a file was not read is told
+  pub unread : (old next new : H) (name : List ℕ) (fault : FileFault) (end : ℕ) → does old (read name (Err fault)) next
+      → Runs does next new (λ events. IsFileTold name fault events end) → Runs does old new (λ events. IsUnread name events end)
+  unread old next new name fault end step run =
+      (read name (Err fault) ∷ run.0, (next, step, run.1), (fault, run.0, refl, run.2))
+
+  pub unread_there : (old next new : H) (name : List ℕ) (fault : FileFault) (end : ℕ) → (fault ≡ Missing → ⊥) → does old (read name (Err fault)) next
+      → Runs does next new (λ events. IsFileTold name fault events end) → Runs does old new (λ events. IsUnreadThere name events end)
+  unread_there old next new name fault end there step run =
+      (read name (Err fault) ∷ run.0, (next, step, run.1), (fault, run.0, there, refl, run.2))
+
+  pub unread_as : (old next new : H) (name : List ℕ) (field fault : FileFault) (end : ℕ) → field ≡ fault → (fault ≡ Missing → ⊥)
+      → does old (read name (Err field)) next → Runs does next new (λ events. IsFileTold name fault events end)
+      → Runs does old new (λ events. IsUnreadThere name events end)
+  unread_as old next new name field fault end is there step run =
+      unread_there old next new name fault end there (subst (λ (f : FileFault). does old (read name (Err f)) next) is step) run
+
+  -- a file that need not be there is read, or is not there, and the run goes on
+  pub there_on : (old next new : H) (name : List ℕ) (found : Option (List ℕ)) (goes_on : Option (List ℕ) → Course) (end : ℕ)
+      → does old (read name (found_as found)) next → Runs does next new (λ events. goes_on found events end)
+      → Runs does old new (λ events. ReadsIfThere name goes_on events end)
+  there_on old next new name None goes_on end step run =
+      (read name (Err Missing) ∷ run.0, (next, step, run.1), (Err Missing, run.0, refl, run.2))
+  there_on old next new name (Some bytes) goes_on end step run =
+      (read name (Ok bytes) ∷ run.0, (next, step, run.1), (Ok bytes, run.0, refl, run.2))
+
+  unread_goes : (name : List ℕ) (goes_on : Option (List ℕ) → Course) (fault : FileFault) (events : List Event) (end : ℕ)
+      → (fault ≡ Missing → ⊥) → IsFileTold name fault events end → GoesOnIfThere name goes_on (Err fault) events end
+  unread_goes name goes_on Missing events end there told = absurd (there refl)
+  unread_goes name goes_on Failed events end there told = told
+  unread_goes name goes_on NoMemory events end there told = told
+
+  pub there_none : (old new : H) (name : List ℕ) (goes_on : Option (List ℕ) → Course) (end : ℕ)
+      → Runs does old new (λ events. IsUnreadThere name events end)
+      → Runs does old new (λ events. ReadsIfThere name goes_on events end)
+  there_none old new name goes_on end run =
+      (run.0, run.1, (Err run.2.0, run.2.1, run.2.3, unread_goes name goes_on run.2.0 run.2.1 end run.2.2 run.2.4))
+
+  -- a file is written, and the run goes on, or it was not
+  pub stores_on : (old next new : H) (name bytes : List ℕ) (done : Unit {0}) (goes_on : Course) (end : ℕ)
+      → does old (stored name bytes (Ok done)) next → Runs does next new (λ events. goes_on events end)
+      → Runs does old new (λ events. Stores name bytes goes_on events end)
+  stores_on old next new name bytes done goes_on end step run =
+      (stored name bytes (Ok done) ∷ run.0, (next, step, run.1), (Ok done, run.0, refl, run.2))
+
+  pub stores_none : (old next new : H) (name bytes : List ℕ) (fault : FileFault) (goes_on : Course) (end : ℕ)
+      → does old (stored name bytes (Err fault)) next → Runs does next new (λ events. IsFileTold name fault events end)
+      → Runs does old new (λ events. Stores name bytes goes_on events end)
+  stores_none old next new name bytes fault goes_on end step run =
+      (stored name bytes (Err fault) ∷ run.0, (next, step, run.1), (Err fault, run.0, refl, run.2))
+
+  -- a connection is opened, and the run goes on, or it could not be
+  pub connects_on : (old next new : H) (address : List ℕ) (goes_on : Course) (end : ℕ)
+      → does old (connected address true) next → Runs does next new (λ events. goes_on events end)
+      → Runs does old new (λ events. Connects address goes_on events end)
+  connects_on old next new address goes_on end step run =
+      (connected address true ∷ run.0, (next, step, run.1), (true, run.0, refl, run.2))
+
+  pub connects_none : (old next new : H) (address : List ℕ) (goes_on : Course) (end : ℕ)
+      → does old (connected address false) next → Runs does next new (λ events. IsFailureTold address events end)
+      → Runs does old new (λ events. Connects address goes_on events end)
+  connects_none old next new address goes_on end step run =
+      (connected address false ∷ run.0, (next, step, run.1), (false, run.0, refl, run.2))
+
+  -- an address is listened at, and the run goes on, or it could not be
+  pub listens_on : (old next new : H) (address : List ℕ) (goes_on : Course) (end : ℕ)
+      → does old (listened address true) next → Runs does next new (λ events. goes_on events end)
+      → Runs does old new (λ events. Listens address goes_on events end)
+  listens_on old next new address goes_on end step run =
+      (listened address true ∷ run.0, (next, step, run.1), (true, run.0, refl, run.2))
+
+  pub listens_none : (old next new : H) (address : List ℕ) (goes_on : Course) (end : ℕ)
+      → does old (listened address false) next → Runs does next new (λ events. IsFailureTold address events end)
+      → Runs does old new (λ events. Listens address goes_on events end)
+  listens_none old next new address goes_on end step run =
+      (listened address false ∷ run.0, (next, step, run.1), (false, run.0, refl, run.2))
+
+  -- a line is written, and the run goes on, or the stream failed
+  pub announces_on : (old next new : H) (line : List ℕ) (goes_on : Course) (end : ℕ)
+      → does old (wrote Answers (ended line) true) next → Runs does next new (λ events. goes_on events end)
+      → Runs does old new (λ events. Announces line goes_on events end)
+  announces_on old next new line goes_on end step run =
+      (wrote Answers (ended line) true ∷ run.0, (next, step, run.1), (true, run.0, refl, run.2))
+
+  pub announces_none : (old new : H) (line : List ℕ) (goes_on : Course) (end : ℕ)
+      → does old (wrote Answers (ended line) false) new → end ≡ 3
+      → Runs does old new (λ events. Announces line goes_on events end)
+  announces_none old new line goes_on end step is =
+      (wrote Answers (ended line) false ∷ [], (new, step, refl), (false, [], refl, (refl, is)))

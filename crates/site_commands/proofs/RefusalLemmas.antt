@@ -4,7 +4,7 @@ use Rattle.decision_texts.specs.declared.refusal.Refusal.{Refusal}
 use Rattle.decision_texts.specs.Refusals.{no_memory}
 use Rattle.site_commands.specs.Events.{Event}
 use Rattle.site_commands.specs.Reports.{IsRefusalTold, IsMemoryTold}
-use Rattle.site_commands.specs.Runs.{IsRefusedFor, IsLineOrRefusal}
+use Rattle.site_commands.specs.Courses.{IsRefusedFor, IsLineOrRefusal}
 
 one_or : (n : ℕ) → (n ≡ 1) ⊎ (n ≡ 1 → ⊥)
 one_or zero = inr (λ e. absurd cc)

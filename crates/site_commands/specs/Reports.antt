@@ -1,16 +1,14 @@
 -- What a run writes on which stream, and the status that it ends with. Both are rules of this product; an answer's line
 -- and a refusal's line are defined where texts are decided.
-use Rattle.std.specs.Prelude.{◌≡◌, ◌⊎◌, ℕ, Bool, true, false, List, [], ◌∷◌, ◌++◌, if◌then◌else◌, codes}
-use Rattle.clap.specs.Words.{kind_of}
-use Rattle.clap.specs.declared.error.Error.{Error}
-use Rattle.clap.specs.declared.error.ErrorKind.{ErrorKind}
-use Rattle.clap.specs.declared.error.ErrorKind.TheVariants.{DisplayHelp, DisplayVersion}
+use Rattle.std.specs.Prelude.{◌≡◌, ◌⊎◌, ℕ, Bool, List, [], ◌∷◌, ◌++◌, if◌then◌else◌, codes, decimal}
 use Rattle.decision_texts.specs.declared.refusal.Refusal.{Refusal}
 use Rattle.decision_texts.specs.Refusals.{error_line, no_memory}
-use Rattle.site_commands.specs.declared.line.LineFault.{LineFault}
-use Rattle.site_commands.specs.declared.line.LineFault.TheVariants.{Words, Incomplete}
-use Rattle.site_commands.specs.declared.stream.Stream.{Stream}
-use Rattle.site_commands.specs.declared.stream.Stream.TheVariants.{Answers, Faults}
+use Rattle.command_lines.specs.declared.fault.LineFault.{LineFault}
+use Rattle.command_lines.specs.declared.fault.LineFault.TheVariants.{Help, Words, Incomplete, NotText, NoMemory}
+use Rattle.site_commands.specs.declared.device.FileFault.{FileFault}
+use Rattle.site_commands.specs.declared.device.FileFault.TheVariants as file
+use Rattle.site_commands.specs.declared.device.Stream.{Stream}
+use Rattle.site_commands.specs.declared.device.Stream.TheVariants.{Answers, Faults}
 use Rattle.site_commands.specs.Events.{Event, wrote, printed}
 
 -- a line, and its end: a line feed
@@ -31,6 +29,10 @@ IsTold stream line status events end = (done : Bool)
 abbrev pub IsAnswerTold : List ℕ → List Event → ℕ → Type 0
 IsAnswerTold line = IsTold Answers line 0
 
+-- {"taken":3}
+unfoldable pub taken_line : ℕ → List ℕ
+taken_line count = codes "{\"taken\":" ++ decimal count ++ codes "}"
+
 -- the lines of policies go to standard output; where there are none, nothing is written; the run ends with 1 where a
 -- policy is refused
 abbrev pub AreLinesTold : List ℕ → Bool → List Event → ℕ → Type 0
@@ -50,24 +52,28 @@ no_memory_line = codes "{\"error\":{\"code\":1,\"place\":null,\"within\":null}}"
 abbrev pub IsMemoryTold : List Event → ℕ → Type 0
 IsMemoryTold events end = IsRefusalTold no_memory events end ⊎ IsTold Faults no_memory_line 1 events end
 
--- the name of a file that can't be read goes to standard error, and the run ends with 3
-abbrev pub IsFileTold : List ℕ → List Event → ℕ → Type 0
-IsFileTold name = IsTold Faults (codes "fault: " ++ name) 3
+-- the name of a file that can't be read or written, or the address where the network failed, goes to standard error,
+-- and the run ends with 3
+abbrev pub IsFailureTold : List ℕ → List Event → ℕ → Type 0
+IsFailureTold name = IsTold Faults (codes "fault: " ++ name) 3
 
--- help is asked for
-abbrev pub is_help : ErrorKind → Bool
-is_help DisplayHelp = true
-is_help DisplayVersion = true
-is_help _ = false
+-- why a file was not read or written
+abbrev pub IsFileTold : List ℕ → FileFault → List Event → ℕ → Type 0
+IsFileTold name file.Missing events end = IsFailureTold name events end
+IsFileTold name file.Failed events end = IsFailureTold name events end
+IsFileTold name file.NoMemory events end = IsMemoryTold events end
 
--- help goes to standard output, and the run ends with 0; every other fault of the words to standard error, and the run
--- ends with 2
-abbrev pub IsErrorTold : Error → List Event → ℕ → Type 0
-IsErrorTold error events end = (done : Bool)
-    × (events ≡ printed (if is_help (kind_of error) then Answers else Faults) error done ∷ [])
-    × (end ≡ status_after done (if is_help (kind_of error) then 0 else 2))
+-- the text of a fault of the words is written on this stream, and the run ends with this status, or with 3
+abbrev pub IsPrinted : Stream → LineFault → ℕ → List Event → ℕ → Type 0
+IsPrinted stream fault status events end = (done : Bool)
+    × (events ≡ printed stream fault done ∷ [])
+    × (end ≡ status_after done status)
 
--- words that are no command; of those that lack an option nothing is written
+-- help goes to standard output, and the run ends with 0; every fault of the words to standard error, and the run ends
+-- with 2; want of memory is told as it always is
 abbrev pub IsFaultTold : LineFault → List Event → ℕ → Type 0
-IsFaultTold (Words error) events end = IsErrorTold error events end
-IsFaultTold Incomplete events end = (events ≡ []) × (end ≡ 2)
+IsFaultTold (Help error) events end = IsPrinted Answers (Help error) 0 events end
+IsFaultTold (Words error) events end = IsPrinted Faults (Words error) 2 events end
+IsFaultTold Incomplete events end = IsPrinted Faults Incomplete 2 events end
+IsFaultTold NotText events end = IsPrinted Faults NotText 2 events end
+IsFaultTold NoMemory events end = IsMemoryTold events end

@@ -1,31 +1,21 @@
--- What a run is: which files it reads in which order, what it writes on which stream, and the status that it ends with.
--- A rule of this product; what texts come to is defined where they are checked and decided.
-use Rattle.std.specs.Prelude.{◌≡◌, ◌⊎◌, ℕ, Bool, List, [], ◌∷◌, Option, None, Some, option_map}
+-- What a run is: which files it reads in which order, what it writes where, and the status that it ends with.
+-- A rule of this product; what texts come to is defined where they are checked, decided, merged and pulled.
+use Rattle.std.specs.Prelude.{◌≡◌, ◌⊎◌, ℕ, Bool, List, [], Option, None, Some, option_map}
 use Rattle.clap.specs.Words.{Text, fault_of}
-use Rattle.decision_texts.specs.declared.refusal.Refusal.{Refusal}
 use Rattle.decision_texts.specs.Decisions as bare
 use Rattle.schema_decisions.specs.Decisions as typed
-use Rattle.policy_checks.specs.Checks as checks
-use Rattle.site_commands.specs.declared.line.Line.{Line}
-use Rattle.site_commands.specs.declared.line.Line.TheVariants.{Check, Decide}
-use Rattle.site_commands.specs.declared.line.LineFault.{LineFault}
-use Rattle.site_commands.specs.Events.{Event, read}
-use Rattle.site_commands.specs.Line.{Says, IsFaultOf, site_app}
-use Rattle.site_commands.specs.Reports.{IsAnswerTold, AreLinesTold, IsRefusalTold, IsMemoryTold, IsFileTold, IsFaultTold}
-
--- how a run goes on: what it does from here, and the status that it ends with
-abbrev pub Course : Type 1
-Course = List Event → ℕ → Type 0
-
--- what this is refused for is told, or that memory was refused
-abbrev pub IsRefusedFor : (Refusal → Type 0) → Course
-IsRefusedFor Refused events end =
-    ((refusal : Refusal) × Refused refusal × IsRefusalTold refusal events end) ⊎ IsMemoryTold events end
-
--- a line that is so is told, or the refusal
-abbrev pub IsLineOrRefusal : (List ℕ → Type 0) → (Refusal → Type 0) → Course
-IsLineOrRefusal Decided Refused events end =
-    ((line : List ℕ) × Decided line × IsAnswerTold line events end) ⊎ IsRefusedFor Refused events end
+use Rattle.schema_decisions.specs.passed_on.policy_checks_Checks as checks
+use Rattle.pulled_states.specs.passed_on.merged_states_Merges as merges
+use Rattle.command_lines.specs.declared.line.Line.{Line}
+use Rattle.command_lines.specs.declared.line.Line.TheVariants.{Check, Decide, Serve, Pull, Merge}
+use Rattle.command_lines.specs.declared.fault.LineFault.{LineFault}
+use Rattle.command_lines.specs.Apps.{site_app}
+use Rattle.command_lines.specs.Faults.{IsFaultOf}
+use Rattle.command_lines.specs.Lines.{Says}
+use Rattle.site_commands.specs.Reports.{AreLinesTold, IsFaultTold}
+use Rattle.site_commands.specs.Courses.{Course, Reads, ReadsIfNamed, IsRefusedFor, IsLineOrRefusal}
+use Rattle.site_commands.specs.Pulling.{IsPullRun}
+use Rattle.site_commands.specs.Serving.{IsServeRun}
 
 -- the line of the answer over three texts is told, or over four, the schema's among them
 abbrev pub IsJudged : Option (List ℕ) → List ℕ → List ℕ → List ℕ → Course
@@ -41,16 +31,10 @@ AreChecked schema policies events end =
     × AreLinesTold text some_refused events end)
     ⊎ IsRefusedFor (checks.IsRefused schema policies) events end
 
--- a file is read, and the run goes on with what it held; where it can't be read, that is told and the run ends
-abbrev pub Reads : List ℕ → (List ℕ → Course) → Course
-Reads name goes_on events end =
-    ((rest : List Event) × (events ≡ read name None ∷ rest) × IsFileTold name rest end)
-    ⊎ ((bytes : List ℕ) × (rest : List Event) × (events ≡ read name (Some bytes) ∷ rest) × goes_on bytes rest end)
-
--- the same with a file that need not be named
-abbrev pub ReadsIfNamed : Option (List ℕ) → (Option (List ℕ) → Course) → Course
-ReadsIfNamed None goes_on = goes_on None
-ReadsIfNamed (Some name) goes_on = Reads name (λ bytes. goes_on (Some bytes))
+-- the state that holds what two messages hold is told
+abbrev pub AreMerged : List ℕ → List ℕ → List ℕ → Course
+AreMerged schema first second =
+    IsLineOrRefusal (merges.IsMerged schema first second) (merges.AreRefused schema first second)
 
 -- the files of these names are read, first the schema, if one is named, then the policies, then the entities, then the
 -- request; and then what they held is judged
@@ -67,11 +51,23 @@ abbrev pub IsCheckRun : List ℕ → List ℕ → Course
 IsCheckRun schema_name policies_name =
     Reads schema_name (λ schema. Reads policies_name (λ policies. AreChecked schema policies))
 
+-- first the schema, then the two states
+abbrev pub IsMergeRun : List ℕ → List ℕ → List ℕ → Course
+IsMergeRun schema_name first_name second_name =
+    Reads schema_name (λ schema.
+    Reads first_name (λ first.
+    Reads second_name (λ second.
+    AreMerged schema first second)))
+
 -- the command is carried out
 abbrev pub IsLineRun : Line → Course
 IsLineRun (Check schema policies) = IsCheckRun schema.now policies.now
 IsLineRun (Decide schema policies entities request) =
     IsDecideRun (option_map (λ s. s.now) schema) policies.now entities.now request.now
+IsLineRun (Serve schema site listen state connections) =
+    IsServeRun schema.now site (option_map (λ s. s.now) state) listen.now connections
+IsLineRun (Pull schema site from state) = IsPullRun schema.now from.now state.now
+IsLineRun (Merge schema first second) = IsMergeRun schema.now first.now second.now
 
 -- the words are a command, which is carried out; or they are none, and that is told
 abbrev pub IsRun : List Text → Course

@@ -1,1 +1,3 @@
-pub mod Lines
+pub mod Begun
+pub mod Served
+pub mod Ways

@@ -1,16 +1,15 @@
-//! A run, from the words of the command line to the status.
-ghost use Rattle.std.specs.Prelude.{None, Some, map, option_map, string_bytes};
+//! Policies of files that are checked, and requests that are decided by them.
+ghost use Rattle.std.specs.Prelude.{None, Some, option_map};
 ghost use Rattle.std.specs.Process.{exit_status};
 ghost use Rattle.site_commands.specs.Events.{Runs};
-ghost use Rattle.site_commands.specs.Runs.{IsJudged, AreChecked, IsDecideRun, IsCheckRun, IsLineRun, IsRun};
-ghost use Rattle.site_commands.specs.inner.Lines.{IsRunOver};
+ghost use Rattle.site_commands.specs.Runs.{IsJudged, AreChecked, IsDecideRun, IsCheckRun};
+ghost use Rattle.site_commands.specs.inner.Ways.{IsRunOver};
 
 use crate::host::Host;
-use crate::line::{Line, line_of};
-use crate::report::{tell_answer, tell_file, tell_lines, tell_refusal, tell_words};
+use crate::reading::read_file;
+use crate::report::{tell_answer, tell_lines, tell_refusal};
 use decision_texts::decide_texts;
-use policy_checks::check_texts;
-use schema_decisions::decide_under;
+use schema_decisions::{check_texts, decide_under};
 use std::alloc::Global;
 use std::process::ExitCode;
 
@@ -81,14 +80,17 @@ fn run_over<H: Host>(
         (λ events. IsRunOver (option_map (λ s. s.now) schema.entry) policies.now entities.now request.now events
         (exit_status result)) }
 {
-    let Some(policies) = host.read(policies) else {
-        return tell_file(host, policies);
+    let policies = match read_file(host, policies) {
+        Ok(bytes) => bytes,
+        Err(end) => return end,
     };
-    let Some(entities) = host.read(entities) else {
-        return tell_file(host, entities);
+    let entities = match read_file(host, entities) {
+        Ok(bytes) => bytes,
+        Err(end) => return end,
     };
-    let Some(request) = host.read(request) else {
-        return tell_file(host, request);
+    let request = match read_file(host, request) {
+        Ok(bytes) => bytes,
+        Err(end) => return end,
     };
     judge(alloc, host, schema, &policies, &entities, &request)
 }
@@ -105,14 +107,15 @@ fn run_under<H: Host>(
     ensures { Runs H.does host.old host.new
         (λ events. IsDecideRun (Some schema.now) policies.now entities.now request.now events (exit_status result)) }
 {
-    let Some(schema) = host.read(schema) else {
-        return tell_file(host, schema);
+    let schema = match read_file(host, schema) {
+        Ok(bytes) => bytes,
+        Err(end) => return end,
     };
     run_over(alloc, host, Some(&schema), policies, entities, request)
 }
 
 /// Reads the files of these names, the schema first if one is named, and then decides what they hold.
-fn run_decide<H: Host>(
+pub(crate) fn run_decide<H: Host>(
     alloc: Global,
     host: &mut H,
     schema: Option<&str>,
@@ -142,44 +145,22 @@ fn check<H: Host>(alloc: Global, host: &mut H, schema: &[u8], policies: &[u8]) -
 }
 
 /// Reads the two files of these names, in this order, and then checks what they hold.
-fn run_check<H: Host>(alloc: Global, host: &mut H, schema: &str, policies: &str) -> ExitCode
+pub(crate) fn run_check<H: Host>(
+    alloc: Global,
+    host: &mut H,
+    schema: &str,
+    policies: &str,
+) -> ExitCode
     ensures { Runs H.does host.old host.new
         (λ events. IsCheckRun schema.now policies.now events (exit_status result)) }
 {
-    let Some(schema) = host.read(schema) else {
-        return tell_file(host, schema);
+    let schema = match read_file(host, schema) {
+        Ok(bytes) => bytes,
+        Err(end) => return end,
     };
-    let Some(policies) = host.read(policies) else {
-        return tell_file(host, policies);
+    let policies = match read_file(host, policies) {
+        Ok(bytes) => bytes,
+        Err(end) => return end,
     };
     check(alloc, host, &schema, &policies)
-}
-
-/// Carries out a command.
-fn run_line<H: Host>(alloc: Global, host: &mut H, line: Line<'_>) -> ExitCode
-    ensures { Runs H.does host.old host.new (λ events. IsLineRun line.entry events (exit_status result)) }
-{
-    match line {
-        Line::Check { schema, policies } => run_check(alloc, host, schema, policies),
-        Line::Decide {
-            schema,
-            policies,
-            entities,
-            request,
-        } => run_decide(alloc, host, schema, policies, entities, request),
-    }
-}
-
-/// Does what the words ask for, the first of which is the program's own name: checks policies, decides one request,
-/// writes help, or what is wrong with the words.
-///
-/// The status is 0 for an answer or help, 1 for a refusal, also of one policy among those that are checked, 2 for words that are no command, and 3 where a file can't be
-/// read or a stream fails.
-pub fn run<H: Host>(alloc: Global, host: &mut H, words: &[String]) -> ExitCode
-    ensures { Runs H.does host.old host.new (λ events. IsRun (map string_bytes words.now) events (exit_status result)) }
-{
-    match line_of(alloc, words) {
-        Ok(line) => run_line(alloc, host, line),
-        Err(fault) => tell_words(host, &fault),
-    }
 }

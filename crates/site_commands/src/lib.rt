@@ -1,14 +1,19 @@
-//! The commands of the program: its words, its files and its streams, over any machine.
+//! The commands of the program: its files, its streams and its connections, over any machine.
 #![tactic(auto)]
 
+mod begin;
 mod commands;
+mod device;
 mod host;
-mod line;
+mod program;
+mod reading;
 mod report;
-mod stream;
+mod serving;
+mod states;
+mod system;
 
-pub use commands::run;
-pub use host::{Host, SystemHost};
-pub use line::{Line, LineFault, line_of};
-pub use report::FAILED;
-pub use stream::{Stream, StreamFailed};
+pub use device::{FileFault, Link, NetworkFailed, Stream, StreamFailed};
+pub use host::Host;
+pub use program::run;
+pub use report::tell_words;
+pub use system::SystemHost;

@@ -1,22 +1,20 @@
 //! What a run writes at its end, and the status that it ends with.
 ghost use Rattle.std.specs.Prelude.{◌≡◌, ◌⊎◌, ◌++◌, is_ok, if◌then◌else◌};
 ghost use Rattle.std.specs.Process.{exit_status};
-ghost use Rattle.clap.specs.Words.{kind_of};
 ghost use Rattle.decision_texts.specs.Refusals.{error_line, no_memory};
 ghost use Rattle.site_commands.specs.Events.{Runs};
 ghost use Rattle.site_commands.specs.Reports.{IsTold, IsAnswerTold, IsRefusalTold, IsMemoryTold, IsFileTold};
-ghost use Rattle.site_commands.specs.Reports.{IsErrorTold, IsFaultTold, AreLinesTold, is_help, status_after};
+ghost use Rattle.site_commands.specs.Reports.{IsFailureTold, IsFaultTold, IsPrinted, AreLinesTold, status_after};
 
+use crate::device::{FileFault, Stream, StreamFailed};
 use crate::host::Host;
-use crate::line::LineFault;
-use crate::stream::{Stream, StreamFailed};
-use clap::error::ErrorKind;
+use command_lines::LineFault;
 use decision_texts::{Refusal, error_line};
 use std::alloc::Global;
 use std::process::ExitCode;
 
 /// An answer was given, or help.
-const ANSWERED: u8 = 0;
+pub(crate) const ANSWERED: u8 = 0;
 
 /// The texts are refused, or a policy of them is.
 const REFUSED: u8 = 1;
@@ -24,14 +22,14 @@ const REFUSED: u8 = 1;
 /// The words are no command line.
 const LINE_FAULT: u8 = 2;
 
-/// A file could not be read, or a stream failed.
-pub const FAILED: u8 = 3;
+/// A file could not be read or written, the network failed, or a stream did.
+pub(crate) const FAILED: u8 = 3;
 
 /// The line that tells of want of memory; it takes none.
 const NO_MEMORY_LINE: &[u8; 47] = b"{\"error\":{\"code\":1,\"place\":null,\"within\":null}}";
 
 /// The status of a run whose last writing came to this.
-fn status_of(written: Result<(), StreamFailed>, status: u8) -> ExitCode
+pub(crate) fn status_of(written: Result<(), StreamFailed>, status: u8) -> ExitCode
     ensures { exit_status result ≡ status_after (is_ok written) status }
 {
     match written {
@@ -50,7 +48,7 @@ fn tell<H: Host>(host: &mut H, stream: Stream, label: &str, line: &[u8], status:
 }
 
 /// Writes the line of an answer.
-pub fn tell_answer<H: Host>(host: &mut H, line: &[u8]) -> ExitCode
+pub(crate) fn tell_answer<H: Host>(host: &mut H, line: &[u8]) -> ExitCode
     ensures { Runs H.does host.old host.new (λ events. IsAnswerTold line.now events (exit_status result)) }
 {
     tell(host, Stream::Answers, "", line, ANSWERED)
@@ -64,7 +62,7 @@ fn check_status(some_refused: bool) -> u8
 }
 
 /// Writes the lines of policies, if there are any.
-pub fn tell_lines<H: Host>(host: &mut H, lines: &[u8], some_refused: bool) -> ExitCode
+pub(crate) fn tell_lines<H: Host>(host: &mut H, lines: &[u8], some_refused: bool) -> ExitCode
     ensures { Runs H.does host.old host.new
         (λ events. AreLinesTold lines.now some_refused events (exit_status result)) }
 {
@@ -76,14 +74,14 @@ pub fn tell_lines<H: Host>(host: &mut H, lines: &[u8], some_refused: bool) -> Ex
 }
 
 /// Writes that memory was refused.
-fn tell_memory<H: Host>(host: &mut H) -> ExitCode
+pub(crate) fn tell_memory<H: Host>(host: &mut H) -> ExitCode
     ensures { Runs H.does host.old host.new (λ events. IsMemoryTold events (exit_status result)) }
 {
     tell(host, Stream::Faults, "", NO_MEMORY_LINE, REFUSED)
 }
 
 /// Writes the line of a refusal, or where memory for it is refused, the line that tells of that.
-pub fn tell_refusal<H: Host>(alloc: Global, host: &mut H, refusal: Refusal) -> ExitCode
+pub(crate) fn tell_refusal<H: Host>(alloc: Global, host: &mut H, refusal: Refusal) -> ExitCode
     ensures { Runs H.does host.old host.new
         (λ events. IsRefusalTold refusal events (exit_status result) ⊎ IsMemoryTold events (exit_status result)) }
 {
@@ -93,41 +91,43 @@ pub fn tell_refusal<H: Host>(alloc: Global, host: &mut H, refusal: Refusal) -> E
     }
 }
 
-/// Writes that a file could not be read.
-pub fn tell_file<H: Host>(host: &mut H, name: &str) -> ExitCode
-    ensures { Runs H.does host.old host.new (λ events. IsFileTold name.now events (exit_status result)) }
+/// Writes the name of what failed, a file or an address.
+pub(crate) fn tell_failure<H: Host>(host: &mut H, name: &str) -> ExitCode
+    ensures { Runs H.does host.old host.new (λ events. IsFailureTold name.now events (exit_status result)) }
 {
     tell(host, Stream::Faults, "fault: ", name.as_bytes(), FAILED)
 }
 
-/// Whether the words ask for help.
-fn asks_for_help(error: &clap::Error) -> bool
-    ensures { result ≡ is_help (kind_of error.now) }
+/// Writes why a file was not read or written.
+pub(crate) fn tell_file<H: Host>(host: &mut H, name: &str, fault: FileFault) -> ExitCode
+    ensures { Runs H.does host.old host.new (λ events. IsFileTold name.now fault events (exit_status result)) }
 {
-    matches!(
-        error.kind(),
-        ErrorKind::DisplayHelp | ErrorKind::DisplayVersion
-    )
-}
-
-/// Writes the help that was asked for, or what is wrong with the words.
-fn tell_error<H: Host>(host: &mut H, error: &clap::Error) -> ExitCode
-    ensures { Runs H.does host.old host.new (λ events. IsErrorTold error.now events (exit_status result)) }
-{
-    if asks_for_help(error) {
-        let written = host.print(Stream::Answers, error);
-        return status_of(written, ANSWERED);
+    match fault {
+        FileFault::Missing => tell_failure(host, name),
+        FileFault::Failed => tell_failure(host, name),
+        FileFault::NoMemory => tell_memory(host),
     }
-    let written = host.print(Stream::Faults, error);
-    status_of(written, LINE_FAULT)
 }
 
-/// Writes what words came to that are no command.
+/// Writes the text of a fault of the words, or the help that was asked for.
+fn tell_text<H: Host>(host: &mut H, stream: Stream, fault: &LineFault, status: u8) -> ExitCode
+    ensures { Runs H.does host.old host.new
+        (λ events. IsPrinted stream fault.now status events (exit_status result)) }
+{
+    let written = host.print(stream, fault);
+    status_of(written, status)
+}
+
+/// Writes why words are no command, or the help that was asked for, and answers the status: 0 for help, 2 for a fault of
+/// the words, 1 for want of memory, and 3 where the stream fails.
 pub fn tell_words<H: Host>(host: &mut H, fault: &LineFault) -> ExitCode
     ensures { Runs H.does host.old host.new (λ events. IsFaultTold fault.now events (exit_status result)) }
 {
     match fault {
-        LineFault::Words(error) => tell_error(host, error),
-        LineFault::Incomplete => ExitCode::from(LINE_FAULT),
+        LineFault::Help(_) => tell_text(host, Stream::Answers, fault, ANSWERED),
+        LineFault::Words(_) => tell_text(host, Stream::Faults, fault, LINE_FAULT),
+        LineFault::Incomplete => tell_text(host, Stream::Faults, fault, LINE_FAULT),
+        LineFault::NotText => tell_text(host, Stream::Faults, fault, LINE_FAULT),
+        LineFault::NoMemory => tell_memory(host),
     }
 }

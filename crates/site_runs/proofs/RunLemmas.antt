@@ -1,22 +1,20 @@
 -- What enters in a run is in the store after it.
-use Rattle.std.specs.Prelude.{◌≡◌, ℕ, List, [], ◌∷◌, ◌++◌, map, Option, Some, None, Result, Ok, Err, take, refl}
+use Rattle.std.specs.Prelude.{◌≡◌, ℕ, List, [], ◌∷◌, ◌++◌, Option, Ok, Err, take, refl}
 use Rattle.std.specs.List.{AllByRecursion}
 use Rattle.std.proofs.Common.{sym, ap, ◌∙◌, subst, append_assoc, append-nil}
 use Rattle.serde_json.specs.Data.{Data}
 use Rattle.values.specs.declared.name.Name.{Name}
 use Rattle.policy_grammar.specs.declared.policy.Policy.{Policy}
-use Rattle.entities.specs.declared.entity.Entity.{Entity}
+use Rattle.entity_worlds.specs.declared.entity.Entity.{Entity}
 use Rattle.schema.specs.Schemas.{StatedSchema}
-use Rattle.stamped_store.specs.declared.entry.Stamp.{Stamp}
 use Rattle.stamped_store.specs.Store.{Store, Update, updates, store_of, policy_name, entity_name}
 use Rattle.state_messages.specs.declared.update.Update.{Update as SentUpdate}
 use Rattle.state_messages.specs.Updates.{AreInRange, shown_updates, IsMessage, IsRefused, IsUpdateRead}
-use Rattle.stored_texts.specs.Texts.{RefusesPolicy, RefusesEntity}
+use Rattle.site.specs.passed_on.stored_texts.{RefusesPolicy, RefusesEntity}
 use Rattle.sync_messages.specs.declared.fault.MessageFault.{MessageFault}
 use Rattle.schema.specs.Views.{schema_view}
 use Rattle.site.specs.declared.fault.SiteFault.{SiteFault}
 use Rattle.site.specs.declared.fault.SiteFault.TheVariants as fault
-use Rattle.site.specs.declared.outcome.Put.{Put}
 use Rattle.site.specs.declared.outcome.Taken.TheVariants.{All, Short}
 use Rattle.site.specs.Admitted.{IsPolicyUnder, IsEntityUnder, IsValid}
 use Rattle.site.specs.Steps.{PutsPolicy, PutsEntity, Deletes}
@@ -25,7 +23,7 @@ use Rattle.site_runs.specs.declared.input.Input.TheVariants as input
 use Rattle.site_runs.specs.declared.reply.Reply.{Reply}
 use Rattle.site_runs.specs.declared.reply.Reply.TheVariants as reply
 use Rattle.schema.specs.Kept.{Kept}
-use Rattle.stored_texts.specs.declared.texts.SchemaTexts.{SchemaTexts}
+use Rattle.site.specs.passed_on.stored_texts.{SchemaTexts}
 use Rattle.site_runs.specs.Runs.{Step, Run, HoldsAfter, took_by, took, update_of_entity, updates_of_message}
 
 -- updates of a message are valid where they are in range and are read

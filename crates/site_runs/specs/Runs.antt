@@ -1,22 +1,22 @@
 -- A run of a site: one step after another, each an input with its reply; and which updates entered its store. From
--- these the store at the end is told without the steps between. Rules of this product: a message is refused whole or its
--- updates are taken in order; what is refused, and what is asked, changes nothing.
+-- these the store at the end is told without the steps between. Rules of this product: a message is refused whole or
+-- its updates are taken in order; what is refused, and what is asked, changes nothing.
 use Rattle.std.specs.Prelude.{◌≡◌, ℕ, List, [], ◌∷◌, ◌++◌, take, Option, Some, None, option_map, Result, Ok, Err}
 use Rattle.json_words.specs.Json.{json_of}
 use Rattle.policy_grammar.specs.declared.policy.Policy.{Policy}
 use Rattle.schema.specs.Schemas.{StatedSchema}
-use Rattle.entities.specs.declared.entity.Entity.{Entity}
+use Rattle.entity_worlds.specs.declared.entity.Entity.{Entity}
 use Rattle.entities.specs.declared.fault.EntityFault.{EntityFault}
 use Rattle.entities.specs.Canonical.{canonical_text}
 use Rattle.stamped_store.specs.declared.entry.Stamp.{Stamp}
 use Rattle.stamped_store.specs.Deltas as deltas
-use Rattle.stamped_store.specs.Store.{Store, Update, updates, store_of, issued, policy_name, entity_name}
+use Rattle.stamped_store.specs.Store.{Store, Update, updates, issued, policy_name, entity_name}
 use Rattle.sync_messages.specs.declared.fault.MessageFault.{MessageFault}
 use Rattle.sync_messages.specs.Summaries.{summary_text, summary_stated}
 use Rattle.state_messages.specs.declared.update.Update.{Update as SentUpdate}
 use Rattle.state_messages.specs.Messages.{state_text, delta_text, updates_stated}
 use Rattle.state_messages.specs.Updates.{IsMessage, IsRefused, shown_updates}
-use Rattle.stored_texts.specs.Texts.{RefusesPolicy, RefusesEntity}
+use Rattle.site.specs.passed_on.stored_texts.{RefusesPolicy, RefusesEntity}
 use Rattle.site.specs.declared.fault.SiteFault.{SiteFault}
 use Rattle.site.specs.declared.fault.SiteFault.TheVariants as fault
 use Rattle.site.specs.declared.outcome.Taken as taking

@@ -21,16 +21,18 @@ use json_words::read_json;
 use plain::{Items, NoMemory, Text};
 use policy_grammar::Policy;
 use schema::Schema;
-use site::{Site, SiteFault, Taken};
+use site::{SchemaTexts, Site, SiteFault, Taken};
 use stamped_store::Stamp;
 use stamped_store::laws::updates_have_one_store;
 use state_messages::{Update, read_message};
 use std::alloc::Global;
-use stored_texts::SchemaTexts;
 use sync_messages::{MessageFault, Summary, read_summary};
 
-/// Puts the entity that bytes state.
-fn put_entity(alloc: Global, site: &mut Site, bytes: &[u8]) -> Result<Stamp, SiteFault>
+/// Puts the entity that bytes state, as its canonical text: JSON in UTF-8. Nothing is copied that is not kept.
+///
+/// Refused as [`Site::put_entity`] refuses; bytes that are no JSON have not an entity's form (30). What is refused
+/// changes nothing, nor does want of memory.
+pub fn put_entity_bytes(alloc: Global, site: &mut Site, bytes: &[u8]) -> Result<Stamp, SiteFault>
     ensures puts { PutsEntity (schema_of site.old) site.old.number (store_in site.old) (json_of bytes.now) result
         (store_in site.new) }
     ensures same { IsSameSite site.old site.new }
@@ -60,8 +62,11 @@ fn updates_of(
     }
 }
 
-/// Takes the updates of a message, or none where any is refused.
-fn take_message(alloc: Global, site: &mut Site, bytes: &[u8]) -> Result<Taken, SiteFault>
+/// Takes the updates of a message, a state or a delta of another site of the schema, in their order.
+///
+/// A message is refused whole where its bytes are none under the schema, or any update is not valid (50 to 57); then
+/// nothing changes. Where memory is refused, nothing is taken, or exactly the first updates, and the answer says so.
+pub fn take_bytes(alloc: Global, site: &mut Site, bytes: &[u8]) -> Result<Taken, SiteFault>
     ensures takes { TakesMessage (schema_of site.old) (store_in site.old) bytes.now result (store_in site.new) }
     ensures same { IsSameSite site.old site.new }
 {
@@ -71,8 +76,10 @@ fn take_message(alloc: Global, site: &mut Site, bytes: &[u8]) -> Result<Taken, S
     }
 }
 
-/// The answer to the request that bytes state.
-fn answer(alloc: Global, site: &Site, bytes: &[u8]) -> Result<Answer, SiteFault>
+/// The answer to the request that bytes state: JSON in UTF-8.
+///
+/// Refused as [`Site::authorize`] refuses; bytes that are no JSON have not a request's form (63, with 30 inside).
+pub fn authorize_bytes(alloc: Global, site: &Site, bytes: &[u8]) -> Result<Answer, SiteFault>
     ensures { Answers (schema_of site.now) (store_in site.now) (json_of bytes.now) result }
 {
     match read_json(alloc, bytes) {
@@ -95,24 +102,26 @@ fn find_policy(alloc: Global, site: &Site, id: &str) -> Result<Option<Found>, Si
     }
 }
 
-/// The state, as a message.
-fn state(site: &Site) -> Result<Items<u8>, SiteFault>
+/// The state, as a message to other sites of the schema. Fails for memory alone.
+pub fn state_bytes(site: &Site) -> Result<Items<u8>, SiteFault>
     ensures { Writes (state_text (schema_of site.now).label (store_in site.now)) result }
 {
     let bytes = site.state()?;
     Ok(Items::from_vec(bytes))
 }
 
-/// The summary, as a message.
-fn summary(site: &Site) -> Result<Items<u8>, SiteFault>
+/// The summary, as a message to other sites of the schema. Fails for memory alone.
+pub fn summary_bytes(site: &Site) -> Result<Items<u8>, SiteFault>
     ensures { Writes (summary_text (schema_of site.now).label (summary_of (store_in site.now))) result }
 {
     let bytes = site.summary()?;
     Ok(Items::from_vec(bytes))
 }
 
-/// What is news to whoever has the summary that bytes are, as a message.
-fn delta(alloc: Global, site: &Site, bytes: &[u8]) -> Result<Items<u8>, SiteFault>
+/// What is news to whoever has the summary that bytes are, as a message to that site.
+///
+/// Refused where the bytes are no summary of the schema, as [`read_summary`] refuses.
+pub fn delta_bytes(alloc: Global, site: &Site, bytes: &[u8]) -> Result<Items<u8>, SiteFault>
     ensures { WritesDelta (schema_of site.now) (store_in site.now) bytes.now result }
 {
     match read_summary(alloc, site.schema().label(), bytes) {
@@ -133,14 +142,14 @@ fn apply(alloc: Global, site: &mut Site, input: &Input) -> Reply
     match input {
         Input::PutPolicy(id, text) => Reply::Put(site.put_policy(id.as_str(), text.as_str())),
         Input::DeletePolicy(id) => Reply::Stamped(site.delete_policy(id.as_str())),
-        Input::PutEntity(bytes) => Reply::Stamped(put_entity(alloc, site, bytes.as_slice())),
+        Input::PutEntity(bytes) => Reply::Stamped(put_entity_bytes(alloc, site, bytes.as_slice())),
         Input::DeleteEntity(uid) => Reply::Stamped(site.delete_entity(uid)),
-        Input::Take(bytes) => Reply::Taken(take_message(alloc, site, bytes.as_slice())),
-        Input::Authorize(bytes) => Reply::Answered(answer(alloc, site, bytes.as_slice())),
+        Input::Take(bytes) => Reply::Taken(take_bytes(alloc, site, bytes.as_slice())),
+        Input::Authorize(bytes) => Reply::Answered(authorize_bytes(alloc, site, bytes.as_slice())),
         Input::GetPolicy(id) => Reply::Found(find_policy(alloc, site, id.as_str())),
-        Input::State => Reply::Written(state(site)),
-        Input::Summary => Reply::Written(summary(site)),
-        Input::Delta(bytes) => Reply::Written(delta(alloc, site, bytes.as_slice())),
+        Input::State => Reply::Written(state_bytes(site)),
+        Input::Summary => Reply::Written(summary_bytes(site)),
+        Input::Delta(bytes) => Reply::Written(delta_bytes(alloc, site, bytes.as_slice())),
     }
 }
 

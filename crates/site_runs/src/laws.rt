@@ -6,14 +6,22 @@ ghost use Rattle.schema.specs.Kept.{Kept as SchemaKept};
 ghost use Rattle.schema.specs.Schemas.{StatedSchema, IsSchemaOf};
 ghost use Rattle.schema.specs.Views.{schema_view};
 ghost use Rattle.stamped_store.specs.Store.{Store, Update};
-ghost use Rattle.stored_world.specs.Said.{IsAnswerOver};
+ghost use Rattle.site.specs.passed_on.stored_world.{IsAnswerOver};
 ghost use Rattle.state_messages.specs.Messages.{state_text};
 ghost use Rattle.site.specs.Admitted.{IsPolicyUnder, IsEntityUnder};
+ghost use Rattle.site_runs.specs.Outcomes.{InputsHaveAnOutcome, InputsHaveOneOutcome};
 ghost use Rattle.site_runs.specs.Runs.{HoldsAfter};
 
-use stamped_store::laws::updates_have_one_store;
-use stored_texts::{SchemaTexts, stored_texts_have_one_reading};
-use stored_world::requests_have_one_answer;
+use ancestor_closure::laws::paths_are_decided;
+use entities::requests_have_one_outcome;
+use policy_grammar::texts_have_one_reading;
+use schema::Schema;
+use site::{
+    SchemaTexts, requests_have_one_answer, stored_texts_have_one_reading, stores_have_one_reading,
+};
+use stamped_store::laws::{contents_are_told, stamps_are_issued, updates_have_one_store};
+use state_messages::messages_have_one_outcome;
+use validator::policies_have_one_outcome;
 
 /// Sites of one schema that had and took equal sets of updates hold equal stores, whatever their numbers, and in
 /// whatever order, as often and in whatever groups the updates came; so they write equal states, and answer a request
@@ -36,4 +44,27 @@ pub fn equal_updates_leave_equal_stores()
     updates_have_one_store();
     stored_texts_have_one_reading();
     requests_have_one_answer::<SchemaTexts<'static>>();
+}
+
+/// Each input to a site has exactly one outcome wherever memory suffices, over any store that a site of the schema may
+/// hold: one reply and one store behind it. So nothing is refused but for a cause that is told, and nothing is told for
+/// two causes: a command that is valid is refused for an absent name, a cycle or a full clock alone, a message of valid
+/// updates never.
+pub fn inputs_have_one_outcome(schema: &Schema)
+    ensures some { InputsHaveAnOutcome (schema_view schema.now) }
+    ensures one { InputsHaveOneOutcome (schema_view schema.now) }
+{
+    schema.is_stated();
+    let texts = SchemaTexts::under(schema);
+    messages_have_one_outcome(&texts);
+    texts_have_one_reading();
+    policies_have_one_outcome();
+    stored_texts_have_one_reading();
+    requests_have_one_outcome();
+    stores_have_one_reading::<SchemaTexts<'static>>();
+    requests_have_one_answer::<SchemaTexts<'static>>();
+    updates_have_one_store();
+    stamps_are_issued();
+    contents_are_told();
+    paths_are_decided();
 }

@@ -8,9 +8,15 @@
 mod answering;
 mod input;
 mod laws;
+mod leaving;
 mod reply;
 
-pub use answering::run;
+pub use answering::{
+    authorize_bytes, delta_bytes, put_entity_bytes, run, state_bytes, summary_bytes, take_bytes,
+};
+pub use entities::EntityFault;
 pub use input::Input;
-pub use laws::equal_updates_leave_equal_stores;
+pub use laws::{equal_updates_leave_equal_stores, inputs_have_one_outcome};
+pub use leaving::runs_leave_what_they_took;
 pub use reply::{Found, Reply};
+pub use site::{Put, Site, SiteFault, Taken};

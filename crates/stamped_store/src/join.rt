@@ -1,3 +1,4 @@
+//! Values that can be joined.
 ghost use Rattle.std.specs.Prelude.{◌≡◌, Bool, true, IsTrue};
 ghost use Rattle.stamped_store.specs.Joins.{IsJoin};
 

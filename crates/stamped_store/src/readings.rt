@@ -1,3 +1,4 @@
+//! What texts are read as, as the store asks it of those above.
 ghost use Rattle.std.specs.Prelude.{List, ℕ};
 ghost use Rattle.values.specs.declared.entity_uid.EntityUid.{EntityUid};
 

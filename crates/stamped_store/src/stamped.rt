@@ -1,3 +1,4 @@
+//! Maps from names to values that can be joined, the greater of which stays.
 ghost use Rattle.std.specs.Prelude.{◌≡◌, ◌↔◌, ◌<◌, ◌+◌, ◌^◌, [], length, take, Some, IfErr, IfOk, OnOk, OnErr, IsTrue};
 ghost use Rattle.std.specs.Option.{option_copied};
 ghost use Rattle.std.specs.Ordering.{is_eq};
@@ -89,7 +90,7 @@ impl<K: Ord + Drop, V: Join + Drop> Stamped<K, V> {
             held.join(value);
             return Ok(());
         }
-        put_new(&mut self.map, key, value)?;
+        insert_new(&mut self.map, key, value)?;
         Ok(())
     }
 
@@ -164,7 +165,11 @@ impl<V: Join + Drop> Stamped<String, V> {
 }
 
 // Gives a key its value, whether it had one or not. Where memory is refused, both come back.
-fn put_new<K: Ord + Drop, V: Drop>(map: &mut BTreeMap<K, V>, key: K, value: V) -> Result<(), (K, V)>
+fn insert_new<K: Ord + Drop, V: Drop>(
+    map: &mut BTreeMap<K, V>,
+    key: K,
+    value: V,
+) -> Result<(), (K, V)>
     ensures ok { OnOk result (map.new.entries ≡ insert_entry K.cmp map.old.entries key value) }
     ensures refused { IfErr result (λ pair. pair ≡ (key, value)) }
     ensures err { OnErr result (map.new.entries ≡ map.old.entries) }

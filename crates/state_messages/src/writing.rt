@@ -22,8 +22,7 @@ use serde_json::{Value, json};
 use stamped_store::{Entry, PolicyStore, ReadText, Stamp};
 use std::alloc::Global;
 use std::cmp::Ordering;
-use sync_messages::Summary;
-use uid_json::uid_value;
+use sync_messages::{Summary, uid_value};
 use values::Name;
 
 /// A body: its text, or null.

@@ -13,6 +13,7 @@ mod parts;
 mod static_type;
 
 pub use common_types::common;
+pub use entities::{action_types_are_told, entities_read_back};
 pub use environment::{TypingEnvironment, is_action_type};
 pub use fault::TypeFault;
 pub use fields::{field_type, has_type};

@@ -9,7 +9,7 @@ use Rattle.json_words.specs.Json.{json_of}
 use Rattle.ancestor_closure.specs.Decided.{is_same}
 use Rattle.ancestor_closure.specs.Deciding.{same_self}
 use Rattle.schema.specs.Schemas.{StatedSchema}
-use Rattle.entities.specs.declared.entity.Entity.{Entity}
+use Rattle.entity_worlds.specs.declared.entity.Entity.{Entity}
 use Rattle.entities.specs.Entities.{entity_in}
 use Rattle.entities.specs.Canonical.{canonical_json, canonical_text}
 use Rattle.entities.specs.Laws.{CanonicalIsRead, CanonicalNests}

@@ -6,7 +6,7 @@ use Rattle.json_words.specs.Json.{json_of}
 use Rattle.values.specs.declared.entity_uid.EntityUid.{EntityUid}
 use Rattle.schema.specs.Schemas.{StatedSchema}
 use Rattle.schema.specs.WellFormed.{IsWellFormed}
-use Rattle.entities.specs.declared.entity.Entity.{Entity}
+use Rattle.entity_worlds.specs.declared.entity.Entity.{Entity}
 use Rattle.entities.specs.Entities.{entity_in}
 use Rattle.entities.specs.Canonical.{canonical_json, canonical_text}
 use Rattle.state_messages.specs.declared.bodies.BodyFault.TheVariants.{OtherName}

@@ -14,7 +14,7 @@ use Rattle.policy_grammar.specs.declared.fault.ReadFault.{ReadFault}
 use Rattle.policy_grammar.specs.Faults as grammar
 use Rattle.policy_grammar.specs.PolicyText.{IsPolicyText, IsPolicyRefused}
 use Rattle.schema.specs.Schemas.{StatedSchema}
-use Rattle.entities.specs.declared.entity.Entity.{Entity}
+use Rattle.entity_worlds.specs.declared.entity.Entity.{Entity}
 use Rattle.entities.specs.declared.fault.EntityFault.{EntityFault}
 use Rattle.entities.specs.Faults as entities
 use Rattle.entities.specs.Entities.{entity_in}

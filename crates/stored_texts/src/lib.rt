@@ -7,3 +7,4 @@ mod texts;
 
 pub use laws::{canonical_texts_are_read, stored_texts_have_one_reading};
 pub use texts::SchemaTexts;
+pub use validator::{CheckFault, check};

@@ -1,5 +1,5 @@
 -- What is said of what stands beside the texts is said of the store.
-use Rattle.std.specs.Prelude.{◌≡◌, ◌↔◌, ℕ, List, Bool, true, false, Option, Some, IsTrue, Result, Ok, Err, IfOk}
+use Rattle.std.specs.Prelude.{◌≡◌, ◌↔◌, ℕ, List, Bool, true, false, IsTrue, Result, Ok, Err, IfOk}
 use Rattle.std.proofs.Common.{◌∙◌, sym, subst}
 use Rattle.values.specs.declared.entity_uid.EntityUid.{EntityUid}
 use Rattle.values.specs.declared.request.Request.{Request}
@@ -10,10 +10,11 @@ use Rattle.authoriser.specs.declared.answer.Answer.{Answer}
 use Rattle.authoriser.specs.Answers.{Named, IsAnswer}
 use Rattle.schema.specs.Kept as schema_kept
 use Rattle.schema.specs.Views.{schema_view}
-use Rattle.entity_store.specs.Entities.{EntityMap, entities_under, attributes_of, parents_of}
+use Rattle.entity_worlds.specs.Entities.{EntityMap, attributes_of, parents_of}
+use Rattle.entity_store.specs.Entities.{entities_under}
 use Rattle.stored_world.specs.declared.stored_entities.StoredEntities.{StoredEntities}
 use Rattle.schema.specs.Schemas.{StatedSchema}
-use Rattle.entities.specs.declared.entity.Entity.{Entity}
+use Rattle.entity_worlds.specs.declared.entity.Entity.{Entity}
 use Rattle.stamped_store.specs.Store.{Kept, updates, shown_store, shown_updates}
 use Rattle.stamped_store.specs.Reading.{IsKeptRead}
 use Rattle.stored_world.specs.Said.{data_in, world_under, parents_with, IsAnswerOver, MakesCycle, MakesNoCycle}
@@ -60,7 +61,7 @@ module _ {R E : Type 0} (Policies : R → List ℕ → List ℕ → Policy → T
 
 -- ---- what the code sees of a store and a schema
 abbrev Seen : Type 0
-Seen = StoredEntities × Option schema_kept.Kept
+Seen = StoredEntities × schema_kept.Kept
 
 -- the entities that it asks about
 abbrev asked : Seen → EntityMap
@@ -73,7 +74,7 @@ abbrev world_kept : schema_kept.Kept → Kept Policy Entity → World
 world_kept schema k = world_under (schema_view schema) (entity_at k.entities)
 
 pub answered : {E : Type 0} (result : Result Answer E) (q : Request) (schema : schema_kept.Kept) (k : Kept Policy Entity)
-    (w : Seen) (e : StoredEntities) (ps : List Named) → w ≡ (e, Some schema) → e.store.now ≡ k → ps ≡ policies_read k.policies
+    (w : Seen) (e : StoredEntities) (ps : List Named) → w ≡ (e, schema) → e.store.now ≡ k → ps ≡ policies_read k.policies
     → IfOk result (IsAnswer (world_seen w) q ps)
     → IfOk result (IsAnswer (world_kept schema k) q (policies_read k.policies))
 answered result q schema k w e ps is_seen is_kept are h =
@@ -85,7 +86,7 @@ abbrev tells_cycle : {E : Type 0} → Result Bool E → World → Entity → Typ
 tells_cycle result W e = IfOk result (λ yes. IsTrue yes ↔ IsOnCycle (with_parents W.parents e.uid e.parents) e.uid)
 
 pub cycled : {E : Type 0} (result : Result Bool E) (schema : schema_kept.Kept) (k : Kept Policy Entity) (w : Seen) (s : StoredEntities)
-    (e : Entity) → w ≡ (s, Some schema) → s.store.now ≡ k
+    (e : Entity) → w ≡ (s, schema) → s.store.now ≡ k
     → tells_cycle result (world_seen w) e → tells_cycle result (world_kept schema k) e
 cycled result schema k w s e is_seen is_kept h =
     let seen = subst (λ (x : Seen). tells_cycle result (world_seen x) e) is_seen h in

@@ -11,7 +11,7 @@ use Rattle.std.specs.declared.string.String.{String}
 use Rattle.values.specs.declared.entity_uid.EntityUid.{EntityUid}
 use Rattle.values.specs.Names.{name_cmp, uid_cmp, uid_cmp-IsAntisymmetric}
 use Rattle.policy_grammar.specs.declared.policy.Policy.{Policy}
-use Rattle.entities.specs.declared.entity.Entity.{Entity}
+use Rattle.entity_worlds.specs.declared.entity.Entity.{Entity}
 use Rattle.stamped_store.specs.declared.entry.Entry.{Entry}
 use Rattle.stamped_store.specs.declared.entry.ReadText.{ReadText}
 use Rattle.stamped_store.specs.EntryOrder.{PlainEntry, plain_entry, body_bytes}

@@ -11,9 +11,9 @@ use Rattle.authoriser.specs.declared.answer.Answer.{Answer}
 use Rattle.authoriser.specs.Answers.{Named, IsAnswer}
 use Rattle.authoriser.specs.Laws.{HasOneAnswer, OneAnswerInFiniteHierarchies}
 use Rattle.schema.specs.Schemas.{StatedSchema, IsSchemaOf}
-use Rattle.entities.specs.declared.entity.Entity.{Entity}
-use Rattle.entity_store.specs.declared.data.EntityData.{EntityData}
-use Rattle.entity_store.specs.Entities.{parents_of, action_or}
+use Rattle.entity_worlds.specs.declared.entity.Entity.{Entity}
+use Rattle.entity_worlds.specs.declared.data.EntityData.{EntityData}
+use Rattle.entity_worlds.specs.Entities.{parents_of, action_or}
 use Rattle.stamped_store.specs.Store.{Store, entity_name}
 use Rattle.stamped_store.specs.Contents.{text_under, entities_of}
 use Rattle.stored_world.specs.Said.{ArePolicies, IsReadFrom, AreEntities, HaveOneReading, data_of, world_under, IsAnswerOver}

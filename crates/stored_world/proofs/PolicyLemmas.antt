@@ -19,7 +19,7 @@ use Rattle.policy_grammar.specs.declared.policy.Policy.{Policy}
 use Rattle.authoriser.specs.Answers.{Named}
 use Rattle.authoriser.specs.Laws.{AreIdsAscending}
 use Rattle.authoriser.specs.Views.{named}
-use Rattle.entities.specs.declared.entity.Entity.{Entity}
+use Rattle.entity_worlds.specs.declared.entity.Entity.{Entity}
 use Rattle.stamped_store.specs.declared.entry.Entry.{Entry}
 use Rattle.stamped_store.specs.declared.entry.ReadText.{ReadText}
 use Rattle.stamped_store.specs.EntryOrder.{PlainEntry, body_bytes}

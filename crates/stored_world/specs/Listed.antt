@@ -8,8 +8,8 @@ use Rattle.std.specs.Ordering.{is_eq}
 use Rattle.values.specs.declared.entity_uid.EntityUid.{EntityUid}
 use Rattle.values.specs.Names.{uid_cmp}
 use Rattle.ancestor_closure.specs.Deciding.{Contains-here, Contains-there, Contains-cases, Contains-none, same_uid}
-use Rattle.entities.specs.declared.entity.Entity.{Entity}
-use Rattle.entity_store.specs.Entities.{AreListed}
+use Rattle.entity_worlds.specs.declared.entity.Entity.{Entity}
+use Rattle.entity_worlds.specs.Entities.{AreListed}
 use Rattle.stamped_store.specs.declared.entry.Entry.{Entry}
 use Rattle.stamped_store.specs.Stored.{value_at}
 use Rattle.stored_world.specs.Said.{data_of, data_in}

@@ -12,9 +12,9 @@ use Rattle.evaluator.specs.Operators.{World}
 use Rattle.authoriser.specs.declared.answer.Answer.{Answer}
 use Rattle.authoriser.specs.Answers.{Named, IsAnswer}
 use Rattle.schema.specs.Schemas.{StatedSchema}
-use Rattle.entities.specs.declared.entity.Entity.{Entity}
-use Rattle.entity_store.specs.declared.data.EntityData.{EntityData}
-use Rattle.entity_store.specs.Entities.{EntityMap, with_actions, world_in}
+use Rattle.entity_worlds.specs.declared.entity.Entity.{Entity}
+use Rattle.entity_worlds.specs.declared.data.EntityData.{EntityData}
+use Rattle.entity_worlds.specs.Entities.{EntityMap, with_actions, world_in}
 use Rattle.stamped_store.specs.Store.{Store, entity_name}
 use Rattle.stamped_store.specs.Contents.{text_under, policies_of}
 

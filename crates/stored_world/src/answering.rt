@@ -12,8 +12,7 @@ use crate::policies::policies_in;
 use crate::stored_entities::StoredEntities;
 use ancestor_closure::ParentsOf;
 use authoriser::{Answer, decide};
-use entities::Entity;
-use entity_store::World;
+use entity_store::{Entity, world_under};
 use plain::NoMemory;
 use policy_grammar::Policy;
 use schema::Schema;
@@ -40,7 +39,7 @@ fn answer_by_kept(
 {
     let policies = policies_in(alloc, store)?;
     let entities = StoredEntities::of(store);
-    let world = World::new(alloc, &entities, Some(schema));
+    let world = world_under(alloc, &entities, schema);
     decide(alloc, &policies, request, &world)
 }
 
@@ -85,7 +84,7 @@ fn would_cycle_by_kept(
         ↔ IsOnCycle (parents_with (schema_view schema.now) (entity_at store.now.entities) entity.now) entity.now.uid) }
 {
     let entities = StoredEntities::of(store);
-    let world = World::new(alloc, &entities, Some(schema));
+    let world = world_under(alloc, &entities, schema);
     is_on_cycle_in(alloc, &world, entity)
 }
 

@@ -6,13 +6,13 @@ ghost use Rattle.authoriser.specs.declared.answer.Answer.{Answer as PlainAnswer}
 ghost use Rattle.authoriser.specs.Answers.{Named};
 ghost use Rattle.authoriser.specs.Laws.{AreIdsAscending};
 ghost use Rattle.schema.specs.Schemas.{StatedSchema, IsSchemaOf};
-ghost use Rattle.entities.specs.declared.entity.Entity.{Entity as PlainEntity};
+ghost use Rattle.entity_worlds.specs.declared.entity.Entity.{Entity as PlainEntity};
 ghost use Rattle.stamped_store.specs.Store.{Store, policy_name, entity_name};
 ghost use Rattle.stamped_store.specs.Contents.{text_under};
 ghost use Rattle.stored_world.specs.Said.{ArePolicies, AreEntities, HaveOneReading, IsAnswerOver};
 
 use authoriser::answers_are_lawful;
-use entities::Entity;
+use entity_store::Entity;
 use policy_grammar::Policy;
 use stamped_store::Readings;
 use stamped_store::laws::contents_are_told;

@@ -5,7 +5,7 @@ ghost use Rattle.authoriser.specs.Laws.{AreIdsAscending};
 ghost use Rattle.stamped_store.specs.Store.{updates, shown_store, shown_updates};
 ghost use Rattle.stored_world.specs.Kept.{policies_read};
 
-use entities::Entity;
+use entity_store::Entity;
 use plain::NoMemory;
 use policy_grammar::Policy;
 use stamped_store::PolicyStore;

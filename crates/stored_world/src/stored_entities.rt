@@ -10,8 +10,7 @@ ghost use Rattle.stored_world.specs.Kept.{entity_at, uids_read};
 ghost use Rattle.stored_world.specs.Said.{data_in};
 ghost use Rattle.stored_world.specs.Listed.{entities_listed};
 
-use entities::Entity;
-use entity_store::EntitySource;
+use entity_store::{Entity, EntitySource};
 use plain::NoMemory;
 use policy_grammar::Policy;
 use stamped_store::PolicyStore;

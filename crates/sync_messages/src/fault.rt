@@ -1,3 +1,4 @@
+//! Why bytes are no message.
 ghost use Rattle.std.specs.Prelude.{◌≡◌};
 ghost use Rattle.sync_messages.specs.declared.fault.MessageFault.TheVariants.{NoMemory};
 ghost use Rattle.sync_messages.specs.Faults.{code_of, place_of, within_of};

@@ -14,4 +14,5 @@ pub use fault::MessageFault;
 pub use laws::{stamps_read_back, summaries_read_back};
 pub use reading::{judge_stamp, number_at, read_stamped, read_summary};
 pub use summary::Summary;
+pub use uid_json::uid_value;
 pub use writing::write_summary;

@@ -1,3 +1,4 @@
+//! Summaries: the greatest stamp of each name.
 ghost use Rattle.std.specs.Prelude.{◌≡◌, true};
 ghost use Rattle.sync_messages.specs.Summaries.{ascend};
 

@@ -1,3 +1,4 @@
+//! Why tokens are not read.
 ghost use Rattle.std.specs.Prelude.{◌≡◌};
 ghost use Rattle.token_readers.specs.declared.fault.SyntaxFault.TheVariants as fault;
 ghost use Rattle.token_readers.specs.declared.fault.Halt.TheVariants as halt;

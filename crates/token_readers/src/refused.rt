@@ -1,3 +1,4 @@
+//! The refusal of a list of tokens, by where its reader stopped.
 ghost use Rattle.std.specs.Prelude.{◌≡◌, ◌-◌, length};
 ghost use Rattle.token_readers.specs.Reads.{refusal_of};
 

@@ -1,3 +1,4 @@
+//! Paths, uids and names as they are written.
 use plain::Items;
 use policy_tokens::Token;
 

@@ -1,2 +1,3 @@
 pub mod Joined
 pub mod inner
+pub mod passed_on

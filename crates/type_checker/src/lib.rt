@@ -11,4 +11,5 @@ mod literals;
 mod typed;
 mod whole;
 
+pub use static_types::{StaticType, TypeFault, TypingEnvironment, is_action_type};
 pub use whole::{judge, judge_all};

@@ -1,2 +1,4 @@
 pub mod Values
 pub mod Readings
+pub mod Worlds
+pub mod Stored

@@ -10,14 +10,14 @@ use Rattle.values.specs.declared.entity_uid.EntityUid.{EntityUid}
 use Rattle.schema_parts.specs.declared.parts.Place.{Place}
 use Rattle.schema.specs.Schemas.{EnvironmentOf, StatedSchema}
 use Rattle.typed_values.specs.declared.fault.ValueFault.{ValueFault}
-use Rattle.entities.specs.declared.fault.EntityFault.TheVariants.{UnknownType, ActionEntity, TagsLeftOut, NotApplicable}
-use Rattle.entities.specs.declared.entity.Entity.{Entity}
-use Rattle.entities.specs.declared.stated.StatedEntity.{StatedEntity}
-use Rattle.entities.specs.Faults.{told}
-use Rattle.entities.specs.Stated.{stated_in, is_absent_or_empty, or_empty}
-use Rattle.entities.specs.Entities.{is_action_type, shape_of, attributes_in, parents_in, entity_in}
-use Rattle.entities.specs.Contexts.{context_where, is_place}
-use Rattle.entities.specs.Requests.{context_asked}
+use Rattle.static_types.specs.passed_on.entities_EntityFault_variants.{UnknownType, ActionEntity, TagsLeftOut, NotApplicable}
+use Rattle.entity_worlds.specs.declared.entity.Entity.{Entity}
+use Rattle.static_types.specs.passed_on.entities.{StatedEntity}
+use Rattle.static_types.specs.passed_on.entities.{told}
+use Rattle.static_types.specs.passed_on.entities.{stated_in, is_absent_or_empty, or_empty}
+use Rattle.static_types.specs.passed_on.entities.{is_action_type, shape_of, attributes_in, parents_in, entity_in}
+use Rattle.static_types.specs.passed_on.entities.{context_where, is_place}
+use Rattle.static_types.specs.passed_on.entities.{context_asked}
 use Rattle.static_types.specs.FromSchemas.{shape_fields, attributes_of}
 use Rattle.typed_readings.proofs.Values.{same_bytes, both_true}
 use Rattle.serde_json.specs.Data.{Data}

@@ -9,9 +9,9 @@ use Rattle.values.specs.Values.{PlainValue, record_of, fields_of}
 use Rattle.schema_types.specs.Cedar.{Cedar}
 use Rattle.schema.specs.Schemas.{EnvironmentOf, StatedSchema}
 use Rattle.typed_values.specs.Typing.{typed, record_in}
-use Rattle.entities.specs.declared.entity.Entity.{Entity}
-use Rattle.entities.specs.Entities.{entity_in}
-use Rattle.entities.specs.Requests.{StatesRequest}
+use Rattle.entity_worlds.specs.declared.entity.Entity.{Entity}
+use Rattle.static_types.specs.passed_on.entities.{entity_in}
+use Rattle.static_types.specs.passed_on.entities.{StatesRequest}
 use Rattle.typing.specs.Types.{record_type}
 use Rattle.typing.specs.Environment.{Environment}
 use Rattle.typing.specs.Membership.{Of}

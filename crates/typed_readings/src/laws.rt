@@ -1,7 +1,13 @@
-//! Laws of the definitions; the function does nothing.
+//! Laws of the definitions; the functions do nothing.
 ghost use Rattle.typed_readings.specs.Laws.{ValuesAreOfTheirTypes, RecordsAreOfTheirTypes};
 ghost use Rattle.typed_readings.specs.Laws.{EntitiesAreOfTheirTypes, RequestsAreOfAnEnvironment};
+ghost use Rattle.typed_readings.specs.Worlds.{WhatIsReadConforms, WhatIsStoredGoesRight};
 
+use ancestor_closure::laws::paths_are_decided;
+use schema::stated_schemas_are_well_formed;
+use static_types::{action_types_are_told, entities_read_back};
+use typing::parents_tell_ancestors;
+use validator::passing_policies_go_right;
 use values::sets_hold_their_members;
 
 /// That whatever JSON is read as by a declared type is of that type, as the rules of typing have it: a value, the
@@ -14,4 +20,28 @@ pub fn what_is_read_is_of_its_type()
     ensures requests { RequestsAreOfAnEnvironment }
 {
     sets_hold_their_members();
+}
+
+/// That entities each of which was read under a schema, with the schema's actions, and a request that was read under it
+/// conform to the schema: the premise under which policies that pass go right.
+pub fn what_is_read_conforms()
+    ensures { WhatIsReadConforms }
+{
+    stated_schemas_are_well_formed();
+    action_types_are_told();
+    entities_read_back();
+    what_is_read_is_of_its_type();
+    parents_tell_ancestors();
+}
+
+/// That a policy that passes goes right over what is stored: where each stored entity was read under the schema, and so
+/// was the request, it gives a boolean, or errs since an entity is not stored or a number leaves its bounds; and where
+/// it is impossible it is never true.
+pub fn what_is_stored_goes_right()
+    ensures { WhatIsStoredGoesRight }
+{
+    stated_schemas_are_well_formed();
+    what_is_read_conforms();
+    paths_are_decided();
+    passing_policies_go_right();
 }

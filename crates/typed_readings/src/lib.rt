@@ -1,7 +1,8 @@
 //! That what is read under a schema is of the types that the schema declares: values, the attributes of entities, and
-//! requests, which are of one of the schema's environments. The crate has laws, and no code.
+//! requests, which are of one of the schema's environments. So entities and a request that were read conform to the
+//! schema, and policies that pass go right over them. The crate has laws, and no code.
 #![tactic(auto)]
 
 mod laws;
 
-pub use laws::what_is_read_is_of_its_type;
+pub use laws::{what_is_read_conforms, what_is_read_is_of_its_type, what_is_stored_goes_right};

@@ -6,3 +6,4 @@ mod Deep
 mod Bytes
 mod Walk
 mod Written
+mod Passing

@@ -1,4 +1,4 @@
-// Laws of the definitions.
+//! Laws of the definitions.
 ghost use Rattle.typed_values.specs.Laws.{CanonicalIsRead, JsonIsReadAgain, CanonicalNests, WrittenIsReadAgain};
 ghost use Rattle.typed_values.specs.Laws.{RecordIsReadAgain, RecordNests, NoFloatIsWritten};
 

@@ -11,6 +11,7 @@ ghost use Rattle.typed_values.specs.Typing.{plain_call, call_in, argument_in, bo
 ghost use Rattle.typed_values.specs.Typing.{entity_in, decimal_in, ipaddr_in, leaf, all_there, typed as typed_of};
 ghost use Rattle.typed_values.specs.Typing.{record_in};
 ghost use Rattle.typed_values.specs.inner.Inside.{inside_fault};
+ghost use Rattle.typed_values.specs.inner.Ahead.{StateAlikeFrom};
 ghost use Rattle.typed_values.specs.Typing.{typed_items as items_of_type, typed_members as members_of_type};
 
 use crate::ValueFault;
@@ -23,7 +24,9 @@ use std::alloc::Global;
 use uid_json::read_uid;
 use values::{Record, TypeName, Value};
 
-type Fields = Items<(Text, CedarType, bool)>;
+type Field = (Text, CedarType, bool);
+
+type Fields = Items<Field>;
 
 // ---- types
 
@@ -47,11 +50,24 @@ fn fields(ty: &CedarType) -> Option<&Fields>
     }
 }
 
+/// The fields from the first on whose name is not before this one. Those in front of it have other names, so whoever
+/// looks for names in ascending order need not look at them again.
+fn from_name<'t>(fields: &'t [Field], name: &str) -> &'t [Field]
+    ensures { StateAlikeFrom name.now (cedar_fields_view fields.now) (cedar_fields_view result.now) }
+{
+    for place in 0..fields.len() {
+        if !fields[place].0.as_str().cmp(name).is_lt() {
+            return &fields[place..];
+        }
+    }
+    &[]
+}
+
 /// The type of a field.
-fn declared<'t>(fields: &'t Fields, name: &str) -> Option<&'t CedarType>
+fn declared<'t>(fields: &'t [Field], name: &str) -> Option<&'t CedarType>
     ensures { option_map (λ t. cedar_view t.now) result ≡ declared_at name.now (cedar_fields_view fields.now) }
 {
-    for field in fields.as_slice() {
+    for field in fields {
         if field.0.as_str() == name {
             return Some(&field.1);
         }
@@ -299,9 +315,11 @@ fn typed_members(
         (members_of_type (cedar_fields_view fields.now) (members_view members.now.entries)) }
 {
     let mut record = Record::new(alloc);
+    let mut rest = fields.as_slice();
     for (key, member) in members.iter() {
         let name = key.as_str();
-        let ty = match declared(fields, name) {
+        rest = from_name(rest, name);
+        let ty = match declared(rest, name) {
             Some(ty) => ty,
             None => return Err(ValueFault::Undeclared),
         };

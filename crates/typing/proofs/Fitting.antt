@@ -18,7 +18,7 @@ use Rattle.expressions.specs.declared.operator.BinaryCall.{BinaryCall}
 use Rattle.expressions.specs.declared.operator.BinaryCall.TheVariants as call
 use Rattle.evaluator.specs.declared.fault.EvalFault.TheVariants as fault
 use Rattle.evaluator.specs.Outcomes
-use Rattle.evaluator.specs.Outcomes.{Outcome, Tells, Comes}
+use Rattle.evaluator.specs.Outcomes.{Outcome, IsTruthOf, IsChecked}
 use Rattle.evaluator.specs.Operators
 use Rattle.evaluator.specs.Operators.{World, IsIn, UnaryGives, BinaryGives, FieldGives, HasGives, UnaryCallGives, BinaryCallGives, TakesAddress, TakesDecimals}
 use Rattle.typing.specs.Types
@@ -46,28 +46,28 @@ neither : {A B G : Type 0} {a : A} {b : B} → (Some a ≡ None) ⊎ (Some b ≡
 neither (inl e) = none_there e
 neither (inr e) = none_there e
 
-truth_fits : {P : Type 0} {r : Outcome} → Tells P r → Fits Types.boolean_type r
+truth_fits : {P : Type 0} {r : Outcome} → IsTruthOf P r → Fits Types.boolean_type r
 truth_fits (Outcomes.holds p) = Membership.of_boolean
 truth_fits (Outcomes.fails n) = Membership.of_boolean
 
-comes_fits : {z : ℤ} {r : Outcome} → Comes z r → Fits Types.long_type r
+comes_fits : {z : ℤ} {r : Outcome} → IsChecked z r → Fits Types.long_type r
 comes_fits (Outcomes.fits f) = Membership.of_long
 comes_fits (Outcomes.overflows n) = Conforming.number_out_of_bounds
 
 -- a test that is settled already
-pub decided_fits : {P : Type 0} {r : Outcome} (b : Bool) → Decides b P → Tells P r → Fits (truth_type b) r
+pub decided_fits : {P : Type 0} {r : Outcome} (b : Bool) → Decides b P → IsTruthOf P r → Fits (truth_type b) r
 decided_fits true d (Outcomes.holds p) = Membership.of_true
 decided_fits true d (Outcomes.fails n) = absurd (n (d.0 refl))
 decided_fits false d (Outcomes.holds p) = false_no_true (d.1 p)
 decided_fits false d (Outcomes.fails n) = Membership.of_false
 
 -- False where the test has to fail
-no_more : {P : Type 0} {r : Outcome} (c : Bool) → (P → c ≡ true) → Tells P r → Fits (if c then Types.boolean_type else Types.false_type) r
+no_more : {P : Type 0} {r : Outcome} (c : Bool) → (P → c ≡ true) → IsTruthOf P r → Fits (if c then Types.boolean_type else Types.false_type) r
 no_more true f t = truth_fits t
 no_more false f (Outcomes.holds p) = false_no_true (f p)
 no_more false f (Outcomes.fails n) = Membership.of_false
 
-common_fits : {P : Type 0} {r : Outcome} (o : Option StaticType) → Tells P r → FitsRow (Rows.if_common o) r
+common_fits : {P : Type 0} {r : Outcome} (o : Option StaticType) → IsTruthOf P r → FitsRow (Rows.if_common o) r
 common_fits None t = tt
 common_fits (Some u) t = truth_fits t
 
@@ -106,7 +106,7 @@ unary_fits (unary.Is n) h g = is_fits n h g
 
 -- ---- two operands
 
-equal_tells : {W : World} {v w : PlainValue} {r : Outcome} → BinaryGives W binary.Equal v w r → Tells (v ≡ w) r
+equal_tells : {W : World} {v w : PlainValue} {r : Outcome} → BinaryGives W binary.Equal v w r → IsTruthOf (v ≡ w) r
 equal_tells (Operators.equal t) = t
 equal_tells (Operators.of_numbers n) = absurd n
 equal_tells (Operators.no_numbers i e) = absurd i
@@ -115,7 +115,7 @@ equal_tells (Operators.no_sets i e) = absurd i
 same_entity : {a b : EntityUid} → entity a ≡ entity b → a ≡ b
 same_entity e = cc
 
-equal_row : {v w : PlainValue} {s t : StaticType} {r : Outcome} → Of v s → Of w t → Tells (v ≡ w) r → FitsRow (Rows.equal_type s t) r
+equal_row : {v w : PlainValue} {s t : StaticType} {r : Outcome} → Of v s → Of w t → IsTruthOf (v ≡ w) r → FitsRow (Rows.equal_type s t) r
 equal_row (Membership.of_entity {u = a} {n = m} e) (Membership.of_entity {u = b} {n} f) k =
     no_more (bytes_eq m n) (λ p. (bytes_eq-Decides m n).1 (sym e ∙ (ap (λ u. u.type_name) (same_entity p) ∙ f))) k
 equal_row {s} {t} h g k = common_fits (common s t) k
@@ -242,7 +242,7 @@ module _ (env : Environment) (W : World) (q : Request) (C : Conforms env W q) wh
   access_none false r Membership.left_out n = tt
 
   -- the field is there, where the test says that it is known
-  tells_some : {P : Type 0} → Tells P (Ok (boolean true)) → P
+  tells_some : {P : Type 0} → IsTruthOf P (Ok (boolean true)) → P
   tells_some (Outcomes.holds p) = p
 
   record_there : {k : List ℕ} {fs : PlainFields} → HasGives W k (record_of fs) (Ok (boolean true)) → IsSome (find_field k (pairs_of fs))
@@ -280,7 +280,7 @@ module _ (env : Environment) (W : World) (q : Request) (C : Conforms env W q) wh
   field_fits b k (Membership.of_entity e) n (Operators.field_of_other f g) = none_there g
   field_fits b k h n g = tt
 
-  record_has_fits : {o : Option PlainValue} {d : Declared} {r : Outcome} → FieldOf o d → Tells (IsSome o) r → Fits (Rows.record_has d) r
+  record_has_fits : {o : Option PlainValue} {d : Declared} {r : Outcome} → FieldOf o d → IsTruthOf (IsSome o) r → Fits (Rows.record_has d) r
   record_has_fits Membership.absent (Outcomes.holds p) = absurd (false≢true p)
   record_has_fits Membership.absent (Outcomes.fails n) = Membership.of_false
   record_has_fits Membership.left_out t = truth_fits t
@@ -288,7 +288,7 @@ module _ (env : Environment) (W : World) (q : Request) (C : Conforms env W q) wh
   record_has_fits (Membership.has_required h) (Outcomes.holds p) = Membership.of_true
   record_has_fits (Membership.has_required h) (Outcomes.fails n) = absurd (n refl)
 
-  entity_has_fits : {o : Option PlainValue} {d : Declared} {r : Outcome} → FieldOf o d → Tells (IsSome o) r → Fits (Rows.entity_has d) r
+  entity_has_fits : {o : Option PlainValue} {d : Declared} {r : Outcome} → FieldOf o d → IsTruthOf (IsSome o) r → Fits (Rows.entity_has d) r
   entity_has_fits Membership.absent (Outcomes.holds p) = absurd (false≢true p)
   entity_has_fits Membership.absent (Outcomes.fails n) = Membership.of_false
   entity_has_fits Membership.left_out t = truth_fits t
@@ -300,7 +300,7 @@ module _ (env : Environment) (W : World) (q : Request) (C : Conforms env W q) wh
   missing_has_fits (Types.optional t) = Membership.of_boolean
   missing_has_fits (Types.required t) = Membership.of_boolean
 
-  known_has : {P : Type 0} {r : Outcome} (b : Bool) (t : StaticType) → (b ≡ true → P) → Tells P r → Fits t r → Fits (if b then Types.true_type else t) r
+  known_has : {P : Type 0} {r : Outcome} (b : Bool) (t : StaticType) → (b ≡ true → P) → IsTruthOf P r → Fits t r → Fits (if b then Types.true_type else t) r
   known_has true t h (Outcomes.holds p) g = Membership.of_true
   known_has true t h (Outcomes.fails n) g = absurd (n (h refl))
   known_has false t h k g = g

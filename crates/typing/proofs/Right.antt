@@ -25,7 +25,7 @@ use Rattle.expressions.specs.declared.expr.Expr.TheVariants as form
 use Rattle.expressions.specs.declared.expr.Expr.TheOpen.{Expr-F}
 use Rattle.evaluator.specs.declared.fault.EvalFault.{EvalFault}
 use Rattle.evaluator.specs.Outcomes
-use Rattle.evaluator.specs.Outcomes.{Outcome, Tells, boolean_in}
+use Rattle.evaluator.specs.Outcomes.{Outcome, IsTruthOf, boolean_in}
 use Rattle.evaluator.specs.Operators
 use Rattle.evaluator.specs.Operators.{World, IsIn, BinaryGives, FieldGives, HasGives, UnaryCallGives}
 use Rattle.evaluator.specs.Evaluation as rule
@@ -323,7 +323,7 @@ module _ (env : Environment) (W : World) (q : Request) (C : Conforms env W q) (o
   decides_as : {P Q : Type 0} {r : Bool} → (P → Q) → (Q → P) → Decides r P → Decides r Q
   decides_as f g d = (λ e. f (d.0 e), λ h. d.1 (g h))
 
-  equal_tells : {v w : PlainValue} {r : Outcome} → BinaryGives W binary.Equal v w r → Tells (v ≡ w) r
+  equal_tells : {v w : PlainValue} {r : Outcome} → BinaryGives W binary.Equal v w r → IsTruthOf (v ≡ w) r
   equal_tells (Operators.equal t) = t
   equal_tells (Operators.of_numbers n) = absurd n
   equal_tells (Operators.no_numbers i e) = absurd i
@@ -354,7 +354,7 @@ module _ (env : Environment) (W : World) (q : Request) (C : Conforms env W q) (o
   abbrev ActionInSome : EntityUid → List EntityUid → Type 0
   ActionInSome u us = (v : EntityUid) × Contains us v × IsActionIn env u v
 
-  in_one_tells : {u v : EntityUid} {r : Outcome} → BinaryGives W binary.In (entity u) (entity v) r → Tells (IsIn W u v) r
+  in_one_tells : {u v : EntityUid} {r : Outcome} → BinaryGives W binary.In (entity u) (entity v) r → IsTruthOf (IsIn W u v) r
   in_one_tells (Operators.in_entity t) = t
   in_one_tells (Operators.in_other i j) = none_there i
   in_one_tells (Operators.other_in i) = none_there i

@@ -1,2 +1,3 @@
 pub mod Laws
 pub mod Uids
+pub mod passed_on

@@ -1,3 +1,4 @@
+//! Laws of the definitions; the function does nothing.
 ghost use Rattle.uid_json.specs.Laws.{OneUid, OneName, UidsAreFound, WrittenIsRead};
 
 use policy_grammar::texts_have_one_reading;

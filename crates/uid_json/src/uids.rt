@@ -1,3 +1,4 @@
+//! Uids as JSON.
 ghost use Rattle.std.specs.Prelude.{◌≡◌, IfOk};
 ghost use Rattle.serde_json.specs.View.{view};
 ghost use Rattle.uid_json.specs.Uids.{IsPlainUid, IsUid, IsRead, uid_in, uid_json, entity_json};

@@ -12,7 +12,7 @@ use Rattle.schema.specs.Schemas.{StatedSchema}
 use Rattle.schema.specs.Views.{environment_view}
 use Rattle.typing.specs.Types.{false_type}
 use Rattle.typing.specs.Environment.{Environment}
-use Rattle.static_types.specs.FromSchemas.{environment_of}
+use Rattle.type_checker.specs.passed_on.static_types.{environment_of}
 use Rattle.validator.specs.declared.fault.CheckFault.{CheckFault}
 use Rattle.validator.specs.declared.fault.CheckFault.TheVariants.{NoMemory}
 use Rattle.validator.specs.Names.{names_of}

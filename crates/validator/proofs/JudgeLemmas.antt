@@ -11,10 +11,10 @@ use Rattle.typing.specs.Learned.{Pairs}
 use Rattle.typing.specs.Typing.{Types}
 use Rattle.typing.specs.Faults.{Faults}
 use Rattle.typing.specs.Laws.{HaveOneJudgement}
-use Rattle.static_types.specs.declared.fault.TypeFault as at_hand
-use Rattle.static_types.specs.declared.fault.TypeFault.TheVariants as fault
-use Rattle.static_types.specs.declared.static_type.StaticType as at_hand_type
-use Rattle.static_types.specs.Views.{static_view, fault_view}
+use Rattle.type_checker.specs.passed_on.static_types_TypeFault as at_hand
+use Rattle.type_checker.specs.passed_on.static_types_TypeFault_variants as fault
+use Rattle.type_checker.specs.passed_on.static_types_StaticType as at_hand_type
+use Rattle.type_checker.specs.passed_on.static_types.{static_view, fault_view}
 use Rattle.type_checker.specs.Joined.{joined}
 use Rattle.validator.specs.declared.fault.CheckFault.{CheckFault}
 use Rattle.validator.specs.declared.fault.CheckFault.TheVariants.{NoMemory}

@@ -20,7 +20,7 @@ use Rattle.typing.specs.Typing.{Types}
 use Rattle.typing.specs.Faults.{Faults}
 use Rattle.typing.specs.Judgement.{Judgement, typed, faulty, Judges}
 use Rattle.typing.specs.Laws.{HaveOneJudgement, PoliciesGoRight}
-use Rattle.static_types.specs.FromSchemas.{environment_of}
+use Rattle.type_checker.specs.passed_on.static_types.{environment_of}
 use Rattle.validator.specs.declared.fault.CheckFault.{CheckFault}
 use Rattle.validator.specs.Faults.{of_typing}
 use Rattle.validator.specs.Names.{names_of}

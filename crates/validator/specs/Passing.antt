@@ -14,7 +14,7 @@ use Rattle.typing.specs.Environment.{Environment, TypeFault}
 use Rattle.typing.specs.Learned.{Pairs}
 use Rattle.typing.specs.Typing.{Types}
 use Rattle.typing.specs.Faults.{Faults}
-use Rattle.static_types.specs.FromSchemas.{environment_of}
+use Rattle.type_checker.specs.passed_on.static_types.{environment_of}
 use Rattle.validator.specs.declared.fault.CheckFault.{CheckFault}
 use Rattle.validator.specs.Faults.{of_typing}
 use Rattle.validator.specs.Names.{names_of}

@@ -2,7 +2,7 @@
 ghost use Rattle.std.specs.Prelude.{◌≡◌, ◌≢◌, ◌&&◌, ◌↔◌, IsTrue, IfOk, IfErr, true};
 ghost use Rattle.policy_grammar.specs.Whole.{expression_of};
 ghost use Rattle.schema.specs.Views.{schema_view, environment_view};
-ghost use Rattle.static_types.specs.FromSchemas.{environment_of};
+ghost use Rattle.type_checker.specs.passed_on.static_types.{environment_of};
 ghost use Rattle.validator.specs.Passing.{IsVerdict, IsRefused};
 ghost use Rattle.validator.specs.inner.Checking.{scope_parts, typed_in, TellsFalse, IsJudged, AreJudged};
 ghost use Rattle.validator.specs.inner.Walking.{parts_told};
@@ -13,9 +13,8 @@ use crate::walking::{walk, walk_each};
 use expressions::Expr;
 use policy_grammar::Policy;
 use schema::{Environment, Schema};
-use static_types::{StaticType, TypeFault, TypingEnvironment};
 use std::alloc::Global;
-use type_checker::judge_all;
+use type_checker::{StaticType, TypeFault, TypingEnvironment, judge_all};
 use typing::expressions_have_one_judgement;
 
 /// What is told of a policy that passes.

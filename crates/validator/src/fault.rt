@@ -4,8 +4,8 @@ ghost use Rattle.validator.specs.Faults.{code_of, of_types};
 ghost use Rattle.validator.specs.declared.fault.CheckFault.TheVariants.{NoMemory};
 
 use plain::NoMemory;
-use static_types::TypeFault;
 use std::alloc::AllocFailed;
+use type_checker::TypeFault;
 
 /// The first cause for which a policy does not pass under a schema.
 #[derive(Clone, Copy, Debug, PartialEq, Eq)]

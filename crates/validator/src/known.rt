@@ -6,7 +6,7 @@ ghost use Rattle.validator.specs.inner.Walking.{action_told, other_told, entity_
 
 use crate::fault::CheckFault;
 use schema::{Schema, stated_schemas_are_well_formed};
-use static_types::is_action_type;
+use type_checker::is_action_type;
 use values::{EntityUid, TypeName};
 
 fn is_entity_type(schema: &Schema, name: &TypeName) -> bool

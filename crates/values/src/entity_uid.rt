@@ -1,3 +1,4 @@
+//! Entity uids: a type and an id.
 ghost use Rattle.std.specs.Prelude.{◌≡◌, IfOk};
 
 use crate::type_name::TypeName;

@@ -1,3 +1,4 @@
+//! Names of entries: of a policy, or of an entity.
 ghost use Rattle.std.specs.Prelude.{◌≡◌, IfOk};
 
 use crate::entity_uid::EntityUid;

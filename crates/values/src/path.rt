@@ -1,4 +1,4 @@
-// Whether a text is a Path of the policy language.
+//! Whether a text is a Path of the policy language.
 ghost use Rattle.std.specs.Prelude.{◌≡◌, ◌≤◌, ◌↔◌, IsTrue, length};
 ghost use Rattle.plain.specs.Words.{is_letter, is_digit, is_word_byte, AllAre, IsReserved, IsIdent, IsPath};
 ghost use Rattle.values.specs.inner.Scan.{run};

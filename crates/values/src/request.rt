@@ -1,3 +1,4 @@
+//! Requests: who would do what to which resource, and in which context.
 ghost use Rattle.std.specs.Prelude.{◌≡◌, IfOk};
 
 use crate::entity_uid::EntityUid;

@@ -1,3 +1,4 @@
+//! Names of entity types.
 ghost use Rattle.std.specs.Prelude.{◌≡◌, ◌<◌, Some, IfOk, MatchResult, MatchOption, length, map, refl};
 ghost use Rattle.std.specs.Prelude.{◌++◌, OnOk, codes, string_bytes};
 ghost use Rattle.std.specs.Ordering.{nat_cmp, is_eq};

@@ -1,4 +1,4 @@
-// Values of the policy language, seen as plain data.
+//! Values of the policy language, seen as plain data.
 ghost use Rattle.std.specs.Prelude.{◌≡◌, ◌↔◌, IsTrue, Contains, List, [], Some, IfOk, OnOk, OnErr, string_bytes};
 ghost use Rattle.std.specs.Prelude.{option_map, refl, map};
 ghost use Rattle.std.specs.Ordering.{is_eq};

@@ -17,4 +17,5 @@ pub struct Known {
     pub whole: Option<CedarType>,
 }
 
+/// The common types of a schema by their full names.
 pub type Table = BTreeMap<String, Known>;

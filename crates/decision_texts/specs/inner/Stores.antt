@@ -5,10 +5,10 @@ use Rattle.values.specs.declared.request.Request.{Request}
 use Rattle.ancestor_closure.specs.Decided.{is_same}
 use Rattle.json_words.specs.Gives.{Fails}
 use Rattle.evaluator.specs.Operators.{World}
-use Rattle.entity_store.specs.declared.data.EntityData.{EntityData}
-use Rattle.entity_store.specs.Entities.{EntityMap}
-use Rattle.entity_store.specs.Entities.{world_in as entities_world}
-use Rattle.entity_store.specs.Keeping.{Entries, kept_in}
+use Rattle.entity_worlds.specs.declared.data.EntityData.{EntityData}
+use Rattle.entity_worlds.specs.Entities.{EntityMap}
+use Rattle.entity_worlds.specs.Entities.{world_in as entities_world}
+use Rattle.entity_worlds.specs.Keeping.{Entries, kept_in}
 use Rattle.authoriser.specs.declared.answer.Answer.{Answer}
 use Rattle.authoriser.specs.Answers.{Named, IsAnswer}
 use Rattle.decision_texts.specs.declared.refusal.Refusal.{Refusal}

@@ -13,7 +13,7 @@ use Rattle.policy_syntax.specs.declared.tree.PolicyTree.{PolicyTree}
 use Rattle.desugaring.specs.Faults.{faults_of}
 use Rattle.desugaring.specs.Refused.{least}
 use Rattle.desugaring.specs.Repeats.{Mark}
-use Rattle.desugaring.specs.declared.judgement.Judgement.{Judgement}
+use Rattle.desugaring.specs.declared.measure.Measure.{Measure}
 use Rattle.desugaring.specs.Sums.{above}
 use Rattle.policy_grammar.specs.declared.verdict.Verdict.{Verdict}
 use Rattle.policy_grammar.specs.Limits.{IsSmallTree}
@@ -68,7 +68,7 @@ doubtful_marks text wide (name ∷ names) (tree ∷ trees) =
     kept (wide || has_id text tree) (record { name = name; at = start_of tree }) (doubtful_marks text wide names trees)
 
 -- what is told of an expression behind `when` or `unless`
-abbrev pub judged_by : Kind → Judgement → Judgement
+abbrev pub judged_by : Kind → Measure → Measure
 judged_by k.Unless j = above j
 judged_by _ j = j
 

@@ -51,8 +51,8 @@ equal_uid = token k.Equal >> uid
 unfoldable pub in_uid : Parser UidTree
 in_uid = token k.In >> uid
 
-unfoldable pub of_type : Parser PartTree
-of_type = do
+unfoldable pub type_test : Parser PartTree
+type_test = do
   token k.Is
   type_name ← path
   entity ← optional (only k.In) in_uid
@@ -62,7 +62,7 @@ unfoldable pub entity_constraint : Parser PartTree
 entity_constraint =
     either (only k.Equal) (equal_uid >>= (λ entity. pure (part.Equal entity)))
     (either (only k.In) (in_uid >>= (λ entity. pure (part.In entity)))
-    (either (only k.Is) of_type (pure part.Any)))
+    (either (only k.Is) type_test (pure part.Any)))
 
 unfoldable pub entity_part : Kind → Parser PartTree
 entity_part variable = token variable >> entity_constraint

@@ -7,9 +7,9 @@ use Rattle.evaluator.specs.Operators.{World}
 use Rattle.authoriser.specs.declared.answer.Answer.{Answer}
 use Rattle.authoriser.specs.Answers.{Named}
 use Rattle.schema.specs.Schemas.{StatedSchema}
-use Rattle.entities.specs.declared.entity.Entity.{Entity}
-use Rattle.entity_store.specs.Entities.{with_actions, world_in}
-use Rattle.entity_store.specs.Keeping.{Entries, kept_in}
+use Rattle.entity_worlds.specs.declared.entity.Entity.{Entity}
+use Rattle.entity_worlds.specs.Entities.{with_actions, world_in}
+use Rattle.entity_worlds.specs.Keeping.{Entries, kept_in}
 use Rattle.decision_texts.specs.declared.refusal.Refusal.{Refusal}
 use Rattle.decision_texts.specs.Refusals.{no_memory}
 use Rattle.decision_texts.specs.Lines.{answer_line}

@@ -1,19 +1,20 @@
 -- Parts of commands: what is stamped and stored, whatever is judged before.
-use Rattle.std.specs.Prelude.{◌≡◌, ◌≢◌, ◌↔◌, ◌<◌, ◌≤◌, ℕ, Bool, true}
+use Rattle.std.specs.Prelude.{◌≡◌, ◌≢◌, ◌↔◌, ◌<◌, ℕ, Bool, true}
 use Rattle.std.specs.Prelude.{false, List, Option, Some, None, Result, Ok, Err, IsTrue}
+use Rattle.plain.specs.Words.{IsPath}
 use Rattle.values.specs.declared.entity_uid.EntityUid.{EntityUid}
 use Rattle.values.specs.declared.name.Name.{Name}
 use Rattle.serde_json.specs.Data.{Data}
 use Rattle.policy_grammar.specs.declared.policy.Policy.{Policy}
 use Rattle.schema.specs.Schemas.{StatedSchema}
-use Rattle.entities.specs.declared.entity.Entity.{Entity}
+use Rattle.entity_worlds.specs.declared.entity.Entity.{Entity}
 use Rattle.entities.specs.Canonical.{canonical_text}
 use Rattle.entities.specs.Entities.{entity_in}
 use Rattle.stamped_store.specs.declared.entry.ReadText.{ReadText}
 use Rattle.stamped_store.specs.declared.entry.Stamp.{Stamp}
 use Rattle.stamped_store.specs.Greatest.{greatest_count}
 use Rattle.stamped_store.specs.Store.{Store, entity_name, issue}
-use Rattle.validator.specs.Passing.{IsImpossible}
+use Rattle.stored_texts.specs.passed_on.validator.{IsImpossible}
 use Rattle.site.specs.declared.fault.SiteFault.{SiteFault}
 use Rattle.site.specs.declared.fault.SiteFault.TheVariants as fault
 use Rattle.site.specs.declared.outcome.Put.{Put}
@@ -30,7 +31,7 @@ RecordsOr n s name body (Err _) t = ⊥
 -- the next stamp at the site with number n, or none where the clock is full
 abbrev pub IsNext : ℕ → Store → Option Stamp → Type 0
 IsNext n s (Some stamp) = (greatest_count s < most_count) × (stamp ≡ issue s n)
-IsNext n s None = most_count ≤ greatest_count s
+IsNext n s None = greatest_count s ≡ most_count
 
 -- an entity's text is put under its uid, unless it would be on a cycle
 abbrev pub PutsUnless : {E : Type 0} → ℕ → Store → Result Bool E → EntityUid → List ℕ → Result Stamp SiteFault → Store
@@ -51,6 +52,7 @@ IsStated schema e = (d : Data) × (entity_in schema d ≡ Ok e)
 -- an entity that JSON states, with its text
 pub record IsStatedBy (schema : StatedSchema) (json : Option Data) (b : ReadText Entity) : Type 0 where
   pub states : entity_stated schema json ≡ Ok b.read
+  pub path : IsPath b.read.uid.type_name
   pub canonical : b.text ≡ canonical_text b.read
   pub reads : IsEntityUnder schema b.read.uid b.text b.read
 

@@ -11,10 +11,10 @@ use Rattle.schema.specs.Views.{environment_view}
 use Rattle.typing.specs.Types.{false_type}
 use Rattle.typing.specs.Environment.{Environment, TypeFault}
 use Rattle.typing.specs.Faults.{Faults}
-use Rattle.static_types.specs.FromSchemas.{environment_of}
-use Rattle.static_types.specs.declared.fault.TypeFault.{TypeFault as FoundFault}
-use Rattle.static_types.specs.declared.static_type.StaticType.{StaticType}
-use Rattle.static_types.specs.Views.{static_view}
+use Rattle.type_checker.specs.passed_on.static_types.{environment_of}
+use Rattle.type_checker.specs.passed_on.static_types.{TypeFault as FoundFault}
+use Rattle.type_checker.specs.passed_on.static_types.{StaticType}
+use Rattle.type_checker.specs.passed_on.static_types.{static_view}
 use Rattle.validator.specs.declared.fault.CheckFault.{CheckFault}
 use Rattle.validator.specs.declared.fault.CheckFault.TheVariants.{NoMemory}
 use Rattle.validator.specs.Faults.{of_typing, of_types}

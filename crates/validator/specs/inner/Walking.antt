@@ -14,7 +14,7 @@ use Rattle.expressions.specs.declared.expr.Expr.{Expr}
 use Rattle.expressions.specs.declared.expr.Expr.TheOpen.{Expr-F}
 use Rattle.expressions.specs.declared.expr.Expr.TheFolds.{fold-Expr}
 use Rattle.schema.specs.Schemas.{StatedSchema}
-use Rattle.entities.specs.Entities.{is_action_type}
+use Rattle.type_checker.specs.passed_on.static_types.{is_action_type}
 use Rattle.validator.specs.declared.fault.CheckFault.{CheckFault}
 use Rattle.validator.specs.declared.fault.CheckFault.TheVariants.{UnknownType, UnknownAction}
 use Rattle.validator.specs.Names.{Name, tested_type, entity}

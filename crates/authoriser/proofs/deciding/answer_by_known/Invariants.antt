@@ -1,9 +1,9 @@
 use Rattle.std.proofs.Common.{take}
 use Rattle.std.specs.Prelude.{List}
 use Rattle.evaluator.specs.Operators.{world_of}
-use Rattle.authoriser.specs.Answers.{Judged, AreJudged}
+use Rattle.authoriser.specs.Answers.{PolicyOutcome, ArePolicyOutcomes}
 use Rattle.authoriser.specs.Views.{named, Counts}
 use Rattle.authoriser.proofs.deciding.answer_by_known.Given as goal
 
 abbrev pub invariant-loop-id : goal.invariant-loop-id
-invariant-loop-id g l = (js : List Judged) × AreJudged (world_of (g.L.Lookup.stored l.known.0) (g.L.Ancestry.parents l.known.0)) l.request (named (take l.id-index l.policies)) js × Counts l.tally js
+invariant-loop-id g l = (js : List PolicyOutcome) × ArePolicyOutcomes (world_of (g.L.Lookup.stored l.known.0) (g.L.Ancestry.parents l.known.0)) l.request (named (take l.id-index l.policies)) js × Counts l.tally js

@@ -5,7 +5,7 @@ use Rattle.serde_json.specs.View.{view, items_view}
 use Rattle.json_words.specs.Each.{each, list_of}
 use Rattle.json_words.proofs.EachLemmas.{each_next, items_fail, items_end}
 use Rattle.values.specs.declared.entity_uid.EntityUid.{EntityUid}
-use Rattle.entity_store.specs.Keeping.{kept_in}
+use Rattle.entity_worlds.specs.Keeping.{kept_in}
 use Rattle.decision_texts.specs.Refusals.{no_memory}
 use Rattle.decision_texts.specs.Bare.{entity_at, entities_in}
 use Rattle.decision_texts.proofs.EntitiesLemmas.{before_is, at_new, at_again, at_fault, had, is_before, taken, left-over, some-left}

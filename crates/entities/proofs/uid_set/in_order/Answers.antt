@@ -3,7 +3,7 @@ use Rattle.std.proofs.lemmas.List.Kept.{Contains-dedup, Contains-from_dedup, IsS
 use Rattle.std.proofs.lemmas.List.Sorted.{Contains-permutation, IsPermutation-sym}
 use Rattle.std.proofs.Common.{◌∙◌}
 use Rattle.values.specs.Names.{uid_cmp-IsTotalOrder}
-use Rattle.entities.specs.UidSets.{uid_set}
+use Rattle.entity_worlds.specs.UidSets.{uid_set}
 use Rattle.entities.proofs.UidSetLemmas.{sorted_set, same_members, same_is_equivalence, ties}
 use Rattle.entities.proofs.uid_set.in_order.Goals as goal
 

@@ -4,7 +4,7 @@ use Rattle.policy_grammar.proofs.Joining.{judged_one, judged-none, judged-last, 
 use Rattle.policy_grammar.proofs.conditions.judge_conditions.Goals as goal
 
 pub returns-then-left-eq0 : goal.returns-then-left-eq0
-returns-then-left-eq0 c = sym (judged-none c.judgements_add_up.ensures.literal c.args.text.now c.args.conditions.now c.if-left-eq0.true)
+returns-then-left-eq0 c = sym (judged-none c.measures_add_up.ensures.literal c.args.text.now c.args.conditions.now c.if-left-eq0.true)
 
 pub judge_condition-requires : goal.judge_condition-requires
 judge_condition-requires c =
@@ -30,5 +30,5 @@ loop-left-preserved c =
       c.paired-joined.ensures ∙ ap (λ j. paired j c.loop-left.joined) c.in_ok-first.ensures
           ∙ ap (paired (judged_one c.args.text.now c.index-conditions-left-in-loop-left.result)) c.loop-left.invariant.1
           ∙ sym (judged-before c.args.text.now c.args.conditions.now c.loop-left.left (c.loop-left.left - 1) c.index-conditions-left-in-loop-left.result (omega arith)
-          c.index-conditions-left-in-loop-left.is c.judgements_add_up.ensures.and below),
+          c.index-conditions-left-in-loop-left.is c.measures_add_up.ensures.and below),
     )

@@ -13,7 +13,7 @@ doubtful_marks-requires-clause-same c = names-long c.args.text.now c.args.trees.
 
 pub returns : goal.returns
 returns c =
-    subst (λ told. IfOk c.least_repeat.result (λ fault. fault ≡ told))
+    subst (λ told. IfOk c.first_duplicate.result (λ fault. fault ≡ told))
     (ap (λ ms. least (repeat_faults (shown ms))) c.deref.ensures.value ∙ ap (λ ms. least (repeat_faults ms)) c.in_ok-marks.ensures
     ∙ doubtful-enough c.repeats_stand_again.ensures.told c.args.text.now c.meets_place-wide.result c.args.names.now c.args.trees.now (omega arith) c.requires.named
-    c.meets_place-wide.ensures) c.least_repeat.ensures
+    c.meets_place-wide.ensures) c.first_duplicate.ensures

@@ -1,6 +1,6 @@
 use Rattle.std.proofs.Common.{◌≡◌, ◌⊎◌, ap, sym, subst, ◌∙◌}
 use Rattle.token_readers.specs.declared.fault.SyntaxFault.TheVariants as syntax
-use Rattle.expression_syntax.specs.Expressions.{nesting_limit}
+use Rattle.policy_syntax.specs.passed_on.expression_syntax.{nesting_limit}
 use Rattle.token_readers.specs.Lang.{at_any}
 use Rattle.token_readers.specs.Reads.{IsRefusedWithin}
 use Rattle.policy_syntax.specs.Grammar as grammar

@@ -2,7 +2,7 @@ use Rattle.std.proofs.Common.{◌≡◌, List, map, take, drop, Ok}
 use Rattle.serde_json.specs.View.{view, items_view}
 use Rattle.json_words.specs.Each.{each, list_of}
 use Rattle.schema.specs.Views.{schema_view}
-use Rattle.entities.specs.declared.entity.Entity.{Entity}
+use Rattle.entity_worlds.specs.declared.entity.Entity.{Entity}
 use Rattle.schema_decisions.specs.EntityArrays.{entity_at}
 use Rattle.schema_decisions.specs.inner.Stores.{Holds}
 use Rattle.schema_decisions.proofs.entity_array.read_array.Given as goal

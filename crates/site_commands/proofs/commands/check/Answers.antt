@@ -1,6 +1,6 @@
 use Rattle.std.proofs.Common.{inr}
 use Rattle.std.specs.Process.{exit_status}
-use Rattle.policy_checks.specs.Checks.{IsRefused}
+use Rattle.schema_decisions.specs.passed_on.policy_checks.{IsRefused}
 use Rattle.site_commands.proofs.EventLemmas.{runs_as}
 use Rattle.site_commands.proofs.RefusalLemmas.{refused_for}
 use Rattle.site_commands.proofs.commands.check.Goals as goal

@@ -1,5 +1,6 @@
 use Rattle.std.proofs.Common.{ℕ, List, Option, option_map, Bor}
-use Rattle.site_commands.specs.Runs.{Course, Reads, IsJudged}
+use Rattle.site_commands.specs.Courses.{Course, Reads}
+use Rattle.site_commands.specs.Runs.{IsJudged}
 use Rattle.site_commands.proofs.EventLemmas.{reads_on, reads_none}
 use Rattle.site_commands.proofs.commands.run_over.Goals as goal
 
@@ -14,28 +15,26 @@ over_policies schema entities request policies = Reads entities (over_both schem
 abbrev held : Option (Bor (List ℕ)) → Option (List ℕ)
 held = option_map (λ s. s.now)
 
-pub returns-in_default : goal.returns-in_default
-returns-in_default g c =
-    reads_none g.H.Host.does _ _ _ _ (over_policies (held c.args.schema) c.args.entities.now c.args.request.now) _ c.in_default.ensures c.tell_file.ensures
+pub returns-in-Err : goal.returns-in-Err
+returns-in-Err g c =
+    reads_none g.H.Host.does _ _ _ (over_policies (held c.args.schema) c.args.entities.now c.args.request.now) _ c.in-Err.ensures
 
-pub returns-in_default-read : goal.returns-in_default-read
-returns-in_default-read g c =
-    reads_on g.H.Host.does _ _ _ _ _ (over_policies (held c.args.schema) c.args.entities.now c.args.request.now) _ c.in-Some.ensures (
-    reads_none g.H.Host.does _ _ _ _ (over_both (held c.args.schema) c.args.request.now c.in-Some.policies.items) _ c.in_default-read.ensures
-    c.tell_file-in_default-read.ensures)
+pub returns-in-Err-read_file : goal.returns-in-Err-read_file
+returns-in-Err-read_file g c =
+    reads_on g.H.Host.does _ _ _ _ _ (over_policies (held c.args.schema) c.args.entities.now c.args.request.now) _ c.in-Ok.ensures (
+    reads_none g.H.Host.does _ _ _ (over_both (held c.args.schema) c.args.request.now c.in-Ok.bytes.items) _ c.in-Err-read_file.ensures)
 
-pub returns-in_default-read-2 : goal.returns-in_default-read-2
-returns-in_default-read-2 g c =
-    let policies = c.in-Some.policies.items in
-    reads_on g.H.Host.does _ _ _ _ _ (over_policies (held c.args.schema) c.args.entities.now c.args.request.now) _ c.in-Some.ensures (
-    reads_on g.H.Host.does _ _ _ _ _ (over_both (held c.args.schema) c.args.request.now policies) _ c.in-Some-read.ensures (
-    reads_none g.H.Host.does _ _ _ _ (IsJudged (held c.args.schema) policies c.in-Some-read.entities.items) _ c.in_default-read-2.ensures
-    c.tell_file-in_default-read-2.ensures))
+pub returns-in-Err-read_file-2 : goal.returns-in-Err-read_file-2
+returns-in-Err-read_file-2 g c =
+    let policies = c.in-Ok.bytes.items in
+    reads_on g.H.Host.does _ _ _ _ _ (over_policies (held c.args.schema) c.args.entities.now c.args.request.now) _ c.in-Ok.ensures (
+    reads_on g.H.Host.does _ _ _ _ _ (over_both (held c.args.schema) c.args.request.now policies) _ c.in-Ok-read_file.ensures (
+    reads_none g.H.Host.does _ _ _ (IsJudged (held c.args.schema) policies c.in-Ok-read_file.bytes.items) _ c.in-Err-read_file-2.ensures))
 
 pub returns : goal.returns
 returns g c =
-    let policies = c.in-Some.policies.items in
-    reads_on g.H.Host.does _ _ _ _ _ (over_policies (held c.args.schema) c.args.entities.now c.args.request.now) _ c.in-Some.ensures (
-    reads_on g.H.Host.does _ _ _ _ _ (over_both (held c.args.schema) c.args.request.now policies) _ c.in-Some-read.ensures (
-    reads_on g.H.Host.does _ _ _ _ _ (IsJudged (held c.args.schema) policies c.in-Some-read.entities.items) _ c.in-Some-read-2.ensures (
+    let policies = c.in-Ok.bytes.items in
+    reads_on g.H.Host.does _ _ _ _ _ (over_policies (held c.args.schema) c.args.entities.now c.args.request.now) _ c.in-Ok.ensures (
+    reads_on g.H.Host.does _ _ _ _ _ (over_both (held c.args.schema) c.args.request.now policies) _ c.in-Ok-read_file.ensures (
+    reads_on g.H.Host.does _ _ _ _ _ (IsJudged (held c.args.schema) policies c.in-Ok-read_file.bytes.items) _ c.in-Ok-read_file-2.ensures (
     rw (c.deref.ensures.value, c.deref-2.ensures.value, c.deref-3.ensures.value) at c.judge.ensures)))

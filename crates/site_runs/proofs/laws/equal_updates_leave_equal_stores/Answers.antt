@@ -1,8 +1,8 @@
-use Rattle.std.proofs.Common.{ap, subst, sym}
+use Rattle.std.proofs.Common.{ap, subst}
 use Rattle.stamped_store.specs.Store.{Store}
 use Rattle.schema.specs.Views.{schema_view}
 use Rattle.state_messages.specs.Messages.{state_text}
-use Rattle.stored_world.specs.Said.{IsAnswerOver}
+use Rattle.site.specs.passed_on.stored_world.{IsAnswerOver}
 use Rattle.site.specs.Admitted.{IsPolicyUnder, IsEntityUnder}
 use Rattle.site_runs.proofs.RunLemmas.{texts_of, same_stores}
 use Rattle.site_runs.proofs.laws.equal_updates_leave_equal_stores.Goals as goal

@@ -11,5 +11,5 @@ invariant-typed_items-loop-item l =
 
 abbrev pub invariant-typed_members-loop-key : goal.invariant-typed_members-loop-key
 invariant-typed_members-loop-key l =
-    (typed_members (cedar_fields_view l.fields) (members_view l.members.entries) ≡ with_front l.record (typed_members (cedar_fields_view l.fields) (members_view l.key-iterator)))
+    (typed_members (cedar_fields_view l.fields) (members_view l.members.entries) ≡ with_front l.record (typed_members (cedar_fields_view l.rest) (members_view l.key-iterator)))
     × Ordered l.record l.key-iterator

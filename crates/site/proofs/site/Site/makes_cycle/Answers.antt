@@ -8,9 +8,9 @@ use Rattle.site.proofs.site.Site.makes_cycle.Goals as goal
 pub returns-clause-yes : goal.returns-clause-yes
 returns-clause-yes c =
     subst (λ (v : Seen). IfOk c.would_cycle.result (λ t. t ≡ true → MakesCycle (IsEntityUnder (schema_of v)) (schema_of v) (store_in v) c.args.entity.now)) c.self.view_is
-    (IfOk-weaker c.would_cycle.result _ _ (λ t h is. h is c.self.invariant) c.would_cycle.ensures.yes)
+    (IfOk-weaker c.would_cycle.result _ _ (λ t h is. h is c.self.invariant.held) c.would_cycle.ensures.yes)
 
 pub returns-clause-no : goal.returns-clause-no
 returns-clause-no c =
     subst (λ (v : Seen). IfOk c.would_cycle.result (λ t. t ≡ false → MakesNoCycle (IsEntityUnder (schema_of v)) (schema_of v) (store_in v) c.args.entity.now)) c.self.view_is
-    (IfOk-weaker c.would_cycle.result _ _ (λ t h is. h is c.self.invariant) c.would_cycle.ensures.no)
+    (IfOk-weaker c.would_cycle.result _ _ (λ t h is. h is c.self.invariant.held) c.would_cycle.ensures.no)

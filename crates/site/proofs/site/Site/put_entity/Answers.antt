@@ -1,10 +1,8 @@
-use Rattle.std.proofs.Common.{◌≡◌, IfOk, true, false, Some, subst}
+use Rattle.std.proofs.Common.{◌≡◌, IfOk, Some, subst}
 use Rattle.serde_json.specs.View.{view}
 use Rattle.values.specs.declared.entity_uid.EntityUid.{EntityUid}
-use Rattle.stored_world.specs.Said.{MakesCycle, MakesNoCycle}
 use Rattle.stamped_store.specs.Store.{entity_name, issued, KeepsOtherNames}
 use Rattle.std.specs.FinMap.{get}
-use Rattle.site.specs.Admitted.{IsEntityUnder}
 use Rattle.site.specs.Seen.{Seen, schema_of, store_in}
 use Rattle.site.specs.inner.Recording.{IsStatedBy}
 use Rattle.site.proofs.Recording.{puts_entity, put_or_not, entity_stands}

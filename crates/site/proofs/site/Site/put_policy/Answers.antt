@@ -1,7 +1,6 @@
 use Rattle.std.proofs.Common.{◌≡◌, List, ℕ, Some, Result, IfOk, subst, sym}
 use Rattle.std.specs.FinMap.{get}
-use Rattle.stamped_store.specs.declared.entry.Stamp.{Stamp}
-use Rattle.stamped_store.specs.Store.{policy_name, issued, KeepsOtherNames}
+use Rattle.stamped_store.specs.Store.{policy_name, issued}
 use Rattle.site.specs.declared.fault.SiteFault.{SiteFault}
 use Rattle.site.specs.declared.outcome.Put.{Put}
 use Rattle.site.specs.Seen.{Seen, schema_of, store_in}

@@ -2,12 +2,12 @@ use Rattle.std.proofs.Common.{sym, ap, subst}
 use Rattle.schema.specs.Kept.{Kept}
 use Rattle.schema.specs.Views.{schema_view}
 use Rattle.values.specs.Names.{uid_cmp}
-use Rattle.stamped_store.specs.EntryOrder.{greater}
+use Rattle.stamped_store.specs.EntryOrder.{greater, plain_entry}
 use Rattle.stamped_store.specs.Reading.{IsEntryRead}
-use Rattle.stamped_store.specs.Store.{kept}
+use Rattle.stamped_store.specs.Store.{kept, entity_name}
 use Rattle.stamped_store.specs.Stored.{taken}
 use Rattle.site.specs.Admitted.{IsEntityUnder}
-use Rattle.site.proofs.Recording.{held_after}
+use Rattle.site.proofs.Recording.{site_after}
 use Rattle.site.proofs.site.Site.take_entity.Goals as goal
 
 pub invariant_of-self : goal.invariant_of-self
@@ -15,9 +15,10 @@ invariant_of-self c =
     let schema = c.self.inside.schema in
     let k = c.self.inside.store in
     let entry = c.args.entry in
-    held_after (schema_view schema) k (kept k.policies (taken uid_cmp greater k.entities c.args.uid entry))
-    c.take_entity-taken.new.self c.take_entity-taken.result c.take_entity-taken.ensures.kept
-    c.take_entity-taken.ensures.err c.self.invariant
-    (c.readings_stay.ensures.entity schema k c.args.uid entry c.self.invariant
+    site_after (schema_view schema) c.self.inside.number k (kept k.policies (taken uid_cmp greater k.entities c.args.uid entry))
+    c.take_entity-taken.new.self (entity_name c.args.uid, plain_entry entry) c.take_entity-taken.result c.take_entity-taken.ensures.kept
+    c.take_entity-taken.ensures.ok c.take_entity-taken.ensures.err c.self.invariant
+    (c.readings_stay.ensures.entity schema k c.args.uid entry c.self.invariant.held
     (subst (λ (x : Kept). IsEntryRead (IsEntityUnder (schema_view x) c.args.uid) entry)
-    (sym (ap (λ v. v.schema) c.self.view_is)) c.requires))
+    (sym (ap (λ v. v.schema) c.self.view_is)) c.requires.read))
+    c.ranges_stay.ensures.joined c.requires.in_range

@@ -2,12 +2,12 @@ use Rattle.std.proofs.Common.{sym, ap, subst, string_bytes}
 use Rattle.std.specs.String.{string_cmp}
 use Rattle.schema.specs.Kept.{Kept}
 use Rattle.schema.specs.Views.{schema_view}
-use Rattle.stamped_store.specs.EntryOrder.{greater}
+use Rattle.stamped_store.specs.EntryOrder.{greater, plain_entry}
 use Rattle.stamped_store.specs.Reading.{IsEntryRead}
-use Rattle.stamped_store.specs.Store.{kept}
+use Rattle.stamped_store.specs.Store.{kept, policy_name}
 use Rattle.stamped_store.specs.Stored.{taken}
 use Rattle.site.specs.Admitted.{IsPolicyUnder}
-use Rattle.site.proofs.Recording.{held_after}
+use Rattle.site.proofs.Recording.{site_after}
 use Rattle.site.proofs.site.Site.take_policy.Goals as goal
 
 pub invariant_of-self : goal.invariant_of-self
@@ -15,9 +15,10 @@ invariant_of-self c =
     let schema = c.self.inside.schema in
     let k = c.self.inside.store in
     let entry = c.args.entry in
-    held_after (schema_view schema) k (kept (taken string_cmp greater k.policies c.args.id entry) k.entities)
-    c.take_policy-taken.new.self c.take_policy-taken.result c.take_policy-taken.ensures.kept
-    c.take_policy-taken.ensures.err c.self.invariant
-    (c.readings_stay.ensures.policy schema k c.args.id entry c.self.invariant
+    site_after (schema_view schema) c.self.inside.number k (kept (taken string_cmp greater k.policies c.args.id entry) k.entities)
+    c.take_policy-taken.new.self (policy_name (string_bytes c.args.id), plain_entry entry) c.take_policy-taken.result c.take_policy-taken.ensures.kept
+    c.take_policy-taken.ensures.ok c.take_policy-taken.ensures.err c.self.invariant
+    (c.readings_stay.ensures.policy schema k c.args.id entry c.self.invariant.held
     (subst (λ (x : Kept). IsEntryRead (IsPolicyUnder (schema_view x) (string_bytes c.args.id)) entry)
-    (sym (ap (λ v. v.schema) c.self.view_is)) c.requires))
+    (sym (ap (λ v. v.schema) c.self.view_is)) c.requires.read))
+    c.ranges_stay.ensures.joined c.requires.in_range

@@ -24,7 +24,7 @@ returns-clause-ok g c =
     let join = g.V.Join.joined in
     let es = c.self.inside.map.entries in
     let absent : value_at cmp es c.args.key ≡ None = sym c.get_mut.ensures.value ∙ ap option_copied_mut c.in_default.is in
-    c.in_ok-put_new.ensures.ok
+    c.in_ok-insert_new.ensures.ok
     ∙ ap (λ m. insert_entry cmp m.entries c.args.key c.args.value) c.get_mut.follows.holds-at-none
     ∙ ap (λ o. insert_entry cmp es c.args.key (joined_onto join o c.args.value)) (sym absent)
     ∙ ap (λ s. taken cmp join s c.args.key c.args.value) c.self.view_is

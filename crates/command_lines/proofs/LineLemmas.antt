@@ -1,0 +1,264 @@
+-- From what clap's getters say to the command line.
+use Rattle.std.proofs.Common.{◌≡◌, ◌<◌, ◌∙◌, ◌⊎◌, inl, inr, ℕ, Bool, true, false, Option, Some, None, option_map, refl, List, sym, ap, arith, [], ◌∷◌, codes, if◌then◌else◌}
+use Rattle.clap.specs.Words.{Row, Text, HasKind, first_of, fault_of, kind_of, subcommand_rows_of, subcommand_name_of}
+use Rattle.command_lines.specs.declared.line.Line.{Line}
+use Rattle.command_lines.specs.declared.line.Line.TheVariants.{Check, Decide, Serve, Pull, Merge}
+use Rattle.command_lines.specs.Lines.{IsLineOf, IsGiven, IsGivenNumber, MayBeGivenNumber, IsNumberIn}
+use Rattle.clap.specs.declared.error.Error.{Error}
+use Rattle.clap.specs.declared.error.ErrorKind.{ErrorKind}
+use Rattle.clap.specs.declared.error.ErrorKind.TheVariants.{OutOfMemory}
+use Rattle.command_lines.specs.declared.fault.LineFault.TheVariants.{Help, Words, NoMemory}
+use Rattle.command_lines.specs.Apps.{site_app}
+use Rattle.command_lines.specs.Faults.{IsFaultOf, is_help, is_memory}
+use Rattle.command_lines.specs.inner.Sorting.{sorted}
+use Rattle.command_lines.specs.inner.Lacking.{IsNone}
+use Rattle.clap.specs.declared.ArgMatches.{ArgMatches}
+use Rattle.clap.specs.declared.ArgMatches.TheViews.{out-ArgMatches}
+
+fuse : {X A B : Type 0} (f : X → A) (g : A → B) (o : Option X) → option_map (λ x. g (f x)) o ≡ option_map g (option_map f o)
+fuse f g None = refl
+fuse f g (Some x) = refl
+
+same_pairs : {A B : Type 0} (o q : Option (A × B)) → option_map (λ p. p.0) o ≡ option_map (λ p. p.0) q → option_map (λ p. p.1) o ≡ option_map (λ p. p.1) q → o ≡ q
+same_pairs None None e f = refl
+same_pairs None (Some q) e f = absurd cc
+same_pairs (Some p) None e f = absurd cc
+same_pairs (Some p) (Some q) e f =
+    let x : p.0 ≡ q.0 = cc in
+    let y : p.1 ≡ q.1 = cc in
+    λ i. Some (x i, y i)
+
+-- the name and the rows of the subcommand that was met
+pub met_is : {X : Type 0} (m : ArgMatches) (name : X → Text) (rows : X → List Row) (result : Option X)
+    → option_map name result ≡ subcommand_name_of m
+    → option_map rows result ≡ option_map (λ p. p.1) (subcommand_rows_of m)
+    → option_map (λ x. (name x, rows x)) result ≡ subcommand_rows_of m
+met_is m name rows result e f =
+    same_pairs _ _ (sym (fuse (λ x. (name x, rows x)) (λ p. p.0) result) ∙ e ∙ fuse _ (λ p. p.0) (out-ArgMatches m).subcommand)
+    (sym (fuse (λ x. (name x, rows x)) (λ p. p.1) result) ∙ f)
+
+-- ---- the command that was met
+
+-- of another word there is no command
+pub unknown_word : (word : Text) (rows : List Row) → ¬ (word ≡ codes "check") → ¬ (word ≡ codes "decide")
+    → ¬ (word ≡ codes "serve") → ¬ (word ≡ codes "pull") → ¬ (word ≡ codes "merge") → (line : Line) → IsLineOf word rows line → ⊥
+unknown_word word rows a b c d e (Check schema policies) is = a (sym is.0)
+unknown_word word rows a b c d e (Decide schema policies entities request) is = b (sym is.0)
+unknown_word word rows a b c d e (Serve schema site listen state connections) is = c (sym is.0)
+unknown_word word rows a b c d e (Pull schema site from state) is = d (sym is.0)
+unknown_word word rows a b c d e (Merge schema first second) is = e (sym is.0)
+
+-- something was given, and is no such thing
+none_given : (rows : List Row) (id text : Text) → first_of id rows ≡ None → IsGiven rows id text → ⊥
+none_given rows id text e f = absurd cc
+
+-- two words differ where their first letters do
+abbrev first_letter : Text → ℕ
+first_letter [] = 0
+first_letter (letter ∷ letters) = letter
+
+unlike : (a b : ℕ) (s t : Text) → first_letter s ≡ a → first_letter t ≡ b → (a < b) ⊎ (b < a) → s ≡ t → ⊥
+unlike a b s t f g which e = by_order which
+  where
+    same : a ≡ b
+    same = sym f ∙ ap first_letter e ∙ g
+
+    by_order : (a < b) ⊎ (b < a) → ⊥
+    by_order (inl less) = absurd (omega (arith, less, same))
+    by_order (inr less) = absurd (omega (arith, less, same))
+
+check_is_no_decide : codes "check" ≡ codes "decide" → ⊥
+check_is_no_decide = unlike 99 100 (codes "check") (codes "decide") refl refl (inl (omega arith))
+
+check_is_no_serve : codes "check" ≡ codes "serve" → ⊥
+check_is_no_serve = unlike 99 115 (codes "check") (codes "serve") refl refl (inl (omega arith))
+
+check_is_no_pull : codes "check" ≡ codes "pull" → ⊥
+check_is_no_pull = unlike 99 112 (codes "check") (codes "pull") refl refl (inl (omega arith))
+
+check_is_no_merge : codes "check" ≡ codes "merge" → ⊥
+check_is_no_merge = unlike 99 109 (codes "check") (codes "merge") refl refl (inl (omega arith))
+
+decide_is_no_check : codes "decide" ≡ codes "check" → ⊥
+decide_is_no_check = unlike 100 99 (codes "decide") (codes "check") refl refl (inr (omega arith))
+
+decide_is_no_serve : codes "decide" ≡ codes "serve" → ⊥
+decide_is_no_serve = unlike 100 115 (codes "decide") (codes "serve") refl refl (inl (omega arith))
+
+decide_is_no_pull : codes "decide" ≡ codes "pull" → ⊥
+decide_is_no_pull = unlike 100 112 (codes "decide") (codes "pull") refl refl (inl (omega arith))
+
+decide_is_no_merge : codes "decide" ≡ codes "merge" → ⊥
+decide_is_no_merge = unlike 100 109 (codes "decide") (codes "merge") refl refl (inl (omega arith))
+
+serve_is_no_check : codes "serve" ≡ codes "check" → ⊥
+serve_is_no_check = unlike 115 99 (codes "serve") (codes "check") refl refl (inr (omega arith))
+
+serve_is_no_decide : codes "serve" ≡ codes "decide" → ⊥
+serve_is_no_decide = unlike 115 100 (codes "serve") (codes "decide") refl refl (inr (omega arith))
+
+serve_is_no_pull : codes "serve" ≡ codes "pull" → ⊥
+serve_is_no_pull = unlike 115 112 (codes "serve") (codes "pull") refl refl (inr (omega arith))
+
+serve_is_no_merge : codes "serve" ≡ codes "merge" → ⊥
+serve_is_no_merge = unlike 115 109 (codes "serve") (codes "merge") refl refl (inr (omega arith))
+
+pull_is_no_check : codes "pull" ≡ codes "check" → ⊥
+pull_is_no_check = unlike 112 99 (codes "pull") (codes "check") refl refl (inr (omega arith))
+
+pull_is_no_decide : codes "pull" ≡ codes "decide" → ⊥
+pull_is_no_decide = unlike 112 100 (codes "pull") (codes "decide") refl refl (inr (omega arith))
+
+pull_is_no_serve : codes "pull" ≡ codes "serve" → ⊥
+pull_is_no_serve = unlike 112 115 (codes "pull") (codes "serve") refl refl (inl (omega arith))
+
+pull_is_no_merge : codes "pull" ≡ codes "merge" → ⊥
+pull_is_no_merge = unlike 112 109 (codes "pull") (codes "merge") refl refl (inr (omega arith))
+
+merge_is_no_check : codes "merge" ≡ codes "check" → ⊥
+merge_is_no_check = unlike 109 99 (codes "merge") (codes "check") refl refl (inr (omega arith))
+
+merge_is_no_decide : codes "merge" ≡ codes "decide" → ⊥
+merge_is_no_decide = unlike 109 100 (codes "merge") (codes "decide") refl refl (inr (omega arith))
+
+merge_is_no_serve : codes "merge" ≡ codes "serve" → ⊥
+merge_is_no_serve = unlike 109 115 (codes "merge") (codes "serve") refl refl (inl (omega arith))
+
+merge_is_no_pull : codes "merge" ≡ codes "pull" → ⊥
+merge_is_no_pull = unlike 109 112 (codes "merge") (codes "pull") refl refl (inl (omega arith))
+
+-- ---- what a command of each word has
+
+module _ (rows : List Row) where
+  of_check : (line : Line) → IsLineOf (codes "check") rows line → ((text : Text) × IsGiven rows (codes "schema") text)
+      × ((text : Text) × IsGiven rows (codes "policies") text)
+  of_check (Check schema policies) is = ((schema.now, is.1.0), (policies.now, is.1.1))
+  of_check (Decide schema policies entities request) is = absurd (decide_is_no_check is.0)
+  of_check (Serve schema site listen state connections) is = absurd (serve_is_no_check is.0)
+  of_check (Pull schema site from state) is = absurd (pull_is_no_check is.0)
+  of_check (Merge schema first second) is = absurd (merge_is_no_check is.0)
+
+  of_decide : (line : Line) → IsLineOf (codes "decide") rows line → ((text : Text) × IsGiven rows (codes "policies") text)
+      × ((text : Text) × IsGiven rows (codes "entities") text)
+      × ((text : Text) × IsGiven rows (codes "request") text)
+  of_decide (Check schema policies) is = absurd (check_is_no_decide is.0)
+  of_decide (Decide schema policies entities request) is = ((policies.now, is.1.1), (entities.now, is.1.2), (request.now, is.1.3))
+  of_decide (Serve schema site listen state connections) is = absurd (serve_is_no_decide is.0)
+  of_decide (Pull schema site from state) is = absurd (pull_is_no_decide is.0)
+  of_decide (Merge schema first second) is = absurd (merge_is_no_decide is.0)
+
+  of_serve : (line : Line) → IsLineOf (codes "serve") rows line → ((text : Text) × IsGiven rows (codes "schema") text)
+      × ((number : ℕ) × IsGivenNumber rows (codes "site") 1 65535 number)
+      × ((text : Text) × IsGiven rows (codes "listen") text)
+      × ((number : Option ℕ) × MayBeGivenNumber rows (codes "connections") 0 4294967295 number)
+  of_serve (Check schema policies) is = absurd (check_is_no_serve is.0)
+  of_serve (Decide schema policies entities request) is = absurd (decide_is_no_serve is.0)
+  of_serve (Serve schema site listen state connections) is = ((schema.now, is.1.0), (site, is.1.1), (listen.now, is.1.2), (connections, is.1.4))
+  of_serve (Pull schema site from state) is = absurd (pull_is_no_serve is.0)
+  of_serve (Merge schema first second) is = absurd (merge_is_no_serve is.0)
+
+  of_pull : (line : Line) → IsLineOf (codes "pull") rows line → ((text : Text) × IsGiven rows (codes "schema") text)
+      × ((number : ℕ) × IsGivenNumber rows (codes "site") 1 65535 number)
+      × ((text : Text) × IsGiven rows (codes "from") text)
+      × ((text : Text) × IsGiven rows (codes "state") text)
+  of_pull (Check schema policies) is = absurd (check_is_no_pull is.0)
+  of_pull (Decide schema policies entities request) is = absurd (decide_is_no_pull is.0)
+  of_pull (Serve schema site listen state connections) is = absurd (serve_is_no_pull is.0)
+  of_pull (Pull schema site from state) is = ((schema.now, is.1.0), (site, is.1.1), (from.now, is.1.2), (state.now, is.1.3))
+  of_pull (Merge schema first second) is = absurd (merge_is_no_pull is.0)
+
+  of_merge : (line : Line) → IsLineOf (codes "merge") rows line → ((text : Text) × IsGiven rows (codes "schema") text)
+      × ((text : Text) × IsGiven rows (codes "first") text)
+      × ((text : Text) × IsGiven rows (codes "second") text)
+  of_merge (Check schema policies) is = absurd (check_is_no_merge is.0)
+  of_merge (Decide schema policies entities request) is = absurd (decide_is_no_merge is.0)
+  of_merge (Serve schema site listen state connections) is = absurd (serve_is_no_merge is.0)
+  of_merge (Pull schema site from state) is = absurd (pull_is_no_merge is.0)
+  of_merge (Merge schema first second) is = ((schema.now, is.1.0), (first.now, is.1.1), (second.now, is.1.2))
+
+  -- and so no command of that word lacks it
+  pub check_lacks_schema : first_of (codes "schema") rows ≡ None → IsNone (IsLineOf (codes "check") rows)
+  check_lacks_schema none line is = none_given rows (codes "schema") (of_check line is).0.0 none (of_check line is).0.1
+
+  pub check_lacks_policies : first_of (codes "policies") rows ≡ None → IsNone (IsLineOf (codes "check") rows)
+  check_lacks_policies none line is = none_given rows (codes "policies") (of_check line is).1.0 none (of_check line is).1.1
+
+  pub decide_lacks_policies : first_of (codes "policies") rows ≡ None → IsNone (IsLineOf (codes "decide") rows)
+  decide_lacks_policies none line is = none_given rows (codes "policies") (of_decide line is).0.0 none (of_decide line is).0.1
+
+  pub decide_lacks_entities : first_of (codes "entities") rows ≡ None → IsNone (IsLineOf (codes "decide") rows)
+  decide_lacks_entities none line is = none_given rows (codes "entities") (of_decide line is).1.0 none (of_decide line is).1.1
+
+  pub decide_lacks_request : first_of (codes "request") rows ≡ None → IsNone (IsLineOf (codes "decide") rows)
+  decide_lacks_request none line is = none_given rows (codes "request") (of_decide line is).2.0 none (of_decide line is).2.1
+
+  pub serve_lacks_schema : first_of (codes "schema") rows ≡ None → IsNone (IsLineOf (codes "serve") rows)
+  serve_lacks_schema none line is = none_given rows (codes "schema") (of_serve line is).0.0 none (of_serve line is).0.1
+
+  pub serve_lacks_site : IsNone (IsGivenNumber rows (codes "site") 1 65535) → IsNone (IsLineOf (codes "serve") rows)
+  serve_lacks_site none line is = none (of_serve line is).1.0 (of_serve line is).1.1
+
+  pub serve_lacks_listen : first_of (codes "listen") rows ≡ None → IsNone (IsLineOf (codes "serve") rows)
+  serve_lacks_listen none line is = none_given rows (codes "listen") (of_serve line is).2.0 none (of_serve line is).2.1
+
+  pub serve_lacks_connections : IsNone (MayBeGivenNumber rows (codes "connections") 0 4294967295) → IsNone (IsLineOf (codes "serve") rows)
+  serve_lacks_connections none line is = none (of_serve line is).3.0 (of_serve line is).3.1
+
+  pub pull_lacks_schema : first_of (codes "schema") rows ≡ None → IsNone (IsLineOf (codes "pull") rows)
+  pull_lacks_schema none line is = none_given rows (codes "schema") (of_pull line is).0.0 none (of_pull line is).0.1
+
+  pub pull_lacks_site : IsNone (IsGivenNumber rows (codes "site") 1 65535) → IsNone (IsLineOf (codes "pull") rows)
+  pull_lacks_site none line is = none (of_pull line is).1.0 (of_pull line is).1.1
+
+  pub pull_lacks_from : first_of (codes "from") rows ≡ None → IsNone (IsLineOf (codes "pull") rows)
+  pull_lacks_from none line is = none_given rows (codes "from") (of_pull line is).2.0 none (of_pull line is).2.1
+
+  pub pull_lacks_state : first_of (codes "state") rows ≡ None → IsNone (IsLineOf (codes "pull") rows)
+  pull_lacks_state none line is = none_given rows (codes "state") (of_pull line is).3.0 none (of_pull line is).3.1
+
+  pub merge_lacks_schema : first_of (codes "schema") rows ≡ None → IsNone (IsLineOf (codes "merge") rows)
+  merge_lacks_schema none line is = none_given rows (codes "schema") (of_merge line is).0.0 none (of_merge line is).0.1
+
+  pub merge_lacks_first : first_of (codes "first") rows ≡ None → IsNone (IsLineOf (codes "merge") rows)
+  merge_lacks_first none line is = none_given rows (codes "first") (of_merge line is).1.0 none (of_merge line is).1.1
+
+  pub merge_lacks_second : first_of (codes "second") rows ≡ None → IsNone (IsLineOf (codes "merge") rows)
+  merge_lacks_second none line is = none_given rows (codes "second") (of_merge line is).2.0 none (of_merge line is).2.1
+
+-- ---- numbers
+
+module _ (rows : List Row) (id : Text) (least most : ℕ) where
+  -- nothing was given
+  pub number_lacks : first_of id rows ≡ None → IsNone (IsGivenNumber rows id least most)
+  number_lacks none number given = none_given rows id given.0 none given.1
+
+  -- what was given is no such number
+  pub no_number : (text : Text) → first_of id rows ≡ Some text → IsNone (IsNumberIn least most text) → IsNone (IsGivenNumber rows id least most)
+  no_number text is none number given = none number (rw (same_text is given.1) given.2)
+    where
+      same_text : {t u : Text} → first_of id rows ≡ Some t → first_of id rows ≡ Some u → t ≡ u
+      same_text e f = cc
+
+  pub no_number_if_given : (text : Text) → first_of id rows ≡ Some text → IsNone (IsNumberIn least most text) → IsNone (MayBeGivenNumber rows id least most)
+  no_number_if_given text is none None lacks = absurd cc
+  no_number_if_given text is none (Some number) given = no_number text is none number given
+
+-- ---- faults
+
+no_help : {k : ErrorKind} → k ≡ OutOfMemory → is_help k ≡ true → ⊥
+no_help e f = let bad : false ≡ true = sym (ap is_help e) ∙ f in absurd cc
+
+other_than_memory : {k : ErrorKind} → k ≡ OutOfMemory → is_memory k ≡ false → ⊥
+other_than_memory e f = let bad : true ≡ false = sym (ap is_memory e) ∙ f in absurd cc
+
+sorted_by : (words : List Text) (error : Error) (help memory : Bool) → is_help (kind_of error) ≡ help → is_memory (kind_of error) ≡ memory
+    → HasKind (fault_of site_app words) error → IsFaultOf words (if help then Help error else if memory then NoMemory else Words error)
+sorted_by words error true memory h m (inl oom) = absurd (no_help oom h)
+sorted_by words error true memory h m (inr among) = (h, among)
+sorted_by words error false true h m has = tt
+sorted_by words error false false h m (inl oom) = absurd (other_than_memory oom m)
+sorted_by words error false false h m (inr among) = (h, among)
+
+-- an error of clap's is told as what it is
+pub sorted_fault : (words : List Text) (error : Error) → HasKind (fault_of site_app words) error → IsFaultOf words (sorted error)
+sorted_fault words error has = sorted_by words error (is_help (kind_of error)) (is_memory (kind_of error)) refl refl has

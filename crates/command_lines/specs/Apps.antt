@@ -1,0 +1,62 @@
+-- The commands and their options, in the words of clap's contracts: `subcommand_of` and `fault_of` say what such a
+-- command makes of any words. Which commands and options there are is a rule of this product.
+use Rattle.std.specs.Prelude.{ℕ, true, Some, codes}
+use Rattle.clap.specs.Words.{App, Rule, Text, new_app, new_rule, with_rule, with_subcommand}
+use Rattle.clap.specs.declared.builder.ArgAction.TheVariants.{Set}
+use Rattle.clap.specs.declared.builder.ValueParser.TheVariants.{Unsigned}
+
+-- `--name VALUE`, once
+abbrev pub value_option : Text → Rule
+value_option name = record (new_rule name) { long = Some name; value_names = 1; action = Some Set }
+
+-- `--name NUMBER`, once, a number within bounds
+abbrev pub number_option : Text → ℕ → ℕ → Rule
+number_option name least most = record (value_option name) { parser = Some (Unsigned least most) }
+
+-- a file that is named by its place
+abbrev pub value_word : Text → Rule
+value_word name = record (new_rule name) { value_names = 1; action = Some Set }
+
+abbrev pub demanded : Rule → Rule
+demanded rule = record rule { required = true }
+
+-- check --schema FILE POLICIES
+abbrev pub check_app : App
+check_app = with_rule (with_rule (new_app (codes "check")) (demanded (value_option (codes "schema"))))
+    (demanded (value_word (codes "policies")))
+
+-- decide [--schema FILE] --policies FILE --entities FILE --request FILE, the options in any order
+abbrev pub decide_app : App
+decide_app = with_rule (with_rule (with_rule (with_rule (new_app (codes "decide")) (value_option (codes "schema")))
+    (demanded (value_option (codes "policies")))) (demanded (value_option (codes "entities"))))
+    (demanded (value_option (codes "request")))
+
+-- the number of a site, from 1 to 65,535
+abbrev pub site_option : Rule
+site_option = demanded (number_option (codes "site") 1 65535)
+
+-- serve --schema FILE --site NUMBER --listen ADDRESS [--state FILE] [--connections NUMBER]
+abbrev pub serve_app : App
+serve_app = with_rule (with_rule (with_rule (with_rule (with_rule (new_app (codes "serve"))
+    (demanded (value_option (codes "schema")))) site_option) (demanded (value_option (codes "listen"))))
+    (value_option (codes "state"))) (number_option (codes "connections") 0 4294967295)
+
+-- pull --schema FILE --site NUMBER --from ADDRESS --state FILE
+abbrev pub pull_app : App
+pull_app = with_rule (with_rule (with_rule (with_rule (new_app (codes "pull"))
+    (demanded (value_option (codes "schema")))) site_option) (demanded (value_option (codes "from"))))
+    (demanded (value_option (codes "state")))
+
+-- merge --schema FILE FIRST SECOND
+abbrev pub merge_app : App
+merge_app = with_rule (with_rule (with_rule (new_app (codes "merge")) (demanded (value_option (codes "schema"))))
+    (demanded (value_word (codes "first")))) (demanded (value_word (codes "second")))
+
+abbrev pub asks_for_command : App → App
+asks_for_command a = record a { top = record a.top { subcommand_required = true } }
+
+-- all of them
+abbrev pub site_app : App
+site_app = with_subcommand (with_subcommand (with_subcommand (with_subcommand (with_subcommand
+    (asks_for_command (new_app (codes "cedar_site"))) check_app.top) decide_app.top) serve_app.top) pull_app.top)
+    merge_app.top

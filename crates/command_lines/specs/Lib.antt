@@ -1,0 +1,4 @@
+pub mod Apps
+pub mod Faults
+pub mod Lines
+pub mod inner

@@ -1,0 +1,74 @@
+//! Why words are no command.
+ghost use Rattle.std.specs.Prelude.{◌≡◌, ◌==◌};
+ghost use Rattle.clap.specs.Words.{kind_of};
+ghost use Rattle.command_lines.specs.Faults.{is_help, is_memory};
+ghost use Rattle.command_lines.specs.inner.Sorting.{sorted};
+
+use clap::error::ErrorKind;
+use plain::NoMemory;
+use std::fmt;
+
+/// Why the words ask for nothing. Each shows itself as the text that is to be printed.
+#[derive(Drop)]
+pub enum LineFault {
+    /// Help was asked for.
+    Help(clap::Error),
+    /// The words are no command line.
+    Words(clap::Error),
+    /// The words were taken, and yet have no command or lack an option: no words do that.
+    Incomplete,
+    /// A word is not UTF-8. `line_of` never says so: its words are texts.
+    NotText,
+    /// Memory was refused.
+    NoMemory,
+}
+
+impl From<NoMemory> for LineFault {
+    ghost use Rattle.command_lines.specs.declared.fault.LineFault.TheVariants.{NoMemory as memory};
+
+    ghost from_gives = { λ _ fault. fault ≡ memory };
+
+    fn from(_error: NoMemory) -> LineFault {
+        LineFault::NoMemory
+    }
+}
+
+impl fmt::Display for LineFault {
+    fn fmt<W: fmt::Write>(&self, f: &mut fmt::Formatter<W>) -> fmt::Result {
+        match self {
+            LineFault::Help(error) => write!(f, "{error}"),
+            LineFault::Words(error) => write!(f, "{error}"),
+            LineFault::Incomplete => f.write_str("error: an option is missing\n"),
+            LineFault::NotText => f.write_str("error: a word of the command line is not UTF-8\n"),
+            LineFault::NoMemory => f.write_str("error: out of memory\n"),
+        }
+    }
+}
+
+/// Whether help is asked for.
+fn is_help(kind: ErrorKind) -> bool
+    ensures { result ≡ is_help kind }
+{
+    matches!(kind, ErrorKind::DisplayHelp | ErrorKind::DisplayVersion)
+}
+
+/// Whether memory was refused.
+fn is_memory(kind: ErrorKind) -> bool
+    ensures { result ≡ is_memory kind }
+{
+    matches!(kind, ErrorKind::OutOfMemory)
+}
+
+/// What an error of clap's is: help, want of memory, or a fault of the words.
+pub(crate) fn sorted(error: clap::Error) -> LineFault
+    ensures { result ≡ sorted error }
+{
+    let kind = error.kind();
+    if is_help(kind) {
+        return LineFault::Help(error);
+    }
+    if is_memory(kind) {
+        return LineFault::NoMemory;
+    }
+    LineFault::Words(error)
+}

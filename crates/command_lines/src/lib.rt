@@ -1,0 +1,10 @@
+//! The command line: its words, as a command with all that it demands.
+#![tactic(auto)]
+
+mod app;
+mod fault;
+mod line;
+mod options;
+
+pub use fault::LineFault;
+pub use line::{Line, line_of};

@@ -1,0 +1,200 @@
+use Rattle.std.proofs.Common.{rules, refl, ◌≡◌, ◌∙◌, ◌+◌, ap, sym, subst, map, drop, length, IfOk}
+use Rattle.std.specs.List.{AllByRecursion, fold}
+use Rattle.expression_trees.specs.declared.tree.ExprTree.{the_lemmas}
+use Rattle.desugaring.specs.Refused.{least}
+use Rattle.desugaring.specs.Repeats.{repeat_faults}
+use Rattle.desugaring.specs.Faults.{key_of, function_faults}
+use Rattle.desugaring.specs.inner.Giving.{Gave}
+use Rattle.desugaring.specs.inner.Standing.{Stands, AllStand, EntryStands, TermStands, AccessStands}
+use Rattle.desugaring.specs.Measured.{measured, measured_negated}
+use Rattle.desugaring.specs.Sums.{nothing, above, beside, paired, called, with_fault, measured_all, measured_chain, measured_term, measured_entry, measured_access, measured_compared}
+use Rattle.desugaring.proofs.Lists.{all-at, stepped}
+use Rattle.desugaring.proofs.Gaving.{one, two, three, still}
+use Rattle.desugaring.proofs.PartsOf.{of-Call, of-Set, of-Record, of-Member, of-Product, of-Sum, of-Compare, of-Has, of-Like, of-Is, of-IsIn, of-And, of-Or, of-If}
+use Rattle.desugaring.proofs.MeasureLemmas.{measured-Boolean, measured-Number, measured-Text, measured-Variable, measured-Uid, measured-Call, measured-Set, measured-Record, measured-Member, measured-Not, measured-Product, measured-Sum, measured-Compare, measured-Has, measured-Like, measured-Is, measured-IsIn, measured-And, measured-Or, measured-If, measured_negated-Number, measured_negated-other}
+use Rattle.desugaring.proofs.measuring.+measuring.Goals as goal
+
+pub measure_tree-measure_all-requires : goal.measure_tree-measure_all-requires
+measure_tree-measure_all-requires t c = (search (rules, the_lemmas), subst (AllStand c.args.text.now) (sym c.as_slice.ensures) (of-Call c.args.text.now c.args.tree.now c.in-Call.path c.in-Call.arguments c.in-Call.is c.requires.1.1).1)
+
+pub measure_tree-function_fault-requires : goal.measure_tree-function_fault-requires
+measure_tree-function_fault-requires t c = (of-Call c.args.text.now c.args.tree.now c.in-Call.path c.in-Call.arguments c.in-Call.is c.requires.1.1).0
+
+pub measure_tree-measure_all-requires-in-Set : goal.measure_tree-measure_all-requires-in-Set
+measure_tree-measure_all-requires-in-Set t c = (search (rules, the_lemmas), subst (AllStand c.args.text.now) (sym c.as_slice-in-Set.ensures) (of-Set c.args.text.now c.args.tree.now c.in-Set.members c.in-Set.is c.requires.1.1))
+
+pub measure_tree-repeated_key-requires : goal.measure_tree-repeated_key-requires
+measure_tree-repeated_key-requires t c = subst (AllByRecursion (EntryStands c.args.text.now)) (sym c.as_slice-in-Record.ensures) (of-Record c.args.text.now c.args.tree.now c.in-Record.entries c.in-Record.is c.requires.1.1)
+
+pub measure_tree-measure_entries-requires : goal.measure_tree-measure_entries-requires
+measure_tree-measure_entries-requires t c = (search (rules, the_lemmas), subst (AllByRecursion (EntryStands c.args.text.now)) (sym c.as_slice-in-Record-2.ensures) (of-Record c.args.text.now c.args.tree.now c.in-Record.entries c.in-Record.is c.requires.1.1))
+
+pub measure_tree-measure_tree-first-requires : goal.measure_tree-measure_tree-first-requires
+measure_tree-measure_tree-first-requires t c = (search (rules, the_lemmas), subst (Stands c.args.text.now) (sym c.get-in-Member.ensures) (of-Member c.args.text.now c.args.tree.now c.in-Member.inner c.in-Member.accesses c.in-Member.is c.requires.1.1).0)
+
+pub measure_tree-measure_accesses-requires : goal.measure_tree-measure_accesses-requires
+measure_tree-measure_accesses-requires t c = (search (rules, the_lemmas), subst (AllByRecursion (AccessStands c.args.text.now)) (sym c.as_slice-in-Member.ensures) (of-Member c.args.text.now c.args.tree.now c.in-Member.inner c.in-Member.accesses c.in-Member.is c.requires.1.1).1)
+
+pub measure_tree-measure_tree-first-requires-in-Product : goal.measure_tree-measure_tree-first-requires-in-Product
+measure_tree-measure_tree-first-requires-in-Product t c = (search (rules, the_lemmas), subst (Stands c.args.text.now) (sym c.get-in-Product.ensures) (of-Product c.args.text.now c.args.tree.now c.in-Product.inner c.in-Product.more c.in-Product.is c.requires.1.1).0)
+
+pub measure_tree-measure_chain-requires : goal.measure_tree-measure_chain-requires
+measure_tree-measure_chain-requires t c = (search (rules, the_lemmas), subst (AllStand c.args.text.now) (sym c.as_slice-in-Product.ensures) (of-Product c.args.text.now c.args.tree.now c.in-Product.inner c.in-Product.more c.in-Product.is c.requires.1.1).1)
+
+pub measure_tree-measure_tree-first-requires-in-Sum : goal.measure_tree-measure_tree-first-requires-in-Sum
+measure_tree-measure_tree-first-requires-in-Sum t c = (search (rules, the_lemmas), subst (Stands c.args.text.now) (sym c.get-in-Sum.ensures) (of-Sum c.args.text.now c.args.tree.now c.in-Sum.inner c.in-Sum.terms c.in-Sum.is c.requires.1.1).0)
+
+pub measure_tree-measure_terms-requires : goal.measure_tree-measure_terms-requires
+measure_tree-measure_terms-requires t c = (search (rules, the_lemmas), subst (AllByRecursion (TermStands c.args.text.now)) (sym c.as_slice-in-Sum.ensures) (of-Sum c.args.text.now c.args.tree.now c.in-Sum.inner c.in-Sum.terms c.in-Sum.is c.requires.1.1).1)
+
+pub measure_tree-measure_tree-requires-in-Compare : goal.measure_tree-measure_tree-requires-in-Compare
+measure_tree-measure_tree-requires-in-Compare t c = (search (rules, the_lemmas), subst (Stands c.args.text.now) (sym c.get-in-Compare.ensures) (of-Compare c.args.text.now c.args.tree.now c.in-Compare.left c.in-Compare.operator c.in-Compare.right c.in-Compare.is c.requires.1.1).0)
+
+pub measure_tree-measure_tree-requires-in-Compare-2 : goal.measure_tree-measure_tree-requires-in-Compare-2
+measure_tree-measure_tree-requires-in-Compare-2 t c = (search (rules, the_lemmas), subst (Stands c.args.text.now) (sym c.get-in-Compare-2.ensures) (of-Compare c.args.text.now c.args.tree.now c.in-Compare.left c.in-Compare.operator c.in-Compare.right c.in-Compare.is c.requires.1.1).1)
+
+pub measure_tree-measure_tree-requires-in-Has : goal.measure_tree-measure_tree-requires-in-Has
+measure_tree-measure_tree-requires-in-Has t c = (search (rules, the_lemmas), subst (Stands c.args.text.now) (sym c.get-in-Has.ensures) (of-Has c.args.text.now c.args.tree.now c.in-Has.inner c.in-Has.field-1 c.in-Has.is c.requires.1.1).0)
+
+pub measure_tree-measure_tree-requires-in-Like : goal.measure_tree-measure_tree-requires-in-Like
+measure_tree-measure_tree-requires-in-Like t c = (search (rules, the_lemmas), subst (Stands c.args.text.now) (sym c.get-in-Like.ensures) (of-Like c.args.text.now c.args.tree.now c.in-Like.inner c.in-Like.field-1 c.in-Like.is c.requires.1.1).0)
+
+pub measure_tree-measure_tree-requires-in-Is : goal.measure_tree-measure_tree-requires-in-Is
+measure_tree-measure_tree-requires-in-Is t c = (search (rules, the_lemmas), subst (Stands c.args.text.now) (sym c.get-in-Is.ensures) (of-Is c.args.text.now c.args.tree.now c.in-Is.inner c.in-Is.field-1 c.in-Is.is c.requires.1.1).0)
+
+pub measure_tree-measure_tree-requires-in-IsIn : goal.measure_tree-measure_tree-requires-in-IsIn
+measure_tree-measure_tree-requires-in-IsIn t c = (search (rules, the_lemmas), subst (Stands c.args.text.now) (sym c.get-in-IsIn.ensures) (of-IsIn c.args.text.now c.args.tree.now c.in-IsIn.inner c.in-IsIn.field-1 c.in-IsIn.outer c.in-IsIn.is c.requires.1.1).0)
+
+pub measure_tree-measure_tree-requires-in-IsIn-2 : goal.measure_tree-measure_tree-requires-in-IsIn-2
+measure_tree-measure_tree-requires-in-IsIn-2 t c = (search (rules, the_lemmas), subst (Stands c.args.text.now) (sym c.get-in-IsIn-2.ensures) (of-IsIn c.args.text.now c.args.tree.now c.in-IsIn.inner c.in-IsIn.field-1 c.in-IsIn.outer c.in-IsIn.is c.requires.1.1).1.1)
+
+pub measure_tree-measure_tree-first-requires-in-And : goal.measure_tree-measure_tree-first-requires-in-And
+measure_tree-measure_tree-first-requires-in-And t c = (search (rules, the_lemmas), subst (Stands c.args.text.now) (sym c.get-in-And.ensures) (of-And c.args.text.now c.args.tree.now c.in-And.inner c.in-And.more c.in-And.is c.requires.1.1).0)
+
+pub measure_tree-measure_chain-requires-in-And : goal.measure_tree-measure_chain-requires-in-And
+measure_tree-measure_chain-requires-in-And t c = (search (rules, the_lemmas), subst (AllStand c.args.text.now) (sym c.as_slice-in-And.ensures) (of-And c.args.text.now c.args.tree.now c.in-And.inner c.in-And.more c.in-And.is c.requires.1.1).1)
+
+pub measure_tree-measure_tree-first-requires-in-Or : goal.measure_tree-measure_tree-first-requires-in-Or
+measure_tree-measure_tree-first-requires-in-Or t c = (search (rules, the_lemmas), subst (Stands c.args.text.now) (sym c.get-in-Or.ensures) (of-Or c.args.text.now c.args.tree.now c.in-Or.inner c.in-Or.more c.in-Or.is c.requires.1.1).0)
+
+pub measure_tree-measure_chain-requires-in-Or : goal.measure_tree-measure_chain-requires-in-Or
+measure_tree-measure_chain-requires-in-Or t c = (search (rules, the_lemmas), subst (AllStand c.args.text.now) (sym c.as_slice-in-Or.ensures) (of-Or c.args.text.now c.args.tree.now c.in-Or.inner c.in-Or.more c.in-Or.is c.requires.1.1).1)
+
+pub measure_tree-measure_tree-first-requires-in-If : goal.measure_tree-measure_tree-first-requires-in-If
+measure_tree-measure_tree-first-requires-in-If t c = (search (rules, the_lemmas), subst (Stands c.args.text.now) (sym c.get-in-If.ensures) (of-If c.args.text.now c.args.tree.now c.in-If.test c.in-If.consequent c.in-If.alternative c.in-If.is c.requires.1.1).0)
+
+pub measure_tree-measure_tree-second-requires : goal.measure_tree-measure_tree-second-requires
+measure_tree-measure_tree-second-requires t c = (search (rules, the_lemmas), subst (Stands c.args.text.now) (sym c.get-in-If-2.ensures) (of-If c.args.text.now c.args.tree.now c.in-If.test c.in-If.consequent c.in-If.alternative c.in-If.is c.requires.1.1).1.0)
+
+pub measure_tree-measure_tree-third-requires : goal.measure_tree-measure_tree-third-requires
+measure_tree-measure_tree-third-requires t c = (search (rules, the_lemmas), subst (Stands c.args.text.now) (sym c.get-in-If-3.ensures) (of-If c.args.text.now c.args.tree.now c.in-If.test c.in-If.consequent c.in-If.alternative c.in-If.is c.requires.1.1).1.1)
+
+pub measure_access-measure_all-requires : goal.measure_access-measure_all-requires
+measure_access-measure_all-requires t c = (search (rules, the_lemmas), subst (AllStand c.args.text.now) (sym c.as_slice.ensures) (subst (AccessStands c.args.text.now) c.in-Method.is c.requires.1.1).1)
+
+pub measure_accesses-measure_access-requires : goal.measure_accesses-measure_access-requires
+measure_accesses-measure_access-requires t c = (search (rules, the_lemmas), subst (AccessStands c.args.text.now) (sym c.access-item.is) (all-at (AccessStands c.args.text.now) c.args.accesses.now c.loop-access.access-index c.access-item.result c.requires.1.1 c.loop-access-test.true))
+
+pub measure_chain-loop-tree-preserved : goal.measure_chain-loop-tree-preserved
+measure_chain-loop-tree-preserved t c =
+    still (λ a. measured_chain c.args.text.now a c.args.more.now) (measured_chain c.args.text.now c.paired-left.result (drop (c.loop-tree.tree-index + 1) c.args.more.now)) (measured_chain c.args.text.now c.loop-tree.left (drop c.loop-tree.tree-index c.args.more.now)) c.args.first
+    (stepped (measured_chain c.args.text.now) (λ j x. paired j (measured c.args.text.now x)) (λ j x xs. refl) c.args.more.now c.loop-tree.tree-index c.tree-item.result c.loop-tree.left c.paired-left.result c.tree-item.is c.loop-tree-test.true (c.paired-left.ensures ∙ ap (paired c.loop-tree.left) c.in_ok-measure_tree.ensures)) c.loop-tree.invariant
+
+pub measure_terms-loop-term-preserved : goal.measure_terms-loop-term-preserved
+measure_terms-loop-term-preserved t c =
+    still (λ a. fold (measured_term c.args.text.now) a c.args.terms.now) (fold (measured_term c.args.text.now) c.paired-left.result (drop (c.loop-term.term-index + 1) c.args.terms.now)) (fold (measured_term c.args.text.now) c.loop-term.left (drop c.loop-term.term-index c.args.terms.now)) c.args.first
+    (stepped (fold (measured_term c.args.text.now)) (measured_term c.args.text.now) (λ j x xs. refl) c.args.terms.now c.loop-term.term-index c.term-item.result c.loop-term.left c.paired-left.result c.term-item.is c.loop-term-test.true (c.paired-left.ensures ∙ ap (paired c.loop-term.left) c.in_ok-measure_tree.ensures)) c.loop-term.invariant
+
+pub measure_accesses-loop-access-preserved : goal.measure_accesses-loop-access-preserved
+measure_accesses-loop-access-preserved t c =
+    still (λ a. fold (measured_access c.args.text.now) a c.args.accesses.now) (fold (measured_access c.args.text.now) c.in_ok-left-2.left (drop (c.loop-access.access-index + 1) c.args.accesses.now)) (fold (measured_access c.args.text.now) c.loop-access.left (drop c.loop-access.access-index c.args.accesses.now)) c.args.receiver
+    (stepped (fold (measured_access c.args.text.now)) (measured_access c.args.text.now) (λ j x xs. refl) c.args.accesses.now c.loop-access.access-index c.access-item.result c.loop-access.left c.in_ok-left-2.left c.access-item.is c.loop-access-test.true (c.in_ok-left-2.ensures)) c.loop-access.invariant
+
+pub measure_tree-returns-in-Boolean : goal.measure_tree-returns-in-Boolean
+measure_tree-returns-in-Boolean t c = cc (measured-Boolean c.args.text.now c.in-Boolean.field-0)
+
+pub measure_tree-returns-in-Number : goal.measure_tree-returns-in-Number
+measure_tree-returns-in-Number t c = cc (measured-Number c.args.text.now c.in-Number.token)
+
+pub measure_tree-returns-in-Text : goal.measure_tree-returns-in-Text
+measure_tree-returns-in-Text t c = cc (measured-Text c.args.text.now c.in-Text.field-0)
+
+pub measure_tree-returns-in-Variable : goal.measure_tree-returns-in-Variable
+measure_tree-returns-in-Variable t c = cc (measured-Variable c.args.text.now c.in-Variable.field-0)
+
+pub measure_tree-returns-in-Uid : goal.measure_tree-returns-in-Uid
+measure_tree-returns-in-Uid t c = cc (measured-Uid c.args.text.now c.in-Uid.field-0)
+
+pub measure_tree-returns-in-Call : goal.measure_tree-returns-in-Call
+measure_tree-returns-in-Call t c =
+    one (λ i. called (least (function_faults c.args.text.now c.in-Call.path (length c.in-Call.arguments))) (with_fault (least (function_faults c.args.text.now c.in-Call.path (length c.in-Call.arguments))) i)) (measured_all c.args.text.now c.in-Call.arguments) (measured c.args.text.now c.args.tree.now) c.measure_all.result c.call.result (subst (λ ys. IfOk c.measure_all.result (λ j. j ≡ measured_all c.args.text.now ys)) c.as_slice.ensures c.measure_all.ensures)
+    (subst (λ o. IfOk c.call.result (λ j. Gave c.measure_all.result (λ i. j ≡ called o (with_fault o i)))) (c.function_fault.ensures ∙ ap (λ n. least (function_faults c.args.text.now c.in-Call.path n)) c.len.ensures) c.call.ensures) (sym (measured-Call c.args.text.now c.in-Call.path c.in-Call.arguments) ∙ ap (measured c.args.text.now) (sym c.in-Call.is))
+
+pub measure_tree-returns-in-Set : goal.measure_tree-returns-in-Set
+measure_tree-returns-in-Set t c = one above (measured_all c.args.text.now c.in-Set.members) (measured c.args.text.now c.args.tree.now) c.measure_all-in-Set.result c.above.result (subst (λ ys. IfOk c.measure_all-in-Set.result (λ j. j ≡ measured_all c.args.text.now ys)) c.as_slice-in-Set.ensures c.measure_all-in-Set.ensures) c.above.ensures (sym (measured-Set c.args.text.now c.in-Set.members) ∙ ap (measured c.args.text.now) (sym c.in-Set.is))
+
+pub measure_tree-returns-in-Record : goal.measure_tree-returns-in-Record
+measure_tree-returns-in-Record t c =
+    two (λ o i. above (with_fault o i)) (least (repeat_faults (map (key_of c.args.text.now) c.in-Record.entries))) (fold (measured_entry c.args.text.now) nothing c.in-Record.entries) (measured c.args.text.now c.args.tree.now) c.repeated_key.result c.measure_entries.result c.record.result
+    (subst (λ es. IfOk c.repeated_key.result (λ o. o ≡ least (repeat_faults (map (key_of c.args.text.now) es)))) c.as_slice-in-Record.ensures c.repeated_key.ensures) (subst (λ ys. IfOk c.measure_entries.result (λ j. j ≡ fold (measured_entry c.args.text.now) nothing ys)) c.as_slice-in-Record-2.ensures c.measure_entries.ensures) c.record.ensures (sym (measured-Record c.args.text.now c.in-Record.entries) ∙ ap (measured c.args.text.now) (sym c.in-Record.is))
+
+pub measure_tree-returns-in-Not : goal.measure_tree-returns-in-Not
+measure_tree-returns-in-Not t c = one above (measured c.args.text.now c.in-Not.inner) (measured c.args.text.now c.args.tree.now) c.measure_tree-in-Not.result c.above-in-Not.result (subst (λ y. IfOk c.measure_tree-in-Not.result (λ j. j ≡ measured c.args.text.now y)) c.get-in-Not.ensures c.measure_tree-in-Not.ensures) c.above-in-Not.ensures (sym (measured-Not c.args.text.now c.in-Not.inner) ∙ ap (measured c.args.text.now) (sym c.in-Not.is))
+
+pub measure_tree-returns-in-Has : goal.measure_tree-returns-in-Has
+measure_tree-returns-in-Has t c = one above (measured c.args.text.now c.in-Has.inner) (measured c.args.text.now c.args.tree.now) c.measure_tree-in-Has.result c.above-in-Has.result (subst (λ y. IfOk c.measure_tree-in-Has.result (λ j. j ≡ measured c.args.text.now y)) c.get-in-Has.ensures c.measure_tree-in-Has.ensures) c.above-in-Has.ensures (sym (measured-Has c.args.text.now c.in-Has.inner c.in-Has.field-1) ∙ ap (measured c.args.text.now) (sym c.in-Has.is))
+
+pub measure_tree-returns-in-Like : goal.measure_tree-returns-in-Like
+measure_tree-returns-in-Like t c = one above (measured c.args.text.now c.in-Like.inner) (measured c.args.text.now c.args.tree.now) c.measure_tree-in-Like.result c.above-in-Like.result (subst (λ y. IfOk c.measure_tree-in-Like.result (λ j. j ≡ measured c.args.text.now y)) c.get-in-Like.ensures c.measure_tree-in-Like.ensures) c.above-in-Like.ensures (sym (measured-Like c.args.text.now c.in-Like.inner c.in-Like.field-1) ∙ ap (measured c.args.text.now) (sym c.in-Like.is))
+
+pub measure_tree-returns-in-Is : goal.measure_tree-returns-in-Is
+measure_tree-returns-in-Is t c = one above (measured c.args.text.now c.in-Is.inner) (measured c.args.text.now c.args.tree.now) c.measure_tree-in-Is.result c.above-in-Is.result (subst (λ y. IfOk c.measure_tree-in-Is.result (λ j. j ≡ measured c.args.text.now y)) c.get-in-Is.ensures c.measure_tree-in-Is.ensures) c.above-in-Is.ensures (sym (measured-Is c.args.text.now c.in-Is.inner c.in-Is.field-1) ∙ ap (measured c.args.text.now) (sym c.in-Is.is))
+
+pub measure_tree-returns-in-Member : goal.measure_tree-returns-in-Member
+measure_tree-returns-in-Member t c =
+    one (λ i. fold (measured_access c.args.text.now) i c.in-Member.accesses) (measured c.args.text.now c.in-Member.inner) (measured c.args.text.now c.args.tree.now) c.measure_tree-first.result c.measure_accesses.result (subst (λ y. IfOk c.measure_tree-first.result (λ j. j ≡ measured c.args.text.now y)) c.get-in-Member.ensures c.measure_tree-first.ensures)
+    (subst (λ ys. IfOk c.measure_accesses.result (λ j. Gave c.measure_tree-first.result (λ i. j ≡ fold (measured_access c.args.text.now) i ys))) c.as_slice-in-Member.ensures c.measure_accesses.ensures) (sym (measured-Member c.args.text.now c.in-Member.inner c.in-Member.accesses) ∙ ap (measured c.args.text.now) (sym c.in-Member.is))
+
+pub measure_tree-returns-in-Product : goal.measure_tree-returns-in-Product
+measure_tree-returns-in-Product t c =
+    one (λ i. measured_chain c.args.text.now i c.in-Product.more) (measured c.args.text.now c.in-Product.inner) (measured c.args.text.now c.args.tree.now) c.measure_tree-first-in-Product.result c.measure_chain.result (subst (λ y. IfOk c.measure_tree-first-in-Product.result (λ j. j ≡ measured c.args.text.now y)) c.get-in-Product.ensures c.measure_tree-first-in-Product.ensures)
+    (subst (λ ys. IfOk c.measure_chain.result (λ j. Gave c.measure_tree-first-in-Product.result (λ i. j ≡ measured_chain c.args.text.now i ys))) c.as_slice-in-Product.ensures c.measure_chain.ensures) (sym (measured-Product c.args.text.now c.in-Product.inner c.in-Product.more) ∙ ap (measured c.args.text.now) (sym c.in-Product.is))
+
+pub measure_tree-returns-in-Sum : goal.measure_tree-returns-in-Sum
+measure_tree-returns-in-Sum t c =
+    one (λ i. fold (measured_term c.args.text.now) i c.in-Sum.terms) (measured c.args.text.now c.in-Sum.inner) (measured c.args.text.now c.args.tree.now) c.measure_tree-first-in-Sum.result c.measure_terms.result (subst (λ y. IfOk c.measure_tree-first-in-Sum.result (λ j. j ≡ measured c.args.text.now y)) c.get-in-Sum.ensures c.measure_tree-first-in-Sum.ensures)
+    (subst (λ ys. IfOk c.measure_terms.result (λ j. Gave c.measure_tree-first-in-Sum.result (λ i. j ≡ fold (measured_term c.args.text.now) i ys))) c.as_slice-in-Sum.ensures c.measure_terms.ensures) (sym (measured-Sum c.args.text.now c.in-Sum.inner c.in-Sum.terms) ∙ ap (measured c.args.text.now) (sym c.in-Sum.is))
+
+pub measure_tree-returns-in-And : goal.measure_tree-returns-in-And
+measure_tree-returns-in-And t c =
+    one (λ i. measured_chain c.args.text.now i c.in-And.more) (measured c.args.text.now c.in-And.inner) (measured c.args.text.now c.args.tree.now) c.measure_tree-first-in-And.result c.measure_chain-in-And.result (subst (λ y. IfOk c.measure_tree-first-in-And.result (λ j. j ≡ measured c.args.text.now y)) c.get-in-And.ensures c.measure_tree-first-in-And.ensures)
+    (subst (λ ys. IfOk c.measure_chain-in-And.result (λ j. Gave c.measure_tree-first-in-And.result (λ i. j ≡ measured_chain c.args.text.now i ys))) c.as_slice-in-And.ensures c.measure_chain-in-And.ensures) (sym (measured-And c.args.text.now c.in-And.inner c.in-And.more) ∙ ap (measured c.args.text.now) (sym c.in-And.is))
+
+pub measure_tree-returns-in-Or : goal.measure_tree-returns-in-Or
+measure_tree-returns-in-Or t c =
+    one (λ i. measured_chain c.args.text.now i c.in-Or.more) (measured c.args.text.now c.in-Or.inner) (measured c.args.text.now c.args.tree.now) c.measure_tree-first-in-Or.result c.measure_chain-in-Or.result (subst (λ y. IfOk c.measure_tree-first-in-Or.result (λ j. j ≡ measured c.args.text.now y)) c.get-in-Or.ensures c.measure_tree-first-in-Or.ensures)
+    (subst (λ ys. IfOk c.measure_chain-in-Or.result (λ j. Gave c.measure_tree-first-in-Or.result (λ i. j ≡ measured_chain c.args.text.now i ys))) c.as_slice-in-Or.ensures c.measure_chain-in-Or.ensures) (sym (measured-Or c.args.text.now c.in-Or.inner c.in-Or.more) ∙ ap (measured c.args.text.now) (sym c.in-Or.is))
+
+pub measure_tree-returns-in-Compare : goal.measure_tree-returns-in-Compare
+measure_tree-returns-in-Compare t c =
+    two (measured_compared c.in-Compare.operator) (measured c.args.text.now c.in-Compare.left) (measured c.args.text.now c.in-Compare.right) (measured c.args.text.now c.args.tree.now) c.measure_tree-in-Compare.result c.measure_tree-in-Compare-2.result c.compare.result
+    (subst (λ y. IfOk c.measure_tree-in-Compare.result (λ j. j ≡ measured c.args.text.now y)) c.get-in-Compare.ensures c.measure_tree-in-Compare.ensures) (subst (λ y. IfOk c.measure_tree-in-Compare-2.result (λ j. j ≡ measured c.args.text.now y)) c.get-in-Compare-2.ensures c.measure_tree-in-Compare-2.ensures) c.compare.ensures (sym (measured-Compare c.args.text.now c.in-Compare.left c.in-Compare.operator c.in-Compare.right) ∙ ap (measured c.args.text.now) (sym c.in-Compare.is))
+
+pub measure_tree-returns-in-IsIn : goal.measure_tree-returns-in-IsIn
+measure_tree-returns-in-IsIn t c =
+    two (λ i k. paired (above i) (paired i k)) (measured c.args.text.now c.in-IsIn.inner) (measured c.args.text.now c.in-IsIn.outer) (measured c.args.text.now c.args.tree.now) c.measure_tree-in-IsIn.result c.measure_tree-in-IsIn-2.result c.is_in.result
+    (subst (λ y. IfOk c.measure_tree-in-IsIn.result (λ j. j ≡ measured c.args.text.now y)) c.get-in-IsIn.ensures c.measure_tree-in-IsIn.ensures) (subst (λ y. IfOk c.measure_tree-in-IsIn-2.result (λ j. j ≡ measured c.args.text.now y)) c.get-in-IsIn-2.ensures c.measure_tree-in-IsIn-2.ensures) c.is_in.ensures (sym (measured-IsIn c.args.text.now c.in-IsIn.inner c.in-IsIn.field-1 c.in-IsIn.outer) ∙ ap (measured c.args.text.now) (sym c.in-IsIn.is))
+
+pub measure_tree-returns-in-If : goal.measure_tree-returns-in-If
+measure_tree-returns-in-If t c =
+    three (λ i k l. above (beside i (beside k l))) (measured c.args.text.now c.in-If.test) (measured c.args.text.now c.in-If.consequent) (measured c.args.text.now c.in-If.alternative) (measured c.args.text.now c.args.tree.now) c.measure_tree-first-in-If.result c.measure_tree-second.result c.measure_tree-third.result c.if_then_else.result
+    (subst (λ y. IfOk c.measure_tree-first-in-If.result (λ j. j ≡ measured c.args.text.now y)) c.get-in-If.ensures c.measure_tree-first-in-If.ensures) (subst (λ y. IfOk c.measure_tree-second.result (λ j. j ≡ measured c.args.text.now y)) c.get-in-If-2.ensures c.measure_tree-second.ensures) (subst (λ y. IfOk c.measure_tree-third.result (λ j. j ≡ measured c.args.text.now y)) c.get-in-If-3.ensures c.measure_tree-third.ensures) c.if_then_else.ensures (sym (measured-If c.args.text.now c.in-If.test c.in-If.consequent c.in-If.alternative) ∙ ap (measured c.args.text.now) (sym c.in-If.is))
+
+pub measure_behind_minus-returns-in-Number : goal.measure_behind_minus-returns-in-Number
+measure_behind_minus-returns-in-Number t c =
+    c.measure_negated_number.ensures
+    ∙ sym (measured_negated-Number c.args.text.now c.in-Number.token)
+    ∙ ap (measured_negated c.args.text.now) (sym c.in-Number.is)
+
+pub measure_behind_minus-returns-in_default : goal.measure_behind_minus-returns-in_default
+measure_behind_minus-returns-in_default t c = one above (measured c.args.text.now c.args.tree.now) (measured_negated c.args.text.now c.args.tree.now) c.measure_tree.result c.above.result c.measure_tree.ensures c.above.ensures (sym (measured_negated-other c.args.text.now c.args.tree.now c.in_default.not-Number))

@@ -1,0 +1,4 @@
+pub mod Entities
+pub mod Keeping
+pub mod Listing
+pub mod UidSets

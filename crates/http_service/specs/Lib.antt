@@ -1,0 +1,5 @@
+pub mod inner
+pub mod Asked
+pub mod Answered
+pub mod Streams
+pub mod passed_on

@@ -1,0 +1,36 @@
+-- What a stream of requests leaves of a site: what a run of inputs leaves, those that its requests ask for.
+use Rattle.std.specs.Prelude.{◌≡◌, ℕ, suc, zero, List, [], ◌∷◌, ◌++◌}
+use Rattle.httparse.specs.Grammar.{RequestHead}
+use Rattle.http_framing.specs.Request.{ReadsWhole}
+use Rattle.service_replies.specs.passed_on.stamped_store.{store_of, updates}
+use Rattle.service_replies.specs.passed_on.site.{Seen, schema_of, store_in, IsSameSite}
+use Rattle.site_runs.specs.Runs.{Run, took}
+use Rattle.site_runs.specs.declared.input.Input.{Input}
+use Rattle.site_runs.specs.declared.reply.Reply.{Reply}
+use Rattle.service_routes.specs.Routes.{route_stated}
+use Rattle.http_service.specs.Asked.{Asked, asked, hands, refused, unserved}
+
+-- the inputs that a request hands to the site: one, or none
+abbrev pub inputs_of : Asked → List Input
+inputs_of (hands i) = i ∷ []
+inputs_of (refused f) = []
+inputs_of (unserved s) = []
+
+-- bytes are n requests and then rest, which ask for these inputs in their order
+abbrev pub AskFor : ℕ → List ℕ → List ℕ → List Input → Type 0
+AskFor zero bytes rest is = (bytes ≡ rest) × (is ≡ [])
+AskFor (suc n) bytes rest is =
+    (head : RequestHead) × (body : List ℕ) × (after : List ℕ) × (more : List Input) × ReadsWhole bytes head body after
+    × (is ≡ inputs_of (asked (route_stated head.method head.target) body) ++ more) × AskFor n after rest more
+
+-- the first requests of bytes ask for inputs, and the site goes on by a run of these: its store is that of the updates
+-- that it had and of those that it took
+pub record LeavesRun (old : Seen) (bytes : List ℕ) (new : Seen) : Type 0 where
+  pub count : ℕ
+  pub rest : List ℕ
+  pub inputs : List Input
+  pub replies : List Reply
+  pub asks : AskFor count bytes rest inputs
+  pub run : Run (schema_of old) old.number (store_in old) inputs replies (store_in new)
+  pub store : store_in new ≡ store_of (updates (store_in old) ++ took (schema_of old) inputs replies)
+  pub same : IsSameSite old new

@@ -1,0 +1,233 @@
+//! The deeds that requests ask for, each with its reply.
+ghost use Rattle.std.specs.Prelude.{◌≡◌, ◌≤◌, ◌+◌, IfOk, MatchOption, vec_len, true, false, option_and_then};
+ghost use Rattle.std.specs.Str.{is_utf8};
+ghost use Rattle.std.specs.Vec.{vec_capacity};
+ghost use Rattle.json_words.specs.Json.{json_of};
+ghost use Rattle.uid_json.specs.Uids.{uid_in};
+ghost use Rattle.http_streams.specs.declared.TheConstants.{REPLY_ROOM};
+ghost use Rattle.service_routes.specs.Routes.{route_stated};
+ghost use Rattle.site_runs.specs.declared.input.Input.TheVariants as input;
+ghost use Rattle.http_service.specs.Asked.{asked, hands, upon, put_asked, removal_asked, not_text};
+ghost use Rattle.http_service.specs.inner.Dealing.{Deals};
+
+use http_texts::status::Status;
+use json_words::read_json;
+use plain::NoMemory;
+use policy_grammar::ReadFault;
+use service_replies::{
+    Site, SiteFault, tell_answer, tell_fault, tell_found, tell_message, tell_put, tell_stamp,
+    tell_status, tell_taken,
+};
+use service_routes::{PolicyId, Route, route_of};
+use site_runs::{
+    EntityFault, authorize_bytes, delta_bytes, put_entity_bytes, state_bytes, summary_bytes,
+    take_bytes,
+};
+use std::alloc::Global;
+use uid_json::read_uid;
+use values::EntityUid;
+
+// ---- questions
+
+/// Answers the request that a body states.
+fn authorize(alloc: Global, site: &Site, body: &[u8], text: &mut Vec<u8>) -> Status
+    requires room { vec_len text.old + REPLY_ROOM ≤ vec_capacity text.old }
+    ensures reply { Deals site.now (hands (input.Authorize body.now)) result text.old.items text.new.items site.now }
+    ensures kept { vec_capacity text.old ≤ vec_capacity text.new }
+{
+    let outcome = authorize_bytes(alloc, site, body);
+    tell_answer(alloc, text, &outcome)
+}
+
+/// Answers with the text and the stamp of a policy.
+fn get_policy(alloc: Global, site: &Site, id: &str, text: &mut Vec<u8>) -> Status
+    requires room { vec_len text.old + REPLY_ROOM ≤ vec_capacity text.old }
+    ensures reply { Deals site.now (hands (input.GetPolicy id.now)) result text.old.items text.new.items site.now }
+    ensures kept { vec_capacity text.old ≤ vec_capacity text.new }
+{
+    let found = site.get_policy(id);
+    tell_found(alloc, text, found)
+}
+
+/// Answers with the state.
+fn state(site: &Site, text: &mut Vec<u8>) -> Status
+    requires room { vec_len text.old + REPLY_ROOM ≤ vec_capacity text.old }
+    ensures reply { Deals site.now (hands input.State) result text.old.items text.new.items site.now }
+    ensures kept { vec_capacity text.old ≤ vec_capacity text.new }
+{
+    let outcome = state_bytes(site);
+    tell_message(text, &outcome)
+}
+
+/// Answers with the summary.
+fn summary(site: &Site, text: &mut Vec<u8>) -> Status
+    requires room { vec_len text.old + REPLY_ROOM ≤ vec_capacity text.old }
+    ensures reply { Deals site.now (hands input.Summary) result text.old.items text.new.items site.now }
+    ensures kept { vec_capacity text.old ≤ vec_capacity text.new }
+{
+    let outcome = summary_bytes(site);
+    tell_message(text, &outcome)
+}
+
+/// Answers with what is news to whoever has the summary that a body is.
+fn delta(alloc: Global, site: &Site, body: &[u8], text: &mut Vec<u8>) -> Status
+    requires room { vec_len text.old + REPLY_ROOM ≤ vec_capacity text.old }
+    ensures reply { Deals site.now (hands (input.Delta body.now)) result text.old.items text.new.items site.now }
+    ensures kept { vec_capacity text.old ≤ vec_capacity text.new }
+{
+    let outcome = delta_bytes(alloc, site, body);
+    tell_message(text, &outcome)
+}
+
+// ---- changes
+
+/// A body as text, where it is UTF-8.
+fn text_of(body: &[u8]) -> Option<&str>
+    ensures { MatchOption result (is_utf8 body.now ≡ false) (λ t. (is_utf8 body.now ≡ true) × (t.now ≡ body.now)) }
+{
+    match str::from_utf8(body) {
+        Ok(text) => Some(text),
+        Err(_) => None,
+    }
+}
+
+/// The first fault where a policy's text is not UTF-8.
+fn not_text(id: &str, body: &[u8]) -> ReadFault
+    ensures { result ≡ not_text id.now body.now }
+{
+    if id.is_empty() || 256 < id.len() {
+        return ReadFault::BadId;
+    }
+    if body.len() <= 262_144 {
+        ReadFault::BadToken(0)
+    } else {
+        ReadFault::TooLong
+    }
+}
+
+/// Puts the policy whose text a body is.
+fn put_policy(site: &mut Site, id: &str, body: &[u8], text: &mut Vec<u8>) -> Status
+    requires room { vec_len text.old + REPLY_ROOM ≤ vec_capacity text.old }
+    ensures reply { Deals site.old (put_asked body.now id.now) result text.old.items text.new.items site.new }
+    ensures kept { vec_capacity text.old ≤ vec_capacity text.new }
+{
+    match text_of(body) {
+        Some(policy) => {
+            let outcome = site.put_policy(id, policy);
+            tell_put(text, outcome)
+        }
+        None => tell_fault(text, SiteFault::Policy(not_text(id, body))),
+    }
+}
+
+/// Takes a policy away.
+fn delete_policy(site: &mut Site, id: &str, text: &mut Vec<u8>) -> Status
+    requires room { vec_len text.old + REPLY_ROOM ≤ vec_capacity text.old }
+    ensures reply { Deals site.old (hands (input.DeletePolicy id.now)) result text.old.items text.new.items site.new }
+    ensures kept { vec_capacity text.old ≤ vec_capacity text.new }
+{
+    let outcome = site.delete_policy(id);
+    tell_stamp(text, outcome)
+}
+
+/// Puts the entity that a body states.
+fn put_entity(alloc: Global, site: &mut Site, body: &[u8], text: &mut Vec<u8>) -> Status
+    requires room { vec_len text.old + REPLY_ROOM ≤ vec_capacity text.old }
+    ensures reply { Deals site.old (hands (input.PutEntity body.now)) result text.old.items text.new.items site.new }
+    ensures kept { vec_capacity text.old ≤ vec_capacity text.new }
+{
+    let outcome = put_entity_bytes(alloc, site, body);
+    tell_stamp(text, outcome)
+}
+
+/// The entity that a body names, or None.
+fn named_entity(alloc: Global, body: &[u8]) -> Result<Option<EntityUid>, NoMemory>
+    ensures { IfOk result (λ uid. uid ≡ option_and_then uid_in (json_of body.now)) }
+{
+    match read_json(alloc, body)? {
+        Some(json) => read_uid(alloc, &json),
+        None => Ok(None),
+    }
+}
+
+/// Takes the entity away that a body names.
+fn delete_entity(alloc: Global, site: &mut Site, body: &[u8], text: &mut Vec<u8>) -> Status
+    requires room { vec_len text.old + REPLY_ROOM ≤ vec_capacity text.old }
+    ensures reply { Deals site.old (removal_asked (option_and_then uid_in (json_of body.now))) result text.old.items
+        text.new.items site.new }
+    ensures kept { vec_capacity text.old ≤ vec_capacity text.new }
+{
+    match named_entity(alloc, body) {
+        Ok(Some(uid)) => {
+            let outcome = site.delete_entity(&uid);
+            tell_stamp(text, outcome)
+        }
+        Ok(None) => tell_fault(text, SiteFault::Entity(EntityFault::BadShape)),
+        Err(_) => tell_fault(text, SiteFault::NoMemory),
+    }
+}
+
+/// Takes the updates of the message that a body is.
+fn merge(alloc: Global, site: &mut Site, body: &[u8], text: &mut Vec<u8>) -> Status
+    requires room { vec_len text.old + REPLY_ROOM ≤ vec_capacity text.old }
+    ensures reply { Deals site.old (hands (input.Take body.now)) result text.old.items text.new.items site.new }
+    ensures kept { vec_capacity text.old ≤ vec_capacity text.new }
+{
+    let outcome = take_bytes(alloc, site, body);
+    tell_taken(text, outcome)
+}
+
+// ---- routes
+
+/// Answers what a route asks with this body.
+fn answer_route(
+    alloc: Global,
+    site: &mut Site,
+    route: &Route,
+    body: &[u8],
+    text: &mut Vec<u8>,
+) -> Status
+    requires room { vec_len text.old + REPLY_ROOM ≤ vec_capacity text.old }
+    ensures reply { Deals site.old (asked route.now body.now) result text.old.items text.new.items site.new }
+    ensures kept { vec_capacity text.old ≤ vec_capacity text.new }
+{
+    match route {
+        Route::Authorize => authorize(alloc, site, body, text),
+        Route::PutPolicy(PolicyId::Named(id)) => put_policy(site, id.as_str(), body, text),
+        Route::GetPolicy(PolicyId::Named(id)) => get_policy(alloc, site, id.as_str(), text),
+        Route::DeletePolicy(PolicyId::Named(id)) => delete_policy(site, id.as_str(), text),
+        Route::PutPolicy(PolicyId::NotUtf8)
+        | Route::GetPolicy(PolicyId::NotUtf8)
+        | Route::DeletePolicy(PolicyId::NotUtf8) => {
+            tell_fault(text, SiteFault::Policy(ReadFault::BadId))
+        }
+        Route::PutEntity => put_entity(alloc, site, body, text),
+        Route::DeleteEntity => delete_entity(alloc, site, body, text),
+        Route::State => state(site, text),
+        Route::Summary => summary(site, text),
+        Route::Delta => delta(alloc, site, body, text),
+        Route::Merge => merge(alloc, site, body, text),
+        Route::Unknown => tell_status(text, Status::NotFound),
+        Route::OtherMethod => tell_status(text, Status::MethodNotAllowed),
+    }
+}
+
+/// Answers a request: one step of the site at most, and the reply to it behind the text that is there.
+pub(crate) fn answer(
+    alloc: Global,
+    site: &mut Site,
+    method: &[u8],
+    target: &[u8],
+    body: &[u8],
+    text: &mut Vec<u8>,
+) -> Status
+    requires room { vec_len text.old + REPLY_ROOM ≤ vec_capacity text.old }
+    ensures reply { Deals site.old (asked (route_stated method.now target.now) body.now) result text.old.items
+        text.new.items site.new }
+    ensures kept { vec_capacity text.old ≤ vec_capacity text.new }
+{
+    match route_of(alloc, method, target) {
+        Ok(route) => answer_route(alloc, site, &route, body, text),
+        Err(_) => tell_fault(text, SiteFault::NoMemory),
+    }
+}

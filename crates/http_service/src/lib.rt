@@ -1,0 +1,15 @@
+//! The service over a site: routes of HTTP requests to its deeds, and streams of requests that are answered by it.
+//!
+//! Nothing here opens a socket. What a request asks, and what is told of it, are functions of specs/; between the two
+//! stands one step of the site.
+#![tactic(auto)]
+
+mod deeds;
+mod laws;
+mod routed;
+mod serving;
+
+pub use laws::streams_leave_runs;
+pub use routed::Routed;
+pub use serving::serve;
+pub use site_runs::{Site, SiteFault, Taken, take_bytes};

@@ -1,0 +1,4 @@
+pub mod StoreLemmas
+pub mod MessageLemmas
+pub mod MergeLemmas
+pub mod OutcomeLemmas

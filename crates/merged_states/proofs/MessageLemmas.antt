@@ -1,0 +1,112 @@
+-- Messages of a schema: what they are told as, and what the store that they are joined into has.
+use Rattle.std.specs.Prelude.{◌≡◌, ℕ, List, [], ◌++◌, Ok}
+use Rattle.std.proofs.Common.{refl, sym, ap, ◌∙◌, subst}
+use Rattle.policy_grammar.specs.declared.policy.Policy.{Policy}
+use Rattle.entity_worlds.specs.declared.entity.Entity.{Entity}
+use Rattle.schema.specs.Kept.{Kept}
+use Rattle.schema.specs.Schemas.{StatedSchema}
+use Rattle.schema.specs.Views.{schema_view}
+use Rattle.stamped_store.specs.Store.{Store, Update, updates, store_of}
+use Rattle.sync_messages.specs.declared.fault.MessageFault.{MessageFault}
+use Rattle.sync_messages.specs.declared.fault.MessageFault.TheVariants as fault
+use Rattle.sync_messages.specs.Summaries.{IsStamped}
+use Rattle.state_messages.specs.Messages.{state_text, updates_stated}
+use Rattle.state_messages.specs.Bodies.{OrNoMemory}
+use Rattle.state_messages.specs.declared.update.Update.{Update as SentUpdate}
+use Rattle.state_messages.specs.Updates.{IsMessage, IsRefused, IsValid, AreInRange, AreValid, stamped, shown_updates}
+use Rattle.stored_texts.specs.declared.texts.SchemaTexts.{SchemaTexts}
+use Rattle.stored_texts.specs.Texts.{ReadsPolicy, RefusesPolicy, ReadsEntity, RefusesEntity}
+use Rattle.decision_texts.specs.Refusals.{no_memory}
+use Rattle.merged_states.specs.Messages.{IsMessageOf, message_refusal, IsMessageRefused, Joins, IsSendable, IsReadBack}
+use Rattle.merged_states.specs.inner.Merging.{IsMergedUnder}
+use Rattle.merged_states.proofs.StoreLemmas.{none_of_empty, store_all, append_all}
+
+-- the texts of a schema, as what says what texts are read as
+abbrev pub texts_of : Kept → SchemaTexts
+texts_of schema = record { schema = record { ref_ptr = (0, 0); now = schema } }
+
+abbrev Due : StatedSchema → List ℕ → MessageFault → Type 0
+Due s bytes f = IsRefused (λ id. ReadsPolicy s) (ReadsEntity s) (λ id. RefusesPolicy s) (RefusesEntity s) s.label bytes f
+
+-- ---- a message read under a schema that is the one at hand
+
+pub message_of : (a b : Kept) (label bytes : List ℕ) (us : List (SentUpdate Policy Entity)) → a ≡ b → label ≡ (schema_view b).label
+    → IsMessage (λ id. ReadsPolicy (schema_view a)) (ReadsEntity (schema_view a)) label bytes us
+    → IsMessageOf (schema_view b) bytes us
+message_of a b label bytes us same named h =
+    subst (λ (l : List ℕ). IsMessage (λ id. ReadsPolicy (schema_view b)) (ReadsEntity (schema_view b)) l bytes us) named
+    (subst (λ (k : Kept). IsMessage (λ id. ReadsPolicy (schema_view k)) (ReadsEntity (schema_view k)) label bytes us) same h)
+
+refused_of : (a b : Kept) (label bytes : List ℕ) (f : MessageFault) → a ≡ b → label ≡ (schema_view b).label
+    → IsRefused (λ id. ReadsPolicy (schema_view a)) (ReadsEntity (schema_view a)) (λ id. RefusesPolicy (schema_view a))
+    (RefusesEntity (schema_view a)) label bytes f
+    → Due (schema_view b) bytes f
+refused_of a b label bytes f same named h =
+    subst (λ (l : List ℕ). IsRefused (λ id. ReadsPolicy (schema_view b)) (ReadsEntity (schema_view b))
+    (λ id. RefusesPolicy (schema_view b)) (RefusesEntity (schema_view b)) l bytes f) named
+    (subst (λ (k : Kept). IsRefused (λ id. ReadsPolicy (schema_view k)) (ReadsEntity (schema_view k))
+    (λ id. RefusesPolicy (schema_view k)) (RefusesEntity (schema_view k)) label bytes f) same h)
+
+-- a fault that is due is told, if it is not told as want of memory
+pub told : (a b : Kept) (label bytes : List ℕ) (f : MessageFault) → a ≡ b → label ≡ (schema_view b).label
+    → OrNoMemory fault.NoMemory (IsRefused (λ id. ReadsPolicy (schema_view a)) (ReadsEntity (schema_view a))
+    (λ id. RefusesPolicy (schema_view a)) (RefusesEntity (schema_view a)) label bytes) f
+    → (message_refusal f ≡ no_memory → ⊥) → IsMessageRefused (schema_view b) bytes (message_refusal f)
+told a b label bytes f same named due other =
+    record { fault = f; due = refused_of a b label bytes f same named (due (λ e. other (ap message_refusal e))); is = refl }
+
+-- ---- what is in a store
+
+pub none_sendable : (s : StatedSchema) → IsSendable s (store_of [])
+none_sendable s = record {
+  in_range = subst (λ (us : List Update). AreInRange us) (sym none_of_empty) tt;
+  valid = subst (λ (us : List Update). AreValid (λ id. ReadsPolicy s) (ReadsEntity s) us) (sym none_of_empty) tt;
+}
+
+pub joined_sendable : (s : StatedSchema) (m t : Store) (bytes : List ℕ) (k : ℕ) → IsSendable s m → (j : Joins s m bytes t k)
+    → AreValid (λ id. ReadsPolicy s) (ReadsEntity s) (shown_updates j.came) → IsSendable s t
+joined_sendable s m t bytes k h j valid = record {
+  in_range =
+      subst (λ (x : Store). AreInRange (updates x)) (sym j.store_is)
+      (store_all (λ u. IsStamped (stamped u)) (updates m ++ shown_updates j.came)
+      (append_all (λ u. IsStamped (stamped u)) (updates m) (shown_updates j.came) h.in_range j.message.in_range));
+  valid =
+      subst (λ (x : Store). AreValid (λ id. ReadsPolicy s) (ReadsEntity s) (updates x)) (sym j.store_is)
+      (store_all (IsValid (λ id. ReadsPolicy s) (ReadsEntity s)) (updates m ++ shown_updates j.came)
+      (append_all (IsValid (λ id. ReadsPolicy s) (ReadsEntity s)) (updates m) (shown_updates j.came) h.valid valid));
+}
+
+-- what is written of a store whose updates are sendable is read back
+pub read_back : (k : Kept) (label bytes : List ℕ) (m : Store) → label ≡ (schema_view k).label
+    → ((l b : List ℕ) (us : List Update) → updates_stated l b ≡ Ok us → AreInRange us
+    → AreValid (λ id. ReadsPolicy (schema_view k)) (ReadsEntity (schema_view k)) us
+    → (all : List (SentUpdate Policy Entity)) × IsMessage (λ id. ReadsPolicy (schema_view k)) (ReadsEntity (schema_view k)) l b all
+    × (shown_updates all ≡ us))
+    → (AreInRange (updates m) → updates_stated label bytes ≡ Ok (updates m)) → IsSendable (schema_view k) m
+    → IsReadBack (schema_view k) m bytes
+read_back k label bytes m named law back h =
+    let read = law label bytes (updates m) (back h.in_range) h.in_range h.valid in
+    record { read = read.0; message = message_of k k label bytes read.0 refl named read.1; same = read.2 }
+
+-- ---- two messages, one after the other
+pub merged_under : ((us vs : List Update) → store_of (updates (store_of us) ++ vs) ≡ store_of (us ++ vs)) → (s : StatedSchema)
+    (e x t : Store) (f g text : List ℕ) (i j : ℕ) → e ≡ store_of [] → Joins s e f x i → (IsSendable s e → IsSendable s x)
+    → Joins s x g t j → (IsSendable s x → IsSendable s t) → text ≡ state_text s.label t
+    → (IsSendable s t → IsReadBack s t text) → IsMergedUnder s f g text
+merged_under grouped s e x t f g text i j none first first_sends second second_sends is back =
+    let us = shown_updates first.came in
+    let vs = shown_updates second.came in
+    let held : x ≡ store_of us = first.store_is ∙ ap (λ l. store_of (l ++ us)) (ap updates none ∙ none_of_empty) in
+    record {
+      store = t;
+      both = record {
+        first = first.came;
+        second = second.came;
+        first_read = first.message;
+        second_read = second.message;
+        store_is = second.store_is ∙ ap (λ m. store_of (updates m ++ vs)) held ∙ grouped us vs;
+      };
+      text_is = is;
+      reads_back =
+          back (second_sends (first_sends (subst (λ (m : Store). IsSendable s m) (sym none) (none_sendable s))));
+    }

@@ -1,0 +1,17 @@
+use Rattle.schema.specs.Views.{schema_view}
+use Rattle.stamped_store.specs.Store.{shown_store}
+use Rattle.merged_states.proofs.MessageLemmas.{texts_of, joined_sendable}
+use Rattle.merged_states.proofs.joining.join_message.Goals as goal
+
+pub returns-clause-sendable : goal.returns-clause-sendable
+returns-clause-sendable c h =
+    let k = c.args.schema.now in
+    let us = c.in_ok-updates.updates.items in
+    joined_sendable (schema_view k) (shown_store c.args.store) (shown_store c.take_all.new.store) c.args.bytes.now c.in_ok-taken.taken h
+    (record {
+      came = us;
+      message = c.in_ok-updates.ensures.read;
+      store_is = c.in_ok-taken.ensures.store;
+      count_is = c.in_ok-taken.ensures.count;
+    })
+    (c.valid_messages_are_read.ensures.valid (texts_of k) (schema_view k).label c.args.bytes.now us c.in_ok-updates.ensures.read)

@@ -1,0 +1,18 @@
+use Rattle.std.proofs.Common.{◌≡◌, sym, subst}
+use Rattle.schema.specs.Views.{schema_view}
+use Rattle.decision_texts.specs.declared.refusal.Refusal.{Refusal}
+use Rattle.decision_texts.specs.Refusals.{no_memory}
+use Rattle.merged_states.specs.Messages.{IsMessageRefused}
+use Rattle.merged_states.proofs.MessageLemmas.{message_of, told}
+use Rattle.merged_states.proofs.joining.updates_of.Goals as goal
+
+pub returns-in-Ok-clause-read : goal.returns-in-Ok-clause-read
+returns-in-Ok-clause-read c =
+    message_of c.under-texts.result.schema.now c.args.schema.now c.label.result.now c.args.bytes.now c.in-Ok.updates.items
+    c.under-texts.ensures c.label.ensures c.in-Ok.ensures.read
+
+pub returns-in-Err-clause-refused : goal.returns-in-Err-clause-refused
+returns-in-Err-clause-refused c =
+    subst (λ (r : Refusal). (r ≡ no_memory → ⊥) → IsMessageRefused (schema_view c.args.schema.now) c.args.bytes.now r) (sym c.message_refusal.ensures)
+    (told c.under-texts.result.schema.now c.args.schema.now c.label.result.now c.args.bytes.now c.in-Err.fault
+    c.under-texts.ensures c.label.ensures c.in-Err.ensures.refused)

@@ -1,0 +1,53 @@
+-- Messages of a schema and the stores that they are joined into.
+-- Rules of this product: a message is a state or a delta; it is refused whole, with its first fault, or all of its
+-- updates are taken in their order, those that lose included; a refusal is told by a number, a place and the number of
+-- a refusal inside.
+use Rattle.std.specs.Prelude.{◌≡◌, ℕ, List, ◌++◌, length}
+use Rattle.policy_grammar.specs.declared.policy.Policy.{Policy}
+use Rattle.schema.specs.Schemas.{StatedSchema}
+use Rattle.entity_worlds.specs.declared.entity.Entity.{Entity}
+use Rattle.stamped_store.specs.Store.{Store, updates, store_of}
+use Rattle.sync_messages.specs.declared.fault.MessageFault.{MessageFault}
+use Rattle.sync_messages.specs.Faults.{code_of, place_of, within_of}
+use Rattle.state_messages.specs.declared.update.Update.{Update as SentUpdate}
+use Rattle.state_messages.specs.Messages.{state_text}
+use Rattle.state_messages.specs.Updates.{IsMessage, IsRefused, AreInRange, AreValid, shown_updates}
+use Rattle.stored_texts.specs.Texts.{ReadsPolicy, RefusesPolicy, ReadsEntity, RefusesEntity}
+use Rattle.decision_texts.specs.declared.refusal.Refusal.{Refusal}
+
+-- ---- messages
+
+-- the bytes are a state or a delta of this schema, with these updates in this order, each of them valid
+abbrev pub IsMessageOf : StatedSchema → List ℕ → List (SentUpdate Policy Entity) → Type 0
+IsMessageOf s bytes us = IsMessage (λ id. ReadsPolicy s) (ReadsEntity s) s.label bytes us
+
+-- the fault of a message as it is told
+abbrev pub message_refusal : MessageFault → Refusal
+message_refusal f = record { code = code_of f; place = place_of f; within = within_of f }
+
+-- the bytes are no message of this schema, for this first fault
+pub record IsMessageRefused (s : StatedSchema) (bytes : List ℕ) (refusal : Refusal) : Type 0 where
+  pub fault : MessageFault
+  pub due : IsRefused (λ id. ReadsPolicy s) (ReadsEntity s) (λ id. RefusesPolicy s) (RefusesEntity s) s.label bytes
+      fault
+  pub is : refusal ≡ message_refusal fault
+
+-- ---- stores
+
+-- a message is joined into the store m: t is the store of the updates of both, and so many came
+pub record Joins (s : StatedSchema) (m : Store) (bytes : List ℕ) (t : Store) (count : ℕ) : Type 0 where
+  pub came : List (SentUpdate Policy Entity)
+  pub message : IsMessageOf s bytes came
+  pub store_is : t ≡ store_of (updates m ++ shown_updates came)
+  pub count_is : count ≡ length came
+
+-- each update of the store might stand in a message of the schema
+pub record IsSendable (s : StatedSchema) (m : Store) : Type 0 where
+  pub in_range : AreInRange (updates m)
+  pub valid : AreValid (λ id. ReadsPolicy s) (ReadsEntity s) (updates m)
+
+-- the bytes are a message again, of the updates of the store
+pub record IsReadBack (s : StatedSchema) (m : Store) (bytes : List ℕ) : Type 0 where
+  pub read : List (SentUpdate Policy Entity)
+  pub message : IsMessageOf s bytes read
+  pub same : shown_updates read ≡ updates m

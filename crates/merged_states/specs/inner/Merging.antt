@@ -1,0 +1,13 @@
+-- Two messages merged under a schema that is read already.
+use Rattle.std.specs.Prelude.{◌≡◌, ℕ, List}
+use Rattle.schema.specs.Schemas.{StatedSchema}
+use Rattle.stamped_store.specs.Store.{Store}
+use Rattle.state_messages.specs.Messages.{state_text}
+use Rattle.merged_states.specs.Messages.{IsReadBack}
+use Rattle.merged_states.specs.Merges.{IsStoreOfBoth}
+
+pub record IsMergedUnder (s : StatedSchema) (f g text : List ℕ) : Type 0 where
+  pub store : Store
+  pub both : IsStoreOfBoth s f g store
+  pub text_is : text ≡ state_text s.label store
+  pub reads_back : IsReadBack s store text

@@ -1,0 +1,2 @@
+pub mod policy_checks
+pub mod stored_texts

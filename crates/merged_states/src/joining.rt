@@ -1,0 +1,136 @@
+//! A message's updates, joined into a store.
+ghost use Rattle.std.specs.Prelude.{◌≡◌, ◌++◌, ◌∷◌, [], length, IfOk, IfErr, OnOk};
+ghost use Rattle.schema.specs.Views.{schema_view};
+ghost use Rattle.stamped_store.specs.EntryOrder.{plain_entry};
+ghost use Rattle.stamped_store.specs.Store.{shown_store, store_of, updates};
+ghost use Rattle.decision_texts.specs.Refusals.{no_memory};
+ghost use Rattle.state_messages.specs.Messages.{state_text};
+ghost use Rattle.state_messages.specs.Updates.{shown_update, shown_updates};
+ghost use Rattle.merged_states.specs.Messages.{IsMessageOf, IsMessageRefused, IsSendable, IsReadBack, Joins};
+ghost use Rattle.merged_states.specs.Messages.{message_refusal};
+
+use decision_texts::Refusal;
+use entities::Entity;
+use plain::NoMemory;
+use policy_grammar::Policy;
+use schema::Schema;
+use stamped_store::PolicyStore;
+use stamped_store::laws::updates_have_one_store;
+use state_messages::{Update, read_message, valid_messages_are_read, write_state};
+use std::alloc::Global;
+use stored_texts::SchemaTexts;
+use sync_messages::MessageFault;
+
+/// A fault of a message (50 to 56, or 1), with its place and the number of the refusal inside.
+pub fn message_refusal(fault: MessageFault) -> Refusal
+    ensures { result ≡ message_refusal fault }
+{
+    Refusal {
+        code: fault.code(),
+        place: fault.place(),
+        within: fault.within(),
+    }
+}
+
+/// The updates of a message, or its first fault.
+fn updates_of(
+    alloc: Global,
+    schema: &Schema,
+    bytes: &[u8],
+) -> Result<Vec<Update<Policy, Entity>>, Refusal>
+    ensures read { IfOk result (λ us. IsMessageOf (schema_view schema.now) bytes.now us.items) }
+    ensures refused { IfErr result
+        (λ r. (r ≡ no_memory → ⊥) → IsMessageRefused (schema_view schema.now) bytes.now r) }
+{
+    let texts = SchemaTexts::under(schema);
+    match read_message(alloc, schema.label(), &texts, bytes) {
+        Ok(updates) => Ok(updates),
+        Err(fault) => Err(message_refusal(fault)),
+    }
+}
+
+/// Joins one update.
+fn take_one(
+    store: &mut PolicyStore<Policy, Entity>,
+    update: Update<Policy, Entity>,
+) -> Result<(), NoMemory>
+    ensures { OnOk result (shown_store store.new
+        ≡ store_of (updates (shown_store store.old) ++ shown_update update ∷ [])) }
+{
+    match update {
+        Update::Policy { id, entry } => match store.take_policy(id.into_string(), entry) {
+            Ok(()) => Ok(()),
+            Err(_) => Err(NoMemory),
+        },
+        Update::Entity { uid, entry } => match store.take_entity(uid, entry) {
+            Ok(()) => Ok(()),
+            Err(_) => Err(NoMemory),
+        },
+    }
+}
+
+/// Joins updates in their order, and counts them.
+fn take_all(
+    store: &mut PolicyStore<Policy, Entity>,
+    came: Vec<Update<Policy, Entity>>,
+) -> Result<usize, NoMemory>
+    ensures store { OnOk result (shown_store store.new
+        ≡ store_of (updates (shown_store store.old) ++ shown_updates came.items)) }
+    ensures count { IfOk result (λ n. n ≡ length came.items) }
+{
+    updates_have_one_store();
+    let mut taken = 0;
+    for update in came {
+        take_one(store, update)?;
+        taken += 1;
+    }
+    Ok(taken)
+}
+
+/// What a message was joined into, and how many updates came.
+#[derive(Drop)]
+pub struct Joined {
+    /// The store of the updates of both.
+    pub store: PolicyStore<Policy, Entity>,
+    /// How many updates the message has, also those that lost.
+    pub taken: usize,
+}
+
+/// Joins the updates of a state or a delta into a store, in their order: at each name the greater entry stands.
+///
+/// A message with any fault is refused whole (50 to 56, with its place and the number of the refusal inside). Where
+/// memory is refused (1), the store is dropped, so nothing is left half joined.
+pub fn join_message(
+    alloc: Global,
+    schema: &Schema,
+    store: PolicyStore<Policy, Entity>,
+    bytes: &[u8],
+) -> Result<Joined, Refusal>
+    ensures joined { IfOk result (λ j. Joins (schema_view schema.now) (shown_store store) bytes.now
+        (shown_store j.store) j.taken) }
+    ensures sendable { IfOk result (λ j. IsSendable (schema_view schema.now) (shown_store store)
+        → IsSendable (schema_view schema.now) (shown_store j.store)) }
+    ensures refused { IfErr result
+        (λ r. (r ≡ no_memory → ⊥) → IsMessageRefused (schema_view schema.now) bytes.now r) }
+{
+    valid_messages_are_read::<Policy, Entity, SchemaTexts<'static>>();
+    let mut store = store;
+    let updates = updates_of(alloc, schema, bytes)?;
+    let taken = take_all(&mut store, updates)?;
+    Ok(Joined { store, taken })
+}
+
+/// A store as a state of the schema. Where its updates are those of messages of the schema, it is read back as them.
+/// Fails for memory alone.
+pub fn state_of(
+    alloc: Global,
+    schema: &Schema,
+    store: &PolicyStore<Policy, Entity>,
+) -> Result<Vec<u8>, NoMemory>
+    ensures text { IfOk result (λ b. b.items ≡ state_text (schema_view schema.now).label (shown_store store.now)) }
+    ensures reads_back { IfOk result (λ b. IsSendable (schema_view schema.now) (shown_store store.now)
+        → IsReadBack (schema_view schema.now) (shown_store store.now) b.items) }
+{
+    valid_messages_are_read::<Policy, Entity, SchemaTexts<'static>>();
+    write_state(alloc, schema.label(), store)
+}

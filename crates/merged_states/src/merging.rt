@@ -1,0 +1,41 @@
+//! Two messages, merged.
+ghost use Rattle.std.specs.Prelude.{◌≡◌, IfOk, IfErr};
+ghost use Rattle.schema.specs.Views.{schema_view};
+ghost use Rattle.decision_texts.specs.Refusals.{no_memory};
+ghost use Rattle.merged_states.specs.Merges.{IsMerged, IsMergedBack, AreRefused, AreRefusedUnder};
+ghost use Rattle.merged_states.specs.inner.Merging.{IsMergedUnder};
+
+use crate::joining::{Joined, join_message, state_of};
+use decision_texts::Refusal;
+use policy_checks::schema_in;
+use schema::Schema;
+use stamped_store::PolicyStore;
+use stamped_store::laws::updates_have_one_store;
+use std::alloc::Global;
+
+/// The state of the store of the updates of two messages of a schema, or the refusal of the first that is none.
+fn merge_under(alloc: Global, schema: &Schema, f: &[u8], g: &[u8]) -> Result<Vec<u8>, Refusal>
+    ensures merged { IfOk result (λ b. IsMergedUnder (schema_view schema.now) f.now g.now b.items) }
+    ensures refused { IfErr result
+        (λ r. (r ≡ no_memory → ⊥) → AreRefusedUnder (schema_view schema.now) f.now g.now r) }
+{
+    updates_have_one_store();
+    let Joined { store, taken: _ } = join_message(alloc, schema, PolicyStore::new(alloc), f)?;
+    let both = join_message(alloc, schema, store, g)?;
+    Ok(state_of(alloc, schema, &both.store)?)
+}
+
+/// The state of the store of the updates of two messages, each a state or a delta, under the schema that bytes state.
+/// It is the same bytes whichever way round they are, and merged with either again; and it is read back as the updates
+/// of that store.
+///
+/// Refused in this order: the schema (20 to 25, without a place), the first message, the second (both 50 to 56, with
+/// its place and the number of the refusal inside). `NoMemory` (1) may come at any point; then there is no state.
+pub fn merge_texts(alloc: Global, schema: &[u8], f: &[u8], g: &[u8]) -> Result<Vec<u8>, Refusal>
+    ensures merged { IfOk result
+        (λ b. (m : IsMerged schema.now f.now g.now b.items) × IsMergedBack m) }
+    ensures refused { IfErr result (λ r. (r ≡ no_memory → ⊥) → AreRefused schema.now f.now g.now r) }
+{
+    let schema = schema_in(alloc, schema)?;
+    merge_under(alloc, &schema, f, g)
+}

@@ -1,0 +1,2 @@
+pub mod FetchLemmas
+pub mod ToldLemmas

@@ -1,0 +1,2 @@
+pub mod merged_states
+pub mod merged_states_Merges

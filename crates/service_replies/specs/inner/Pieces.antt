@@ -1,0 +1,9 @@
+-- Pieces of lines.
+use Rattle.std.specs.Prelude.{ℕ, List, Bool, Option, Some, None, codes, decimal, if◌then◌else◌}
+
+abbrev pub boolean_word : Bool → List ℕ
+boolean_word value = if value then codes "true" else codes "false"
+
+abbrev pub number_or_null : Option ℕ → List ℕ
+number_or_null None = codes "null"
+number_or_null (Some n) = decimal n

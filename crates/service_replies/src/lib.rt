@@ -1,0 +1,20 @@
+//! Replies of the service to what becomes of requests: their statuses and their bodies, one line of compact JSON each.
+//!
+//! Replies to changes, and refusals of any kind, take no memory: they are appended to a text that has room for them.
+#![tactic(auto)]
+
+mod laws;
+mod line;
+mod long;
+mod status;
+mod telling;
+
+pub use laws::errors_have_one_line;
+pub use site::{Site, SiteFault};
+pub use telling::{
+    tell_answer, tell_fault, tell_found, tell_message, tell_put, tell_stamp, tell_status,
+    tell_taken,
+};
+
+/// No reply to a change, and no refusal, has a longer body than so many bytes.
+pub const LINE_ROOM: usize = 128;

@@ -1,0 +1,2 @@
+pub mod stored_texts
+pub mod stored_world

@@ -1,0 +1,31 @@
+//! That the names and the stamps of what a site keeps are those that messages may have.
+ghost use Rattle.std.specs.Prelude.{◌≡◌, ◌≤◌, ◌<◌, ◌++◌, ◌∷◌, [], ℕ, IsSome};
+ghost use Rattle.values.specs.declared.name.Name.{Name};
+ghost use Rattle.stamped_store.specs.Contents.{text_under};
+ghost use Rattle.stamped_store.specs.Deltas.{Summary, delta, summary_of};
+ghost use Rattle.stamped_store.specs.Greatest.{greatest_count};
+ghost use Rattle.stamped_store.specs.Store.{Store, Update, updates, store_of, issue};
+ghost use Rattle.sync_messages.specs.Summaries.{AreStamped, IsName, IsStamped};
+ghost use Rattle.state_messages.specs.Updates.{AreInRange, stamped};
+
+use stamped_store::COUNT_MAX;
+use stamped_store::laws::{deltas_are_joined, stamps_are_issued, updates_have_one_store};
+
+/// That names and stamps stay in their ranges: those of the empty store, and of a store that an update is joined into
+/// whose own are in range; so are those of what is sent of such a store. Its greatest count is at most 10^18, a name
+/// that has a text is in range, and so is a stamp that is issued. Does nothing.
+pub(crate) fn ranges_stay()
+    ensures empty { AreInRange (updates (store_of [])) }
+    ensures joined { (s t : Store) (u : Update) → AreInRange (updates s) → IsStamped (stamped u)
+        → t ≡ store_of (updates s ++ u ∷ []) → AreInRange (updates t) }
+    ensures news { (s : Store) (m : Summary) → AreInRange (updates s) → AreInRange (updates (delta s m)) }
+    ensures summary { (s : Store) → AreInRange (updates s) → AreStamped (summary_of s) }
+    ensures counted { (s : Store) → AreInRange (updates s) → greatest_count s ≤ COUNT_MAX }
+    ensures named { (s : Store) (q : Name) → AreInRange (updates s) → IsSome (text_under s q) → IsName q }
+    ensures issued { (s : Store) (n : ℕ) (q : Name) → IsName q → greatest_count s < COUNT_MAX → 1 ≤ n → n ≤ 65535
+        → IsStamped (q, issue s n) }
+{
+    updates_have_one_store();
+    deltas_are_joined();
+    stamps_are_issued();
+}

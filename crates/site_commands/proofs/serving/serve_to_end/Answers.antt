@@ -1,0 +1,5 @@
+use Rattle.site_commands.proofs.EventLemmas.{runs_as}
+use Rattle.site_commands.proofs.serving.serve_to_end.Goals as goal
+
+pub returns : goal.returns
+returns g c = runs_as g.H.Host.does _ _ _ _ (λ events served. (served, c.status_of.ensures)) c.serve_all.ensures

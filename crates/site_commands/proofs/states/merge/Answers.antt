@@ -1,0 +1,17 @@
+use Rattle.std.proofs.Common.{inl}
+use Rattle.std.specs.Process.{exit_status}
+use Rattle.pulled_states.specs.passed_on.merged_states.{IsMerged, AreRefused}
+use Rattle.site_commands.proofs.EventLemmas.{runs_as}
+use Rattle.site_commands.proofs.RefusalLemmas.{line_refused}
+use Rattle.site_commands.proofs.states.merge.Goals as goal
+
+pub returns-in-Ok : goal.returns-in-Ok
+returns-in-Ok g c =
+    runs_as g.H.Host.does _ _ _ _ (λ events told. inl (c.in-Ok.line.items, c.in-Ok.ensures.merged.0, told)) (rw (c.deref.ensures.value) at c.tell_answer.ensures)
+
+pub returns-in-Err : goal.returns-in-Err
+returns-in-Err g c =
+    runs_as g.H.Host.does _ _ _ _ (
+    line_refused (AreRefused c.args.schema.now c.args.first.now c.args.second.now) (IsMerged c.args.schema.now c.args.first.now c.args.second.now) c.in-Err.refusal
+    (exit_status c.tell_refusal.result) c.in-Err.ensures.refused)
+    c.tell_refusal.ensures

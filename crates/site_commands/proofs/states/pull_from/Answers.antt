@@ -1,0 +1,17 @@
+use Rattle.std.proofs.Common.{option_map}
+use Rattle.std.specs.Process.{exit_status}
+use Rattle.site_commands.specs.Pulling.{IsPulledOver}
+use Rattle.site_commands.proofs.EventLemmas.{connects_on, connects_none}
+use Rattle.site_commands.proofs.states.pull_from.Goals as goal
+
+pub returns-in-Ok : goal.returns-in-Ok
+returns-in-Ok g c =
+    connects_on g.H.Host.does _ _ _ c.args.address.now
+    (IsPulledOver c.args.schema.now (option_map (λ s. s.now) c.args.state) c.args.address.now c.args.name.now) (exit_status c.pull.result)
+    c.in-Ok.ensures c.pull.ensures
+
+pub returns-in-Err : goal.returns-in-Err
+returns-in-Err g c =
+    connects_none g.H.Host.does _ _ _ c.args.address.now
+    (IsPulledOver c.args.schema.now (option_map (λ s. s.now) c.args.state) c.args.address.now c.args.name.now) (exit_status c.tell_failure.result)
+    c.in-Err.ensures c.tell_failure.ensures

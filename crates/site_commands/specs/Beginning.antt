@@ -1,0 +1,44 @@
+-- What a site begins with. A rule of this product: the schema is judged first; then a message, a state or a delta, is
+-- refused whole, or the site takes its updates.
+use Rattle.std.specs.Prelude.{◌≡◌, ◌⊎◌, ℕ, List, [], Option, None, Some}
+use Rattle.policy_grammar.specs.declared.policy.Policy.{Policy}
+use Rattle.schema.specs.Schemas.{StatedSchema, IsSchemaOf}
+use Rattle.entity_worlds.specs.declared.entity.Entity.{Entity}
+use Rattle.stamped_store.specs.Store.{Store, store_of}
+use Rattle.sync_messages.specs.declared.fault.MessageFault.{MessageFault}
+use Rattle.state_messages.specs.declared.update.Update.{Update as SentUpdate}
+use Rattle.state_messages.specs.Updates.{shown_updates}
+use Rattle.decision_texts.specs.declared.refusal.Refusal.{Refusal}
+use Rattle.schema_decisions.specs.passed_on.policy_checks.{IsSchemaRefused}
+use Rattle.http_service.specs.passed_on.site_runs.{code_of, place_of, within_of}
+use Rattle.http_service.specs.passed_on.site_runs.{Seen, schema_of, store_in}
+use Rattle.http_service.specs.passed_on.site_runs.{SiteFault}
+use Rattle.http_service.specs.passed_on.site_runs.{Message}
+use Rattle.http_service.specs.passed_on.site_runs.{IsMessageOf, IsNoMessageOf}
+
+-- the fault of a site as it is told
+abbrev pub site_refusal : SiteFault → Refusal
+site_refusal f = record { code = code_of f; place = place_of f; within = within_of f }
+
+-- nothing, or the updates of a message
+abbrev pub BeginsWith : StatedSchema → Option (List ℕ) → Store → Type 0
+BeginsWith s None m = m ≡ store_of []
+BeginsWith s (Some bytes) m = (us : List (SentUpdate Policy Entity)) × IsMessageOf s bytes us
+    × (m ≡ store_of (shown_updates us))
+
+-- the site of this number and this schema, with the updates of the state, if there is one
+pub record IsBegun (schema : List ℕ) (number : ℕ) (state : Option (List ℕ)) (site : Seen) : Type 0 where
+  pub schema_is : IsSchemaOf schema (schema_of site)
+  pub number_is : site.number ≡ number
+  pub begins : BeginsWith (schema_of site) state (store_in site)
+
+-- the state is no message of the schema, for this first fault
+abbrev pub IsStateRefused : StatedSchema → Option (List ℕ) → Refusal → Type 0
+IsStateRefused s None r = ⊥
+IsStateRefused s (Some bytes) r =
+    (f : MessageFault) × IsNoMessageOf s bytes (Message f) × (r ≡ site_refusal (Message f))
+
+-- the schema is refused, or the state under it
+abbrev pub IsNotBegun : List ℕ → Option (List ℕ) → Refusal → Type 0
+IsNotBegun schema state r = IsSchemaRefused schema r
+    ⊎ ((s : StatedSchema) × IsSchemaOf schema s × IsStateRefused s state r)

@@ -1,0 +1,76 @@
+//! A site that begins with a state, or empty.
+ghost use Rattle.std.specs.Prelude.{◌≡◌, ◌<◌, IfOk, IfErr, Some, option_map};
+ghost use Rattle.decision_texts.specs.Refusals.{no_memory};
+ghost use Rattle.schema.specs.Views.{schema_view};
+ghost use Rattle.http_service.specs.passed_on.site_runs.{schema_of};
+ghost use Rattle.site_commands.specs.Beginning.{IsBegun, IsNotBegun, IsStateRefused, site_refusal};
+ghost use Rattle.site_commands.specs.inner.Begun.{IsBegunUnder, TakesState};
+
+use decision_texts::Refusal;
+use http_service::{Site, SiteFault, Taken, take_bytes};
+use plain::NoMemory;
+use schema::Schema;
+use schema_decisions::schema_in;
+use std::alloc::Global;
+
+/// A fault of a site, as it is told.
+fn site_refusal(fault: SiteFault) -> Refusal
+    ensures { result ≡ site_refusal fault }
+{
+    Refusal {
+        code: fault.code(),
+        place: fault.place(),
+        within: fault.within(),
+    }
+}
+
+/// The site with the updates of a message.
+fn with_state(alloc: Global, mut site: Site, bytes: &[u8]) -> Result<Site, Refusal>
+    ensures taken { IfOk result (TakesState site bytes.now) }
+    ensures refused { IfErr result
+        (λ r. (r ≡ no_memory → ⊥) → IsStateRefused (schema_of site) (Some bytes.now) r) }
+{
+    match take_bytes(alloc, &mut site, bytes) {
+        Ok(Taken::All(_)) => Ok(site),
+        Ok(Taken::Short(_)) => Err(Refusal::from(NoMemory)),
+        Err(fault) => Err(site_refusal(fault)),
+    }
+}
+
+/// The site of this number under a schema, empty or with the updates of a message.
+fn begin_under(
+    alloc: Global,
+    schema: Schema,
+    number: u16,
+    state: Option<&[u8]>,
+) -> Result<Site, Refusal>
+    requires { 0 < number }
+    ensures begun { IfOk result
+        (IsBegunUnder (schema_view schema) number (option_map (λ s. s.now) state.entry)) }
+    ensures refused { IfErr result (λ r. (r ≡ no_memory → ⊥)
+        → IsStateRefused (schema_view schema) (option_map (λ s. s.now) state.entry) r) }
+{
+    let site = Site::new(alloc, schema, number);
+    match state {
+        Some(bytes) => with_state(alloc, site, bytes),
+        None => Ok(site),
+    }
+}
+
+/// The site of this number, empty or with the updates of a message, a state or a delta. The schema is judged first.
+pub(crate) fn begin(
+    alloc: Global,
+    schema: &[u8],
+    number: u16,
+    state: Option<&[u8]>,
+) -> Result<Site, Refusal>
+    requires { 0 < number }
+    ensures begun { IfOk result (IsBegun schema.now number (option_map (λ s. s.now) state.entry)) }
+    ensures refused { IfErr result (λ r. (r ≡ no_memory → ⊥)
+        → IsNotBegun schema.now (option_map (λ s. s.now) state.entry) r) }
+{
+    match schema_in(alloc, schema) {
+        Ok(schema) => begin_under(alloc, schema, number, state),
+        Err(refusal) => Err(refusal),
+    }
+}

@@ -1,0 +1,63 @@
+//! A run, from the words of the command line to the status.
+ghost use Rattle.std.specs.Prelude.{map, string_bytes};
+ghost use Rattle.std.specs.Process.{exit_status};
+ghost use Rattle.site_commands.specs.Events.{Runs};
+ghost use Rattle.site_commands.specs.Runs.{IsLineRun, IsRun};
+ghost use Rattle.site_commands.specs.inner.Served.{HasSite};
+
+use crate::commands::{run_check, run_decide};
+use crate::host::Host;
+use crate::report::tell_words;
+use crate::serving::run_serve;
+use crate::states::{run_merge, run_pull};
+use command_lines::{Line, line_of};
+use std::alloc::Global;
+use std::process::ExitCode;
+
+/// Carries out a command.
+fn run_line<H: Host>(alloc: Global, host: &mut H, line: Line<'_>) -> ExitCode
+    requires { HasSite line }
+    ensures { Runs H.does host.old host.new (λ events. IsLineRun line.entry events (exit_status result)) }
+{
+    match line {
+        Line::Check { schema, policies } => run_check(alloc, host, schema, policies),
+        Line::Decide {
+            schema,
+            policies,
+            entities,
+            request,
+        } => run_decide(alloc, host, schema, policies, entities, request),
+        Line::Serve {
+            schema,
+            site,
+            listen,
+            state,
+            connections,
+        } => run_serve(alloc, host, schema, site, state, listen, connections),
+        Line::Pull {
+            schema,
+            site,
+            from,
+            state,
+        } => run_pull(alloc, host, schema, site, from, state),
+        Line::Merge {
+            schema,
+            first,
+            second,
+        } => run_merge(alloc, host, schema, first, second),
+    }
+}
+
+/// Does what the words ask for, the first of which is the program's own name: checks policies, decides one request,
+/// serves a site, pulls from one, merges two states, writes help, or what is wrong with the words.
+///
+/// The status is 0 for an answer or help, 1 for a refusal, also of one policy among those that are checked, 2 for words
+/// that are no command, and 3 where a file can't be read or written, the network fails, or a stream does.
+pub fn run<H: Host>(alloc: Global, host: &mut H, words: &[String]) -> ExitCode
+    ensures { Runs H.does host.old host.new (λ events. IsRun (map string_bytes words.now) events (exit_status result)) }
+{
+    match line_of(alloc, words) {
+        Ok(line) => run_line(alloc, host, line),
+        Err(fault) => tell_words(host, &fault),
+    }
+}

@@ -1,0 +1,199 @@
+//! A site that is served, one connection after another.
+ghost use Rattle.std.specs.Prelude.{◌≡◌, ◌<◌, ◌++◌, true, option_map, codes};
+ghost use Rattle.std.specs.Process.{exit_status};
+ghost use Rattle.site_commands.specs.Events.{Runs};
+ghost use Rattle.site_commands.specs.Courses.{Announces, Listens};
+ghost use Rattle.site_commands.specs.Serving.{AreServed, AreAllServed, IsServed, IsServedFrom, IsServeRun, most_of};
+ghost use Rattle.site_commands.specs.inner.Served.{IsServeNamed, IsServeUnder, IsServedNext};
+
+use crate::begin::begin;
+use crate::device::{Link, NetworkFailed, Stream};
+use crate::host::Host;
+use crate::reading::read_file;
+use crate::report::{ANSWERED, status_of, tell_failure, tell_refusal};
+use counted_devices::devices::{Sink, Source};
+use http_service::{Site, serve};
+use std::alloc::Global;
+use std::process::ExitCode;
+
+/// Answers what comes over a connection. However it ends, the site has gone on by a run.
+fn serve_link<R: Source, W: Sink>(alloc: Global, site: &mut Site, link: &mut Link<R, W>)
+    ensures { IsServed site.old true site.new }
+{
+    let _ = serve(alloc, site, &mut link.reader, &mut link.writer);
+}
+
+/// Waits for a connection and answers what comes over it. A fault of a connection ends that one alone.
+fn serve_next<H: Host>(alloc: Global, host: &mut H, listener: &H::Listener, site: &mut Site)
+    ensures { IsServedNext H.does host.old host.new site.old site.new }
+{
+    match host.accept(listener) {
+        Ok(mut link) => serve_link(alloc, site, &mut link),
+        Err(NetworkFailed) => {}
+    }
+}
+
+/// Serves so many connections, one after another.
+fn serve_all<H: Host>(
+    alloc: Global,
+    host: &mut H,
+    listener: &H::Listener,
+    site: &mut Site,
+    most: u64,
+)
+    ensures { Runs H.does host.old host.new (λ events. AreServed most site.old events) }
+{
+    let mut served = 0;
+    while served < most {
+        serve_next(alloc, host, listener, site);
+        served += 1;
+    }
+}
+
+/// How many connections are served: all, where no number is given.
+fn most_of(connections: Option<u32>) -> u64
+    ensures { result ≡ most_of connections }
+{
+    match connections {
+        Some(number) => u64::from(number),
+        None => u64::MAX,
+    }
+}
+
+/// Serves so many connections, and ends.
+fn serve_to_end<H: Host>(
+    alloc: Global,
+    host: &mut H,
+    listener: &H::Listener,
+    mut site: Site,
+    most: u64,
+) -> ExitCode
+    ensures { Runs H.does host.old host.new (λ events. AreAllServed most site events (exit_status result)) }
+{
+    serve_all(alloc, host, listener, &mut site, most);
+    status_of(Ok(()), ANSWERED)
+}
+
+/// Says where the site listens, and then serves.
+fn serve_listening<H: Host>(
+    alloc: Global,
+    host: &mut H,
+    listener: &H::Listener,
+    site: Site,
+    address: &str,
+    most: u64,
+) -> ExitCode
+    ensures { Runs H.does host.old host.new (λ events. Announces (codes "listening " ++ address.now)
+        (AreAllServed most site) events (exit_status result)) }
+{
+    let place = address.as_bytes();
+    match host.write_line(Stream::Answers, "listening ", place) {
+        Ok(()) => serve_to_end(alloc, host, listener, site, most),
+        Err(failed) => status_of(Err(failed), ANSWERED),
+    }
+}
+
+/// Listens at an address, and then serves.
+fn serve_at<H: Host>(alloc: Global, host: &mut H, site: Site, address: &str, most: u64) -> ExitCode
+    ensures { Runs H.does host.old host.new (λ events. Listens address.now (Announces (codes "listening " ++ address.now)
+        (AreAllServed most site)) events (exit_status result)) }
+{
+    match host.listen(address) {
+        Ok(listener) => serve_listening(alloc, host, &listener, site, address, most),
+        Err(NetworkFailed) => tell_failure(host, address),
+    }
+}
+
+/// Begins a site, and then serves it.
+fn serve_from<H: Host>(
+    alloc: Global,
+    host: &mut H,
+    schema: &[u8],
+    number: u16,
+    state: Option<&[u8]>,
+    address: &str,
+    connections: Option<u32>,
+) -> ExitCode
+    requires { 0 < number }
+    ensures { Runs H.does host.old host.new (λ events.
+        IsServedFrom schema.now number (option_map (λ s. s.now) state.entry) address.now connections events
+        (exit_status result)) }
+{
+    match begin(alloc, schema, number, state) {
+        Ok(site) => serve_at(alloc, host, site, address, most_of(connections)),
+        Err(refusal) => tell_refusal(alloc, host, refusal),
+    }
+}
+
+/// Reads the state, if one is named, and then begins the site and serves it.
+fn serve_under<H: Host>(
+    alloc: Global,
+    host: &mut H,
+    schema: &[u8],
+    number: u16,
+    state: Option<&str>,
+    address: &str,
+    connections: Option<u32>,
+) -> ExitCode
+    requires { 0 < number }
+    ensures { Runs H.does host.old host.new (λ events.
+        IsServeUnder number (option_map (λ s. s.now) state.entry) address.now connections schema.now events
+        (exit_status result)) }
+{
+    match state {
+        Some(name) => serve_named(alloc, host, schema, number, name, address, connections),
+        None => serve_from(alloc, host, schema, number, None, address, connections),
+    }
+}
+
+/// Reads the state of this name, and then begins the site and serves it.
+fn serve_named<H: Host>(
+    alloc: Global,
+    host: &mut H,
+    schema: &[u8],
+    number: u16,
+    name: &str,
+    address: &str,
+    connections: Option<u32>,
+) -> ExitCode
+    requires { 0 < number }
+    ensures { Runs H.does host.old host.new (λ events.
+        IsServeNamed number name.now address.now connections schema.now events (exit_status result)) }
+{
+    let state = match read_file(host, name) {
+        Ok(bytes) => bytes,
+        Err(end) => return end,
+    };
+    serve_from(
+        alloc,
+        host,
+        schema,
+        number,
+        Some(&state),
+        address,
+        connections,
+    )
+}
+
+/// Reads the schema of this name, and then the state, if one is named; then begins the site and serves it at an address,
+/// one connection after another: so many, if a number is given.
+pub(crate) fn run_serve<H: Host>(
+    alloc: Global,
+    host: &mut H,
+    schema: &str,
+    number: u16,
+    state: Option<&str>,
+    address: &str,
+    connections: Option<u32>,
+) -> ExitCode
+    requires { 0 < number }
+    ensures { Runs H.does host.old host.new (λ events.
+        IsServeRun schema.now number (option_map (λ s. s.now) state.entry) address.now connections events
+        (exit_status result)) }
+{
+    let schema = match read_file(host, schema) {
+        Ok(bytes) => bytes,
+        Err(end) => return end,
+    };
+    serve_under(alloc, host, &schema, number, state, address, connections)
+}

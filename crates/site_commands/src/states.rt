@@ -1,0 +1,215 @@
+//! States that are merged, and a state that is brought up to date from another site.
+ghost use Rattle.std.specs.Prelude.{◌≡◌, ◌⊎◌, IfOk, option_map, string_bytes};
+ghost use Rattle.std.specs.Process.{exit_status};
+ghost use Rattle.site_commands.specs.Events.{Runs};
+ghost use Rattle.site_commands.specs.Reports.{taken_line};
+ghost use Rattle.site_commands.specs.Runs.{AreMerged, IsMergeRun};
+ghost use Rattle.site_commands.specs.Courses.{Connects, Stores};
+ghost use Rattle.site_commands.specs.Pulling.{IsPulledOver, IsPullRun};
+ghost use Rattle.site_commands.specs.Reports.{IsAnswerTold, IsMemoryTold};
+ghost use Rattle.site_commands.specs.inner.Ways.{IsMergeUnder, IsPullUnder, IsPullFaultTold};
+
+use crate::device::{Link, NetworkFailed};
+use crate::host::Host;
+use crate::reading::{read_file, read_if_there};
+use crate::report::{tell_answer, tell_failure, tell_file, tell_memory, tell_refusal};
+use plain::NoMemory;
+use pulled_states::{PullFault, Pulled, merge_texts, pull_over};
+use std::alloc::Global;
+use std::process::ExitCode;
+
+/// Merges two messages.
+fn merge<H: Host>(
+    alloc: Global,
+    host: &mut H,
+    schema: &[u8],
+    first: &[u8],
+    second: &[u8],
+) -> ExitCode
+    ensures { Runs H.does host.old host.new
+        (λ events. AreMerged schema.now first.now second.now events (exit_status result)) }
+{
+    match merge_texts(alloc, schema, first, second) {
+        Ok(line) => tell_answer(host, &line),
+        Err(refusal) => tell_refusal(alloc, host, refusal),
+    }
+}
+
+/// Reads the two states of these names, in this order, and then merges them.
+fn merge_under<H: Host>(
+    alloc: Global,
+    host: &mut H,
+    schema: &[u8],
+    first: &str,
+    second: &str,
+) -> ExitCode
+    ensures { Runs H.does host.old host.new
+        (λ events. IsMergeUnder first.now second.now schema.now events (exit_status result)) }
+{
+    let first = match read_file(host, first) {
+        Ok(bytes) => bytes,
+        Err(end) => return end,
+    };
+    let second = match read_file(host, second) {
+        Ok(bytes) => bytes,
+        Err(end) => return end,
+    };
+    merge(alloc, host, schema, &first, &second)
+}
+
+/// Reads the schema and the two states of these names, in this order, and then merges them.
+pub(crate) fn run_merge<H: Host>(
+    alloc: Global,
+    host: &mut H,
+    schema: &str,
+    first: &str,
+    second: &str,
+) -> ExitCode
+    ensures { Runs H.does host.old host.new
+        (λ events. IsMergeRun schema.now first.now second.now events (exit_status result)) }
+{
+    let schema = match read_file(host, schema) {
+        Ok(bytes) => bytes,
+        Err(end) => return end,
+    };
+    merge_under(alloc, host, &schema, first, second)
+}
+
+/// The line that tells how many updates were taken.
+#[tactic(auto, unfolding(crate::specs::Reports::taken_line))]
+fn taken_line(alloc: Global, count: usize) -> Result<String, NoMemory>
+    ensures { IfOk result (λ line. string_bytes line ≡ taken_line count) }
+{
+    format!(in alloc; "{{\"taken\":{count}}}")
+}
+
+/// Writes the new state, and then tells how many updates came. Nothing is written where there is no memory for the line.
+fn keep<H: Host>(alloc: Global, host: &mut H, name: &str, pulled: &Pulled) -> ExitCode
+    ensures { Runs H.does host.old host.new (λ events.
+        Stores name.now pulled.now.state.items (IsAnswerTold (taken_line pulled.now.taken)) events (exit_status result)
+        ⊎ IsMemoryTold events (exit_status result)) }
+{
+    let Ok(line) = taken_line(alloc, pulled.taken) else {
+        return tell_memory(host);
+    };
+    match host.store(name, pulled.state.as_slice()) {
+        Ok(()) => tell_answer(host, line.as_bytes()),
+        Err(fault) => tell_file(host, name, fault),
+    }
+}
+
+/// The bytes of a file that need not be there.
+fn lent(state: &Option<Vec<u8>>) -> Option<&[u8]>
+    ensures { option_map (λ s. s.now) result ≡ option_map (λ s. s.items) state.now }
+{
+    match state {
+        Some(bytes) => Some(bytes.as_slice()),
+        None => None,
+    }
+}
+
+/// Tells why nothing was pulled.
+fn tell_pull_fault<H: Host>(
+    alloc: Global,
+    host: &mut H,
+    address: &str,
+    fault: PullFault,
+) -> ExitCode
+    ensures { Runs H.does host.old host.new
+        (λ events. IsPullFaultTold address.now fault events (exit_status result)) }
+{
+    match fault {
+        PullFault::Network(_) => tell_failure(host, address),
+        PullFault::Refused(refusal) => tell_refusal(alloc, host, refusal),
+    }
+}
+
+/// Pulls over a connection that stands.
+fn pull<H: Host>(
+    alloc: Global,
+    host: &mut H,
+    schema: &[u8],
+    site: u16,
+    state: Option<&[u8]>,
+    address: &str,
+    name: &str,
+    link: &mut Link<H::Reader, H::Writer>,
+) -> ExitCode
+    ensures { Runs H.does host.old host.new
+        (λ events. IsPulledOver schema.now (option_map (λ s. s.now) state.entry) address.now name.now events
+        (exit_status result)) }
+{
+    let asked = address.as_bytes();
+    let came = pull_over(
+        alloc,
+        schema,
+        site,
+        state,
+        asked,
+        &mut link.reader,
+        &mut link.writer,
+    );
+    match came {
+        Ok(pulled) => keep(alloc, host, name, &pulled),
+        Err(fault) => tell_pull_fault(alloc, host, address, fault),
+    }
+}
+
+/// Opens a connection to an address, and then pulls over it.
+fn pull_from<H: Host>(
+    alloc: Global,
+    host: &mut H,
+    schema: &[u8],
+    site: u16,
+    state: Option<&[u8]>,
+    address: &str,
+    name: &str,
+) -> ExitCode
+    ensures { Runs H.does host.old host.new (λ events. Connects address.now
+        (IsPulledOver schema.now (option_map (λ s. s.now) state.entry) address.now name.now) events
+        (exit_status result)) }
+{
+    match host.connect(address) {
+        Ok(mut link) => pull(alloc, host, schema, site, state, address, name, &mut link),
+        Err(NetworkFailed) => tell_failure(host, address),
+    }
+}
+
+/// Reads the state of this name, if it is there, and then pulls what it lacks.
+fn pull_under<H: Host>(
+    alloc: Global,
+    host: &mut H,
+    schema: &[u8],
+    site: u16,
+    address: &str,
+    name: &str,
+) -> ExitCode
+    ensures { Runs H.does host.old host.new
+        (λ events. IsPullUnder address.now name.now schema.now events (exit_status result)) }
+{
+    let state = match read_if_there(host, name) {
+        Ok(found) => found,
+        Err(end) => return end,
+    };
+    pull_from(alloc, host, schema, site, lent(&state), address, name)
+}
+
+/// Reads the schema of this name, and the state of this name, if it is there; then takes from the site at an address
+/// what the state lacks, and writes the state.
+pub(crate) fn run_pull<H: Host>(
+    alloc: Global,
+    host: &mut H,
+    schema: &str,
+    site: u16,
+    address: &str,
+    name: &str,
+) -> ExitCode
+    ensures { Runs H.does host.old host.new
+        (λ events. IsPullRun schema.now address.now name.now events (exit_status result)) }
+{
+    let schema = match read_file(host, schema) {
+        Ok(bytes) => bytes,
+        Err(end) => return end,
+    };
+    pull_under(alloc, host, &schema, site, address, name)
+}

@@ -1,0 +1,2 @@
+pub mod entities
+pub mod entities_EntityFault_variants

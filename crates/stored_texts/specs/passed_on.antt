@@ -1,0 +1,3 @@
+pub mod validator
+pub mod validator_CheckFault_variants
+pub mod validator_Faults

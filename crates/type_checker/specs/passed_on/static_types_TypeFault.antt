@@ -1,0 +1,2 @@
+-- What crates above use of `static_types`, passed on.
+pub use Rattle.static_types.specs.declared.fault.TypeFault.{TypeFault}

@@ -1,0 +1,50 @@
+-- That entities and requests that are read under a schema conform to it, and that policies that pass go right over
+-- them.
+-- Sources: cedar-spec, cedar-lean/Cedar/Validation/RequestEntityValidator.lean (`validateRequest`, `validateEntities`,
+-- by which `InstanceOfWellFormedEnvironment` holds) and cedar-lean/Cedar/Thm/Validation.lean (`validation_is_sound`).
+-- Here what is read is what is validated.
+use Rattle.std.specs.Prelude.{◌≡◌, ◌≢◌, ℕ, List, Contains, Some, true, Ok}
+use Rattle.serde_json.specs.Data.{Data}
+use Rattle.values.specs.declared.entity_uid.EntityUid.{EntityUid}
+use Rattle.values.specs.declared.request.Request.{Request}
+use Rattle.values.specs.Values.{boolean}
+use Rattle.policy_grammar.specs.declared.policy.Policy.{Policy}
+use Rattle.policy_grammar.specs.Whole.{expression_of}
+use Rattle.evaluator.specs.Outcomes.{Outcome}
+use Rattle.evaluator.specs.Evaluation.{Gives}
+use Rattle.schema.specs.Schemas.{EnvironmentOf, StatedSchema, IsSchemaOf}
+use Rattle.entity_worlds.specs.declared.entity.Entity.{Entity}
+use Rattle.static_types.specs.passed_on.entities.{entity_in}
+use Rattle.static_types.specs.passed_on.entities.{StatesRequest}
+use Rattle.entity_worlds.specs.declared.data.EntityData.{EntityData}
+use Rattle.entity_worlds.specs.Entities.{EntityMap, AreListed}
+use Rattle.entity_store.specs.Laws.{closed_world}
+use Rattle.typing.specs.Types.{boolean_type}
+use Rattle.typing.specs.Conforming.{Conforms, Fits}
+use Rattle.static_types.specs.FromSchemas.{environment_of}
+use Rattle.validator.specs.Passing.{Passes, IsImpossible}
+
+-- what is kept under a uid, as an entity
+abbrev pub entity_kept : EntityUid → EntityData → Entity
+entity_kept u kept = record { uid = u; attrs = kept.attrs; parents = kept.parents }
+
+-- each entity that is kept was read under the schema from some JSON
+abbrev pub AreRead : StatedSchema → EntityMap → Type 0
+AreRead s entities = (u : EntityUid) (kept : EntityData) → entities u ≡ Some kept
+    → (d : Data) × (entity_in s d ≡ Ok (entity_kept u kept))
+
+-- Under a schema that bytes state, entities each of which was read, with the schema's actions, and a request that was
+-- read conform to an environment of the schema.
+abbrev pub WhatIsReadConforms : Type 0
+WhatIsReadConforms = (bytes : List ℕ) (s : StatedSchema) → IsSchemaOf bytes s → (entities : EntityMap)
+    → AreRead s entities → (d : Data) (q : Request) → StatesRequest s d q
+    → (e : EnvironmentOf) × Contains s.environments e × Conforms (environment_of s e) (closed_world s entities) q
+
+-- So a policy that passes gives a boolean over finitely many such entities, or errs since an entity is not stored or a
+-- number leaves its bounds; and where it is impossible it is never true.
+abbrev pub WhatIsStoredGoesRight : Type 0
+WhatIsStoredGoesRight = (bytes : List ℕ) (s : StatedSchema) → IsSchemaOf bytes s → (entities : EntityMap)
+    → AreRead s entities → (us : List EntityUid) → AreListed entities us → (d : Data) (q : Request)
+    → StatesRequest s d q → (policy : Policy) → Passes s policy → (r : Outcome)
+    → Gives (closed_world s entities) q (expression_of policy) r
+    → Fits boolean_type r × (IsImpossible s policy → r ≢ Ok (boolean true))
