@@ -4,16 +4,16 @@
 #
 #   bench/messages.sh [SIZE ..]       (default: 1,000 and 10,000 entries)
 set -euo pipefail
-PROGRAM=${PROGRAM:-$(cd "$(dirname "${BASH_SOURCE[0]}")/.." && pwd)/crates/message_rows/out/message_rows}
+PROGRAM=${PROGRAM:-$(cd "$(dirname "${BASH_SOURCE[0]}")/.." && pwd)/crates/site_rows/out/site_rows}
 export PROGRAM
-[ -x "$PROGRAM" ] || (cd "$(dirname "${BASH_SOURCE[0]}")/../crates/message_rows" && rt run <stdin >/dev/null)
+[ -x "$PROGRAM" ] || (cd "$(dirname "${BASH_SOURCE[0]}")/../crates/site_rows" && rt run <stdin >/dev/null)
 source "$(dirname "${BASH_SOURCE[0]}")/counting.sh"
 schema='{"":{"entityTypes":{"User":{"memberOfTypes":["Group"],"shape":{"type":"Record","attributes":{"name":{"type":"String"},"age":{"type":"Long","required":false}}}},"Group":{},"Doc":{}},"actions":{"view":{"appliesTo":{"principalTypes":["User"],"resourceTypes":["Doc"]}}}}}'
 sizes=("$@")
 [ ${#sizes[@]} -gt 0 ] || sizes=(1000 10000)
 
 rows() {
-    printf 'under %s\n%s %s\n' "$schema" "$1" "$2"
+    printf 'part messages\nunder %s\n%s %s\n' "$schema" "$1" "$2"
 }
 
 printf '%-8s %8s %22s %12s\n' what entries 'instructions an entry' KiB

@@ -1,12 +1,14 @@
 #!/usr/bin/env python3
-"""Proves and builds the program cedar_site, and says how far it is.
+"""Proves and builds a program, cedar_site where none is named, and says how far it is.
 
-    tools/build.py [--if-needed] [--jobs N]
+    tools/build.py [--if-needed] [--jobs N] [PROGRAM]
+    tools/build.py --is-built [PROGRAM]
 
-The crates that the program stands on are copied into a folder of their own, without their must-fail edits, and
-`rt ci` proves each of them there from nothing: side by side, as many as there are processors, one job each, which takes the least processor time.
-The program is built by both compilers and its stored run is compared; then it stands in crates/cedar_site/out. With --if-needed nothing is done
-where that program was made from these very sources. Standard library alone.
+The crates that the program stands on, and no others, are copied into a folder of their own, without their must-fail
+edits, and `rt ci` proves each of them there from nothing: side by side, as many as there are processors, one job each,
+which takes the least processor time. The program is built by both compilers and its stored run is compared; then it
+stands in crates/PROGRAM/out. With --if-needed nothing is done where that program was made from these very sources;
+--is-built only tells, by its status, whether it was. Standard library alone.
 """
 import hashlib
 import os
@@ -18,10 +20,12 @@ import threading
 import time
 
 TOP = os.path.dirname(os.path.dirname(os.path.abspath(__file__)))
-PROGRAM = "cedar_site"
-BUILT = f"{TOP}/crates/{PROGRAM}/out/{PROGRAM}"
 # what a build reads of a crate: its must-fail edits are the gate's business
 PARTS = ("src", "specs", "proofs", "data", "stdin", "stdout", "args", "status")
+
+
+def built_at(program):
+    return f"{TOP}/crates/{program}/out/{program}"
 
 
 def crates_below(name):
@@ -127,35 +131,58 @@ def prove(crates, room, jobs):
     return gate.returncode, said
 
 
-def main(words):
-    jobs = int(words[words.index("--jobs") + 1]) if "--jobs" in words else len(os.sched_getaffinity(0))
-    crates = crates_below(PROGRAM)
-    wanted, stamp = sum_of(crates), f"{BUILT}.from"
-    if "--if-needed" in words and os.path.isfile(BUILT) and os.path.isfile(stamp):
-        with open(stamp, encoding="utf-8") as file:
-            if file.read().strip() == wanted:
-                return 0
-    print(f"{PROGRAM}: proving its {len(crates)} crates from nothing, then building it, once; {jobs} at a time", file=sys.stderr)
+def is_built(program, wanted):
+    """Whether the program stands there, made from sources of this sum."""
+    built = built_at(program)
+    if not (os.path.isfile(built) and os.path.isfile(f"{built}.from")):
+        return False
+    with open(f"{built}.from", encoding="utf-8") as file:
+        return file.read().strip() == wanted
+
+
+def build(program, crates, wanted, jobs):
+    """Proves the crates and builds the program. Returns the status."""
+    print(f"{program}: proving its {len(crates)} crates from nothing, then building it, once; {jobs} at a time", file=sys.stderr)
     before = os.times()
     start = time.monotonic()
+    built = built_at(program)
     with tempfile.TemporaryDirectory(prefix="cedar-site-") as room:
         lay_out(crates, room)
         status, said = prove(crates, room, jobs)
         if status:
             sys.stderr.write("".join(said))
-            print(f"{PROGRAM}: not built", file=sys.stderr)
+            print(f"{program}: not built", file=sys.stderr)
             return 1
-        os.makedirs(os.path.dirname(BUILT), exist_ok=True)
-        shutil.copyfile(f"{room}/crates/{PROGRAM}/out/{PROGRAM}", f"{BUILT}.new")
-    os.chmod(f"{BUILT}.new", 0o755)
-    os.replace(f"{BUILT}.new", BUILT)
-    with open(stamp, "w", encoding="utf-8") as file:
+        os.makedirs(os.path.dirname(built), exist_ok=True)
+        shutil.copyfile(f"{room}/crates/{program}/out/{program}", f"{built}.new")
+    os.chmod(f"{built}.new", 0o755)
+    os.replace(f"{built}.new", built)
+    with open(f"{built}.from", "w", encoding="utf-8") as file:
         file.write(f"{wanted}\n")
     used = os.times()
     spent = used.children_user + used.children_system - before.children_user - before.children_system
     taken = f"{minutes(time.monotonic() - start)} by the clock, {minutes(spent)} of processor time"
-    print(f"{PROGRAM}: proved and built in {taken} (minutes:seconds)", file=sys.stderr)
+    print(f"{program}: proved and built in {taken} (minutes:seconds)", file=sys.stderr)
     return 0
+
+
+def main(words):
+    jobs = len(os.sched_getaffinity(0))
+    if "--jobs" in words:
+        place = words.index("--jobs")
+        jobs = int(words[place + 1])
+        words = words[:place] + words[place + 2:]
+    program = next((word for word in words if not word.startswith("--")), "cedar_site")
+    crates = crates_below(program)
+    if not crates:
+        print(f"{program}: no crate of crates.txt", file=sys.stderr)
+        return 2
+    wanted = sum_of(crates)
+    if "--is-built" in words:
+        return 0 if is_built(program, wanted) else 1
+    if "--if-needed" in words and is_built(program, wanted):
+        return 0
+    return build(program, crates, wanted, jobs)
 
 
 if __name__ == "__main__":

@@ -5,8 +5,9 @@
 
 - Each crate of crates.txt that is no test and measures nothing stands in README.md's table and in docs/proved.md, and no other does; each has a part
   in docs/definitions.md or docs/surface.md.
-- The reading list of docs/definitions.md is what tools/reading_list.py finds.
-- Each file that a document names by its path is there.
+- The reading list of docs/definitions.md is what tools/reading_list.py finds; of the twelve files before it each is one of that list, with its lines.
+- Each file that a document names by its path is there. Numbers of crates, and of each crate's must-fail edits, are those that are.
+- In README.md's picture of the layers each crate stands on crates of layers below, or to its right in its own.
 - README.md has at most 120 lines; no line of a document, but for tables, code and links, has over 100 characters.
 - The numbers by which refusals are told (docs/codes.md) are those of the code.
 Standard library alone.
@@ -56,6 +57,54 @@ def about_paths():
                 yield f"{name} names {path}, which is not there"
 
 
+def about_layers():
+    picture = text_of("README.md").partition("## How it is built")[2].split("```")[1]
+    order = [[]]
+    for line in picture.strip("\n").split("\n"):
+        layer, words = line[:12].strip(), re.findall(r"\w+", line[12:])
+        order = [*order, words] if layer else [*order[:-1], [*order[-1], *words]]
+    # a crate's place: lower layers are less, and in a layer those to the right
+    place = {name: (-height, -at) for height, layer in enumerate(order) for at, name in enumerate(layer)}
+    for line in text_of("crates.txt").split("\n"):
+        name, _, named = line.partition("#")[0].partition(":")
+        for other in named.split():
+            if name in place and other in place and place[other] >= place[name]:
+                yield f"README.md: {name} stands on {other}, which its picture has above it or to its left"
+    product = {it for it in crates() if not BESIDE.search(it)}
+    yield from (f"README.md's picture lacks {it}" for it in sorted(product - set(place)))
+
+
+def below(name, libraries, found=None):
+    """The crates that one stands on, and itself."""
+    found = set() if found is None else found
+    if name in libraries and name not in found:
+        found.add(name)
+        for other in libraries[name]:
+            below(other, libraries, found)
+    return found
+
+
+def about_numbers():
+    lines = [it.partition("#")[0].partition(":") for it in text_of("crates.txt").split("\n")]
+    libraries = {name.split()[0]: named.split() for name, _, named in lines if name.strip()}
+    bare, whole = len(below("bare_decide", libraries)), len(below("cedar_site", libraries))
+    wanted = (
+        ("README.md", rf"`bare_decide` first, once: {bare} crates"),
+        ("README.md", rf"proves the whole program: {whole} crates"),
+        ("docs/proving.md", rf"Today's {len(libraries)} crates\s+and\s+programs"),
+        ("docs/proving.md", rf"\(`bare_decide`\) stands on {bare}\s+crates, the whole program on {whole}"),
+    )
+    for name, words in wanted:
+        if not re.search(words, text_of(name)):
+            yield f"{name} does not say: {words}"
+    rows = dict(re.findall(r"(?m)^\| `(\w+)` \| [^|]*\| (\d*)", text_of("docs/proving.md")))
+    for name in libraries:
+        folder = f"{TOP}/crates/{name}/must-fail"
+        edits = len([it for it in os.listdir(folder) if it.endswith(".edit")]) if os.path.isdir(folder) else 0
+        if rows.get(name) != str(edits or ""):
+            yield f"docs/proving.md: {name} has {edits} edits, and its row says {rows.get(name)}"
+
+
 def about_lines():
     if text_of("README.md").count("\n") > 120:
         yield "README.md has over 120 lines"
@@ -79,8 +128,22 @@ def about_reading():
         yield (ran.stdout or ran.stderr).strip()
 
 
+def about_twelve():
+    text = text_of("docs/definitions.md")
+    chosen = text.partition("<!-- twelve files -->")[2].partition("<!-- end of the twelve files -->")[0]
+    listed = text.partition("<!-- reading list -->")[2]
+    rows = re.findall(r"(?m)^\| (crates/\S+) \| (\d+) \|", chosen)
+    if len(rows) != 12:
+        yield f"docs/definitions.md has {len(rows)} files in place of twelve"
+    for path, lines in rows:
+        if f"| {path} |" not in listed:
+            yield f"{path}, one of the twelve files, is none of the reading list"
+        if text_of(path).count("\n") != int(lines):
+            yield f"{path} has {text_of(path).count(chr(10))} lines, not {lines}"
+
+
 def main():
-    found = [*about_crates(), *about_paths(), *about_lines(), *about_codes(), *about_reading()]
+    found = [*about_crates(), *about_layers(), *about_paths(), *about_numbers(), *about_lines(), *about_codes(), *about_reading(), *about_twelve()]
     print("\n".join(found) or "documents: as they should be")
     return 1 if found else 0
 

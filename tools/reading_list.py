@@ -46,7 +46,7 @@ class Module:
                 comment = [*comment, at] if line.startswith("--") else []
                 at += 1
                 continue
-            if re.match(r"(pub )?(unfoldable )?(use|mod) ", line):
+            if re.match(r"(unfoldable )?(pub )?(unfoldable )?(use|mod) ", line):
                 end = at
                 while "{" in line and "}" not in line:
                     end += 1
@@ -63,7 +63,7 @@ class Module:
             at, comment = end, []
 
     def add_import(self, line):
-        found = re.match(r"(?:pub )?(?:unfoldable )?use Rattle\.(\w+)\.specs\.([\w.]+?)(?:\.\{(.*)\})?\s*(?:as (\S+))?\s*$", line)
+        found = re.match(r"(?:unfoldable )?(?:pub )?(?:unfoldable )?use Rattle\.(\w+)\.specs\.([\w.]+?)(?:\.\{(.*)\})?\s*(?:as (\S+))?\s*$", line)
         if not found:
             return
         crate, module, names, alias = found.groups()
