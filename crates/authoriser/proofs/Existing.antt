@@ -16,10 +16,10 @@ use Rattle.policy_grammar.specs.declared.policy.Policy.{Policy}
 use Rattle.policy_grammar.specs.Whole.{entity_part, action_part, expression_of}
 use Rattle.evaluator.specs.declared.fault.EvalFault.{EvalFault}
 use Rattle.evaluator.specs.declared.fault.EvalFault.TheVariants as fault
-use Rattle.evaluator.specs.Outcomes.{Outcome as Given, boolean_in}
+use Rattle.evaluator.specs.Outcomes.{EvaluationResult as Given, boolean_in}
 use Rattle.evaluator.specs.Operators.{World}
 use Rattle.evaluator.specs.Evaluation as rule
-use Rattle.evaluator.specs.Evaluation.{Gives, TestFails}
+use Rattle.evaluator.specs.Evaluation.{EvaluatesTo, TestFails}
 use Rattle.evaluator.specs.Laws.{HaveOneOutcome}
 use Rattle.authoriser.specs.declared.answer.Answer.{Answer}
 use Rattle.authoriser.specs.declared.answer.Decision.TheVariants.{Deny}
@@ -27,7 +27,7 @@ use Rattle.authoriser.specs.declared.outcome.Outcome.{Outcome}
 use Rattle.authoriser.specs.declared.outcome.Outcome.TheVariants.{Satisfied, NotSatisfied, Errs}
 use Rattle.authoriser.specs.declared.outcome.PolicyError.{PolicyError}
 use Rattle.authoriser.specs.declared.outcome.PolicyError.TheVariants.{EntityDoesNotExist, AttrDoesNotExist, TypeError, ArithBoundsError, ExtensionError}
-use Rattle.authoriser.specs.Answers.{Named, PolicyOutcome, IsPolicyOutcome, fault_of, ComesTo, ArePolicyOutcomes, answer_by, IsAnswer}
+use Rattle.authoriser.specs.Answers.{NamedPolicy, PolicyOutcome, IsPolicyOutcome, fault_of, ComesTo, ArePolicyOutcomes, answer_by, IsAnswer}
 use Rattle.authoriser.specs.Laws.{OneAnswerAtMost, OneAnswerInFiniteHierarchies}
 use Rattle.plain.proofs.Members.{Contains-here, Contains-there, Contains-cases, Contains-none}
 use Rattle.authoriser.proofs.Lawful.{Determined}
@@ -53,26 +53,26 @@ truth_of (record_of fs) = inr refl
 truth_of (decimal z) = inr refl
 truth_of (ipaddr n) = inr refl
 
-module _ (W : World) (q : Request) (given : Determined W q) (memory : (x : Expr) → ¬ Gives W q x (Err fault.NoMemory)) where
+module _ (W : World) (q : Request) (given : Determined W q) (memory : (x : Expr) → ¬ EvaluatesTo W q x (Err fault.NoMemory)) where
   -- an expression as a test: a boolean, or an error of the language
   abbrev Tested : Expr → Type 0
-  Tested x = ((t : Bool) × Gives W q x (Ok (boolean t))) ⊎ ((error : PolicyError) × TestFails W q x (fault_of error))
+  Tested x = ((t : Bool) × EvaluatesTo W q x (Ok (boolean t))) ⊎ ((error : PolicyError) × TestFails W q x (fault_of error))
 
   tested : (x : Expr) → Tested x
   tested x = at (given x).0 (given x).1
     where
-      at : (r : Given) → Gives W q x r → Tested x
+      at : (r : Given) → EvaluatesTo W q x r → Tested x
       at (Ok v) g = elim (truth_of v) [
-        | inl is ↦ inl (is.0, subst (λ w. Gives W q x (Ok w)) is.1 g)
+        | inl is ↦ inl (is.0, subst (λ w. EvaluatesTo W q x (Ok w)) is.1 g)
         | inr none ↦ inr (TypeError, rule.no_boolean g none)
       ]
       at (Err e) g =
-          let named = error_named e (λ same. memory x (subst (λ f. Gives W q x (Err f)) same g)) in
-          inr (named.0, rule.test_errs (subst (λ f. Gives W q x (Err f)) (sym named.1) g))
+          let named = error_named e (λ same. memory x (subst (λ f. EvaluatesTo W q x (Err f)) same g)) in
+          inr (named.0, rule.test_errs (subst (λ f. EvaluatesTo W q x (Err f)) (sym named.1) g))
 
   -- a policy's expression gives a boolean or errs, as all conjunctions do
   abbrev Comes : Expr → Type 0
-  Comes x = ((t : Bool) × Gives W q x (Ok (boolean t))) ⊎ ((error : PolicyError) × Gives W q x (Err (fault_of error)))
+  Comes x = ((t : Bool) × EvaluatesTo W q x (Ok (boolean t))) ⊎ ((error : PolicyError) × EvaluatesTo W q x (Err (fault_of error)))
 
   both_come : (a b : Expr) → Comes (core.And a b)
   both_come a b = elim (tested a) [
@@ -80,7 +80,7 @@ module _ (W : World) (q : Request) (given : Determined W q) (memory : (x : Expr)
     | inr error ↦ inr (error.0, rule.and_left_fails a b error.1)
   ]
     where
-      at : (t : Bool) → Gives W q a (Ok (boolean t)) → Comes (core.And a b)
+      at : (t : Bool) → EvaluatesTo W q a (Ok (boolean t)) → Comes (core.And a b)
       at false g = inl (false, rule.and_false a b g)
       at true g = elim (tested b) [
         | inl right ↦ inl (right.0, rule.and_true a b g right.1)
@@ -93,11 +93,11 @@ module _ (W : World) (q : Request) (given : Determined W q) (memory : (x : Expr)
     | inr h ↦ (Errs h.0, h.1)
   ]
     where
-      at : (t : Bool) → Gives W q (expression_of p) (Ok (boolean t)) → (o : Outcome) × ComesTo W q p o
+      at : (t : Bool) → EvaluatesTo W q (expression_of p) (Ok (boolean t)) → (o : Outcome) × ComesTo W q p o
       at true g = (Satisfied, g)
       at false g = (NotSatisfied, g)
 
-  all_judged : (ps : List Named) → (js : List PolicyOutcome) × ArePolicyOutcomes W q ps js
+  all_judged : (ps : List NamedPolicy) → (js : List PolicyOutcome) × ArePolicyOutcomes W q ps js
   all_judged [] = ([], tt)
   all_judged (p ∷ ps) =
       let one = comes_to p.policy in
@@ -152,7 +152,7 @@ module _ (parents : Parents) (stored : List EntityUid) (all : HaveAllParents par
 
 -- ---- an answer
 
-module _ (W : World) (q : Request) (ps : List Named) where
+module _ (W : World) (q : Request) (ps : List NamedPolicy) where
   by_cycle : (xs : List EntityUid) → AreOnCycles W.parents xs → IsAscending xs → ((js : List PolicyOutcome) × ArePolicyOutcomes W q ps js) → (a : Answer) × IsAnswer W q ps a
   by_cycle [] named ascends judged = (
     answer_by judged.0,
@@ -163,7 +163,7 @@ module _ (W : World) (q : Request) (ps : List Named) where
     inl (record { named = named; ascending = ascends; some = λ e. absurd (cc); rest = refl }),
   )
 
-pub one_answer_in_finite : PathsAreDecided → HaveOneOutcome → ((W : World) (q : Request) (x : Expr) → ¬ Gives W q x (Err fault.NoMemory)) → OneAnswerAtMost → OneAnswerInFiniteHierarchies
+pub one_answer_in_finite : PathsAreDecided → HaveOneOutcome → ((W : World) (q : Request) (x : Expr) → ¬ EvaluatesTo W q x (Err fault.NoMemory)) → OneAnswerAtMost → OneAnswerInFiniteHierarchies
 one_answer_in_finite decided law memory at_most W stored all q ps =
     let D = decided W.parents stored all in
     let given = law W (reaches W.parents stored) D q in

@@ -7,7 +7,7 @@ use Rattle.std.proofs.lemmas.List.Elements.{Contains-push_cases}
 use Rattle.values.specs.declared.entity_uid.EntityUid.{EntityUid}
 use Rattle.values.specs.declared.request.Request.{Request}
 use Rattle.values.specs.Values.{PlainValue, boolean, long, text, entity, set, record_of, decimal, ipaddr}
-use Rattle.ancestor_closure.specs.Hierarchy.{Parents, Above, IsAllAbove, AreOnCycles, IsAscending, names}
+use Rattle.ancestor_closure.specs.Hierarchy.{Parents, Above, IsAllAbove, AreOnCycles, IsAscending, names, IsIn}
 use Rattle.ancestor_closure.specs.Decided.{Decides}
 use Rattle.expressions.specs.declared.expr.Expr.{Expr}
 use Rattle.policy_grammar.specs.declared.policy.Policy.{Policy}
@@ -19,7 +19,7 @@ use Rattle.policy_grammar.specs.declared.policy.Scope.{Scope}
 use Rattle.evaluator.specs.declared.fault.EvalFault.{EvalFault}
 use Rattle.evaluator.specs.declared.fault.EvalFault.TheVariants as fault
 use Rattle.evaluator.specs.Operators.{World}
-use Rattle.evaluator.specs.Evaluation.{Gives, test_errs, no_boolean}
+use Rattle.evaluator.specs.Evaluation.{EvaluatesTo, test_errs, no_boolean}
 use Rattle.authoriser.specs.declared.outcome.PolicyError.{PolicyError}
 use Rattle.authoriser.specs.declared.outcome.PolicyError.TheVariants.{EntityDoesNotExist, AttrDoesNotExist, TypeError, ArithBoundsError, ExtensionError}
 use Rattle.authoriser.specs.declared.outcome.Outcome.{Outcome}
@@ -29,9 +29,9 @@ use Rattle.authoriser.specs.declared.answer.Decision.TheVariants.{Deny}
 use Rattle.authoriser.specs.declared.placed.WithAncestors.{WithAncestors}
 use Rattle.authoriser.specs.declared.placed.RequestAncestors.{RequestAncestors}
 use Rattle.authoriser.specs.declared.tally.Tally.{Tally}
-use Rattle.authoriser.specs.Scopes.{IsIn, IsEntityScopeTrue, IsActionScopeTrue, IsScopeTrue}
-use Rattle.authoriser.specs.Answers.{Named, PolicyOutcome, IsPolicyOutcome, ArePolicyOutcomes, fault_of, ComesTo, decided, answer_by, IsAnswer}
-use Rattle.authoriser.specs.Views.{named, IsWithin, IsPlaced, IsStanding, AreAllPlaced, AreAscending, IsTrueOf, ConditionComesTo, outcome_by, ids, faults, Counts}
+use Rattle.authoriser.specs.Scopes.{IsEntityScopeTrue, IsActionScopeTrue, IsScopeTrue}
+use Rattle.authoriser.specs.Answers.{NamedPolicy, PolicyOutcome, IsPolicyOutcome, ArePolicyOutcomes, fault_of, ComesTo, decided, answer_by, IsAnswer}
+use Rattle.authoriser.specs.Views.{named, IsWithin, HasItsAncestors, HasRequestAncestors, AllHaveTheirAncestors, AreAscending, IsTrueOf, ConditionComesTo, outcome_by, ids, faults, Counts}
 use Rattle.plain.proofs.Members.{Contains-none}
 use Rattle.authoriser.specs.Parts.{TrueScopesLeaveToConditions, OtherScopesGiveFalse}
 
@@ -50,7 +50,7 @@ action_scope W W' u v same over (action.In e) h = over e h
 action_scope W W' u v same over (action.InList es) h = (h.0, h.1, over h.0 h.2)
 
 -- what was looked up says who is in whom
-module _ {parents : Parents} {uid : EntityUid} {p : WithAncestors} (placed : IsPlaced parents uid p) where
+module _ {parents : Parents} {uid : EntityUid} {p : WithAncestors} (placed : HasItsAncestors parents uid p) where
   within_is_in : (of : EntityUid) → IsWithin p of → IsIn parents uid of
   within_is_in of (inl e) = inl (sym placed.same ∙ e)
   within_is_in of (inr h) = inr ((placed.all of).0 h)
@@ -71,16 +71,16 @@ module _ {parents : Parents} {uid : EntityUid} {p : WithAncestors} (placed : IsP
   action_back : (scope : ActionScope) → IsActionScopeTrue (IsIn parents uid) scope uid → IsActionScopeTrue (IsWithin p) scope p.uid.now
   action_back = action_scope (IsIn parents uid) (IsWithin p) uid p.uid.now (sym placed.same) in_is_within
 
-scope_there : (parents : Parents) (q : Request) (s : RequestAncestors) (scope : Scope) → IsStanding parents q s → IsTrueOf scope s → IsScopeTrue parents scope q
-scope_there parents q s scope standing h =
-    (entity_there standing.principal scope.principal h.0, action_there standing.action scope.action h.1, entity_there standing.resource scope.resource h.2)
+scope_there : (parents : Parents) (q : Request) (s : RequestAncestors) (scope : Scope) → HasRequestAncestors parents q s → IsTrueOf scope s → IsScopeTrue parents scope q
+scope_there parents q s scope request_ancestors h =
+    (entity_there request_ancestors.principal scope.principal h.0, action_there request_ancestors.action scope.action h.1, entity_there request_ancestors.resource scope.resource h.2)
 
-scope_back : (parents : Parents) (q : Request) (s : RequestAncestors) (scope : Scope) → IsStanding parents q s → IsScopeTrue parents scope q → IsTrueOf scope s
-scope_back parents q s scope standing h =
-    (entity_back standing.principal scope.principal h.0, action_back standing.action scope.action h.1, entity_back standing.resource scope.resource h.2)
+scope_back : (parents : Parents) (q : Request) (s : RequestAncestors) (scope : Scope) → HasRequestAncestors parents q s → IsScopeTrue parents scope q → IsTrueOf scope s
+scope_back parents q s scope request_ancestors h =
+    (entity_back request_ancestors.principal scope.principal h.0, action_back request_ancestors.action scope.action h.1, entity_back request_ancestors.resource scope.resource h.2)
 
 -- ---- conditions
-pub value_comes_to : (W : World) (q : Request) (x : Expr) (v : PlainValue) → Gives W q x (Ok v) → ConditionComesTo W q x (outcome_by v)
+pub value_comes_to : (W : World) (q : Request) (x : Expr) (v : PlainValue) → EvaluatesTo W q x (Ok v) → ConditionComesTo W q x (outcome_by v)
 value_comes_to W q x (boolean true) g = g
 value_comes_to W q x (boolean false) g = g
 value_comes_to W q x (long z) g = no_boolean g refl
@@ -98,36 +98,36 @@ no_refused_memory TypeError e = absurd (cc)
 no_refused_memory ArithBoundsError e = absurd (cc)
 no_refused_memory ExtensionError e = absurd (cc)
 
-pub fault_comes_to : (W : World) (q : Request) (x : Expr) (f : EvalFault) (error : PolicyError) → f ≡ fault_of error → (f ≢ fault.NoMemory → Gives W q x (Err f)) → ConditionComesTo W q x (Errs error)
+pub fault_comes_to : (W : World) (q : Request) (x : Expr) (f : EvalFault) (error : PolicyError) → f ≡ fault_of error → (f ≢ fault.NoMemory → EvaluatesTo W q x (Err f)) → ConditionComesTo W q x (Errs error)
 fault_comes_to W q x f error is g =
-    test_errs (subst (λ e. Gives W q x (Err e)) is (g (λ refused. no_refused_memory error (sym is ∙ refused))))
+    test_errs (subst (λ e. EvaluatesTo W q x (Err e)) is (g (λ refused. no_refused_memory error (sym is ∙ refused))))
 
 -- ---- policies
-pub true_scope : TrueScopesLeaveToConditions → (W : World) (q : Request) (s : RequestAncestors) (p : Policy) (o : Outcome) → IsStanding W.parents q s → IsTrueOf p.scope s → ConditionComesTo W q p.condition o → ComesTo W q p o
-true_scope leaves W q s p Satisfied standing h c = (leaves W q p (scope_there W.parents q s p.scope standing h)).gives true c
-true_scope leaves W q s p NotSatisfied standing h c = (leaves W q p (scope_there W.parents q s p.scope standing h)).gives false c
-true_scope leaves W q s p (Errs error) standing h c = (leaves W q p (scope_there W.parents q s p.scope standing h)).errs (fault_of error) c
+pub true_scope : TrueScopesLeaveToConditions → (W : World) (q : Request) (s : RequestAncestors) (p : Policy) (o : Outcome) → HasRequestAncestors W.parents q s → IsTrueOf p.scope s → ConditionComesTo W q p.condition o → ComesTo W q p o
+true_scope leaves W q s p Satisfied request_ancestors h c = (leaves W q p (scope_there W.parents q s p.scope request_ancestors h)).gives true c
+true_scope leaves W q s p NotSatisfied request_ancestors h c = (leaves W q p (scope_there W.parents q s p.scope request_ancestors h)).gives false c
+true_scope leaves W q s p (Errs error) request_ancestors h c = (leaves W q p (scope_there W.parents q s p.scope request_ancestors h)).errs (fault_of error) c
 
-pub other_scope : OtherScopesGiveFalse → (W : World) (above : EntityUid → EntityUid → Bool) → Decides W.parents above → (q : Request) (s : RequestAncestors) (p : Policy) → IsStanding W.parents q s → (IsTrueOf p.scope s → ⊥) → ComesTo W q p NotSatisfied
-other_scope idle W above D q s p standing n = idle W above D q p (λ h. n (scope_back W.parents q s p.scope standing h))
+pub other_scope : OtherScopesGiveFalse → (W : World) (above : EntityUid → EntityUid → Bool) → Decides W.parents above → (q : Request) (s : RequestAncestors) (p : Policy) → HasRequestAncestors W.parents q s → (IsTrueOf p.scope s → ⊥) → ComesTo W q p NotSatisfied
+other_scope idle W above D q s p request_ancestors n = idle W above D q p (λ h. n (scope_back W.parents q s p.scope request_ancestors h))
 
-placed_itself : {parents : Parents} {uid : EntityUid} {p : WithAncestors} → IsPlaced parents uid p → IsPlaced parents p.uid.now p
+placed_itself : {parents : Parents} {uid : EntityUid} {p : WithAncestors} → HasItsAncestors parents uid p → HasItsAncestors parents p.uid.now p
 placed_itself {parents} {uid} {p} h = record { same = refl; all = subst (λ (u : EntityUid). IsAllAbove parents u (names p.ancestors.items)) (sym h.same) h.all; ascending = h.ascending }
 
-pub all_placed : (parents : Parents) (q : Request) (s : RequestAncestors) → IsStanding parents q s → AreAllPlaced parents s
+pub all_placed : (parents : Parents) (q : Request) (s : RequestAncestors) → HasRequestAncestors parents q s → AllHaveTheirAncestors parents s
 all_placed parents q s h = record { principal = placed_itself h.principal; action = placed_itself h.action; resource = placed_itself h.resource }
 
-pub are_ascending : (parents : Parents) (q : Request) (s : RequestAncestors) → IsStanding parents q s → AreAscending s
-are_ascending parents q s standing = record { principal = standing.principal.ascending; action = standing.action.ascending; resource = standing.resource.ascending }
+pub are_ascending : (parents : Parents) (q : Request) (s : RequestAncestors) → HasRequestAncestors parents q s → AreAscending s
+are_ascending parents q s request_ancestors = record { principal = request_ancestors.principal.ascending; action = request_ancestors.action.ascending; resource = request_ancestors.resource.ascending }
 
 -- ---- policy by policy
-judged_push : (W : World) (q : Request) (ps : List Named) (p : Named) (js : List PolicyOutcome) (j : PolicyOutcome) → ArePolicyOutcomes W q ps js → IsPolicyOutcome W q p j → ArePolicyOutcomes W q (ps ++ p ∷ []) (js ++ j ∷ [])
+judged_push : (W : World) (q : Request) (ps : List NamedPolicy) (p : NamedPolicy) (js : List PolicyOutcome) (j : PolicyOutcome) → ArePolicyOutcomes W q ps js → IsPolicyOutcome W q p j → ArePolicyOutcomes W q (ps ++ p ∷ []) (js ++ j ∷ [])
 judged_push W q [] p [] j h g = (g, tt)
 judged_push W q [] p (k ∷ js) j h g = absurd h
 judged_push W q (n ∷ ps) p [] j h g = absurd h
 judged_push W q (n ∷ ps) p (k ∷ js) j h g = (h.0, judged_push W q ps p js j h.1 g)
 
-one_named : Bor (List ℕ) × Bor Policy → Named
+one_named : Bor (List ℕ) × Bor Policy → NamedPolicy
 one_named p = record { id = p.0.now; policy = p.1.now }
 
 named_push : (ps : List (Bor (List ℕ) × Bor Policy)) (p : Bor (List ℕ) × Bor Policy) → named (ps ++ p ∷ []) ≡ named ps ++ one_named p ∷ []
@@ -170,7 +170,7 @@ none_before P xs i x within is not_here before e h p =
       | inr here ↦ not_here (subst P (sym here) p)
     ]
 
-pub denial : (W : World) (q : Request) (ps : List Named) (uids : List (Bor EntityUid)) (cycle : List EntityUid) (reason : List (List ℕ)) (errors : List ErringPolicy) →
+pub denial : (W : World) (q : Request) (ps : List NamedPolicy) (uids : List (Bor EntityUid)) (cycle : List EntityUid) (reason : List (List ℕ)) (errors : List ErringPolicy) →
     cycle ≡ names uids → reason ≡ [] → errors ≡ [] → AreOnCycles W.parents (names uids) → IsAscending (names uids) → (uids ≡ [] → ⊥) →
     IsAnswer W q ps (record { decision = Deny; reason = reason; errors = errors; cycle = cycle })
 denial W q ps uids cycle reason errors same no_reason no_errors named ascending some = inl (record {

@@ -16,9 +16,9 @@ use Rattle.policy_grammar.specs.declared.policy.Effect.{Effect}
 use Rattle.policy_grammar.specs.declared.policy.Effect.TheVariants.{Permit, Forbid}
 use Rattle.policy_grammar.specs.declared.policy.Policy.{Policy}
 use Rattle.policy_grammar.specs.Whole.{expression_of}
-use Rattle.evaluator.specs.Outcomes.{Outcome as Given}
+use Rattle.evaluator.specs.Outcomes.{EvaluationResult as Given}
 use Rattle.evaluator.specs.Operators.{World}
-use Rattle.evaluator.specs.Evaluation.{Gives}
+use Rattle.evaluator.specs.Evaluation.{EvaluatesTo}
 use Rattle.evaluator.specs.Laws.{HasOneOutcome, HaveOneOutcome}
 use Rattle.authoriser.specs.declared.answer.Answer.{Answer}
 use Rattle.authoriser.specs.declared.answer.ErringPolicy.{ErringPolicy}
@@ -27,7 +27,7 @@ use Rattle.authoriser.specs.declared.outcome.Outcome.{Outcome}
 use Rattle.authoriser.specs.declared.outcome.Outcome.TheVariants.{Satisfied, NotSatisfied, Errs}
 use Rattle.authoriser.specs.declared.outcome.PolicyError.{PolicyError}
 use Rattle.authoriser.specs.declared.outcome.PolicyError.TheVariants.{EntityDoesNotExist, AttrDoesNotExist, TypeError, ArithBoundsError, ExtensionError}
-use Rattle.authoriser.specs.Answers.{Named, PolicyOutcome, IsPolicyOutcome, fault_of, ComesTo, ArePolicyOutcomes, if_satisfied, satisfied, if_erring, erring, decided, answer_by, IsCycleDenial, IsPolicyAnswer}
+use Rattle.authoriser.specs.Answers.{NamedPolicy, PolicyOutcome, IsPolicyOutcome, fault_of, ComesTo, ArePolicyOutcomes, if_satisfied, satisfied, if_erring, erring, decided, answer_by, IsCycleDenial, IsPolicyAnswer}
 use Rattle.authoriser.specs.Laws.{HasOneAnswerAtMost, OneAnswerAtMost, HaveSameMembers, AreAlike, AreIdsAscending, ListsAscend}
 use Rattle.plain.proofs.Members.{Contains-here, Contains-there, Contains-cases, Contains-none}
 use Rattle.plain.proofs.Ascending.{one_list}
@@ -52,7 +52,7 @@ module _ (W : World) (q : Request) (p : Policy) (given : HasOneOutcome W q (expr
   outcome_given NotSatisfied = Ok (boolean false)
   outcome_given (Errs e) = Err (fault_of e)
 
-  gives_it : (r : Outcome) → ComesTo W q p r → Gives W q (expression_of p) (outcome_given r)
+  gives_it : (r : Outcome) → ComesTo W q p r → EvaluatesTo W q (expression_of p) (outcome_given r)
   gives_it Satisfied h = h
   gives_it NotSatisfied h = h
   gives_it (Errs e) h = h
@@ -75,14 +75,14 @@ module _ (W : World) (q : Request) (p : Policy) (given : HasOneOutcome W q (expr
 abbrev pub Determined : World → Request → Type 0
 Determined W q = (x : Expr) → HasOneOutcome W q x
 
-pub one_judgement : (W : World) (q : Request) → Determined W q → (p : Named) (j k : PolicyOutcome) → IsPolicyOutcome W q p j → IsPolicyOutcome W q p k → j ≡ k
+pub one_judgement : (W : World) (q : Request) → Determined W q → (p : NamedPolicy) (j k : PolicyOutcome) → IsPolicyOutcome W q p j → IsPolicyOutcome W q p k → j ≡ k
 one_judgement W q given p j k h g =
     let id : j.id ≡ k.id = h.id ∙ sym g.id in
     let effect : j.effect ≡ k.effect = h.effect ∙ sym g.effect in
     let outcome : j.outcome ≡ k.outcome = one_outcome W q p.policy (given (expression_of p.policy)) j.outcome k.outcome h.outcome g.outcome in
     λ i. record { id = id i; effect = effect i; outcome = outcome i }
 
-one_list_judged : (W : World) (q : Request) → Determined W q → (ps : List Named) (js ks : List PolicyOutcome) → ArePolicyOutcomes W q ps js → ArePolicyOutcomes W q ps ks → js ≡ ks
+one_list_judged : (W : World) (q : Request) → Determined W q → (ps : List NamedPolicy) (js ks : List PolicyOutcome) → ArePolicyOutcomes W q ps js → ArePolicyOutcomes W q ps ks → js ≡ ks
 one_list_judged W q given [] [] [] h g = refl
 one_list_judged W q given [] [] (k ∷ ks) h g = absurd g
 one_list_judged W q given [] (j ∷ js) ks h g = absurd h
@@ -106,7 +106,7 @@ pub some_member : {X : Type 0} (xs : List X) → xs ≢ [] → (x : X) × Contai
 some_member [] ne = absurd (ne refl)
 some_member (x ∷ xs) ne = (x, Contains-here x xs)
 
-pub not_both : (W : World) (q : Request) (ps : List Named) (a b : Answer) → IsCycleDenial W.parents a → IsPolicyAnswer W q ps b → ⊥
+pub not_both : (W : World) (q : Request) (ps : List NamedPolicy) (a b : Answer) → IsCycleDenial W.parents a → IsPolicyAnswer W q ps b → ⊥
 not_both W q ps a b d p = let m = some_member a.cycle d.some in p.acyclic m.0 ((d.named m.0).0 m.1)
 
 has_one_answer : (W : World) → ((q : Request) → Determined W q) → HasOneAnswerAtMost W
@@ -253,7 +253,7 @@ policies_erring [] = refl
 policies_erring (j ∷ js) = map-append (λ e. e.policy) (if_erring j) (erring js) ∙ ap (λ rest. policy_if_erring j ++ rest) (policies_erring js)
 
 -- judging keeps the ids
-same_ids : (W : World) (q : Request) (ps : List Named) (js : List PolicyOutcome) → ArePolicyOutcomes W q ps js → map (λ p. p.id) ps ≡ map (λ j. j.id) js
+same_ids : (W : World) (q : Request) (ps : List NamedPolicy) (js : List PolicyOutcome) → ArePolicyOutcomes W q ps js → map (λ p. p.id) ps ≡ map (λ j. j.id) js
 same_ids W q [] [] h = refl
 same_ids W q [] (j ∷ js) h = absurd h
 same_ids W q (p ∷ ps) [] h = absurd h

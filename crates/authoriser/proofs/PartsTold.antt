@@ -31,8 +31,9 @@ use Rattle.evaluator.specs.Outcomes.{IsTruthOf, holds, fails, entity_in}
 use Rattle.evaluator.specs.Operators as op
 use Rattle.evaluator.specs.Operators.{World}
 use Rattle.evaluator.specs.Evaluation as rule
-use Rattle.evaluator.specs.Evaluation.{Gives, TestFails, GivesEach, variable_value}
-use Rattle.authoriser.specs.Scopes.{IsIn, IsEntityScopeTrue, IsActionScopeTrue, IsScopeTrue}
+use Rattle.evaluator.specs.Evaluation.{EvaluatesTo, TestFails, EachEvaluatesTo, variable_value}
+use Rattle.ancestor_closure.specs.Hierarchy.{IsIn}
+use Rattle.authoriser.specs.Scopes.{IsEntityScopeTrue, IsActionScopeTrue, IsScopeTrue}
 use Rattle.authoriser.specs.Parts.{PartsTell, ConditionDecides, ScopesDoNotErr, TrueScopesLeaveToConditions, OtherScopesGiveFalse}
 use Rattle.plain.proofs.Members.{Contains-here, Contains-there, Contains-cases, Contains-none}
 
@@ -113,31 +114,31 @@ uid_known a b = elim (cases_Bool (is_eq (uid_cmp a b))) [
 
 -- ---- the parts
 module _ (made : SetsHoldTheirMembers) (W : World) (q : Request) where
-  stands_for : (x : Variable) (uid : EntityUid) → variable_value x q ≡ entity uid → Gives W q (core.Variable x) (Ok (entity uid))
-  stands_for x uid is = subst (λ v. Gives W q (core.Variable x) (Ok v)) is (rule.gives_variable x)
+  stands_for : (x : Variable) (uid : EntityUid) → variable_value x q ≡ entity uid → EvaluatesTo W q (core.Variable x) (Ok (entity uid))
+  stands_for x uid is = subst (λ v. EvaluatesTo W q (core.Variable x) (Ok v)) is (rule.gives_variable x)
 
-  literals : (us : List EntityUid) → GivesEach W q (map entity_literal us) (Ok (map entity us))
+  literals : (us : List EntityUid) → EachEvaluatesTo W q (map entity_literal us) (Ok (map entity us))
   literals [] = rule.each_none
   literals (u ∷ us) = rule.each_more (rule.gives_literal (literal.Entity u)) (literals us)
 
   module _ (x : Variable) (uid : EntityUid) (is : variable_value x q ≡ entity uid) where
-    equal_gives : (of : EntityUid) (t : Bool) → IsTruthOf (entity uid ≡ entity of) (Ok (boolean t)) → Gives W q (is_equal x of) (Ok (boolean t))
+    equal_gives : (of : EntityUid) (t : Bool) → IsTruthOf (entity uid ≡ entity of) (Ok (boolean t)) → EvaluatesTo W q (is_equal x of) (Ok (boolean t))
     equal_gives of t told = rule.gives_binary Equal (core.Variable x) (entity_literal of) (stands_for x uid is) (rule.gives_literal (literal.Entity of)) (op.equal told)
 
-    in_gives : (of : EntityUid) (t : Bool) → IsTruthOf (op.IsIn W uid of) (Ok (boolean t)) → Gives W q (is_in x of) (Ok (boolean t))
+    in_gives : (of : EntityUid) (t : Bool) → IsTruthOf (IsIn W.parents uid of) (Ok (boolean t)) → EvaluatesTo W q (is_in x of) (Ok (boolean t))
     in_gives of t told = rule.gives_binary In (core.Variable x) (entity_literal of) (stands_for x uid is) (rule.gives_literal (literal.Entity of)) (op.in_entity told)
 
-    is_gives : (name : List ℕ) (t : Bool) → IsTruthOf (uid.type_name ≡ name) (Ok (boolean t)) → Gives W q (core.Unary (Is name) (core.Variable x)) (Ok (boolean t))
+    is_gives : (name : List ℕ) (t : Bool) → IsTruthOf (uid.type_name ≡ name) (Ok (boolean t)) → EvaluatesTo W q (core.Unary (Is name) (core.Variable x)) (Ok (boolean t))
     is_gives name t told = rule.gives_unary (Is name) (core.Variable x) (stands_for x uid is) (op.is_entity told)
 
-    entity_holds : (scope : EntityScope) → IsEntityScopeTrue (IsIn W.parents uid) scope uid → Gives W q (entity_part x scope) (Ok (boolean true))
+    entity_holds : (scope : EntityScope) → IsEntityScopeTrue (IsIn W.parents uid) scope uid → EvaluatesTo W q (entity_part x scope) (Ok (boolean true))
     entity_holds part.Any h = rule.gives_literal (literal.Boolean true)
     entity_holds (part.Equal of) h = equal_gives of true (holds (ap entity h))
     entity_holds (part.In of) h = in_gives of true (holds h)
     entity_holds (part.Is name) h = is_gives name true (holds h)
     entity_holds (part.IsIn name of) h = rule.and_true (core.Unary (Is name) (core.Variable x)) (is_in x of) (is_gives name true (holds h.0)) (in_gives of true (holds h.1))
 
-    entity_fails : (scope : EntityScope) → ¬ IsEntityScopeTrue (IsIn W.parents uid) scope uid → Gives W q (entity_part x scope) (Ok (boolean false))
+    entity_fails : (scope : EntityScope) → ¬ IsEntityScopeTrue (IsIn W.parents uid) scope uid → EvaluatesTo W q (entity_part x scope) (Ok (boolean false))
     entity_fails part.Any n = absurd (n tt)
     entity_fails (part.Equal of) n = equal_gives of false (fails (λ same. n (same_entity uid of same)))
     entity_fails (part.In of) n = in_gives of false (fails n)
@@ -147,22 +148,22 @@ module _ (made : SetsHoldTheirMembers) (W : World) (q : Request) where
       | inr other ↦ rule.and_false (core.Unary (Is name) (core.Variable x)) (is_in x of) (is_gives name false (fails other))
     ]
 
-    some_gives : (us : List EntityUid) (t : Bool) → ((ws : List EntityUid) → ((u : EntityUid) → Contains ws u ↔ Contains us u) → IsTruthOf ((u : EntityUid) × Contains ws u × op.IsIn W uid u) (Ok (boolean t))) →
-        Gives W q (core.Binary In (core.Variable x) (core.Set (map entity_literal us))) (Ok (boolean t))
+    some_gives : (us : List EntityUid) (t : Bool) → ((ws : List EntityUid) → ((u : EntityUid) → Contains ws u ↔ Contains us u) → IsTruthOf ((u : EntityUid) × Contains ws u × IsIn W.parents uid u) (Ok (boolean t))) →
+        EvaluatesTo W q (core.Binary In (core.Variable x) (core.Set (map entity_literal us))) (Ok (boolean t))
     some_gives us t told =
         let found = set_entities made us in
         rule.gives_binary In (core.Variable x) (core.Set (map entity_literal us)) (stands_for x uid is)
         (rule.gives_set (map entity_literal us) (literals us) (made (map entity us)))
         (op.in_set found.0 (list_of-values_of (set_list (map entity us)) ∙ found.1) (told found.0 found.2))
 
-  action_holds : (scope : ActionScope) → IsActionScopeTrue (IsIn W.parents q.action) scope q.action → Gives W q (action_part scope) (Ok (boolean true))
+  action_holds : (scope : ActionScope) → IsActionScopeTrue (IsIn W.parents q.action) scope q.action → EvaluatesTo W q (action_part scope) (Ok (boolean true))
   action_holds action.Any h = rule.gives_literal (literal.Boolean true)
   action_holds (action.Equal of) h = equal_gives Action q.action refl of true (holds (ap entity h))
   action_holds (action.In of) h = in_gives Action q.action refl of true (holds h)
   action_holds (action.InList []) h = Contains-none h.0 h.1
   action_holds (action.InList (u ∷ us)) h = some_gives Action q.action refl (u ∷ us) true (λ ws same. holds (h.0, (same h.0).1 h.1, h.2))
 
-  action_fails : (scope : ActionScope) → ¬ IsActionScopeTrue (IsIn W.parents q.action) scope q.action → Gives W q (action_part scope) (Ok (boolean false))
+  action_fails : (scope : ActionScope) → ¬ IsActionScopeTrue (IsIn W.parents q.action) scope q.action → EvaluatesTo W q (action_part scope) (Ok (boolean false))
   action_fails action.Any n = absurd (n tt)
   action_fails (action.Equal of) n = equal_gives Action q.action refl of false (fails (λ same. n (same_entity q.action of same)))
   action_fails (action.In of) n = in_gives Action q.action refl of false (fails n)
@@ -202,18 +203,18 @@ module _ (made : SetsHoldTheirMembers) (W : World) (q : Request) where
         }
 
     -- the first part that is not true gives false
-    pub principal_fails : ¬ IsEntityScopeTrue (IsIn W.parents q.principal) policy.scope.principal q.principal → Gives W q (expression_of policy) (Ok (boolean false))
+    pub principal_fails : ¬ IsEntityScopeTrue (IsIn W.parents q.principal) policy.scope.principal q.principal → EvaluatesTo W q (expression_of policy) (Ok (boolean false))
     principal_fails n = rule.and_false principal_part (core.And acted_part (core.And resource_part policy.condition)) ((parts_tell policy.scope).principal.1 n)
 
     pub action_then_fails : IsEntityScopeTrue (IsIn W.parents q.principal) policy.scope.principal q.principal → ¬ IsActionScopeTrue (IsIn W.parents q.action) policy.scope.action q.action →
-        Gives W q (expression_of policy) (Ok (boolean false))
+        EvaluatesTo W q (expression_of policy) (Ok (boolean false))
     action_then_fails h n =
         let told = parts_tell policy.scope in
         rule.and_true principal_part (core.And acted_part (core.And resource_part policy.condition)) (told.principal.0 h)
         (rule.and_false acted_part (core.And resource_part policy.condition) (told.action.1 n))
 
     pub resource_then_fails : IsEntityScopeTrue (IsIn W.parents q.principal) policy.scope.principal q.principal → IsActionScopeTrue (IsIn W.parents q.action) policy.scope.action q.action →
-        ¬ IsEntityScopeTrue (IsIn W.parents q.resource) policy.scope.resource q.resource → Gives W q (expression_of policy) (Ok (boolean false))
+        ¬ IsEntityScopeTrue (IsIn W.parents q.resource) policy.scope.resource q.resource → EvaluatesTo W q (expression_of policy) (Ok (boolean false))
     resource_then_fails h g n =
         let told = parts_tell policy.scope in
         rule.and_true principal_part (core.And acted_part (core.And resource_part policy.condition)) (told.principal.0 h)
@@ -263,7 +264,7 @@ module _ (made : SetsHoldTheirMembers) (W : World) (above : EntityUid → Entity
   action_known (action.In of) uid = in_known uid of
   action_known (action.InList us) uid = some_known uid us
 
-  pub scope_fails : (q : Request) (policy : Policy) → ¬ IsScopeTrue W.parents policy.scope q → Gives W q (expression_of policy) (Ok (boolean false))
+  pub scope_fails : (q : Request) (policy : Policy) → ¬ IsScopeTrue W.parents policy.scope q → EvaluatesTo W q (expression_of policy) (Ok (boolean false))
   scope_fails q policy n = elim (entity_known policy.scope.principal q.principal) [
     | inr failing ↦ principal_fails made W q policy failing
     | inl h ↦ elim (action_known policy.scope.action q.action) [

@@ -11,7 +11,7 @@ use Rattle.evaluator.specs.Laws.{HaveOneOutcome, NothingWantsMemory}
 use Rattle.authoriser.specs.declared.answer.Answer.{Answer}
 use Rattle.authoriser.specs.declared.outcome.Outcome.{Outcome}
 use Rattle.authoriser.specs.declared.outcome.Outcome.TheVariants.{Satisfied, NotSatisfied, Errs}
-use Rattle.authoriser.specs.Answers.{Named, PolicyOutcome, IsPolicyOutcome, ComesTo, ArePolicyOutcomes, if_satisfied, satisfied, erring, answer_by, IsAnswer, IsPolicyAnswer}
+use Rattle.authoriser.specs.Answers.{NamedPolicy, PolicyOutcome, IsPolicyOutcome, ComesTo, ArePolicyOutcomes, if_satisfied, satisfied, erring, answer_by, IsAnswer, IsPolicyAnswer}
 use Rattle.authoriser.specs.Laws.{IsSatisfied, DefaultDeny, IsIdle, IdleChangesNothing, LeavingOutChangesNothing, AreAlike, OrderDoesNotMatter}
 use Rattle.plain.proofs.Members.{Contains-here, Contains-there, Contains-cases, Contains-none}
 use Rattle.authoriser.proofs.Lawful.{Determined, one_outcome, one_judgement, one_denial, not_both, denied, idle_left_out, picked, put_back, alike_judged}
@@ -55,7 +55,7 @@ none_of (x ∷ xs) h = absurd (h x (Contains-here x xs))
 
 -- ---- judgements and policies
 module _ (W : World) (q : Request) where
-  judged_from : (ps : List Named) (js : List PolicyOutcome) → ArePolicyOutcomes W q ps js → (j : PolicyOutcome) → Contains js j → (p : Named) × Contains ps p × IsPolicyOutcome W q p j
+  judged_from : (ps : List NamedPolicy) (js : List PolicyOutcome) → ArePolicyOutcomes W q ps js → (j : PolicyOutcome) → Contains js j → (p : NamedPolicy) × Contains ps p × IsPolicyOutcome W q p j
   judged_from [] [] h j c = Contains-none j c
   judged_from [] (k ∷ js) h j c = absurd h
   judged_from (p ∷ ps) [] h j c = absurd h
@@ -64,7 +64,7 @@ module _ (W : World) (q : Request) where
     | inr t ↦ let found = judged_from ps js h.1 j t in (found.0, Contains-there p ps found.0 found.1, found.2)
   ]
 
-  judged_to : (ps : List Named) (js : List PolicyOutcome) → ArePolicyOutcomes W q ps js → (p : Named) → Contains ps p → (j : PolicyOutcome) × Contains js j × IsPolicyOutcome W q p j
+  judged_to : (ps : List NamedPolicy) (js : List PolicyOutcome) → ArePolicyOutcomes W q ps js → (p : NamedPolicy) → Contains ps p → (j : PolicyOutcome) × Contains js j × IsPolicyOutcome W q p j
   judged_to [] js h p c = Contains-none p c
   judged_to (f ∷ ps) [] h p c = absurd h
   judged_to (f ∷ ps) (k ∷ js) h p c = elim (Contains-cases f ps p c) [
@@ -73,8 +73,8 @@ module _ (W : World) (q : Request) where
   ]
 
   -- what is counted as satisfied is a satisfied policy,
-  pub satisfied_from : (ps : List Named) (js : List PolicyOutcome) → ArePolicyOutcomes W q ps js → (wanted : Effect) (id : List ℕ) → Contains (satisfied wanted js) id →
-      (p : Named) × Contains ps p × (p.id ≡ id) × IsSatisfied W q wanted p
+  pub satisfied_from : (ps : List NamedPolicy) (js : List PolicyOutcome) → ArePolicyOutcomes W q ps js → (wanted : Effect) (id : List ℕ) → Contains (satisfied wanted js) id →
+      (p : NamedPolicy) × Contains ps p × (p.id ≡ id) × IsSatisfied W q wanted p
   satisfied_from ps js h wanted id c =
       let one = picked (if_satisfied wanted) js id c in
       let told = counted wanted one.0 id one.2 in
@@ -84,22 +84,22 @@ module _ (W : World) (q : Request) where
 
   module _ (given : Determined W q) where
     -- and each satisfied policy is counted
-    pub satisfied_to : (ps : List Named) (js : List PolicyOutcome) → ArePolicyOutcomes W q ps js → (wanted : Effect) (p : Named) → Contains ps p → IsSatisfied W q wanted p → Contains (satisfied wanted js) p.id
+    pub satisfied_to : (ps : List NamedPolicy) (js : List PolicyOutcome) → ArePolicyOutcomes W q ps js → (wanted : Effect) (p : NamedPolicy) → Contains ps p → IsSatisfied W q wanted p → Contains (satisfied wanted js) p.id
     satisfied_to ps js h wanted p c s =
         let one = judged_to ps js h p c in
         let is = one.2 in
         let outcome = one_outcome W q p.policy (given (expression_of p.policy)) one.0.outcome Satisfied is.outcome s.1 in
         subst (Contains (satisfied wanted js)) is.id (put_back (if_satisfied wanted) js one.0 one.0.id one.1 (is_counted wanted one.0 (is.effect ∙ s.0) outcome))
 
-    same_judged : (ps others : List Named) (js ks : List PolicyOutcome) → ArePolicyOutcomes W q ps js → ArePolicyOutcomes W q others ks →
-        ((p : Named) → Contains ps p → Contains others p) → (j : PolicyOutcome) → Contains js j → Contains ks j
+    same_judged : (ps others : List NamedPolicy) (js ks : List PolicyOutcome) → ArePolicyOutcomes W q ps js → ArePolicyOutcomes W q others ks →
+        ((p : NamedPolicy) → Contains ps p → Contains others p) → (j : PolicyOutcome) → Contains js j → Contains ks j
     same_judged ps others js ks h g within j c =
         let from = judged_from ps js h j c in
         let to = judged_to others ks g from.0 (within from.0 from.1) in
         subst (Contains ks) (one_judgement W q given from.0 to.0 j to.2 from.2) to.1
 
   -- a list of judgements, cut where the policies are
-  front_judged : (front back : List Named) (js : List PolicyOutcome) → ArePolicyOutcomes W q (front ++ back) js →
+  front_judged : (front back : List NamedPolicy) (js : List PolicyOutcome) → ArePolicyOutcomes W q (front ++ back) js →
       (fs : List PolicyOutcome) × (bs : List PolicyOutcome) × (js ≡ fs ++ bs) × ArePolicyOutcomes W q front fs × ArePolicyOutcomes W q back bs
   front_judged [] back js h = ([], js, refl, tt, h)
   front_judged (p ∷ front) back [] h = absurd h
@@ -107,24 +107,24 @@ module _ (W : World) (q : Request) where
       let cut = front_judged front back js h.1 in
       (j ∷ cut.0, cut.1, ap (λ ks. j ∷ ks) cut.2, (h.0, cut.3), cut.4)
 
-  join_judged : (front back : List Named) (fs bs : List PolicyOutcome) → ArePolicyOutcomes W q front fs → ArePolicyOutcomes W q back bs → ArePolicyOutcomes W q (front ++ back) (fs ++ bs)
+  join_judged : (front back : List NamedPolicy) (fs bs : List PolicyOutcome) → ArePolicyOutcomes W q front fs → ArePolicyOutcomes W q back bs → ArePolicyOutcomes W q (front ++ back) (fs ++ bs)
   join_judged [] back [] bs h g = g
   join_judged [] back (f ∷ fs) bs h g = absurd h
   join_judged (p ∷ front) back [] bs h g = absurd h
   join_judged (p ∷ front) back (f ∷ fs) bs h g = (h.0, join_judged front back fs bs h.1 g)
 
-  first_judged : (p : Named) (back : List Named) (bs : List PolicyOutcome) → ArePolicyOutcomes W q (p ∷ back) bs →
+  first_judged : (p : NamedPolicy) (back : List NamedPolicy) (bs : List PolicyOutcome) → ArePolicyOutcomes W q (p ∷ back) bs →
       (j : PolicyOutcome) × (more : List PolicyOutcome) × (bs ≡ j ∷ more) × IsPolicyOutcome W q p j × ArePolicyOutcomes W q back more
   first_judged p back [] h = absurd h
   first_judged p back (j ∷ more) h = (j, more, refl, h.0, h.1)
 
-  idle_judged : (p : Named) (o : Outcome) → IsIdle W q p → ComesTo W q p.policy o → o ≡ NotSatisfied
+  idle_judged : (p : NamedPolicy) (o : Outcome) → IsIdle W q p → ComesTo W q p.policy o → o ≡ NotSatisfied
   idle_judged p Satisfied idle c = absurd (idle.satisfied c)
   idle_judged p NotSatisfied idle c = refl
   idle_judged p (Errs error) idle c = absurd (idle.erring error c)
 
   -- without an idle policy the answer is as before,
-  idle_out : (front back : List Named) (p : Named) (a : Answer) → IsIdle W q p → IsPolicyAnswer W q (front ++ p ∷ back) a → IsPolicyAnswer W q (front ++ back) a
+  idle_out : (front back : List NamedPolicy) (p : NamedPolicy) (a : Answer) → IsIdle W q p → IsPolicyAnswer W q (front ++ p ∷ back) a → IsPolicyAnswer W q (front ++ back) a
   idle_out front back p a idle r =
       let cut = front_judged front (p ∷ back) r.judged r.outcomes in
       let one = first_judged p back cut.1 cut.4 in
@@ -138,7 +138,7 @@ module _ (W : World) (q : Request) where
       }
 
   -- and so it is with one
-  idle_in : (front back : List Named) (p : Named) (a : Answer) → ComesTo W q p.policy NotSatisfied → IsPolicyAnswer W q (front ++ back) a → IsPolicyAnswer W q (front ++ p ∷ back) a
+  idle_in : (front back : List NamedPolicy) (p : NamedPolicy) (a : Answer) → ComesTo W q p.policy NotSatisfied → IsPolicyAnswer W q (front ++ back) a → IsPolicyAnswer W q (front ++ p ∷ back) a
   idle_in front back p a comes r =
       let cut = front_judged front back r.judged r.outcomes in
       let j : PolicyOutcome = record { id = p.id; effect = p.policy.effect; outcome = NotSatisfied } in
@@ -174,11 +174,11 @@ idle_changes_nothing law memory W above D q front back p a idle = (out, into)
 pub leaving_out_changes_nothing : IdleChangesNothing → LeavingOutChangesNothing
 leaving_out_changes_nothing law W above D q ps kept a = from [] ps
   where
-    at : (b : Bool) (front back rest : List Named) (p : Named) → kept p ≡ b → (b ≡ false → IsIdle W q p) →
-        ((front : List Named) → IsAnswer W q (front ++ back) a ↔ IsAnswer W q (front ++ rest) a) →
+    at : (b : Bool) (front back rest : List NamedPolicy) (p : NamedPolicy) → kept p ≡ b → (b ≡ false → IsIdle W q p) →
+        ((front : List NamedPolicy) → IsAnswer W q (front ++ back) a ↔ IsAnswer W q (front ++ rest) a) →
         IsAnswer W q (front ++ p ∷ back) a ↔ IsAnswer W q (front ++ cond b (p ∷ rest) rest) a
     at true front back rest p e idle more =
-        let pushed = λ (xs : List Named). append_assoc front (p ∷ []) xs in
+        let pushed = λ (xs : List NamedPolicy). append_assoc front (p ∷ []) xs in
         let next = more (front ++ p ∷ []) in (
           (λ h. subst (λ xs. IsAnswer W q xs a) (pushed rest) (next.0 (subst (λ xs. IsAnswer W q xs a) (sym (pushed back)) h))),
           (λ h. subst (λ xs. IsAnswer W q xs a) (pushed back) (next.1 (subst (λ xs. IsAnswer W q xs a) (sym (pushed rest)) h))),
@@ -187,7 +187,7 @@ leaving_out_changes_nothing law W above D q ps kept a = from [] ps
         let one = law W above D q front back p a (idle refl) in
         ((λ h. (more front).0 (one.0 h)), (λ h. one.1 ((more front).1 h)))
 
-    from : (front ps : List Named) → ((p : Named) → Contains ps p → kept p ≡ false → IsIdle W q p) →
+    from : (front ps : List NamedPolicy) → ((p : NamedPolicy) → Contains ps p → kept p ≡ false → IsIdle W q p) →
         IsAnswer W q (front ++ ps) a ↔ IsAnswer W q (front ++ filter kept ps) a
     from front [] idle = ((λ h. h), (λ h. h))
     from front (p ∷ ps) idle = at (kept p) front ps (filter kept ps) p refl (λ e. idle p (Contains-here p ps) e)

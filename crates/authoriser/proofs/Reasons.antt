@@ -13,7 +13,7 @@ use Rattle.authoriser.specs.declared.answer.Decision.TheVariants.{Allow}
 use Rattle.authoriser.specs.declared.outcome.Outcome.{Outcome}
 use Rattle.authoriser.specs.declared.outcome.Outcome.TheVariants.{Satisfied, NotSatisfied, Errs}
 use Rattle.authoriser.specs.declared.outcome.PolicyError.{PolicyError}
-use Rattle.authoriser.specs.Answers.{Named, PolicyOutcome, IsPolicyOutcome, ComesTo, ArePolicyOutcomes, if_satisfied, satisfied, if_erring, erring, decided, IsCycleDenial}
+use Rattle.authoriser.specs.Answers.{NamedPolicy, PolicyOutcome, IsPolicyOutcome, ComesTo, ArePolicyOutcomes, if_satisfied, satisfied, if_erring, erring, decided, IsCycleDenial}
 use Rattle.authoriser.specs.Laws.{IsSatisfied, AreIdsOf, no_id, its_id, not_its_id, AreErrorsOf, no_error, its_error, not_its_error, IsAcyclic, ForbidDecides, PermitsDecide, ErrorsAreTold}
 use Rattle.plain.proofs.Members.{Contains-none}
 use Rattle.authoriser.proofs.Lawful.{Determined, one_outcome, some_member, forbidden}
@@ -51,12 +51,12 @@ erring_or_not j = at j.outcome
     at (Errs error) = inl (error, refl, refl)
 
 module _ (W : World) (q : Request) (given : Determined W q) where
-  comes_once : (p : Named) (j : PolicyOutcome) → IsPolicyOutcome W q p j → (o : Outcome) → ComesTo W q p.policy o → j.outcome ≡ o
+  comes_once : (p : NamedPolicy) (j : PolicyOutcome) → IsPolicyOutcome W q p j → (o : Outcome) → ComesTo W q p.policy o → j.outcome ≡ o
   comes_once p j is o c = one_outcome W q p.policy (given (expression_of p.policy)) j.outcome o is.outcome c
 
   -- ---- the satisfied policies of an effect
 
-  one_id : (wanted : Effect) (p : Named) (ps : List Named) (j : PolicyOutcome) (ids : List (List ℕ)) → IsPolicyOutcome W q p j → AreIdsOf (IsSatisfied W q wanted) ps ids →
+  one_id : (wanted : Effect) (p : NamedPolicy) (ps : List NamedPolicy) (j : PolicyOutcome) (ids : List (List ℕ)) → IsPolicyOutcome W q p j → AreIdsOf (IsSatisfied W q wanted) ps ids →
       AreIdsOf (IsSatisfied W q wanted) (p ∷ ps) (if_satisfied wanted j ++ ids)
   one_id wanted p ps j ids is rest = elim (counted_or_not wanted j) [
     | inl h ↦ subst (λ xs. AreIdsOf (IsSatisfied W q wanted) (p ∷ ps) (xs ++ ids)) (sym h.1)
@@ -66,7 +66,7 @@ module _ (W : World) (q : Request) (given : Determined W q) where
         (not_its_id (λ s. h.0 (is.effect ∙ s.0, comes_once p j is Satisfied s.1)) rest)
   ]
 
-  ids_of : (wanted : Effect) (ps : List Named) (js : List PolicyOutcome) → ArePolicyOutcomes W q ps js → AreIdsOf (IsSatisfied W q wanted) ps (satisfied wanted js)
+  ids_of : (wanted : Effect) (ps : List NamedPolicy) (js : List PolicyOutcome) → ArePolicyOutcomes W q ps js → AreIdsOf (IsSatisfied W q wanted) ps (satisfied wanted js)
   ids_of wanted [] [] h = no_id
   ids_of wanted [] (j ∷ js) h = absurd h
   ids_of wanted (p ∷ ps) [] h = absurd h
@@ -74,7 +74,7 @@ module _ (W : World) (q : Request) (given : Determined W q) where
 
   -- ---- the erring policies
 
-  one_error : (p : Named) (ps : List Named) (j : PolicyOutcome) (errors : List ErringPolicy) → IsPolicyOutcome W q p j → AreErrorsOf W q ps errors → AreErrorsOf W q (p ∷ ps) (if_erring j ++ errors)
+  one_error : (p : NamedPolicy) (ps : List NamedPolicy) (j : PolicyOutcome) (errors : List ErringPolicy) → IsPolicyOutcome W q p j → AreErrorsOf W q ps errors → AreErrorsOf W q (p ∷ ps) (if_erring j ++ errors)
   one_error p ps j errors is rest = elim (erring_or_not j) [
     | inl h ↦ subst (λ xs. AreErrorsOf W q (p ∷ ps) (xs ++ errors)) (sym h.2)
         (subst (λ id. AreErrorsOf W q (p ∷ ps) (record { policy = id; error = h.0 } ∷ errors)) (sym is.id)
@@ -83,7 +83,7 @@ module _ (W : World) (q : Request) (given : Determined W q) where
         (not_its_error (λ error c. h.0 error (comes_once p j is (Errs error) c)) rest)
   ]
 
-  errors_of : (ps : List Named) (js : List PolicyOutcome) → ArePolicyOutcomes W q ps js → AreErrorsOf W q ps (erring js)
+  errors_of : (ps : List NamedPolicy) (js : List PolicyOutcome) → ArePolicyOutcomes W q ps js → AreErrorsOf W q ps (erring js)
   errors_of [] [] h = no_error
   errors_of [] (j ∷ js) h = absurd h
   errors_of (p ∷ ps) [] h = absurd h

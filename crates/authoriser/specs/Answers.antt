@@ -15,7 +15,7 @@ use Rattle.policy_grammar.specs.Whole.{expression_of}
 use Rattle.evaluator.specs.declared.fault.EvalFault.{EvalFault}
 use Rattle.evaluator.specs.declared.fault.EvalFault.TheVariants as fault
 use Rattle.evaluator.specs.Operators.{World}
-use Rattle.evaluator.specs.Evaluation.{Gives}
+use Rattle.evaluator.specs.Evaluation.{EvaluatesTo}
 use Rattle.authoriser.specs.declared.answer.Answer.{Answer}
 use Rattle.authoriser.specs.declared.answer.Decision.TheVariants.{Allow, Deny}
 use Rattle.authoriser.specs.declared.answer.ErringPolicy.{ErringPolicy}
@@ -26,7 +26,7 @@ use Rattle.authoriser.specs.declared.outcome.PolicyError.TheVariants.{EntityDoes
 use Rattle.authoriser.specs.declared.outcome.PolicyError.TheVariants.{ArithBoundsError, ExtensionError}
 
 -- a policy and its id
-pub record Named : Type 0 where
+pub record NamedPolicy : Type 0 where
   pub id : List ℕ
   pub policy : Policy
 
@@ -40,9 +40,9 @@ fault_of ExtensionError = fault.ExtensionError
 
 -- what a policy comes to: what its whole expression gives
 abbrev pub ComesTo : World → Request → Policy → Outcome → Type 0
-ComesTo W q policy Satisfied = Gives W q (expression_of policy) (Ok (boolean true))
-ComesTo W q policy NotSatisfied = Gives W q (expression_of policy) (Ok (boolean false))
-ComesTo W q policy (Errs error) = Gives W q (expression_of policy) (Err (fault_of error))
+ComesTo W q policy Satisfied = EvaluatesTo W q (expression_of policy) (Ok (boolean true))
+ComesTo W q policy NotSatisfied = EvaluatesTo W q (expression_of policy) (Ok (boolean false))
+ComesTo W q policy (Errs error) = EvaluatesTo W q (expression_of policy) (Err (fault_of error))
 
 -- a policy's id and effect, and what it comes to
 pub record PolicyOutcome : Type 0 where
@@ -50,13 +50,13 @@ pub record PolicyOutcome : Type 0 where
   pub effect : Effect
   pub outcome : Outcome
 
-pub record IsPolicyOutcome (W : World) (q : Request) (p : Named) (j : PolicyOutcome) : Type 0 where
+pub record IsPolicyOutcome (W : World) (q : Request) (p : NamedPolicy) (j : PolicyOutcome) : Type 0 where
   pub id : j.id ≡ p.id
   pub effect : j.effect ≡ p.policy.effect
   pub outcome : ComesTo W q p.policy j.outcome
 
 -- each policy in its order
-abbrev pub ArePolicyOutcomes : World → Request → List Named → List PolicyOutcome → Type 0
+abbrev pub ArePolicyOutcomes : World → Request → List NamedPolicy → List PolicyOutcome → Type 0
 ArePolicyOutcomes W q [] [] = Unit {0}
 ArePolicyOutcomes W q [] (j ∷ js) = ⊥
 ArePolicyOutcomes W q (p ∷ ps) [] = ⊥
@@ -104,11 +104,11 @@ pub record IsCycleDenial (parents : Parents) (a : Answer) : Type 0 where
   pub rest : a ≡ record { decision = Deny; reason = []; errors = []; cycle = a.cycle }
 
 -- no entity is on a cycle: the answer by what the policies come to
-pub record IsPolicyAnswer (W : World) (q : Request) (ps : List Named) (a : Answer) : Type 0 where
+pub record IsPolicyAnswer (W : World) (q : Request) (ps : List NamedPolicy) (a : Answer) : Type 0 where
   pub acyclic : (uid : EntityUid) → Above W.parents uid uid → ⊥
   pub judged : List PolicyOutcome
   pub outcomes : ArePolicyOutcomes W q ps judged
   pub answer : a ≡ answer_by judged
 
-abbrev pub IsAnswer : World → Request → List Named → Answer → Type 0
+abbrev pub IsAnswer : World → Request → List NamedPolicy → Answer → Type 0
 IsAnswer W q ps a = IsCycleDenial W.parents a ⊎ IsPolicyAnswer W q ps a

@@ -15,17 +15,18 @@ use Rattle.authoriser.specs.declared.answer.Decision.TheVariants.{Allow, Deny}
 use Rattle.authoriser.specs.declared.answer.ErringPolicy.{ErringPolicy}
 use Rattle.authoriser.specs.declared.outcome.Outcome.TheVariants.{Satisfied, Errs}
 use Rattle.authoriser.specs.declared.outcome.PolicyError.{PolicyError}
-use Rattle.authoriser.specs.Answers.{Named, ComesTo, IsAnswer}
+use Rattle.authoriser.specs.Answers.{NamedPolicy, ComesTo, IsAnswer}
 
 -- ---- one answer
 
 -- all answers to a request are one
 abbrev pub HasOneAnswerAtMost : World → Type 0
-HasOneAnswerAtMost W = (q : Request) (ps : List Named) (a b : Answer) → IsAnswer W q ps a → IsAnswer W q ps b → a ≡ b
+HasOneAnswerAtMost W = (q : Request) (ps : List NamedPolicy) (a b : Answer) → IsAnswer W q ps a → IsAnswer W q ps b
+    → a ≡ b
 
 -- a request has exactly one answer
 abbrev pub HasOneAnswer : World → Type 0
-HasOneAnswer W = (q : Request) (ps : List Named)
+HasOneAnswer W = (q : Request) (ps : List NamedPolicy)
     → (a : Answer) × IsAnswer W q ps a × ((b : Answer) → IsAnswer W q ps b → b ≡ a)
 
 -- wherever a test decides who is above whom, it has one at most,
@@ -39,29 +40,29 @@ OneAnswerInFiniteHierarchies = (W : World) (stored : List EntityUid) → HaveAll
 -- ---- what decides
 
 -- the policy has this effect and is satisfied
-abbrev pub IsSatisfied : World → Request → Effect → Named → Type 0
+abbrev pub IsSatisfied : World → Request → Effect → NamedPolicy → Type 0
 IsSatisfied W q effect p = (p.policy.effect ≡ effect) × ComesTo W q p.policy Satisfied
 
 -- without a satisfied permit it is denied
 abbrev pub DefaultDeny : Type 0
-DefaultDeny = (W : World) (q : Request) (ps : List Named) (a : Answer) → IsAnswer W q ps a →
-    ((p : Named) → Contains ps p → ¬ IsSatisfied W q Permit p) → a.decision ≡ Deny
+DefaultDeny = (W : World) (q : Request) (ps : List NamedPolicy) (a : Answer) → IsAnswer W q ps a →
+    ((p : NamedPolicy) → Contains ps p → ¬ IsSatisfied W q Permit p) → a.decision ≡ Deny
 
 -- the ids of those policies of which P holds, in the order of the policies, each as often as it stands there
-pub data AreIdsOf (P : Named → Type 0) : List Named → List (List ℕ) → Type 0 where
+pub data AreIdsOf (P : NamedPolicy → Type 0) : List NamedPolicy → List (List ℕ) → Type 0 where
   no_id : AreIdsOf P [] []
-  its_id : {p : Named} {ps : List Named} {ids : List (List ℕ)} → P p → AreIdsOf P ps ids
+  its_id : {p : NamedPolicy} {ps : List NamedPolicy} {ids : List (List ℕ)} → P p → AreIdsOf P ps ids
       → AreIdsOf P (p ∷ ps) (p.id ∷ ids)
-  not_its_id : {p : Named} {ps : List Named} {ids : List (List ℕ)} → ¬ P p → AreIdsOf P ps ids
+  not_its_id : {p : NamedPolicy} {ps : List NamedPolicy} {ids : List (List ℕ)} → ¬ P p → AreIdsOf P ps ids
       → AreIdsOf P (p ∷ ps) ids
 
 -- those of the policies that err, in that order, each with its error
-pub data AreErrorsOf (W : World) (q : Request) : List Named → List ErringPolicy → Type 0 where
+pub data AreErrorsOf (W : World) (q : Request) : List NamedPolicy → List ErringPolicy → Type 0 where
   no_error : AreErrorsOf W q [] []
-  its_error : {p : Named} {ps : List Named} {errors : List ErringPolicy} {error : PolicyError}
+  its_error : {p : NamedPolicy} {ps : List NamedPolicy} {errors : List ErringPolicy} {error : PolicyError}
       → ComesTo W q p.policy (Errs error) → AreErrorsOf W q ps errors
       → AreErrorsOf W q (p ∷ ps) (record { policy = p.id; error = error } ∷ errors)
-  not_its_error : {p : Named} {ps : List Named} {errors : List ErringPolicy}
+  not_its_error : {p : NamedPolicy} {ps : List NamedPolicy} {errors : List ErringPolicy}
       → ((error : PolicyError) → ¬ ComesTo W q p.policy (Errs error)) → AreErrorsOf W q ps errors
       → AreErrorsOf W q (p ∷ ps) errors
 
@@ -72,7 +73,7 @@ IsAcyclic W = (uid : EntityUid) → ¬ Above W.parents uid uid
 -- a satisfied forbid decides; and where no entity is on a cycle, the satisfied forbids are the reason
 abbrev pub ForbidDecides : Type 0
 ForbidDecides = (W : World) (above : EntityUid → EntityUid → Bool) → Decides W.parents above →
-    (q : Request) (ps : List Named) (a : Answer) (p : Named) → IsAnswer W q ps a → Contains ps p
+    (q : Request) (ps : List NamedPolicy) (a : Answer) (p : NamedPolicy) → IsAnswer W q ps a → Contains ps p
     → IsSatisfied W q Forbid p →
     (a.decision ≡ Deny) × (IsAcyclic W → AreIdsOf (IsSatisfied W q Forbid) ps a.reason)
 
@@ -80,34 +81,34 @@ ForbidDecides = (W : World) (above : EntityUid → EntityUid → Bool) → Decid
 -- the satisfied permits are the reason
 abbrev pub PermitsDecide : Type 0
 PermitsDecide = (W : World) (above : EntityUid → EntityUid → Bool) → Decides W.parents above →
-    (q : Request) (ps : List Named) (a : Answer) → IsAnswer W q ps a → IsAcyclic W
-    → ((p : Named) → Contains ps p → ¬ IsSatisfied W q Forbid p) →
-    ((a.decision ≡ Allow) ↔ ((p : Named) × Contains ps p × IsSatisfied W q Permit p))
+    (q : Request) (ps : List NamedPolicy) (a : Answer) → IsAnswer W q ps a → IsAcyclic W
+    → ((p : NamedPolicy) → Contains ps p → ¬ IsSatisfied W q Forbid p) →
+    ((a.decision ≡ Allow) ↔ ((p : NamedPolicy) × Contains ps p × IsSatisfied W q Permit p))
     × AreIdsOf (IsSatisfied W q Permit) ps a.reason
 
 -- where no entity is on a cycle, the errors are those of the policies
 abbrev pub ErrorsAreTold : Type 0
 ErrorsAreTold = (W : World) (above : EntityUid → EntityUid → Bool) → Decides W.parents above →
-    (q : Request) (ps : List Named) (a : Answer) → IsAnswer W q ps a → IsAcyclic W → AreErrorsOf W q ps a.errors
+    (q : Request) (ps : List NamedPolicy) (a : Answer) → IsAnswer W q ps a → IsAcyclic W → AreErrorsOf W q ps a.errors
 
 -- ---- policies that may be left out
 
 -- the policy is neither satisfied nor erring
-pub record IsIdle (W : World) (q : Request) (p : Named) : Type 0 where
+pub record IsIdle (W : World) (q : Request) (p : NamedPolicy) : Type 0 where
   pub satisfied : ¬ ComesTo W q p.policy Satisfied
   pub erring : (error : PolicyError) → ¬ ComesTo W q p.policy (Errs error)
 
 -- leaving out a policy that is neither satisfied nor erring changes no answer, wherever it stands,
 abbrev pub IdleChangesNothing : Type 0
 IdleChangesNothing = (W : World) (above : EntityUid → EntityUid → Bool) → Decides W.parents above →
-    (q : Request) (front back : List Named) (p : Named) (a : Answer) → IsIdle W q p →
+    (q : Request) (front back : List NamedPolicy) (p : NamedPolicy) (a : Answer) → IsIdle W q p →
     IsAnswer W q (front ++ p ∷ back) a ↔ IsAnswer W q (front ++ back) a
 
 -- and so does leaving out all that a test does not keep, where they are such policies
 abbrev pub LeavingOutChangesNothing : Type 0
 LeavingOutChangesNothing = (W : World) (above : EntityUid → EntityUid → Bool) → Decides W.parents above →
-    (q : Request) (ps : List Named) (kept : Named → Bool) (a : Answer)
-    → ((p : Named) → Contains ps p → kept p ≡ false → IsIdle W q p) →
+    (q : Request) (ps : List NamedPolicy) (kept : NamedPolicy → Bool) (a : Answer)
+    → ((p : NamedPolicy) → Contains ps p → kept p ≡ false → IsIdle W q p) →
     IsAnswer W q ps a ↔ IsAnswer W q (filter kept ps) a
 
 -- ---- order
@@ -125,7 +126,7 @@ pub record AreAlike (a b : Answer) : Type 0 where
 -- in whatever order the policies stand, and however often each, the answers are alike
 abbrev pub OrderDoesNotMatter : Type 0
 OrderDoesNotMatter = (W : World) (above : EntityUid → EntityUid → Bool) → Decides W.parents above →
-    (q : Request) (ps others : List Named) (a b : Answer) → HaveSameMembers ps others → IsAnswer W q ps a
+    (q : Request) (ps others : List NamedPolicy) (a b : Answer) → HaveSameMembers ps others → IsAnswer W q ps a
     → IsAnswer W q others b → AreAlike a b
 
 -- ids in ascending order of their bytes, each once
@@ -135,6 +136,6 @@ AreIdsAscending ids = IsStrictlySortedBy text_cmp ids
 -- where the ids of the policies ascend, each list of the answer ascends: the reason, the errors by their policy, the
 -- cycle by the order of uids
 abbrev pub ListsAscend : Type 0
-ListsAscend = (W : World) (q : Request) (ps : List Named) (a : Answer) → AreIdsAscending (map (λ p. p.id) ps)
+ListsAscend = (W : World) (q : Request) (ps : List NamedPolicy) (a : Answer) → AreIdsAscending (map (λ p. p.id) ps)
     → IsAnswer W q ps a →
     AreIdsAscending a.reason × AreIdsAscending (map (λ e. e.policy) a.errors) × IsAscending a.cycle

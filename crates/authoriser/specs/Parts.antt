@@ -13,12 +13,13 @@ use Rattle.policy_grammar.specs.declared.policy.Scope.{Scope}
 use Rattle.policy_grammar.specs.Whole.{entity_part, action_part, expression_of}
 use Rattle.evaluator.specs.declared.fault.EvalFault.{EvalFault}
 use Rattle.evaluator.specs.Operators.{World}
-use Rattle.evaluator.specs.Evaluation.{Gives, TestFails}
-use Rattle.authoriser.specs.Scopes.{IsIn, IsEntityScopeTrue, IsActionScopeTrue, IsScopeTrue}
+use Rattle.evaluator.specs.Evaluation.{EvaluatesTo, TestFails}
+use Rattle.ancestor_closure.specs.Hierarchy.{IsIn}
+use Rattle.authoriser.specs.Scopes.{IsEntityScopeTrue, IsActionScopeTrue, IsScopeTrue}
 
 -- the expression gives whether P holds
 abbrev pub GivesWhether : World → Request → Expr → Type 0 → Type 0
-GivesWhether W q x P = (P → Gives W q x (Ok (boolean true))) × (¬ P → Gives W q x (Ok (boolean false)))
+GivesWhether W q x P = (P → EvaluatesTo W q x (Ok (boolean true))) × (¬ P → EvaluatesTo W q x (Ok (boolean false)))
 
 -- each part of the scope gives whether it is true
 pub record PartsTell (W : World) (q : Request) (scope : Scope) : Type 0 where
@@ -31,9 +32,9 @@ pub record PartsTell (W : World) (q : Request) (scope : Scope) : Type 0 where
 
 -- where the scope is true, the policy gives what its condition gives as a test, its errors included
 pub record ConditionDecides (W : World) (q : Request) (policy : Policy) : Type 0 where
-  pub gives : (t : Bool) → Gives W q policy.condition (Ok (boolean t))
-      → Gives W q (expression_of policy) (Ok (boolean t))
-  pub errs : (e : EvalFault) → TestFails W q policy.condition e → Gives W q (expression_of policy) (Err e)
+  pub gives : (t : Bool) → EvaluatesTo W q policy.condition (Ok (boolean t))
+      → EvaluatesTo W q (expression_of policy) (Ok (boolean t))
+  pub errs : (e : EvalFault) → TestFails W q policy.condition e → EvaluatesTo W q (expression_of policy) (Err e)
 
 -- no part of a scope errs
 abbrev pub ScopesDoNotErr : Type 0
@@ -49,4 +50,4 @@ TrueScopesLeaveToConditions = (W : World) (q : Request) (policy : Policy) → Is
 abbrev pub OtherScopesGiveFalse : Type 0
 OtherScopesGiveFalse = (W : World) (above : EntityUid → EntityUid → Bool) → Decides W.parents above
     → (q : Request) (policy : Policy) →
-    ¬ IsScopeTrue W.parents policy.scope q → Gives W q (expression_of policy) (Ok (boolean false))
+    ¬ IsScopeTrue W.parents policy.scope q → EvaluatesTo W q (expression_of policy) (Ok (boolean false))

@@ -11,7 +11,7 @@ use Rattle.policy_grammar.specs.declared.policy.Scope.{Scope}
 use Rattle.policy_grammar.specs.declared.policy.Effect.TheVariants.{Permit, Forbid}
 use Rattle.evaluator.specs.Outcomes.{boolean_in}
 use Rattle.evaluator.specs.Operators.{World}
-use Rattle.evaluator.specs.Evaluation.{Gives, TestFails}
+use Rattle.evaluator.specs.Evaluation.{EvaluatesTo, TestFails}
 use Rattle.authoriser.specs.declared.answer.ErringPolicy.{ErringPolicy}
 use Rattle.authoriser.specs.declared.outcome.Outcome.{Outcome}
 use Rattle.authoriser.specs.declared.outcome.Outcome.TheVariants.{Satisfied, NotSatisfied, Errs}
@@ -21,10 +21,10 @@ use Rattle.authoriser.specs.declared.placed.WithAncestors.{WithAncestors}
 use Rattle.authoriser.specs.declared.placed.RequestAncestors.{RequestAncestors}
 use Rattle.authoriser.specs.declared.tally.Tally.{Tally}
 use Rattle.authoriser.specs.Scopes.{IsEntityScopeTrue, IsActionScopeTrue}
-use Rattle.authoriser.specs.Answers.{Named, PolicyOutcome, fault_of, satisfied, erring}
+use Rattle.authoriser.specs.Answers.{NamedPolicy, PolicyOutcome, fault_of, satisfied, erring}
 
 -- the policies that the caller hands in
-abbrev pub named : List (Bor (List ℕ) × Bor Policy) → List Named
+abbrev pub named : List (Bor (List ℕ) × Bor Policy) → List NamedPolicy
 named ps = map (λ p. record { id = p.0.now; policy = p.1.now }) ps
 
 -- the entity is `of` itself, or `of` is among the ancestors that were looked up
@@ -32,21 +32,21 @@ abbrev pub IsWithin : WithAncestors → EntityUid → Type 0
 IsWithin p of = (p.uid.now ≡ of) ⊎ Contains (names p.ancestors.items) of
 
 -- its ancestors are all that lie above it, ascending
-pub record IsPlaced (parents : Parents) (entity : EntityUid) (p : WithAncestors) : Type 0 where
+pub record HasItsAncestors (parents : Parents) (entity : EntityUid) (p : WithAncestors) : Type 0 where
   pub same : p.uid.now ≡ entity
   pub all : IsAllAbove parents entity (names p.ancestors.items)
   pub ascending : IsAscending (names p.ancestors.items)
 
-pub record IsStanding (parents : Parents) (q : Request) (s : RequestAncestors) : Type 0 where
-  pub principal : IsPlaced parents q.principal s.principal
-  pub action : IsPlaced parents q.action s.action
-  pub resource : IsPlaced parents q.resource s.resource
+pub record HasRequestAncestors (parents : Parents) (q : Request) (s : RequestAncestors) : Type 0 where
+  pub principal : HasItsAncestors parents q.principal s.principal
+  pub action : HasItsAncestors parents q.action s.action
+  pub resource : HasItsAncestors parents q.resource s.resource
 
 -- the ancestors of each of the three are all that lie above it
-pub record AreAllPlaced (parents : Parents) (s : RequestAncestors) : Type 0 where
-  pub principal : IsPlaced parents s.principal.uid.now s.principal
-  pub action : IsPlaced parents s.action.uid.now s.action
-  pub resource : IsPlaced parents s.resource.uid.now s.resource
+pub record AllHaveTheirAncestors (parents : Parents) (s : RequestAncestors) : Type 0 where
+  pub principal : HasItsAncestors parents s.principal.uid.now s.principal
+  pub action : HasItsAncestors parents s.action.uid.now s.action
+  pub resource : HasItsAncestors parents s.resource.uid.now s.resource
 
 pub record AreAscending (s : RequestAncestors) : Type 0 where
   pub principal : IsAscending (names s.principal.ancestors.items)
@@ -62,8 +62,8 @@ IsTrueOf scope s =
 
 -- what a condition as a test comes to
 abbrev pub ConditionComesTo : World → Request → Expr → Outcome → Type 0
-ConditionComesTo W q x Satisfied = Gives W q x (Ok (boolean true))
-ConditionComesTo W q x NotSatisfied = Gives W q x (Ok (boolean false))
+ConditionComesTo W q x Satisfied = EvaluatesTo W q x (Ok (boolean true))
+ConditionComesTo W q x NotSatisfied = EvaluatesTo W q x (Ok (boolean false))
 ConditionComesTo W q x (Errs error) = TestFails W q x (fault_of error)
 
 -- a condition has to give a boolean

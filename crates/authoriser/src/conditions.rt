@@ -3,7 +3,7 @@ ghost use Rattle.std.specs.Prelude.{◌≡◌, IfOk, MatchResult};
 ghost use Rattle.evaluator.specs.declared.fault.EvalFault.TheVariants as evaluating;
 ghost use Rattle.evaluator.specs.Operators.{world_of};
 ghost use Rattle.authoriser.specs.Answers.{fault_of, ComesTo};
-ghost use Rattle.authoriser.specs.Views.{IsStanding, ConditionComesTo, outcome_by};
+ghost use Rattle.authoriser.specs.Views.{HasRequestAncestors, ConditionComesTo, outcome_by};
 
 use crate::laws::scopes_do_not_err;
 use crate::outcome::{Outcome, PolicyError};
@@ -62,15 +62,15 @@ fn outcome_of_condition<L: Lookup>(
 pub(crate) fn outcome_of<L: Lookup>(
     alloc: Global,
     policy: &Policy,
-    standing: &RequestAncestors<'_>,
+    request_ancestors: &RequestAncestors<'_>,
     request: &Request,
     store: &L,
 ) -> Result<Outcome, NoMemory>
-    requires { IsStanding (L.parents store.now) request.now standing.now }
+    requires { HasRequestAncestors (L.parents store.now) request.now request_ancestors.now }
     ensures { IfOk result (ComesTo (world_of (L.stored store.now) (L.parents store.now)) request.now policy.now) }
 {
     scopes_do_not_err();
-    if is_scope_true(&policy.scope, standing) {
+    if is_scope_true(&policy.scope, request_ancestors) {
         outcome_of_condition(alloc, &policy.condition, request, store)
     } else {
         Ok(Outcome::NotSatisfied)

@@ -41,12 +41,13 @@ fn answer_by_known<L: Lookup>(
 ) -> Result<Answer, NoMemory>
     requires { known.now.1 ≡ request.now }
     ensures { let W = world_of (L.stored known.now.0) (L.parents known.now.0) in
-        IfOk result (λ a. (js : List PolicyOutcome) × ArePolicyOutcomes W request.now (named policies.now) js × (a ≡ answer_by js)) }
+        IfOk result (λ a. (js : List PolicyOutcome) × ArePolicyOutcomes W request.now (named policies.now) js
+        × (a ≡ answer_by js)) }
 {
-    let standing = known.standing();
+    let request_ancestors = known.request_ancestors();
     let mut tally = Tally::new(alloc);
     for (id, policy) in policies {
-        let outcome = outcome_of(alloc, policy, standing, request, known)?;
+        let outcome = outcome_of(alloc, policy, request_ancestors, request, known)?;
         tally.note(id, policy.effect, outcome)?;
     }
     tally.into_answer(alloc)
@@ -60,7 +61,8 @@ fn answer_by_policies<L: Lookup>(
     store: &L,
 ) -> Result<Answer, NoMemory>
     ensures { let W = world_of (L.stored store.now) (L.parents store.now) in
-        IfOk result (λ a. (js : List PolicyOutcome) × ArePolicyOutcomes W request.now (named policies.now) js × (a ≡ answer_by js)) }
+        IfOk result (λ a. (js : List PolicyOutcome) × ArePolicyOutcomes W request.now (named policies.now) js
+        × (a ≡ answer_by js)) }
 {
     let known = Known::of(alloc, store, request)?;
     answer_by_known(alloc, policies, request, &known)

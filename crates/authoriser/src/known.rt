@@ -1,8 +1,8 @@
 //! The stored entities, with what was looked up already for a request.
 ghost use Rattle.std.specs.Prelude.{◌≡◌, IfOk};
-ghost use Rattle.authoriser.specs.Views.{IsStanding};
+ghost use Rattle.authoriser.specs.Views.{HasRequestAncestors};
 
-use crate::placed::{RequestAncestors, standing_of};
+use crate::placed::{RequestAncestors, request_ancestors_of};
 use ancestor_closure::{Ancestry, is_among};
 use evaluator::Lookup;
 use plain::NoMemory;
@@ -17,14 +17,14 @@ pub(crate) struct Known<'a, L: Lookup> {
     alloc: Global,
     store: &'a L,
     request: &'a Request,
-    standing: RequestAncestors<'a>,
+    request_ancestors: RequestAncestors<'a>,
 }
 
 impl<'a, L: Lookup> Model for Known<'a, L> {
     ghost use Rattle.values.specs.declared.request.Request.{Request};
     ghost use Rattle.std.specs.Coded.{codes};
     ghost use Rattle.values.specs.ValueCode.{value_code};
-    ghost use Rattle.authoriser.specs.Views.{IsStanding};
+    ghost use Rattle.authoriser.specs.Views.{HasRequestAncestors};
 
     ghost Value = { L × Request };
 
@@ -32,7 +32,7 @@ impl<'a, L: Lookup> Model for Known<'a, L> {
 
     ghost view = { λ k. (k.store.now, k.request.now) };
 
-    ghost invariant = { λ k. IsStanding (L.parents k.store.now) k.request.now k.standing };
+    ghost invariant = { λ k. HasRequestAncestors (L.parents k.store.now) k.request.now k.request_ancestors };
 }
 
 impl<'a, L: Lookup> Known<'a, L> {
@@ -40,20 +40,20 @@ impl<'a, L: Lookup> Known<'a, L> {
     pub(crate) fn of(alloc: Global, store: &'a L, request: &'a Request) -> Result<Self, NoMemory>
         ensures { IfOk result (λ k. k ≡ (store.now, request.now)) }
     {
-        let standing = standing_of(store, request)?;
+        let request_ancestors = request_ancestors_of(store, request)?;
         Ok(Known {
             alloc,
             store,
             request,
-            standing,
+            request_ancestors,
         })
     }
 
     /// Where the request's three entities stand.
-    pub(crate) fn standing(&self) -> &RequestAncestors<'a>
-        ensures { IsStanding (L.parents self.now.0) self.now.1 result.now }
+    pub(crate) fn request_ancestors(&self) -> &RequestAncestors<'a>
+        ensures { HasRequestAncestors (L.parents self.now.0) self.now.1 result.now }
     {
-        &self.standing
+        &self.request_ancestors
     }
 }
 
@@ -72,14 +72,14 @@ impl<L: Lookup> Ancestry for Known<'_, L> {
     ghost above_is = { λ s. L.above_is s.0 };
 
     fn is_ancestor(&self, a: &EntityUid, b: &EntityUid) -> Result<bool, NoMemory> {
-        match self.standing.place_of(b) {
+        match self.request_ancestors.place_of(b) {
             Some(placed) => Ok(is_among(&placed.ancestors, a)),
             None => self.store.is_ancestor(a, b),
         }
     }
 
     fn ancestors(&self, uid: &EntityUid) -> Result<Vec<&EntityUid>, NoMemory> {
-        match self.standing.place_of(uid) {
+        match self.request_ancestors.place_of(uid) {
             Some(placed) => copied(self.alloc, &placed.ancestors),
             None => self.store.ancestors(uid),
         }

@@ -1,7 +1,7 @@
 //! Where a request's three entities stand in the hierarchy, looked up once.
 ghost use Rattle.std.specs.Prelude.{◌≡◌, ◌↔◌, ⊤, IsTrue, IfOk, MatchOption};
 ghost use Rattle.ancestor_closure.specs.Hierarchy.{Parents, IsAscending, names};
-ghost use Rattle.authoriser.specs.Views.{IsWithin, IsPlaced, IsStanding, AreAllPlaced};
+ghost use Rattle.authoriser.specs.Views.{IsWithin, HasItsAncestors, HasRequestAncestors, AllHaveTheirAncestors};
 
 use ancestor_closure::{Ancestry, is_among};
 use plain::NoMemory;
@@ -26,18 +26,18 @@ fn place<'a, A: Ancestry>(
     ancestry: &'a A,
     uid: &'a EntityUid,
 ) -> Result<WithAncestors<'a>, NoMemory>
-    ensures { IfOk result (λ p. IsPlaced (A.parents ancestry.now) uid.now p) }
+    ensures { IfOk result (λ p. HasItsAncestors (A.parents ancestry.now) uid.now p) }
 {
     let ancestors = ancestry.ancestors(uid)?;
     Ok(WithAncestors { uid, ancestors })
 }
 
 /// The request's entities with their ancestors, each asked for once.
-pub(crate) fn standing_of<'a, A: Ancestry>(
+pub(crate) fn request_ancestors_of<'a, A: Ancestry>(
     ancestry: &'a A,
     request: &'a Request,
 ) -> Result<RequestAncestors<'a>, NoMemory>
-    ensures { IfOk result (λ s. IsStanding (A.parents ancestry.now) request.now s) }
+    ensures { IfOk result (λ s. HasRequestAncestors (A.parents ancestry.now) request.now s) }
 {
     let principal = place(ancestry, &request.principal)?;
     let action = place(ancestry, &request.action)?;
@@ -77,7 +77,8 @@ impl<'a> RequestAncestors<'a> {
     /// Where an entity stands, if it is one of the three.
     pub(crate) fn place_of(&self, uid: &EntityUid) -> Option<&WithAncestors<'a>>
         ensures { MatchOption result ⊤
-            (λ p. (parents : Parents) → AreAllPlaced parents self.now → IsPlaced parents uid.now p.now) }
+            (λ p. (parents : Parents) → AllHaveTheirAncestors parents self.now
+            → HasItsAncestors parents uid.now p.now) }
     {
         if is_same(self.principal.uid, uid) {
             return Some(&self.principal);

@@ -49,11 +49,11 @@ fn is_within_any(entities: &[EntityUid], placed: &WithAncestors<'_>) -> bool
 }
 
 /// Whether all three parts of a scope are true.
-pub(crate) fn is_scope_true(scope: &Scope, standing: &RequestAncestors<'_>) -> bool
-    requires { AreAscending standing.now }
-    ensures { IsTrue result ↔ IsTrueOf scope.now standing.now }
+pub(crate) fn is_scope_true(scope: &Scope, request_ancestors: &RequestAncestors<'_>) -> bool
+    requires { AreAscending request_ancestors.now }
+    ensures { IsTrue result ↔ IsTrueOf scope.now request_ancestors.now }
 {
-    is_entity_scope_true(&scope.principal, &standing.principal)
-        && is_action_scope_true(&scope.action, &standing.action)
-        && is_entity_scope_true(&scope.resource, &standing.resource)
+    is_entity_scope_true(&scope.principal, &request_ancestors.principal)
+        && is_action_scope_true(&scope.action, &request_ancestors.action)
+        && is_entity_scope_true(&scope.resource, &request_ancestors.resource)
 }

@@ -9,7 +9,7 @@ use Rattle.serde_json.specs.Find.{get, as_array}
 use Rattle.serde_json.specs.View.{items_of}
 use Rattle.json_words.specs.Ascending.{ItemsAscend}
 use Rattle.json_words.specs.Each.{each, list_of}
-use Rattle.json_words.specs.Gives.{◌>>=◌, or_fault, demand}
+use Rattle.json_words.specs.ReadsAs.{◌>>=◌, or_fault, demand}
 use Rattle.json_words.specs.Plain.{IsPlain, ArePlain}
 use Rattle.json_words.proofs.AsciiLemmas.{ascii_is_utf8}
 use Rattle.json_words.proofs.EachLemmas.{bind_ok}

@@ -10,7 +10,7 @@ use Rattle.std.specs.Str.{bytes_eq}
 use Rattle.serde_json.specs.Data.{Data, Items, no_items, item, Members, no_members, member}
 use Rattle.serde_json.specs.Data as json
 use Rattle.serde_json.specs.Find.{as_bool, as_number, as_i64, as_str, as_object}
-use Rattle.json_words.specs.Gives.{◌>>=◌, or_fault, demand}
+use Rattle.json_words.specs.ReadsAs.{◌>>=◌, or_fault, demand}
 use Rattle.json_words.specs.Ascending.{Ascend, member_keys, ItemsAscend, MembersAscend}
 use Rattle.json_words.specs.Plain.{AreAbove, IsPlain, ArePlain, HasPlain}
 use Rattle.json_words.proofs.AsciiLemmas.{ascii_is_utf8}

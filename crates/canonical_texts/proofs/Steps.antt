@@ -1,7 +1,7 @@
 -- Steps of reading that gave a value.
 use Rattle.std.proofs.Common.{◌≡◌, Bool, true, false, Option, Some, None, Result, Ok, refl, subst}
 use Rattle.std.specs.Prelude.{⊤}
-use Rattle.json_words.specs.Gives.{or_fault, demand}
+use Rattle.json_words.specs.ReadsAs.{or_fault, demand}
 
 abbrev done : {A F : Type 0} → A → Result A F
 done x = Ok x

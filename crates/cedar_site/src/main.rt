@@ -3,7 +3,7 @@
 #![tactic(auto)]
 
 use command_lines::LineFault;
-use site_commands::{SystemHost, run, tell_words};
+use site_commands::{SystemHost, report_words, run};
 use std::env;
 use std::io::ErrorKind;
 use std::process::ExitCode;
@@ -30,6 +30,6 @@ fn main(rt: HostRuntime) -> ExitCode {
     };
     match words(&rt) {
         Ok(words) => run(rt.alloc(), &mut host, words.as_slice()),
-        Err(fault) => tell_words(&mut host, &fault),
+        Err(fault) => report_words(&mut host, &fault),
     }
 }

@@ -11,8 +11,8 @@
 //! - `attributes`: what a condition gives over two entities with attributes; `repeated`: so many times, in a context
 //!   with so many texts more, for bench/evaluator.sh.
 //! - `decided_over`: the answer by the policies of a text, in the order in which they stand, over these two entities.
-//! - `summary`: how many stamps a message with a summary has, under the label of the schema `{}`; a refusal is told with
-//!   its place and the number inside.
+//! - `summary`: how many stamps a message with a summary has, under the label of the schema `{}`; a refusal is told
+//!   with its place and the number inside.
 //! - `run`: a run of the program over these words: its status, and what it wrote on standard output and on standard
 //!   error.
 //! - `run_short`: the status of such a run where each stream takes ten bytes alone.
@@ -22,8 +22,8 @@
 //!   `context`: the one text of a `context` for an `action`; `request`: that of a request.
 //!
 //! A text that is refused comes to the refusal's number and place. In a text `⟦3×ab⟧` stands for `ababab`, `⟦2№a#+⟧`
-//! for `a01a12`, and `⟦0a ff⟧` for two bytes. A line that is empty or begins with `#` is printed as it is, so that line N of what is read is
-//! line N of what is printed.
+//! for `a01a12`, and `⟦0a ff⟧` for two bytes. A line that is empty or begins with `#` is printed as it is, so that
+//! line N of what is read is line N of what is printed.
 #![tactic(auto)]
 
 mod attributes;

@@ -39,8 +39,8 @@ pub record Held : Type 0 where
   pub failures : ℕ
 
 -- a call with so much room gave these bytes: as many as the plan, what is left and the room let it
-abbrev pub Gives : Held → ℕ → List ℕ → Held → Type 0
-Gives old room bytes new =
+abbrev pub Delivers : Held → ℕ → List ℕ → Held → Type 0
+Delivers old room bytes new =
     (old.bytes ≡ bytes ++ new.bytes)
     × (length bytes ≡ min (min (next_piece old.plan.pieces) (length old.bytes)) room)
     × Passes old.plan new.plan × (new.failures ≡ old.failures)

@@ -1,6 +1,6 @@
 //! Devices over memory, which read or take stated pieces and fail at one stated call.
 ghost use Rattle.std.specs.Prelude.{◌≡◌, ◌⊎◌, ◌<◌, Some, None, IfSome, []};
-ghost use Rattle.counted_devices.specs.Memory.{Breaks, FailsByPlan, Gives, Passes, Takes, next_piece};
+ghost use Rattle.counted_devices.specs.Memory.{Breaks, FailsByPlan, Delivers, Passes, Takes, next_piece};
 
 use crate::devices::{DeviceFailed, Sink, Source};
 use std::alloc::Global;
@@ -59,13 +59,13 @@ impl<'a> Plan<'a> {
 
 /// A reader over bytes.
 #[derive(Drop)]
-pub struct Fed<'a> {
+pub struct MemoryReader<'a> {
     rest: &'a [u8],
     plan: Plan<'a>,
     failures: u64,
 }
 
-impl<'a> Model for Fed<'a> {
+impl<'a> Model for MemoryReader<'a> {
     ghost use Rattle.counted_devices.specs.Memory.{Held};
 
     ghost Value = { Held };
@@ -73,12 +73,12 @@ impl<'a> Model for Fed<'a> {
     ghost view = { λ f. record { bytes = f.rest.now; plan = f.plan; failures = f.failures } };
 }
 
-impl<'a> Fed<'a> {
+impl<'a> MemoryReader<'a> {
     /// A reader of all these bytes.
-    pub fn new(bytes: &'a [u8], plan: Plan<'a>) -> Fed<'a>
+    pub fn new(bytes: &'a [u8], plan: Plan<'a>) -> MemoryReader<'a>
         ensures { result ≡ record { bytes = bytes.entry.now; plan = plan.entry; failures = 0 } }
     {
-        Fed {
+        MemoryReader {
             rest: bytes,
             plan,
             failures: 0,
@@ -93,12 +93,12 @@ impl<'a> Fed<'a> {
     }
 }
 
-impl Source for Fed<'_> {
+impl Source for MemoryReader<'_> {
     ghost left = { λ s. Some s.bytes };
 
     ghost failed = { λ s. s.failures };
 
-    ghost reads = { Gives };
+    ghost reads = { Delivers };
 
     ghost fails = { λ old new. Breaks old new × FailsByPlan old.plan new.plan };
 
@@ -121,13 +121,13 @@ impl Source for Fed<'_> {
 
 /// A writer into memory. Want of memory is a failure.
 #[derive(Drop)]
-pub struct Kept<'a> {
+pub struct MemoryWriter<'a> {
     bytes: Vec<u8>,
     plan: Plan<'a>,
     failures: u64,
 }
 
-impl<'a> Model for Kept<'a> {
+impl<'a> Model for MemoryWriter<'a> {
     ghost use Rattle.counted_devices.specs.Memory.{Held};
 
     ghost Value = { Held };
@@ -135,12 +135,12 @@ impl<'a> Model for Kept<'a> {
     ghost view = { λ k. record { bytes = k.bytes.items; plan = k.plan; failures = k.failures } };
 }
 
-impl<'a> Kept<'a> {
+impl<'a> MemoryWriter<'a> {
     /// A writer that took nothing yet.
-    pub fn new(alloc: Global, plan: Plan<'a>) -> Kept<'a>
+    pub fn new(alloc: Global, plan: Plan<'a>) -> MemoryWriter<'a>
         ensures { result ≡ record { bytes = []; plan = plan.entry; failures = 0 } }
     {
-        Kept {
+        MemoryWriter {
             bytes: Vec::new(alloc),
             plan,
             failures: 0,
@@ -155,7 +155,7 @@ impl<'a> Kept<'a> {
     }
 }
 
-impl Sink for Kept<'_> {
+impl Sink for MemoryWriter<'_> {
     ghost holds = { λ s. Some s.bytes };
 
     ghost failed = { λ s. s.failures };

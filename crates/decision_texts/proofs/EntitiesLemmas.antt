@@ -7,7 +7,7 @@ use Rattle.std.proofs.lemmas.List.{take-map}
 use Rattle.serde_json.specs.Data.{Data}
 use Rattle.serde_json.specs.View.{view, items_view}
 use Rattle.serde_json.specs.declared.value.Value.{Value}
-use Rattle.json_words.specs.Gives.{◌>>=◌, Fails, demand}
+use Rattle.json_words.specs.ReadsAs.{◌>>=◌, Fails, demand}
 use Rattle.json_words.specs.Each.{each, list_of}
 use Rattle.json_words.proofs.EachLemmas.{bind_ok, list_of-items_view}
 use Rattle.values.specs.declared.entity_uid.EntityUid.{EntityUid}

@@ -5,7 +5,7 @@ use Rattle.policy_grammar.specs.declared.fault.ReadFault.TheVariants as fault
 use Rattle.policy_grammar.specs.PolicyText.{OrNoMemory}
 use Rattle.decision_texts.specs.declared.refusal.Refusal.{Refusal}
 use Rattle.decision_texts.specs.Refusals.{no_memory}
-use Rattle.decision_texts.specs.Decisions.{IsFileFault, refusal_by, ArePoliciesRefused, IsRefused}
+use Rattle.decision_texts.specs.Decisions.{IsFileFault, refusal_by, ArePoliciesRefused}
 
 -- a reason that is no want of memory may be given in other words
 pub weaker : (R S : ReadFault → Type 0) → ((why : ReadFault) → R why → S why) → (why : ReadFault) → OrNoMemory R why → OrNoMemory S why
@@ -22,16 +22,16 @@ weaker R S h fault.TooLong due = h fault.TooLong due
 weaker R S h fault.BadId due = h fault.BadId due
 
 -- what is told of policies that are refused
-pub told : (policies entities request : List ℕ) (why : ReadFault) → OrNoMemory (IsFileFault policies) why → (refusal_by why ≡ no_memory → ⊥)
-    → IsRefused policies entities request (refusal_by why)
-told policies entities request fault.NoMemory due other = absurd (other refl)
-told policies entities request (fault.BadToken at) due other = inl (record { fault = fault.BadToken at; due = due; is = refl })
-told policies entities request (fault.Unexpected at) due other = inl (record { fault = fault.Unexpected at; due = due; is = refl })
-told policies entities request (fault.NumberRange at) due other = inl (record { fault = fault.NumberRange at; due = due; is = refl })
-told policies entities request (fault.UnknownCall at) due other = inl (record { fault = fault.UnknownCall at; due = due; is = refl })
-told policies entities request (fault.Arity at) due other = inl (record { fault = fault.Arity at; due = due; is = refl })
-told policies entities request (fault.RepeatedKey at) due other = inl (record { fault = fault.RepeatedKey at; due = due; is = refl })
-told policies entities request (fault.Slot at) due other = inl (record { fault = fault.Slot at; due = due; is = refl })
-told policies entities request (fault.TooDeep at) due other = inl (record { fault = fault.TooDeep at; due = due; is = refl })
-told policies entities request fault.TooLong due other = inl (record { fault = fault.TooLong; due = due; is = refl })
-told policies entities request fault.BadId due other = inl (record { fault = fault.BadId; due = due; is = refl })
+pub told : (policies : List ℕ) (why : ReadFault) → OrNoMemory (IsFileFault policies) why → (refusal_by why ≡ no_memory → ⊥)
+    → ArePoliciesRefused policies (refusal_by why)
+told policies fault.NoMemory due other = absurd (other refl)
+told policies (fault.BadToken at) due other = record { fault = fault.BadToken at; due = due; is = refl }
+told policies (fault.Unexpected at) due other = record { fault = fault.Unexpected at; due = due; is = refl }
+told policies (fault.NumberRange at) due other = record { fault = fault.NumberRange at; due = due; is = refl }
+told policies (fault.UnknownCall at) due other = record { fault = fault.UnknownCall at; due = due; is = refl }
+told policies (fault.Arity at) due other = record { fault = fault.Arity at; due = due; is = refl }
+told policies (fault.RepeatedKey at) due other = record { fault = fault.RepeatedKey at; due = due; is = refl }
+told policies (fault.Slot at) due other = record { fault = fault.Slot at; due = due; is = refl }
+told policies (fault.TooDeep at) due other = record { fault = fault.TooDeep at; due = due; is = refl }
+told policies fault.TooLong due other = record { fault = fault.TooLong; due = due; is = refl }
+told policies fault.BadId due other = record { fault = fault.BadId; due = due; is = refl }

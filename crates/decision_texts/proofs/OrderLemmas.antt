@@ -5,23 +5,23 @@ use Rattle.std.specs.Ordering.{nat_cmp}
 use Rattle.std.specs.Cmp.Lexicographic.{slice_cmp}
 use Rattle.std.proofs.lemmas.List.{get_or-map}
 use Rattle.policy_grammar.specs.declared.policy.Policy.{Policy}
-use Rattle.authoriser.specs.Answers.{Named}
+use Rattle.authoriser.specs.Answers.{NamedPolicy}
 use Rattle.authoriser.specs.Views.{named}
 use Rattle.decision_texts.specs.Decisions.{named_policies}
 
 -- a policy with its name, as it was read
-abbrev pub own_name : String Global × Policy → Named
+abbrev pub own_name : String Global × Policy → NamedPolicy
 own_name p = record { id = string_bytes p.0; policy = p.1 }
 
 pub named_policies-map : (ps : List (String Global × Policy)) → named_policies (map (λ p. string_bytes p.0) ps) (map (λ p. p.1) ps) ≡ map own_name ps
 named_policies-map [] = refl
-named_policies-map (p ∷ ps) = ap (λ (l : List Named). own_name p ∷ l) (named_policies-map ps)
+named_policies-map (p ∷ ps) = ap (λ (l : List NamedPolicy). own_name p ∷ l) (named_policies-map ps)
 
 named_length : (refs : List (Bor (List ℕ) × Bor Policy)) → length (named refs) ≡ length refs
 named_length [] = refl
 named_length (r ∷ refs) = ap suc (named_length refs)
 
-abbrev name_of : Bor (List ℕ) × Bor Policy → Named
+abbrev name_of : Bor (List ℕ) × Bor Policy → NamedPolicy
 name_of p = record { id = p.0.now; policy = p.1.now }
 
 -- what ascends by the texts behind the references ascends by name

@@ -12,7 +12,7 @@ use Rattle.policy_grammar.specs.Unique.{HasOneReading, IsFileOf, EachIsNamed, Na
 use Rattle.uid_json.specs.Uids.{NamesEntity}
 use Rattle.uid_json.specs.Laws.{OneName}
 use Rattle.authoriser.specs.declared.answer.Answer.{Answer}
-use Rattle.authoriser.specs.Answers.{Named, IsAnswer}
+use Rattle.authoriser.specs.Answers.{NamedPolicy, IsAnswer}
 use Rattle.authoriser.specs.Laws.{OneAnswerInFiniteHierarchies, ListsAscend}
 use Rattle.decision_texts.specs.declared.refusal.Refusal.{Refusal}
 use Rattle.decision_texts.specs.declared.bare.BareEntity.{BareEntity}
@@ -84,7 +84,7 @@ asked_same laws (Some d) q r a b =
 
 -- ---- answers
 
-answer_same : Laws → (policies : List Named) (stored : List BareEntity) (asked : Request) (a b : Answer) → HaveOwnNames policies →
+answer_same : Laws → (policies : List NamedPolicy) (stored : List BareEntity) (asked : Request) (a b : Answer) → HaveOwnNames policies →
     IsAnswerTo policies stored asked a → IsAnswerTo policies stored asked b → a ≡ b
 answer_same laws policies stored asked a b own x y =
     let order : x.ordered ≡ y.ordered = one_order policies x.ordered y.ordered own x.order y.order in

@@ -37,14 +37,14 @@ all_parents (e ∷ es) b a c =
 
 -- ---- one more entity behind others
 
-not_first : (b : Bool) (x : EntityData) (o : Option EntityData) → (if b then Some x else o) ≡ None → (b ≡ false) × (o ≡ None)
+pub not_first : (b : Bool) (x : EntityData) (o : Option EntityData) → (if b then Some x else o) ≡ None → (b ≡ false) × (o ≡ None)
 not_first true x o h = absurd (cc)
 not_first false x o h = (refl, h)
 
 true_false : {G : Type 0} (b : Bool) → b ≡ true → b ≡ false → G
 true_false b yes' no' = let e : true ≡ false = sym yes' ∙ no' in absurd (cc)
 
-other : (x e q : EntityUid) → is_same x q ≡ true → is_same x e ≡ false → is_same e q ≡ false
+pub other : (x e q : EntityUid) → is_same x q ≡ true → is_same x e ≡ false → is_same e q ≡ false
 other x e q same apart = elim (cases_Bool (is_same e q)) [
   | inl y ↦
       let xq = (equal-is uid_cmp-IsTotalOrder uid_cmp-IsAntisymmetric x q).0 same in
@@ -53,7 +53,7 @@ other x e q same apart = elim (cases_Bool (is_same e q)) [
   | inr n ↦ n
 ]
 
-later : (b c : Bool) (x e : EntityData) (o n : Option EntityData) → (b ≡ true → c ≡ false) → (b ≡ false → n ≡ (if c then Some e else o)) →
+pub later : (b c : Bool) (x e : EntityData) (o n : Option EntityData) → (b ≡ true → c ≡ false) → (b ≡ false → n ≡ (if c then Some e else o)) →
     (if b then Some x else n) ≡ (if c then Some e else (if b then Some x else o))
 later true c x e o n apart behind = rw (apart refl) refl
 later false c x e o n apart behind = behind refl
@@ -66,7 +66,7 @@ stated_more (x ∷ es) e q none =
     later (is_same x.uid q) (is_same e.uid q) (data_of x) (data_of e) (stated_at es q) (stated_at (es ++ e ∷ []) q)
     (λ same. other x.uid e.uid q same parts.0) (λ apart. stated_more es e q parts.1)
 
-none_in : (o : Option EntityData) → is_some o ≡ false → o ≡ None
+pub none_in : (o : Option EntityData) → is_some o ≡ false → o ≡ None
 none_in None h = refl
 none_in (Some x) h = absurd (cc)
 
@@ -82,7 +82,7 @@ holds_more old new es e kept uid attrs parents puts none held q =
 
 -- ---- the store
 
-some_if : (b r : Bool) (x : EntityData) (o : Option EntityData) → is_some o ≡ r → is_some (if b then Some x else o) ≡ (b || r)
+pub some_if : (b r : Bool) (x : EntityData) (o : Option EntityData) → is_some o ≡ r → is_some (if b then Some x else o) ≡ (b || r)
 some_if true r x o h = refl
 some_if false r x o h = h
 

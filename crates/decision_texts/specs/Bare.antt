@@ -11,7 +11,7 @@ use Rattle.serde_json.specs.Find.{get, as_array}
 use Rattle.json_words.specs.Json.{json_of}
 use Rattle.json_words.specs.Keys.{has_only}
 use Rattle.json_words.specs.Each.{each, list_of}
-use Rattle.json_words.specs.Gives.{◌>>=◌, or_fault, demand}
+use Rattle.json_words.specs.ReadsAs.{◌>>=◌, or_fault, demand}
 use Rattle.values.specs.declared.entity_uid.EntityUid.{EntityUid}
 use Rattle.uid_json.specs.Uids.{uid_in}
 use Rattle.ancestor_closure.specs.Decided.{is_same}

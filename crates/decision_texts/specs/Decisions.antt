@@ -21,7 +21,7 @@ use Rattle.policy_grammar.specs.Limits.{most_file_bytes}
 use Rattle.policy_grammar.specs.PolicyText.{IsPolicyFile, IsFileRefused}
 use Rattle.evaluator.specs.Operators.{World, world_of}
 use Rattle.authoriser.specs.declared.answer.Answer.{Answer}
-use Rattle.authoriser.specs.Answers.{Named, IsAnswer}
+use Rattle.authoriser.specs.Answers.{NamedPolicy, IsAnswer}
 use Rattle.decision_texts.specs.declared.refusal.Refusal.{Refusal}
 use Rattle.decision_texts.specs.declared.bare.BareEntity.{BareEntity}
 use Rattle.decision_texts.specs.Refusals.{bad_shape}
@@ -66,21 +66,22 @@ world_in es = world_of (stored_in es) (parents_in es)
 
 -- ---- the policies by their names
 
-abbrev pub named_policies : List (List ℕ) → List Policy → List Named
+abbrev pub named_policies : List (List ℕ) → List Policy → List NamedPolicy
 named_policies [] policies = []
 named_policies (name ∷ names) [] = []
 named_policies (name ∷ names) (policy ∷ policies) =
     record { id = name; policy = policy } ∷ named_policies names policies
 
 -- the same policies, ascending by name
-pub record IsInOrder (policies ordered : List Named) : Type 0 where
+pub record IsInOrder (policies ordered : List NamedPolicy) : Type 0 where
   pub same : IsPermutation policies ordered
   pub ascending : IsSortedByKey (λ p. p.id) (slice_cmp nat_cmp) ordered
 
 -- the answer to the request over these policies, tried in the order of their names, and these entities
-pub record IsAnswerTo (policies : List Named) (stored : List BareEntity) (asked : Request) (answer : Answer) : Type
+pub record IsAnswerTo (policies : List NamedPolicy) (stored : List BareEntity) (asked : Request)
+    (answer : Answer) : Type
     0 where
-  pub ordered : List Named
+  pub ordered : List NamedPolicy
   pub order : IsInOrder policies ordered
   pub is : IsAnswer (world_in stored) asked ordered answer
 

@@ -1,7 +1,7 @@
 //! Entities without attributes, as JSON states them where no schema is given.
 ghost use Rattle.std.specs.Prelude.{◌≡◌, option_map};
 ghost use Rattle.serde_json.specs.View.{view, items_view};
-ghost use Rattle.json_words.specs.Gives.{Gives};
+ghost use Rattle.json_words.specs.ReadsAs.{ReadsAs};
 ghost use Rattle.decision_texts.specs.declared.bare.ShapeFault.TheVariants as ShapeFault;
 ghost use Rattle.decision_texts.specs.Bare.{uid_of, is_absent_or_empty, is_bare, uids_of, parents_of, entity_of};
 
@@ -49,7 +49,7 @@ pub struct BareEntity {
 
 /// A uid, also under `__entity`.
 pub(crate) fn read_uid(alloc: Global, value: &Value) -> Result<EntityUid, ShapeFault>
-    ensures { Gives ShapeFault.NoMemory (λ u. u) result (uid_of (view value.now)) }
+    ensures { ReadsAs ShapeFault.NoMemory (λ u. u) result (uid_of (view value.now)) }
 {
     match uid_json::read_uid(alloc, value)? {
         Some(uid) => Ok(uid),
@@ -58,7 +58,7 @@ pub(crate) fn read_uid(alloc: Global, value: &Value) -> Result<EntityUid, ShapeF
 }
 
 fn read_uids(alloc: Global, values: &[Value]) -> Result<Items<EntityUid>, ShapeFault>
-    ensures { Gives ShapeFault.NoMemory (λ us. us) result (uids_of (items_view values.now)) }
+    ensures { ReadsAs ShapeFault.NoMemory (λ us. us) result (uids_of (items_view values.now)) }
 {
     let mut uids = Vec::with_capacity(alloc, values.len())?;
     for value in values {
@@ -69,7 +69,7 @@ fn read_uids(alloc: Global, values: &[Value]) -> Result<Items<EntityUid>, ShapeF
 }
 
 fn read_parents(alloc: Global, parents: Option<&Value>) -> Result<Items<EntityUid>, ShapeFault>
-    ensures { Gives ShapeFault.NoMemory (λ us. us) result (parents_of (option_map (λ v. view v.now) parents.entry)) }
+    ensures { ReadsAs ShapeFault.NoMemory (λ us. us) result (parents_of (option_map (λ v. view v.now) parents.entry)) }
 {
     match parents {
         None => Ok(Items::new(alloc)),
@@ -100,7 +100,7 @@ fn is_bare(value: &Value) -> bool
 /// The entity that a value states.
 #[tactic(auto, unfolding(crate::specs::Bare::entity_of))]
 pub(crate) fn read_entity(alloc: Global, value: &Value) -> Result<BareEntity, ShapeFault>
-    ensures { Gives ShapeFault.NoMemory (λ e. e) result (entity_of (view value.now)) }
+    ensures { ReadsAs ShapeFault.NoMemory (λ e. e) result (entity_of (view value.now)) }
 {
     let Some(uid) = value.get("uid") else {
         return Err(ShapeFault::BadShape);

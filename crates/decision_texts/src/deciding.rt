@@ -8,7 +8,7 @@ ghost use Rattle.decision_texts.specs.inner.Stores.{world_held, IsAnswerIn, IsLi
 
 use crate::entity_file::{read_entities, refusal_at};
 use crate::lines::answer_line;
-use crate::policies::{read_policies, refusal_by};
+use crate::policies::policies_in;
 use crate::refusal::Refusal;
 use crate::request::read_request;
 use authoriser::{Answer, decide};
@@ -34,7 +34,7 @@ fn referred<'p>(
 }
 
 /// The policies by reference, ascending by name.
-fn in_order<'p>(
+pub fn in_order<'p>(
     alloc: Global,
     policies: &'p [(String, Policy)],
 ) -> Result<Vec<(&'p str, &'p Policy)>, NoMemory>
@@ -95,7 +95,7 @@ fn line_to(
 /// empty. Refused in this order: the policies (10 to 19, at a byte), the entities (30, at the place in the array, from
 /// 0, or without a place where there is no array), the request (30, without a place). `NoMemory` (1) may come at any
 /// point.
-#[tactic(auto, using(crate::proofs::DecidedLemmas::decided, crate::proofs::DecidedLemmas::request_refused, crate::proofs::FaultLemmas::told))]
+#[tactic(auto, using(crate::proofs::DecidedLemmas::decided, crate::proofs::DecidedLemmas::request_refused))]
 pub fn decide_texts(
     alloc: Global,
     policies: &[u8],
@@ -106,10 +106,7 @@ pub fn decide_texts(
     ensures refused { IfErr result
         (λ refusal. (refusal ≡ no_memory → ⊥) → IsRefused policies.now entities.now request.now refusal) }
 {
-    let policies = match read_policies(alloc, policies) {
-        Ok(policies) => policies,
-        Err(fault) => return Err(refusal_by(fault)),
-    };
+    let policies = policies_in(alloc, policies)?;
     let store = read_entities(alloc, entities)?;
     let request = match read_request(alloc, request) {
         Ok(request) => request,

@@ -2,7 +2,7 @@
 ghost use Rattle.std.specs.Prelude.{◌≡◌, Some, option_map};
 ghost use Rattle.serde_json.specs.Find.{as_array};
 ghost use Rattle.serde_json.specs.View.{view, items_view};
-ghost use Rattle.json_words.specs.Gives.{Gives};
+ghost use Rattle.json_words.specs.ReadsAs.{ReadsAs};
 ghost use Rattle.decision_texts.specs.Refusals.{no_memory, refusal_at};
 ghost use Rattle.decision_texts.specs.Bare.{entity_of, placed, entities_in, entities_of};
 ghost use Rattle.decision_texts.specs.inner.Stores.{GivesStore};
@@ -28,7 +28,7 @@ pub(crate) fn refusal_at(place: Option<usize>, fault: ShapeFault) -> Refusal
 
 /// The entity at a place of the array.
 fn read_entity_at(alloc: Global, value: &Value, place: usize) -> Result<BareEntity, Refusal>
-    ensures { Gives no_memory (λ e. e) result (placed (Some place) (entity_of (view value.now))) }
+    ensures { ReadsAs no_memory (λ e. e) result (placed (Some place) (entity_of (view value.now))) }
 {
     match read_entity(alloc, value) {
         Ok(entity) => Ok(entity),

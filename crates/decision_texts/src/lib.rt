@@ -11,7 +11,8 @@ mod refusal;
 mod request;
 mod store;
 
-pub use deciding::decide_texts;
+pub use deciding::{decide_texts, in_order};
 pub use laws::texts_have_one_outcome;
 pub use lines::answer_line;
+pub use policies::policies_in;
 pub use refusal::{Refusal, error_line};

@@ -1,17 +1,15 @@
 //! The policies of a file, each with its name.
 ghost use Rattle.std.specs.Prelude.{◌≡◌, IfOk, IfErr, map, string_bytes};
 ghost use Rattle.policy_grammar.specs.PolicyText.{OrNoMemory};
-ghost use Rattle.decision_texts.specs.Decisions.{ArePoliciesOf, IsFileFault, refusal_by};
+ghost use Rattle.decision_texts.specs.Decisions.{ArePoliciesOf, ArePoliciesRefused, IsFileFault, refusal_by};
+ghost use Rattle.decision_texts.specs.Refusals.{no_memory};
 
 use crate::refusal::Refusal;
-use policy_grammar::{Policy, ReadFault, parse_policies};
+use policy_grammar::{MOST_FILE_BYTES, Policy, ReadFault, parse_policies};
 use std::alloc::Global;
 
-/// The most bytes that a file of policies may have.
-const MOST_FILE_BYTES: usize = 8_388_608;
-
-/// A fault of the policies as a refusal, at the same place.
-pub(crate) fn refusal_by(fault: ReadFault) -> Refusal
+/// A fault of the policies' text (10 to 19, or 1) as a refusal, at the same byte.
+fn refusal_by(fault: ReadFault) -> Refusal
     ensures { result ≡ refusal_by fault }
 {
     Refusal {
@@ -21,8 +19,9 @@ pub(crate) fn refusal_by(fault: ReadFault) -> Refusal
     }
 }
 
-/// The policies of a file with their names, in the file's order.
-pub(crate) fn read_policies(alloc: Global, bytes: &[u8]) -> Result<Vec<(String, Policy)>, ReadFault>
+/// The policies of a file with their names, or its fault. A file that is too long is refused before it is asked whether
+/// it is UTF-8.
+fn read_policies(alloc: Global, bytes: &[u8]) -> Result<Vec<(String, Policy)>, ReadFault>
     ensures read { IfOk result
         (λ named. ArePoliciesOf bytes.now (map (λ p. string_bytes p.0) named.items) (map (λ p. p.1) named.items)) }
     ensures refused { IfErr result (OrNoMemory (IsFileFault bytes.now)) }
@@ -33,5 +32,17 @@ pub(crate) fn read_policies(alloc: Global, bytes: &[u8]) -> Result<Vec<(String, 
     match str::from_utf8(bytes) {
         Ok(text) => parse_policies(alloc, text),
         Err(_) => Err(ReadFault::BadToken(0)),
+    }
+}
+
+/// The policies of a file with their names, in the file's order, or the refusal (10 to 19, at a byte).
+pub fn policies_in(alloc: Global, bytes: &[u8]) -> Result<Vec<(String, Policy)>, Refusal>
+    ensures read { IfOk result
+        (λ named. ArePoliciesOf bytes.now (map (λ p. string_bytes p.0) named.items) (map (λ p. p.1) named.items)) }
+    ensures refused { IfErr result (λ r. (r ≡ no_memory → ⊥) → ArePoliciesRefused bytes.now r) }
+{
+    match read_policies(alloc, bytes) {
+        Ok(named) => Ok(named),
+        Err(fault) => Err(refusal_by(fault)),
     }
 }

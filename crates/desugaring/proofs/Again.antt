@@ -6,7 +6,7 @@ use Rattle.std.proofs.lemmas.Slice.Eq.{bytes_eq-Decides}
 use Rattle.desugaring.specs.declared.fault.DesugarFault.{DesugarFault}
 use Rattle.desugaring.specs.declared.fault.DesugarFault.TheVariants.{RepeatedKey}
 use Rattle.desugaring.specs.Refused.{earlier_of, least}
-use Rattle.desugaring.specs.Repeats.{Mark, StandsAgain, places_of, repeats, repeat_faults, RepeatsStandAgain, RepeatsAreTold}
+use Rattle.desugaring.specs.Repeats.{NameAt, StandsAgain, places_of, repeats, repeat_faults, RepeatsStandAgain, RepeatsAreTold}
 use Rattle.desugaring.specs.inner.Searching.{IsLeast, TellsLeast, lesser_of, repeat_fault}
 use Rattle.desugaring.proofs.Members.{at_first, further, first_or_further, in_none, in_left, in_right, in_either}
 use Rattle.desugaring.proofs.AgainFront.{Later, again-there, again-here, again-front, again-none}
@@ -14,41 +14,41 @@ use Rattle.desugaring.proofs.Repeating.{tells-same, tells-both}
 
 -- ---- as a list
 
-abbrev places : List Mark → List ℕ
+abbrev places : List NameAt → List ℕ
 places = map (λ m. m.at)
 
-kept-in : (b : Bool) (m : Mark) (rest : List Mark) (at : ℕ) → ((b ≡ true) × (at ≡ m.at)) ⊎ Contains (places rest) at → Contains (places (cond b (m ∷ rest) rest)) at
+kept-in : (b : Bool) (m : NameAt) (rest : List NameAt) (at : ℕ) → ((b ≡ true) × (at ≡ m.at)) ⊎ Contains (places rest) at → Contains (places (cond b (m ∷ rest) rest)) at
 kept-in true m rest at (inl here) = subst (Contains (m.at ∷ places rest)) (sym here.1) (at_first m.at (places rest))
 kept-in true m rest at (inr more) = further m.at (places rest) at more
 kept-in false m rest at (inl here) = let no' : false ≡ true = here.0 in absurd cc
 kept-in false m rest at (inr more) = more
 
-kept-of : (b : Bool) (m : Mark) (rest : List Mark) (at : ℕ) → Contains (places (cond b (m ∷ rest) rest)) at → ((b ≡ true) × (at ≡ m.at)) ⊎ Contains (places rest) at
+kept-of : (b : Bool) (m : NameAt) (rest : List NameAt) (at : ℕ) → Contains (places (cond b (m ∷ rest) rest)) at → ((b ≡ true) × (at ≡ m.at)) ⊎ Contains (places rest) at
 kept-of true m rest at c = elim (first_or_further m.at (places rest) at c) [ inl e ↦ inl (refl, sym e) | inr more ↦ inr more ]
 kept-of false m rest at c = inr c
 
-in-places : (name : List ℕ) (ms : List Mark) (at : ℕ) → Later name ms at → Contains (places_of name ms) at
+in-places : (name : List ℕ) (ms : List NameAt) (at : ℕ) → Later name ms at → Contains (places_of name ms) at
 in-places name [] at later = absurd later
 in-places name (m ∷ ms) at later = kept-in (bytes_eq name m.name) m (filter (λ x. bytes_eq name x.name) ms) at (elim later [
   | inl here ↦ inl ((bytes_eq-Decides name m.name).1 (sym here.0), here.1)
   | inr more ↦ inr (in-places name ms at more)
 ])
 
-of-places : (name : List ℕ) (ms : List Mark) (at : ℕ) → Contains (places_of name ms) at → Later name ms at
+of-places : (name : List ℕ) (ms : List NameAt) (at : ℕ) → Contains (places_of name ms) at → Later name ms at
 of-places name [] at c = in_none at c
 of-places name (m ∷ ms) at c = elim (kept-of (bytes_eq name m.name) m (filter (λ x. bytes_eq name x.name) ms) at c) [
   | inl here ↦ inl (sym ((bytes_eq-Decides name m.name).0 here.0), here.1)
   | inr more ↦ inr (of-places name ms at more)
 ]
 
-in-repeats : (ms : List Mark) (at : ℕ) → StandsAgain ms at → Contains (repeats ms) at
+in-repeats : (ms : List NameAt) (at : ℕ) → StandsAgain ms at → Contains (repeats ms) at
 in-repeats [] at again = again-none at again
 in-repeats (m ∷ ms) at again = elim (again-front m ms at again) [
   | inl later ↦ in_left (places_of m.name ms) (repeats ms) at (in-places m.name ms at later)
   | inr more ↦ in_right (places_of m.name ms) (repeats ms) at (in-repeats ms at more)
 ]
 
-of-repeats : (ms : List Mark) (at : ℕ) → Contains (repeats ms) at → StandsAgain ms at
+of-repeats : (ms : List NameAt) (at : ℕ) → Contains (repeats ms) at → StandsAgain ms at
 of-repeats [] at c = in_none at c
 of-repeats (m ∷ ms) at c = elim (in_either (places_of m.name ms) (repeats ms) at c) [
   | inl here ↦ again-here m ms at (of-places m.name ms at here)
@@ -99,14 +99,14 @@ tells-one P (Some x) None a b = absurd (b x a.here)
 tells-one P (Some x) (Some y) a b = ap Some (least-same P x y a b)
 
 -- the least place is told
-told-at : (marks : List Mark) (o : Option ℕ) → TellsLeast (StandsAgain marks) o → least (repeat_faults marks) ≡ repeat_fault o
+told-at : (marks : List NameAt) (o : Option ℕ) → TellsLeast (StandsAgain marks) o → least (repeat_faults marks) ≡ repeat_fault o
 told-at marks o tells =
     least_fault (repeats marks)
     ∙ ap repeat_fault (tells-one (StandsAgain marks) (least_at (repeats marks)) o
     (tells-same (Contains (repeats marks)) (StandsAgain marks) (least_at (repeats marks)) (of-repeats marks) (in-repeats marks) (tells_least (repeats marks))) tells)
 
 -- as a fault
-pub fault_told : (marks : List Mark) (o : Option ℕ) (fault : Option DesugarFault) → TellsLeast (StandsAgain marks) o → fault ≡ repeat_fault o → fault ≡ least (repeat_faults marks)
+pub fault_told : (marks : List NameAt) (o : Option ℕ) (fault : Option DesugarFault) → TellsLeast (StandsAgain marks) o → fault ≡ repeat_fault o → fault ≡ least (repeat_faults marks)
 fault_told marks o fault tells is = is ∙ sym (told-at marks o tells)
 
 pub repeats_are_told : RepeatsAreTold

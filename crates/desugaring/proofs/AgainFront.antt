@@ -1,11 +1,11 @@
 -- Which names stand again in a list of marks, told from its front. This file and Members are meant to be imported by
 -- the proofs of crates above.
 use Rattle.std.proofs.Common.{◌≡◌, ◌⊎◌, ℕ, List, [], ◌∷◌, ◌++◌, map, Contains, refl, sym, ◌∙◌, ap, subst, inl, inr}
-use Rattle.desugaring.specs.Repeats.{Mark, StandsAgain}
+use Rattle.desugaring.specs.Repeats.{NameAt, StandsAgain}
 use Rattle.desugaring.proofs.Members.{at_first, further, first_or_further, in_none}
 
 -- a mark of this name stands here
-abbrev pub Later : List ℕ → List Mark → ℕ → Type 0
+abbrev pub Later : List ℕ → List NameAt → ℕ → Type 0
 Later name [] at = ⊥
 Later name (m ∷ ms) at = ((m.name ≡ name) × (at ≡ m.at)) ⊎ Later name ms at
 
@@ -15,11 +15,11 @@ heads x y xs ys e = cc
 tails : {A : Type 0} (x y : A) (xs ys : List A) → x ∷ xs ≡ y ∷ ys → xs ≡ ys
 tails x y xs ys e = cc
 
-later-at : (before : List Mark) (mark : Mark) (behind : List Mark) → Later mark.name (before ++ mark ∷ behind) mark.at
+later-at : (before : List NameAt) (mark : NameAt) (behind : List NameAt) → Later mark.name (before ++ mark ∷ behind) mark.at
 later-at [] mark behind = inl (refl, refl)
 later-at (b ∷ bs) mark behind = inr (later-at bs mark behind)
 
-pub again-there : (m : Mark) (ms : List Mark) (at : ℕ) → StandsAgain ms at → StandsAgain (m ∷ ms) at
+pub again-there : (m : NameAt) (ms : List NameAt) (at : ℕ) → StandsAgain ms at → StandsAgain (m ∷ ms) at
 again-there m ms at again = record {
   before = m ∷ again.before;
   mark = again.mark;
@@ -29,15 +29,15 @@ again-there m ms at again = record {
   place = again.place;
 }
 
-split-later : (name : List ℕ) (ms : List Mark) (at : ℕ) → Later name ms at →
-    (before : List Mark) × (mark : Mark) × (behind : List Mark) × (ms ≡ before ++ mark ∷ behind) × (mark.name ≡ name) × (at ≡ mark.at)
+split-later : (name : List ℕ) (ms : List NameAt) (at : ℕ) → Later name ms at →
+    (before : List NameAt) × (mark : NameAt) × (behind : List NameAt) × (ms ≡ before ++ mark ∷ behind) × (mark.name ≡ name) × (at ≡ mark.at)
 split-later name [] at later = absurd later
 split-later name (m ∷ ms) at later = elim later [
   | inl here ↦ ([], m, ms, refl, here.0, here.1)
   | inr more ↦ let s = split-later name ms at more in (m ∷ s.0, s.1, s.2, ap (λ xs. m ∷ xs) s.3, s.4, s.5)
 ]
 
-pub again-here : (m : Mark) (ms : List Mark) (at : ℕ) → Later m.name ms at → StandsAgain (m ∷ ms) at
+pub again-here : (m : NameAt) (ms : List NameAt) (at : ℕ) → Later m.name ms at → StandsAgain (m ∷ ms) at
 again-here m ms at later = let s = split-later m.name ms at later in record {
   before = m ∷ s.0;
   mark = s.1;
@@ -47,7 +47,7 @@ again-here m ms at later = let s = split-later m.name ms at later in record {
   place = s.5;
 }
 
-front : (m : Mark) (ms before : List Mark) (mark : Mark) (behind : List Mark) (at : ℕ) → m ∷ ms ≡ before ++ mark ∷ behind →
+front : (m : NameAt) (ms before : List NameAt) (mark : NameAt) (behind : List NameAt) (at : ℕ) → m ∷ ms ≡ before ++ mark ∷ behind →
     Contains (map (λ x. x.name) before) mark.name → at ≡ mark.at → Later m.name ms at ⊎ StandsAgain ms at
 front m ms [] mark behind at whole again place = in_none mark.name again
 front m ms (b ∷ bs) mark behind at whole again place =
@@ -59,11 +59,11 @@ front m ms (b ∷ bs) mark behind at whole again place =
       | inr more ↦ inr (record { before = bs; mark = mark; behind = behind; whole = rest; again = more; place = place })
     ]
 
-pub again-front : (m : Mark) (ms : List Mark) (at : ℕ) → StandsAgain (m ∷ ms) at → Later m.name ms at ⊎ StandsAgain ms at
+pub again-front : (m : NameAt) (ms : List NameAt) (at : ℕ) → StandsAgain (m ∷ ms) at → Later m.name ms at ⊎ StandsAgain ms at
 again-front m ms at again = front m ms again.before again.mark again.behind at again.whole again.again again.place
 
 pub again-none : (at : ℕ) {G : Type 0} → StandsAgain [] at → G
 again-none at again = nothing again.before again.mark again.behind again.whole where
-  nothing : {G : Type 0} (before : List Mark) (mark : Mark) (behind : List Mark) → [] ≡ before ++ mark ∷ behind → G
+  nothing : {G : Type 0} (before : List NameAt) (mark : NameAt) (behind : List NameAt) → [] ≡ before ++ mark ∷ behind → G
   nothing [] mark behind e = absurd cc
   nothing (b ∷ bs) mark behind e = absurd cc

@@ -3,8 +3,8 @@ use Rattle.std.proofs.Common.{◌≡◌, ℕ, ◌+◌, ◌<◌, true, List, [], 
 use Rattle.std.proofs.lemmas.List.{take_more, map-append}
 use denote.Ref.{Bor}
 use Rattle.plain.specs.Words.{AreIdents, IsIdent}
-use Rattle.policy_tokens.specs.declared.token.Kind.{Kind}
-use Rattle.policy_tokens.specs.declared.token.Kind.TheVariants as k
+use Rattle.policy_tokens.specs.declared.token.TokenKind.{TokenKind}
+use Rattle.policy_tokens.specs.declared.token.TokenKind.TheVariants as k
 use Rattle.policy_tokens.specs.declared.token.Token.{Token}
 use Rattle.policy_tokens.specs.Idents.{is_ident}
 use Rattle.policy_tokens.specs.Strings.{is_string}
@@ -14,7 +14,7 @@ use Rattle.token_readers.specs.Grammar.{identifiers}
 use Rattle.token_readers.specs.Kinds.{only, same_kind}
 use Rattle.desugaring.proofs.Lists.{idents-more}
 
-pub ident-kind : (kind : Kind) → identifiers kind ≡ true → is_ident kind ≡ true
+pub ident-kind : (kind : TokenKind) → identifiers kind ≡ true → is_ident kind ≡ true
 ident-kind k.Ident yes' = refl
 ident-kind k.Permit yes' = refl
 ident-kind k.Forbid yes' = refl
@@ -26,7 +26,7 @@ ident-kind k.Resource yes' = refl
 ident-kind k.Context yes' = refl
 ident-kind _ yes' = absurd (cc)
 
-pub text-kind : (kind : Kind) → only k.Text kind ≡ true → kind ≡ k.Text
+pub text-kind : (kind : TokenKind) → only k.Text kind ≡ true → kind ≡ k.Text
 unfolding same_kind
 text-kind k.Text yes' = refl
 text-kind _ yes' = absurd (cc)
@@ -53,7 +53,7 @@ words-more text tokens i d old new w first below was pushed is ident =
       subst AreIdents (sym grown) (idents-more (shown old) w.now was.1 ident),
     )
 
-pub pattern-kind : (kind : Kind) → patterns kind ≡ true → is_string kind ≡ true
+pub pattern-kind : (kind : TokenKind) → patterns kind ≡ true → is_string kind ≡ true
 pattern-kind k.Text yes' = refl
 pattern-kind k.StarText yes' = refl
 pattern-kind _ yes' = absurd (cc)

@@ -11,7 +11,7 @@ pub mod MeasureLemmas
 pub mod PartsOf
 pub mod Gaving
 pub mod Telling
-pub mod Standing
+pub mod WellFormedLemmas
 pub mod Members
 pub mod AgainFront
 pub mod Again

@@ -12,12 +12,12 @@ use Rattle.std.proofs.lemmas.Map.Text.{is_eq-slice_cmp}
 use Rattle.std.proofs.lemmas.Map.Views.{Contains-from_any, list_any-from_Contains}
 use Rattle.std.proofs.lemmas.Slice.Eq.{bytes_eq-Decides}
 use denote.Ref.{Bor}
-use Rattle.desugaring.specs.declared.repeats.Mark as code
-use Rattle.desugaring.specs.Repeats.{Mark, StandsAgain, shown}
+use Rattle.desugaring.specs.declared.repeats.NameAt as code
+use Rattle.desugaring.specs.Repeats.{NameAt, StandsAgain, shown}
 use Rattle.desugaring.specs.inner.Searching.{TellsLeast, lesser_of}
 
 -- the names of marks
-abbrev pub names : List Mark → List (List ℕ)
+abbrev pub names : List NameAt → List (List ℕ)
 names = map (λ m. m.name)
 
 -- whether a set of texts has these bytes
@@ -25,7 +25,7 @@ abbrev pub has : BTreeSet (Bor (List ℕ)) → List ℕ → Bool
 has seen bytes = contains_by (λ k. slice_cmp nat_cmp bytes k.now) seen
 
 -- The set has the names of these marks, and this is the least place at which one of them stands again.
-pub record Seen (marks : List Mark) (seen : BTreeSet (Bor (List ℕ))) (least : Option ℕ) : Type 0 where
+pub record Seen (marks : List NameAt) (seen : BTreeSet (Bor (List ℕ))) (least : Option ℕ) : Type 0 where
   pub has_names : (bytes : List ℕ) → has seen bytes ≡ list_any (bytes_eq bytes) (names marks)
   pub tells : TellsLeast (StandsAgain marks) least
 
@@ -56,8 +56,8 @@ tails : {A : Type 0} (x y : A) (xs ys : List A) → x ∷ xs ≡ y ∷ ys → xs
 tails x y xs ys e = cc
 
 -- where the last of some marks is split off
-split : (ms before : List Mark) (m mark : Mark) (behind : List Mark) → ms ++ m ∷ [] ≡ before ++ mark ∷ behind →
-    ((left : List Mark) × (ms ≡ before ++ mark ∷ left)) ⊎ ((ms ≡ before) × (m ≡ mark))
+split : (ms before : List NameAt) (m mark : NameAt) (behind : List NameAt) → ms ++ m ∷ [] ≡ before ++ mark ∷ behind →
+    ((left : List NameAt) × (ms ≡ before ++ mark ∷ left)) ⊎ ((ms ≡ before) × (m ≡ mark))
 split [] [] m mark behind e = inr (refl, cc)
 split [] (b ∷ []) m mark behind e = absurd (cc)
 split [] (b ∷ (c ∷ cs)) m mark behind e = absurd (cc)
@@ -68,7 +68,7 @@ split (x ∷ xs) (b ∷ bs) m mark behind e = elim (split xs bs m mark behind (t
 ]
 
 -- what stands again among some marks stands again among more
-again-more : (ms more : List Mark) (at : ℕ) → StandsAgain ms at → StandsAgain (ms ++ more) at
+again-more : (ms more : List NameAt) (at : ℕ) → StandsAgain ms at → StandsAgain (ms ++ more) at
 again-more ms more at again = record {
   before = again.before;
   mark = again.mark;
@@ -79,10 +79,10 @@ again-more ms more at again = record {
 }
 
 -- the last mark stands again where its name stands before
-again-last : (ms : List Mark) (m : Mark) → Contains (names ms) m.name → StandsAgain (ms ++ m ∷ []) m.at
+again-last : (ms : List NameAt) (m : NameAt) → Contains (names ms) m.name → StandsAgain (ms ++ m ∷ []) m.at
 again-last ms m before = record { before = ms; mark = m; behind = []; whole = refl; again = before; place = refl }
 
-again-split : (ms : List Mark) (m : Mark) (at : ℕ) → StandsAgain (ms ++ m ∷ []) at → StandsAgain ms at ⊎ ((at ≡ m.at) × Contains (names ms) m.name)
+again-split : (ms : List NameAt) (m : NameAt) (at : ℕ) → StandsAgain (ms ++ m ∷ []) at → StandsAgain ms at ⊎ ((at ≡ m.at) × Contains (names ms) m.name)
 again-split ms m at again = elim (split ms again.before m again.mark again.behind again.whole) [
   | inl found ↦ inl (record { before = again.before; mark = again.mark; behind = found.0; whole = found.1; again = again.again; place = again.place })
   | inr found ↦ inr (
@@ -108,7 +108,7 @@ grown : (seen more : BTreeSet (Bor (List ℕ))) (k : Bor (List ℕ)) → Updates
     (bytes : List ℕ) → has more bytes ≡ (has seen bytes || bytes_eq bytes k.now)
 grown seen more k updates bytes = updates.0 (record { ref_ptr = (0, 0); now = bytes }) ∙ also (has seen bytes) _ _ (is_eq-slice_cmp k.now bytes ∙ bytes_equiv.symm k.now bytes)
 
-none : (before : List Mark) (mark : Mark) (behind : List Mark) → [] ≡ before ++ mark ∷ behind → ⊥
+none : (before : List NameAt) (mark : NameAt) (behind : List NameAt) → [] ≡ before ++ mark ∷ behind → ⊥
 none [] mark behind e = absurd (cc)
 none (b ∷ bs) mark behind e = absurd (cc)
 
@@ -126,7 +126,7 @@ differ : {b : Bool} → b ≡ true → b ≡ false → ⊥
 differ yes' no' = absurd (cc)
 
 -- the names with one mark more
-has-more : (ms : List Mark) (m : Mark) (k : Bor (List ℕ)) (seen more : BTreeSet (Bor (List ℕ))) → k.now ≡ m.name →
+has-more : (ms : List NameAt) (m : NameAt) (k : Bor (List ℕ)) (seen more : BTreeSet (Bor (List ℕ))) → k.now ≡ m.name →
     ((bytes : List ℕ) → has seen bytes ≡ list_any (bytes_eq bytes) (names ms)) → Updates (λ x y. slice_cmp nat_cmp x.now y.now) seen more k true →
     (bytes : List ℕ) → has more bytes ≡ list_any (bytes_eq bytes) (names (ms ++ m ∷ []))
 has-more ms m k seen more same was updates bytes =
@@ -135,7 +135,7 @@ has-more ms m k seen more same was updates bytes =
     ∙ sym (list_any-append (bytes_eq bytes) (names ms) (m.name ∷ [])) ∙ ap (list_any (bytes_eq bytes)) (sym (map-append (λ x. x.name) ms (m ∷ [])))
 
 -- a name that is new
-pub seen-new : (ms : List Mark) (m : Mark) (k : Bor (List ℕ)) (seen more : BTreeSet (Bor (List ℕ))) (least : Option ℕ) → Seen ms seen least → k.now ≡ m.name →
+pub seen-new : (ms : List NameAt) (m : NameAt) (k : Bor (List ℕ)) (seen more : BTreeSet (Bor (List ℕ))) (least : Option ℕ) → Seen ms seen least → k.now ≡ m.name →
     has seen k.now ≡ false → Updates (λ x y. slice_cmp nat_cmp x.now y.now) seen more k true → Seen (ms ++ m ∷ []) more least
 seen-new ms m k seen more least was same new updates = record {
   has_names = has-more ms m k seen more same was.has_names updates;
@@ -146,7 +146,7 @@ seen-new ms m k seen more least was same new updates = record {
 }
 
 -- a name that stands again
-pub seen-again : (ms : List Mark) (m : Mark) (k : Bor (List ℕ)) (seen more : BTreeSet (Bor (List ℕ))) (least : Option ℕ) → Seen ms seen least → k.now ≡ m.name →
+pub seen-again : (ms : List NameAt) (m : NameAt) (k : Bor (List ℕ)) (seen more : BTreeSet (Bor (List ℕ))) (least : Option ℕ) → Seen ms seen least → k.now ≡ m.name →
     has seen k.now ≡ true → Updates (λ x y. slice_cmp nat_cmp x.now y.now) seen more k true → Seen (ms ++ m ∷ []) more (lesser_of least (Some m.at))
 seen-again ms m k seen more least was same old updates = record {
   has_names = has-more ms m k seen more same was.has_names updates;
@@ -160,7 +160,7 @@ seen-again ms m k seen more least was same old updates = record {
 }
 
 -- one mark more of those that code holds
-pub shown-more : (ms : List code.Mark) (i : ℕ) (d : code.Mark) → i < length ms →
+pub shown-more : (ms : List code.NameAt) (i : ℕ) (d : code.NameAt) → i < length ms →
     shown (take (i + 1) ms) ≡ shown (take i ms) ++ record { name = (get_or ms i d).name.now; at = (get_or ms i d).at } ∷ []
 shown-more ms i d below = ap shown (take_more ms i d below) ∙ map-append _ (take i ms) _
 
@@ -174,14 +174,14 @@ was_old false c no' e = absurd (cc)
 
 -- ---- marks that loops make
 
-abbrev mark : List ℕ → ℕ → Mark
+abbrev mark : List ℕ → ℕ → NameAt
 mark name at = record { name = name; at = at }
 
-same_mark : (m n : Mark) → m.name ≡ n.name → m.at ≡ n.at → m ≡ n
+same_mark : (m n : NameAt) → m.name ≡ n.name → m.at ≡ n.at → m ≡ n
 same_mark m n names places = ap (λ (x : List ℕ). mark x m.at) names ∙ ap (mark n.name) places
 
 -- one mark more, of one item more
-pub shown-step : {A : Type 0} (f : A → Mark) (xs : List A) (i : ℕ) (d : A) (old new : List code.Mark) (m : code.Mark) → shown old ≡ map f (take i xs) → i < length xs →
+pub shown-step : {A : Type 0} (f : A → NameAt) (xs : List A) (i : ℕ) (d : A) (old new : List code.NameAt) (m : code.NameAt) → shown old ≡ map f (take i xs) → i < length xs →
     new ≡ old ++ m ∷ [] → m.name.now ≡ (f (get_or xs i d)).name → m.at ≡ (f (get_or xs i d)).at → shown new ≡ map f (take (i + 1) xs)
 shown-step f xs i d old new m was below pushed name at =
     ap shown pushed ∙ map-append (λ x. mark x.name.now x.at) old (m ∷ []) ∙ ap (λ ms. ms ++ mark m.name.now m.at ∷ []) was

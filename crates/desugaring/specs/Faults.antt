@@ -18,7 +18,7 @@ use Rattle.desugaring.specs.Names.{method_of, function_takes, method_takes}
 use Rattle.desugaring.specs.Numbers.{fits, fits_negated}
 use Rattle.desugaring.specs.Meaning.{name_of, place_of}
 use Rattle.desugaring.specs.Core.{function, in_access}
-use Rattle.desugaring.specs.Repeats.{Mark, repeat_faults}
+use Rattle.desugaring.specs.Repeats.{NameAt, repeat_faults}
 
 -- the faults of a tree by itself, and behind a minus
 pub record Faulty : Type 0 where
@@ -49,7 +49,7 @@ access_faults text (access.Method name arguments) =
     ++ flat_map (λ faults. faults) arguments
 
 -- a key of a record where it stands
-abbrev pub key_of : List ℕ → {A : Type 0} → Entry A → Mark
+abbrev pub key_of : List ℕ → {A : Type 0} → Entry A → NameAt
 key_of text entry = record { name = name_of text entry.key; at = place_of entry.key }
 
 abbrev by_itself : Faulty → List DesugarFault

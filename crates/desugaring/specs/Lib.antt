@@ -5,7 +5,7 @@ pub mod Meaning
 pub mod Names
 pub mod Numbers
 pub mod Repeats
-pub mod Standing
+pub mod BuiltFrom
 pub mod Strings
 pub mod Sums
 pub mod Refused

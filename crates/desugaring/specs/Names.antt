@@ -16,14 +16,14 @@ function_of name =
     else (if bytes_eq name (codes "decimal") then Some unary.Decimal else None)
 
 -- a name and the method that it is
-pub record Named : Type 0 where
+pub record NamedMethod : Type 0 where
   pub name : List ℕ
   pub method : Method
 
-abbrev named : List ℕ → Method → Named
+abbrev named : List ℕ → Method → NamedMethod
 named name method = record { name = name; method = method }
 
-abbrev pub methods : List Named
+abbrev pub methods : List NamedMethod
 methods = named (codes "contains") (method.Operator operator.Contains)
     ∷ named (codes "containsAll") (method.Operator operator.ContainsAll)
     ∷ named (codes "containsAny") (method.Operator operator.ContainsAny)
@@ -36,7 +36,7 @@ methods = named (codes "contains") (method.Operator operator.Contains)
     ∷ named (codes "isLoopback") (method.Alone unary.IsLoopback)
     ∷ named (codes "isMulticast") (method.Alone unary.IsMulticast) ∷ []
 
-abbrev pub listed : List Named → List ℕ → Option Method
+abbrev pub listed : List NamedMethod → List ℕ → Option Method
 listed [] name = None
 listed (known ∷ more) name = if bytes_eq name known.name then Some known.method else listed more name
 

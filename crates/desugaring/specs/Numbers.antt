@@ -1,11 +1,12 @@
 -- Numbers as their digits write them. Source: Cedar reference guide 4.0, "Data types: Long": whole numbers of signed
 -- 64 bits.
+use Prim.Native.Char.{code}
 use Rattle.std.specs.Prelude.{ℕ, Bool, ◌+◌, ◌-◌, ◌*◌, ◌^◌, ℤ, pos, neg_ℤ, List, if◌then◌else◌, nat_lt, nat_le}
 use Rattle.std.specs.List.{fold}
 
--- the number that the digits write (48 is `0`)
+-- the number that the digits write
 abbrev pub written : List ℕ → ℕ
-written digits = fold (λ n digit. 10 * n + (digit - 48)) 0 digits
+written digits = fold (λ n digit. 10 * n + (digit - code "0")) 0 digits
 
 -- whether it is a number by itself, and behind the minus that joins it
 abbrev pub fits : List ℕ → Bool

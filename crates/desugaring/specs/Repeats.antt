@@ -4,48 +4,48 @@ use Rattle.std.specs.Prelude.{◌≡◌, ◌↔◌, ℕ, List, [], ◌∷◌, �
 use Rattle.std.specs.Str.{bytes_eq}
 use Rattle.desugaring.specs.declared.fault.DesugarFault.{DesugarFault}
 use Rattle.desugaring.specs.declared.fault.DesugarFault.TheVariants.{RepeatedKey}
-use Rattle.desugaring.specs.declared.repeats.Mark as code
+use Rattle.desugaring.specs.declared.repeats.NameAt as code
 use Rattle.desugaring.specs.Refused.{least}
 
 -- a name, and the place at which it stands
-pub record Mark : Type 0 where
+pub record NameAt : Type 0 where
   pub name : List ℕ
   pub at : ℕ
 
 -- At this place stands a name that stands further left too.
-pub record StandsAgain (marks : List Mark) (at : ℕ) : Type 0 where
-  pub before : List Mark
-  pub mark : Mark
-  pub behind : List Mark
+pub record StandsAgain (marks : List NameAt) (at : ℕ) : Type 0 where
+  pub before : List NameAt
+  pub mark : NameAt
+  pub behind : List NameAt
   pub whole : marks ≡ before ++ mark ∷ behind
   pub again : Contains (map (λ m. m.name) before) mark.name
   pub place : at ≡ mark.at
 
 -- the places at which this name stands
-abbrev pub places_of : List ℕ → List Mark → List ℕ
+abbrev pub places_of : List ℕ → List NameAt → List ℕ
 places_of name marks = map (λ m. m.at) (filter (λ m. bytes_eq name m.name) marks)
 
 -- the places at which a name stands again
-abbrev pub repeats : List Mark → List ℕ
+abbrev pub repeats : List NameAt → List ℕ
 repeats [] = []
 repeats (mark ∷ behind) = places_of mark.name behind ++ repeats behind
 
 -- as faults
-abbrev pub repeat_faults : List Mark → List DesugarFault
+abbrev pub repeat_faults : List NameAt → List DesugarFault
 repeat_faults marks = map RepeatedKey (repeats marks)
 
 -- the names that code holds, each with its place
-abbrev pub shown : List code.Mark → List Mark
+abbrev pub shown : List code.NameAt → List NameAt
 shown = map (λ m. record { name = m.name.now; at = m.at })
 
 -- ## Laws
 
 -- These are those places,
 abbrev pub RepeatsStandAgain : Type 0
-RepeatsStandAgain = (marks : List Mark) (at : ℕ) → Contains (repeats marks) at ↔ StandsAgain marks at
+RepeatsStandAgain = (marks : List NameAt) (at : ℕ) → Contains (repeats marks) at ↔ StandsAgain marks at
 
 -- and what is told of them follows from these alone.
 abbrev pub RepeatsAreTold : Type 0
-RepeatsAreTold = (marks others : List Mark) → ((at : ℕ) → StandsAgain marks at → StandsAgain others at) →
+RepeatsAreTold = (marks others : List NameAt) → ((at : ℕ) → StandsAgain marks at → StandsAgain others at) →
     ((at : ℕ) → StandsAgain others at → StandsAgain marks at) →
     least (repeat_faults marks) ≡ least (repeat_faults others)

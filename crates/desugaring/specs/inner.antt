@@ -1,3 +1,3 @@
 pub mod Giving
 pub mod Searching
-pub mod Standing
+pub mod WellFormed

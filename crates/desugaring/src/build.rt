@@ -4,7 +4,8 @@ ghost use Rattle.std.specs.List.{AllByRecursion, fold};
 ghost use Rattle.desugaring.specs.Core as spec;
 ghost use Rattle.desugaring.specs.Core.{core_of, negated};
 ghost use Rattle.desugaring.specs.inner.Giving.{Gave};
-ghost use Rattle.desugaring.specs.inner.Standing.{Stands, AllStand, EntryStands, TermStands, AccessStands};
+ghost use Rattle.desugaring.specs.inner.WellFormed.{WellFormed, AllWellFormed, WellFormedEntry, WellFormedTerm};
+ghost use Rattle.desugaring.specs.inner.WellFormed.{WellFormedAccess};
 
 use crate::leaves::{
     Chain, apply, beside, boolean_literal, both, call, call_method, compare, field, has,
@@ -23,7 +24,7 @@ use std::alloc::Global;
 /// The core expression of a tree; of one that has faults some expression.
 #[cycle(build)]
 pub(crate) fn build_tree(alloc: Global, text: &str, tree: &ExprTree) -> Result<Expr, NoMemory>
-    requires { Stands text.now tree.now }
+    requires { WellFormed text.now tree.now }
     ensures { IfOk result (λ e. e ≡ core_of text.now tree.now) }
 {
     match tree {
@@ -90,7 +91,7 @@ pub(crate) fn build_tree(alloc: Global, text: &str, tree: &ExprTree) -> Result<E
 /// A tree behind a minus, which joins a number.
 #[cycle(build)]
 fn build_behind_minus(alloc: Global, text: &str, tree: &ExprTree) -> Result<Expr, NoMemory>
-    requires { Stands text.now tree.now }
+    requires { WellFormed text.now tree.now }
     ensures { IfOk result (λ e. e ≡ negated text.now tree.now) }
 {
     match tree {
@@ -101,7 +102,7 @@ fn build_behind_minus(alloc: Global, text: &str, tree: &ExprTree) -> Result<Expr
 
 #[cycle(build)]
 fn build_all(alloc: Global, text: &str, trees: &[ExprTree]) -> Result<Items<Expr>, NoMemory>
-    requires { AllStand text.now trees.now }
+    requires { AllWellFormed text.now trees.now }
     ensures { IfOk result (λ es. es ≡ map (core_of text.now) trees.now) }
 {
     let mut row = Vec::with_capacity(alloc, trees.len())?;
@@ -118,7 +119,7 @@ fn build_entries(
     text: &str,
     entries: &[Entry<ExprTree>],
 ) -> Result<Items<Named<Expr>>, NoMemory>
-    requires { AllByRecursion (EntryStands text.now) entries.now }
+    requires { AllByRecursion (WellFormedEntry text.now) entries.now }
     ensures { IfOk result (λ fs. fs ≡ map (spec.field text.now) (map (spec.in_entry (core_of text.now)) entries.now)) }
 {
     let mut row = Vec::with_capacity(alloc, entries.len())?;
@@ -138,7 +139,7 @@ fn build_chain(
     first: Result<Expr, NoMemory>,
     chain: Chain,
 ) -> Result<Expr, NoMemory>
-    requires { AllStand text.now more.now }
+    requires { AllWellFormed text.now more.now }
     ensures { IfOk result (λ e. Gave first (λ a. e ≡ fold (spec.joined_by chain) a (map (core_of text.now) more.now))) }
 {
     let mut left = first?;
@@ -156,7 +157,7 @@ fn build_terms(
     terms: &[Term<ExprTree>],
     first: Result<Expr, NoMemory>,
 ) -> Result<Expr, NoMemory>
-    requires { AllByRecursion (TermStands text.now) terms.now }
+    requires { AllByRecursion (WellFormedTerm text.now) terms.now }
     ensures { IfOk result (λ e. Gave first
         (λ a. e ≡ fold spec.added a (map (spec.in_term (core_of text.now)) terms.now))) }
 {
@@ -175,7 +176,7 @@ fn build_accesses(
     accesses: &[Access<Items<ExprTree>>],
     receiver: Result<Expr, NoMemory>,
 ) -> Result<Expr, NoMemory>
-    requires { AllByRecursion (AccessStands text.now) accesses.now }
+    requires { AllByRecursion (WellFormedAccess text.now) accesses.now }
     ensures { IfOk result
         (λ e. Gave receiver
         (λ a. e ≡ fold (spec.accessed text.now) a (map (spec.in_access (core_of text.now)) accesses.now))) }
@@ -194,7 +195,7 @@ fn build_access(
     access: &Access<Items<ExprTree>>,
     receiver: Expr,
 ) -> Result<Expr, NoMemory>
-    requires { AccessStands text.now access.now }
+    requires { WellFormedAccess text.now access.now }
     ensures { IfOk result (λ e. e ≡ spec.accessed text.now receiver (spec.in_access (core_of text.now) access.now)) }
 {
     match access {

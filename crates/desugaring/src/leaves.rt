@@ -1,6 +1,6 @@
 //! Core expressions from their parts, and those that a single token makes.
 ghost use Rattle.std.specs.Prelude.{◌≡◌, IfOk, Ok, Some};
-ghost use Rattle.policy_tokens.specs.declared.token.Kind.TheVariants as k;
+ghost use Rattle.policy_tokens.specs.declared.token.TokenKind.TheVariants as k;
 ghost use Rattle.policy_tokens.specs.Lexing.{spelling_of};
 ghost use Rattle.expressions.specs.declared.leaf.Literal.TheVariants as literal;
 ghost use Rattle.expressions.specs.declared.operator.Unary.TheVariants as unary;
@@ -14,7 +14,7 @@ ghost use Rattle.desugaring.specs.Meaning.{variable_of, path_name, uid_of, name_
 ghost use Rattle.desugaring.specs.Core as spec;
 ghost use Rattle.desugaring.specs.declared.names.Method.TheVariants as method;
 ghost use Rattle.desugaring.specs.inner.Giving.{Gave};
-ghost use Rattle.desugaring.specs.inner.Standing.{TokenIn, KeyIn, PathIn, UidIn};
+ghost use Rattle.desugaring.specs.inner.WellFormed.{TokenIn, KeyIn, PathIn, UidIn};
 
 use crate::names::Method;
 use crate::numbers;

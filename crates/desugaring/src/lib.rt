@@ -17,5 +17,5 @@ mod words;
 pub use fault::{DesugarFault, earlier_of};
 pub use laws::{least_fault_is_told, measures_add_up, repeats_stand_again, strings_are_read};
 pub use measure::Measure;
-pub use repeats::{Mark, first_duplicate};
+pub use repeats::{NameAt, first_duplicate};
 pub use whole::{build_expr, measure_expr, type_name};

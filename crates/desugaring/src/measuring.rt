@@ -2,7 +2,7 @@
 //! keys of records alone.
 ghost use Rattle.std.specs.Prelude.{◌≡◌, IfOk, true};
 ghost use Rattle.std.specs.List.{AllByRecursion, fold};
-ghost use Rattle.policy_tokens.specs.declared.token.Kind.TheVariants as k;
+ghost use Rattle.policy_tokens.specs.declared.token.TokenKind.TheVariants as k;
 ghost use Rattle.policy_tokens.specs.Lexing.{spelling_of};
 ghost use Rattle.token_readers.specs.Kinds.{only};
 ghost use Rattle.token_readers.specs.Grammar.{identifiers};
@@ -12,8 +12,9 @@ ghost use Rattle.desugaring.specs.Numbers as number;
 ghost use Rattle.desugaring.specs.Refused.{least};
 ghost use Rattle.desugaring.specs.Faults.{range, call_faults, function_faults};
 ghost use Rattle.desugaring.specs.Measured.{measured, measured_negated};
-ghost use Rattle.desugaring.specs.inner.Standing.{Stands, TokenIn, PathIn, AllStand, EntryStands, TermStands};
-ghost use Rattle.desugaring.specs.inner.Standing.{AccessStands};
+ghost use Rattle.desugaring.specs.inner.WellFormed.{WellFormed, TokenIn, PathIn, AllWellFormed, WellFormedEntry};
+ghost use Rattle.desugaring.specs.inner.WellFormed.{WellFormedTerm};
+ghost use Rattle.desugaring.specs.inner.WellFormed.{WellFormedAccess};
 ghost use Rattle.desugaring.specs.inner.Giving.{Gave};
 ghost use Rattle.desugaring.specs.Sums as spec;
 
@@ -174,7 +175,7 @@ fn if_then_else(test: Told, consequent: Told, alternative: Told) -> Told
 /// What is told of a tree.
 #[cycle(measuring)]
 pub(crate) fn measure_tree(alloc: Global, text: &str, tree: &ExprTree) -> Told
-    requires { Stands text.now tree.now }
+    requires { WellFormed text.now tree.now }
     ensures { IfOk result (λ j. j ≡ measured text.now tree.now) }
 {
     match tree {
@@ -239,7 +240,7 @@ pub(crate) fn measure_tree(alloc: Global, text: &str, tree: &ExprTree) -> Told
 /// Of a tree behind a minus, which joins a number.
 #[cycle(measuring)]
 fn measure_behind_minus(alloc: Global, text: &str, tree: &ExprTree) -> Told
-    requires { Stands text.now tree.now }
+    requires { WellFormed text.now tree.now }
     ensures { IfOk result (λ j. j ≡ measured_negated text.now tree.now) }
 {
     match tree {
@@ -250,7 +251,7 @@ fn measure_behind_minus(alloc: Global, text: &str, tree: &ExprTree) -> Told
 
 #[cycle(measuring)]
 fn measure_all(alloc: Global, text: &str, trees: &[ExprTree]) -> Told
-    requires { AllStand text.now trees.now }
+    requires { AllWellFormed text.now trees.now }
     ensures { IfOk result (λ j. j ≡ spec.measured_all text.now trees.now) }
 {
     let mut row = Measure::nothing();
@@ -262,7 +263,7 @@ fn measure_all(alloc: Global, text: &str, trees: &[ExprTree]) -> Told
 
 #[cycle(measuring)]
 fn measure_entries(alloc: Global, text: &str, entries: &[Entry<ExprTree>]) -> Told
-    requires { AllByRecursion (EntryStands text.now) entries.now }
+    requires { AllByRecursion (WellFormedEntry text.now) entries.now }
     ensures { IfOk result (λ j. j ≡ fold (spec.measured_entry text.now) spec.nothing entries.now) }
 {
     let mut row = Measure::nothing();
@@ -274,7 +275,7 @@ fn measure_entries(alloc: Global, text: &str, entries: &[Entry<ExprTree>]) -> To
 
 #[cycle(measuring)]
 fn measure_chain(alloc: Global, text: &str, more: &[ExprTree], first: Told) -> Told
-    requires { AllStand text.now more.now }
+    requires { AllWellFormed text.now more.now }
     ensures { IfOk result (λ j. Gave first (λ i. j ≡ spec.measured_chain text.now i more.now)) }
 {
     let mut left = first?;
@@ -286,7 +287,7 @@ fn measure_chain(alloc: Global, text: &str, more: &[ExprTree], first: Told) -> T
 
 #[cycle(measuring)]
 fn measure_terms(alloc: Global, text: &str, terms: &[Term<ExprTree>], first: Told) -> Told
-    requires { AllByRecursion (TermStands text.now) terms.now }
+    requires { AllByRecursion (WellFormedTerm text.now) terms.now }
     ensures { IfOk result (λ j. Gave first (λ i. j ≡ fold (spec.measured_term text.now) i terms.now)) }
 {
     let mut left = first?;
@@ -303,7 +304,7 @@ fn measure_accesses(
     accesses: &[Access<Items<ExprTree>>],
     receiver: Told,
 ) -> Told
-    requires { AllByRecursion (AccessStands text.now) accesses.now }
+    requires { AllByRecursion (WellFormedAccess text.now) accesses.now }
     ensures { IfOk result (λ j. Gave receiver (λ i. j ≡ fold (spec.measured_access text.now) i accesses.now)) }
 {
     let mut left = receiver?;
@@ -320,7 +321,7 @@ fn measure_access(
     access: &Access<Items<ExprTree>>,
     receiver: Measure,
 ) -> Told
-    requires { AccessStands text.now access.now }
+    requires { WellFormedAccess text.now access.now }
     ensures { IfOk result (λ j. j ≡ spec.measured_access text.now receiver access.now) }
 {
     match access {

@@ -1,9 +1,9 @@
 //! Names that stand a second time, and where first.
 ghost use Rattle.std.specs.Prelude.{◌≡◌, IfOk, map};
 ghost use Rattle.std.specs.List.{AllByRecursion};
-ghost use Rattle.desugaring.specs.inner.Standing.{EntryStands};
+ghost use Rattle.desugaring.specs.inner.WellFormed.{WellFormedEntry};
 ghost use Rattle.desugaring.specs.Refused.{least};
-ghost use Rattle.desugaring.specs.Repeats.{Mark, StandsAgain, repeat_faults, shown};
+ghost use Rattle.desugaring.specs.Repeats.{NameAt, StandsAgain, repeat_faults, shown};
 ghost use Rattle.desugaring.specs.Faults.{key_of};
 ghost use Rattle.desugaring.specs.inner.Searching.{TellsLeast, lesser_of, repeat_fault, held};
 
@@ -16,7 +16,7 @@ use std::collections::BTreeSet;
 
 /// A name, and the byte at which it stands.
 #[derive(Clone, Copy)]
-pub struct Mark<'a> {
+pub struct NameAt<'a> {
     pub name: &'a str,
     pub at: usize,
 }
@@ -40,7 +40,7 @@ fn lesser(a: Option<usize>, b: Option<usize>) -> Option<usize>
 }
 
 /// The least place at which a name stands again.
-fn least_place(alloc: Global, marks: &[Mark<'_>]) -> Result<Option<usize>, NoMemory>
+fn least_place(alloc: Global, marks: &[NameAt<'_>]) -> Result<Option<usize>, NoMemory>
     ensures { IfOk result (TellsLeast (StandsAgain (shown marks.now))) }
 {
     let mut seen = BTreeSet::new(alloc);
@@ -66,7 +66,10 @@ fn fault_at(place: Option<usize>) -> Option<DesugarFault>
 /// The fault of a name that stands again, the one at the least place. It takes time of n log n for n names; the only
 /// error is `NoMemory`.
 #[tactic(auto, using(crate::proofs::Again::fault_told))]
-pub fn first_duplicate(alloc: Global, marks: &[Mark<'_>]) -> Result<Option<DesugarFault>, NoMemory>
+pub fn first_duplicate(
+    alloc: Global,
+    marks: &[NameAt<'_>],
+) -> Result<Option<DesugarFault>, NoMemory>
     ensures { IfOk result (λ fault. fault ≡ least (repeat_faults (shown marks.now))) }
 {
     let place = least_place(alloc, marks)?;
@@ -75,7 +78,7 @@ pub fn first_duplicate(alloc: Global, marks: &[Mark<'_>]) -> Result<Option<Desug
 
 /// The keys of a record.
 fn keys_of(alloc: Global, text: &str, entries: &[Entry<ExprTree>]) -> Result<Vec<Key>, NoMemory>
-    requires { AllByRecursion (EntryStands text.now) entries.now }
+    requires { AllByRecursion (WellFormedEntry text.now) entries.now }
     ensures { IfOk result (λ keys. map held keys.items ≡ map (key_of text.now) entries.now) }
 {
     let mut keys = Vec::with_capacity(alloc, entries.len())?;
@@ -90,12 +93,12 @@ fn keys_of(alloc: Global, text: &str, entries: &[Entry<ExprTree>]) -> Result<Vec
 }
 
 /// The same, lent.
-fn marks_of<'a>(alloc: Global, keys: &'a [Key]) -> Result<Vec<Mark<'a>>, NoMemory>
+fn marks_of<'a>(alloc: Global, keys: &'a [Key]) -> Result<Vec<NameAt<'a>>, NoMemory>
     ensures { IfOk result (λ marks. shown marks.items ≡ map held keys.entry.now) }
 {
     let mut marks = Vec::with_capacity(alloc, keys.len())?;
     for key in keys {
-        marks.push(Mark {
+        marks.push(NameAt {
             name: key.name.as_str(),
             at: key.at,
         })?;
@@ -109,7 +112,7 @@ pub(crate) fn repeated_key(
     text: &str,
     entries: &[Entry<ExprTree>],
 ) -> Result<Option<DesugarFault>, NoMemory>
-    requires { AllByRecursion (EntryStands text.now) entries.now }
+    requires { AllByRecursion (WellFormedEntry text.now) entries.now }
     ensures { IfOk result (λ fault. fault ≡ least (repeat_faults (map (key_of text.now) entries.now))) }
 {
     let keys = keys_of(alloc, text, entries)?;

@@ -1,7 +1,7 @@
 //! A whole tree: what is told of it, and then its core expression.
 ghost use Rattle.std.specs.Prelude.{◌≡◌, [], IfOk};
-ghost use Rattle.expression_trees.specs.Stands.{ExprStands, PathStands};
-ghost use Rattle.desugaring.specs.Standing.{StandsIn};
+ghost use Rattle.expression_trees.specs.WellFormed.{WellFormedExpr, WellFormedPath};
+ghost use Rattle.desugaring.specs.BuiltFrom.{IsBuiltFrom};
 ghost use Rattle.desugaring.specs.Meaning.{path_name};
 ghost use Rattle.desugaring.specs.Core.{core_of};
 ghost use Rattle.desugaring.specs.Faults.{faults_of};
@@ -21,7 +21,7 @@ use values::TypeName;
 /// place. Takes memory for the keys of records alone, and time in proportion to the tree but for these, of which n
 /// take n log n. The only error is `NoMemory`.
 pub fn measure_expr(alloc: Global, text: &str, tree: &ExprTree) -> Result<Measure, NoMemory>
-    requires { StandsIn text.now (λ tokens. ExprStands tokens tree.now) }
+    requires { IsBuiltFrom text.now (λ tokens. WellFormedExpr tokens tree.now) }
     ensures { IfOk result (λ measure. measure ≡ measured text.now tree.now) }
 {
     measure_tree(alloc, text, tree)
@@ -31,7 +31,7 @@ pub fn measure_expr(alloc: Global, text: &str, tree: &ExprTree) -> Result<Measur
 ///
 /// Source: Cedar reference guide 4.0, "Grammar specification for Cedar policy syntax" and "Operators and functions".
 pub fn build_expr(alloc: Global, text: &str, tree: &ExprTree) -> Result<Expr, NoMemory>
-    requires stands { StandsIn text.now (λ tokens. ExprStands tokens tree.now) }
+    requires stands { IsBuiltFrom text.now (λ tokens. WellFormedExpr tokens tree.now) }
     requires sound { faults_of text.now tree.now ≡ [] }
     ensures { IfOk result (λ expr. expr ≡ core_of text.now tree.now) }
 {
@@ -40,7 +40,7 @@ pub fn build_expr(alloc: Global, text: &str, tree: &ExprTree) -> Result<Expr, No
 
 /// The type name that a path is. The only error is `NoMemory`.
 pub fn type_name(alloc: Global, text: &str, path: &PathTree) -> Result<TypeName, NoMemory>
-    requires { StandsIn text.now (λ tokens. PathStands tokens path.now) }
+    requires { IsBuiltFrom text.now (λ tokens. WellFormedPath tokens path.now) }
     ensures { IfOk result (λ name. name ≡ path_name text.now path.now) }
 {
     path_type(alloc, text, path)

@@ -2,10 +2,10 @@
 ghost use Rattle.std.specs.Prelude.{◌≡◌, ◌∷◌, IfOk, length, map};
 ghost use Rattle.plain.specs.Words.{AreIdents};
 ghost use Rattle.policy_tokens.specs.Lexing.{spelling_of};
-ghost use Rattle.policy_tokens.specs.declared.token.Kind.TheVariants as k;
+ghost use Rattle.policy_tokens.specs.declared.token.TokenKind.TheVariants as k;
 ghost use Rattle.token_readers.specs.Kinds.{only};
 ghost use Rattle.expression_trees.specs.Patterns.{patterns};
-ghost use Rattle.desugaring.specs.inner.Standing.{TokenIn, KeyIn, PathIn};
+ghost use Rattle.desugaring.specs.inner.WellFormed.{TokenIn, KeyIn, PathIn};
 ghost use Rattle.desugaring.specs.Strings.{value_of, pattern_of};
 ghost use Rattle.desugaring.specs.Meaning.{sign_of, path_name, name_of, place_of};
 

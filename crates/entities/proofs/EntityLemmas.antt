@@ -7,7 +7,7 @@ use Rattle.serde_json.specs.Find.{get, as_array}
 use Rattle.serde_json.specs.Read.{max_depth}
 use Rattle.serde_json.specs.View.{items_of}
 use Rattle.json_words.specs.Each.{each, list_of}
-use Rattle.json_words.specs.Gives.{◌>>=◌, or_fault, demand}
+use Rattle.json_words.specs.ReadsAs.{◌>>=◌, or_fault, demand}
 use Rattle.json_words.proofs.EachLemmas.{bind_ok}
 use Rattle.plain.specs.Words.{IsPath}
 use Rattle.values.specs.declared.entity_uid.EntityUid.{EntityUid}
@@ -33,7 +33,8 @@ use Rattle.entities.specs.Entities.{is_action_type, shape_of, attributes_in, par
 use Rattle.entity_worlds.specs.UidSets.{uid_set}
 use Rattle.entities.specs.Canonical.{canonical_json}
 use Rattle.entities.specs.Laws.{CanonicalIsRead, CanonicalNests, CanonicalIsOne, ParentsAscend}
-use Rattle.entities.proofs.UidSetLemmas.{all_set, sorted_set, set_same}
+use Rattle.entity_worlds.proofs.UidLemmas.{sorted_set}
+use Rattle.entities.proofs.UidSetLemmas.{all_set, set_same}
 
 -- the laws of the crates below
 pub record Below : Type 0 where

@@ -2,7 +2,7 @@
 use Rattle.std.proofs.Common.{◌≡◌, ◌∙◌, ℕ, ◌+◌, ◌<◌, ◌≤◌, List, length, drop, get_or, Result, Ok, refl, ap}
 use Rattle.std.specs.Prelude.{⊤}
 use Rattle.std.proofs.lemmas.List.{drop_all}
-use Rattle.json_words.specs.Gives.{Fails}
+use Rattle.json_words.specs.ReadsAs.{Fails}
 use Rattle.json_words.proofs.EachSame.{cut}
 use Rattle.values.specs.declared.entity_uid.EntityUid.{EntityUid}
 use Rattle.schema.specs.Schemas.{StatedSchema}

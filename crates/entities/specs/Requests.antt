@@ -6,7 +6,7 @@
 use Rattle.std.specs.Prelude.{◌≡◌, true, ℕ, List, MatchOption, codes, Result, Ok, Err}
 use Rattle.serde_json.specs.Data.{Data}
 use Rattle.serde_json.specs.Find.{get}
-use Rattle.json_words.specs.Gives.{◌>>=◌, or_fault}
+use Rattle.json_words.specs.ReadsAs.{◌>>=◌, or_fault}
 use Rattle.values.specs.declared.entity_uid.EntityUid.{EntityUid}
 use Rattle.values.specs.declared.request.Request.{Request}
 use Rattle.values.specs.Fields.{Field}

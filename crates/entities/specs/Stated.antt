@@ -7,7 +7,7 @@ use Rattle.serde_json.specs.Data.{Data, Items, object, no_members}
 use Rattle.serde_json.specs.Find.{get, as_array, as_object}
 use Rattle.json_words.specs.Keys.{has_only}
 use Rattle.json_words.specs.Each.{each, list_of}
-use Rattle.json_words.specs.Gives.{◌>>=◌, or_fault, demand}
+use Rattle.json_words.specs.ReadsAs.{◌>>=◌, or_fault, demand}
 use Rattle.values.specs.declared.entity_uid.EntityUid.{EntityUid}
 use Rattle.uid_json.specs.Uids.{uid_in}
 use Rattle.entities.specs.declared.fault.EntityFault.{EntityFault}

@@ -1,7 +1,7 @@
 //! Contexts, read by the action's environments.
 ghost use Rattle.std.specs.Prelude.{◌≡◌, map, option_map};
 ghost use Rattle.serde_json.specs.View.{view};
-ghost use Rattle.json_words.specs.Gives.{Gives};
+ghost use Rattle.json_words.specs.ReadsAs.{ReadsAs};
 ghost use Rattle.schema_types.specs.CedarViews.{cedar_view};
 ghost use Rattle.schema.specs.Views.{schema_view, environment_view};
 ghost use Rattle.entities.specs.declared.fault.EntityFault.TheVariants as EntityFault;
@@ -40,7 +40,7 @@ pub fn read_context(
     action: &EntityUid,
     value: &Value,
 ) -> Result<Record, EntityFault>
-    ensures { Gives EntityFault.NoMemory (λ r. r) result
+    ensures { ReadsAs EntityFault.NoMemory (λ r. r) result
         (context_in (schema_view schema.now) action.now (view value.now)) }
 {
     if value.as_object().is_none() {

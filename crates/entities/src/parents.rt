@@ -1,6 +1,6 @@
 //! Which parents an entity may have.
 ghost use Rattle.std.specs.Prelude.{◌≡◌};
-ghost use Rattle.json_words.specs.Gives.{Gives};
+ghost use Rattle.json_words.specs.ReadsAs.{ReadsAs};
 ghost use Rattle.ancestor_closure.specs.Decided.{is_same};
 ghost use Rattle.schema.specs.Views.{schema_view};
 ghost use Rattle.entities.specs.declared.fault.EntityFault.TheVariants as EntityFault;
@@ -22,7 +22,7 @@ pub(crate) fn is_same(a: &EntityUid, b: &EntityUid) -> bool
 /// Demands that an entity may have this parent: another entity, of a type that its own leads to by `memberOfTypes`.
 #[tactic(auto, unfolding(crate::specs::Entities::parent_fits))]
 fn demand_parent(schema: &Schema, uid: &EntityUid, parent: &EntityUid) -> Result<(), EntityFault>
-    ensures { Gives EntityFault.NoMemory (λ u. u) result (parent_fits (schema_view schema.now) uid.now parent.now) }
+    ensures { ReadsAs EntityFault.NoMemory (λ u. u) result (parent_fits (schema_view schema.now) uid.now parent.now) }
 {
     if is_same(parent, uid) {
         return Err(EntityFault::SelfParent);
@@ -39,7 +39,7 @@ fn demand_parents(
     uid: &EntityUid,
     parents: &[EntityUid],
 ) -> Result<(), EntityFault>
-    ensures { Gives EntityFault.NoMemory (λ u. u) result (parents_fit (schema_view schema.now) uid.now parents.now) }
+    ensures { ReadsAs EntityFault.NoMemory (λ u. u) result (parents_fit (schema_view schema.now) uid.now parents.now) }
 {
     for parent in parents {
         demand_parent(schema, uid, parent)?;
@@ -54,7 +54,7 @@ pub(crate) fn checked_parents(
     uid: &EntityUid,
     parents: Items<EntityUid>,
 ) -> Result<Items<EntityUid>, EntityFault>
-    ensures { Gives EntityFault.NoMemory (λ us. us) result (parents_in (schema_view schema.now) uid.now parents) }
+    ensures { ReadsAs EntityFault.NoMemory (λ us. us) result (parents_in (schema_view schema.now) uid.now parents) }
 {
     demand_parents(schema, uid, parents.as_slice())?;
     Ok(in_order(parents.into_vec())?)

@@ -1,7 +1,7 @@
 //! Entities, read by their types.
 ghost use Rattle.std.specs.Prelude.{◌≡◌, option_map};
 ghost use Rattle.serde_json.specs.View.{view};
-ghost use Rattle.json_words.specs.Gives.{Gives, GivesAlways};
+ghost use Rattle.json_words.specs.ReadsAs.{ReadsAs, AlwaysReadsAs};
 ghost use Rattle.schema_types.specs.CedarViews.{cedar_view};
 ghost use Rattle.schema.specs.Views.{schema_view};
 ghost use Rattle.typed_values.specs.Typing.{record_in};
@@ -32,7 +32,7 @@ fn is_action_type(name: &TypeName) -> bool
 /// The attributes that entities of a type have.
 #[tactic(auto, unfolding(crate::specs::Entities::shape_of))]
 fn shape_of<'s>(schema: &'s Schema, name: &TypeName) -> Result<&'s CedarType, EntityFault>
-    ensures { GivesAlways (λ t. cedar_view t.now) result (shape_of (schema_view schema.now) name.now) }
+    ensures { AlwaysReadsAs (λ t. cedar_view t.now) result (shape_of (schema_view schema.now) name.now) }
 {
     if is_action_type(name) {
         return Err(EntityFault::ActionEntity);
@@ -49,7 +49,7 @@ pub(crate) fn read_fields(
     found: Option<&Value>,
     ty: &CedarType,
 ) -> Result<Record, EntityFault>
-    ensures { Gives EntityFault.NoMemory (λ r. r) result
+    ensures { ReadsAs EntityFault.NoMemory (λ r. r) result
         (told (record_in (cedar_view ty.now) (or_empty (option_map (λ v. view v.now) found.entry)))) }
 {
     match found {
@@ -69,7 +69,7 @@ fn read_attributes(
     name: &TypeName,
     value: &Value,
 ) -> Result<Record, EntityFault>
-    ensures { Gives EntityFault.NoMemory (λ r. r) result
+    ensures { ReadsAs EntityFault.NoMemory (λ r. r) result
         (attributes_in (schema_view schema.now) name.now (view value.now)) }
 {
     let shape = shape_of(schema, name)?;
@@ -86,7 +86,7 @@ fn read_attributes(
 /// one is missing; of the parents, in their order, that one is the entity itself or of a type that it may not have.
 #[tactic(auto, unfolding(crate::specs::Entities::entity_in))]
 pub fn read_entity(alloc: Global, schema: &Schema, value: &Value) -> Result<Entity, EntityFault>
-    ensures { Gives EntityFault.NoMemory (λ e. e) result (entity_in (schema_view schema.now) (view value.now)) }
+    ensures { ReadsAs EntityFault.NoMemory (λ e. e) result (entity_in (schema_view schema.now) (view value.now)) }
 {
     let StatedEntity { uid, parents } = read_stated(alloc, value)?;
     let attrs = read_attributes(alloc, schema, &uid.type_name, value)?;

@@ -2,7 +2,7 @@
 ghost use Rattle.std.specs.Prelude.{◌≡◌, ◌≢◌, IfOk, IfErr, map, option_map};
 ghost use Rattle.std.specs.Str.{bytes_eq};
 ghost use Rattle.serde_json.specs.View.{view};
-ghost use Rattle.json_words.specs.Gives.{Gives};
+ghost use Rattle.json_words.specs.ReadsAs.{ReadsAs};
 ghost use Rattle.schema_types.specs.CedarViews.{cedar_view};
 ghost use Rattle.schema.specs.Views.{schema_view, environment_view};
 ghost use Rattle.values.specs.declared.entity_uid.EntityUid.{EntityUid as PlainUid};
@@ -103,7 +103,7 @@ fn read_context_of(
     asked: &Asked,
     value: &Value,
 ) -> Result<Record, EntityFault>
-    ensures { Gives EntityFault.NoMemory (λ r. r) result
+    ensures { ReadsAs EntityFault.NoMemory (λ r. r) result
         (context_asked (schema_view schema.now) asked.now (view value.now)) }
 {
     match context_of(schema.environments(), asked) {

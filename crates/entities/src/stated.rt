@@ -1,7 +1,7 @@
 //! The form of an entity's JSON.
 ghost use Rattle.std.specs.Prelude.{◌≡◌, option_map};
 ghost use Rattle.serde_json.specs.View.{view, items_view};
-ghost use Rattle.json_words.specs.Gives.{Gives};
+ghost use Rattle.json_words.specs.ReadsAs.{ReadsAs};
 ghost use Rattle.entities.specs.declared.fault.EntityFault.TheVariants as EntityFault;
 ghost use Rattle.entities.specs.Stated.{uid_of, uids_of, parents_of, is_absent_or_object, is_absent_or_empty};
 ghost use Rattle.entities.specs.Stated.{has_objects, stated_in};
@@ -22,7 +22,7 @@ pub struct StatedEntity {
 }
 
 fn read_uid(alloc: Global, value: &Value) -> Result<EntityUid, EntityFault>
-    ensures { Gives EntityFault.NoMemory (λ u. u) result (uid_of (view value.now)) }
+    ensures { ReadsAs EntityFault.NoMemory (λ u. u) result (uid_of (view value.now)) }
 {
     match uid_json::read_uid(alloc, value)? {
         Some(uid) => Ok(uid),
@@ -31,7 +31,7 @@ fn read_uid(alloc: Global, value: &Value) -> Result<EntityUid, EntityFault>
 }
 
 fn read_uids(alloc: Global, values: &[Value]) -> Result<Items<EntityUid>, EntityFault>
-    ensures { Gives EntityFault.NoMemory (λ us. us) result (uids_of (items_view values.now)) }
+    ensures { ReadsAs EntityFault.NoMemory (λ us. us) result (uids_of (items_view values.now)) }
 {
     let mut uids = Vec::with_capacity(alloc, values.len())?;
     for value in values {
@@ -42,7 +42,7 @@ fn read_uids(alloc: Global, values: &[Value]) -> Result<Items<EntityUid>, Entity
 }
 
 fn read_parents(alloc: Global, parents: Option<&Value>) -> Result<Items<EntityUid>, EntityFault>
-    ensures { Gives EntityFault.NoMemory (λ us. us) result (parents_of (option_map (λ v. view v.now) parents.entry)) }
+    ensures { ReadsAs EntityFault.NoMemory (λ us. us) result (parents_of (option_map (λ v. view v.now) parents.entry)) }
 {
     match parents {
         None => Ok(Items::new(alloc)),
@@ -82,7 +82,7 @@ fn has_objects(value: &Value) -> bool
 /// The name and the parents that an entity's JSON states, where it has the form of an entity.
 #[tactic(auto, unfolding(crate::specs::Stated::stated_in))]
 pub(crate) fn read_stated(alloc: Global, value: &Value) -> Result<StatedEntity, EntityFault>
-    ensures { Gives EntityFault.NoMemory (λ e. e) result (stated_in (view value.now)) }
+    ensures { ReadsAs EntityFault.NoMemory (λ e. e) result (stated_in (view value.now)) }
 {
     let Some(uid) = value.get("uid") else {
         return Err(EntityFault::BadShape);

@@ -5,24 +5,24 @@ use Rattle.values.specs.declared.entity_uid.EntityUid.{EntityUid}
 use Rattle.values.specs.declared.request.Request.{Request}
 use Rattle.values.specs.Values.{PlainValue}
 use Rattle.values.specs.Fields.{Field}
-use Rattle.ancestor_closure.specs.Hierarchy.{Parents}
+use Rattle.ancestor_closure.specs.Hierarchy.{Parents, IsIn}
 use Rattle.expressions.specs.declared.expr.Expr.{Expr}
 use Rattle.expressions.specs.declared.operator.Binary.{Binary}
 use Rattle.evaluator.specs.declared.fault.EvalFault.{EvalFault}
-use Rattle.evaluator.specs.Outcomes.{Outcome, IsTruthOf, holds, fails}
+use Rattle.evaluator.specs.Outcomes.{EvaluationResult, IsTruthOf, holds, fails}
 use Rattle.evaluator.specs.Operators as op
-use Rattle.evaluator.specs.Operators.{World, world_of, IsIn, BinaryGives, FieldGives, HasGives}
+use Rattle.evaluator.specs.Operators.{World, world_of, BinaryGives, FieldGives, HasGives}
 use Rattle.evaluator.specs.Evaluation as rule
-use Rattle.evaluator.specs.Evaluation.{Gives, TestFails, GivesEach}
+use Rattle.evaluator.specs.Evaluation.{EvaluatesTo, TestFails, EachEvaluatesTo}
 use Rattle.policy_grammar.specs.Whole.{expression_of}
 use Rattle.policy_grammar.specs.declared.policy.Policy.{Policy}
 use Rattle.authoriser.specs.declared.outcome.Outcome.{Outcome as Verdict}
 use Rattle.authoriser.specs.declared.outcome.Outcome.TheVariants.{Satisfied, NotSatisfied, Errs}
 use Rattle.authoriser.specs.declared.answer.Answer.{Answer}
-use Rattle.authoriser.specs.Answers.{Named, PolicyOutcome, ComesTo, ArePolicyOutcomes, IsCycleDenial, IsAnswer}
+use Rattle.authoriser.specs.Answers.{NamedPolicy, PolicyOutcome, ComesTo, ArePolicyOutcomes, IsCycleDenial, IsAnswer}
 use Rattle.entity_store.specs.Alike.{LeadAlike, GiveAlike, AnswerAlike}
 
-told : {P Q : Type 0} (r : Outcome) → (P → Q) → (Q → P) → IsTruthOf P r → IsTruthOf Q r
+told : {P Q : Type 0} (r : EvaluationResult) → (P → Q) → (Q → P) → IsTruthOf P r → IsTruthOf Q r
 told _ f g (holds p) = holds (f p)
 told _ f g (fails n) = fails (λ h. n (g h))
 
@@ -36,15 +36,15 @@ module _ (stored : EntityUid → Option (List Field)) (P Q : Parents) (alike : L
   abbrev V : World
   V = world_of stored Q
 
-  into : (a b : EntityUid) → IsIn W a b → IsIn V a b
+  into : (a b : EntityUid) → IsIn W.parents a b → IsIn V.parents a b
   into a b (inl e) = inl e
   into a b (inr above) = inr ((alike b a).0 above)
 
-  back : (a b : EntityUid) → IsIn V a b → IsIn W a b
+  back : (a b : EntityUid) → IsIn V.parents a b → IsIn W.parents a b
   back a b (inl e) = inl e
   back a b (inr above) = inr ((alike b a).1 above)
 
-  binary : (o : Binary) (v w : PlainValue) (r : Outcome) → BinaryGives W o v w r → BinaryGives V o v w r
+  binary : (o : Binary) (v w : PlainValue) (r : EvaluationResult) → BinaryGives W o v w r → BinaryGives V o v w r
   binary _ _ _ _ (op.equal t) = op.equal t
   binary _ _ _ _ (op.of_numbers g) = op.of_numbers g
   binary _ _ _ _ (op.no_numbers t n) = op.no_numbers t n
@@ -60,7 +60,7 @@ module _ (stored : EntityUid → Option (List Field)) (P Q : Parents) (alike : L
   binary _ _ _ _ (op.contains_any t) = op.contains_any t
   binary _ _ _ _ (op.no_sets t n) = op.no_sets t n
 
-  field : (name : List ℕ) (v : PlainValue) (r : Outcome) → FieldGives W name v r → FieldGives V name v r
+  field : (name : List ℕ) (v : PlainValue) (r : EvaluationResult) → FieldGives W name v r → FieldGives V name v r
   field name _ _ (op.field f) = op.field f
   field name _ _ (op.no_field f) = op.no_field f
   field name _ _ (op.attribute fs s f) = op.attribute fs s f
@@ -68,7 +68,7 @@ module _ (stored : EntityUid → Option (List Field)) (P Q : Parents) (alike : L
   field name _ _ (op.not_stored s) = op.not_stored s
   field name _ _ (op.field_of_other n m) = op.field_of_other n m
 
-  has : (name : List ℕ) (v : PlainValue) (r : Outcome) → HasGives W name v r → HasGives V name v r
+  has : (name : List ℕ) (v : PlainValue) (r : EvaluationResult) → HasGives W name v r → HasGives V name v r
   has name _ _ (op.has_field t) = op.has_field t
   has name _ _ (op.has_attribute fs s t) = op.has_attribute fs s t
   has name _ _ (op.none_stored s) = op.none_stored s
@@ -76,7 +76,7 @@ module _ (stored : EntityUid → Option (List Field)) (P Q : Parents) (alike : L
 
   module _ (q : Request) where
     mutual
-      pub gives : (x : Expr) (r : Outcome) → Gives W q x r → Gives V q x r
+      pub gives : (x : Expr) (r : EvaluationResult) → EvaluatesTo W q x r → EvaluatesTo V q x r
       gives _ _ (rule.gives_literal l) = rule.gives_literal l
       gives _ _ (rule.gives_variable x) = rule.gives_variable x
       gives _ _ (rule.if_true a b c {r} g h) = rule.if_true a b c (gives a _ g) (gives b r h)
@@ -104,7 +104,7 @@ module _ (stored : EntityUid → Option (List Field)) (P Q : Parents) (alike : L
       test_fails _ _ (rule.test_errs {a} {e} g) = rule.test_errs (gives a _ g)
       test_fails _ _ (rule.no_boolean {a} {v} g n) = rule.no_boolean (gives a _ g) n
 
-      gives_each : (xs : List Expr) (r : Result (List PlainValue) EvalFault) → GivesEach W q xs r → GivesEach V q xs r
+      gives_each : (xs : List Expr) (r : Result (List PlainValue) EvalFault) → EachEvaluatesTo W q xs r → EachEvaluatesTo V q xs r
       gives_each _ _ rule.each_none = rule.each_none
       gives_each _ _ (rule.each_more {x} {xs} {v} {vs} g h) = rule.each_more (gives x _ g) (gives_each xs _ h)
       gives_each _ _ (rule.each_fails {x} {xs} {e} g) = rule.each_fails (gives x _ g)
@@ -115,7 +115,7 @@ module _ (stored : EntityUid → Option (List Field)) (P Q : Parents) (alike : L
     comes_to p NotSatisfied h = gives (expression_of p) _ h
     comes_to p (Errs e) h = gives (expression_of p) _ h
 
-    judged : (ps : List Named) (js : List PolicyOutcome) → ArePolicyOutcomes W q ps js → ArePolicyOutcomes V q ps js
+    judged : (ps : List NamedPolicy) (js : List PolicyOutcome) → ArePolicyOutcomes W q ps js → ArePolicyOutcomes V q ps js
     judged [] [] h = h
     judged [] (j ∷ js) h = h
     judged (p ∷ ps) [] h = h
@@ -130,7 +130,7 @@ module _ (stored : EntityUid → Option (List Field)) (P Q : Parents) (alike : L
       rest = d.rest;
     }
 
-    answered : (ps : List Named) (a : Answer) → IsAnswer W q ps a → IsAnswer V q ps a
+    answered : (ps : List NamedPolicy) (a : Answer) → IsAnswer W q ps a → IsAnswer V q ps a
     answered ps a (inl d) = inl (denied a d)
     answered ps a (inr p) = inr (record {
       acyclic = λ u h. p.acyclic u ((alike u u).1 h);

@@ -4,11 +4,11 @@ use Rattle.values.specs.declared.entity_uid.EntityUid.{EntityUid}
 use Rattle.values.specs.declared.request.Request.{Request}
 use Rattle.ancestor_closure.specs.Hierarchy.{Parents, Above}
 use Rattle.expressions.specs.declared.expr.Expr.{Expr}
-use Rattle.evaluator.specs.Outcomes.{Outcome}
+use Rattle.evaluator.specs.Outcomes.{EvaluationResult}
 use Rattle.evaluator.specs.Operators.{World}
-use Rattle.evaluator.specs.Evaluation.{Gives}
+use Rattle.evaluator.specs.Evaluation.{EvaluatesTo}
 use Rattle.authoriser.specs.declared.answer.Answer.{Answer}
-use Rattle.authoriser.specs.Answers.{Named, IsAnswer}
+use Rattle.authoriser.specs.Answers.{NamedPolicy, IsAnswer}
 
 -- the same entities are above one another, and so the same are on cycles
 abbrev pub LeadAlike : Parents → Parents → Type 0
@@ -16,8 +16,9 @@ LeadAlike parents others = (a b : EntityUid) → Above parents a b ↔ Above oth
 
 -- each expression gives the same
 abbrev pub GiveAlike : World → World → Type 0
-GiveAlike W V = (q : Request) (x : Expr) (r : Outcome) → Gives W q x r ↔ Gives V q x r
+GiveAlike W V = (q : Request) (x : Expr) (r : EvaluationResult) → EvaluatesTo W q x r ↔ EvaluatesTo V q x r
 
 -- each request has the same answer, over whichever policies
 abbrev pub AnswerAlike : World → World → Type 0
-AnswerAlike W V = (q : Request) (policies : List Named) (a : Answer) → IsAnswer W q policies a ↔ IsAnswer V q policies a
+AnswerAlike W V = (q : Request) (policies : List NamedPolicy) (a : Answer)
+    → IsAnswer W q policies a ↔ IsAnswer V q policies a

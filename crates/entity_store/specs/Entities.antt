@@ -2,23 +2,23 @@
 -- Source: Cedar reference guide 4.0, "Schema JSON format", `actions` and `memberOf`.
 use Rattle.std.specs.Prelude.{List, map}
 use Rattle.values.specs.declared.entity_uid.EntityUid.{EntityUid}
-use Rattle.schema.specs.Kept.{Kept}
+use Rattle.schema.specs.SchemaEntries.{SchemaEntries}
 use Rattle.schema.specs.Views.{ancestors_at}
 use Rattle.entity_worlds.specs.Entities.{EntityMap, Actions, AreActions, with_actions}
 use Rattle.entity_worlds.specs.Listing.{keys_are_found}
 
 -- The actions of a schema, of each as parents all that are above it by `memberOf`. That edges by `memberOf` alone would
 -- lead to the same entities, and every answer be the same, is a law of this crate.
-abbrev pub actions_under : Kept → Actions
+abbrev pub actions_under : SchemaEntries → Actions
 actions_under schema u = ancestors_at schema.ancestors u
 
 -- the entities that are kept, and under a schema its actions
-abbrev pub entities_under : Kept → EntityMap → EntityMap
+abbrev pub entities_under : SchemaEntries → EntityMap → EntityMap
 entities_under schema entities = with_actions (actions_under schema) entities
 
 -- the uids of the actions
-abbrev pub action_uids : Kept → List EntityUid
+abbrev pub action_uids : SchemaEntries → List EntityUid
 action_uids schema = map (λ e. e.0) schema.ancestors
 
-pub actions_are_listed : (schema : Kept) → AreActions (actions_under schema) (action_uids schema)
+pub actions_are_listed : (schema : SchemaEntries) → AreActions (actions_under schema) (action_uids schema)
 actions_are_listed schema = keys_are_found schema.ancestors

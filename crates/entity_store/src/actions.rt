@@ -18,9 +18,9 @@ pub struct SchemaActions<'a> {
 impl<'a> Model for SchemaActions<'a> {
     ghost use Rattle.std.specs.Coded.{codes};
     ghost use Rattle.schema_types.specs.contracts.cedar.CedarType as cedar;
-    ghost use Rattle.schema.specs.Kept.{Kept};
+    ghost use Rattle.schema.specs.SchemaEntries.{SchemaEntries};
 
-    ghost Value = { Kept };
+    ghost Value = { SchemaEntries };
 
     ghost coded = { Prim.hlevel (codes, cedar.the_row.coded) };
 

@@ -1,1 +1,1 @@
-mod UidLemmas
+pub mod UidLemmas

@@ -57,14 +57,14 @@ pub ties : (a b : EntityUid) → (is_eq (text_cmp a.type_name b.type_name) && is
 ties a b = tie (text_cmp a.type_name b.type_name) (text_cmp a.id b.id)
 
 -- two tests that hold together are one
-one_test : (b c : Bool) → (IsTrue b → IsTrue c) → (IsTrue c → IsTrue b) → b ≡ c
+pub one_test : (b c : Bool) → (IsTrue b → IsTrue c) → (IsTrue c → IsTrue b) → b ≡ c
 one_test true true f g = refl
 one_test true false f g = sym (f refl)
 one_test false true f g = g refl
 one_test false false f g = refl
 
 module _ (same : EntityUid → EntityUid → Bool) (is : (a b : EntityUid) → IsTrue (same a b) ↔ (a ≡ b)) where
-  is_equivalence : IsEquivalence same
+  pub is_equivalence : IsEquivalence same
   is_equivalence = record {
     refl = λ a. (is a a).1 refl;
     symm = λ a b. one_test (same a b) (same b a) (λ h. (is b a).1 (sym ((is a b).0 h))) (λ h. (is a b).1 (sym ((is b a).0 h)));
@@ -95,7 +95,7 @@ module _ (same : EntityUid → EntityUid → Bool) (is : (a b : EntityUid) → I
 
 -- ---- a set of uids ascends, and has no others
 
-all_put : (P : EntityUid → Type 0) (u : EntityUid) (vs : List EntityUid) → P u → AllByRecursion P vs → AllByRecursion P (put_uid u vs)
+pub all_put : (P : EntityUid → Type 0) (u : EntityUid) (vs : List EntityUid) → P u → AllByRecursion P vs → AllByRecursion P (put_uid u vs)
 all_put P u [] p a = (p, a)
 all_put P u (v ∷ vs) p a =
     elim (uid_cmp u v) as (λ o. AllByRecursion P (match_ordering o (u ∷ v ∷ vs) (v ∷ vs) (v ∷ put_uid u vs))) [ Less ↦ (p, a) | Equal ↦ a | Greater ↦ (a.0, all_put P u vs p a.1) ]
@@ -114,7 +114,7 @@ sorted_put u (v ∷ vs) s =
       | Greater ↦ λ e. (all_put (λ w. uid_cmp v w ≡ Less) u vs (uid_cmp-IsTotalOrder.antisymm v u ∙ ap ordering_reverse e) s.0, sorted_put u vs s.1)
     ] refl
 
-sorted_set : (us : List EntityUid) → IsAscending (uid_set us)
+pub sorted_set : (us : List EntityUid) → IsAscending (uid_set us)
 unfolding IsStrictlySortedBy
 sorted_set [] = tt
 sorted_set (u ∷ us) = sorted_put u (uid_set us) (sorted_set us)
@@ -134,7 +134,7 @@ from_put u (v ∷ vs) x i =
       ]
     ] i
 
-set_from : (us : List EntityUid) (x : EntityUid) → Contains (uid_set us) x → Contains us x
+pub set_from : (us : List EntityUid) (x : EntityUid) → Contains (uid_set us) x → Contains us x
 set_from [] x i = i
 set_from (u ∷ us) x i = elim (Contains-cases u (uid_set us) x (from_put u (uid_set us) x i)) [
   | inl e ↦ subst (λ y. Contains (u ∷ us) y) e (Contains-here u us)

@@ -19,28 +19,28 @@ use Rattle.expressions.specs.declared.expr.Expr.{Expr}
 use Rattle.expressions.specs.declared.expr.Expr.TheVariants as form
 use Rattle.evaluator.specs.declared.fault.EvalFault.{EvalFault}
 use Rattle.evaluator.specs.declared.fault.EvalFault.TheVariants.{TypeError}
-use Rattle.evaluator.specs.Outcomes.{Outcome, boolean_in}
+use Rattle.evaluator.specs.Outcomes.{EvaluationResult, boolean_in}
 use Rattle.evaluator.specs.Operators.{World}
 use Rattle.evaluator.specs.Evaluation as rule
-use Rattle.evaluator.specs.Evaluation.{literal_value, variable_value, HasOperands, put_each, Gives, TestFails, GivesEach, AnswersWhatIsGiven, AnswersAllThatIsGiven}
+use Rattle.evaluator.specs.Evaluation.{literal_value, variable_value, HasOperands, put_each, EvaluatesTo, TestFails, EachEvaluatesTo, AnswersWhatIsGiven, AnswersAllThatIsGiven}
 use Rattle.evaluator.specs.Laws.{HasOneOutcome}
 use Rattle.evaluator.specs.inner.Meanings.{GivesOnly, MeaningsAreGiven}
 use Rattle.evaluator.specs.inner.Computing.{Entities, entities_of, and_then, demanded, truth, as_test, apply_unary, apply_binary, field_of, has_field, apply_unary_call, apply_binary_call, each, each_field, meaning, meaning_step, named_meaning, Answers}
 use Rattle.evaluator.proofs.Applied.{LawsBelow, unary_exists, unary_is, unary_call_exists, unary_call_is, binary_call_exists, binary_call_is, binary_exists, binary_is, field_exists, field_is, has_exists, has_is}
 
 -- the values as a set
-to_set : List PlainValue → Outcome
+to_set : List PlainValue → EvaluationResult
 to_set vs = Ok (set (values_of (set_list vs)))
 
-to_record : List Field → Outcome
+to_record : List Field → EvaluationResult
 to_record fs = Ok (record_of (fields_of fs))
 
 -- where the operands err, so does what goes on with their values
-one_errs : (f : PlainValue → Outcome) (m : Outcome) (e : EvalFault) → each (m ∷ []) ≡ Err e → and_then m f ≡ Err e
+one_errs : (f : PlainValue → EvaluationResult) (m : EvaluationResult) (e : EvalFault) → each (m ∷ []) ≡ Err e → and_then m f ≡ Err e
 one_errs f (Ok v) e h = absurd (cc)
 one_errs f (Err d) e h = let same : d ≡ e = cc in ap (λ g. Err g) same
 
-two_err : (f : PlainValue → PlainValue → Outcome) (m n : Outcome) (e : EvalFault) → each (m ∷ n ∷ []) ≡ Err e → and_then m (λ v. and_then n (f v)) ≡ Err e
+two_err : (f : PlainValue → PlainValue → EvaluationResult) (m n : EvaluationResult) (e : EvalFault) → each (m ∷ n ∷ []) ≡ Err e → and_then m (λ v. and_then n (f v)) ≡ Err e
 two_err f (Ok v) (Ok w) e h = absurd (cc)
 two_err f (Ok v) (Err d) e h = let same : d ≡ e = cc in ap (λ g. Err g) same
 two_err f (Err d) n e h = let same : d ≡ e = cc in ap (λ g. Err g) same
@@ -51,7 +51,7 @@ goes_on (Ok v) f g h = h v
 goes_on (Err e) f g h = refl
 
 -- a field's value, and then those of the others
-one_field : (x : Named Expr) (xs : List (Named Expr)) (done : List Field) (m : Outcome) (n : Result (List PlainValue) EvalFault) →
+one_field : (x : Named Expr) (xs : List (Named Expr)) (done : List Field) (m : EvaluationResult) (n : Result (List PlainValue) EvalFault) →
     and_then m (λ v. and_then n (λ vs. Ok (put_each xs vs (put x.name v done)))) ≡ and_then (and_then m (λ v. and_then n (λ vs. Ok (v ∷ vs)))) (λ vs. Ok (put_each (x ∷ xs) vs done))
 one_field x xs done (Ok v) (Ok vs) = refl
 one_field x xs done (Ok v) (Err e) = refl
@@ -61,49 +61,49 @@ module _ (L : LawsBelow) (W : World) (above : EntityUid → EntityUid → Bool) 
   abbrev E : Entities
   E = entities_of W.stored above
 
-  abbrev gives : Expr → Outcome
+  abbrev gives : Expr → EvaluationResult
   gives = meaning q E
 
   at_literal : (l : Literal) → gives (form.Literal l) ≡ Ok (literal_value l)
-  at_literal = fold_literal Outcome (meaning_step q E)
+  at_literal = fold_literal EvaluationResult (meaning_step q E)
 
   at_variable : (x : Variable) → gives (form.Variable x) ≡ Ok (variable_value x q)
-  at_variable = fold_variable Outcome (meaning_step q E)
+  at_variable = fold_variable EvaluationResult (meaning_step q E)
 
   at_if : (a b c : Expr) → gives (form.If a b c) ≡ and_then (as_test (gives a)) (λ t. if t then gives b else gives c)
-  at_if = fold_if Outcome (meaning_step q E)
+  at_if = fold_if EvaluationResult (meaning_step q E)
 
   at_and : (a b : Expr) → gives (form.And a b) ≡ and_then (as_test (gives a)) (λ t. if t then and_then (as_test (gives b)) truth else truth false)
-  at_and = fold_and Outcome (meaning_step q E)
+  at_and = fold_and EvaluationResult (meaning_step q E)
 
   at_or : (a b : Expr) → gives (form.Or a b) ≡ and_then (as_test (gives a)) (λ t. if t then truth true else and_then (as_test (gives b)) truth)
-  at_or = fold_or Outcome (meaning_step q E)
+  at_or = fold_or EvaluationResult (meaning_step q E)
 
   at_unary : (op : Unary) (a : Expr) → gives (form.Unary op a) ≡ and_then (gives a) (apply_unary op)
-  at_unary = fold_unary Outcome (meaning_step q E)
+  at_unary = fold_unary EvaluationResult (meaning_step q E)
 
   at_binary : (op : Binary) (a b : Expr) → gives (form.Binary op a b) ≡ and_then (gives a) (λ v. and_then (gives b) (apply_binary E op v))
-  at_binary = fold_binary Outcome (meaning_step q E)
+  at_binary = fold_binary EvaluationResult (meaning_step q E)
 
   at_field : (a : Expr) (name : List ℕ) → gives (form.Field a name) ≡ and_then (gives a) (field_of E name)
-  at_field = fold_field Outcome (meaning_step q E)
+  at_field = fold_field EvaluationResult (meaning_step q E)
 
   at_has : (a : Expr) (name : List ℕ) → gives (form.Has a name) ≡ and_then (gives a) (has_field E name)
-  at_has = fold_has Outcome (meaning_step q E)
+  at_has = fold_has EvaluationResult (meaning_step q E)
 
   at_set : (xs : List Expr) → gives (form.Set xs) ≡ and_then (each (map gives xs)) to_set
   unfolding to_set
-  at_set = fold_set Outcome (meaning_step q E)
+  at_set = fold_set EvaluationResult (meaning_step q E)
 
   at_record : (xs : List (Named Expr)) → gives (form.Record xs) ≡ and_then (each_field (map (named_meaning q E) xs) []) to_record
   unfolding to_record
-  at_record = fold_record Outcome (meaning_step q E)
+  at_record = fold_record EvaluationResult (meaning_step q E)
 
   at_unary_call : (called : UnaryCall) (a : Expr) → gives (form.UnaryCall called a) ≡ and_then (gives a) (apply_unary_call called)
-  at_unary_call = fold_unary_call Outcome (meaning_step q E)
+  at_unary_call = fold_unary_call EvaluationResult (meaning_step q E)
 
   at_binary_call : (called : BinaryCall) (a b : Expr) → gives (form.BinaryCall called a b) ≡ and_then (gives a) (λ v. and_then (gives b) (apply_binary_call called v))
-  at_binary_call = fold_binary_call Outcome (meaning_step q E)
+  at_binary_call = fold_binary_call EvaluationResult (meaning_step q E)
 
   values : List (Named Expr) → Result (List PlainValue) EvalFault
   values xs = each (map gives (map (λ x. x.value) xs))
@@ -140,7 +140,7 @@ module _ (L : LawsBelow) (W : World) (above : EntityUid → EntityUid → Bool) 
   mutual
     unfolding to_set to_record values
 
-    computes : (x : Expr) (r : Outcome) → Gives W q x r → gives x ≡ r
+    computes : (x : Expr) (r : EvaluationResult) → EvaluatesTo W q x r → gives x ≡ r
     computes _ _ (rule.gives_literal l) = at_literal l
     computes _ _ (rule.gives_variable x) = at_variable x
     computes _ _ (rule.if_true a b c {r} g h) = at_if a b c ∙ (ap (λ m. and_then (as_test m) (λ t. if t then gives b else gives c)) (computes a _ g) ∙ computes b r h)
@@ -168,7 +168,7 @@ module _ (L : LawsBelow) (W : World) (above : EntityUid → EntityUid → Bool) 
     test_computes _ _ (rule.test_errs {a} {e} g) = ap as_test (computes a _ g)
     test_computes _ _ (rule.no_boolean {a} {v} g n) = ap as_test (computes a _ g) ∙ no_boolean_is v n
 
-    each_computes : (xs : List Expr) (r : Result (List PlainValue) EvalFault) → GivesEach W q xs r → each (map gives xs) ≡ r
+    each_computes : (xs : List Expr) (r : Result (List PlainValue) EvalFault) → EachEvaluatesTo W q xs r → each (map gives xs) ≡ r
     each_computes _ _ rule.each_none = refl
     each_computes _ _ (rule.each_more {x} {xs} {v} {vs} g h) = ap (λ m. and_then m (λ v. and_then (each (map gives xs)) (λ vs. Ok (v ∷ vs)))) (computes x _ g) ∙ ap (λ m. and_then m (λ vs. Ok (v ∷ vs))) (each_computes xs _ h)
     each_computes _ _ (rule.each_fails {x} {xs} {e} g) = ap (λ m. and_then m (λ v. and_then (each (map gives xs)) (λ vs. Ok (v ∷ vs)))) (computes x _ g)
@@ -176,7 +176,7 @@ module _ (L : LawsBelow) (W : World) (above : EntityUid → EntityUid → Bool) 
 
   -- ---- what the function computes, the relation gives
 
-  if_case : (a b c : Expr) (m r s : Outcome) → Gives W q a m → Gives W q b r → Gives W q c s → Gives W q (form.If a b c) (and_then (as_test m) (λ t. if t then r else s))
+  if_case : (a b c : Expr) (m r s : EvaluationResult) → EvaluatesTo W q a m → EvaluatesTo W q b r → EvaluatesTo W q c s → EvaluatesTo W q (form.If a b c) (and_then (as_test m) (λ t. if t then r else s))
   if_case a b c (Ok (boolean true)) r s g h k = rule.if_true a b c g h
   if_case a b c (Ok (boolean false)) r s g h k = rule.if_false a b c g k
   if_case a b c (Ok (long z)) r s g h k = rule.if_fails a b c (rule.no_boolean g refl)
@@ -188,7 +188,7 @@ module _ (L : LawsBelow) (W : World) (above : EntityUid → EntityUid → Bool) 
   if_case a b c (Ok (ipaddr z)) r s g h k = rule.if_fails a b c (rule.no_boolean g refl)
   if_case a b c (Err e) r s g h k = rule.if_fails a b c (rule.test_errs g)
 
-  and_right_case : (a b : Expr) (m : Outcome) → Gives W q a (Ok (boolean true)) → Gives W q b m → Gives W q (form.And a b) (and_then (as_test m) truth)
+  and_right_case : (a b : Expr) (m : EvaluationResult) → EvaluatesTo W q a (Ok (boolean true)) → EvaluatesTo W q b m → EvaluatesTo W q (form.And a b) (and_then (as_test m) truth)
   and_right_case a b (Ok (boolean t)) g h = rule.and_true a b g h
   and_right_case a b (Ok (long z)) g h = rule.and_right_fails a b g (rule.no_boolean h refl)
   and_right_case a b (Ok (text z)) g h = rule.and_right_fails a b g (rule.no_boolean h refl)
@@ -199,7 +199,7 @@ module _ (L : LawsBelow) (W : World) (above : EntityUid → EntityUid → Bool) 
   and_right_case a b (Ok (ipaddr z)) g h = rule.and_right_fails a b g (rule.no_boolean h refl)
   and_right_case a b (Err e) g h = rule.and_right_fails a b g (rule.test_errs h)
 
-  and_case : (a b : Expr) (m n : Outcome) → Gives W q a m → Gives W q b n → Gives W q (form.And a b) (and_then (as_test m) (λ t. if t then and_then (as_test n) truth else truth false))
+  and_case : (a b : Expr) (m n : EvaluationResult) → EvaluatesTo W q a m → EvaluatesTo W q b n → EvaluatesTo W q (form.And a b) (and_then (as_test m) (λ t. if t then and_then (as_test n) truth else truth false))
   and_case a b (Ok (boolean true)) n g h = and_right_case a b n g h
   and_case a b (Ok (boolean false)) n g h = rule.and_false a b g
   and_case a b (Ok (long z)) n g h = rule.and_left_fails a b (rule.no_boolean g refl)
@@ -211,7 +211,7 @@ module _ (L : LawsBelow) (W : World) (above : EntityUid → EntityUid → Bool) 
   and_case a b (Ok (ipaddr z)) n g h = rule.and_left_fails a b (rule.no_boolean g refl)
   and_case a b (Err e) n g h = rule.and_left_fails a b (rule.test_errs g)
 
-  or_right_case : (a b : Expr) (m : Outcome) → Gives W q a (Ok (boolean false)) → Gives W q b m → Gives W q (form.Or a b) (and_then (as_test m) truth)
+  or_right_case : (a b : Expr) (m : EvaluationResult) → EvaluatesTo W q a (Ok (boolean false)) → EvaluatesTo W q b m → EvaluatesTo W q (form.Or a b) (and_then (as_test m) truth)
   or_right_case a b (Ok (boolean t)) g h = rule.or_false a b g h
   or_right_case a b (Ok (long z)) g h = rule.or_right_fails a b g (rule.no_boolean h refl)
   or_right_case a b (Ok (text z)) g h = rule.or_right_fails a b g (rule.no_boolean h refl)
@@ -222,7 +222,7 @@ module _ (L : LawsBelow) (W : World) (above : EntityUid → EntityUid → Bool) 
   or_right_case a b (Ok (ipaddr z)) g h = rule.or_right_fails a b g (rule.no_boolean h refl)
   or_right_case a b (Err e) g h = rule.or_right_fails a b g (rule.test_errs h)
 
-  or_case : (a b : Expr) (m n : Outcome) → Gives W q a m → Gives W q b n → Gives W q (form.Or a b) (and_then (as_test m) (λ t. if t then truth true else and_then (as_test n) truth))
+  or_case : (a b : Expr) (m n : EvaluationResult) → EvaluatesTo W q a m → EvaluatesTo W q b n → EvaluatesTo W q (form.Or a b) (and_then (as_test m) (λ t. if t then truth true else and_then (as_test n) truth))
   or_case a b (Ok (boolean true)) n g h = rule.or_true a b g
   or_case a b (Ok (boolean false)) n g h = or_right_case a b n g h
   or_case a b (Ok (long z)) n g h = rule.or_left_fails a b (rule.no_boolean g refl)
@@ -234,64 +234,64 @@ module _ (L : LawsBelow) (W : World) (above : EntityUid → EntityUid → Bool) 
   or_case a b (Ok (ipaddr z)) n g h = rule.or_left_fails a b (rule.no_boolean g refl)
   or_case a b (Err e) n g h = rule.or_left_fails a b (rule.test_errs g)
 
-  unary_case : (op : Unary) (a : Expr) (m : Outcome) → Gives W q a m → Gives W q (form.Unary op a) (and_then m (apply_unary op))
+  unary_case : (op : Unary) (a : Expr) (m : EvaluationResult) → EvaluatesTo W q a m → EvaluatesTo W q (form.Unary op a) (and_then m (apply_unary op))
   unary_case op a (Ok v) g = rule.gives_unary op a g (unary_exists op v)
   unary_case op a (Err e) g = rule.operand_fails (rule.of_unary op a) (rule.each_fails g)
 
-  binary_case : (op : Binary) (a b : Expr) (m n : Outcome) → Gives W q a m → Gives W q b n → Gives W q (form.Binary op a b) (and_then m (λ v. and_then n (apply_binary E op v)))
+  binary_case : (op : Binary) (a b : Expr) (m n : EvaluationResult) → EvaluatesTo W q a m → EvaluatesTo W q b n → EvaluatesTo W q (form.Binary op a b) (and_then m (λ v. and_then n (apply_binary E op v)))
   binary_case op a b (Ok v) (Ok w) g h = rule.gives_binary op a b g h (binary_exists W above D L op v w)
   binary_case op a b (Ok v) (Err e) g h = rule.operand_fails (rule.of_binary op a b) (rule.each_fails_later g (rule.each_fails h))
   binary_case op a b (Err e) n g h = rule.operand_fails (rule.of_binary op a b) (rule.each_fails g)
 
-  field_case : (a : Expr) (name : List ℕ) (m : Outcome) → Gives W q a m → Gives W q (form.Field a name) (and_then m (field_of E name))
+  field_case : (a : Expr) (name : List ℕ) (m : EvaluationResult) → EvaluatesTo W q a m → EvaluatesTo W q (form.Field a name) (and_then m (field_of E name))
   field_case a name (Ok v) g = rule.gives_field a name g (field_exists W above D name v)
   field_case a name (Err e) g = rule.operand_fails (rule.of_field a name) (rule.each_fails g)
 
-  has_case : (a : Expr) (name : List ℕ) (m : Outcome) → Gives W q a m → Gives W q (form.Has a name) (and_then m (has_field E name))
+  has_case : (a : Expr) (name : List ℕ) (m : EvaluationResult) → EvaluatesTo W q a m → EvaluatesTo W q (form.Has a name) (and_then m (has_field E name))
   has_case a name (Ok v) g = rule.gives_has a name g (has_exists W above D name v)
   has_case a name (Err e) g = rule.operand_fails (rule.of_has a name) (rule.each_fails g)
 
-  set_case : (xs : List Expr) (m : Result (List PlainValue) EvalFault) → GivesEach W q xs m → Gives W q (form.Set xs) (and_then m to_set)
+  set_case : (xs : List Expr) (m : Result (List PlainValue) EvalFault) → EachEvaluatesTo W q xs m → EvaluatesTo W q (form.Set xs) (and_then m to_set)
   unfolding to_set
   set_case xs (Ok vs) g = rule.gives_set xs g (L.made vs)
   set_case xs (Err e) g = rule.operand_fails (rule.of_set xs) g
 
-  record_case : (xs : List (Named Expr)) (m : Result (List PlainValue) EvalFault) → GivesEach W q (map (λ x. x.value) xs) m →
-      Gives W q (form.Record xs) (and_then (and_then m (λ vs. Ok (put_each xs vs []))) to_record)
+  record_case : (xs : List (Named Expr)) (m : Result (List PlainValue) EvalFault) → EachEvaluatesTo W q (map (λ x. x.value) xs) m →
+      EvaluatesTo W q (form.Record xs) (and_then (and_then m (λ vs. Ok (put_each xs vs []))) to_record)
   unfolding to_record
   record_case xs (Ok vs) g = rule.gives_record xs g
   record_case xs (Err e) g = rule.operand_fails (rule.of_record xs) g
 
-  unary_call_case : (called : UnaryCall) (a : Expr) (m : Outcome) → Gives W q a m → Gives W q (form.UnaryCall called a) (and_then m (apply_unary_call called))
+  unary_call_case : (called : UnaryCall) (a : Expr) (m : EvaluationResult) → EvaluatesTo W q a m → EvaluatesTo W q (form.UnaryCall called a) (and_then m (apply_unary_call called))
   unary_call_case called a (Ok v) g = rule.gives_unary_call called a g (unary_call_exists called v)
   unary_call_case called a (Err e) g = rule.operand_fails (rule.of_unary_call called a) (rule.each_fails g)
 
-  binary_call_case : (called : BinaryCall) (a b : Expr) (m n : Outcome) → Gives W q a m → Gives W q b n → Gives W q (form.BinaryCall called a b) (and_then m (λ v. and_then n (apply_binary_call called v)))
+  binary_call_case : (called : BinaryCall) (a b : Expr) (m n : EvaluationResult) → EvaluatesTo W q a m → EvaluatesTo W q b n → EvaluatesTo W q (form.BinaryCall called a b) (and_then m (λ v. and_then n (apply_binary_call called v)))
   binary_call_case called a b (Ok v) (Ok w) g h = rule.gives_binary_call called a b g h (binary_call_exists called v w)
   binary_call_case called a b (Ok v) (Err e) g h = rule.operand_fails (rule.of_binary_call called a b) (rule.each_fails_later g (rule.each_fails h))
   binary_call_case called a b (Err e) n g h = rule.operand_fails (rule.of_binary_call called a b) (rule.each_fails g)
 
-  each_case : (x : Expr) (xs : List Expr) (m : Outcome) (n : Result (List PlainValue) EvalFault) → Gives W q x m → GivesEach W q xs n → GivesEach W q (x ∷ xs) (and_then m (λ v. and_then n (λ vs. Ok (v ∷ vs))))
+  each_case : (x : Expr) (xs : List Expr) (m : EvaluationResult) (n : Result (List PlainValue) EvalFault) → EvaluatesTo W q x m → EachEvaluatesTo W q xs n → EachEvaluatesTo W q (x ∷ xs) (and_then m (λ v. and_then n (λ vs. Ok (v ∷ vs))))
   each_case x xs (Ok v) (Ok vs) g h = rule.each_more g h
   each_case x xs (Ok v) (Err e) g h = rule.each_fails_later g h
   each_case x xs (Err e) n g h = rule.each_fails g
 
   Found : Expr → Type 0
-  Found x = Gives W q x (gives x)
+  Found x = EvaluatesTo W q x (gives x)
 
-  found_each : (xs : List Expr) → Every Found xs → GivesEach W q xs (each (map gives xs))
+  found_each : (xs : List Expr) → Every Found xs → EachEvaluatesTo W q xs (each (map gives xs))
   unfolding Found
   found_each [] h = rule.each_none
   found_each (x ∷ xs) h = each_case x xs (gives x) (each (map gives xs)) h.0 (found_each xs h.1)
 
-  found_values : (xs : List (Named Expr)) → Every (λ x. Found x.value) xs → GivesEach W q (map (λ x. x.value) xs) (values xs)
+  found_values : (xs : List (Named Expr)) → Every (λ x. Found x.value) xs → EachEvaluatesTo W q (map (λ x. x.value) xs) (values xs)
   unfolding Found values
   found_values [] h = rule.each_none
   found_values (x ∷ xs) h = each_case x.value (map (λ y. y.value) xs) (gives x.value) (values xs) h.0 (found_values xs h.1)
 
-  by_equation : {x : Expr} {m : Outcome} → gives x ≡ m → Gives W q x m → Found x
+  by_equation : {x : Expr} {m : EvaluationResult} → gives x ≡ m → EvaluatesTo W q x m → Found x
   unfolding Found
-  by_equation {x} e g = subst (λ m. Gives W q x m) (sym e) g
+  by_equation {x} e g = subst (λ m. EvaluatesTo W q x m) (sym e) g
 
   found : Cases Found
   unfolding Found
@@ -312,12 +312,12 @@ module _ (L : LawsBelow) (W : World) (above : EntityUid → EntityUid → Bool) 
   }
 
   -- each expression gives what it computes
-  given : (x : Expr) → Gives W q x (gives x)
+  given : (x : Expr) → EvaluatesTo W q x (gives x)
   unfolding Found
   given x = by_forms Found found x
 
   -- and nothing else
-  only_given : (x : Expr) (r : Outcome) → Gives W q x r → r ≡ gives x
+  only_given : (x : Expr) (r : EvaluationResult) → EvaluatesTo W q x r → r ≡ gives x
   only_given x r g = sym (computes x r g)
 
 pub meanings_are_given : LawsBelow → MeaningsAreGiven
@@ -325,12 +325,12 @@ meanings_are_given L W above D q x = record { given = given L W above D q x; onl
 
 -- ---- so an answer is what is given
 
-module _ (W : World) (q : Request) (x : Expr) (m : Outcome) (gives : GivesOnly W q x m) where
-  pub answers_what_is_given : (r : Outcome) → Answers r m → AnswersWhatIsGiven W q x r
-  answers_what_is_given (Ok v) h = subst (Gives W q x) h gives.given
-  answers_what_is_given (Err e) h = λ n. subst (Gives W q x) (h n) gives.given
+module _ (W : World) (q : Request) (x : Expr) (m : EvaluationResult) (gives : GivesOnly W q x m) where
+  pub answers_what_is_given : (r : EvaluationResult) → Answers r m → AnswersWhatIsGiven W q x r
+  answers_what_is_given (Ok v) h = subst (EvaluatesTo W q x) h gives.given
+  answers_what_is_given (Err e) h = λ n. subst (EvaluatesTo W q x) (h n) gives.given
 
-  pub answers_all_that_is_given : (r : Outcome) → Answers r m → AnswersAllThatIsGiven W q x r
+  pub answers_all_that_is_given : (r : EvaluationResult) → Answers r m → AnswersAllThatIsGiven W q x r
   answers_all_that_is_given (Ok v) h s g n = sym h ∙ sym (gives.only s g)
   answers_all_that_is_given (Err e) h s g n = sym (h (λ same. n (ap (λ f. Err f) same))) ∙ sym (gives.only s g)
 

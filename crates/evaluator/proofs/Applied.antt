@@ -28,9 +28,10 @@ use Rattle.expressions.specs.declared.operator.BinaryCall.TheVariants as two
 use Rattle.evaluator.specs.declared.fault.EvalFault.TheVariants.{AttrDoesNotExist, TypeError, ExtensionError}
 use Rattle.extensions.specs.Decided.{Decided, told}
 use Rattle.extensions.specs.TextsDecided.{decimal_text_decided, network_text_decided, in_either_decided, within_decided}
-use Rattle.evaluator.specs.Outcomes.{Outcome, IsTruthOf, boolean_in, long_in, text_in, entity_in, members_in, fields_in, decimal_in, network_in}
+use Rattle.evaluator.specs.Outcomes.{EvaluationResult, IsTruthOf, boolean_in, long_in, text_in, entity_in, members_in, fields_in, decimal_in, network_in}
+use Rattle.ancestor_closure.specs.Hierarchy.{IsIn}
 use Rattle.evaluator.specs.Operators as rule
-use Rattle.evaluator.specs.Operators.{World, IsIn, UnaryGives, BinaryGives, FieldGives, HasGives, UnaryCallGives, BinaryCallGives, NumbersGive, TakesNumbers, TakesSets, IsTested, TakesAddress, AreCompared, TakesDecimals}
+use Rattle.evaluator.specs.Operators.{World, UnaryGives, BinaryGives, FieldGives, HasGives, UnaryCallGives, BinaryCallGives, NumbersGive, TakesNumbers, TakesSets, IsTested, TakesAddress, AreCompared, TakesDecimals}
 use Rattle.evaluator.specs.inner.Computing.{Entities, entities_of, and_then, demanded, two_demanded, truth, bounded, apply_unary, is_in, in_members, in_value, numbers, sets, apply_binary, found_or, attribute, field_of, has_attribute, has_field, decimal_read, network_read, is_v4, tested, apply_unary_call, decimals, networks, apply_binary_call}
 use Rattle.evaluator.proofs.ByKind.{boolean_cases, long_cases, text_cases, entity_cases, members_cases, decimal_cases, network_cases}
 use Rattle.evaluator.proofs.Telling.{told_iff, tells_test, test_is, int_lt_iff, int_le_iff, comes_bounded, bounded_is, value_eq_iff, v4_iff, v6_iff, any_iff, all_iff, is_in_iff}
@@ -51,24 +52,24 @@ pub record LawsBelow : Type 0 where
   pub told : MembersAreTold
 
 -- where something else was demanded
-other : {A : Type 0} (f : A → Outcome) (R : Outcome → Type 0) (o : Option A) → o ≡ None → R (Err TypeError) → R (and_then (demanded o) f)
+other : {A : Type 0} (f : A → EvaluationResult) (R : EvaluationResult → Type 0) (o : Option A) → o ≡ None → R (Err TypeError) → R (and_then (demanded o) f)
 other f R o e h = subst (λ x. R (and_then (demanded x) f)) (sym e) h
 
-other_is : {A : Type 0} (f : A → Outcome) (o : Option A) → o ≡ None → and_then (demanded o) f ≡ Err TypeError
+other_is : {A : Type 0} (f : A → EvaluationResult) (o : Option A) → o ≡ None → and_then (demanded o) f ≡ Err TypeError
 other_is f o e = ap (λ x. and_then (demanded x) f) e
 
-others_are : {A B : Type 0} (f : A → B → Outcome) (o : Option A) (p : Option B) → (o ≡ None) ⊎ (p ≡ None) → and_then (demanded o) (λ x. and_then (demanded p) (λ y. f x y)) ≡ Err TypeError
+others_are : {A B : Type 0} (f : A → B → EvaluationResult) (o : Option A) (p : Option B) → (o ≡ None) ⊎ (p ≡ None) → and_then (demanded o) (λ x. and_then (demanded p) (λ y. f x y)) ≡ Err TypeError
 others_are f None p h = refl
 others_are f (Some x) p (inl e) = absurd (cc)
 others_are f (Some x) p (inr e) = ap (λ q. and_then (demanded q) (f x)) e
 
 -- both are asked for, and then what they hold is gone on with
-two_others : {A B : Type 0} (f : A × B → Outcome) (R : Outcome → Type 0) (o : Option A) (p : Option B) → (o ≡ None) ⊎ (p ≡ None) → R (Err TypeError) → R (and_then (two_demanded o p) f)
+two_others : {A B : Type 0} (f : A × B → EvaluationResult) (R : EvaluationResult → Type 0) (o : Option A) (p : Option B) → (o ≡ None) ⊎ (p ≡ None) → R (Err TypeError) → R (and_then (two_demanded o p) f)
 two_others f R None p h r = r
 two_others f R (Some x) p (inl e) r = absurd (cc)
 two_others f R (Some x) p (inr e) r = subst (λ q. R (and_then (two_demanded (Some x) q) f)) (sym e) r
 
-two_others_are : {A B : Type 0} (f : A × B → Outcome) (o : Option A) (p : Option B) → (o ≡ None) ⊎ (p ≡ None) → and_then (two_demanded o p) f ≡ Err TypeError
+two_others_are : {A B : Type 0} (f : A × B → EvaluationResult) (o : Option A) (p : Option B) → (o ≡ None) ⊎ (p ≡ None) → and_then (two_demanded o p) f ≡ Err TypeError
 two_others_are f o p h = two_others f (λ r. r ≡ Err TypeError) o p h refl
 
 -- ---- one operand
@@ -87,7 +88,7 @@ unary_exists (Is name) v = entity_cases (λ v. UnaryGives (Is name) v (apply_una
     (λ u. rule.is_entity (tells_test (bytes_eq u.type_name name) (bytes_eq-Decides u.type_name name)))
     (λ v e. other (λ u. truth (bytes_eq u.type_name name)) (UnaryGives (Is name) v) (entity_in v) e (rule.is_of_other e)) v
 
-pub unary_is : (op : Unary) (v : PlainValue) (r : Outcome) → UnaryGives op v r → apply_unary op v ≡ r
+pub unary_is : (op : Unary) (v : PlainValue) (r : EvaluationResult) → UnaryGives op v r → apply_unary op v ≡ r
 unary_is _ _ _ rule.negation = refl
 unary_is _ _ _ (rule.negation_of_other {v} e) = other_is (λ b. truth (not b)) (boolean_in v) e
 unary_is _ _ _ (rule.opposite {z} {r} h) = bounded_is (neg_ℤ z) r h
@@ -149,7 +150,7 @@ no_address_is one.IsIpv6 v h e = other_is (λ n. truth (not (is_v4 n.version))) 
 no_address_is one.IsLoopback v h e = other_is (λ n. truth (told (in_either_decided n loopback_v4 loopback_v6))) (network_in v) e
 no_address_is one.IsMulticast v h e = other_is (λ n. truth (told (in_either_decided n multicast_v4 multicast_v6))) (network_in v) e
 
-of_address_is : (called : UnaryCall) → TakesAddress called → (n : Network) (r : Outcome) → IsTruthOf (IsTested called n) r → apply_unary_call called (ipaddr n) ≡ r
+of_address_is : (called : UnaryCall) → TakesAddress called → (n : Network) (r : EvaluationResult) → IsTruthOf (IsTested called n) r → apply_unary_call called (ipaddr n) ≡ r
 of_address_is one.Ip h n r t = absurd h
 of_address_is one.Decimal h n r t = absurd h
 of_address_is one.IsIpv4 h n r t = test_is (is_v4 n.version) (v4_iff n.version) r t
@@ -157,7 +158,7 @@ of_address_is one.IsIpv6 h n r t = test_is (not (is_v4 n.version)) (v6_iff n.ver
 of_address_is one.IsLoopback h n r t = test_is (told (in_either_decided n loopback_v4 loopback_v6)) (told_iff (in_either_decided n loopback_v4 loopback_v6)) r t
 of_address_is one.IsMulticast h n r t = test_is (told (in_either_decided n multicast_v4 multicast_v6)) (told_iff (in_either_decided n multicast_v4 multicast_v6)) r t
 
-pub unary_call_is : LawsBelow → (called : UnaryCall) (v : PlainValue) (r : Outcome) → UnaryCallGives called v r → apply_unary_call called v ≡ r
+pub unary_call_is : LawsBelow → (called : UnaryCall) (v : PlainValue) (r : EvaluationResult) → UnaryCallGives called v r → apply_unary_call called v ≡ r
 unary_call_is L _ _ _ (rule.reads_decimal {t} {z} h) = decimal_is L.decimals t (decimal_text_decided t) z h
 unary_call_is L _ _ _ (rule.no_decimal {t} n) = no_decimal_is t (decimal_text_decided t) n
 unary_call_is L _ _ _ (rule.decimal_of_other {v} e) = other_is (λ t. decimal_read (decimal_text_decided t)) (text_in v) e
@@ -197,14 +198,14 @@ no_decimals_are two.GreaterThan v w takes h = two_others_are (λ p. truth (int_l
 no_decimals_are two.GreaterThanOrEqual v w takes h = two_others_are (λ p. truth (int_le p.1 p.0)) (decimal_in v) (decimal_in w) h
 no_decimals_are two.IsInRange v w takes h = absurd takes
 
-of_decimals_is : (called : BinaryCall) → TakesDecimals called → (x y : ℤ) (r : Outcome) → IsTruthOf (AreCompared called x y) r → apply_binary_call called (decimal x) (decimal y) ≡ r
+of_decimals_is : (called : BinaryCall) → TakesDecimals called → (x y : ℤ) (r : EvaluationResult) → IsTruthOf (AreCompared called x y) r → apply_binary_call called (decimal x) (decimal y) ≡ r
 of_decimals_is two.LessThan h x y r t = test_is (int_lt x y) (int_lt_iff x y) r t
 of_decimals_is two.LessThanOrEqual h x y r t = test_is (int_le x y) (int_le_iff x y) r t
 of_decimals_is two.GreaterThan h x y r t = test_is (int_lt y x) (int_lt_iff y x) r t
 of_decimals_is two.GreaterThanOrEqual h x y r t = test_is (int_le y x) (int_le_iff y x) r t
 of_decimals_is two.IsInRange h x y r t = absurd h
 
-pub binary_call_is : (called : BinaryCall) (v w : PlainValue) (r : Outcome) → BinaryCallGives called v w r → apply_binary_call called v w ≡ r
+pub binary_call_is : (called : BinaryCall) (v w : PlainValue) (r : EvaluationResult) → BinaryCallGives called v w r → apply_binary_call called v w ≡ r
 binary_call_is _ _ _ _ (rule.of_decimals {called} {x} {y} {r} takes h) = of_decimals_is called takes x y r h
 binary_call_is _ _ _ _ (rule.in_range {m} {n} {r} h) = test_is (told (within_decided m n)) (told_iff (within_decided m n)) r h
 binary_call_is _ _ _ _ (rule.no_decimals {called} {v} {w} takes h) = no_decimals_are called v w takes h
@@ -240,8 +241,8 @@ module _ (W : World) (above : EntityUid → EntityUid → Bool) (D : Decides W.p
     | inr m ↦ ap (λ r. and_then (demanded (entity_in w)) (λ b. and_then r (λ rest. Ok (is_in E a b || rest)))) (mixed_are a vs v m e) ∙ fault_anyway (entity_in w)
   ]
 
-  some_iff : (a : EntityUid) (us : List EntityUid) → IsTrue (list_any (is_in E a) us) ↔ ((u : EntityUid) × Contains us u × IsIn W a u)
-  some_iff a us = any_iff (is_in E a) (IsIn W a) (λ u. is_in_iff W above D a u) us
+  some_iff : (a : EntityUid) (us : List EntityUid) → IsTrue (list_any (is_in E a) us) ↔ ((u : EntityUid) × Contains us u × IsIn W.parents a u)
+  some_iff a us = any_iff (is_in E a) (IsIn W.parents a) (λ u. is_in_iff W above D a u) us
 
   in_set_is : (a : EntityUid) (vs : List PlainValue) (us : List EntityUid) → vs ≡ map entity us → and_then (in_members E a vs) truth ≡ truth (list_any (is_in E a) us)
   in_set_is a vs us e = ap (λ ws. and_then (in_members E a ws) truth) e ∙ ap (λ r. and_then r truth) (members_are a us)
@@ -276,7 +277,7 @@ module _ (W : World) (above : EntityUid → EntityUid → Bool) (D : Decides W.p
 
   -- ---- two operands
 
-  numbers_exist : (op : Binary) (f : ℤ → ℤ → Outcome) → TakesNumbers op → ((x y : ℤ) → BinaryGives W op (long x) (long y) (f x y)) → (v w : PlainValue) → BinaryGives W op v w (numbers f v w)
+  numbers_exist : (op : Binary) (f : ℤ → ℤ → EvaluationResult) → TakesNumbers op → ((x y : ℤ) → BinaryGives W op (long x) (long y) (f x y)) → (v w : PlainValue) → BinaryGives W op v w (numbers f v w)
   numbers_exist op f takes h v w = long_cases (λ v. BinaryGives W op v w (numbers f v w))
       (λ x. long_cases (λ w. BinaryGives W op (long x) w (numbers f (long x) w)) (h x)
       (λ w e. two_others (λ p. f p.0 p.1) (BinaryGives W op (long x) w) (Some x) (long_in w) (inr e) (rule.no_numbers takes (inr e))) w)
@@ -313,7 +314,7 @@ module _ (W : World) (above : EntityUid → EntityUid → Bool) (D : Decides W.p
   no_numbers_are ops.Multiply v w takes h = two_others_are (λ p. bounded (p.0 *ℤ p.1)) (long_in v) (long_in w) h
   no_numbers_are op v w takes h = absurd takes
 
-  of_numbers_is : (op : Binary) (x y : ℤ) (r : Outcome) → NumbersGive op x y r → apply_binary E op (long x) (long y) ≡ r
+  of_numbers_is : (op : Binary) (x y : ℤ) (r : EvaluationResult) → NumbersGive op x y r → apply_binary E op (long x) (long y) ≡ r
   of_numbers_is ops.Less x y r h = test_is (int_lt x y) (int_lt_iff x y) r h
   of_numbers_is ops.LessOrEqual x y r h = test_is (int_le x y) (int_le_iff x y) r h
   of_numbers_is ops.Add x y r h = bounded_is (x +ℤ y) r h
@@ -326,7 +327,7 @@ module _ (W : World) (above : EntityUid → EntityUid → Bool) (D : Decides W.p
   no_sets_are ops.ContainsAny v w takes h = others_are (λ x y. truth (list_any (has_member x) y)) (members_in v) (members_in w) h
   no_sets_are op v w takes h = absurd takes
 
-  pub binary_is : LawsBelow → (op : Binary) (v w : PlainValue) (r : Outcome) → BinaryGives W op v w r → apply_binary E op v w ≡ r
+  pub binary_is : LawsBelow → (op : Binary) (v w : PlainValue) (r : EvaluationResult) → BinaryGives W op v w r → apply_binary E op v w ≡ r
   binary_is L _ _ _ _ (rule.equal {v} {w} {r} h) = test_is (is_eq (value_cmp v w)) (value_eq_iff v w) r h
   binary_is L _ _ _ _ (rule.of_numbers {op} {x} {y} {r} h) = of_numbers_is op x y r h
   binary_is L _ _ _ _ (rule.no_numbers {op} {v} {w} takes h) = no_numbers_are op v w takes h
@@ -375,7 +376,7 @@ module _ (W : World) (above : EntityUid → EntityUid → Bool) (D : Decides W.p
   field_other_is name (decimal z) e f = refl
   field_other_is name (ipaddr n) e f = refl
 
-  pub field_is : (name : List ℕ) (v : PlainValue) (r : Outcome) → FieldGives W name v r → field_of E name v ≡ r
+  pub field_is : (name : List ℕ) (v : PlainValue) (r : EvaluationResult) → FieldGives W name v r → field_of E name v ≡ r
   field_is name _ _ (rule.field {fs} {v} e) = ap (found_or AttrDoesNotExist) e
   field_is name _ _ (rule.no_field {fs} e) = ap (found_or AttrDoesNotExist) e
   field_is name _ _ (rule.attribute {u} {v} fs s e) = ap (λ o. attribute o name) s ∙ ap (found_or AttrDoesNotExist) e
@@ -407,7 +408,7 @@ module _ (W : World) (above : EntityUid → EntityUid → Bool) (D : Decides W.p
   has_other_is name (decimal z) e f = refl
   has_other_is name (ipaddr n) e f = refl
 
-  pub has_is : (name : List ℕ) (v : PlainValue) (r : Outcome) → HasGives W name v r → has_field E name v ≡ r
+  pub has_is : (name : List ℕ) (v : PlainValue) (r : EvaluationResult) → HasGives W name v r → has_field E name v ≡ r
   has_is name _ _ (rule.has_field {fs} {r} h) = test_is (is_some (find_field name (pairs_of fs))) ((λ h. h), (λ h. h)) r h
   has_is name _ _ (rule.has_attribute {u} {r} fs s h) = ap (λ o. truth (has_attribute o name)) s ∙ test_is (is_some (find_field name fs)) ((λ h. h), (λ h. h)) r h
   has_is name _ _ (rule.none_stored {u} s) = ap (λ o. truth (has_attribute o name)) s

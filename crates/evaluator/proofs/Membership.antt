@@ -5,18 +5,18 @@ use Rattle.std.proofs.lemmas.List.{drop_more}
 use Rattle.values.specs.declared.entity_uid.EntityUid.{EntityUid}
 use Rattle.values.specs.Values.{PlainValue}
 use Rattle.std.proofs.lemmas.Bool.Decides.{same_from_decides}
-use Rattle.ancestor_closure.specs.Hierarchy.{IsAllAbove}
+use Rattle.ancestor_closure.specs.Hierarchy.{IsAllAbove, IsIn}
 use Rattle.ancestor_closure.specs.Decided.{Decides}
 use Rattle.evaluator.specs.declared.fault.EvalFault.{EvalFault}
 use Rattle.evaluator.specs.Outcomes.{entity_in}
-use Rattle.evaluator.specs.Operators.{World, IsIn}
+use Rattle.evaluator.specs.Operators.{World}
 use Rattle.evaluator.specs.inner.Computing.{Entities, entities_of, demanded, and_then, is_in, in_members}
 use Rattle.evaluator.proofs.Telling.{is_in_iff}
 
 pub within_is : (W : World) (above : EntityUid → EntityUid → Bool) → Decides W.parents above →
     (a b : EntityUid) (ancestors : List EntityUid) → IsAllAbove W.parents a ancestors →
     (found : Bool) → (IsTrue found ↔ ((a ≡ b) ⊎ Contains ancestors b)) → found ≡ is_in (entities_of W.stored above) a b
-within_is W above d a b ancestors all found tells = same_from_decides {P = IsIn W a b} found (is_in (entities_of W.stored above) a b) (
+within_is W above d a b ancestors all found tells = same_from_decides {P = IsIn W.parents a b} found (is_in (entities_of W.stored above) a b) (
   (λ t. elim (tells.0 t) [ inl e ↦ inl e | inr m ↦ inr ((all b).0 m) ]),
   (λ i. tells.1 (elim i [ inl e ↦ inl e | inr path ↦ inr ((all b).1 path) ])),
 )

@@ -17,8 +17,9 @@ use Rattle.values.specs.ValueOrder.{value_cmp, value_cmp-IsTotalOrder, value_cmp
 use Rattle.plain.proofs.Members.{Contains-here, Contains-there, Contains-cases, Contains-none}
 use Rattle.ancestor_closure.specs.Decided.{Decides}
 use Rattle.evaluator.specs.declared.fault.EvalFault.TheVariants.{ArithBoundsError}
-use Rattle.evaluator.specs.Outcomes.{Outcome, IsTruthOf, holds, fails, IsChecked, fits, overflows}
-use Rattle.evaluator.specs.Operators.{World, IsIn}
+use Rattle.evaluator.specs.Outcomes.{EvaluationResult, IsTruthOf, holds, fails, IsChecked, fits, overflows}
+use Rattle.ancestor_closure.specs.Hierarchy.{IsIn}
+use Rattle.evaluator.specs.Operators.{World}
 use Rattle.evaluator.specs.inner.Computing.{entities_of, truth, is_bounded, bounded, is_in, is_v4}
 
 pub told_iff : {P : Type 0} (d : Decided P) → IsTrue (told d) ↔ P
@@ -29,7 +30,7 @@ pub tells_test : {P : Type 0} (b : Bool) → (IsTrue b ↔ P) → IsTruthOf P (t
 tells_test true i = holds (i.0 refl)
 tells_test false i = fails (λ p. false≢true (i.1 p))
 
-pub test_is : {P : Type 0} (b : Bool) → (IsTrue b ↔ P) → (r : Outcome) → IsTruthOf P r → truth b ≡ r
+pub test_is : {P : Type 0} (b : Bool) → (IsTrue b ↔ P) → (r : EvaluationResult) → IsTruthOf P r → truth b ≡ r
 test_is true i _ (holds p) = refl
 test_is true i _ (fails n) = absurd (n (i.0 refl))
 test_is false i _ (holds p) = absurd (false≢true (i.1 p))
@@ -116,13 +117,13 @@ module _ {X : Type 0} (p : X → Bool) (P : X → Type 0) (i : (x : X) → IsTru
   )
 
 -- being in, where a test decides who is above whom
-pub is_in_iff : (W : World) (above : EntityUid → EntityUid → Bool) → Decides W.parents above → (a b : EntityUid) → IsTrue (is_in (entities_of W.stored above) a b) ↔ IsIn W a b
+pub is_in_iff : (W : World) (above : EntityUid → EntityUid → Bool) → Decides W.parents above → (a b : EntityUid) → IsTrue (is_in (entities_of W.stored above) a b) ↔ IsIn W.parents a b
 is_in_iff W above d a b = either_iff (is_eq (uid_cmp a b)) (above b a) (equal-is uid_cmp-IsTotalOrder uid_cmp-IsAntisymmetric a b) (d b a)
 
-pub bounded_is : (z : ℤ) (r : Outcome) → IsChecked z r → bounded z ≡ r
+pub bounded_is : (z : ℤ) (r : EvaluationResult) → IsChecked z r → bounded z ≡ r
 bounded_is z r h = by (is_bounded z) (bounded_iff z) r h
   where
-    by : (b : Bool) → (IsTrue b ↔ FitsSigned w64 z) → (r : Outcome) → IsChecked z r → (if b then Ok (long z) else Err ArithBoundsError) ≡ r
+    by : (b : Bool) → (IsTrue b ↔ FitsSigned w64 z) → (r : EvaluationResult) → IsChecked z r → (if b then Ok (long z) else Err ArithBoundsError) ≡ r
     by true i _ (fits f) = refl
     by true i _ (overflows n) = absurd (n (i.0 refl))
     by false i _ (fits f) = absurd (false≢true (i.1 f))

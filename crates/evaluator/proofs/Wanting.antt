@@ -10,11 +10,11 @@ use Rattle.expressions.specs.declared.operator.BinaryCall.{BinaryCall}
 use Rattle.expressions.specs.declared.expr.Expr.{Expr}
 use Rattle.evaluator.specs.declared.fault.EvalFault.{EvalFault}
 use Rattle.evaluator.specs.declared.fault.EvalFault.TheVariants.{EntityDoesNotExist, AttrDoesNotExist, TypeError, ArithBoundsError, ExtensionError, NoMemory}
-use Rattle.evaluator.specs.Outcomes.{Outcome, IsTruthOf, holds, fails, IsChecked, fits, overflows}
+use Rattle.evaluator.specs.Outcomes.{EvaluationResult, IsTruthOf, holds, fails, IsChecked, fits, overflows}
 use Rattle.evaluator.specs.Operators as op
 use Rattle.evaluator.specs.Operators.{World, UnaryGives, NumbersGive, BinaryGives, FieldGives, HasGives, UnaryCallGives, BinaryCallGives}
 use Rattle.evaluator.specs.Evaluation as rule
-use Rattle.evaluator.specs.Evaluation.{Gives, TestFails, GivesEach}
+use Rattle.evaluator.specs.Evaluation.{EvaluatesTo, TestFails, EachEvaluatesTo}
 use Rattle.evaluator.specs.Laws.{NothingWantsMemory}
 
 -- an error of the language
@@ -31,15 +31,15 @@ abbrev IsProper : {A : Type 0} → Result A EvalFault → Type 0
 IsProper (Ok v) = Unit {0}
 IsProper (Err e) = IsError e
 
-told : {P : Type 0} (r : Outcome) → IsTruthOf P r → IsProper r
+told : {P : Type 0} (r : EvaluationResult) → IsTruthOf P r → IsProper r
 told _ (holds p) = tt
 told _ (fails n) = tt
 
-comes : (z : ℤ) (r : Outcome) → IsChecked z r → IsProper r
+comes : (z : ℤ) (r : EvaluationResult) → IsChecked z r → IsProper r
 comes _ _ (fits f) = tt
 comes _ _ (overflows n) = tt
 
-of_unary : (o : Unary) (v : PlainValue) (r : Outcome) → UnaryGives o v r → IsProper r
+of_unary : (o : Unary) (v : PlainValue) (r : EvaluationResult) → UnaryGives o v r → IsProper r
 of_unary _ _ _ op.negation = tt
 of_unary _ _ _ (op.negation_of_other e) = tt
 of_unary _ _ _ (op.opposite {z} {r} h) = comes _ r h
@@ -49,7 +49,7 @@ of_unary _ _ _ (op.like_of_other e) = tt
 of_unary _ _ _ (op.is_entity {name} {u} {r} h) = told r h
 of_unary _ _ _ (op.is_of_other e) = tt
 
-of_numbers : (o : Binary) (x y : ℤ) (r : Outcome) → NumbersGive o x y r → IsProper r
+of_numbers : (o : Binary) (x y : ℤ) (r : EvaluationResult) → NumbersGive o x y r → IsProper r
 of_numbers Less x y r h = told r h
 of_numbers LessOrEqual x y r h = told r h
 of_numbers Add x y r h = comes _ r h
@@ -58,7 +58,7 @@ of_numbers Multiply x y r h = comes _ r h
 of_numbers o x y r h = absurd h
 
 module _ (W : World) where
-  of_binary : (o : Binary) (v w : PlainValue) (r : Outcome) → BinaryGives W o v w r → IsProper r
+  of_binary : (o : Binary) (v w : PlainValue) (r : EvaluationResult) → BinaryGives W o v w r → IsProper r
   of_binary _ _ _ _ (op.equal {v} {w} {r} h) = told r h
   of_binary _ _ _ _ (op.of_numbers {op = o} {x} {y} {r} h) = of_numbers o x y r h
   of_binary _ _ _ _ (op.no_numbers takes h) = tt
@@ -73,7 +73,7 @@ module _ (W : World) where
   of_binary _ _ _ _ (op.contains_any {vs} {ws} {r} h) = told r h
   of_binary _ _ _ _ (op.no_sets takes h) = tt
 
-  of_field : (name : List ℕ) (v : PlainValue) (r : Outcome) → FieldGives W name v r → IsProper r
+  of_field : (name : List ℕ) (v : PlainValue) (r : EvaluationResult) → FieldGives W name v r → IsProper r
   of_field name _ _ (op.field e) = tt
   of_field name _ _ (op.no_field e) = tt
   of_field name _ _ (op.attribute fs s e) = tt
@@ -81,13 +81,13 @@ module _ (W : World) where
   of_field name _ _ (op.not_stored s) = tt
   of_field name _ _ (op.field_of_other e f) = tt
 
-  of_has : (name : List ℕ) (v : PlainValue) (r : Outcome) → HasGives W name v r → IsProper r
+  of_has : (name : List ℕ) (v : PlainValue) (r : EvaluationResult) → HasGives W name v r → IsProper r
   of_has name _ _ (op.has_field {fs} {r} h) = told r h
   of_has name _ _ (op.has_attribute {u} {r} fs s h) = told r h
   of_has name _ _ (op.none_stored s) = tt
   of_has name _ _ (op.has_of_other e f) = tt
 
-of_unary_call : (called : UnaryCall) (v : PlainValue) (r : Outcome) → UnaryCallGives called v r → IsProper r
+of_unary_call : (called : UnaryCall) (v : PlainValue) (r : EvaluationResult) → UnaryCallGives called v r → IsProper r
 of_unary_call _ _ _ (op.reads_decimal h) = tt
 of_unary_call _ _ _ (op.no_decimal n) = tt
 of_unary_call _ _ _ (op.decimal_of_other e) = tt
@@ -97,7 +97,7 @@ of_unary_call _ _ _ (op.address_of_other e) = tt
 of_unary_call _ _ _ (op.of_address {called} {n} {r} takes h) = told r h
 of_unary_call _ _ _ (op.of_no_address takes e) = tt
 
-of_binary_call : (called : BinaryCall) (v w : PlainValue) (r : Outcome) → BinaryCallGives called v w r → IsProper r
+of_binary_call : (called : BinaryCall) (v w : PlainValue) (r : EvaluationResult) → BinaryCallGives called v w r → IsProper r
 of_binary_call _ _ _ _ (op.of_decimals {called} {x} {y} {r} takes h) = told r h
 of_binary_call _ _ _ _ (op.in_range {m} {n} {r} h) = told r h
 of_binary_call _ _ _ _ (op.no_decimals takes h) = tt
@@ -105,7 +105,7 @@ of_binary_call _ _ _ _ (op.no_addresses h) = tt
 
 module _ (W : World) (q : Request) where
   mutual
-    proper : (x : Expr) (r : Outcome) → Gives W q x r → IsProper r
+    proper : (x : Expr) (r : EvaluationResult) → EvaluatesTo W q x r → IsProper r
     proper _ _ (rule.gives_literal l) = tt
     proper _ _ (rule.gives_variable x) = tt
     proper _ _ (rule.if_true a b c {r} g h) = proper b r h
@@ -133,7 +133,7 @@ module _ (W : World) (q : Request) where
     no_test _ _ (rule.test_errs {a} {e} g) = proper a (Err e) g
     no_test _ _ (rule.no_boolean g n) = tt
 
-    proper_each : (xs : List Expr) (r : Result (List PlainValue) EvalFault) → GivesEach W q xs r → IsProper r
+    proper_each : (xs : List Expr) (r : Result (List PlainValue) EvalFault) → EachEvaluatesTo W q xs r → IsProper r
     proper_each _ _ rule.each_none = tt
     proper_each _ _ (rule.each_more g h) = tt
     proper_each _ _ (rule.each_fails {x} {xs} {e} g) = proper x (Err e) g

@@ -22,7 +22,7 @@ use Rattle.expressions.specs.declared.expr.Expr.{Expr}
 use Rattle.expressions.specs.declared.expr.Expr.TheVariants as form
 use Rattle.evaluator.specs.declared.fault.EvalFault.{EvalFault}
 use Rattle.evaluator.specs.declared.fault.EvalFault.TheVariants.{TypeError, NoMemory}
-use Rattle.evaluator.specs.Outcomes.{Outcome, boolean_in}
+use Rattle.evaluator.specs.Outcomes.{EvaluationResult, boolean_in}
 use Rattle.evaluator.specs.Operators.{World, UnaryGives, BinaryGives, FieldGives, HasGives, UnaryCallGives}
 use Rattle.evaluator.specs.Operators.{BinaryCallGives}
 
@@ -57,64 +57,69 @@ put_each xs vs done = done
 
 mutual
   -- the expression gives r
-  pub data Gives (W : World) (q : Request) : Expr → Outcome → Type 0 where
-    gives_literal : (l : Literal) → Gives W q (form.Literal l) (Ok (literal_value l))
-    gives_variable : (x : Variable) → Gives W q (form.Variable x) (Ok (variable_value x q))
-    if_true : (a b c : Expr) {r : Outcome} → Gives W q a (Ok (boolean true)) → Gives W q b r
-        → Gives W q (form.If a b c) r
-    if_false : (a b c : Expr) {r : Outcome} → Gives W q a (Ok (boolean false)) → Gives W q c r
-        → Gives W q (form.If a b c) r
-    if_fails : (a b c : Expr) {e : EvalFault} → TestFails W q a e → Gives W q (form.If a b c) (Err e)
-    and_false : (a b : Expr) → Gives W q a (Ok (boolean false)) → Gives W q (form.And a b) (Ok (boolean false))
-    and_true : (a b : Expr) {t : Bool} → Gives W q a (Ok (boolean true)) → Gives W q b (Ok (boolean t))
-        → Gives W q (form.And a b) (Ok (boolean t))
-    and_left_fails : (a b : Expr) {e : EvalFault} → TestFails W q a e → Gives W q (form.And a b) (Err e)
-    and_right_fails : (a b : Expr) {e : EvalFault} → Gives W q a (Ok (boolean true)) → TestFails W q b e
-        → Gives W q (form.And a b) (Err e)
-    or_true : (a b : Expr) → Gives W q a (Ok (boolean true)) → Gives W q (form.Or a b) (Ok (boolean true))
-    or_false : (a b : Expr) {t : Bool} → Gives W q a (Ok (boolean false)) → Gives W q b (Ok (boolean t))
-        → Gives W q (form.Or a b) (Ok (boolean t))
-    or_left_fails : (a b : Expr) {e : EvalFault} → TestFails W q a e → Gives W q (form.Or a b) (Err e)
-    or_right_fails : (a b : Expr) {e : EvalFault} → Gives W q a (Ok (boolean false)) → TestFails W q b e
-        → Gives W q (form.Or a b) (Err e)
+  pub data EvaluatesTo (W : World) (q : Request) : Expr → EvaluationResult → Type 0 where
+    gives_literal : (l : Literal) → EvaluatesTo W q (form.Literal l) (Ok (literal_value l))
+    gives_variable : (x : Variable) → EvaluatesTo W q (form.Variable x) (Ok (variable_value x q))
+    if_true : (a b c : Expr) {r : EvaluationResult} → EvaluatesTo W q a (Ok (boolean true)) → EvaluatesTo W q b r
+        → EvaluatesTo W q (form.If a b c) r
+    if_false : (a b c : Expr) {r : EvaluationResult} → EvaluatesTo W q a (Ok (boolean false)) → EvaluatesTo W q c r
+        → EvaluatesTo W q (form.If a b c) r
+    if_fails : (a b c : Expr) {e : EvalFault} → TestFails W q a e → EvaluatesTo W q (form.If a b c) (Err e)
+    and_false : (a b : Expr) → EvaluatesTo W q a (Ok (boolean false))
+        → EvaluatesTo W q (form.And a b) (Ok (boolean false))
+    and_true : (a b : Expr) {t : Bool} → EvaluatesTo W q a (Ok (boolean true)) → EvaluatesTo W q b (Ok (boolean t))
+        → EvaluatesTo W q (form.And a b) (Ok (boolean t))
+    and_left_fails : (a b : Expr) {e : EvalFault} → TestFails W q a e → EvaluatesTo W q (form.And a b) (Err e)
+    and_right_fails : (a b : Expr) {e : EvalFault} → EvaluatesTo W q a (Ok (boolean true)) → TestFails W q b e
+        → EvaluatesTo W q (form.And a b) (Err e)
+    or_true : (a b : Expr) → EvaluatesTo W q a (Ok (boolean true)) → EvaluatesTo W q (form.Or a b) (Ok (boolean true))
+    or_false : (a b : Expr) {t : Bool} → EvaluatesTo W q a (Ok (boolean false)) → EvaluatesTo W q b (Ok (boolean t))
+        → EvaluatesTo W q (form.Or a b) (Ok (boolean t))
+    or_left_fails : (a b : Expr) {e : EvalFault} → TestFails W q a e → EvaluatesTo W q (form.Or a b) (Err e)
+    or_right_fails : (a b : Expr) {e : EvalFault} → EvaluatesTo W q a (Ok (boolean false)) → TestFails W q b e
+        → EvaluatesTo W q (form.Or a b) (Err e)
     -- the first operand that errs decides, whatever stands behind it
-    operand_fails : {x : Expr} {xs : List Expr} {e : EvalFault} → HasOperands x xs → GivesEach W q xs (Err e)
-        → Gives W q x (Err e)
-    gives_unary : (op : Unary) (a : Expr) {v : PlainValue} {r : Outcome} → Gives W q a (Ok v) → UnaryGives op v r
-        → Gives W q (form.Unary op a) r
-    gives_binary : (op : Binary) (a b : Expr) {v w : PlainValue} {r : Outcome} → Gives W q a (Ok v)
-        → Gives W q b (Ok w) → BinaryGives W op v w r → Gives W q (form.Binary op a b) r
-    gives_field : (a : Expr) (name : List ℕ) {v : PlainValue} {r : Outcome} → Gives W q a (Ok v)
-        → FieldGives W name v r → Gives W q (form.Field a name) r
-    gives_has : (a : Expr) (name : List ℕ) {v : PlainValue} {r : Outcome} → Gives W q a (Ok v) → HasGives W name v r
-        → Gives W q (form.Has a name) r
-    gives_set : (xs : List Expr) {vs s : List PlainValue} → GivesEach W q xs (Ok vs) → IsSetOf vs s
-        → Gives W q (form.Set xs) (Ok (set (values_of s)))
-    gives_record : (xs : List (Named Expr)) {vs : List PlainValue} → GivesEach W q (map (λ x. x.value) xs) (Ok vs)
-        → Gives W q (form.Record xs) (Ok (record_of (fields_of (put_each xs vs []))))
-    gives_unary_call : (called : UnaryCall) (a : Expr) {v : PlainValue} {r : Outcome} → Gives W q a (Ok v)
-        → UnaryCallGives called v r → Gives W q (form.UnaryCall called a) r
-    gives_binary_call : (called : BinaryCall) (a b : Expr) {v w : PlainValue} {r : Outcome} → Gives W q a (Ok v)
-        → Gives W q b (Ok w) → BinaryCallGives called v w r → Gives W q (form.BinaryCall called a b) r
+    operand_fails : {x : Expr} {xs : List Expr} {e : EvalFault} → HasOperands x xs → EachEvaluatesTo W q xs (Err e)
+        → EvaluatesTo W q x (Err e)
+    gives_unary : (op : Unary) (a : Expr) {v : PlainValue} {r : EvaluationResult} → EvaluatesTo W q a (Ok v)
+        → UnaryGives op v r → EvaluatesTo W q (form.Unary op a) r
+    gives_binary : (op : Binary) (a b : Expr) {v w : PlainValue} {r : EvaluationResult} → EvaluatesTo W q a (Ok v)
+        → EvaluatesTo W q b (Ok w) → BinaryGives W op v w r → EvaluatesTo W q (form.Binary op a b) r
+    gives_field : (a : Expr) (name : List ℕ) {v : PlainValue} {r : EvaluationResult} → EvaluatesTo W q a (Ok v)
+        → FieldGives W name v r → EvaluatesTo W q (form.Field a name) r
+    gives_has : (a : Expr) (name : List ℕ) {v : PlainValue} {r : EvaluationResult} → EvaluatesTo W q a (Ok v)
+        → HasGives W name v r → EvaluatesTo W q (form.Has a name) r
+    gives_set : (xs : List Expr) {vs s : List PlainValue} → EachEvaluatesTo W q xs (Ok vs) → IsSetOf vs s
+        → EvaluatesTo W q (form.Set xs) (Ok (set (values_of s)))
+    gives_record : (xs : List (Named Expr)) {vs : List PlainValue} → EachEvaluatesTo W q (map (λ x. x.value) xs) (Ok vs)
+        → EvaluatesTo W q (form.Record xs) (Ok (record_of (fields_of (put_each xs vs []))))
+    gives_unary_call : (called : UnaryCall) (a : Expr) {v : PlainValue} {r : EvaluationResult}
+        → EvaluatesTo W q a (Ok v) → UnaryCallGives called v r → EvaluatesTo W q (form.UnaryCall called a) r
+    gives_binary_call : (called : BinaryCall) (a b : Expr) {v w : PlainValue} {r : EvaluationResult}
+        → EvaluatesTo W q a (Ok v)
+        → EvaluatesTo W q b (Ok w) → BinaryCallGives called v w r → EvaluatesTo W q (form.BinaryCall called a b) r
 
   -- the expression is no test: it errs, or gives no boolean
   pub data TestFails (W : World) (q : Request) : Expr → EvalFault → Type 0 where
-    test_errs : {a : Expr} {e : EvalFault} → Gives W q a (Err e) → TestFails W q a e
-    no_boolean : {a : Expr} {v : PlainValue} → Gives W q a (Ok v) → boolean_in v ≡ None → TestFails W q a TypeError
+    test_errs : {a : Expr} {e : EvalFault} → EvaluatesTo W q a (Err e) → TestFails W q a e
+    no_boolean : {a : Expr} {v : PlainValue} → EvaluatesTo W q a (Ok v) → boolean_in v ≡ None
+        → TestFails W q a TypeError
 
   -- the expressions give these values in order, or the first error
-  pub data GivesEach (W : World) (q : Request) : List Expr → Result (List PlainValue) EvalFault → Type 0 where
-    each_none : GivesEach W q [] (Ok [])
-    each_more : {x : Expr} {xs : List Expr} {v : PlainValue} {vs : List PlainValue} → Gives W q x (Ok v)
-        → GivesEach W q xs (Ok vs) → GivesEach W q (x ∷ xs) (Ok (v ∷ vs))
-    each_fails : {x : Expr} {xs : List Expr} {e : EvalFault} → Gives W q x (Err e) → GivesEach W q (x ∷ xs) (Err e)
-    each_fails_later : {x : Expr} {xs : List Expr} {v : PlainValue} {e : EvalFault} → Gives W q x (Ok v)
-        → GivesEach W q xs (Err e) → GivesEach W q (x ∷ xs) (Err e)
+  pub data EachEvaluatesTo (W : World) (q : Request) : List Expr → Result (List PlainValue) EvalFault → Type 0 where
+    each_none : EachEvaluatesTo W q [] (Ok [])
+    each_more : {x : Expr} {xs : List Expr} {v : PlainValue} {vs : List PlainValue} → EvaluatesTo W q x (Ok v)
+        → EachEvaluatesTo W q xs (Ok vs) → EachEvaluatesTo W q (x ∷ xs) (Ok (v ∷ vs))
+    each_fails : {x : Expr} {xs : List Expr} {e : EvalFault} → EvaluatesTo W q x (Err e)
+        → EachEvaluatesTo W q (x ∷ xs) (Err e)
+    each_fails_later : {x : Expr} {xs : List Expr} {v : PlainValue} {e : EvalFault} → EvaluatesTo W q x (Ok v)
+        → EachEvaluatesTo W q xs (Err e) → EachEvaluatesTo W q (x ∷ xs) (Err e)
 
 -- the answer is what the expression gives, but where memory was refused
-abbrev pub AnswersWhatIsGiven : World → Request → Expr → Outcome → Type 0
-AnswersWhatIsGiven W q x answer = MatchResult answer (λ v. Gives W q x (Ok v)) (λ e. e ≢ NoMemory → Gives W q x (Err e))
+abbrev pub AnswersWhatIsGiven : World → Request → Expr → EvaluationResult → Type 0
+AnswersWhatIsGiven W q x answer = MatchResult answer (λ v. EvaluatesTo W q x (Ok v))
+    (λ e. e ≢ NoMemory → EvaluatesTo W q x (Err e))
 
 -- whatever the expression gives is the answer, but where memory was refused
-abbrev pub AnswersAllThatIsGiven : World → Request → Expr → Outcome → Type 0
-AnswersAllThatIsGiven W q x answer = (r : Outcome) → Gives W q x r → answer ≢ Err NoMemory → answer ≡ r
+abbrev pub AnswersAllThatIsGiven : World → Request → Expr → EvaluationResult → Type 0
+AnswersAllThatIsGiven W q x answer = (r : EvaluationResult) → EvaluatesTo W q x r → answer ≢ Err NoMemory → answer ≡ r

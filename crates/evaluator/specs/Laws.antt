@@ -5,13 +5,14 @@ use Rattle.values.specs.declared.request.Request.{Request}
 use Rattle.ancestor_closure.specs.Decided.{Decides, HaveAllParents}
 use Rattle.expressions.specs.declared.expr.Expr.{Expr}
 use Rattle.evaluator.specs.declared.fault.EvalFault.TheVariants.{NoMemory}
-use Rattle.evaluator.specs.Outcomes.{Outcome}
+use Rattle.evaluator.specs.Outcomes.{EvaluationResult}
 use Rattle.evaluator.specs.Operators.{World}
-use Rattle.evaluator.specs.Evaluation.{Gives}
+use Rattle.evaluator.specs.Evaluation.{EvaluatesTo}
 
 -- the expression gives exactly one outcome
 abbrev pub HasOneOutcome : World → Request → Expr → Type 0
-HasOneOutcome W q x = (r : Outcome) × Gives W q x r × ((s : Outcome) → Gives W q x s → s ≡ r)
+HasOneOutcome W q x = (r : EvaluationResult) × EvaluatesTo W q x r
+    × ((s : EvaluationResult) → EvaluatesTo W q x s → s ≡ r)
 
 -- so does each, where a test decides who is above whom,
 abbrev pub HaveOneOutcome : Type 0
@@ -25,4 +26,4 @@ HaveOneOutcomeInFiniteHierarchies = (W : World) (stored : List EntityUid) → Ha
 
 -- want of memory is nothing that an expression gives
 abbrev pub NothingWantsMemory : Type 0
-NothingWantsMemory = (W : World) (q : Request) (x : Expr) → ¬ Gives W q x (Err NoMemory)
+NothingWantsMemory = (W : World) (q : Request) (x : Expr) → ¬ EvaluatesTo W q x (Err NoMemory)

@@ -11,7 +11,7 @@ use Rattle.values.specs.declared.entity_uid.EntityUid.{EntityUid}
 use Rattle.values.specs.Fields.{Field, find_field}
 use Rattle.values.specs.Values.{PlainValue, PlainValues, PlainFields, boolean, long, text, entity, set, record_of}
 use Rattle.values.specs.Values.{decimal, ipaddr, list_of, pairs_of}
-use Rattle.ancestor_closure.specs.Hierarchy.{Parents, Above}
+use Rattle.ancestor_closure.specs.Hierarchy.{Parents, IsIn}
 use Rattle.expressions.specs.Like.{Matches}
 use Rattle.expressions.specs.declared.operator.Unary.{Unary}
 use Rattle.expressions.specs.declared.operator.Unary.TheVariants.{Not, Negate, Like, Is}
@@ -27,7 +27,8 @@ use Rattle.expressions.specs.declared.operator.BinaryCall.TheVariants.{LessThan,
 use Rattle.expressions.specs.declared.operator.BinaryCall.TheVariants.{GreaterThanOrEqual, IsInRange}
 use Rattle.evaluator.specs.declared.fault.EvalFault.TheVariants.{EntityDoesNotExist, AttrDoesNotExist, TypeError}
 use Rattle.evaluator.specs.declared.fault.EvalFault.TheVariants.{ExtensionError}
-use Rattle.evaluator.specs.Outcomes.{Outcome, IsTruthOf, IsChecked, boolean_in, long_in, text_in, entity_in, members_in}
+use Rattle.evaluator.specs.Outcomes.{EvaluationResult, IsTruthOf, IsChecked, boolean_in, long_in, text_in, entity_in}
+use Rattle.evaluator.specs.Outcomes.{members_in}
 use Rattle.evaluator.specs.Outcomes.{fields_in, decimal_in, network_in}
 
 -- the attributes of each stored entity, and the parents of each entity
@@ -38,26 +39,22 @@ pub record World : Type 0 where
 abbrev pub world_of : (EntityUid → Option (List Field)) → Parents → World
 world_of stored parents = record { stored = stored; parents = parents }
 
--- a is in b: it is b, or a path leads from it to b
-abbrev pub IsIn : World → EntityUid → EntityUid → Type 0
-IsIn W a b = (a ≡ b) ⊎ Above W.parents b a
-
 -- an operator on one value
-pub data UnaryGives : Unary → PlainValue → Outcome → Type 0 where
+pub data UnaryGives : Unary → PlainValue → EvaluationResult → Type 0 where
   negation : {b : Bool} → UnaryGives Not (boolean b) (Ok (boolean (not b)))
   negation_of_other : {v : PlainValue} → boolean_in v ≡ None → UnaryGives Not v (Err TypeError)
-  opposite : {z : ℤ} {r : Outcome} → IsChecked (neg_ℤ z) r → UnaryGives Negate (long z) r
+  opposite : {z : ℤ} {r : EvaluationResult} → IsChecked (neg_ℤ z) r → UnaryGives Negate (long z) r
   opposite_of_other : {v : PlainValue} → long_in v ≡ None → UnaryGives Negate v (Err TypeError)
-  like_text : {pattern : List (List ℕ)} {t : List ℕ} {r : Outcome} → IsTruthOf (Matches pattern t) r
+  like_text : {pattern : List (List ℕ)} {t : List ℕ} {r : EvaluationResult} → IsTruthOf (Matches pattern t) r
       → UnaryGives (Like pattern) (text t) r
   like_of_other : {pattern : List (List ℕ)} {v : PlainValue} → text_in v ≡ None
       → UnaryGives (Like pattern) v (Err TypeError)
-  is_entity : {name : List ℕ} {u : EntityUid} {r : Outcome} → IsTruthOf (u.type_name ≡ name) r
+  is_entity : {name : List ℕ} {u : EntityUid} {r : EvaluationResult} → IsTruthOf (u.type_name ≡ name) r
       → UnaryGives (Is name) (entity u) r
   is_of_other : {name : List ℕ} {v : PlainValue} → entity_in v ≡ None → UnaryGives (Is name) v (Err TypeError)
 
 -- what two numbers give under an operator that takes numbers
-abbrev pub NumbersGive : Binary → ℤ → ℤ → Outcome → Type 0
+abbrev pub NumbersGive : Binary → ℤ → ℤ → EvaluationResult → Type 0
 NumbersGive Less x y r = IsTruthOf (x <ℤ y) r
 NumbersGive LessOrEqual x y r = IsTruthOf (x ≤ℤ y) r
 NumbersGive Add x y r = IsChecked (x +ℤ y) r
@@ -81,33 +78,36 @@ TakesSets op = ⊥
 
 -- An operator on two values. `a in b` of two entities asks whether a is in b; of a set, all of whose members have to be
 -- entities, whether a is in some of them.
-pub data BinaryGives (W : World) : Binary → PlainValue → PlainValue → Outcome → Type 0 where
-  equal : {v w : PlainValue} {r : Outcome} → IsTruthOf (v ≡ w) r → BinaryGives W Equal v w r
-  of_numbers : {op : Binary} {x y : ℤ} {r : Outcome} → NumbersGive op x y r → BinaryGives W op (long x) (long y) r
+pub data BinaryGives (W : World) : Binary → PlainValue → PlainValue → EvaluationResult → Type 0 where
+  equal : {v w : PlainValue} {r : EvaluationResult} → IsTruthOf (v ≡ w) r → BinaryGives W Equal v w r
+  of_numbers : {op : Binary} {x y : ℤ} {r : EvaluationResult} → NumbersGive op x y r
+      → BinaryGives W op (long x) (long y) r
   no_numbers : {op : Binary} {v w : PlainValue} → TakesNumbers op → (long_in v ≡ None) ⊎ (long_in w ≡ None)
       → BinaryGives W op v w (Err TypeError)
-  in_entity : {a b : EntityUid} {r : Outcome} → IsTruthOf (IsIn W a b) r → BinaryGives W In (entity a) (entity b) r
-  in_set : {a : EntityUid} {vs : PlainValues} {r : Outcome} (us : List EntityUid) → list_of vs ≡ map entity us →
-      IsTruthOf ((u : EntityUid) × Contains us u × IsIn W a u) r → BinaryGives W In (entity a) (set vs) r
+  in_entity : {a b : EntityUid} {r : EvaluationResult} → IsTruthOf (IsIn W.parents a b) r
+      → BinaryGives W In (entity a) (entity b) r
+  in_set : {a : EntityUid} {vs : PlainValues} {r : EvaluationResult} (us : List EntityUid)
+      → list_of vs ≡ map entity us →
+      IsTruthOf ((u : EntityUid) × Contains us u × IsIn W.parents a u) r → BinaryGives W In (entity a) (set vs) r
   in_mixed_set : {a : EntityUid} {vs : PlainValues} (v : PlainValue) → Contains (list_of vs) v → entity_in v ≡ None
       → BinaryGives W In (entity a) (set vs) (Err TypeError)
   in_other : {a : EntityUid} {w : PlainValue} → entity_in w ≡ None → members_in w ≡ None
       → BinaryGives W In (entity a) w (Err TypeError)
   other_in : {v w : PlainValue} → entity_in v ≡ None → BinaryGives W In v w (Err TypeError)
-  contains : {vs : PlainValues} {w : PlainValue} {r : Outcome} → IsTruthOf (Contains (list_of vs) w) r
+  contains : {vs : PlainValues} {w : PlainValue} {r : EvaluationResult} → IsTruthOf (Contains (list_of vs) w) r
       → BinaryGives W ContainsOne (set vs) w r
   other_contains : {v w : PlainValue} → members_in v ≡ None → BinaryGives W ContainsOne v w (Err TypeError)
-  contains_all : {vs ws : PlainValues} {r : Outcome}
+  contains_all : {vs ws : PlainValues} {r : EvaluationResult}
       → IsTruthOf ((v : PlainValue) → Contains (list_of ws) v → Contains (list_of vs) v) r →
       BinaryGives W ContainsAll (set vs) (set ws) r
-  contains_any : {vs ws : PlainValues} {r : Outcome}
+  contains_any : {vs ws : PlainValues} {r : EvaluationResult}
       → IsTruthOf ((v : PlainValue) × Contains (list_of ws) v × Contains (list_of vs) v) r →
       BinaryGives W ContainsAny (set vs) (set ws) r
   no_sets : {op : Binary} {v w : PlainValue} → TakesSets op → (members_in v ≡ None) ⊎ (members_in w ≡ None)
       → BinaryGives W op v w (Err TypeError)
 
 -- `v.name`
-pub data FieldGives (W : World) (name : List ℕ) : PlainValue → Outcome → Type 0 where
+pub data FieldGives (W : World) (name : List ℕ) : PlainValue → EvaluationResult → Type 0 where
   field : {fs : PlainFields} {v : PlainValue} → find_field name (pairs_of fs) ≡ Some v
       → FieldGives W name (record_of fs) (Ok v)
   no_field : {fs : PlainFields} → find_field name (pairs_of fs) ≡ None
@@ -120,10 +120,10 @@ pub data FieldGives (W : World) (name : List ℕ) : PlainValue → Outcome → T
   field_of_other : {v : PlainValue} → fields_in v ≡ None → entity_in v ≡ None → FieldGives W name v (Err TypeError)
 
 -- `v has name`
-pub data HasGives (W : World) (name : List ℕ) : PlainValue → Outcome → Type 0 where
-  has_field : {fs : PlainFields} {r : Outcome} → IsTruthOf (IsSome (find_field name (pairs_of fs))) r
+pub data HasGives (W : World) (name : List ℕ) : PlainValue → EvaluationResult → Type 0 where
+  has_field : {fs : PlainFields} {r : EvaluationResult} → IsTruthOf (IsSome (find_field name (pairs_of fs))) r
       → HasGives W name (record_of fs) r
-  has_attribute : {u : EntityUid} {r : Outcome} (fs : List Field) → W.stored u ≡ Some fs
+  has_attribute : {u : EntityUid} {r : EvaluationResult} (fs : List Field) → W.stored u ≡ Some fs
       → IsTruthOf (IsSome (find_field name fs)) r → HasGives W name (entity u) r
   none_stored : {u : EntityUid} → W.stored u ≡ None → HasGives W name (entity u) (Ok (boolean false))
   has_of_other : {v : PlainValue} → fields_in v ≡ None → entity_in v ≡ None → HasGives W name v (Err TypeError)
@@ -143,15 +143,15 @@ TakesAddress Decimal = ⊥
 TakesAddress called = ⊤
 
 -- a call with one operand
-pub data UnaryCallGives : UnaryCall → PlainValue → Outcome → Type 0 where
+pub data UnaryCallGives : UnaryCall → PlainValue → EvaluationResult → Type 0 where
   reads_decimal : {t : List ℕ} {z : ℤ} → IsDecimalText t z → UnaryCallGives Decimal (text t) (Ok (decimal z))
   no_decimal : {t : List ℕ} → ((z : ℤ) → ¬ IsDecimalText t z) → UnaryCallGives Decimal (text t) (Err ExtensionError)
   decimal_of_other : {v : PlainValue} → text_in v ≡ None → UnaryCallGives Decimal v (Err TypeError)
   reads_address : {t : List ℕ} {n : Network} → IsNetworkText t n → UnaryCallGives Ip (text t) (Ok (ipaddr n))
   no_address : {t : List ℕ} → ((n : Network) → ¬ IsNetworkText t n) → UnaryCallGives Ip (text t) (Err ExtensionError)
   address_of_other : {v : PlainValue} → text_in v ≡ None → UnaryCallGives Ip v (Err TypeError)
-  of_address : {called : UnaryCall} {n : Network} {r : Outcome} → TakesAddress called → IsTruthOf (IsTested called n) r
-      → UnaryCallGives called (ipaddr n) r
+  of_address : {called : UnaryCall} {n : Network} {r : EvaluationResult} → TakesAddress called
+      → IsTruthOf (IsTested called n) r → UnaryCallGives called (ipaddr n) r
   of_no_address : {called : UnaryCall} {v : PlainValue} → TakesAddress called → network_in v ≡ None
       → UnaryCallGives called v (Err TypeError)
 
@@ -169,10 +169,11 @@ TakesDecimals IsInRange = ⊥
 TakesDecimals called = ⊤
 
 -- a call with two operands
-pub data BinaryCallGives : BinaryCall → PlainValue → PlainValue → Outcome → Type 0 where
-  of_decimals : {called : BinaryCall} {x y : ℤ} {r : Outcome} → TakesDecimals called → IsTruthOf (AreCompared called x y) r
-      → BinaryCallGives called (decimal x) (decimal y) r
-  in_range : {m n : Network} {r : Outcome} → IsTruthOf (IsWithin m n) r → BinaryCallGives IsInRange (ipaddr m) (ipaddr n) r
+pub data BinaryCallGives : BinaryCall → PlainValue → PlainValue → EvaluationResult → Type 0 where
+  of_decimals : {called : BinaryCall} {x y : ℤ} {r : EvaluationResult} → TakesDecimals called
+      → IsTruthOf (AreCompared called x y) r → BinaryCallGives called (decimal x) (decimal y) r
+  in_range : {m n : Network} {r : EvaluationResult} → IsTruthOf (IsWithin m n) r
+      → BinaryCallGives IsInRange (ipaddr m) (ipaddr n) r
   no_decimals : {called : BinaryCall} {v w : PlainValue} → TakesDecimals called → (decimal_in v ≡ None)
       ⊎ (decimal_in w ≡ None) →
       BinaryCallGives called v w (Err TypeError)

@@ -10,8 +10,8 @@ use Rattle.evaluator.specs.declared.fault.EvalFault.{EvalFault}
 use Rattle.evaluator.specs.declared.fault.EvalFault.TheVariants.{ArithBoundsError}
 
 -- a value, or an error
-abbrev pub Outcome : Type 0
-Outcome = Result PlainValue EvalFault
+abbrev pub EvaluationResult : Type 0
+EvaluationResult = Result PlainValue EvalFault
 
 -- What a value holds if it is of that kind: a boolean, a number, a text, an entity, the members of a set, the fields of
 -- a record, a decimal, an address.
@@ -49,11 +49,11 @@ network_in (ipaddr n) = Some n
 network_in v = None
 
 -- the boolean that tells whether P holds
-pub data IsTruthOf (P : Type 0) : Outcome → Type 0 where
+pub data IsTruthOf (P : Type 0) : EvaluationResult → Type 0 where
   holds : P → IsTruthOf P (Ok (boolean true))
   fails : ¬ P → IsTruthOf P (Ok (boolean false))
 
 -- a number, if signed 64 bits hold it
-pub data IsChecked : ℤ → Outcome → Type 0 where
+pub data IsChecked : ℤ → EvaluationResult → Type 0 where
   fits : {z : ℤ} → FitsSigned w64 z → IsChecked z (Ok (long z))
   overflows : {z : ℤ} → ¬ FitsSigned w64 z → IsChecked z (Err ArithBoundsError)

@@ -1,8 +1,8 @@
 -- Each production derives something, and what it begins with.
 use Rattle.std.proofs.Common.{◌≡◌, ◌⊎◌, inl, inr, ℕ, zero, suc, Bool, true, false, List, [], ◌∷◌, Option, Some, None, refl}
 use Rattle.policy_tokens.specs.declared.token.Token.{Token}
-use Rattle.policy_tokens.specs.declared.token.Kind.{Kind}
-use Rattle.policy_tokens.specs.declared.token.Kind.TheVariants as k
+use Rattle.policy_tokens.specs.declared.token.TokenKind.{TokenKind}
+use Rattle.policy_tokens.specs.declared.token.TokenKind.TheVariants as k
 use Rattle.token_readers.specs.declared.tree.PathTree.{PathTree}
 use Rattle.expression_trees.specs.declared.tree.Access.{Access}
 use Rattle.expression_trees.specs.declared.tree.Comparison.{Comparison}
@@ -27,7 +27,7 @@ use Rattle.token_readers.proofs.Steps.{go, go_one, alive_maybe, starts_one, wide
 use Rattle.token_readers.proofs.NameRules.{starts_path, starts_uid}
 use Rattle.token_readers.proofs.Openings.{Opening, opening_one, opening_then, starts_gate}
 use Rattle.expression_syntax.proofs.SymbolRules.{starts_symbol, begin_symbol}
-use Rattle.expression_syntax.proofs.NamedRules.{call_behind}
+use Rattle.expression_syntax.proofs.NamedRules.{rest_of_call}
 
 -- ---- first tokens
 
@@ -165,10 +165,10 @@ module _ (o : Bool) (E : Lang ExprTree) where
   pub starts_called : Starts (g.called o E) (only k.LParen)
   starts_called = starts_one k.LParen (λ _. in_call)
 
-  pub opening_call : (name : PathTree) → Opening (call_behind o E name) (only k.LParen)
+  pub opening_call : (name : PathTree) → Opening (rest_of_call o E name) (only k.LParen)
   opening_call name = opening_then (g.called o E) (λ found. lang.empty (tree.Call name found)) (only k.LParen) opening_called (λ found. alive_empty (tree.Call name found))
 
-  pub starts_call : (name : PathTree) → Starts (call_behind o E name) (only k.LParen)
+  pub starts_call : (name : PathTree) → Starts (rest_of_call o E name) (only k.LParen)
   starts_call name = starts_both (g.called o E) (λ found. lang.empty (tree.Call name found)) (only k.LParen) starts_called
 
   abbrev pub call_arguments : Lang (Option (List ExprTree))
@@ -242,7 +242,7 @@ module _ (o : Bool) (E : Lang ExprTree) where
       starts_or (lang.◌giving◌ (g.symbol variable_of) tree.Variable) (lang.◌or◌ (lang.◌giving◌ uid tree.Uid) (lang.gate o (g.call o E))) identifiers
       (wide_starts (lang.◌giving◌ (g.symbol variable_of) tree.Variable) (known variable_of) identifiers refl (starts_giving (g.symbol variable_of) tree.Variable (known variable_of) (starts_symbol variable_of)))
       (starts_or (lang.◌giving◌ uid tree.Uid) (lang.gate o (g.call o E)) identifiers (starts_giving uid tree.Uid identifiers starts_uid)
-      (starts_gate o (g.call o E) identifiers (starts_both path (call_behind o E) identifiers starts_path)))
+      (starts_gate o (g.call o E) identifiers (starts_both path (rest_of_call o E) identifiers starts_path)))
 
   abbrev pub other : Lang ExprTree
   other = lang.◌or◌ (lang.gate o (g.nested o E)) g.literal
@@ -296,14 +296,14 @@ module _ (o : Bool) (E : Lang ExprTree) where
 
   -- ---- operators
 
-  abbrev pub behind_sign : Kind → (ExprTree → ExprTree) → ℕ → Lang ExprTree
+  abbrev pub behind_sign : TokenKind → (ExprTree → ExprTree) → ℕ → Lang ExprTree
   behind_sign sign make n = lang.◌>>=◌ (g.signed o E sign make n) (λ x. lang.empty (make x))
 
-  pub alive_signed : (sign : Kind) (make : ExprTree → ExprTree) (n : ℕ) → Begins (g.signed o E sign make n) []
+  pub alive_signed : (sign : TokenKind) (make : ExprTree → ExprTree) (n : ℕ) → Begins (g.signed o E sign make n) []
   alive_signed sign make zero = alive_member
   alive_signed sign make (suc n) = alive_right (lang.◌>>◌ (lang.one sign) (behind_sign sign make n)) (g.member o E) [] alive_member
 
-  pub alive_behind_sign : (sign : Kind) (make : ExprTree → ExprTree) (n : ℕ) → Begins (behind_sign sign make n) []
+  pub alive_behind_sign : (sign : TokenKind) (make : ExprTree → ExprTree) (n : ℕ) → Begins (behind_sign sign make n) []
   alive_behind_sign sign make n = go (alive_signed sign make n) (λ x. alive_empty (make x))
 
   abbrev pub minuses : Lang ExprTree
@@ -312,7 +312,7 @@ module _ (o : Bool) (E : Lang ExprTree) where
   pub alive_unary : Begins (g.unary o E) []
   alive_unary = alive_right (g.signed o E k.Not tree.Not 4) minuses [] (alive_signed k.Minus tree.Minus 4)
 
-  starts_signed : (sign : Kind) (make : ExprTree → ExprTree) (ks : Kinds) → Starts (lang.one sign) ks → Starts (g.member o E) ks → (n : ℕ) → Starts (g.signed o E sign make n) ks
+  starts_signed : (sign : TokenKind) (make : ExprTree → ExprTree) (ks : Kinds) → Starts (lang.one sign) ks → Starts (g.member o E) ks → (n : ℕ) → Starts (g.signed o E sign make n) ks
   starts_signed sign make ks one member zero = member
   starts_signed sign make ks one member (suc n) =
       starts_or (lang.◌>>◌ (lang.one sign) (behind_sign sign make n)) (g.member o E) ks (starts_both (lang.one sign) (λ _. behind_sign sign make n) ks one) member
@@ -467,7 +467,7 @@ module _ (o : Bool) (E : Lang ExprTree) where
     pub opening_conditional : Opening (g.conditional o E) (only k.If)
     opening_conditional = opening_one k.If (λ _. behind_if) (λ _. alive_behind_if)
 
-    opener_is : (kind : Kind) → openers kind ≡ true → (only k.LParen kind ≡ true) ⊎ ((only k.LBracket kind ≡ true) ⊎ (only k.LBrace kind ≡ true))
+    opener_is : (kind : TokenKind) → openers kind ≡ true → (only k.LParen kind ≡ true) ⊎ ((only k.LBracket kind ≡ true) ⊎ (only k.LBrace kind ≡ true))
     unfolding same_kind
     opener_is k.LParen h = inl refl
     opener_is k.LBracket h = inr (inl refl)

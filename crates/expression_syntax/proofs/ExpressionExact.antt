@@ -1,16 +1,13 @@
 -- An expression as a whole list of tokens.
-use Rattle.std.proofs.Common.{◌≡◌, ℕ, zero, suc, ◌-◌, ◌≤◌, ◌<◌, List, [], ◌∷◌, Result, Ok, Err, length, refl, arith}
+use Rattle.std.proofs.Common.{ℕ, zero, suc, ◌-◌, ◌≤◌, ◌<◌, List, [], Result, length, refl, arith}
 use Rattle.policy_tokens.specs.declared.token.Token.{Token}
 use Rattle.token_readers.specs.declared.fault.Halt.{Halt}
-use Rattle.token_readers.specs.declared.fault.Halt.TheVariants as halt
 use Rattle.expression_trees.specs.declared.tree.ExprTree.{ExprTree}
 use Rattle.expression_syntax.specs.Expressions as g
 use Rattle.expression_syntax.specs.Expressions.{nesting_limit, any_expr}
 use Rattle.expression_syntax.specs.ExpressionReading as r
-use Rattle.expression_syntax.specs.inner.Whole.{whole_of}
-use Rattle.token_readers.specs.Gives.{Gives}
-use Rattle.token_readers.specs.Reading.{Read}
-use Rattle.token_readers.specs.Reads.{Begins, HasOneTree, HasOneAnswerWithin, ReadsWithin, ReadsFrontWithin, OpensNextLevel, refusal_of}
+use Rattle.token_readers.specs.ParsesTo.{ParsesTo}
+use Rattle.token_readers.specs.Reads.{Begins, HasOneTree, HasOneAnswerWithin, ReadsWithin, ReadsFrontWithin, OpensNextLevel, whole_of}
 use Rattle.token_readers.proofs.Rules.{Rule}
 use Rattle.expression_syntax.proofs.Follows.{after_expr}
 use Rattle.expression_syntax.proofs.ExpressionRules.{expr_rule, alive_expr}
@@ -33,29 +30,15 @@ one_at_any = depths.one_tree_at_any g.expr r.expr after_expr rule alive
 pub expression_answer : HasOneAnswerWithin (g.expr nesting_limit) any_expr
 expression_answer = depths.one_answer g.expr r.expr after_expr rule alive 63
 
-expression_whole : (ts rest : List Token) (x : ExprTree) → r.expr nesting_limit ts ≡ Read x rest → length rest ≤ 0 → g.expr nesting_limit ts x
-expression_whole = depths.whole_read g.expr r.expr after_expr rule alive 63
-
-expression_part : (ts rest : List Token) (x : ExprTree) → r.expr nesting_limit ts ≡ Read x rest → 0 < length rest
-    → ReadsWithin (g.expr nesting_limit) any_expr ts (Err (refusal_of halt.Unexpected (length ts - length rest) rest))
-expression_part = depths.part_read g.expr r.expr after_expr rule alive 63
-
-expression_halted : (ts rest : List Token) (e : Halt) → Gives (r.expr nesting_limit ts) (Err e) rest
-    → ReadsWithin (g.expr nesting_limit) any_expr ts (Err (refusal_of e (length ts - length rest) rest))
-expression_halted = depths.halted_read g.expr r.expr after_expr rule alive 63
-
--- by what was read of the front
-pub expression_answered : (ts rest : List Token) (read : Result ExprTree Halt) → Gives (r.expr nesting_limit ts) read rest →
-    ReadsWithin (g.expr nesting_limit) any_expr ts (whole_of read (length ts - length rest) rest)
-expression_answered ts [] (Ok x) read = expression_whole ts [] x read (omega arith)
-expression_answered ts (t ∷ more) (Ok x) read = expression_part ts (t ∷ more) x read (omega arith)
-expression_answered ts rest (Err why) read = expression_halted ts rest why read
+pub expression_answered : (ts rest : List Token) (read : Result ExprTree Halt) → ParsesTo (r.expr nesting_limit ts) read rest
+    → ReadsWithin (g.expr nesting_limit) any_expr ts (whole_of read (length ts - length rest) rest)
+expression_answered = depths.answered_whole g.expr r.expr after_expr rule alive 63
 
 pub next_level : OpensNextLevel g.expr nesting_limit
 next_level = depths.next_level g.expr r.expr after_expr rule alive 63
 
 -- the front of a list, at any number of levels
-pub expression_front : (levels : ℕ) (ts rest : List Token) (x : Result ExprTree Halt) → Gives (r.expr levels ts) x rest → 0 < levels
+pub expression_front : (levels : ℕ) (ts rest : List Token) (x : Result ExprTree Halt) → ParsesTo (r.expr levels ts) x rest → 0 < levels
     → ReadsFrontWithin (g.expr levels) any_expr ts x rest
 expression_front zero ts rest x gives some = absurd (omega (arith, some))
 expression_front (suc n) ts rest x gives some = depths.front_read g.expr r.expr after_expr rule alive n (firm_expr (suc n) refl) ts rest x gives

@@ -2,8 +2,8 @@
 use Rattle.std.proofs.Common.{◌≡◌, ◌⊎◌, inl, inr, ℕ, zero, suc, Bool, true, false, List, [], ◌∷◌, Option, Some, None, refl, arith}
 use mathlib.Core.Path.{fun_ext}
 use Rattle.policy_tokens.specs.declared.token.Token.{Token}
-use Rattle.policy_tokens.specs.declared.token.Kind.{Kind}
-use Rattle.policy_tokens.specs.declared.token.Kind.TheVariants as k
+use Rattle.policy_tokens.specs.declared.token.TokenKind.{TokenKind}
+use Rattle.policy_tokens.specs.declared.token.TokenKind.TheVariants as k
 use Rattle.token_readers.specs.declared.tree.PathTree.{PathTree}
 use Rattle.expression_trees.specs.declared.tree.Access.TheVariants as access
 use Rattle.expression_trees.specs.declared.tree.Comparison.{Comparison}
@@ -34,12 +34,12 @@ use Rattle.token_readers.proofs.Depths.{levels}
 use Rattle.token_readers.proofs.Openings.{Opening, opening_one, opening_then, giving}
 use Rattle.token_readers.proofs.Firm.{Firm, Fresh, solid_starts, solid_or, fresh_opening, firm_free, firm_nothing, firm_never, firm_same, firm_alike, firm_seq, firm_token, firm_giving, firm_or, firm_gated, firm_maybe, firm_each}
 use Rattle.expression_syntax.proofs.Follows.{after_named, after_access, after_member, after_product, after_sum, after_relation, after_conjunction, after_expr, after_arguments, after_entries}
-use Rattle.expression_syntax.proofs.NamedRules.{call_behind, variable_by, behind_by, behind_pieces, factored, leads_variable, same_named}
+use Rattle.expression_syntax.proofs.NamedRules.{rest_of_call, variable_by, behind_by, behind_pieces, factored, leads_variable, same_named}
 use Rattle.expression_syntax.proofs.Alive as a
 use Rattle.expression_syntax.proofs.Alive.{primary_firsts, other_firsts, minus_firsts, unary_firsts, literal_firsts, term_of}
 use Rattle.expression_syntax.proofs.ExpressionRules as rules
 use Rattle.expression_syntax.proofs.SymbolRules.{symbol_rule, opening_symbol}
-use Rattle.expression_syntax.proofs.ExpressionRules.{Inner, read_chain, regrouped, pieces_behind, not_or_minuses, same_unary, one_deeper, expr_rule, starts_expr, alive_expr}
+use Rattle.expression_syntax.proofs.ExpressionRules.{Inner, read_chain, regrouped, rest_of_pieces, not_or_minuses, same_unary, one_deeper, expr_rule, starts_expr, alive_expr}
 
 -- a piece, and others behind it
 firm_chain : {A : Type 0} (L : Lang ExprTree) (p : Parser ExprTree) (I : Lang A) (s : Parser A) (make : ExprTree → List A → ExprTree) (ks is hs js : Kinds) (D : Levels)
@@ -53,7 +53,7 @@ firm_chain L p I s make ks is hs js D ij hj kj jj ki kh starts first piece firm 
     firm
     (λ x. firm_giving (each I I s s ks hs js D piece starts kh hj kj) js jj (joined make x) (firm_each I s ks hs js D piece starts kh hj kj firm_piece fresh))
 
-access_is : (kind : Kind) → access_firsts kind ≡ true → (only k.Dot kind ≡ true) ⊎ (only k.LBracket kind ≡ true)
+access_is : (kind : TokenKind) → access_firsts kind ≡ true → (only k.Dot kind ≡ true) ⊎ (only k.LBracket kind ≡ true)
 unfolding same_kind
 access_is k.Dot h = inl refl
 access_is k.LBracket h = inr refl
@@ -86,7 +86,7 @@ module _ (D : Levels) where
 module _ (o : Bool) (E : Lang ExprTree) (p : Parser ExprTree) (D : Levels) (i : Inner o o E E p p D) (inner : o ≡ true → Firm E p) where
   -- ---- names
 
-  firm_call : (name : PathTree) → o ≡ true → Firm (call_behind o E name) (r.call_of o p name)
+  firm_call : (name : PathTree) → o ≡ true → Firm (rest_of_call o E name) (r.call_of o p name)
   unfolding r.call_of
   firm_call name h = firm_free (seq (rules.called_rule o o E E p p D i h) (λ found. nothing (tree.Call name found) none D) (λ found. free _ none) (λ found. alive_empty (tree.Call name found)))
 
@@ -100,10 +100,10 @@ module _ (o : Bool) (E : Lang ExprTree) (p : Parser ExprTree) (D : Levels) (i : 
   firm_behind true first ts = firm_nothing (tree.Uid (uid_of first ts))
   firm_behind false first ts = firm_call_or_variable first ts
 
-  firm_behind_first : (first : Token) → Firm (lang.◌>>=◌ segments (behind_pieces o E first)) (r.named_behind o p first)
-  unfolding r.named_behind r.name_behind
+  firm_behind_first : (first : Token) → Firm (lang.◌>>=◌ segments (behind_pieces o E first)) (r.rest_of_named o p first)
+  unfolding r.rest_of_named r.rest_of_name
   firm_behind_first first =
-      firm_alike (fun_ext (λ ts. regrouped (pieces_behind ts) _ (r.named_as o p)))
+      firm_alike (fun_ext (λ ts. regrouped (rest_of_pieces ts) _ (r.named_as o p)))
       (firm_seq (segments_rule D) (λ ts. rules.behind_rule o o E E p p D i (ends false ts) first ts) (λ ts. rules.leads_behind o o E E p p D i (ends false ts) first ts)
       (firm_segments D) (λ ts. firm_behind (ends false ts) first ts))
 
@@ -200,11 +200,11 @@ module _ (o : Bool) (E : Lang ExprTree) (p : Parser ExprTree) (D : Levels) (i : 
   -- ---- operators
 
   -- a sign, and what stands behind it
-  firm_sign : (sign : Kind) (make : ExprTree → ExprTree) (L : Lang ExprTree) (s : Parser ExprTree) → Rule L L s s after_member D → Firm L s → Firm (lang.◌>>◌ (lang.one sign) (lang.◌giving◌ L make)) (token sign >> (s >>= (λ x. pure (make x))))
+  firm_sign : (sign : TokenKind) (make : ExprTree → ExprTree) (L : Lang ExprTree) (s : Parser ExprTree) → Rule L L s s after_member D → Firm L s → Firm (lang.◌>>◌ (lang.one sign) (lang.◌giving◌ L make)) (token sign >> (s >>= (λ x. pure (make x))))
   firm_sign sign make L s rule firm =
       firm_token sign after_member D (seq rule (λ x. nothing (make x) after_member D) (λ x. leads_empty (make x) after_member after_member refl) (λ x. alive_empty (make x))) (firm_giving rule after_member refl make firm)
 
-  firm_signed : (sign : Kind) (make : ExprTree → ExprTree) → apart primary_firsts (only sign) ≡ true → (n : ℕ) → Firm (g.signed o E sign make n) (r.signed o p sign make n)
+  firm_signed : (sign : TokenKind) (make : ExprTree → ExprTree) → apart primary_firsts (only sign) ≡ true → (n : ℕ) → Firm (g.signed o E sign make n) (r.signed o p sign make n)
   unfolding r.signed
   firm_signed sign make apart zero = firm_member
   firm_signed sign make apart (suc n) =

@@ -2,8 +2,8 @@
 use Rattle.std.proofs.Common.{◌≡◌, inl, inr, ℕ, zero, suc, ◌≤◌, ◌<◌, Bool, true, false, List, [], ◌∷◌, Option, Some, None, refl, ap, subst, arith}
 use mathlib.Core.Path.{fun_ext}
 use Rattle.policy_tokens.specs.declared.token.Token.{Token}
-use Rattle.policy_tokens.specs.declared.token.Kind.{Kind}
-use Rattle.policy_tokens.specs.declared.token.Kind.TheVariants as k
+use Rattle.policy_tokens.specs.declared.token.TokenKind.{TokenKind}
+use Rattle.policy_tokens.specs.declared.token.TokenKind.TheVariants as k
 use Rattle.token_readers.specs.declared.tree.PathTree.{PathTree}
 use Rattle.expression_trees.specs.declared.tree.Access.TheVariants as access
 use Rattle.expression_trees.specs.declared.tree.ExprTree.{ExprTree}
@@ -16,7 +16,7 @@ use Rattle.token_readers.specs.Lang as lang
 use Rattle.token_readers.specs.Grammar.{identifiers}
 use Rattle.expression_syntax.specs.Expressions as g
 use Rattle.expression_syntax.specs.Expressions.{boolean_of, sign_of, comparison_of, booleans, keys, patterns, signs, comparisons, joined, accessed, is_in, is_positive}
-use Rattle.token_readers.specs.Reading.{Parser, Outcome, Read, Stop, Why, Unexpected, TooDeep, and_then, ◌>>=◌, ◌>>◌, pure, either, take, token, many}
+use Rattle.token_readers.specs.Reading.{Parser, ParseResult, Read, Stop, Why, Unexpected, TooDeep, and_then, ◌>>=◌, ◌>>◌, pure, either, take, token, many}
 use Rattle.token_readers.specs.Reading as reading
 use Rattle.expression_syntax.specs.ExpressionReading as r
 use Rattle.expression_syntax.specs.ExpressionReading.{openers, access_firsts, firsts, path_of, name_by, variable_at}
@@ -33,7 +33,7 @@ use Rattle.token_readers.proofs.Depths.{levels}
 use Rattle.token_readers.proofs.Openings.{giving, opening_gate, starts_gate}
 use Rattle.expression_syntax.proofs.Follows.{after_named, after_access, after_member, after_product, after_sum, after_relation, after_conjunction, after_expr, after_arguments, after_entries}
 use Rattle.expression_syntax.proofs.SymbolRules.{symbol_rule}
-use Rattle.expression_syntax.proofs.NamedRules.{call_behind, variable_by, behind_by, behind_pieces, factored, on, leads_variable, leads_variable_colons, same_named}
+use Rattle.expression_syntax.proofs.NamedRules.{rest_of_call, variable_by, behind_by, behind_pieces, factored, on, leads_variable, leads_variable_colons, same_named}
 use Rattle.expression_syntax.proofs.Alive as a
 use Rattle.expression_syntax.proofs.Alive.{primary_firsts, other_firsts, minus_firsts, unary_firsts, literal_firsts, entry_of, term_of}
 
@@ -85,10 +85,10 @@ module _ (D : Levels) where
 
 -- ---- readers that are alike
 
-abbrev pub pieces_behind : Parser (List Token)
-pieces_behind = reading.loop ended_by goes_on (λ ended. piece) false
+abbrev pub rest_of_pieces : Parser (List Token)
+rest_of_pieces = reading.loop ended_by goes_on (λ ended. piece) false
 
-pub regrouped : {A B C : Type 0} (o : Outcome A) (f : A → Parser B) (h : B → Parser C) → and_then o (λ x. f x >>= h) ≡ and_then (and_then o f) h
+pub regrouped : {A B C : Type 0} (o : ParseResult A) (f : A → Parser B) (h : B → Parser C) → and_then o (λ x. f x >>= h) ≡ and_then (and_then o f) h
 regrouped (Read x rest) f h = refl
 regrouped (Stop w rest) f h = refl
 
@@ -114,7 +114,7 @@ module _ (o o' : Bool) (E F : Lang ExprTree) (p q : Parser ExprTree) (D : Levels
   next_argument_rule h = behind k.Comma after_expr D (i.rule h) (i.alive h)
 
   pub arguments_rule : o ≡ true → Rule (g.arguments o E) (g.arguments o' F) (r.arguments o p) (r.arguments o' q) after_arguments D
-  unfolding r.arguments r.arguments_behind same_kind
+  unfolding r.arguments r.rest_of_arguments same_kind
   arguments_rule h =
       or (lang.◌>>=◌ E (a.listed o E)) (lang.◌>>=◌ F (a.listed o' F)) (lang.empty []) (lang.empty []) _ _ _ _ firsts after_arguments D
       (seq (i.rule h)
@@ -150,7 +150,7 @@ module _ (o o' : Bool) (E F : Lang ExprTree) (p q : Parser ExprTree) (D : Levels
   next_entry_rule h = behind k.Comma after_expr D (entry_rule h) (a.alive_entry o E (i.alive h))
 
   pub entries_rule : o ≡ true → Rule (g.entries o E) (g.entries o' F) (r.entries o p) (r.entries o' q) after_entries D
-  unfolding r.entries r.entries_behind same_kind
+  unfolding r.entries r.rest_of_entries same_kind
   entries_rule h =
       or (lang.◌>>=◌ (g.entry o E) (a.entered o E)) (lang.◌>>=◌ (g.entry o' F) (a.entered o' F)) (lang.empty []) (lang.empty []) _ _ _ _ keys after_entries D
       (seq (entry_rule h)
@@ -166,17 +166,17 @@ module _ (o o' : Bool) (E F : Lang ExprTree) (p q : Parser ExprTree) (D : Levels
 
   -- ---- names
 
-  pub call_rule : (name : PathTree) → o ≡ true → Rule (call_behind o E name) (call_behind o' F name) (r.call_of o p name) (r.call_of o' q name) after_named D
+  pub call_rule : (name : PathTree) → o ≡ true → Rule (rest_of_call o E name) (rest_of_call o' F name) (r.call_of o p name) (r.call_of o' q name) after_named D
   unfolding r.call_of
   call_rule name h = seq (called_rule h) (λ found. nothing (tree.Call name found) after_named D) (λ found. free _ after_named) (λ found. alive_empty (tree.Call name found))
 
   call_or_variable_rule : (first : Token) (ts : List Token) → Rule (behind_by false o E first ts) (behind_by false o' F first ts) (r.call_or_variable o p (path_of first ts)) (r.call_or_variable o' q (path_of first ts)) after_named D
   unfolding r.call_or_variable r.alone same_kind
   call_or_variable_rule first ts =
-      gated o o' (call_behind o E (path_of first ts)) (call_behind o' F (path_of first ts)) _ _ _ _ _ _ (only k.LParen) after_named D i.wide (call_rule (path_of first ts)) (variable_rule D (variable_at first ts))
+      gated o o' (rest_of_call o E (path_of first ts)) (rest_of_call o' F (path_of first ts)) _ _ _ _ _ _ (only k.LParen) after_named D i.wide (call_rule (path_of first ts)) (variable_rule D (variable_at first ts))
       (a.starts_call o E (path_of first ts))
       (leads_variable (variable_at first ts))
-      (λ d. opening_gate o' (call_behind o' F (path_of first ts)) (only k.LParen) (i.deeper d) (a.opening_call o' F (path_of first ts)))
+      (λ d. opening_gate o' (rest_of_call o' F (path_of first ts)) (only k.LParen) (i.deeper d) (a.opening_call o' F (path_of first ts)))
       i.alike
 
   pub behind_rule : (b : Bool) (first : Token) (ts : List Token) → Rule (behind_by b o E first ts) (behind_by b o' F first ts) (r.named_as o p (name_by b first ts)) (r.named_as o' q (name_by b first ts)) after_named D
@@ -187,15 +187,15 @@ module _ (o o' : Bool) (E F : Lang ExprTree) (p q : Parser ExprTree) (D : Levels
   unfolding same_kind
   leads_behind true first ts = leads_empty (tree.Uid (uid_of first ts)) (only k.Colons) after_named refl
   leads_behind false first ts =
-      leads_or (lang.gate o (call_behind o E (path_of first ts))) (variable_by (variable_at first ts)) (only k.Colons) after_named
-      (leads_starts (lang.gate o (call_behind o E (path_of first ts))) (only k.LParen) (only k.Colons) after_named (starts_gate o (call_behind o E (path_of first ts)) (only k.LParen) (a.starts_call o E (path_of first ts))) refl)
+      leads_or (lang.gate o (rest_of_call o E (path_of first ts))) (variable_by (variable_at first ts)) (only k.Colons) after_named
+      (leads_starts (lang.gate o (rest_of_call o E (path_of first ts))) (only k.LParen) (only k.Colons) after_named (starts_gate o (rest_of_call o E (path_of first ts)) (only k.LParen) (a.starts_call o E (path_of first ts))) refl)
       (leads_variable_colons (variable_at first ts))
 
-  pub behind_first_rule : (first : Token) → Rule (lang.◌>>=◌ segments (behind_pieces o E first)) (lang.◌>>=◌ segments (behind_pieces o' F first)) (r.named_behind o p first) (r.named_behind o' q first) after_named D
-  unfolding r.named_behind r.name_behind
+  pub behind_first_rule : (first : Token) → Rule (lang.◌>>=◌ segments (behind_pieces o E first)) (lang.◌>>=◌ segments (behind_pieces o' F first)) (r.rest_of_named o p first) (r.rest_of_named o' q first) after_named D
+  unfolding r.rest_of_named r.rest_of_name
   behind_first_rule first =
-      read_alike (fun_ext (λ ts. regrouped (pieces_behind ts) _ (r.named_as o p))) (fun_ext (λ ts. regrouped (pieces_behind ts) _ (r.named_as o' q)))
-      (both segments segments pieces_behind pieces_behind (behind_pieces o E first) (behind_pieces o' F first) (λ ts. r.named_as o p (name_by (ends false ts) first ts)) (λ ts. r.named_as o' q (name_by (ends false ts) first ts)) (only k.Colons) after_named D
+      read_alike (fun_ext (λ ts. regrouped (rest_of_pieces ts) _ (r.named_as o p))) (fun_ext (λ ts. regrouped (rest_of_pieces ts) _ (r.named_as o' q)))
+      (both segments segments rest_of_pieces rest_of_pieces (behind_pieces o E first) (behind_pieces o' F first) (λ ts. r.named_as o p (name_by (ends false ts) first ts)) (λ ts. r.named_as o' q (name_by (ends false ts) first ts)) (only k.Colons) after_named D
       (segments_rule D) (λ ts. behind_rule (ends false ts) first ts) (λ ts. leads_behind (ends false ts) first ts) (on o E first) (on o' F first))
 
   factored_rule : Rule (factored o E) (factored o' F) (r.named o p) (r.named o' q) after_named D
@@ -290,7 +290,7 @@ module _ (o o' : Bool) (E F : Lang ExprTree) (p q : Parser ExprTree) (D : Levels
 
   -- ---- operators
 
-  pub signed_rule : (sign : Kind) (make : ExprTree → ExprTree) → apart primary_firsts (only sign) ≡ true → (n : ℕ) → Rule (g.signed o E sign make n) (g.signed o' F sign make n) (r.signed o p sign make n) (r.signed o' q sign make n) after_member D
+  pub signed_rule : (sign : TokenKind) (make : ExprTree → ExprTree) → apart primary_firsts (only sign) ≡ true → (n : ℕ) → Rule (g.signed o E sign make n) (g.signed o' F sign make n) (r.signed o p sign make n) (r.signed o' q sign make n) after_member D
   unfolding r.signed
   signed_rule sign make apart zero = member_rule
   signed_rule sign make apart (suc n) =

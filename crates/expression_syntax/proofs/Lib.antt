@@ -5,6 +5,6 @@ pub mod Alive
 pub mod ExpressionRules
 pub mod ExpressionFirm
 pub mod ExpressionExact
-pub mod TreeStands
-pub mod ExpressionStands
+pub mod TreeWellFormed
+pub mod ExpressionWellFormed
 pub mod Published

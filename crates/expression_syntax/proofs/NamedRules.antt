@@ -1,7 +1,7 @@
 -- Variables, Uids and calls are read exactly, though they begin alike.
 use Rattle.std.proofs.Common.{◌≡◌, inl, inr, Bool, true, false, List, [], ◌∷◌, ◌++◌, Option, Some, None, is_some, refl, sym, ap, subst, ◌∙◌, append_assoc, append-nil}
 use Rattle.policy_tokens.specs.declared.token.Token.{Token}
-use Rattle.policy_tokens.specs.declared.token.Kind.TheVariants as k
+use Rattle.policy_tokens.specs.declared.token.TokenKind.TheVariants as k
 use Rattle.token_readers.specs.declared.tree.PathTree.{PathTree}
 use Rattle.expression_trees.specs.declared.tree.ExprTree.{ExprTree}
 use Rattle.expression_trees.specs.declared.tree.ExprTree.TheVariants as tree
@@ -24,8 +24,8 @@ use Rattle.expression_syntax.proofs.Follows.{after_named}
 
 -- ---- from the common front
 
-abbrev pub call_behind : Bool → Lang ExprTree → PathTree → Lang ExprTree
-call_behind o E name = lang.◌>>=◌ (g.called o E) (λ found. lang.empty (tree.Call name found))
+abbrev pub rest_of_call : Bool → Lang ExprTree → PathTree → Lang ExprTree
+rest_of_call o E name = lang.◌>>=◌ (g.called o E) (λ found. lang.empty (tree.Call name found))
 
 abbrev pub variable_by : Option Variable → Lang ExprTree
 variable_by (Some variable) = lang.empty (tree.Variable variable)
@@ -33,7 +33,7 @@ variable_by None = lang.never
 
 abbrev pub behind_by : Bool → Bool → Lang ExprTree → Token → List Token → Lang ExprTree
 behind_by true o E first ts = lang.empty (tree.Uid (uid_of first ts))
-behind_by false o E first ts = lang.◌or◌ (lang.gate o (call_behind o E (path_of first ts))) (variable_by (variable_at first ts))
+behind_by false o E first ts = lang.◌or◌ (lang.gate o (rest_of_call o E (path_of first ts))) (variable_by (variable_at first ts))
 
 abbrev pub behind_pieces : Bool → Lang ExprTree → Token → List Token → Lang ExprTree
 behind_pieces o E first ts = behind_by (ends false ts) o E first ts
@@ -145,7 +145,7 @@ as_path head words first xs h d = record {
 }
 
 as_call : (o : Bool) (E : Lang ExprTree) (ts words back : List Token) (first : Token) (xs : List Token) (x : ExprTree) → Behind ts first xs words back → segments words xs → ends false xs ≡ false
-    → lang.gate o (call_behind o E (path_of first xs)) back x → lang.gate o (g.call o E) ts x
+    → lang.gate o (rest_of_call o E (path_of first xs)) back x → lang.gate o (g.call o E) ts x
 as_call true E ts words back first xs x b s e d = record {
   front = b.head ++ words;
   back = back;
@@ -228,7 +228,7 @@ from_call true E ts x j =
         value = s.value;
         whole = refl;
         first = pieces_of s.front s.value s.first;
-        second = subst (λ b. behind_by b true E w.value s.value j.back x) (sym (no_end s.front s.value s.first)) (inl (subst (λ name. call_behind true E name j.back x) s.second.1 j.second));
+        second = subst (λ b. behind_by b true E w.value s.value j.back x) (sym (no_end s.front s.value s.first)) (inl (subst (λ name. rest_of_call true E name j.back x) s.second.1 j.second));
       };
     }
 from_call false E ts x j = absurd j

@@ -1,37 +1,37 @@
 -- Tokens that stand for something by their kind alone are read exactly.
 use Rattle.std.proofs.Common.{◌≡◌, inl, true, List, [], ◌∷◌, ◌++◌, length, Option, Some, None, is_some, refl, sym, ap, ◌∙◌, length-append, arith}
 use Rattle.policy_tokens.specs.declared.token.Token.{Token}
-use Rattle.policy_tokens.specs.declared.token.Kind.{Kind}
+use Rattle.policy_tokens.specs.declared.token.TokenKind.{TokenKind}
 use Rattle.token_readers.specs.Kinds.{Kinds}
 use Rattle.token_readers.specs.Reading.{Read, Stop, Why, Unexpected, TooDeep}
 use Rattle.token_readers.specs.Reads.{Begins, sees}
 use Rattle.token_readers.proofs.Rules.{Rule, Levels, ReadsFront, Stops}
 use Rattle.token_readers.proofs.Forms.{Starts}
 use Rattle.token_readers.proofs.Openings.{Opening}
-use Rattle.token_readers.proofs.StandsLemmas.{Makes}
+use Rattle.token_readers.proofs.WellFormedLemmas.{Makes}
 use Rattle.expression_syntax.specs.Expressions as g
 use Rattle.expression_syntax.specs.Expressions.{known}
 use Rattle.expression_syntax.specs.ExpressionReading as r
 use Rattle.expression_syntax.specs.ExpressionReading.{symbol_by}
 
-pub starts_symbol : {A : Type 0} (meaning : Kind → Option A) → Starts (g.symbol meaning) (known meaning)
+pub starts_symbol : {A : Type 0} (meaning : TokenKind → Option A) → Starts (g.symbol meaning) (known meaning)
 starts_symbol meaning ts a h = ap (sees (known meaning)) h.1 ∙ ap is_some h.2
 
-pub begin_symbol : {A : Type 0} (meaning : Kind → Option A) (kind : Kind) (a : A) → meaning kind ≡ Some a → Begins (g.symbol meaning) []
+pub begin_symbol : {A : Type 0} (meaning : TokenKind → Option A) (kind : TokenKind) (a : A) → meaning kind ≡ Some a → Begins (g.symbol meaning) []
 begin_symbol meaning kind a e =
     let t : Token = record { kind = kind; start = 0; end = 0 } in
     record { more = t ∷ []; value = a; derived = (t, refl, e) }
 
-opens : {A : Type 0} (meaning : Kind → Option A) (t : Token) (o : Option A) → meaning t.kind ≡ o → is_some o ≡ true → Begins (g.symbol meaning) (t ∷ [])
+opens : {A : Type 0} (meaning : TokenKind → Option A) (t : Token) (o : Option A) → meaning t.kind ≡ o → is_some o ≡ true → Begins (g.symbol meaning) (t ∷ [])
 opens meaning t (Some a) e h = record { more = []; value = a; derived = (t, refl, e) }
 opens meaning t None e h = absurd (cc)
 
 -- each token of the table begins something
-pub opening_symbol : {A : Type 0} (meaning : Kind → Option A) → Opening (g.symbol meaning) (known meaning)
+pub opening_symbol : {A : Type 0} (meaning : TokenKind → Option A) → Opening (g.symbol meaning) (known meaning)
 opening_symbol meaning t h = opens meaning t (meaning t.kind) refl h
 
 -- no token of the tree
-pub symbol_in : {A : Type 0} (all : List Token) (meaning : Kind → Option A) → Makes all (g.symbol meaning) (λ a. Unit {0})
+pub symbol_in : {A : Type 0} (all : List Token) (meaning : TokenKind → Option A) → Makes all (g.symbol meaning) (λ a. Unit {0})
 symbol_in all meaning ts a d i = tt
 
 symbol_read : {A : Type 0} (o : Option A) (t : Token) (a : A) (ts rest : List Token) → symbol_by o t ts ≡ Read a rest → (o ≡ Some a) × (ts ≡ rest)
@@ -45,7 +45,7 @@ symbol_stop (Some b) t w ts rest h = absurd (cc)
 longer : (t : Token) (ts : List Token) → ts ≡ t ∷ ts → ⊥
 longer t ts h = let e = ap length h in omega (arith, e)
 
-module _ {A : Type 0} (meaning : Kind → Option A) where
+module _ {A : Type 0} (meaning : TokenKind → Option A) where
   sound_symbol : (ts : List Token) (a : A) (rest : List Token) → r.symbol meaning ts ≡ Read a rest → ReadsFront (g.symbol meaning) ts a rest
   unfolding r.symbol
   sound_symbol [] a rest h = absurd (cc)

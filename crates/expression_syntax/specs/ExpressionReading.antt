@@ -1,7 +1,7 @@
 -- How expressions are read, from the left, by the next token.
 use Rattle.std.specs.Prelude.{ℕ, zero, suc, Bool, true, false, List, [], ◌∷◌, Option, Some, None}
-use Rattle.policy_tokens.specs.declared.token.Kind.{Kind}
-use Rattle.policy_tokens.specs.declared.token.Kind.TheVariants as k
+use Rattle.policy_tokens.specs.declared.token.TokenKind.{TokenKind}
+use Rattle.policy_tokens.specs.declared.token.TokenKind.TheVariants as k
 use Rattle.policy_tokens.specs.declared.token.Token.{Token}
 use Rattle.token_readers.specs.declared.tree.PathTree.{PathTree}
 use Rattle.token_readers.specs.declared.tree.Name.{Name}
@@ -16,12 +16,12 @@ use Rattle.expression_trees.specs.declared.tree.ExprTree.{ExprTree}
 use Rattle.expression_trees.specs.declared.tree.ExprTree.TheVariants as tree
 use Rattle.expression_trees.specs.declared.tree.Variable.{Variable}
 use Rattle.token_readers.specs.Kinds.{Kinds, only}
-use Rattle.token_readers.specs.Reading.{Parser, Outcome, Read, Stop, Unexpected, take, token, pure, refuse, ◌>>=◌}
+use Rattle.token_readers.specs.Reading.{Parser, ParseResult, Read, Stop, Unexpected, take, token, pure, refuse, ◌>>=◌}
 use Rattle.token_readers.specs.Reading.{◌>>◌, either, optional, many, gate, too_deep}
 use Rattle.token_readers.specs.Grammar.{identifiers}
 use Rattle.token_readers.specs.Parsing.{path}
 pub use Rattle.token_readers.specs.Parsing.{path_of, name_by}
-unfoldable pub use Rattle.token_readers.specs.Parsing.{name_behind}
+unfoldable pub use Rattle.token_readers.specs.Parsing.{rest_of_name}
 use Rattle.expression_syntax.specs.Expressions.{boolean_of, variable_of, sign_of, comparison_of}
 use Rattle.expression_syntax.specs.Expressions.{booleans, keys, patterns, signs, comparisons}
 use Rattle.expression_syntax.specs.Expressions.{joined, accessed, is_in, is_positive}
@@ -55,11 +55,11 @@ firsts kind = identifiers kind
 
 -- ---- tokens that stand for something by their kind alone
 
-abbrev pub symbol_by : {A : Type 0} → Option A → Token → List Token → Outcome A
+abbrev pub symbol_by : {A : Type 0} → Option A → Token → List Token → ParseResult A
 symbol_by None t ts = Stop Unexpected (t ∷ ts)
 symbol_by (Some a) t ts = Read a ts
 
-unfoldable pub symbol : {A : Type 0} → (Kind → Option A) → Parser A
+unfoldable pub symbol : {A : Type 0} → (TokenKind → Option A) → Parser A
 symbol meaning [] = Stop Unexpected []
 symbol meaning (t ∷ ts) = symbol_by (meaning t.kind) t ts
 
@@ -101,11 +101,11 @@ module _ (may : Bool) (inner : Parser ExprTree) where
   unfoldable pub next_argument : Parser ExprTree
   next_argument = token k.Comma >> inner
 
-  unfoldable pub arguments_behind : ExprTree → Parser (List ExprTree)
-  arguments_behind first = many (only k.Comma) next_argument >>= (λ more. pure (first ∷ more))
+  unfoldable pub rest_of_arguments : ExprTree → Parser (List ExprTree)
+  rest_of_arguments first = many (only k.Comma) next_argument >>= (λ more. pure (first ∷ more))
 
   unfoldable pub arguments : Parser (List ExprTree)
-  arguments = either firsts (inner >>= arguments_behind) (pure [])
+  arguments = either firsts (inner >>= rest_of_arguments) (pure [])
 
   unfoldable pub called : Parser (List ExprTree)
   called = do
@@ -124,13 +124,13 @@ module _ (may : Bool) (inner : Parser ExprTree) where
   unfoldable pub next_entry : Parser (Entry ExprTree)
   next_entry = token k.Comma >> entry
 
-  unfoldable pub entries_behind : Entry ExprTree → Parser (List (Entry ExprTree))
-  entries_behind first = many (only k.Comma) next_entry >>= (λ more. pure (first ∷ more))
+  unfoldable pub rest_of_entries : Entry ExprTree → Parser (List (Entry ExprTree))
+  rest_of_entries first = many (only k.Comma) next_entry >>= (λ more. pure (first ∷ more))
 
   unfoldable pub entries : Parser (List (Entry ExprTree))
-  entries = either keys (entry >>= entries_behind) (pure [])
+  entries = either keys (entry >>= rest_of_entries) (pure [])
 
-  -- ---- names: a variable, a Uid and a call begin alike, so they are read from their common front, by `name_behind`
+  -- ---- names: a variable, a Uid and a call begin alike, so they are read from their common front, by `rest_of_name`
 
   unfoldable pub call_of : PathTree → Parser ExprTree
   call_of p = called >>= (λ found. pure (tree.Call p found))
@@ -142,11 +142,11 @@ module _ (may : Bool) (inner : Parser ExprTree) where
   named_as (name.Uid u) = pure (tree.Uid u)
   named_as (name.Path p) = call_or_variable p
 
-  unfoldable pub named_behind : Token → Parser ExprTree
-  named_behind first = name_behind first >>= named_as
+  unfoldable pub rest_of_named : Token → Parser ExprTree
+  rest_of_named first = rest_of_name first >>= named_as
 
   unfoldable pub named : Parser ExprTree
-  named = take identifiers >>= named_behind
+  named = take identifiers >>= rest_of_named
 
   -- ---- brackets
 
@@ -206,7 +206,7 @@ module _ (may : Bool) (inner : Parser ExprTree) where
 
   -- ---- operators
 
-  unfoldable pub signed : Kind → (ExprTree → ExprTree) → ℕ → Parser ExprTree
+  unfoldable pub signed : TokenKind → (ExprTree → ExprTree) → ℕ → Parser ExprTree
   signed sign make zero = member
   signed sign make (suc n) = either (only sign) (do token sign; x ← signed sign make n; pure (make x)) member
 

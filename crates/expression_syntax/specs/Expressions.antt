@@ -2,8 +2,8 @@
 -- Source: Cedar reference guide 4.0, "Grammar specification for Cedar policy syntax". Rules of this product: a
 -- variable's word with `::` or `(` behind it is a Path, and expressions nest at most so deep.
 use Rattle.std.specs.Prelude.{◌≡◌, ℕ, zero, suc, Bool, true, false, List, [], ◌∷◌, Option, Some, None, is_some}
-use Rattle.policy_tokens.specs.declared.token.Kind.{Kind}
-use Rattle.policy_tokens.specs.declared.token.Kind.TheVariants as k
+use Rattle.policy_tokens.specs.declared.token.TokenKind.{TokenKind}
+use Rattle.policy_tokens.specs.declared.token.TokenKind.TheVariants as k
 use Rattle.policy_tokens.specs.declared.token.Token.{Token}
 use Rattle.token_readers.specs.declared.tree.PathTree.{PathTree}
 use Rattle.expression_trees.specs.declared.tree.Access.{Access}
@@ -29,21 +29,21 @@ use Rattle.token_readers.specs.Grammar.{identifiers, path, uid}
 -- ## Tokens that stand for something by their kind alone
 
 -- a token, as what its kind stands for
-abbrev pub symbol : {A : Type 0} → (Kind → Option A) → Lang A
+abbrev pub symbol : {A : Type 0} → (TokenKind → Option A) → Lang A
 symbol meaning ts a = (t : Token) × (ts ≡ t ∷ []) × (meaning t.kind ≡ Some a)
 
 -- the kinds that stand for something
-abbrev pub known : {A : Type 0} → (Kind → Option A) → Kinds
+abbrev pub known : {A : Type 0} → (TokenKind → Option A) → Kinds
 known meaning kind = is_some (meaning kind)
 
 -- "true" | "false"
-abbrev pub boolean_of : Kind → Option Bool
+abbrev pub boolean_of : TokenKind → Option Bool
 boolean_of k.True = Some true
 boolean_of k.False = Some false
 boolean_of _ = None
 
 -- Variable = "principal" | "action" | "resource" | "context"
-abbrev pub variable_of : Kind → Option Variable
+abbrev pub variable_of : TokenKind → Option Variable
 variable_of k.Principal = Some variable.Principal
 variable_of k.Action = Some variable.Action
 variable_of k.Resource = Some variable.Resource
@@ -51,13 +51,13 @@ variable_of k.Context = Some variable.Context
 variable_of _ = None
 
 -- "+" | "-"
-abbrev pub sign_of : Kind → Option Sign
+abbrev pub sign_of : TokenKind → Option Sign
 sign_of k.Plus = Some Plus
 sign_of k.Minus = Some Minus
 sign_of _ = None
 
 -- "<" | "<=" | ">" | ">=" | "==" | "!=" | "in"
-abbrev pub comparison_of : Kind → Option Comparison
+abbrev pub comparison_of : TokenKind → Option Comparison
 comparison_of k.Less = Some comparison.Less
 comparison_of k.LessEqual = Some comparison.LessOrEqual
 comparison_of k.Greater = Some comparison.Greater
@@ -207,7 +207,7 @@ module _ (may : Bool) (inner : Lang ExprTree) where
   member = chain primary (dotted or indexed) tree.Member
 
   -- so many of a sign at most, and a Member
-  abbrev pub signed : Kind → (ExprTree → ExprTree) → ℕ → Lang ExprTree
+  abbrev pub signed : TokenKind → (ExprTree → ExprTree) → ℕ → Lang ExprTree
   signed sign make zero = member
   signed sign make (suc n) = (do one sign; x ← signed sign make n; empty (make x)) or member
 

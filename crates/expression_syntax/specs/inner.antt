@@ -1,4 +1,3 @@
 pub mod Included
 pub mod Nests
 pub mod Prefixes
-pub mod Whole

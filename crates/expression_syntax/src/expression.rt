@@ -4,7 +4,7 @@ ghost use Rattle.std.specs.Prelude.{◌≡◌, ◌<◌, IfOk, Err};
 ghost use Rattle.expression_syntax.specs.ExpressionReading as spec;
 ghost use Rattle.expression_syntax.specs.Expressions as grammar;
 ghost use Rattle.expression_syntax.specs.Expressions.{is_positive};
-ghost use Rattle.token_readers.specs.Gives.{Gives};
+ghost use Rattle.token_readers.specs.ParsesTo.{ParsesTo};
 ghost use Rattle.expression_syntax.specs.inner.Nests.{Nests};
 ghost use Rattle.expression_trees.specs.declared.tree.ExprTree.TheVariants as tree;
 ghost use Rattle.token_readers.specs.Reads.{ReadsFrontWithin};
@@ -14,7 +14,7 @@ use crate::held::{beside, three};
 use crate::primary::Reader;
 use expression_trees::ExprTree;
 use plain::Boxed;
-use policy_tokens::Kind;
+use policy_tokens::TokenKind;
 use std::alloc::{AllocError, Global};
 use token_readers::{Cursor, Halt};
 
@@ -35,10 +35,11 @@ impl<F: Fn(Global, &mut Cursor<'_>, usize) -> Result<ExprTree, Halt>> Reader<F> 
     #[tactic(auto, unfolding(crate::specs::ExpressionReading::alternative))]
     fn alternative(&self, tokens: &mut Cursor<'_>) -> Result<ExprTree, Halt>
         requires { Nests self.now.levels (F.pre self.now.expr) (F.post self.now.expr) }
-        ensures { Gives (spec.alternative (is_positive self.now.levels) (spec.expr self.now.levels) tokens.old.rest.now)
+        ensures { ParsesTo (spec.alternative (is_positive self.now.levels)
+            (spec.expr self.now.levels) tokens.old.rest.now)
             result tokens.new.rest.now }
     {
-        tokens.take(Kind::Else)?;
+        tokens.take(TokenKind::Else)?;
         self.inner(tokens)
     }
 
@@ -46,10 +47,11 @@ impl<F: Fn(Global, &mut Cursor<'_>, usize) -> Result<ExprTree, Halt>> Reader<F> 
     #[tactic(auto, unfolding(crate::specs::ExpressionReading::consequent))]
     fn consequent(&self, tokens: &mut Cursor<'_>) -> Result<ExprTree, Halt>
         requires { Nests self.now.levels (F.pre self.now.expr) (F.post self.now.expr) }
-        ensures { Gives (spec.consequent (is_positive self.now.levels) (spec.expr self.now.levels) tokens.old.rest.now)
+        ensures { ParsesTo (spec.consequent (is_positive self.now.levels)
+            (spec.expr self.now.levels) tokens.old.rest.now)
             result tokens.new.rest.now }
     {
-        tokens.take(Kind::Then)?;
+        tokens.take(TokenKind::Then)?;
         self.inner(tokens)
     }
 
@@ -61,7 +63,7 @@ impl<F: Fn(Global, &mut Cursor<'_>, usize) -> Result<ExprTree, Halt>> Reader<F> 
         consequent: ExprTree,
     ) -> Result<ExprTree, Halt>
         requires { Nests self.now.levels (F.pre self.now.expr) (F.post self.now.expr) }
-        ensures { Gives (spec.decided (is_positive self.now.levels) (spec.expr self.now.levels)
+        ensures { ParsesTo (spec.decided (is_positive self.now.levels) (spec.expr self.now.levels)
             test consequent tokens.old.rest.now)
             result tokens.new.rest.now }
     {
@@ -75,7 +77,8 @@ impl<F: Fn(Global, &mut Cursor<'_>, usize) -> Result<ExprTree, Halt>> Reader<F> 
     #[tactic(auto, unfolding(crate::specs::ExpressionReading::conditional_tail))]
     fn conditional_tail(&self, tokens: &mut Cursor<'_>, test: ExprTree) -> Result<ExprTree, Halt>
         requires { Nests self.now.levels (F.pre self.now.expr) (F.post self.now.expr) }
-        ensures { Gives (spec.conditional_tail (is_positive self.now.levels) (spec.expr self.now.levels) test tokens.old.rest.now)
+        ensures { ParsesTo (spec.conditional_tail (is_positive self.now.levels)
+            (spec.expr self.now.levels) test tokens.old.rest.now)
             result tokens.new.rest.now }
     {
         let (test, consequent) = beside(test, self.consequent(tokens))?;
@@ -86,10 +89,11 @@ impl<F: Fn(Global, &mut Cursor<'_>, usize) -> Result<ExprTree, Halt>> Reader<F> 
     #[tactic(auto, unfolding(crate::specs::ExpressionReading::conditional))]
     fn conditional(&self, tokens: &mut Cursor<'_>) -> Result<ExprTree, Halt>
         requires { Nests self.now.levels (F.pre self.now.expr) (F.post self.now.expr) }
-        ensures { Gives (spec.conditional (is_positive self.now.levels) (spec.expr self.now.levels) tokens.old.rest.now)
+        ensures { ParsesTo (spec.conditional (is_positive self.now.levels)
+            (spec.expr self.now.levels) tokens.old.rest.now)
             result tokens.new.rest.now }
     {
-        tokens.take(Kind::If)?;
+        tokens.take(TokenKind::If)?;
         let test = self.inner(tokens)?;
         self.conditional_tail(tokens, test)
     }
@@ -98,10 +102,10 @@ impl<F: Fn(Global, &mut Cursor<'_>, usize) -> Result<ExprTree, Halt>> Reader<F> 
     #[tactic(auto, unfolding(crate::specs::ExpressionReading::level))]
     fn level(&self, tokens: &mut Cursor<'_>) -> Result<ExprTree, Halt>
         requires { Nests self.now.levels (F.pre self.now.expr) (F.post self.now.expr) }
-        ensures { Gives (spec.level (is_positive self.now.levels) (spec.expr self.now.levels) tokens.old.rest.now)
+        ensures { ParsesTo (spec.level (is_positive self.now.levels) (spec.expr self.now.levels) tokens.old.rest.now)
             result tokens.new.rest.now }
     {
-        if !tokens.sees(Kind::If) {
+        if !tokens.sees(TokenKind::If) {
             return self.disjunction(tokens);
         }
         if self.levels == 0 {
@@ -118,7 +122,7 @@ pub fn expr(alloc: Global, tokens: &mut Cursor<'_>, levels: usize) -> Result<Exp
     ensures reads { 0 < levels → ReadsFrontWithin (grammar.expr levels) grammar.any_expr
         tokens.old.rest.now result tokens.new.rest.now }
     ensures shut { levels ≡ 0 → (result ≡ Err halt.TooDeep) × (tokens.new.rest.now ≡ tokens.old.rest.now) }
-    ensures steps { Gives (spec.expr levels tokens.old.rest.now) result tokens.new.rest.now }
+    ensures steps { ParsesTo (spec.expr levels tokens.old.rest.now) result tokens.new.rest.now }
 {
     if levels == 0 {
         return Err(Halt::TooDeep);

@@ -18,4 +18,5 @@ pub use expression_trees::{Access, Comparison, Entry, ExprTree, KeyTree, Sign, T
 pub use held::beside;
 pub use laws::expression_is_unique;
 pub use read::{NESTING_LIMIT, read_expression};
-pub use token_readers::{Cursor, Halt, PathTree, SyntaxFault, UidTree, path, refusal, uid};
+pub use symbols::{Symbol, take_symbol};
+pub use token_readers::{Cursor, Halt, PathTree, SyntaxFault, UidTree, path, uid};

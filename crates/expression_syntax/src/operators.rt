@@ -3,7 +3,7 @@
 ghost use Rattle.std.specs.Prelude.{◌≡◌, IfOk};
 ghost use Rattle.expression_syntax.specs.ExpressionReading as spec;
 ghost use Rattle.expression_syntax.specs.Expressions.{is_positive, joined, accessed, is_in};
-ghost use Rattle.token_readers.specs.Gives.{Gives};
+ghost use Rattle.token_readers.specs.ParsesTo.{ParsesTo};
 ghost use Rattle.expression_syntax.specs.inner.Nests.{Nests};
 ghost use Rattle.expression_syntax.specs.inner.Prefixes as prefixes;
 ghost use Rattle.expression_trees.specs.declared.tree.ExprTree.TheVariants as tree;
@@ -14,7 +14,7 @@ use crate::symbols::take_symbol;
 use crate::token_sets::TokenSet;
 use expression_trees::{Access, Comparison, ExprTree, KeyTree, Sign, Term};
 use plain::{Boxed, Items};
-use policy_tokens::{Kind, Token};
+use policy_tokens::{Token, TokenKind};
 use std::alloc::{AllocError, Global};
 use token_readers::{Cursor, Halt, NameSet, PathTree, path};
 
@@ -81,12 +81,12 @@ pub(crate) enum Prefix {
 }
 
 impl Prefix {
-    fn kind(self) -> Kind
+    fn kind(self) -> TokenKind
         ensures { result ≡ prefixes.kind_of self }
     {
         match self {
-            Prefix::Not => Kind::Not,
-            Prefix::Minus => Kind::Minus,
+            Prefix::Not => TokenKind::Not,
+            Prefix::Minus => TokenKind::Minus,
         }
     }
 }
@@ -155,7 +155,8 @@ impl<F: Fn(Global, &mut Cursor<'_>, usize) -> Result<ExprTree, Halt>> Reader<F> 
     #[tactic(auto, unfolding(crate::specs::ExpressionReading::call_arguments))]
     fn call_arguments(&self, tokens: &mut Cursor<'_>) -> Result<Option<Items<ExprTree>>, Halt>
         requires { Nests self.now.levels (F.pre self.now.expr) (F.post self.now.expr) }
-        ensures { Gives (spec.call_arguments (is_positive self.now.levels) (spec.expr self.now.levels) tokens.old.rest.now)
+        ensures { ParsesTo (spec.call_arguments (is_positive self.now.levels)
+            (spec.expr self.now.levels) tokens.old.rest.now)
             result tokens.new.rest.now }
     {
         let found = self.called(tokens)?;
@@ -166,11 +167,11 @@ impl<F: Fn(Global, &mut Cursor<'_>, usize) -> Result<ExprTree, Halt>> Reader<F> 
     #[tactic(auto, unfolding(crate::specs::ExpressionReading::maybe_called))]
     fn maybe_called(&self, tokens: &mut Cursor<'_>) -> Result<Option<Items<ExprTree>>, Halt>
         requires { Nests self.now.levels (F.pre self.now.expr) (F.post self.now.expr) }
-        ensures { Gives (spec.maybe_called (is_positive self.now.levels) (spec.expr self.now.levels)
+        ensures { ParsesTo (spec.maybe_called (is_positive self.now.levels) (spec.expr self.now.levels)
             tokens.old.rest.now)
             result tokens.new.rest.now }
     {
-        if !tokens.sees(Kind::LParen) {
+        if !tokens.sees(TokenKind::LParen) {
             return Ok(None);
         }
         if self.levels == 0 {
@@ -183,10 +184,10 @@ impl<F: Fn(Global, &mut Cursor<'_>, usize) -> Result<ExprTree, Halt>> Reader<F> 
     #[tactic(auto, unfolding(crate::specs::ExpressionReading::dotted))]
     fn dotted(&self, tokens: &mut Cursor<'_>) -> Result<Access<Items<ExprTree>>, Halt>
         requires { Nests self.now.levels (F.pre self.now.expr) (F.post self.now.expr) }
-        ensures { Gives (spec.dotted (is_positive self.now.levels) (spec.expr self.now.levels) tokens.old.rest.now)
+        ensures { ParsesTo (spec.dotted (is_positive self.now.levels) (spec.expr self.now.levels) tokens.old.rest.now)
             result tokens.new.rest.now }
     {
-        tokens.take(Kind::Dot)?;
+        tokens.take(TokenKind::Dot)?;
         let name = tokens.take_one_of(NameSet::Identifiers)?;
         let found = self.maybe_called(tokens)?;
         Ok(access(name, found))
@@ -195,10 +196,11 @@ impl<F: Fn(Global, &mut Cursor<'_>, usize) -> Result<ExprTree, Halt>> Reader<F> 
     #[tactic(auto, unfolding(crate::specs::ExpressionReading::accessing))]
     fn accessing(&self, tokens: &mut Cursor<'_>) -> Result<Access<Items<ExprTree>>, Halt>
         requires { Nests self.now.levels (F.pre self.now.expr) (F.post self.now.expr) }
-        ensures { Gives (spec.accessing (is_positive self.now.levels) (spec.expr self.now.levels) tokens.old.rest.now)
+        ensures { ParsesTo (spec.accessing (is_positive self.now.levels)
+            (spec.expr self.now.levels) tokens.old.rest.now)
             result tokens.new.rest.now }
     {
-        if tokens.sees(Kind::Dot) {
+        if tokens.sees(TokenKind::Dot) {
             return self.dotted(tokens);
         }
         indexed(tokens)
@@ -206,7 +208,7 @@ impl<F: Fn(Global, &mut Cursor<'_>, usize) -> Result<ExprTree, Halt>> Reader<F> 
 
     fn accesses(&self, tokens: &mut Cursor<'_>) -> Result<Items<Access<Items<ExprTree>>>, Halt>
         requires { Nests self.now.levels (F.pre self.now.expr) (F.post self.now.expr) }
-        ensures { Gives (spec.accesses (is_positive self.now.levels) (spec.expr self.now.levels) tokens.old.rest.now)
+        ensures { ParsesTo (spec.accesses (is_positive self.now.levels) (spec.expr self.now.levels) tokens.old.rest.now)
             result tokens.new.rest.now }
     {
         let mut found = Items::new(self.alloc);
@@ -224,7 +226,7 @@ impl<F: Fn(Global, &mut Cursor<'_>, usize) -> Result<ExprTree, Halt>> Reader<F> 
     #[tactic(auto, unfolding(crate::specs::ExpressionReading::member))]
     fn member(&self, tokens: &mut Cursor<'_>) -> Result<ExprTree, Halt>
         requires { Nests self.now.levels (F.pre self.now.expr) (F.post self.now.expr) }
-        ensures { Gives (spec.member (is_positive self.now.levels) (spec.expr self.now.levels) tokens.old.rest.now)
+        ensures { ParsesTo (spec.member (is_positive self.now.levels) (spec.expr self.now.levels) tokens.old.rest.now)
             result tokens.new.rest.now }
     {
         let first = self.primary(tokens)?;
@@ -235,7 +237,7 @@ impl<F: Fn(Global, &mut Cursor<'_>, usize) -> Result<ExprTree, Halt>> Reader<F> 
     /// So many of a prefix at most, and a Member.
     fn signed(&self, tokens: &mut Cursor<'_>, sign: Prefix, most: u8) -> Result<ExprTree, Halt>
         requires { Nests self.now.levels (F.pre self.now.expr) (F.post self.now.expr) }
-        ensures { Gives (spec.signed (is_positive self.now.levels) (spec.expr self.now.levels)
+        ensures { ParsesTo (spec.signed (is_positive self.now.levels) (spec.expr self.now.levels)
             (prefixes.kind_of sign) (prefixes.under sign) most tokens.old.rest.now)
             result tokens.new.rest.now }
     {
@@ -254,13 +256,13 @@ impl<F: Fn(Global, &mut Cursor<'_>, usize) -> Result<ExprTree, Halt>> Reader<F> 
     #[tactic(auto, unfolding(crate::specs::ExpressionReading::unary))]
     fn unary(&self, tokens: &mut Cursor<'_>) -> Result<ExprTree, Halt>
         requires { Nests self.now.levels (F.pre self.now.expr) (F.post self.now.expr) }
-        ensures { Gives (spec.unary (is_positive self.now.levels) (spec.expr self.now.levels) tokens.old.rest.now)
+        ensures { ParsesTo (spec.unary (is_positive self.now.levels) (spec.expr self.now.levels) tokens.old.rest.now)
             result tokens.new.rest.now }
     {
-        if !tokens.sees(Kind::Not) {
+        if !tokens.sees(TokenKind::Not) {
             return self.signed(tokens, Prefix::Minus, 4);
         }
-        tokens.take(Kind::Not)?;
+        tokens.take(TokenKind::Not)?;
         let x = self.signed(tokens, Prefix::Not, 3)?;
         Ok(under(self.alloc, Prefix::Not, x)?)
     }
@@ -268,21 +270,21 @@ impl<F: Fn(Global, &mut Cursor<'_>, usize) -> Result<ExprTree, Halt>> Reader<F> 
     #[tactic(auto, unfolding(crate::specs::ExpressionReading::factor))]
     fn factor(&self, tokens: &mut Cursor<'_>) -> Result<ExprTree, Halt>
         requires { Nests self.now.levels (F.pre self.now.expr) (F.post self.now.expr) }
-        ensures { Gives (spec.factor (is_positive self.now.levels) (spec.expr self.now.levels) tokens.old.rest.now)
+        ensures { ParsesTo (spec.factor (is_positive self.now.levels) (spec.expr self.now.levels) tokens.old.rest.now)
             result tokens.new.rest.now }
     {
-        tokens.take(Kind::Star)?;
+        tokens.take(TokenKind::Star)?;
         self.unary(tokens)
     }
 
     fn factors(&self, tokens: &mut Cursor<'_>) -> Result<Items<ExprTree>, Halt>
         requires { Nests self.now.levels (F.pre self.now.expr) (F.post self.now.expr) }
-        ensures { Gives (spec.factors (is_positive self.now.levels) (spec.expr self.now.levels) tokens.old.rest.now)
+        ensures { ParsesTo (spec.factors (is_positive self.now.levels) (spec.expr self.now.levels) tokens.old.rest.now)
             result tokens.new.rest.now }
     {
         let mut found = Items::new(self.alloc);
         for _turn in 0..tokens.left() {
-            if !tokens.sees(Kind::Star) {
+            if !tokens.sees(TokenKind::Star) {
                 return Ok(found);
             }
             let next = self.factor(tokens)?;
@@ -295,7 +297,7 @@ impl<F: Fn(Global, &mut Cursor<'_>, usize) -> Result<ExprTree, Halt>> Reader<F> 
     #[tactic(auto, unfolding(crate::specs::ExpressionReading::product))]
     fn product(&self, tokens: &mut Cursor<'_>) -> Result<ExprTree, Halt>
         requires { Nests self.now.levels (F.pre self.now.expr) (F.post self.now.expr) }
-        ensures { Gives (spec.product (is_positive self.now.levels) (spec.expr self.now.levels) tokens.old.rest.now)
+        ensures { ParsesTo (spec.product (is_positive self.now.levels) (spec.expr self.now.levels) tokens.old.rest.now)
             result tokens.new.rest.now }
     {
         let first = self.unary(tokens)?;
@@ -307,7 +309,7 @@ impl<F: Fn(Global, &mut Cursor<'_>, usize) -> Result<ExprTree, Halt>> Reader<F> 
     #[tactic(auto, unfolding(crate::specs::ExpressionReading::term))]
     fn term(&self, tokens: &mut Cursor<'_>) -> Result<Term<ExprTree>, Halt>
         requires { Nests self.now.levels (F.pre self.now.expr) (F.post self.now.expr) }
-        ensures { Gives (spec.term (is_positive self.now.levels) (spec.expr self.now.levels) tokens.old.rest.now)
+        ensures { ParsesTo (spec.term (is_positive self.now.levels) (spec.expr self.now.levels) tokens.old.rest.now)
             result tokens.new.rest.now }
     {
         let sign = take_symbol::<Sign>(tokens)?;
@@ -317,7 +319,7 @@ impl<F: Fn(Global, &mut Cursor<'_>, usize) -> Result<ExprTree, Halt>> Reader<F> 
 
     fn terms(&self, tokens: &mut Cursor<'_>) -> Result<Items<Term<ExprTree>>, Halt>
         requires { Nests self.now.levels (F.pre self.now.expr) (F.post self.now.expr) }
-        ensures { Gives (spec.terms (is_positive self.now.levels) (spec.expr self.now.levels) tokens.old.rest.now)
+        ensures { ParsesTo (spec.terms (is_positive self.now.levels) (spec.expr self.now.levels) tokens.old.rest.now)
             result tokens.new.rest.now }
     {
         let mut found = Items::new(self.alloc);
@@ -335,7 +337,7 @@ impl<F: Fn(Global, &mut Cursor<'_>, usize) -> Result<ExprTree, Halt>> Reader<F> 
     #[tactic(auto, unfolding(crate::specs::ExpressionReading::sum))]
     fn sum(&self, tokens: &mut Cursor<'_>) -> Result<ExprTree, Halt>
         requires { Nests self.now.levels (F.pre self.now.expr) (F.post self.now.expr) }
-        ensures { Gives (spec.sum (is_positive self.now.levels) (spec.expr self.now.levels) tokens.old.rest.now)
+        ensures { ParsesTo (spec.sum (is_positive self.now.levels) (spec.expr self.now.levels) tokens.old.rest.now)
             result tokens.new.rest.now }
     {
         let first = self.product(tokens)?;
@@ -347,7 +349,8 @@ impl<F: Fn(Global, &mut Cursor<'_>, usize) -> Result<ExprTree, Halt>> Reader<F> 
     #[tactic(auto, unfolding(crate::specs::ExpressionReading::compared))]
     fn compared(&self, tokens: &mut Cursor<'_>, x: ExprTree) -> Result<ExprTree, Halt>
         requires { Nests self.now.levels (F.pre self.now.expr) (F.post self.now.expr) }
-        ensures { Gives (spec.compared (is_positive self.now.levels) (spec.expr self.now.levels) x tokens.old.rest.now)
+        ensures { ParsesTo (spec.compared (is_positive self.now.levels)
+            (spec.expr self.now.levels) x tokens.old.rest.now)
             result tokens.new.rest.now }
     {
         let (x, operator) = beside(x, take_symbol::<Comparison>(tokens))?;
@@ -359,10 +362,10 @@ impl<F: Fn(Global, &mut Cursor<'_>, usize) -> Result<ExprTree, Halt>> Reader<F> 
     #[tactic(auto, unfolding(crate::specs::ExpressionReading::has))]
     fn has(&self, tokens: &mut Cursor<'_>, x: ExprTree) -> Result<ExprTree, Halt>
         requires { Nests self.now.levels (F.pre self.now.expr) (F.post self.now.expr) }
-        ensures { Gives (spec.has (is_positive self.now.levels) (spec.expr self.now.levels) x tokens.old.rest.now)
+        ensures { ParsesTo (spec.has (is_positive self.now.levels) (spec.expr self.now.levels) x tokens.old.rest.now)
             result tokens.new.rest.now }
     {
-        let (x, _has) = beside(x, tokens.take(Kind::Has))?;
+        let (x, _has) = beside(x, tokens.take(TokenKind::Has))?;
         let (x, name) = beside(x, key(tokens))?;
         Ok(has_of(self.alloc, x, name)?)
     }
@@ -371,10 +374,10 @@ impl<F: Fn(Global, &mut Cursor<'_>, usize) -> Result<ExprTree, Halt>> Reader<F> 
     #[tactic(auto, unfolding(crate::specs::ExpressionReading::like))]
     fn like(&self, tokens: &mut Cursor<'_>, x: ExprTree) -> Result<ExprTree, Halt>
         requires { Nests self.now.levels (F.pre self.now.expr) (F.post self.now.expr) }
-        ensures { Gives (spec.like (is_positive self.now.levels) (spec.expr self.now.levels) x tokens.old.rest.now)
+        ensures { ParsesTo (spec.like (is_positive self.now.levels) (spec.expr self.now.levels) x tokens.old.rest.now)
             result tokens.new.rest.now }
     {
-        let (x, _like) = beside(x, tokens.take(Kind::Like))?;
+        let (x, _like) = beside(x, tokens.take(TokenKind::Like))?;
         let (x, text) = beside(x, tokens.take_one_of(TokenSet::Patterns))?;
         Ok(like_of(self.alloc, x, text)?)
     }
@@ -382,10 +385,10 @@ impl<F: Fn(Global, &mut Cursor<'_>, usize) -> Result<ExprTree, Halt>> Reader<F> 
     #[tactic(auto, unfolding(crate::specs::ExpressionReading::inside))]
     fn inside(&self, tokens: &mut Cursor<'_>) -> Result<ExprTree, Halt>
         requires { Nests self.now.levels (F.pre self.now.expr) (F.post self.now.expr) }
-        ensures { Gives (spec.inside (is_positive self.now.levels) (spec.expr self.now.levels) tokens.old.rest.now)
+        ensures { ParsesTo (spec.inside (is_positive self.now.levels) (spec.expr self.now.levels) tokens.old.rest.now)
             result tokens.new.rest.now }
     {
-        tokens.take(Kind::In)?;
+        tokens.take(TokenKind::In)?;
         self.sum(tokens)
     }
 
@@ -393,11 +396,11 @@ impl<F: Fn(Global, &mut Cursor<'_>, usize) -> Result<ExprTree, Halt>> Reader<F> 
     #[tactic(auto, unfolding(crate::specs::ExpressionReading::maybe_inside))]
     fn maybe_inside(&self, tokens: &mut Cursor<'_>) -> Result<Option<ExprTree>, Halt>
         requires { Nests self.now.levels (F.pre self.now.expr) (F.post self.now.expr) }
-        ensures { Gives (spec.maybe_inside (is_positive self.now.levels) (spec.expr self.now.levels)
+        ensures { ParsesTo (spec.maybe_inside (is_positive self.now.levels) (spec.expr self.now.levels)
             tokens.old.rest.now)
             result tokens.new.rest.now }
     {
-        if !tokens.sees(Kind::In) {
+        if !tokens.sees(TokenKind::In) {
             return Ok(None);
         }
         let entity = self.inside(tokens)?;
@@ -408,10 +411,10 @@ impl<F: Fn(Global, &mut Cursor<'_>, usize) -> Result<ExprTree, Halt>> Reader<F> 
     #[tactic(auto, unfolding(crate::specs::ExpressionReading::typed))]
     fn typed(&self, tokens: &mut Cursor<'_>, x: ExprTree) -> Result<ExprTree, Halt>
         requires { Nests self.now.levels (F.pre self.now.expr) (F.post self.now.expr) }
-        ensures { Gives (spec.typed (is_positive self.now.levels) (spec.expr self.now.levels) x tokens.old.rest.now)
+        ensures { ParsesTo (spec.typed (is_positive self.now.levels) (spec.expr self.now.levels) x tokens.old.rest.now)
             result tokens.new.rest.now }
     {
-        let (x, _is) = beside(x, tokens.take(Kind::Is))?;
+        let (x, _is) = beside(x, tokens.take(TokenKind::Is))?;
         let (x, type_name) = beside(x, path(self.alloc, tokens))?;
         let ((x, type_name), entity) = beside((x, type_name), self.maybe_inside(tokens))?;
         Ok(is_of(self.alloc, x, type_name, entity)?)
@@ -420,16 +423,17 @@ impl<F: Fn(Global, &mut Cursor<'_>, usize) -> Result<ExprTree, Halt>> Reader<F> 
     #[tactic(auto, unfolding(crate::specs::ExpressionReading::test_tail))]
     fn test_tail(&self, tokens: &mut Cursor<'_>, x: ExprTree) -> Result<ExprTree, Halt>
         requires { Nests self.now.levels (F.pre self.now.expr) (F.post self.now.expr) }
-        ensures { Gives (spec.test_tail (is_positive self.now.levels) (spec.expr self.now.levels) x tokens.old.rest.now)
+        ensures { ParsesTo (spec.test_tail (is_positive self.now.levels)
+            (spec.expr self.now.levels) x tokens.old.rest.now)
             result tokens.new.rest.now }
     {
-        if tokens.sees(Kind::Has) {
+        if tokens.sees(TokenKind::Has) {
             return self.has(tokens, x);
         }
-        if tokens.sees(Kind::Like) {
+        if tokens.sees(TokenKind::Like) {
             return self.like(tokens, x);
         }
-        if tokens.sees(Kind::Is) {
+        if tokens.sees(TokenKind::Is) {
             return self.typed(tokens, x);
         }
         Ok(x)
@@ -438,7 +442,8 @@ impl<F: Fn(Global, &mut Cursor<'_>, usize) -> Result<ExprTree, Halt>> Reader<F> 
     #[tactic(auto, unfolding(crate::specs::ExpressionReading::related))]
     fn related(&self, tokens: &mut Cursor<'_>, x: ExprTree) -> Result<ExprTree, Halt>
         requires { Nests self.now.levels (F.pre self.now.expr) (F.post self.now.expr) }
-        ensures { Gives (spec.related (is_positive self.now.levels) (spec.expr self.now.levels) x tokens.old.rest.now)
+        ensures { ParsesTo (spec.related (is_positive self.now.levels)
+            (spec.expr self.now.levels) x tokens.old.rest.now)
             result tokens.new.rest.now }
     {
         if tokens.sees_one_of(TokenSet::Comparisons) {
@@ -451,7 +456,7 @@ impl<F: Fn(Global, &mut Cursor<'_>, usize) -> Result<ExprTree, Halt>> Reader<F> 
     #[tactic(auto, unfolding(crate::specs::ExpressionReading::relation))]
     fn relation(&self, tokens: &mut Cursor<'_>) -> Result<ExprTree, Halt>
         requires { Nests self.now.levels (F.pre self.now.expr) (F.post self.now.expr) }
-        ensures { Gives (spec.relation (is_positive self.now.levels) (spec.expr self.now.levels) tokens.old.rest.now)
+        ensures { ParsesTo (spec.relation (is_positive self.now.levels) (spec.expr self.now.levels) tokens.old.rest.now)
             result tokens.new.rest.now }
     {
         let x = self.sum(tokens)?;
@@ -461,21 +466,21 @@ impl<F: Fn(Global, &mut Cursor<'_>, usize) -> Result<ExprTree, Halt>> Reader<F> 
     #[tactic(auto, unfolding(crate::specs::ExpressionReading::next_and))]
     fn next_and(&self, tokens: &mut Cursor<'_>) -> Result<ExprTree, Halt>
         requires { Nests self.now.levels (F.pre self.now.expr) (F.post self.now.expr) }
-        ensures { Gives (spec.next_and (is_positive self.now.levels) (spec.expr self.now.levels) tokens.old.rest.now)
+        ensures { ParsesTo (spec.next_and (is_positive self.now.levels) (spec.expr self.now.levels) tokens.old.rest.now)
             result tokens.new.rest.now }
     {
-        tokens.take(Kind::And)?;
+        tokens.take(TokenKind::And)?;
         self.relation(tokens)
     }
 
     fn ands(&self, tokens: &mut Cursor<'_>) -> Result<Items<ExprTree>, Halt>
         requires { Nests self.now.levels (F.pre self.now.expr) (F.post self.now.expr) }
-        ensures { Gives (spec.ands (is_positive self.now.levels) (spec.expr self.now.levels) tokens.old.rest.now)
+        ensures { ParsesTo (spec.ands (is_positive self.now.levels) (spec.expr self.now.levels) tokens.old.rest.now)
             result tokens.new.rest.now }
     {
         let mut found = Items::new(self.alloc);
         for _turn in 0..tokens.left() {
-            if !tokens.sees(Kind::And) {
+            if !tokens.sees(TokenKind::And) {
                 return Ok(found);
             }
             let next = self.next_and(tokens)?;
@@ -488,7 +493,8 @@ impl<F: Fn(Global, &mut Cursor<'_>, usize) -> Result<ExprTree, Halt>> Reader<F> 
     #[tactic(auto, unfolding(crate::specs::ExpressionReading::conjunction))]
     fn conjunction(&self, tokens: &mut Cursor<'_>) -> Result<ExprTree, Halt>
         requires { Nests self.now.levels (F.pre self.now.expr) (F.post self.now.expr) }
-        ensures { Gives (spec.conjunction (is_positive self.now.levels) (spec.expr self.now.levels) tokens.old.rest.now)
+        ensures { ParsesTo (spec.conjunction (is_positive self.now.levels)
+            (spec.expr self.now.levels) tokens.old.rest.now)
             result tokens.new.rest.now }
     {
         let first = self.relation(tokens)?;
@@ -499,21 +505,21 @@ impl<F: Fn(Global, &mut Cursor<'_>, usize) -> Result<ExprTree, Halt>> Reader<F> 
     #[tactic(auto, unfolding(crate::specs::ExpressionReading::next_or))]
     fn next_or(&self, tokens: &mut Cursor<'_>) -> Result<ExprTree, Halt>
         requires { Nests self.now.levels (F.pre self.now.expr) (F.post self.now.expr) }
-        ensures { Gives (spec.next_or (is_positive self.now.levels) (spec.expr self.now.levels) tokens.old.rest.now)
+        ensures { ParsesTo (spec.next_or (is_positive self.now.levels) (spec.expr self.now.levels) tokens.old.rest.now)
             result tokens.new.rest.now }
     {
-        tokens.take(Kind::Or)?;
+        tokens.take(TokenKind::Or)?;
         self.conjunction(tokens)
     }
 
     fn ors(&self, tokens: &mut Cursor<'_>) -> Result<Items<ExprTree>, Halt>
         requires { Nests self.now.levels (F.pre self.now.expr) (F.post self.now.expr) }
-        ensures { Gives (spec.ors (is_positive self.now.levels) (spec.expr self.now.levels) tokens.old.rest.now)
+        ensures { ParsesTo (spec.ors (is_positive self.now.levels) (spec.expr self.now.levels) tokens.old.rest.now)
             result tokens.new.rest.now }
     {
         let mut found = Items::new(self.alloc);
         for _turn in 0..tokens.left() {
-            if !tokens.sees(Kind::Or) {
+            if !tokens.sees(TokenKind::Or) {
                 return Ok(found);
             }
             let next = self.next_or(tokens)?;
@@ -526,7 +532,8 @@ impl<F: Fn(Global, &mut Cursor<'_>, usize) -> Result<ExprTree, Halt>> Reader<F> 
     #[tactic(auto, unfolding(crate::specs::ExpressionReading::disjunction))]
     pub(crate) fn disjunction(&self, tokens: &mut Cursor<'_>) -> Result<ExprTree, Halt>
         requires { Nests self.now.levels (F.pre self.now.expr) (F.post self.now.expr) }
-        ensures { Gives (spec.disjunction (is_positive self.now.levels) (spec.expr self.now.levels) tokens.old.rest.now)
+        ensures { ParsesTo (spec.disjunction (is_positive self.now.levels)
+            (spec.expr self.now.levels) tokens.old.rest.now)
             result tokens.new.rest.now }
     {
         let first = self.conjunction(tokens)?;

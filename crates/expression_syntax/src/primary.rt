@@ -3,7 +3,7 @@
 ghost use Rattle.std.specs.Prelude.{◌≡◌, IfErr};
 ghost use Rattle.expression_syntax.specs.ExpressionReading as spec;
 ghost use Rattle.expression_syntax.specs.Expressions.{is_positive};
-ghost use Rattle.token_readers.specs.Gives.{Gives};
+ghost use Rattle.token_readers.specs.ParsesTo.{ParsesTo};
 ghost use Rattle.expression_syntax.specs.inner.Nests.{Nests};
 ghost use Rattle.token_readers.specs.declared.fault.Halt.TheVariants as halt;
 
@@ -12,51 +12,51 @@ use crate::symbols::{Symbol, take_symbol};
 use crate::token_sets::TokenSet;
 use expression_trees::{Access, Entry, ExprTree, KeyTree, Variable};
 use plain::{Boxed, Items};
-use policy_tokens::{Kind, Token};
+use policy_tokens::{Token, TokenKind};
 use std::alloc::Global;
-use token_readers::{Cursor, Halt, Name, NameSet, PathTree, name_behind};
+use token_readers::{Cursor, Halt, Name, NameSet, PathTree, rest_of_name};
 
 /// "true" | "false" | Number | String
 #[tactic(auto, unfolding(crate::specs::ExpressionReading::literal))]
 fn literal(tokens: &mut Cursor<'_>) -> Result<ExprTree, Halt>
-    ensures reads { Gives (spec.literal tokens.old.rest.now) result tokens.new.rest.now }
+    ensures reads { ParsesTo (spec.literal tokens.old.rest.now) result tokens.new.rest.now }
     ensures only { IfErr result (λ why. why ≡ halt.Unexpected) }
 {
     if tokens.sees_one_of(TokenSet::Booleans) {
         let value = take_symbol::<bool>(tokens)?;
         return Ok(ExprTree::Boolean(value));
     }
-    if tokens.sees(Kind::Number) {
-        let token = tokens.take(Kind::Number)?;
+    if tokens.sees(TokenKind::Number) {
+        let token = tokens.take(TokenKind::Number)?;
         return Ok(ExprTree::Number(token));
     }
-    let token = tokens.take(Kind::Text)?;
+    let token = tokens.take(TokenKind::Text)?;
     Ok(ExprTree::Text(token))
 }
 
 /// Ident | String
 #[tactic(auto, unfolding(crate::specs::ExpressionReading::key))]
 pub(crate) fn key(tokens: &mut Cursor<'_>) -> Result<KeyTree, Halt>
-    ensures reads { Gives (spec.key tokens.old.rest.now) result tokens.new.rest.now }
+    ensures reads { ParsesTo (spec.key tokens.old.rest.now) result tokens.new.rest.now }
     ensures only { IfErr result (λ why. why ≡ halt.Unexpected) }
 {
     if tokens.sees_one_of(NameSet::Identifiers) {
         let word = tokens.take_one_of(NameSet::Identifiers)?;
         return Ok(KeyTree::Word(word));
     }
-    let quoted = tokens.take(Kind::Text)?;
+    let quoted = tokens.take(TokenKind::Text)?;
     Ok(KeyTree::Quoted(quoted))
 }
 
 /// "[" String "]"
 #[tactic(auto, unfolding(crate::specs::ExpressionReading::indexed))]
 pub(crate) fn indexed(tokens: &mut Cursor<'_>) -> Result<Access<Items<ExprTree>>, Halt>
-    ensures reads { Gives (spec.indexed tokens.old.rest.now) result tokens.new.rest.now }
+    ensures reads { ParsesTo (spec.indexed tokens.old.rest.now) result tokens.new.rest.now }
     ensures only { IfErr result (λ why. why ≡ halt.Unexpected) }
 {
-    tokens.take(Kind::LBracket)?;
-    let name = tokens.take(Kind::Text)?;
-    tokens.take(Kind::RBracket)?;
+    tokens.take(TokenKind::LBracket)?;
+    let name = tokens.take(TokenKind::Text)?;
+    tokens.take(TokenKind::RBracket)?;
     Ok(Access::Field(KeyTree::Quoted(name)))
 }
 
@@ -73,7 +73,7 @@ fn variable_at(path: &PathTree) -> Option<Variable>
 /// A Path that no argument follows: the word of a variable, or nothing.
 #[tactic(auto, unfolding(crate::specs::ExpressionReading::alone))]
 fn alone(tokens: &Cursor<'_>, path: PathTree) -> Result<ExprTree, Halt>
-    ensures reads { Gives (spec.alone path tokens.now.rest.now) result tokens.now.rest.now }
+    ensures reads { ParsesTo (spec.alone path tokens.now.rest.now) result tokens.now.rest.now }
     ensures only { IfErr result (λ why. why ≡ halt.Unexpected) }
 {
     match variable_at(&path) {
@@ -96,7 +96,7 @@ impl<F: Fn(Global, &mut Cursor<'_>, usize) -> Result<ExprTree, Halt>> Reader<F> 
     /// An expression one level deeper.
     pub(crate) fn inner(&self, tokens: &mut Cursor<'_>) -> Result<ExprTree, Halt>
         requires { Nests self.now.levels (F.pre self.now.expr) (F.post self.now.expr) }
-        ensures { Gives (spec.expr self.now.levels tokens.old.rest.now) result tokens.new.rest.now }
+        ensures { ParsesTo (spec.expr self.now.levels tokens.old.rest.now) result tokens.new.rest.now }
     {
         (self.expr)(self.alloc, tokens, self.levels)
     }
@@ -104,28 +104,28 @@ impl<F: Fn(Global, &mut Cursor<'_>, usize) -> Result<ExprTree, Halt>> Reader<F> 
     #[tactic(auto, unfolding(crate::specs::ExpressionReading::next_argument))]
     fn next_argument(&self, tokens: &mut Cursor<'_>) -> Result<ExprTree, Halt>
         requires { Nests self.now.levels (F.pre self.now.expr) (F.post self.now.expr) }
-        ensures { Gives (spec.next_argument (is_positive self.now.levels) (spec.expr self.now.levels)
+        ensures { ParsesTo (spec.next_argument (is_positive self.now.levels) (spec.expr self.now.levels)
             tokens.old.rest.now)
             result tokens.new.rest.now }
     {
-        tokens.take(Kind::Comma)?;
+        tokens.take(TokenKind::Comma)?;
         self.inner(tokens)
     }
 
-    fn arguments_behind(
+    fn rest_of_arguments(
         &self,
         tokens: &mut Cursor<'_>,
         first: ExprTree,
     ) -> Result<Items<ExprTree>, Halt>
         requires { Nests self.now.levels (F.pre self.now.expr) (F.post self.now.expr) }
-        ensures { Gives (spec.arguments_behind (is_positive self.now.levels) (spec.expr self.now.levels)
+        ensures { ParsesTo (spec.rest_of_arguments (is_positive self.now.levels) (spec.expr self.now.levels)
             first tokens.old.rest.now)
             result tokens.new.rest.now }
     {
         let mut found = Items::new(self.alloc);
         found.push(first)?;
         for _turn in 0..tokens.left() {
-            if !tokens.sees(Kind::Comma) {
+            if !tokens.sees(TokenKind::Comma) {
                 return Ok(found);
             }
             let next = self.next_argument(tokens)?;
@@ -138,26 +138,27 @@ impl<F: Fn(Global, &mut Cursor<'_>, usize) -> Result<ExprTree, Halt>> Reader<F> 
     #[tactic(auto, unfolding(crate::specs::ExpressionReading::arguments))]
     fn arguments(&self, tokens: &mut Cursor<'_>) -> Result<Items<ExprTree>, Halt>
         requires { Nests self.now.levels (F.pre self.now.expr) (F.post self.now.expr) }
-        ensures { Gives (spec.arguments (is_positive self.now.levels) (spec.expr self.now.levels) tokens.old.rest.now)
+        ensures { ParsesTo (spec.arguments (is_positive self.now.levels)
+            (spec.expr self.now.levels) tokens.old.rest.now)
             result tokens.new.rest.now }
     {
         if !tokens.sees_one_of(TokenSet::ExpressionStarts) {
             return Ok(Items::new(self.alloc));
         }
         let first = self.inner(tokens)?;
-        self.arguments_behind(tokens, first)
+        self.rest_of_arguments(tokens, first)
     }
 
     /// "(" Arguments ")"
     #[tactic(auto, unfolding(crate::specs::ExpressionReading::called))]
     pub(crate) fn called(&self, tokens: &mut Cursor<'_>) -> Result<Items<ExprTree>, Halt>
         requires { Nests self.now.levels (F.pre self.now.expr) (F.post self.now.expr) }
-        ensures { Gives (spec.called (is_positive self.now.levels) (spec.expr self.now.levels) tokens.old.rest.now)
+        ensures { ParsesTo (spec.called (is_positive self.now.levels) (spec.expr self.now.levels) tokens.old.rest.now)
             result tokens.new.rest.now }
     {
-        tokens.take(Kind::LParen)?;
+        tokens.take(TokenKind::LParen)?;
         let found = self.arguments(tokens)?;
-        tokens.take(Kind::RParen)?;
+        tokens.take(TokenKind::RParen)?;
         Ok(found)
     }
 
@@ -165,11 +166,11 @@ impl<F: Fn(Global, &mut Cursor<'_>, usize) -> Result<ExprTree, Halt>> Reader<F> 
     #[tactic(auto, unfolding(crate::specs::ExpressionReading::entry))]
     fn entry(&self, tokens: &mut Cursor<'_>) -> Result<Entry<ExprTree>, Halt>
         requires { Nests self.now.levels (F.pre self.now.expr) (F.post self.now.expr) }
-        ensures { Gives (spec.entry (is_positive self.now.levels) (spec.expr self.now.levels) tokens.old.rest.now)
+        ensures { ParsesTo (spec.entry (is_positive self.now.levels) (spec.expr self.now.levels) tokens.old.rest.now)
             result tokens.new.rest.now }
     {
         let key = key(tokens)?;
-        tokens.take(Kind::Colon)?;
+        tokens.take(TokenKind::Colon)?;
         let value = self.inner(tokens)?;
         Ok(Entry { key, value })
     }
@@ -177,27 +178,28 @@ impl<F: Fn(Global, &mut Cursor<'_>, usize) -> Result<ExprTree, Halt>> Reader<F> 
     #[tactic(auto, unfolding(crate::specs::ExpressionReading::next_entry))]
     fn next_entry(&self, tokens: &mut Cursor<'_>) -> Result<Entry<ExprTree>, Halt>
         requires { Nests self.now.levels (F.pre self.now.expr) (F.post self.now.expr) }
-        ensures { Gives (spec.next_entry (is_positive self.now.levels) (spec.expr self.now.levels) tokens.old.rest.now)
+        ensures { ParsesTo (spec.next_entry (is_positive self.now.levels)
+            (spec.expr self.now.levels) tokens.old.rest.now)
             result tokens.new.rest.now }
     {
-        tokens.take(Kind::Comma)?;
+        tokens.take(TokenKind::Comma)?;
         self.entry(tokens)
     }
 
-    fn entries_behind(
+    fn rest_of_entries(
         &self,
         tokens: &mut Cursor<'_>,
         first: Entry<ExprTree>,
     ) -> Result<Items<Entry<ExprTree>>, Halt>
         requires { Nests self.now.levels (F.pre self.now.expr) (F.post self.now.expr) }
-        ensures { Gives (spec.entries_behind (is_positive self.now.levels) (spec.expr self.now.levels)
+        ensures { ParsesTo (spec.rest_of_entries (is_positive self.now.levels) (spec.expr self.now.levels)
             first tokens.old.rest.now)
             result tokens.new.rest.now }
     {
         let mut found = Items::new(self.alloc);
         found.push(first)?;
         for _turn in 0..tokens.left() {
-            if !tokens.sees(Kind::Comma) {
+            if !tokens.sees(TokenKind::Comma) {
                 return Ok(found);
             }
             let next = self.next_entry(tokens)?;
@@ -210,20 +212,20 @@ impl<F: Fn(Global, &mut Cursor<'_>, usize) -> Result<ExprTree, Halt>> Reader<F> 
     #[tactic(auto, unfolding(crate::specs::ExpressionReading::entries))]
     fn entries(&self, tokens: &mut Cursor<'_>) -> Result<Items<Entry<ExprTree>>, Halt>
         requires { Nests self.now.levels (F.pre self.now.expr) (F.post self.now.expr) }
-        ensures { Gives (spec.entries (is_positive self.now.levels) (spec.expr self.now.levels) tokens.old.rest.now)
+        ensures { ParsesTo (spec.entries (is_positive self.now.levels) (spec.expr self.now.levels) tokens.old.rest.now)
             result tokens.new.rest.now }
     {
         if !tokens.sees_one_of(TokenSet::Keys) {
             return Ok(Items::new(self.alloc));
         }
         let first = self.entry(tokens)?;
-        self.entries_behind(tokens, first)
+        self.rest_of_entries(tokens, first)
     }
 
     #[tactic(auto, unfolding(crate::specs::ExpressionReading::call_of))]
     fn call_of(&self, tokens: &mut Cursor<'_>, path: PathTree) -> Result<ExprTree, Halt>
         requires { Nests self.now.levels (F.pre self.now.expr) (F.post self.now.expr) }
-        ensures { Gives (spec.call_of (is_positive self.now.levels) (spec.expr self.now.levels) path
+        ensures { ParsesTo (spec.call_of (is_positive self.now.levels) (spec.expr self.now.levels) path
             tokens.old.rest.now)
             result tokens.new.rest.now }
     {
@@ -234,11 +236,11 @@ impl<F: Fn(Global, &mut Cursor<'_>, usize) -> Result<ExprTree, Halt>> Reader<F> 
     #[tactic(auto, unfolding(crate::specs::ExpressionReading::call_or_variable))]
     fn call_or_variable(&self, tokens: &mut Cursor<'_>, path: PathTree) -> Result<ExprTree, Halt>
         requires { Nests self.now.levels (F.pre self.now.expr) (F.post self.now.expr) }
-        ensures { Gives (spec.call_or_variable (is_positive self.now.levels) (spec.expr self.now.levels)
+        ensures { ParsesTo (spec.call_or_variable (is_positive self.now.levels) (spec.expr self.now.levels)
             path tokens.old.rest.now)
             result tokens.new.rest.now }
     {
-        if !tokens.sees(Kind::LParen) {
+        if !tokens.sees(TokenKind::LParen) {
             return alone(tokens, path);
         }
         if self.levels == 0 {
@@ -247,14 +249,14 @@ impl<F: Fn(Global, &mut Cursor<'_>, usize) -> Result<ExprTree, Halt>> Reader<F> 
         self.call_of(tokens, path)
     }
 
-    #[tactic(auto, unfolding(crate::specs::ExpressionReading::named_behind))]
-    fn named_behind(&self, tokens: &mut Cursor<'_>, first: Token) -> Result<ExprTree, Halt>
+    #[tactic(auto, unfolding(crate::specs::ExpressionReading::rest_of_named))]
+    fn rest_of_named(&self, tokens: &mut Cursor<'_>, first: Token) -> Result<ExprTree, Halt>
         requires { Nests self.now.levels (F.pre self.now.expr) (F.post self.now.expr) }
-        ensures { Gives (spec.named_behind (is_positive self.now.levels) (spec.expr self.now.levels)
+        ensures { ParsesTo (spec.rest_of_named (is_positive self.now.levels) (spec.expr self.now.levels)
             first tokens.old.rest.now)
             result tokens.new.rest.now }
     {
-        match name_behind(self.alloc, tokens, first)? {
+        match rest_of_name(self.alloc, tokens, first)? {
             Name::Uid(uid) => Ok(ExprTree::Uid(uid)),
             Name::Path(path) => self.call_or_variable(tokens, path),
         }
@@ -264,24 +266,24 @@ impl<F: Fn(Global, &mut Cursor<'_>, usize) -> Result<ExprTree, Halt>> Reader<F> 
     #[tactic(auto, unfolding(crate::specs::ExpressionReading::named))]
     fn named(&self, tokens: &mut Cursor<'_>) -> Result<ExprTree, Halt>
         requires { Nests self.now.levels (F.pre self.now.expr) (F.post self.now.expr) }
-        ensures { Gives (spec.named (is_positive self.now.levels) (spec.expr self.now.levels) tokens.old.rest.now)
+        ensures { ParsesTo (spec.named (is_positive self.now.levels) (spec.expr self.now.levels) tokens.old.rest.now)
             result tokens.new.rest.now }
     {
         let first = tokens.take_one_of(NameSet::Identifiers)?;
-        self.named_behind(tokens, first)
+        self.rest_of_named(tokens, first)
     }
 
     /// "(" Expr ")"
     #[tactic(auto, unfolding(crate::specs::ExpressionReading::parenthesized))]
     fn parenthesized(&self, tokens: &mut Cursor<'_>) -> Result<ExprTree, Halt>
         requires { Nests self.now.levels (F.pre self.now.expr) (F.post self.now.expr) }
-        ensures { Gives (spec.parenthesized (is_positive self.now.levels) (spec.expr self.now.levels)
+        ensures { ParsesTo (spec.parenthesized (is_positive self.now.levels) (spec.expr self.now.levels)
             tokens.old.rest.now)
             result tokens.new.rest.now }
     {
-        tokens.take(Kind::LParen)?;
+        tokens.take(TokenKind::LParen)?;
         let x = self.inner(tokens)?;
-        let (x, _closed) = beside(x, tokens.take(Kind::RParen))?;
+        let (x, _closed) = beside(x, tokens.take(TokenKind::RParen))?;
         let x = Boxed::new(self.alloc, x)?;
         Ok(ExprTree::Parentheses(x))
     }
@@ -290,12 +292,12 @@ impl<F: Fn(Global, &mut Cursor<'_>, usize) -> Result<ExprTree, Halt>> Reader<F> 
     #[tactic(auto, unfolding(crate::specs::ExpressionReading::set))]
     fn set(&self, tokens: &mut Cursor<'_>) -> Result<ExprTree, Halt>
         requires { Nests self.now.levels (F.pre self.now.expr) (F.post self.now.expr) }
-        ensures { Gives (spec.set (is_positive self.now.levels) (spec.expr self.now.levels) tokens.old.rest.now)
+        ensures { ParsesTo (spec.set (is_positive self.now.levels) (spec.expr self.now.levels) tokens.old.rest.now)
             result tokens.new.rest.now }
     {
-        tokens.take(Kind::LBracket)?;
+        tokens.take(TokenKind::LBracket)?;
         let found = self.arguments(tokens)?;
-        tokens.take(Kind::RBracket)?;
+        tokens.take(TokenKind::RBracket)?;
         Ok(ExprTree::Set(found))
     }
 
@@ -303,25 +305,25 @@ impl<F: Fn(Global, &mut Cursor<'_>, usize) -> Result<ExprTree, Halt>> Reader<F> 
     #[tactic(auto, unfolding(crate::specs::ExpressionReading::braced))]
     fn braced(&self, tokens: &mut Cursor<'_>) -> Result<ExprTree, Halt>
         requires { Nests self.now.levels (F.pre self.now.expr) (F.post self.now.expr) }
-        ensures { Gives (spec.braced (is_positive self.now.levels) (spec.expr self.now.levels) tokens.old.rest.now)
+        ensures { ParsesTo (spec.braced (is_positive self.now.levels) (spec.expr self.now.levels) tokens.old.rest.now)
             result tokens.new.rest.now }
     {
-        tokens.take(Kind::LBrace)?;
+        tokens.take(TokenKind::LBrace)?;
         let found = self.entries(tokens)?;
-        tokens.take(Kind::RBrace)?;
+        tokens.take(TokenKind::RBrace)?;
         Ok(ExprTree::Record(found))
     }
 
     #[tactic(auto, unfolding(crate::specs::ExpressionReading::nested))]
     fn nested(&self, tokens: &mut Cursor<'_>) -> Result<ExprTree, Halt>
         requires { Nests self.now.levels (F.pre self.now.expr) (F.post self.now.expr) }
-        ensures { Gives (spec.nested (is_positive self.now.levels) (spec.expr self.now.levels) tokens.old.rest.now)
+        ensures { ParsesTo (spec.nested (is_positive self.now.levels) (spec.expr self.now.levels) tokens.old.rest.now)
             result tokens.new.rest.now }
     {
-        if tokens.sees(Kind::LParen) {
+        if tokens.sees(TokenKind::LParen) {
             return self.parenthesized(tokens);
         }
-        if tokens.sees(Kind::LBracket) {
+        if tokens.sees(TokenKind::LBracket) {
             return self.set(tokens);
         }
         self.braced(tokens)
@@ -331,7 +333,7 @@ impl<F: Fn(Global, &mut Cursor<'_>, usize) -> Result<ExprTree, Halt>> Reader<F> 
     #[tactic(auto, unfolding(crate::specs::ExpressionReading::primary))]
     pub(crate) fn primary(&self, tokens: &mut Cursor<'_>) -> Result<ExprTree, Halt>
         requires { Nests self.now.levels (F.pre self.now.expr) (F.post self.now.expr) }
-        ensures { Gives (spec.primary (is_positive self.now.levels) (spec.expr self.now.levels) tokens.old.rest.now)
+        ensures { ParsesTo (spec.primary (is_positive self.now.levels) (spec.expr self.now.levels) tokens.old.rest.now)
             result tokens.new.rest.now }
     {
         if tokens.sees_one_of(NameSet::Identifiers) {

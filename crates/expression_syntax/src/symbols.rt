@@ -1,32 +1,32 @@
 //! Tokens that stand for something by their kind alone.
 
 ghost use Rattle.std.specs.Prelude.{◌≡◌, IfErr, Option};
-ghost use Rattle.policy_tokens.specs.declared.token.Kind as kinds;
-ghost use Rattle.token_readers.specs.Gives.{Gives};
+ghost use Rattle.policy_tokens.specs.declared.token.TokenKind as kinds;
+ghost use Rattle.token_readers.specs.ParsesTo.{ParsesTo};
 ghost use Rattle.token_readers.specs.declared.fault.Halt.TheVariants as halt;
 ghost use Rattle.expression_syntax.specs.Expressions.{boolean_of, variable_of, sign_of, comparison_of};
 ghost use Rattle.expression_syntax.specs.ExpressionReading as spec;
 
 use expression_trees::{Comparison, Sign, Variable};
-use policy_tokens::Kind;
+use policy_tokens::TokenKind;
 use token_readers::{Cursor, Halt};
 
-/// What tokens of some kinds stand for.
-pub(crate) trait Symbol: Copy {
-    ghost meaning: { kinds.Kind → Option Self };
+/// What tokens of some kinds stand for, each by its kind alone.
+pub trait Symbol: Copy {
+    ghost meaning: { kinds.TokenKind → Option Self };
 
     /// What a token of this kind stands for, where it stands for something.
-    fn of(kind: Kind) -> Option<Self>
+    fn of(kind: TokenKind) -> Option<Self>
         ensures { result ≡ meaning kind };
 }
 
 impl Symbol for bool {
     ghost meaning = { boolean_of };
 
-    fn of(kind: Kind) -> Option<bool> {
+    fn of(kind: TokenKind) -> Option<bool> {
         match kind {
-            Kind::True => Some(true),
-            Kind::False => Some(false),
+            TokenKind::True => Some(true),
+            TokenKind::False => Some(false),
             _ => None,
         }
     }
@@ -35,12 +35,12 @@ impl Symbol for bool {
 impl Symbol for Variable {
     ghost meaning = { variable_of };
 
-    fn of(kind: Kind) -> Option<Variable> {
+    fn of(kind: TokenKind) -> Option<Variable> {
         match kind {
-            Kind::Principal => Some(Variable::Principal),
-            Kind::Action => Some(Variable::Action),
-            Kind::Resource => Some(Variable::Resource),
-            Kind::Context => Some(Variable::Context),
+            TokenKind::Principal => Some(Variable::Principal),
+            TokenKind::Action => Some(Variable::Action),
+            TokenKind::Resource => Some(Variable::Resource),
+            TokenKind::Context => Some(Variable::Context),
             _ => None,
         }
     }
@@ -49,10 +49,10 @@ impl Symbol for Variable {
 impl Symbol for Sign {
     ghost meaning = { sign_of };
 
-    fn of(kind: Kind) -> Option<Sign> {
+    fn of(kind: TokenKind) -> Option<Sign> {
         match kind {
-            Kind::Plus => Some(Sign::Plus),
-            Kind::Minus => Some(Sign::Minus),
+            TokenKind::Plus => Some(Sign::Plus),
+            TokenKind::Minus => Some(Sign::Minus),
             _ => None,
         }
     }
@@ -61,15 +61,15 @@ impl Symbol for Sign {
 impl Symbol for Comparison {
     ghost meaning = { comparison_of };
 
-    fn of(kind: Kind) -> Option<Comparison> {
+    fn of(kind: TokenKind) -> Option<Comparison> {
         match kind {
-            Kind::Less => Some(Comparison::Less),
-            Kind::LessEqual => Some(Comparison::LessOrEqual),
-            Kind::Greater => Some(Comparison::Greater),
-            Kind::GreaterEqual => Some(Comparison::GreaterOrEqual),
-            Kind::Equal => Some(Comparison::Equal),
-            Kind::NotEqual => Some(Comparison::NotEqual),
-            Kind::In => Some(Comparison::In),
+            TokenKind::Less => Some(Comparison::Less),
+            TokenKind::LessEqual => Some(Comparison::LessOrEqual),
+            TokenKind::Greater => Some(Comparison::Greater),
+            TokenKind::GreaterEqual => Some(Comparison::GreaterOrEqual),
+            TokenKind::Equal => Some(Comparison::Equal),
+            TokenKind::NotEqual => Some(Comparison::NotEqual),
+            TokenKind::In => Some(Comparison::In),
             _ => None,
         }
     }
@@ -77,8 +77,8 @@ impl Symbol for Comparison {
 
 /// What the next token stands for, which has to be something of this type; else none is taken.
 #[tactic(auto, unfolding(crate::specs::ExpressionReading::symbol))]
-pub(crate) fn take_symbol<S: Symbol>(tokens: &mut Cursor<'_>) -> Result<S, Halt>
-    ensures reads { Gives (spec.symbol S.meaning tokens.old.rest.now) result tokens.new.rest.now }
+pub fn take_symbol<S: Symbol>(tokens: &mut Cursor<'_>) -> Result<S, Halt>
+    ensures reads { ParsesTo (spec.symbol S.meaning tokens.old.rest.now) result tokens.new.rest.now }
     ensures only { IfErr result (λ why. why ≡ halt.Unexpected) }
 {
     let [token, rest @ ..] = tokens.rest else {

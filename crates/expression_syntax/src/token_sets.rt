@@ -1,7 +1,7 @@
 //! The kinds of tokens that readers of expressions ask for.
 ghost use Rattle.expression_syntax.specs.inner.Included.{included as of_expressions};
 
-use policy_tokens::Kind;
+use policy_tokens::TokenKind;
 use token_readers::KindSet;
 
 /// What readers of expressions ask for.
@@ -28,38 +28,41 @@ pub(crate) enum TokenSet {
 impl KindSet for TokenSet {
     ghost included = { of_expressions };
 
-    fn includes(self, kind: Kind) -> bool {
+    fn includes(self, kind: TokenKind) -> bool {
         match self {
-            TokenSet::Booleans => matches!(kind, Kind::True | Kind::False),
+            TokenSet::Booleans => matches!(kind, TokenKind::True | TokenKind::False),
             TokenSet::Keys => match kind {
-                Kind::Text => true,
+                TokenKind::Text => true,
                 _ => kind.is_ident(),
             },
-            TokenSet::Patterns => matches!(kind, Kind::Text | Kind::StarText),
-            TokenSet::Signs => matches!(kind, Kind::Plus | Kind::Minus),
+            TokenSet::Patterns => matches!(kind, TokenKind::Text | TokenKind::StarText),
+            TokenSet::Signs => matches!(kind, TokenKind::Plus | TokenKind::Minus),
             TokenSet::Comparisons => matches!(
                 kind,
-                Kind::Less
-                    | Kind::LessEqual
-                    | Kind::Greater
-                    | Kind::GreaterEqual
-                    | Kind::Equal
-                    | Kind::NotEqual
-                    | Kind::In
+                TokenKind::Less
+                    | TokenKind::LessEqual
+                    | TokenKind::Greater
+                    | TokenKind::GreaterEqual
+                    | TokenKind::Equal
+                    | TokenKind::NotEqual
+                    | TokenKind::In
             ),
-            TokenSet::Openers => matches!(kind, Kind::LParen | Kind::LBracket | Kind::LBrace),
-            TokenSet::AccessStarts => matches!(kind, Kind::Dot | Kind::LBracket),
+            TokenSet::Openers => matches!(
+                kind,
+                TokenKind::LParen | TokenKind::LBracket | TokenKind::LBrace
+            ),
+            TokenSet::AccessStarts => matches!(kind, TokenKind::Dot | TokenKind::LBracket),
             TokenSet::ExpressionStarts => match kind {
-                Kind::Number
-                | Kind::Text
-                | Kind::True
-                | Kind::False
-                | Kind::LParen
-                | Kind::LBracket
-                | Kind::LBrace
-                | Kind::Not
-                | Kind::Minus
-                | Kind::If => true,
+                TokenKind::Number
+                | TokenKind::Text
+                | TokenKind::True
+                | TokenKind::False
+                | TokenKind::LParen
+                | TokenKind::LBracket
+                | TokenKind::LBrace
+                | TokenKind::Not
+                | TokenKind::Minus
+                | TokenKind::If => true,
                 _ => kind.is_ident(),
             },
         }

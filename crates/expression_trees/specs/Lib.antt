@@ -1,3 +1,3 @@
 pub mod Parts
 pub mod Patterns
-pub mod Stands
+pub mod WellFormed

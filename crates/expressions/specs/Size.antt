@@ -62,6 +62,13 @@ forms = fold-Expr ℕ forms_step
 abbrev pub capped : ℕ → ℕ
 capped n = min n 4294967295
 
--- What a policy's expression may be at most.
+-- What a policy's expression may be at most: a rule of this product. `1 == 2` has height 2 and three forms, and each
+-- further `!` before it adds one to both: a thousand high at most, and a million forms in all.
+abbrev pub most_height : ℕ
+most_height = 1_000
+
+abbrev pub most_forms : ℕ
+most_forms = 1_000_000
+
 abbrev pub IsSmall : Expr → Type 0
-IsSmall expr = (height expr ≤ 1000) × (forms expr ≤ 1000000)
+IsSmall expr = (height expr ≤ most_height) × (forms expr ≤ most_forms)

@@ -1,5 +1,6 @@
 -- How it is decided whether a text is a decimal's, or an IP address's, and of which, and whether a range lies in
 -- another. None of it has to be believed: what each decides is its type.
+use Prim.Native.Char.{code}
 use Rattle.std.specs.Prelude.{◌≡◌, ◌⊎◌, ℕ, zero, suc, pos, ℤ, neg_ℤ, ◌+◌, ◌-◌, ◌*◌, ◌^◌, ◌<◌, ◌≤◌, List, [], ◌∷◌, ◌++◌}
 use Rattle.std.specs.Prelude.{length, replicate, codes, FitsSigned, refl}
 use Rattle.std.proofs.Common.{inl, inr, ap, arith, sym, subst, ◌∙◌, append_assoc}
@@ -63,8 +64,8 @@ unsigned_decided : (Q : ℕ → Type 0) → ((n : ℕ) → Decided (Q n)) → (t
     → Decided ((n : ℕ) × IsUnsignedText text n × Q n)
 unfolding Digits value_of
 unsigned_decided Q d text = decided_as there back
-    (parted_decided (λ whole b. (fraction : List ℕ) × (b ≡ 46 ∷ fraction) × Digits Q whole fraction)
-    (λ whole b. behind_decided 46 (Digits Q whole) (λ fraction. digits whole fraction) b) text)
+    (parted_decided (λ whole b. (fraction : List ℕ) × (b ≡ code "." ∷ fraction) × Digits Q whole fraction)
+    (λ whole b. behind_decided (code ".") (Digits Q whole) (λ fraction. digits whole fraction) b) text)
   where
     digits : (whole fraction : List ℕ) → Decided (Digits Q whole fraction)
     digits whole fraction = decided_as
@@ -75,14 +76,15 @@ unsigned_decided Q d text = decided_as there back
         (both_decided (short_decided fraction) (d (value_of whole fraction)))))
 
     there : ((whole b : List ℕ) × (text ≡ whole ++ b)
-        × ((fraction : List ℕ) × (b ≡ 46 ∷ fraction) × Digits Q whole fraction)) → (n : ℕ) × IsUnsignedText text n × Q n
+        × ((fraction : List ℕ) × (b ≡ code "." ∷ fraction) × Digits Q whole fraction)) → (n : ℕ)
+        × IsUnsignedText text n × Q n
     there (whole, b, e, (fraction, f, (w, g, short, q))) = (
       value_of whole fraction,
       record {
         whole = whole;
         fraction = fraction;
         spelled =
-            e ∙ ap (λ (xs : List ℕ). whole ++ xs) f ∙ sym (append_assoc whole (46 ∷ []) fraction);
+            e ∙ ap (λ (xs : List ℕ). whole ++ xs) f ∙ sym (append_assoc whole (code "." ∷ []) fraction);
         whole_digits =
             w;
         fraction_digits = g;
@@ -94,11 +96,11 @@ unsigned_decided Q d text = decided_as there back
     )
 
     back : ((n : ℕ) × IsUnsignedText text n × Q n) → (whole b : List ℕ) × (text ≡ whole ++ b)
-        × ((fraction : List ℕ) × (b ≡ 46 ∷ fraction) × Digits Q whole fraction)
+        × ((fraction : List ℕ) × (b ≡ code "." ∷ fraction) × Digits Q whole fraction)
     back (n, t, q) = (
       t.whole,
-      46 ∷ t.fraction,
-      t.spelled ∙ append_assoc t.whole (46 ∷ []) t.fraction,
+      code "." ∷ t.fraction,
+      t.spelled ∙ append_assoc t.whole (code "." ∷ []) t.fraction,
       (
         t.fraction,
         refl,
@@ -115,7 +117,8 @@ Plain : List ℕ → Type 0
 Plain text = (n : ℕ) × IsUnsignedText text n × FitsSigned w64 (pos n)
 
 Minus : List ℕ → Type 0
-Minus text = (rest : List ℕ) × (text ≡ 45 ∷ rest) × ((n : ℕ) × IsUnsignedText rest n × FitsSigned w64 (neg_ℤ (pos n)))
+Minus text = (rest : List ℕ) × (text ≡ code "-" ∷ rest)
+    × ((n : ℕ) × IsUnsignedText rest n × FitsSigned w64 (neg_ℤ (pos n)))
 
 signed_cases : (text : List ℕ) (z : ℤ) → IsSignedText text z → FitsSigned w64 z → Plain text ⊎ Minus text
 unfolding Plain Minus
@@ -136,7 +139,7 @@ decimal_text_decided text = decided_as
     (λ h. signed_cases text h.0 h.1.0 h.1.1)
     (either_decided
     (unsigned_decided (λ n. FitsSigned w64 (pos n)) (λ n. fits_decided (pos n)) text)
-    (behind_decided 45 (λ rest. (n : ℕ) × IsUnsignedText rest n × FitsSigned w64 (neg_ℤ (pos n)))
+    (behind_decided (code "-") (λ rest. (n : ℕ) × IsUnsignedText rest n × FitsSigned w64 (neg_ℤ (pos n)))
     (λ rest. unsigned_decided (λ n. FitsSigned w64 (neg_ℤ (pos n))) (λ n. fits_decided (neg_ℤ (pos n))) rest) text))
 
 -- ---- IPv4 addresses
@@ -194,30 +197,32 @@ groups_decided (suc zero) text = decided_as (λ h. (h.0 ∷ [], h.1, refl)) back
     back (n ∷ [], g, l) = (n, g)
     back (n ∷ m ∷ more, g, l) = absurd (omega arith)
 groups_decided (suc (suc k)) text = decided_as there back
-    (parted_decided (λ group b. ((n : ℕ) × IsGroup group n) × ((rest : List ℕ) × (b ≡ 58 ∷ rest) × Groups (suc k) rest))
-    (λ group b. both_decided (group_decided group) (behind_decided 58 (Groups (suc k)) (groups_decided (suc k)) b))
+    (parted_decided (λ group b. ((n : ℕ) × IsGroup group n)
+    × ((rest : List ℕ) × (b ≡ code ":" ∷ rest) × Groups (suc k) rest))
+    (λ group b. both_decided (group_decided group)
+    (behind_decided (code ":") (Groups (suc k)) (groups_decided (suc k)) b))
     text)
   where
-    joined : (group rest : List ℕ) (n : ℕ) (groups : List ℕ) → text ≡ group ++ (58 ∷ rest) → IsGroup group n
+    joined : (group rest : List ℕ) (n : ℕ) (groups : List ℕ) → text ≡ group ++ (code ":" ∷ rest) → IsGroup group n
         → AreGroups rest groups → length groups ≡ suc k → Groups (suc (suc k)) text
     joined group rest n [] e g more l = absurd (omega arith)
     joined group rest n (m ∷ others) e g more l =
-        (n ∷ m ∷ others, (group, rest, e ∙ sym (append_assoc group (58 ∷ []) rest), g, more), ap suc l)
+        (n ∷ m ∷ others, (group, rest, e ∙ sym (append_assoc group (code ":" ∷ []) rest), g, more), ap suc l)
 
     there : ((group b : List ℕ) × (text ≡ group ++ b)
-        × (((n : ℕ) × IsGroup group n) × ((rest : List ℕ) × (b ≡ 58 ∷ rest) × Groups (suc k) rest)))
+        × (((n : ℕ) × IsGroup group n) × ((rest : List ℕ) × (b ≡ code ":" ∷ rest) × Groups (suc k) rest)))
         → Groups (suc (suc k)) text
     there (group, b, e, ((n, g), (rest, f, (groups, more, l)))) =
         joined group rest n groups (e ∙ ap (λ (xs : List ℕ). group ++ xs) f) g more l
 
     back : Groups (suc (suc k)) text → (group b : List ℕ) × (text ≡ group ++ b)
-        × (((n : ℕ) × IsGroup group n) × ((rest : List ℕ) × (b ≡ 58 ∷ rest) × Groups (suc k) rest))
+        × (((n : ℕ) × IsGroup group n) × ((rest : List ℕ) × (b ≡ code ":" ∷ rest) × Groups (suc k) rest))
     back ([], g, l) = absurd (omega arith)
     back (n ∷ [], g, l) = absurd (omega arith)
     back (n ∷ m ∷ others, (group, rest, e, g, more), l) = (
       group,
-      58 ∷ rest,
-      e ∙ append_assoc group (58 ∷ []) rest,
+      code ":" ∷ rest,
+      e ∙ append_assoc group (code ":" ∷ []) rest,
       ((n, g), (rest, refl, (m ∷ others, more, omega (arith, l)))),
     )
 
@@ -240,14 +245,15 @@ sides_decided head tail =
 
 Cut : List ℕ → Type 0
 Cut text = (head b : List ℕ) × (text ≡ head ++ b)
-    × ((c : List ℕ) × (b ≡ 58 ∷ c) × ((tail : List ℕ) × (c ≡ 58 ∷ tail) × Sides head tail))
+    × ((c : List ℕ) × (b ≡ code ":" ∷ c) × ((tail : List ℕ) × (c ≡ code ":" ∷ tail) × Sides head tail))
 
 cut_decided : (text : List ℕ) → Decided (Cut text)
 unfolding Cut
 cut_decided text =
-    parted_decided (λ head b. (c : List ℕ) × (b ≡ 58 ∷ c) × ((tail : List ℕ) × (c ≡ 58 ∷ tail) × Sides head tail))
-    (λ head b. behind_decided 58 (λ c. (tail : List ℕ) × (c ≡ 58 ∷ tail) × Sides head tail)
-    (λ c. behind_decided 58 (Sides head) (sides_decided head) c) b) text
+    parted_decided (λ head b. (c : List ℕ) × (b ≡ code ":" ∷ c)
+    × ((tail : List ℕ) × (c ≡ code ":" ∷ tail) × Sides head tail))
+    (λ head b. behind_decided (code ":") (λ c. (tail : List ℕ) × (c ≡ code ":" ∷ tail) × Sides head tail)
+    (λ c. behind_decided (code ":") (Sides head) (sides_decided head) c) b) text
 
 elided_decided : (text : List ℕ) → Decided ((groups : List ℕ) × IsElided text groups)
 unfolding Cut Sides Groups
@@ -261,8 +267,8 @@ elided_decided text = decided_as there back (cut_decided text)
         tail_text = tail_text;
         head = head;
         tail = tail;
-        spelled = e ∙ (ap (λ (xs : List ℕ). head_text ++ xs) (f ∙ ap (λ (xs : List ℕ). 58 ∷ xs) g)
-            ∙ sym (append_assoc head_text (58 ∷ 58 ∷ []) tail_text));
+        spelled = e ∙ (ap (λ (xs : List ℕ). head_text ++ xs) (f ∙ ap (λ (xs : List ℕ). code ":" ∷ xs) g)
+            ∙ sym (append_assoc head_text (code ":" ∷ code ":" ∷ []) tail_text));
         head_written = hw;
         tail_written = tw;
         room = omega (arith, room, hl, tl);
@@ -273,10 +279,10 @@ elided_decided text = decided_as there back (cut_decided text)
     back : ((groups : List ℕ) × IsElided text groups) → Cut text
     back (groups, t) = (
       t.head_text,
-      58 ∷ 58 ∷ t.tail_text,
-      t.spelled ∙ append_assoc t.head_text (58 ∷ 58 ∷ []) t.tail_text,
+      code ":" ∷ code ":" ∷ t.tail_text,
+      t.spelled ∙ append_assoc t.head_text (code ":" ∷ code ":" ∷ []) t.tail_text,
       (
-        58 ∷ t.tail_text,
+        code ":" ∷ t.tail_text,
         refl,
         (
           t.tail_text,

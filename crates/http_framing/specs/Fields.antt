@@ -1,4 +1,5 @@
 -- What the fields of a head say (RFC 9110, sections 5.1, 5.6.1, 7.6.1 and 8.6).
+use Prim.Native.Char.{code}
 use Rattle.std.specs.Prelude.{ℕ, Bool, ◌&&◌, List, [], ◌∷◌, ◌++◌, length, map, if◌then◌else◌, ◌==◌, nat_lt}
 use Rattle.std.specs.Prelude.{nat_le, codes, bytes_eq}
 use Rattle.std.specs.List.{list_all, list_any, flat_map}
@@ -33,7 +34,7 @@ announced most v =
 abbrev pub parts_after : List ℕ → List ℕ → List (List ℕ)
 parts_after front [] = front ∷ []
 parts_after front (b ∷ bytes) =
-    if b == 44 then front ∷ parts_after [] bytes else parts_after (front ++ b ∷ []) bytes
+    if b == code "," then front ∷ parts_after [] bytes else parts_after (front ++ b ∷ []) bytes
 
 -- the text is `close` in any case, blanks at its ends aside
 abbrev pub is_close_part : List ℕ → Bool

@@ -65,8 +65,8 @@ fn cut_reply_body(buf: &[u8], seen: &[u8], headers: &[HeaderSpan], head: &Respon
     }
 }
 
-/// What stands at the front of `buf`. `room` has a header for each byte that a head may have, so that a head of too many
-/// fields is seen whole.
+/// What stands at the front of `buf`. `room` has a header for each byte that a head may have, so that a head of too
+/// many fields is seen whole.
 pub fn cut_reply(buf: &[u8], room: &mut [HeaderSpan]) -> ReplyCut
     requires { MAX_HEAD ≤ length room.old }
     ensures { IsReplyCut buf.now result }

@@ -1,7 +1,7 @@
 //! Rows of replies that are fetched.
 use crate::texts::shown;
 use counted_devices::devices::{Sink, Source};
-use counted_devices::memory::{Fed, Kept, Plan};
+use counted_devices::memory::{MemoryReader, MemoryWriter, Plan};
 use http_streams::fetch::{FetchFault, fetch};
 use http_texts::request::Ask;
 use std::alloc::{AllocError, Global};
@@ -31,8 +31,8 @@ fn all() -> Plan<'static> {
 
 /// Fetches from a peer that gives these bytes.
 fn run(alloc: Global, bytes: &[u8], reads: Plan<'_>, writes: Plan<'_>) -> Fetched {
-    let mut reader = Fed::new(bytes, reads);
-    let mut writer = Kept::new(alloc, writes);
+    let mut reader = MemoryReader::new(bytes, reads);
+    let mut writer = MemoryWriter::new(alloc, writes);
     let reply = fetch(alloc, &mut reader, &mut writer, &ASK);
     let left = reader.left().len();
     let failures = reader.failures().saturating_add(writer.failures());
@@ -118,8 +118,8 @@ pub(crate) fn broken(alloc: Global, bytes: &[u8]) -> Result<String, AllocError> 
 
 /// What is sent where a body is sent, in pieces of 3 bytes.
 pub(crate) fn asked(alloc: Global, body: &[u8]) -> Result<String, AllocError> {
-    let mut reader = Fed::new(b"", Plan::new(&[], None));
-    let mut writer = Kept::new(alloc, Plan::new(&[3], None));
+    let mut reader = MemoryReader::new(b"", Plan::new(&[], None));
+    let mut writer = MemoryWriter::new(alloc, Plan::new(&[3], None));
     let ask = Ask {
         method: b"POST",
         host: b"127.0.0.1:7000",

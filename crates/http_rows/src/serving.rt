@@ -5,7 +5,7 @@ ghost use Rattle.http_rows.specs.Counts.{asked_alike, counts};
 
 use crate::texts::shown;
 use counted_devices::devices::{Sink, Source};
-use counted_devices::memory::{Fed, Kept, Plan};
+use counted_devices::memory::{MemoryReader, MemoryWriter, Plan};
 use http_streams::laws::one_answer;
 use http_streams::serve::{StreamFault, serve};
 use http_streams::service::Service;
@@ -108,8 +108,8 @@ impl Outcome {
 /// Serves the bytes in this way.
 fn run(alloc: Global, bytes: &[u8], way: Way<'_>) -> Result<Outcome, AllocError> {
     let mut counter = Counter::new();
-    let mut reader = Fed::new(bytes, Plan::new(way.reads, way.bad_read));
-    let mut writer = Kept::new(alloc, Plan::new(way.writes, way.bad_write));
+    let mut reader = MemoryReader::new(bytes, Plan::new(way.reads, way.bad_read));
+    let mut writer = MemoryWriter::new(alloc, Plan::new(way.writes, way.bad_write));
     let fault = serve(alloc, &mut counter, &mut reader, &mut writer).err();
     let out = Vec::from_slice(alloc, writer.bytes())?;
     let left = reader.left().len();
@@ -371,8 +371,8 @@ pub(crate) fn many(alloc: Global, number: &str) -> Result<String, AllocError> {
         stream.extend_from_slice(REQUEST)?;
     }
     let mut counter = Counter::new();
-    let mut reader = Fed::new(stream.as_slice(), Plan::new(&[], None));
-    let mut writer = Kept::new(alloc, Plan::new(&[], None));
+    let mut reader = MemoryReader::new(stream.as_slice(), Plan::new(&[], None));
+    let mut writer = MemoryWriter::new(alloc, Plan::new(&[], None));
     let ended = serve(alloc, &mut counter, &mut reader, &mut writer).is_ok();
     let out = writer.bytes().len();
     let asked = counter.requests;

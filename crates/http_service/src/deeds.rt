@@ -13,10 +13,10 @@ ghost use Rattle.http_service.specs.inner.Dealing.{Deals};
 use http_texts::status::Status;
 use json_words::read_json;
 use plain::NoMemory;
-use policy_grammar::ReadFault;
+use policy_grammar::{MOST_ID_BYTES, MOST_POLICY_BYTES, ReadFault};
 use service_replies::{
-    Site, SiteFault, tell_answer, tell_fault, tell_found, tell_message, tell_put, tell_stamp,
-    tell_status, tell_taken,
+    Site, SiteFault, report_answer, report_fault, report_found, report_message, report_put,
+    report_stamp, report_status, report_taken,
 };
 use service_routes::{PolicyId, Route, route_of};
 use site_runs::{
@@ -36,7 +36,7 @@ fn authorize(alloc: Global, site: &Site, body: &[u8], text: &mut Vec<u8>) -> Sta
     ensures kept { vec_capacity text.old ≤ vec_capacity text.new }
 {
     let outcome = authorize_bytes(alloc, site, body);
-    tell_answer(alloc, text, &outcome)
+    report_answer(alloc, text, &outcome)
 }
 
 /// Answers with the text and the stamp of a policy.
@@ -46,7 +46,7 @@ fn get_policy(alloc: Global, site: &Site, id: &str, text: &mut Vec<u8>) -> Statu
     ensures kept { vec_capacity text.old ≤ vec_capacity text.new }
 {
     let found = site.get_policy(id);
-    tell_found(alloc, text, found)
+    report_found(alloc, text, found)
 }
 
 /// Answers with the state.
@@ -56,7 +56,7 @@ fn state(site: &Site, text: &mut Vec<u8>) -> Status
     ensures kept { vec_capacity text.old ≤ vec_capacity text.new }
 {
     let outcome = state_bytes(site);
-    tell_message(text, &outcome)
+    report_message(text, &outcome)
 }
 
 /// Answers with the summary.
@@ -66,7 +66,7 @@ fn summary(site: &Site, text: &mut Vec<u8>) -> Status
     ensures kept { vec_capacity text.old ≤ vec_capacity text.new }
 {
     let outcome = summary_bytes(site);
-    tell_message(text, &outcome)
+    report_message(text, &outcome)
 }
 
 /// Answers with what is news to whoever has the summary that a body is.
@@ -76,7 +76,7 @@ fn delta(alloc: Global, site: &Site, body: &[u8], text: &mut Vec<u8>) -> Status
     ensures kept { vec_capacity text.old ≤ vec_capacity text.new }
 {
     let outcome = delta_bytes(alloc, site, body);
-    tell_message(text, &outcome)
+    report_message(text, &outcome)
 }
 
 // ---- changes
@@ -95,10 +95,10 @@ fn text_of(body: &[u8]) -> Option<&str>
 fn not_text(id: &str, body: &[u8]) -> ReadFault
     ensures { result ≡ not_text id.now body.now }
 {
-    if id.is_empty() || 256 < id.len() {
+    if id.is_empty() || MOST_ID_BYTES < id.len() {
         return ReadFault::BadId;
     }
-    if body.len() <= 262_144 {
+    if body.len() <= MOST_POLICY_BYTES {
         ReadFault::BadToken(0)
     } else {
         ReadFault::TooLong
@@ -114,9 +114,9 @@ fn put_policy(site: &mut Site, id: &str, body: &[u8], text: &mut Vec<u8>) -> Sta
     match text_of(body) {
         Some(policy) => {
             let outcome = site.put_policy(id, policy);
-            tell_put(text, outcome)
+            report_put(text, outcome)
         }
-        None => tell_fault(text, SiteFault::Policy(not_text(id, body))),
+        None => report_fault(text, SiteFault::Policy(not_text(id, body))),
     }
 }
 
@@ -127,7 +127,7 @@ fn delete_policy(site: &mut Site, id: &str, text: &mut Vec<u8>) -> Status
     ensures kept { vec_capacity text.old ≤ vec_capacity text.new }
 {
     let outcome = site.delete_policy(id);
-    tell_stamp(text, outcome)
+    report_stamp(text, outcome)
 }
 
 /// Puts the entity that a body states.
@@ -137,7 +137,7 @@ fn put_entity(alloc: Global, site: &mut Site, body: &[u8], text: &mut Vec<u8>) -
     ensures kept { vec_capacity text.old ≤ vec_capacity text.new }
 {
     let outcome = put_entity_bytes(alloc, site, body);
-    tell_stamp(text, outcome)
+    report_stamp(text, outcome)
 }
 
 /// The entity that a body names, or None.
@@ -160,10 +160,10 @@ fn delete_entity(alloc: Global, site: &mut Site, body: &[u8], text: &mut Vec<u8>
     match named_entity(alloc, body) {
         Ok(Some(uid)) => {
             let outcome = site.delete_entity(&uid);
-            tell_stamp(text, outcome)
+            report_stamp(text, outcome)
         }
-        Ok(None) => tell_fault(text, SiteFault::Entity(EntityFault::BadShape)),
-        Err(_) => tell_fault(text, SiteFault::NoMemory),
+        Ok(None) => report_fault(text, SiteFault::Entity(EntityFault::BadShape)),
+        Err(_) => report_fault(text, SiteFault::NoMemory),
     }
 }
 
@@ -174,7 +174,7 @@ fn merge(alloc: Global, site: &mut Site, body: &[u8], text: &mut Vec<u8>) -> Sta
     ensures kept { vec_capacity text.old ≤ vec_capacity text.new }
 {
     let outcome = take_bytes(alloc, site, body);
-    tell_taken(text, outcome)
+    report_taken(text, outcome)
 }
 
 // ---- routes
@@ -199,7 +199,7 @@ fn answer_route(
         Route::PutPolicy(PolicyId::NotUtf8)
         | Route::GetPolicy(PolicyId::NotUtf8)
         | Route::DeletePolicy(PolicyId::NotUtf8) => {
-            tell_fault(text, SiteFault::Policy(ReadFault::BadId))
+            report_fault(text, SiteFault::Policy(ReadFault::BadId))
         }
         Route::PutEntity => put_entity(alloc, site, body, text),
         Route::DeleteEntity => delete_entity(alloc, site, body, text),
@@ -207,8 +207,8 @@ fn answer_route(
         Route::Summary => summary(site, text),
         Route::Delta => delta(alloc, site, body, text),
         Route::Merge => merge(alloc, site, body, text),
-        Route::Unknown => tell_status(text, Status::NotFound),
-        Route::OtherMethod => tell_status(text, Status::MethodNotAllowed),
+        Route::Unknown => report_status(text, Status::NotFound),
+        Route::OtherMethod => report_status(text, Status::MethodNotAllowed),
     }
 }
 
@@ -228,6 +228,6 @@ pub(crate) fn answer(
 {
     match route_of(alloc, method, target) {
         Ok(route) => answer_route(alloc, site, &route, body, text),
-        Err(_) => tell_fault(text, SiteFault::NoMemory),
+        Err(_) => report_fault(text, SiteFault::NoMemory),
     }
 }

@@ -5,7 +5,7 @@ use Rattle.std.proofs.Math.Seq.{split_at}
 use Rattle.serde_json.specs.Data.{Data}
 use Rattle.serde_json.specs.View.{view, items_view}
 use Rattle.serde_json.specs.declared.value.Value.{Value}
-use Rattle.json_words.specs.Gives.{◌>>=◌, Fails}
+use Rattle.json_words.specs.ReadsAs.{◌>>=◌, Fails}
 use Rattle.json_words.specs.Each.{each, list_of}
 
 pub list_of-items_view : (vs : List Value) → list_of (items_view vs) ≡ map view vs

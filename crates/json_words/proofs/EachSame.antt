@@ -1,7 +1,7 @@
 -- Loops over lists that contracts see as they are, and loops with a view on both sides.
 use Rattle.std.proofs.Common.{◌≡◌, ◌∙◌, ℕ, ◌+◌, ◌<◌, ◌≤◌, List, [], ◌∷◌, ◌++◌, map, length, take, drop, get_or, Result, Ok, refl, sym, ap}
 use Rattle.std.proofs.lemmas.List.{map-append, drop_more}
-use Rattle.json_words.specs.Gives.{Fails}
+use Rattle.json_words.specs.ReadsAs.{Fails}
 use Rattle.json_words.specs.Each.{each}
 use Rattle.json_words.proofs.EachLemmas.{each_next, each_fails, each_ends}
 

@@ -4,7 +4,7 @@ use Rattle.std.proofs.lemmas.List.{append_assoc, append-nil, map-append}
 use Rattle.serde_json.specs.Data.{Data}
 use Rattle.serde_json.specs.View.{view, members_view}
 use Rattle.serde_json.specs.declared.value.Value.{Value}
-use Rattle.json_words.specs.Gives.{◌>>=◌, Fails}
+use Rattle.json_words.specs.ReadsAs.{◌>>=◌, Fails}
 use Rattle.json_words.specs.Each.{each_member}
 
 abbrev pub Entry : Type 0

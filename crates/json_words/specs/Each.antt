@@ -1,7 +1,7 @@
 -- Reading each element of a list, or each member of an object, from the left, up to the first fault.
 use Rattle.std.specs.Prelude.{ℕ, suc, List, [], ◌∷◌, Result, Ok}
 use Rattle.serde_json.specs.Data.{Data, Items, no_items, item, Members, no_members, member}
-use Rattle.json_words.specs.Gives.{◌>>=◌}
+use Rattle.json_words.specs.ReadsAs.{◌>>=◌}
 
 -- `f i x` reads the element x at the place i; k is the place of the first
 unfoldable pub each : {A B F : Type 0} → (ℕ → A → Result B F) → ℕ → List A → Result (List B) F

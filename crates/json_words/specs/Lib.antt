@@ -1,6 +1,6 @@
 pub mod Ascending
 pub mod Each
-pub mod Gives
+pub mod ReadsAs
 pub mod Json
 pub mod Keys
 pub mod Plain

@@ -1,5 +1,6 @@
--- JSON whose compact text reads back: its numbers are whole and fit 64 bits, its texts are UTF-8, and in each object the
--- keys ascend. (RFC 8259, section 8.1, asks for UTF-8; a float may be written with other digits than it was read from.)
+-- JSON whose compact text reads back: its numbers are whole and fit 64 bits, its texts are UTF-8, and in each object
+-- the keys ascend. (RFC 8259, section 8.1, asks for UTF-8; a float may be written with other digits than it was read
+-- from.)
 use Rattle.std.specs.Prelude.{◌≡◌, ℕ, ◌<◌, ◌≤◌, ◌^◌, pos, negsuc, List, ⊤, Some}
 use Rattle.std.specs.Ordering.{nat_cmp}
 use Rattle.std.proofs.Common.{Less}

@@ -3,7 +3,7 @@ use Rattle.std.specs.Prelude.{◌≡◌, ℕ, List, [], ◌++◌, Ok}
 use Rattle.std.proofs.Common.{refl, sym, ap, ◌∙◌, subst}
 use Rattle.policy_grammar.specs.declared.policy.Policy.{Policy}
 use Rattle.entity_worlds.specs.declared.entity.Entity.{Entity}
-use Rattle.schema.specs.Kept.{Kept}
+use Rattle.schema.specs.SchemaEntries.{SchemaEntries}
 use Rattle.schema.specs.Schemas.{StatedSchema}
 use Rattle.schema.specs.Views.{schema_view}
 use Rattle.stamped_store.specs.Store.{Store, Update, updates, store_of}
@@ -22,7 +22,7 @@ use Rattle.merged_states.specs.inner.Merging.{IsMergedUnder}
 use Rattle.merged_states.proofs.StoreLemmas.{none_of_empty, store_all, append_all}
 
 -- the texts of a schema, as what says what texts are read as
-abbrev pub texts_of : Kept → SchemaTexts
+abbrev pub texts_of : SchemaEntries → SchemaTexts
 texts_of schema = record { schema = record { ref_ptr = (0, 0); now = schema } }
 
 abbrev Due : StatedSchema → List ℕ → MessageFault → Type 0
@@ -30,25 +30,25 @@ Due s bytes f = IsRefused (λ id. ReadsPolicy s) (ReadsEntity s) (λ id. Refuses
 
 -- ---- a message read under a schema that is the one at hand
 
-pub message_of : (a b : Kept) (label bytes : List ℕ) (us : List (SentUpdate Policy Entity)) → a ≡ b → label ≡ (schema_view b).label
+pub message_of : (a b : SchemaEntries) (label bytes : List ℕ) (us : List (SentUpdate Policy Entity)) → a ≡ b → label ≡ (schema_view b).label
     → IsMessage (λ id. ReadsPolicy (schema_view a)) (ReadsEntity (schema_view a)) label bytes us
     → IsMessageOf (schema_view b) bytes us
 message_of a b label bytes us same named h =
     subst (λ (l : List ℕ). IsMessage (λ id. ReadsPolicy (schema_view b)) (ReadsEntity (schema_view b)) l bytes us) named
-    (subst (λ (k : Kept). IsMessage (λ id. ReadsPolicy (schema_view k)) (ReadsEntity (schema_view k)) label bytes us) same h)
+    (subst (λ (k : SchemaEntries). IsMessage (λ id. ReadsPolicy (schema_view k)) (ReadsEntity (schema_view k)) label bytes us) same h)
 
-refused_of : (a b : Kept) (label bytes : List ℕ) (f : MessageFault) → a ≡ b → label ≡ (schema_view b).label
+refused_of : (a b : SchemaEntries) (label bytes : List ℕ) (f : MessageFault) → a ≡ b → label ≡ (schema_view b).label
     → IsRefused (λ id. ReadsPolicy (schema_view a)) (ReadsEntity (schema_view a)) (λ id. RefusesPolicy (schema_view a))
     (RefusesEntity (schema_view a)) label bytes f
     → Due (schema_view b) bytes f
 refused_of a b label bytes f same named h =
     subst (λ (l : List ℕ). IsRefused (λ id. ReadsPolicy (schema_view b)) (ReadsEntity (schema_view b))
     (λ id. RefusesPolicy (schema_view b)) (RefusesEntity (schema_view b)) l bytes f) named
-    (subst (λ (k : Kept). IsRefused (λ id. ReadsPolicy (schema_view k)) (ReadsEntity (schema_view k))
+    (subst (λ (k : SchemaEntries). IsRefused (λ id. ReadsPolicy (schema_view k)) (ReadsEntity (schema_view k))
     (λ id. RefusesPolicy (schema_view k)) (RefusesEntity (schema_view k)) label bytes f) same h)
 
 -- a fault that is due is told, if it is not told as want of memory
-pub told : (a b : Kept) (label bytes : List ℕ) (f : MessageFault) → a ≡ b → label ≡ (schema_view b).label
+pub told : (a b : SchemaEntries) (label bytes : List ℕ) (f : MessageFault) → a ≡ b → label ≡ (schema_view b).label
     → OrNoMemory fault.NoMemory (IsRefused (λ id. ReadsPolicy (schema_view a)) (ReadsEntity (schema_view a))
     (λ id. RefusesPolicy (schema_view a)) (RefusesEntity (schema_view a)) label bytes) f
     → (message_refusal f ≡ no_memory → ⊥) → IsMessageRefused (schema_view b) bytes (message_refusal f)
@@ -77,7 +77,7 @@ joined_sendable s m t bytes k h j valid = record {
 }
 
 -- what is written of a store whose updates are sendable is read back
-pub read_back : (k : Kept) (label bytes : List ℕ) (m : Store) → label ≡ (schema_view k).label
+pub read_back : (k : SchemaEntries) (label bytes : List ℕ) (m : Store) → label ≡ (schema_view k).label
     → ((l b : List ℕ) (us : List Update) → updates_stated l b ≡ Ok us → AreInRange us
     → AreValid (λ id. ReadsPolicy (schema_view k)) (ReadsEntity (schema_view k)) us
     → (all : List (SentUpdate Policy Entity)) × IsMessage (λ id. ReadsPolicy (schema_view k)) (ReadsEntity (schema_view k)) l b all

@@ -1,7 +1,7 @@
 -- Finding the names of the attributes that are left, behind those that were found.
 use Rattle.std.proofs.Common.{◌≡◌, ◌∙◌, ℕ, ◌+◌, ◌<◌, ◌≤◌, Bool, Option, String, Global, string_bytes, List, [], ◌∷◌, ◌++◌, length, drop, get_or, Result, Ok, Err, refl, sym, ap}
 use Rattle.std.proofs.lemmas.List.{drop_all}
-use Rattle.json_words.specs.Gives.{◌>>=◌, Fails}
+use Rattle.json_words.specs.ReadsAs.{◌>>=◌, Fails}
 use Rattle.schema_types.specs.declared.fault.SchemaFault.TheVariants.{NoMemory}
 use Rattle.schema_types.specs.declared.fault.SchemaFault.{SchemaFault}
 use Rattle.schema_types.specs.declared.raw.RawType.{RawType}

@@ -2,7 +2,7 @@
 ghost use Rattle.std.specs.Prelude.{◌≡◌, ◌==◌, IfOk, option_map, is_some, string_bytes};
 ghost use Rattle.std.specs.List.{list_any};
 ghost use Rattle.std.specs.BTreeSet.{contains_text};
-ghost use Rattle.json_words.specs.Gives.{Gives};
+ghost use Rattle.json_words.specs.ReadsAs.{ReadsAs};
 ghost use Rattle.schema_types.specs.Views.{raw_view, fields_view};
 ghost use Rattle.schema_types.specs.QualifiedViews.{qualified_view, qualified_fields_view};
 ghost use Rattle.schema_types.specs.Names.{is_qualified as is_in_namespace, full_name, as_declared, found};
@@ -141,7 +141,7 @@ fn resolve_entity(
     own: &Option<TypeName>,
     word: &TypeName,
 ) -> Result<QualifiedType, SchemaFault>
-    ensures { Gives SchemaFault.NoMemory qualified_view result (entity_named (scope_of names.now) own.now word.now) }
+    ensures { ReadsAs SchemaFault.NoMemory qualified_view result (entity_named (scope_of names.now) own.now word.now) }
 {
     match find(alloc, &names.entities, own, word)? {
         Some(name) => Ok(QualifiedType::Entity(name)),
@@ -156,7 +156,7 @@ fn resolve_common(
     own: &Option<TypeName>,
     word: &TypeName,
 ) -> Result<QualifiedType, SchemaFault>
-    ensures { Gives SchemaFault.NoMemory qualified_view result (common_named (scope_of names.now) own.now word.now) }
+    ensures { ReadsAs SchemaFault.NoMemory qualified_view result (common_named (scope_of names.now) own.now word.now) }
 {
     match find(alloc, &names.commons, own, word)? {
         Some(name) => Ok(QualifiedType::Common(name)),
@@ -175,7 +175,7 @@ pub fn resolve(
     own: &Option<TypeName>,
     ty: &RawType,
 ) -> Result<QualifiedType, SchemaFault>
-    ensures { Gives SchemaFault.NoMemory qualified_view result
+    ensures { ReadsAs SchemaFault.NoMemory qualified_view result
         (qualified_of (scope_of names.now) own.now (raw_view ty.now)) }
 {
     match ty {
@@ -207,7 +207,7 @@ fn resolve_fields(
     own: &Option<TypeName>,
     fields: &Vec<(String, RawType, bool)>,
 ) -> Result<Vec<(String, QualifiedType, bool)>, SchemaFault>
-    ensures { Gives SchemaFault.NoMemory (λ fs. qualified_fields_view fs.items) result
+    ensures { ReadsAs SchemaFault.NoMemory (λ fs. qualified_fields_view fs.items) result
         (fields_of (scope_of names.now) own.now (fields_view fields.now.items)) }
 {
     let mut found = Vec::new(alloc);

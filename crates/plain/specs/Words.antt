@@ -1,14 +1,18 @@
 -- Identifiers and paths of the policy language, as lists of bytes.
 -- Source: Cedar reference guide 4.0, "Grammar specification for Cedar policy syntax": IDENT, RESERVED and Path;
 -- that `__cedar` is reserved too is a rule of this product.
-use Rattle.std.specs.Prelude.{◌≡◌, ℕ, Bool, true, ◌&&◌, ◌||◌, ◌==◌, nat_le, List, [], ◌∷◌, ◌++◌, Contains, codes}
+use Prim.Native.Char.{code}
+use Rattle.std.specs.Prelude.{◌≡◌, ℕ, suc, Bool, true, ◌&&◌, ◌||◌, ◌==◌, nat_le, if◌then◌else◌, List, [], ◌∷◌, ◌++◌}
+use Rattle.std.specs.Prelude.{Contains, codes}
 
 -- `_` or an ASCII letter
 unfoldable pub is_letter : ℕ → Bool
-is_letter c = (c == 95) || ((nat_le 97 c && nat_le c 122) || (nat_le 65 c && nat_le c 90))
+is_letter c =
+    (c == code "_") || ((nat_le (code "a") c && nat_le c (code "z"))
+    || (nat_le (code "A") c && nat_le c (code "Z")))
 
 unfoldable pub is_digit : ℕ → Bool
-is_digit c = nat_le 48 c && nat_le c 57
+is_digit c = nat_le (code "0") c && nat_le c (code "9")
 
 unfoldable pub is_word_byte : ℕ → Bool
 is_word_byte c = is_letter c || is_digit c
@@ -18,6 +22,11 @@ abbrev pub AllAre : (ℕ → Bool) → List ℕ → Type 0
 AllAre p [] = Unit {0}
 AllAre p (c ∷ cs) = (p c ≡ true) × AllAre p cs
 
+-- how many of the first pass the test
+abbrev pub run : (ℕ → Bool) → List ℕ → ℕ
+run p [] = 0
+run p (c ∷ cs) = if p c then suc (run p cs) else 0
+
 -- a letter, and then letters and digits
 abbrev pub IsWord : List ℕ → Type 0
 IsWord [] = ⊥
@@ -25,9 +34,8 @@ IsWord (c ∷ cs) = (is_letter c ≡ true) × AllAre is_word_byte cs
 
 -- the words that are no identifier
 abbrev pub reserved_words : List (List ℕ)
-reserved_words = codes "true" ∷ codes "false" ∷ codes "if" ∷ codes "then" ∷ codes "else" ∷ codes "in" ∷ codes "is" ∷
-    codes "like"
-    ∷ codes "has" ∷ codes "__cedar" ∷ []
+reserved_words = codes "true" ∷ codes "false" ∷ codes "if" ∷ codes "then" ∷ codes "else" ∷ codes "in" ∷ codes "is"
+    ∷ codes "like" ∷ codes "has" ∷ codes "__cedar" ∷ []
 
 abbrev pub IsReserved : List ℕ → Type 0
 IsReserved word = Contains reserved_words word

@@ -9,7 +9,7 @@ use Rattle.policy_grammar.specs.declared.policy.Policy.{Policy}
 use Rattle.policy_grammar.specs.Limits.{most_file_bytes}
 use Rattle.policy_grammar.specs.PolicyText.{IsFileRefused}
 use Rattle.policy_grammar.specs.Unique.{HasOneReading, IsFileOf}
-use Rattle.authoriser.specs.Answers.{Named}
+use Rattle.authoriser.specs.Answers.{NamedPolicy}
 use Rattle.schema.specs.Schemas.{StatedSchema, IsSchemaOf}
 use Rattle.schema.specs.Outcomes as schemas
 use Rattle.decision_texts.specs.declared.refusal.Refusal.{Refusal}
@@ -17,7 +17,7 @@ use Rattle.decision_texts.specs.Decisions.{ArePoliciesOf, IsFileFault, refusal_b
 use Rattle.validator.specs.Outcomes.{PoliciesHaveOneOutcome}
 use Rattle.policy_checks.specs.Refusals.{schema_refusal}
 use Rattle.policy_checks.specs.Lines.{verdict_line, is_refusal}
-use Rattle.policy_checks.specs.Checks.{line_end, Told, IsTold, AreTold, IsFileTold, IsChecked, IsRefused}
+use Rattle.policy_checks.specs.Checks.{line_end, PolicyReport, IsReportOf, AreReportsOf, AreReportsOnFile, IsChecked, IsRefused}
 use Rattle.policy_checks.specs.Outcomes.{Come, checked, refused, TextsComeTo, TextsHaveOneOutcome}
 
 -- the laws of what the texts are made of
@@ -72,14 +72,14 @@ policies_or_none laws bytes = short_or_long laws bytes (leb (length bytes) most_
 
 -- ---- what policies came to
 
-told_same : Laws → (s : StatedSchema) (p : Named) (t u : Told) → IsTold s p t → IsTold s p u → t ≡ u
+told_same : Laws → (s : StatedSchema) (p : NamedPolicy) (t u : PolicyReport) → IsReportOf s p t → IsReportOf s p u → t ≡ u
 told_same laws s p t u a b =
     let one = laws.verdicts s p.policy in
     let id : t.id ≡ u.id = a.0 ∙ sym b.0 in
     let outcome : t.outcome ≡ u.outcome = one.2 t.outcome a.1 ∙ sym (one.2 u.outcome b.1) in
     λ i. record { id = id i; outcome = outcome i }
 
-all_told_same : Laws → (s : StatedSchema) (ps : List Named) (ts us : List Told) → AllZip (IsTold s) ps ts → AllZip (IsTold s) ps us → ts ≡ us
+all_told_same : Laws → (s : StatedSchema) (ps : List NamedPolicy) (ts us : List PolicyReport) → AllZip (IsReportOf s) ps ts → AllZip (IsReportOf s) ps us → ts ≡ us
 all_told_same laws s [] [] [] a b = refl
 all_told_same laws s [] [] (u ∷ us) a b = absurd b
 all_told_same laws s [] (t ∷ ts) us a b = absurd a
@@ -90,33 +90,33 @@ all_told_same laws s (p ∷ ps) (t ∷ ts) (u ∷ us) a b =
     let tail = all_told_same laws s ps ts us a.1 b.1 in
     λ i. head i ∷ tail i
 
-all_told : Laws → (s : StatedSchema) (ps : List Named) → (ts : List Told) × AllZip (IsTold s) ps ts
+all_told : Laws → (s : StatedSchema) (ps : List NamedPolicy) → (ts : List PolicyReport) × AllZip (IsReportOf s) ps ts
 all_told laws s [] = ([], tt)
 all_told laws s (p ∷ ps) =
     let one = laws.verdicts s p.policy in
     let rest = all_told laws s ps in
     (record { id = p.id; outcome = one.0 } ∷ rest.0, ((refl, one.1), rest.1))
 
-abbrev text_of : List Told → List ℕ
+abbrev text_of : List PolicyReport → List ℕ
 text_of ts = join_with_byte line_end (map (λ t. verdict_line t.id t.outcome) ts)
 
-abbrev some_refused_of : List Told → Bool
+abbrev some_refused_of : List PolicyReport → Bool
 some_refused_of ts = list_any (λ t. is_refusal t.outcome) ts
 
-are_told_same : Laws → (s : StatedSchema) (ps : List Named) (text other : List ℕ) (some_refused some_other : Bool) → AreTold s ps text some_refused
-    → AreTold s ps other some_other → checked text some_refused ≡ checked other some_other
+are_told_same : Laws → (s : StatedSchema) (ps : List NamedPolicy) (text other : List ℕ) (some_refused some_other : Bool) → AreReportsOf s ps text some_refused
+    → AreReportsOf s ps other some_other → checked text some_refused ≡ checked other some_other
 are_told_same laws s ps text other some_refused some_other a b =
     let told = all_told_same laws s ps a.told b.told a.each b.each in
     let texts : text ≡ other = a.text_is ∙ ap text_of told ∙ sym b.text_is in
     let flags : some_refused ≡ some_other = a.some_refused_is ∙ ap some_refused_of told ∙ sym b.some_refused_is in
     λ i. checked (texts i) (flags i)
 
-file_told_same : Laws → (s : StatedSchema) (policies text other : List ℕ) (some_refused some_other : Bool) → IsFileTold s policies text some_refused
-    → IsFileTold s policies other some_other → checked text some_refused ≡ checked other some_other
+file_told_same : Laws → (s : StatedSchema) (policies text other : List ℕ) (some_refused some_other : Bool) → AreReportsOnFile s policies text some_refused
+    → AreReportsOnFile s policies other some_other → checked text some_refused ≡ checked other some_other
 file_told_same laws s policies text other some_refused some_other a b =
     let file = laws.files.one_value policies (a.names, a.cores) (b.names, b.cores) a.file.file b.file.file in
     are_told_same laws s (named_policies b.names b.cores) text other some_refused some_other
-    (subst (λ (f : List (List ℕ) × List Policy). AreTold s (named_policies f.0 f.1) text some_refused) file a.are_told) b.are_told
+    (subst (λ (f : List (List ℕ) × List Policy). AreReportsOf s (named_policies f.0 f.1) text some_refused) file a.are_told) b.are_told
 
 -- ---- two things that texts come to
 
@@ -126,7 +126,7 @@ module _ (laws : Laws) (schema policies : List ℕ) where
   checked_same text other some_refused some_other a b =
       let stated = laws.schema_one schema a.stated b.stated a.schema_is b.schema_is in
       file_told_same laws b.stated policies text other some_refused some_other
-      (subst (λ (s : StatedSchema). IsFileTold s policies text some_refused) stated a.file_told) b.file_told
+      (subst (λ (s : StatedSchema). AreReportsOnFile s policies text some_refused) stated a.file_told) b.file_told
 
   not_both : (text : List ℕ) (some_refused : Bool) (refusal : Refusal) → IsChecked schema policies text some_refused → IsRefused schema policies refusal → ⊥
   not_both text some_refused refusal a (inl none) = laws.schema_not_both schema a.stated none.fault a.schema_is none.due
@@ -168,7 +168,7 @@ module _ (laws : Laws) (schema policies : List ℕ) where
       )
   by_policies s is (inr none) = (refused none.0, inr (record { stated = s; schema_is = is; refused = none.1 }))
 
-  by_schema : schemas.Outcome schema → SomeCome
+  by_schema : schemas.SchemaOrRefusal schema → SomeCome
   by_schema (schemas.states s is) = by_policies s is (policies_or_none laws policies)
   by_schema (schemas.refused f due) = (refused (schema_refusal f), inl (record { fault = f; due = due; is = refl }))
 

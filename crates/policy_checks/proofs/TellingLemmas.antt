@@ -5,16 +5,16 @@ use Rattle.std.specs.List.{AllZip, list_any, join_with_byte}
 use Rattle.std.proofs.lemmas.List.{take_more, append_assoc}
 use Rattle.policy_grammar.specs.declared.policy.Policy.{Policy}
 use Rattle.schema.specs.Schemas.{StatedSchema, IsSchemaOf}
-use Rattle.authoriser.specs.Answers.{Named}
+use Rattle.authoriser.specs.Answers.{NamedPolicy}
 use Rattle.decision_texts.specs.Decisions.{named_policies, ArePoliciesOf}
-use Rattle.validator.specs.Outcomes.{Outcome, ComesTo}
+use Rattle.validator.specs.Outcomes.{CheckResult, ComesTo}
 use Rattle.policy_checks.specs.Lines.{verdict_line, is_refusal}
-use Rattle.policy_checks.specs.Checks.{line_end, Told, IsTold, AreTold, IsFileTold, IsChecked}
+use Rattle.policy_checks.specs.Checks.{line_end, PolicyReport, IsReportOf, AreReportsOf, AreReportsOnFile, IsChecked}
 use Rattle.policy_checks.specs.inner.Named.{own_name, named_in, set_apart}
 
 pub named_policies-map : (ps : List (String Global × Policy)) → named_policies (map (λ p. string_bytes p.0) ps) (map (λ p. p.1) ps) ≡ named_in ps
 named_policies-map [] = refl
-named_policies-map (p ∷ ps) = ap (λ (l : List Named). own_name p ∷ l) (named_policies-map ps)
+named_policies-map (p ∷ ps) = ap (λ (l : List NamedPolicy). own_name p ∷ l) (named_policies-map ps)
 
 all_zip-more : {A B : Type 0} (R : A → B → Type 0) (xs : List A) (ys : List B) (x : A) (y : B) → AllZip R xs ys → R x y → AllZip R (xs ++ x ∷ []) (ys ++ y ∷ [])
 all_zip-more R [] [] x y all r = (r, tt)
@@ -51,35 +51,35 @@ map-more : {A B : Type 0} (f : A → B) (xs : List A) (x : A) → map f (xs ++ x
 map-more f [] x = refl
 map-more f (y ∷ ys) x = ap (λ l. f y ∷ l) (map-more f ys x)
 
-abbrev line_of : Told → List ℕ
+abbrev line_of : PolicyReport → List ℕ
 line_of t = verdict_line t.id t.outcome
 
-abbrev refuses : Told → Bool
+abbrev refuses : PolicyReport → Bool
 refuses t = is_refusal t.outcome
 
-map-none : (ts : List Told) → is_none (map line_of ts) ≡ is_none ts
+map-none : (ts : List PolicyReport) → is_none (map line_of ts) ≡ is_none ts
 map-none [] = refl
 map-none (t ∷ ts) = refl
 
-none_as : (ps : List Named) (ts : List Told) (s : StatedSchema) → AllZip (IsTold s) ps ts → is_none ts ≡ is_none ps
+none_as : (ps : List NamedPolicy) (ts : List PolicyReport) (s : StatedSchema) → AllZip (IsReportOf s) ps ts → is_none ts ≡ is_none ps
 none_as [] [] s all = refl
 none_as [] (t ∷ ts) s all = absurd all
 none_as (p ∷ ps) [] s all = absurd all
 none_as (p ∷ ps) (t ∷ ts) s all = refl
 
 -- nothing is told of no policies
-pub none_told : (s : StatedSchema) → AreTold s [] [] false
+pub none_told : (s : StatedSchema) → AreReportsOf s [] [] false
 none_told s = record { told = []; each = tt; text_is = refl; some_refused_is = refl }
 
 -- one policy more
-told-more : (s : StatedSchema) (ps : List Named) (p : Named) (text : List ℕ) (refused : Bool) (o : Outcome) → AreTold s ps text refused → ComesTo s p.policy o
-    → AreTold s (ps ++ p ∷ []) (text ++ set_apart (is_none ps) (verdict_line p.id o)) (refused || is_refusal o)
+told-more : (s : StatedSchema) (ps : List NamedPolicy) (p : NamedPolicy) (text : List ℕ) (refused : Bool) (o : CheckResult) → AreReportsOf s ps text refused → ComesTo s p.policy o
+    → AreReportsOf s (ps ++ p ∷ []) (text ++ set_apart (is_none ps) (verdict_line p.id o)) (refused || is_refusal o)
 told-more s ps p text refused o was comes =
-    let t : Told = record { id = p.id; outcome = o } in
+    let t : PolicyReport = record { id = p.id; outcome = o } in
     let none : is_none (map line_of was.told) ≡ is_none ps = map-none was.told ∙ none_as ps was.told s was.each in
     record {
       told = was.told ++ t ∷ [];
-      each = all_zip-more (IsTold s) ps was.told p t was.each (refl, comes);
+      each = all_zip-more (IsReportOf s) ps was.told p t was.each (refl, comes);
       text_is =
           ap (λ (l : List ℕ). l ++ set_apart (is_none ps) (line_of t)) was.text_is
           ∙ ap (λ (b : Bool). join_with_byte line_end (map line_of was.told) ++ set_apart b (line_of t)) (sym none)
@@ -107,10 +107,10 @@ none_in [] = refl
 none_in (p ∷ ps) = refl
 
 -- the loop's step
-pub told-step : (s : StatedSchema) (ps : List (String Global × Policy)) (i : ℕ) (p : String Global × Policy) (text new : List ℕ) (refused flag : Bool) (o : Outcome)
-    → AreTold s (named_in (take i ps)) text refused → i < length ps → p ≡ get_or ps i p → ComesTo s p.1 o
+pub told-step : (s : StatedSchema) (ps : List (String Global × Policy)) (i : ℕ) (p : String Global × Policy) (text new : List ℕ) (refused flag : Bool) (o : CheckResult)
+    → AreReportsOf s (named_in (take i ps)) text refused → i < length ps → p ≡ get_or ps i p → ComesTo s p.1 o
     → new ≡ text ++ set_apart (i == 0) (verdict_line (string_bytes p.0) o) → flag ≡ (refused || is_refusal o)
-    → AreTold s (named_in (take (i + 1) ps)) new flag
+    → AreReportsOf s (named_in (take (i + 1) ps)) new flag
 told-step s ps i p text new refused flag o was below here comes is flag_is =
     let first : is_none (named_in (take i ps)) ≡ (i == 0) = none_in (take i ps) ∙ none_at ps i below in
     let more : named_in (take (i + 1) ps) ≡ named_in (take i ps) ++ own_name p ∷ [] =
@@ -118,23 +118,23 @@ told-step s ps i p text new refused flag o was below here comes is flag_is =
     ∙ ap (λ (q : String Global × Policy). named_in (take i ps) ++ own_name q ∷ []) (sym here) in
     let text_is : new ≡ text ++ set_apart (is_none (named_in (take i ps))) (verdict_line (string_bytes p.0) o) =
     is ∙ ap (λ (b : Bool). text ++ set_apart b (verdict_line (string_bytes p.0) o)) (sym first) in
-    subst (λ (b : Bool). AreTold s (named_in (take (i + 1) ps)) new b) (sym flag_is)
-    (subst (λ (l : List ℕ). AreTold s (named_in (take (i + 1) ps)) l (refused || is_refusal o)) (sym text_is)
-    (subst (λ (l : List Named). AreTold s l (text ++ set_apart (is_none (named_in (take i ps))) (verdict_line (string_bytes p.0) o)) (refused || is_refusal o)) (sym more)
+    subst (λ (b : Bool). AreReportsOf s (named_in (take (i + 1) ps)) new b) (sym flag_is)
+    (subst (λ (l : List ℕ). AreReportsOf s (named_in (take (i + 1) ps)) l (refused || is_refusal o)) (sym text_is)
+    (subst (λ (l : List NamedPolicy). AreReportsOf s l (text ++ set_apart (is_none (named_in (take i ps))) (verdict_line (string_bytes p.0) o)) (refused || is_refusal o)) (sym more)
     (told-more s (named_in (take i ps)) (own_name p) text refused o was comes)))
 
 -- the policies of a file, told
 pub file_told : (s : StatedSchema) (policies : List ℕ) (ps held : List (String Global × Policy)) (text : List ℕ) (refused : Bool)
-    → ArePoliciesOf policies (map (λ p. string_bytes p.0) ps) (map (λ p. p.1) ps) → held ≡ ps → AreTold s (named_in held) text refused
-    → IsFileTold s policies text refused
+    → ArePoliciesOf policies (map (λ p. string_bytes p.0) ps) (map (λ p. p.1) ps) → held ≡ ps → AreReportsOf s (named_in held) text refused
+    → AreReportsOnFile s policies text refused
 file_told s policies ps held text refused file same told = record {
   names = map (λ p. string_bytes p.0) ps;
   cores = map (λ p. p.1) ps;
   file = file;
-  are_told = subst (λ (l : List Named). AreTold s l text refused) (ap named_in same ∙ sym (named_policies-map ps)) told;
+  are_told = subst (λ (l : List NamedPolicy). AreReportsOf s l text refused) (ap named_in same ∙ sym (named_policies-map ps)) told;
 }
 
 -- and of both texts
-pub are_checked : (schema policies text : List ℕ) (refused : Bool) (s : StatedSchema) → IsSchemaOf schema s → IsFileTold s policies text refused
+pub are_checked : (schema policies text : List ℕ) (refused : Bool) (s : StatedSchema) → IsSchemaOf schema s → AreReportsOnFile s policies text refused
     → IsChecked schema policies text refused
 are_checked schema policies text refused s is told = record { stated = s; schema_is = is; file_told = told }

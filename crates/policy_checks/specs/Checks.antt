@@ -4,12 +4,12 @@
 use Rattle.std.specs.Prelude.{◌≡◌, ◌⊎◌, ℕ, Bool, List, map}
 use Rattle.std.specs.List.{AllZip, list_any, join_with_byte}
 use Rattle.policy_grammar.specs.declared.policy.Policy.{Policy}
-use Rattle.authoriser.specs.Answers.{Named}
+use Rattle.authoriser.specs.Answers.{NamedPolicy}
 use Rattle.schema_types.specs.declared.fault.SchemaFault.{SchemaFault}
 use Rattle.schema.specs.Schemas.{StatedSchema, IsSchemaOf, RefusedFor}
 use Rattle.decision_texts.specs.declared.refusal.Refusal.{Refusal}
 use Rattle.decision_texts.specs.Decisions.{ArePoliciesOf, ArePoliciesRefused, named_policies}
-use Rattle.validator.specs.Outcomes.{Outcome, ComesTo}
+use Rattle.validator.specs.Outcomes.{CheckResult, ComesTo}
 use Rattle.policy_checks.specs.Refusals.{schema_refusal}
 use Rattle.policy_checks.specs.Lines.{verdict_line, is_refusal}
 
@@ -20,27 +20,28 @@ line_end = 10
 -- ---- policies under a schema
 
 -- what a policy of this name came to
-pub record Told : Type 0 where
+pub record PolicyReport : Type 0 where
   pub id : List ℕ
-  pub outcome : Outcome
+  pub outcome : CheckResult
 
-abbrev pub IsTold : StatedSchema → Named → Told → Type 0
-IsTold s policy told = (told.id ≡ policy.id) × ComesTo s policy.policy told.outcome
+abbrev pub IsReportOf : StatedSchema → NamedPolicy → PolicyReport → Type 0
+IsReportOf s policy told = (told.id ≡ policy.id) × ComesTo s policy.policy told.outcome
 
 -- Each policy comes to its outcome; the text has a line for each, in their order, with a line end between each two; and
 -- it is told whether some policy is refused.
-pub record AreTold (s : StatedSchema) (policies : List Named) (text : List ℕ) (some_refused : Bool) : Type 0 where
-  pub told : List Told
-  pub each : AllZip (IsTold s) policies told
+pub record AreReportsOf (s : StatedSchema) (policies : List NamedPolicy) (text : List ℕ)
+    (some_refused : Bool) : Type 0 where
+  pub told : List PolicyReport
+  pub each : AllZip (IsReportOf s) policies told
   pub text_is : text ≡ join_with_byte line_end (map (λ t. verdict_line t.id t.outcome) told)
   pub some_refused_is : some_refused ≡ list_any (λ t. is_refusal t.outcome) told
 
 -- the policies of a file are read, in its order, and this tells what they came to
-pub record IsFileTold (s : StatedSchema) (policies text : List ℕ) (some_refused : Bool) : Type 0 where
+pub record AreReportsOnFile (s : StatedSchema) (policies text : List ℕ) (some_refused : Bool) : Type 0 where
   pub names : List (List ℕ)
   pub cores : List Policy
   pub file : ArePoliciesOf policies names cores
-  pub are_told : AreTold s (named_policies names cores) text some_refused
+  pub are_told : AreReportsOf s (named_policies names cores) text some_refused
 
 -- ---- the two texts
 
@@ -48,7 +49,7 @@ pub record IsFileTold (s : StatedSchema) (policies text : List ℕ) (some_refuse
 pub record IsChecked (schema policies text : List ℕ) (some_refused : Bool) : Type 0 where
   pub stated : StatedSchema
   pub schema_is : IsSchemaOf schema stated
-  pub file_told : IsFileTold stated policies text some_refused
+  pub file_told : AreReportsOnFile stated policies text some_refused
 
 -- the bytes state no schema
 pub record IsSchemaRefused (schema : List ℕ) (refusal : Refusal) : Type 0 where

@@ -4,7 +4,7 @@ use Rattle.std.specs.Prelude.{ℕ, Bool, true, false, List, codes}
 use Rattle.serde_json.specs.Data.{Data, string, number, object, unsigned, no_members, member}
 use Rattle.serde_json.specs.Written.{compact_text}
 use Rattle.validator.specs.Faults.{code_of}
-use Rattle.validator.specs.Outcomes.{Outcome, passes, refused}
+use Rattle.validator.specs.Outcomes.{CheckResult, passes, refused}
 
 -- {"id":"policy0","verdict":"accepted"}
 abbrev pub passed_json : List ℕ → List ℕ → Data
@@ -21,13 +21,13 @@ abbrev pub verdict_word : Bool → List ℕ
 verdict_word true = codes "impossible"
 verdict_word false = codes "accepted"
 
-abbrev pub verdict_json : List ℕ → Outcome → Data
+abbrev pub verdict_json : List ℕ → CheckResult → Data
 verdict_json id (passes impossible) = passed_json id (verdict_word impossible)
 verdict_json id (refused fault) = refused_json id (code_of fault)
 
-unfoldable pub verdict_line : List ℕ → Outcome → List ℕ
+unfoldable pub verdict_line : List ℕ → CheckResult → List ℕ
 verdict_line id outcome = compact_text (verdict_json id outcome)
 
-abbrev pub is_refusal : Outcome → Bool
+abbrev pub is_refusal : CheckResult → Bool
 is_refusal (passes impossible) = false
 is_refusal (refused fault) = true

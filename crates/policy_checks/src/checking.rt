@@ -5,12 +5,12 @@ ghost use Rattle.decision_texts.specs.Refusals.{no_memory};
 ghost use Rattle.decision_texts.specs.Decisions.{ArePoliciesRefused};
 ghost use Rattle.validator.specs.Outcomes.{ComesTo};
 ghost use Rattle.policy_checks.specs.Lines.{is_refusal};
-ghost use Rattle.policy_checks.specs.Checks.{AreTold, IsFileTold, IsChecked, IsRefused};
+ghost use Rattle.policy_checks.specs.Checks.{AreReportsOf, AreReportsOnFile, IsChecked, IsRefused};
 ghost use Rattle.policy_checks.specs.inner.Named.{named_in, outcome_of};
 
 use crate::lines::{add_line, verdict_line};
-use crate::reading::{policies_in, schema_in};
-use decision_texts::Refusal;
+use crate::reading::schema_in;
+use decision_texts::{Refusal, policies_in};
 use plain::NoMemory;
 use policy_grammar::Policy;
 use schema::Schema;
@@ -54,7 +54,7 @@ fn check_each(
     schema: &Schema,
     policies: &[(String, Policy)],
 ) -> Result<(Vec<u8>, bool), NoMemory>
-    ensures { IfOk result (λ told. AreTold (schema_view schema.now) (named_in policies.now) told.0.items told.1) }
+    ensures { IfOk result (λ told. AreReportsOf (schema_view schema.now) (named_in policies.now) told.0.items told.1) }
 {
     let mut text = Vec::new(alloc);
     let mut some_refused = false;
@@ -69,7 +69,7 @@ fn check_each(
 
 /// The lines of a file's policies under a schema, and whether one of them is refused.
 fn check_file(alloc: Global, schema: &Schema, policies: &[u8]) -> Result<(Vec<u8>, bool), Refusal>
-    ensures told { IfOk result (λ told. IsFileTold (schema_view schema.now) policies.now told.0.items told.1) }
+    ensures told { IfOk result (λ told. AreReportsOnFile (schema_view schema.now) policies.now told.0.items told.1) }
     ensures refused { IfErr result (λ r. (r ≡ no_memory → ⊥) → ArePoliciesRefused policies.now r) }
 {
     let policies = policies_in(alloc, policies)?;

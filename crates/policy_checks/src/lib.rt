@@ -10,5 +10,5 @@ mod refusal;
 pub use checking::check_texts;
 pub use decision_texts::Refusal;
 pub use laws::checks_have_one_outcome;
-pub use reading::{policies_in, schema_in};
-pub use refusal::{check_refusal, policies_refusal, schema_refusal};
+pub use reading::schema_in;
+pub use refusal::{check_refusal, schema_refusal};

@@ -1,11 +1,9 @@
-//! The refusals of the texts of a schema and of policies, told as [`decision_texts`] tells refusals: by a number, a
-//! place and the number of a refusal inside.
+//! The refusals of a schema's text and of policies that do not pass, told as [`decision_texts`] tells refusals: by a
+//! number, a place and the number of a refusal inside.
 ghost use Rattle.std.specs.Prelude.{◌≡◌};
-ghost use Rattle.decision_texts.specs.Decisions as decisions;
 ghost use Rattle.policy_checks.specs.Refusals.{schema_refusal, check_refusal};
 
 use decision_texts::Refusal;
-use policy_grammar::ReadFault;
 use schema::SchemaFault;
 use validator::CheckFault;
 
@@ -16,17 +14,6 @@ pub fn schema_refusal(fault: SchemaFault) -> Refusal
     Refusal {
         code: fault.code(),
         place: None,
-        within: None,
-    }
-}
-
-/// A fault of the policies' text (10 to 19, or 1), at the same byte.
-pub fn policies_refusal(fault: ReadFault) -> Refusal
-    ensures { result ≡ decisions.refusal_by fault }
-{
-    Refusal {
-        code: fault.code(),
-        place: fault.place(),
         within: None,
     }
 }

@@ -3,8 +3,8 @@ use Rattle.std.proofs.Common.{◌≡◌, ◌⊎◌, ℕ, ◌+◌, ◌≤◌, ◌
 use Rattle.std.specs.List.{AllByRecursion, AllZip, enumerate_from}
 use Rattle.std.proofs.lemmas.List.Elements.{All-from_recursion, recursion_from_All}
 use Rattle.values.specs.declared.entity_uid.EntityUid.{EntityUid}
-use Rattle.policy_tokens.specs.declared.token.Kind.{Kind}
-use Rattle.policy_tokens.specs.declared.token.Kind.TheVariants as k
+use Rattle.policy_tokens.specs.declared.token.TokenKind.{TokenKind}
+use Rattle.policy_tokens.specs.declared.token.TokenKind.TheVariants as k
 use Rattle.policy_tokens.specs.declared.token.Token.{Token}
 use Rattle.policy_tokens.specs.Lexing.{IsLexed, IsBadAt, IsToken, spelling_of, EachIsLexedOrBad, EachIsSpelled}
 use Rattle.policy_tokens.specs.Strings.{IsStringOf, HasValue}
@@ -17,7 +17,7 @@ use Rattle.token_readers.specs.Reads.{IsRefusedWithin, ComesToWithin, HasOneAnsw
 use Rattle.policy_syntax.specs.passed_on.expression_syntax.{nesting_limit}
 use Rattle.policy_syntax.specs.Grammar as grammar
 use Rattle.policy_syntax.specs.Grammar.{effects}
-use Rattle.policy_syntax.specs.Stands.{TokenStands, UidStands, ValueStands, AnnotationStands, PartStands, ActionStands, PolicyStands, IsMadeOfTokens}
+use Rattle.policy_syntax.specs.WellFormed.{WellFormedToken, WellFormedUid, WellFormedValue, WellFormedAnnotation, WellFormedPart, WellFormedAction, WellFormedPolicy, IsMadeOfTokens}
 use Rattle.policy_syntax.specs.declared.tree.Annotation.{Annotation}
 use Rattle.policy_syntax.specs.declared.tree.PartTree.{PartTree}
 use Rattle.policy_syntax.specs.declared.tree.PartTree.TheVariants as part
@@ -39,7 +39,8 @@ use Rattle.policy_grammar.specs.declared.fault.ReadFault.TheVariants as fault
 use Rattle.policy_grammar.specs.Conditions.{conditions_of}
 use Rattle.policy_grammar.specs.CoreOf.{IsUidOf, AreUidsOf, IsEntityScopeOf, IsActionScopeOf, effect_word, IsCoreOf, AreCoresOf, IsValueOf, is_id, IsNameBy, IsNameOf, AreNamesOf}
 use Rattle.policy_grammar.specs.Faults.{of_desugaring}
-use Rattle.policy_grammar.specs.Limits.{Shape, height, forms, shape_of, IsSmallShape, IsSmallTree, IsId, most_height, most_forms, most_id_bytes, most_policy_bytes, most_file_bytes}
+use Rattle.expressions.specs.Size.{most_height, most_forms}
+use Rattle.policy_grammar.specs.Limits.{Shape, height, forms, shape_of, IsSmallShape, IsSmallTree, IsId, most_id_bytes, most_policy_bytes, most_file_bytes}
 use Rattle.policy_grammar.specs.PolicyText.{Derives, byte_of, IsUnread, IsToldOf, tree_faults, file_faults, IsPolicyOf, HasNoPolicy, ArePoliciesOf, HaveNoPolicies, IsUidText, IsUidRefused, IsPolicyText, IsPolicyRefused, IsFileRefused}
 use Rattle.policy_grammar.specs.Unique.{IsFileOf}
 use Rattle.policy_grammar.proofs.Lists.{text-kind}
@@ -114,7 +115,7 @@ module _ {A : Type 0} (L K : Lang A) (most : ℕ) (text : List ℕ) where
 
 -- ---- a tree whose tokens stand in a text has a core
 
-effect_of : (kind : Kind) → effects kind ≡ true → (e : Effect) × (kind ≡ effect_word e)
+effect_of : (kind : TokenKind) → effects kind ≡ true → (e : Effect) × (kind ≡ effect_word e)
 effect_of k.Permit yes' = (Permit, refl)
 effect_of k.Forbid yes' = (Forbid, refl)
 effect_of _ no' = absurd (cc)
@@ -134,35 +135,35 @@ module _ (laws : Laws) (text : List ℕ) (ts : List Token) (lexed : IsLexed text
       let each : All (λ u. IsToken u.kind (spelling_of text u)) ts = All-from_recursion (λ u. IsToken u.kind (spelling_of text u)) ts (laws.spelled text ts lexed) in
       subst (λ u. IsToken u.kind (spelling_of text u)) here.2 (each here.0 t here.1)
 
-  string_of : (t : Token) → TokenStands (only k.Text) ts t → (value : List ℕ) × IsStringOf value (spelling_of text t)
+  string_of : (t : Token) → WellFormedToken (only k.Text) ts t → (value : List ℕ) × IsStringOf value (spelling_of text t)
   string_of t stands = laws.values (spelling_of text t) (subst (λ kind. IsToken kind (spelling_of text t)) (text-kind t.kind stands.1) (spelled t stands.0))
 
-  uid_of : (tree : UidTree) → UidStands ts tree → (uid : EntityUid) × IsUidOf text tree uid
+  uid_of : (tree : UidTree) → WellFormedUid ts tree → (uid : EntityUid) × IsUidOf text tree uid
   uid_of tree stands =
       let id = string_of tree.id stands.1 in
       (record { type_name = path_name text tree.path; id = id.0 }, record { type_name = refl; id = id.1 })
 
-  uids_of : (trees : List UidTree) → AllByRecursion (UidStands ts) trees → (uids : List EntityUid) × AreUidsOf text trees uids
+  uids_of : (trees : List UidTree) → AllByRecursion (WellFormedUid ts) trees → (uids : List EntityUid) × AreUidsOf text trees uids
   uids_of [] stand = ([], tt)
   uids_of (tree ∷ trees) stand =
       let first = uid_of tree stand.0 in
       let more = uids_of trees stand.1 in
       (first.0 ∷ more.0, (first.1, more.1))
 
-  part_of : (tree : PartTree) → PartStands ts tree → (scope : EntityScope) × IsEntityScopeOf text tree scope
+  part_of : (tree : PartTree) → WellFormedPart ts tree → (scope : EntityScope) × IsEntityScopeOf text tree scope
   part_of part.Any stands = (entity.Any, tt)
   part_of (part.Equal tree) stands = let uid = uid_of tree stands in (entity.Equal uid.0, uid.1)
   part_of (part.In tree) stands = let uid = uid_of tree stands in (entity.In uid.0, uid.1)
   part_of (part.Is path) stands = (entity.Is (path_name text path), refl)
   part_of (part.IsIn path tree) stands = let uid = uid_of tree stands.1 in (entity.IsIn (path_name text path) uid.0, (refl, uid.1))
 
-  action_of : (tree : ActionTree) → ActionStands ts tree → (scope : ActionScope) × IsActionScopeOf text tree scope
+  action_of : (tree : ActionTree) → WellFormedAction ts tree → (scope : ActionScope) × IsActionScopeOf text tree scope
   action_of action.Any stands = (actions.Any, tt)
   action_of (action.Equal tree) stands = let uid = uid_of tree stands in (actions.Equal uid.0, uid.1)
   action_of (action.In tree) stands = let uid = uid_of tree stands in (actions.In uid.0, uid.1)
   action_of (action.InList trees) stand = let uids = uids_of trees stand in (actions.InList uids.0, uids.1)
 
-  core_of : (tree : PolicyTree) → PolicyStands ts tree → (policy : Policy) × IsCoreOf text tree policy
+  core_of : (tree : PolicyTree) → WellFormedPolicy ts tree → (policy : Policy) × IsCoreOf text tree policy
   core_of tree stands =
       let effect = effect_of tree.effect.kind stands.effect.1 in
       let principal = part_of tree.principal stands.principal in
@@ -176,25 +177,25 @@ module _ (laws : Laws) (text : List ℕ) (ts : List Token) (lexed : IsLexed text
         record { effect = effect.1; principal = principal.1; action = action'.1; resource = resource.1; condition = refl },
       )
 
-  cores_of : (trees : List PolicyTree) → AllByRecursion (PolicyStands ts) trees → (policies : List Policy) × AreCoresOf text trees policies
+  cores_of : (trees : List PolicyTree) → AllByRecursion (WellFormedPolicy ts) trees → (policies : List Policy) × AreCoresOf text trees policies
   cores_of [] stand = ([], tt)
   cores_of (tree ∷ trees) stand =
       let first = core_of tree stand.0 in
       let more = cores_of trees stand.1 in
       (first.0 ∷ more.0, (first.1, more.1))
 
-  value_of : (token : Option Token) → ValueStands ts token → (value : List ℕ) × IsValueOf text token value
+  value_of : (token : Option Token) → WellFormedValue ts token → (value : List ℕ) × IsValueOf text token value
   value_of None stands = ([], refl)
   value_of (Some token) stands = string_of token stands
 
-  name_by : (place : ℕ) (id : Option Annotation) → IfSome id (AnnotationStands ts) → (name : List ℕ) × IsNameBy text place id name
+  name_by : (place : ℕ) (id : Option Annotation) → IfSome id (WellFormedAnnotation ts) → (name : List ℕ) × IsNameBy text place id name
   name_by place None stands = (_, refl)
   name_by place (Some annotation) stands = value_of annotation.value stands.2
 
-  name_of : (place : ℕ) (tree : PolicyTree) → PolicyStands ts tree → (name : List ℕ) × IsNameOf text place tree name
-  name_of place tree stands = name_by place (find (is_id text) tree.annotations) (find-all (AnnotationStands ts) (is_id text) tree.annotations stands.annotations)
+  name_of : (place : ℕ) (tree : PolicyTree) → WellFormedPolicy ts tree → (name : List ℕ) × IsNameOf text place tree name
+  name_of place tree stands = name_by place (find (is_id text) tree.annotations) (find-all (WellFormedAnnotation ts) (is_id text) tree.annotations stands.annotations)
 
-  names_from : (place : ℕ) (trees : List PolicyTree) → AllByRecursion (PolicyStands ts) trees →
+  names_from : (place : ℕ) (trees : List PolicyTree) → AllByRecursion (WellFormedPolicy ts) trees →
       (names : List (List ℕ)) × AllZip (λ (placed : ℕ × PolicyTree). IsNameOf text placed.0 placed.1) (enumerate_from place trees) names
   names_from place [] stand = ([], tt)
   names_from place (tree ∷ trees) stand =
@@ -251,7 +252,7 @@ module _ (text : List ℕ) (trees : List PolicyTree) (names : List (List ℕ)) (
 -- ---- texts
 
 module _ (laws : Laws) (text : List ℕ) where
-  uid_by : IsMadeOfTokens grammar.uid UidStands → ((tree : UidTree) × Derives grammar.uid most_policy_bytes text tree) ⊎ ((why : ReadFault) × IsUidRefused text why) →
+  uid_by : IsMadeOfTokens grammar.uid WellFormedUid → ((tree : UidTree) × Derives grammar.uid most_policy_bytes text tree) ⊎ ((why : ReadFault) × IsUidRefused text why) →
       ((uid : EntityUid) × IsUidText text uid) ⊎ ((why : ReadFault) × IsUidRefused text why)
   uid_by stand (inl read) =
       let tree = read.0 in
@@ -265,7 +266,7 @@ module _ (laws : Laws) (text : List ℕ) where
   policy_by tree derives (inl policy) = inl (policy.0, record { tree = tree; derives = derives; is = policy.1 })
   policy_by tree derives (inr none) = inr (none.0, inr (tree, derives, none.1))
 
-  policy_read : IsMadeOfTokens (grammar.policy nesting_limit) PolicyStands →
+  policy_read : IsMadeOfTokens (grammar.policy nesting_limit) WellFormedPolicy →
       ((tree : PolicyTree) × Derives (grammar.policy nesting_limit) most_policy_bytes text tree)
       ⊎ ((why : ReadFault) × IsUnread (grammar.policy nesting_limit) (at_any grammar.policy) most_policy_bytes text why) →
       ((policy : Policy) × IsPolicyText text policy) ⊎ ((why : ReadFault) × IsPolicyRefused text why)
@@ -282,7 +283,7 @@ module _ (laws : Laws) (text : List ℕ) where
   file_by trees names derives named (inl policies) = inl ((names, policies.0), record { trees = trees; derives = derives; are = policies.1 })
   file_by trees names derives named (inr none) = inr (none.0, inr (trees, names, derives, named, none.1))
 
-  file_read : IsMadeOfTokens (grammar.policies nesting_limit) (λ ts. AllByRecursion (PolicyStands ts)) →
+  file_read : IsMadeOfTokens (grammar.policies nesting_limit) (λ ts. AllByRecursion (WellFormedPolicy ts)) →
       ((trees : List PolicyTree) × Derives (grammar.policies nesting_limit) most_file_bytes text trees)
       ⊎ ((why : ReadFault) × IsUnread (grammar.policies nesting_limit) (at_any grammar.policies) most_file_bytes text why) →
       ((file : List (List ℕ) × List Policy) × IsFileOf text file) ⊎ ((why : ReadFault) × IsFileRefused text why)
@@ -295,15 +296,15 @@ module _ (laws : Laws) (text : List ℕ) where
       file_by trees names.0 derives names.1 (policies_or_told text trees names.0 names.1 cores (sound_or_told laws.none (file_faults text trees names.0)))
   file_read stand (inr unread') = inr (unread'.0, inl unread'.1)
 
-pub uid_answered : Laws → HasOneAnswer grammar.uid → IsMadeOfTokens grammar.uid UidStands → (text : List ℕ) → ((uid : EntityUid) × IsUidText text uid) ⊎ ((why : ReadFault) × IsUidRefused text why)
+pub uid_answered : Laws → HasOneAnswer grammar.uid → IsMadeOfTokens grammar.uid WellFormedUid → (text : List ℕ) → ((uid : EntityUid) × IsUidText text uid) ⊎ ((why : ReadFault) × IsUidRefused text why)
 uid_answered laws answers stand text = uid_by laws text stand (read_or_unread grammar.uid grammar.uid most_policy_bytes text laws.some answers)
 
-pub policy_answered : Laws → HasOneAnswerWithin (grammar.policy nesting_limit) (at_any grammar.policy) → IsMadeOfTokens (grammar.policy nesting_limit) PolicyStands →
+pub policy_answered : Laws → HasOneAnswerWithin (grammar.policy nesting_limit) (at_any grammar.policy) → IsMadeOfTokens (grammar.policy nesting_limit) WellFormedPolicy →
     (text : List ℕ) → ((policy : Policy) × IsPolicyText text policy) ⊎ ((why : ReadFault) × IsPolicyRefused text why)
 policy_answered laws answers stand text =
     policy_read laws text stand (read_or_unread (grammar.policy nesting_limit) (at_any grammar.policy) most_policy_bytes text laws.some answers)
 
-pub file_answered : Laws → HasOneAnswerWithin (grammar.policies nesting_limit) (at_any grammar.policies) → IsMadeOfTokens (grammar.policies nesting_limit) (λ ts. AllByRecursion (PolicyStands ts)) →
+pub file_answered : Laws → HasOneAnswerWithin (grammar.policies nesting_limit) (at_any grammar.policies) → IsMadeOfTokens (grammar.policies nesting_limit) (λ ts. AllByRecursion (WellFormedPolicy ts)) →
     (text : List ℕ) → ((file : List (List ℕ) × List Policy) × IsFileOf text file) ⊎ ((why : ReadFault) × IsFileRefused text why)
 file_answered laws answers stand text =
     file_read laws text stand (read_or_unread (grammar.policies nesting_limit) (at_any grammar.policies) most_file_bytes text laws.some answers)

@@ -6,7 +6,7 @@ use Rattle.std.proofs.lemmas.Slice.Zip.{AllZip-long}
 use Rattle.desugaring.specs.declared.fault.DesugarFault.{DesugarFault}
 use Rattle.desugaring.specs.declared.fault.DesugarFault.TheVariants as desugar
 use Rattle.desugaring.specs.Refused.{at, LeastIsLeast}
-use Rattle.desugaring.specs.Repeats.{Mark, places_of, repeats}
+use Rattle.desugaring.specs.Repeats.{NameAt, places_of, repeats}
 use Rattle.policy_grammar.specs.CoreOf.{IsCoreOf}
 use Rattle.policy_grammar.specs.Faults.{place_of, of_desugaring}
 use Rattle.policy_grammar.specs.PolicyText.{tree_faults}
@@ -30,15 +30,15 @@ pub each_is_named : EachIsNamed
 each_is_named text names policies file =
     names-long text file.trees names file.are.named ∙ sym (AllZip-long (IsCoreOf text) file.trees policies file.are.cores)
 
-abbrev marked : List Mark → List (List ℕ)
+abbrev marked : List NameAt → List (List ℕ)
 marked = map (λ m. m.name)
 
 -- where a name stands nowhere, no name is this one
-other : (b : Bool) (m : Mark) (rest : List Mark) → map (λ x. x.at) (cond b (m ∷ rest) rest) ≡ [] → (b ≡ false) × (map (λ x. x.at) rest ≡ [])
+other : (b : Bool) (m : NameAt) (rest : List NameAt) → map (λ x. x.at) (cond b (m ∷ rest) rest) ≡ [] → (b ≡ false) × (map (λ x. x.at) rest ≡ [])
 other true m rest none = absurd (cc)
 other false m rest none = (refl, none)
 
-nowhere : (name : List ℕ) (ms : List Mark) → places_of name ms ≡ [] → AllByRecursion (λ y. bytes_eq name y ≡ false) (marked ms)
+nowhere : (name : List ℕ) (ms : List NameAt) → places_of name ms ≡ [] → AllByRecursion (λ y. bytes_eq name y ≡ false) (marked ms)
 nowhere name [] none = tt
 nowhere name (m ∷ ms) none =
     let parts = other (bytes_eq name m.name) m (filter (λ x. bytes_eq name x.name) ms) none in
@@ -48,7 +48,7 @@ none-of : (ns : List ℕ) → map desugar.RepeatedKey ns ≡ [] → ns ≡ []
 none-of [] none = refl
 none-of (n ∷ ns) none = absurd (cc)
 
-distinct : (ms : List Mark) → repeats ms ≡ [] → IsDistinct bytes_eq (marked ms)
+distinct : (ms : List NameAt) → repeats ms ≡ [] → IsDistinct bytes_eq (marked ms)
 unfolding IsDistinct
 distinct [] none = tt
 distinct (m ∷ ms) none =

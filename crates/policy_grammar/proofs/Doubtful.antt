@@ -6,34 +6,34 @@ use Rattle.std.specs.Fmt.{decimal}
 use Rattle.std.proofs.Math.Seq.{drop-cons}
 use Rattle.std.proofs.lemmas.Fmt.{decimal_injective}
 use Rattle.desugaring.specs.Refused.{least}
-use Rattle.desugaring.specs.Repeats.{Mark, StandsAgain, repeat_faults, RepeatsAreTold}
+use Rattle.desugaring.specs.Repeats.{NameAt, StandsAgain, repeat_faults, RepeatsAreTold}
 use Rattle.desugaring.proofs.AgainFront.{Later, again-there, again-here, again-front, again-none}
 use Rattle.policy_syntax.specs.declared.tree.Annotation.{Annotation}
 use Rattle.policy_syntax.specs.declared.tree.PolicyTree.{PolicyTree}
 use Rattle.policy_grammar.specs.CoreOf.{is_id, IsNameBy, IsNameOf, AreNamesOf}
 use Rattle.policy_grammar.specs.Repeats.{policy_marks, start_of}
-use Rattle.policy_grammar.specs.inner.Standing.{has_id, looks_placed, meets_place, kept, doubtful_marks}
+use Rattle.policy_grammar.specs.inner.Parts.{has_id, looks_placed, meets_place, kept, doubtful_marks}
 
 -- ---- marks that are kept
 
-later-kept : (b : Bool) (name : List ℕ) (m : Mark) (ms : List Mark) (at : ℕ) → Later name (kept b m ms) at → ((m.name ≡ name) × (at ≡ m.at)) ⊎ Later name ms at
+later-kept : (b : Bool) (name : List ℕ) (m : NameAt) (ms : List NameAt) (at : ℕ) → Later name (kept b m ms) at → ((m.name ≡ name) × (at ≡ m.at)) ⊎ Later name ms at
 later-kept true name m ms at later = later
 later-kept false name m ms at later = inr later
 
-later-keeps : (b : Bool) (name : List ℕ) (m : Mark) (ms : List Mark) (at : ℕ) → (m.name ≡ name → b ≡ true) → ((m.name ≡ name) × (at ≡ m.at)) ⊎ Later name ms at →
+later-keeps : (b : Bool) (name : List ℕ) (m : NameAt) (ms : List NameAt) (at : ℕ) → (m.name ≡ name → b ≡ true) → ((m.name ≡ name) × (at ≡ m.at)) ⊎ Later name ms at →
     Later name (kept b m ms) at
 later-keeps true name m ms at keeps later = later
 later-keeps false name m ms at keeps later = elim later [ inl here ↦ let no' : false ≡ true = keeps here.0 in absurd cc | inr more ↦ more ]
 
-again-kept : (b : Bool) (m : Mark) (ms : List Mark) (at : ℕ) → StandsAgain (kept b m ms) at → Later m.name ms at ⊎ StandsAgain ms at
+again-kept : (b : Bool) (m : NameAt) (ms : List NameAt) (at : ℕ) → StandsAgain (kept b m ms) at → Later m.name ms at ⊎ StandsAgain ms at
 again-kept true m ms at again = again-front m ms at again
 again-kept false m ms at again = inr again
 
-again-keeps : (b : Bool) (m : Mark) (ms : List Mark) (at : ℕ) → (Later m.name ms at → b ≡ true) → Later m.name ms at ⊎ StandsAgain ms at → StandsAgain (kept b m ms) at
+again-keeps : (b : Bool) (m : NameAt) (ms : List NameAt) (at : ℕ) → (Later m.name ms at → b ≡ true) → Later m.name ms at ⊎ StandsAgain ms at → StandsAgain (kept b m ms) at
 again-keeps true m ms at keeps either = elim either [ inl later ↦ again-here m ms at later | inr again ↦ again-there m ms at again ]
 again-keeps false m ms at keeps either = elim either [ inl later ↦ let no' : false ≡ true = keeps later in absurd cc | inr again ↦ again ]
 
-again-keeps-more : (b : Bool) (m : Mark) (ms : List Mark) (at : ℕ) → StandsAgain ms at → StandsAgain (kept b m ms) at
+again-keeps-more : (b : Bool) (m : NameAt) (ms : List NameAt) (at : ℕ) → StandsAgain ms at → StandsAgain (kept b m ms) at
 again-keeps-more true m ms at again = again-there m ms at again
 again-keeps-more false m ms at again = again
 
@@ -109,7 +109,7 @@ module _ (text : List ℕ) (wide : Bool) where
   fewer [] trees at again = again-none at again
   fewer (m ∷ ms) [] at again = again-none at again
   fewer (m ∷ ms) (u ∷ us) at again =
-      let mark : Mark = record { name = m; at = start_of u } in
+      let mark : NameAt = record { name = m; at = start_of u } in
       elim (again-kept (wide || has_id text u) mark (doubtful_marks text wide ms us) at again) [
         | inl later ↦ again-here mark (policy_marks ms us) at (fewer-later m ms us at later)
         | inr more ↦ again-there mark (policy_marks ms us) at (fewer ms us at more)
@@ -120,7 +120,7 @@ module _ (text : List ℕ) (wide : Bool) where
   enough p [] trees at fits all meets again = again-none at again
   enough p (m ∷ ms) [] at fits all meets again = again-none at again
   enough p (m ∷ ms) (u ∷ us) at fits all meets again =
-      let mark : Mark = record { name = m; at = start_of u } in
+      let mark : NameAt = record { name = m; at = start_of u } in
       let one : looks_placed text m u ≡ true → wide ≡ true = λ h. meets (or_left (looks_placed text m u) (meets_place text ms us) h) in
       let more : meets_place text ms us ≡ true → wide ≡ true = λ h. meets (or_right (looks_placed text m u) (meets_place text ms us) h) in
       elim (again-front mark (policy_marks ms us) at again) [
@@ -153,12 +153,12 @@ doubtful-step text wide names trees i n t low below =
     ∙ ap (λ k. kept (wide || has_id text (get_or trees i t)) (record { name = get_or names i n; at = start_of (get_or trees i t) }) (doubtful_marks text wide (drop k names) (drop k trees)))
     (sym (add-one i))
 
-kept-none : (b : Bool) (m : Mark) (ms : List Mark) → b ≡ false → kept b m ms ≡ ms
+kept-none : (b : Bool) (m : NameAt) (ms : List NameAt) → b ≡ false → kept b m ms ≡ ms
 kept-none true m ms no' = absurd cc
 kept-none false m ms no' = refl
 
 -- a policy that is passed over
-pub doubtful-passed : (text : List ℕ) (wide : Bool) (names : List (List ℕ)) (trees : List PolicyTree) (i : ℕ) (n : List ℕ) (t : PolicyTree) (done : List Mark) →
+pub doubtful-passed : (text : List ℕ) (wide : Bool) (names : List (List ℕ)) (trees : List PolicyTree) (i : ℕ) (n : List ℕ) (t : PolicyTree) (done : List NameAt) →
     done ++ doubtful_marks text wide (drop i names) (drop i trees) ≡ doubtful_marks text wide names trees → length names ≡ length trees → i < length trees → t ≡ get_or trees i t →
     (wide || has_id text t) ≡ false → done ++ doubtful_marks text wide (drop (i + 1) names) (drop (i + 1) trees) ≡ doubtful_marks text wide names trees
 doubtful-passed text wide names trees i n t done was same below here no' =

@@ -2,31 +2,31 @@
 use Rattle.std.proofs.Common.{◌≡◌, ℕ, ◌+◌, ◌<◌, List, [], ◌∷◌, length, drop, get_or, None, refl, sym, ◌∙◌, ap, subst, arith}
 use Rattle.std.proofs.lemmas.List.{append-nil, length-drop}
 use Rattle.std.specs.List.{AllByRecursion, flat_map}
-use Rattle.policy_tokens.specs.declared.token.Kind.{Kind}
-use Rattle.policy_tokens.specs.declared.token.Kind.TheVariants as k
 use Rattle.expressions.specs.declared.leaf.Literal.TheVariants as literal
 use Rattle.expressions.specs.declared.operator.Unary.TheVariants.{Not}
 use Rattle.expressions.specs.declared.expr.Expr.{Expr}
 use Rattle.expressions.specs.declared.expr.Expr.TheVariants as core
 use Rattle.policy_syntax.specs.declared.tree.Condition.{Condition}
+use Rattle.policy_syntax.specs.declared.tree.ConditionWord.{ConditionWord}
+use Rattle.policy_syntax.specs.declared.tree.ConditionWord.TheVariants as word
 use Rattle.policy_syntax.specs.declared.tree.PolicyTree.{PolicyTree}
-use Rattle.policy_syntax.specs.Stands.{ConditionStands}
+use Rattle.policy_syntax.specs.WellFormed.{WellFormedCondition}
 use Rattle.desugaring.specs.declared.fault.DesugarFault.{DesugarFault}
 use Rattle.desugaring.specs.declared.measure.Measure.{Measure}
 use Rattle.desugaring.specs.Faults.{faults_of}
 use Rattle.desugaring.specs.Measured.{of}
-use Rattle.desugaring.specs.Standing.{StandsIn}
+use Rattle.desugaring.specs.BuiltFrom.{IsBuiltFrom}
 use Rattle.desugaring.specs.Sums.{leaf, paired, LiteralIsLeaf, UnaryIsAbove, AndIsPaired}
 use Rattle.policy_grammar.proofs.Lists.{all-at, next, none-left, none-right}
 use Rattle.policy_grammar.specs.Whole.{truth}
 use Rattle.policy_grammar.specs.Conditions.{asked_by, condition_of, conditions_of, condition_faults}
 use Rattle.policy_grammar.specs.PolicyText.{tree_faults}
-use Rattle.policy_grammar.specs.inner.Standing.{judged_by, AreSound}
+use Rattle.policy_grammar.specs.inner.Parts.{judged_by, AreSound}
 
 -- what is told of an expression behind a word
-pub judged_behind : UnaryIsAbove → (kind : Kind) (e : Expr) (fs : List DesugarFault) → of (asked_by kind e) fs ≡ judged_by kind (of e fs)
-judged_behind unary k.Unless e fs = unary Not e fs
-judged_behind unary _ e fs = refl
+pub judged-asked : UnaryIsAbove → (w : ConditionWord) (e : Expr) (fs : List DesugarFault) → of (asked_by w e) fs ≡ judged_by w (of e fs)
+judged-asked unary word.When e fs = refl
+judged-asked unary word.Unless e fs = unary Not e fs
 
 -- what is told of conditions
 abbrev pub judged_from : List ℕ → List Condition → Measure
@@ -86,12 +86,12 @@ module _ (text : List ℕ) (cs : List Condition) (i j : ℕ) (c : Condition) (e 
   asks-more below = ap (conditions_of text) (from cs i j c e (omega arith) is) ∙ asks-before text c (drop i cs) (some_over cs i below)
 
 -- a condition stands where all do
-pub stands-at : (text : List ℕ) (cs : List Condition) (i : ℕ) (c : Condition) → StandsIn text (λ ts. AllByRecursion (ConditionStands ts) cs) → i < length cs → c ≡ get_or cs i c →
-    StandsIn text (λ ts. ConditionStands ts c)
+pub stands-at : (text : List ℕ) (cs : List Condition) (i : ℕ) (c : Condition) → IsBuiltFrom text (λ ts. AllByRecursion (WellFormedCondition ts) cs) → i < length cs → c ≡ get_or cs i c →
+    IsBuiltFrom text (λ ts. WellFormedCondition ts c)
 stands-at text cs i c all below is = record {
   tokens = all.tokens;
   spelled = all.spelled;
-  stands = subst (ConditionStands all.tokens) (sym is) (all-at (ConditionStands all.tokens) cs i c all.stands below);
+  stands = subst (WellFormedCondition all.tokens) (sym is) (all-at (WellFormedCondition all.tokens) cs i c all.stands below);
 }
 
 -- where there are no faults together, there are none of each

@@ -1,8 +1,8 @@
 -- Lists that a loop goes over or makes, one item more at each turn.
 use Rattle.std.proofs.Common.{◌≡◌, ℕ, zero, suc, ◌+◌, ◌<◌, List, [], ◌∷◌, ◌++◌, length, take, drop, get_or, refl, sym, ◌∙◌, ap, subst, arith, add-one, Bool, true, false, if◌then◌else◌, find, Some, length-take}
 use Rattle.std.proofs.Math.Seq.{drop-cons}
-use Rattle.policy_tokens.specs.declared.token.Kind.{Kind}
-use Rattle.policy_tokens.specs.declared.token.Kind.TheVariants as k
+use Rattle.policy_tokens.specs.declared.token.TokenKind.{TokenKind}
+use Rattle.policy_tokens.specs.declared.token.TokenKind.TheVariants as k
 use Rattle.token_readers.specs.Kinds.{only, same_kind}
 use Rattle.policy_syntax.specs.declared.tree.PolicyTree.{PolicyTree}
 use Rattle.policy_grammar.specs.CoreOf.{IsNameOf, AreNamesOf}
@@ -68,7 +68,7 @@ names-step text trees names i tree name named below here is =
     ∙ ap (λ t. enumerate_from 0 (take i trees) ++ (i, t) ∷ []) (sym here) in
     subst (λ ps. AllZip R ps (names ++ name ∷ [])) (sym grown) (all_zip-more R (enumerate_from 0 (take i trees)) names (i, tree) name named is)
 
-pub text-kind : (kind : Kind) → only k.Text kind ≡ true → kind ≡ k.Text
+pub text-kind : (kind : TokenKind) → only k.Text kind ≡ true → kind ≡ k.Text
 unfolding same_kind
 text-kind k.Text yes' = refl
 text-kind _ yes' = absurd (cc)

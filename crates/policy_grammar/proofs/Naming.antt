@@ -8,17 +8,17 @@ use Rattle.policy_grammar.specs.declared.policy.Policy.{Policy}
 use Rattle.policy_grammar.specs.CoreOf.{IsCoreOf, AreCoresOf}
 use Rattle.policy_grammar.proofs.Lists.{all_zip-step}
 
-abbrev pub Named : Type 0
-Named = List (String Global × Policy)
+abbrev pub NamedPolicies : Type 0
+NamedPolicies = List (String Global × Policy)
 
-abbrev pub words : Named → List (List ℕ)
+abbrev pub words : NamedPolicies → List (List ℕ)
 words = map (λ p. string_bytes p.0)
 
-abbrev pub cores : Named → List Policy
+abbrev pub cores : NamedPolicies → List Policy
 cores = map (λ p. p.1)
 
 -- as many as trees
-counted : (text : List ℕ) (trees : List PolicyTree) (i : ℕ) (named : Named) → AreCoresOf text (take i trees) (cores named) → i ≤ length trees → length (words named) ≡ i
+counted : (text : List ℕ) (trees : List PolicyTree) (i : ℕ) (named : NamedPolicies) → AreCoresOf text (take i trees) (cores named) → i ≤ length trees → length (words named) ≡ i
 counted text trees i named are low =
     length-map named (λ p. string_bytes p.0) ∙ sym (length-map named (λ p. p.1)) ∙ AllZip-long (IsCoreOf text) (take i trees) (cores named) are ∙ length-take-le i trees low
 
@@ -26,7 +26,7 @@ long : (a b c : List (List ℕ)) → a ++ b ≡ c → length a + length b ≡ le
 long a b c e = sym (length-append a b) ∙ ap length e
 
 -- a name is left for each tree
-pub name-left : (text : List ℕ) (trees : List PolicyTree) (i : ℕ) (named : Named) (rest names : List (List ℕ)) → words named ++ rest ≡ names →
+pub name-left : (text : List ℕ) (trees : List PolicyTree) (i : ℕ) (named : NamedPolicies) (rest names : List (List ℕ)) → words named ++ rest ≡ names →
     AreCoresOf text (take i trees) (cores named) → i < length trees → length names ≡ length trees → length rest ≡ 0 → ⊥
 name-left text trees i named rest names all are below same empty =
     let count = counted text trees i named are (omega arith) in
@@ -42,7 +42,7 @@ none-behind a [] c e same = sym (append_none a) ∙ e
 none-behind a (x ∷ b) c e same = let whole = long a (x ∷ b) c e in absurd (omega arith)
 
 -- in the end no name is left
-pub names-all : (text : List ℕ) (trees : List PolicyTree) (i : ℕ) (named : Named) (rest names : List (List ℕ)) → words named ++ rest ≡ names →
+pub names-all : (text : List ℕ) (trees : List PolicyTree) (i : ℕ) (named : NamedPolicies) (rest names : List (List ℕ)) → words named ++ rest ≡ names →
     AreCoresOf text (take i trees) (cores named) → length trees ≤ i → length names ≡ length trees → words named ≡ names
 names-all text trees i named rest names all are over same =
     let whole = long (words named) rest names all in
@@ -51,7 +51,7 @@ names-all text trees i named rest names all are over same =
     none-behind (words named) rest names all (omega arith)
 
 -- one policy with its name more
-pub named-step : (text : List ℕ) (trees : List PolicyTree) (i : ℕ) (tree : PolicyTree) (old new : Named) (rest left names : List (List ℕ)) (name : List ℕ)
+pub named-step : (text : List ℕ) (trees : List PolicyTree) (i : ℕ) (tree : PolicyTree) (old new : NamedPolicies) (rest left names : List (List ℕ)) (name : List ℕ)
     (written : String Global) (policy : Policy) → (words old ++ rest ≡ names) × AreCoresOf text (take i trees) (cores old) → i < length trees →
     tree ≡ get_or trees i tree → IsCoreOf text tree policy → rest ≡ name ∷ left → string_bytes written ≡ name → new ≡ old ++ (written, policy) ∷ [] →
     (words new ++ left ≡ names) × AreCoresOf text (take (i + 1) trees) (cores new)

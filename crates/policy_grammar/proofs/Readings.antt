@@ -20,7 +20,7 @@ use Rattle.desugaring.specs.Refused.{least}
 use Rattle.policy_grammar.specs.Faults.{of_desugaring}
 use Rattle.policy_grammar.specs.Limits.{most_policy_bytes, most_file_bytes, IsId, IsSmallTree}
 use Rattle.policy_grammar.specs.PolicyText.{Derives, IsUnread, IsUidText, IsUidRefused, IsPolicyOf, IsPolicyText, tree_faults, file_faults, IsToldOf, IsOverLimit, AreOverLimits, HasNoPolicy, IsPolicyRefused, ArePoliciesOf, HaveNoPolicies, IsFileRefused}
-use Rattle.policy_grammar.specs.inner.Standing.{refusal_of}
+use Rattle.policy_grammar.specs.inner.Parts.{refusal_of}
 use Rattle.policy_grammar.specs.Unique.{HasOneReading, IsFileOf}
 use Rattle.policy_grammar.proofs.Cores.{uid-same, core-same, names-same, cores-same}
 use Rattle.policy_grammar.proofs.Sizes.{small_tree, small_trees}

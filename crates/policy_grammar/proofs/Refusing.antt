@@ -17,7 +17,7 @@ use Rattle.policy_grammar.specs.declared.fault.ReadFault.TheVariants as fault
 use Rattle.policy_grammar.specs.CoreOf.{IsNameOf, AreNamesOf}
 use Rattle.policy_grammar.specs.Limits.{most_policy_bytes, most_file_bytes}
 use Rattle.policy_grammar.specs.PolicyText.{Derives, IsUnread, HasNoPolicy, HaveNoPolicies, IsPolicyOf, IsPolicyText, IsPolicyRefused, IsFileRefused, OrNoMemory}
-use Rattle.policy_grammar.specs.inner.Standing.{LexedIn, refusal_of}
+use Rattle.policy_grammar.specs.inner.Parts.{LexedIn, refusal_of}
 
 pub refuted : (P : Type 0) (b : Bool) → (IsTrue b ↔ P) → b ≡ false → P → ⊥
 refuted P b iff no' p = let yes' : b ≡ true = iff.1 p in absurd (cc)

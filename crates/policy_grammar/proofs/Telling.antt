@@ -16,7 +16,7 @@ use Rattle.policy_grammar.specs.Conditions.{conditions_of, condition_faults}
 use Rattle.policy_grammar.specs.Limits.{IsSmallOver, IsSmallTree}
 use Rattle.policy_grammar.specs.PolicyText.{tree_faults, file_faults, OrNoMemory}
 use Rattle.policy_grammar.specs.Repeats.{annotation_marks, policy_marks}
-use Rattle.policy_grammar.specs.inner.Standing.{TellsPolicy, TellsFile}
+use Rattle.policy_grammar.specs.inner.Parts.{TellsPolicy, TellsFile}
 use Rattle.policy_grammar.proofs.Lists.{all-left, all-right}
 use Rattle.policy_grammar.proofs.Sizes.{decides}
 

@@ -4,24 +4,24 @@
 -- Rules of this product: conditions are joined to the right, and none are `true`.
 use Rattle.std.specs.Prelude.{ℕ, List, [], ◌∷◌, map}
 use Rattle.std.specs.List.{flat_map}
-use Rattle.policy_tokens.specs.declared.token.Kind.{Kind}
-use Rattle.policy_tokens.specs.declared.token.Kind.TheVariants as k
 use Rattle.expressions.specs.declared.operator.Unary.TheVariants.{Not}
 use Rattle.expressions.specs.declared.expr.Expr.{Expr}
 use Rattle.expressions.specs.declared.expr.Expr.TheVariants as core
 use Rattle.policy_syntax.specs.declared.tree.Condition.{Condition}
+use Rattle.policy_syntax.specs.declared.tree.ConditionWord.{ConditionWord}
+use Rattle.policy_syntax.specs.declared.tree.ConditionWord.TheVariants as word
 use Rattle.desugaring.specs.declared.fault.DesugarFault.{DesugarFault}
 use Rattle.desugaring.specs.Core.{core_of}
 use Rattle.desugaring.specs.Faults.{faults_of}
 use Rattle.policy_grammar.specs.Whole.{truth}
 
 -- `when { e }` asks e, and `unless { e }` asks `!e`
-abbrev pub asked_by : Kind → Expr → Expr
-asked_by k.Unless e = core.Unary Not e
-asked_by _ e = e
+abbrev pub asked_by : ConditionWord → Expr → Expr
+asked_by word.When e = e
+asked_by word.Unless e = core.Unary Not e
 
 abbrev pub condition_of : List ℕ → Condition → Expr
-condition_of text c = asked_by c.word.kind (core_of text c.expression)
+condition_of text c = asked_by c.word (core_of text c.expression)
 
 -- c && (d && ..)
 abbrev pub joined : List Expr → Expr

@@ -7,8 +7,8 @@ use Rattle.std.specs.List.{AllZip, enumerate_from}
 use Rattle.std.specs.Fmt.{decimal}
 use Rattle.std.specs.Str.{bytes_eq}
 use Rattle.values.specs.declared.entity_uid.EntityUid.{EntityUid}
-use Rattle.policy_tokens.specs.declared.token.Kind.{Kind}
-use Rattle.policy_tokens.specs.declared.token.Kind.TheVariants as k
+use Rattle.policy_tokens.specs.declared.token.TokenKind.{TokenKind}
+use Rattle.policy_tokens.specs.declared.token.TokenKind.TheVariants as k
 use Rattle.policy_tokens.specs.declared.token.Token.{Token}
 use Rattle.policy_tokens.specs.Lexing.{spelling_of}
 use Rattle.policy_tokens.specs.Strings.{IsStringOf}
@@ -55,7 +55,7 @@ IsActionScopeOf text (action.InList trees) (actions.InList uids) = AreUidsOf tex
 IsActionScopeOf text _ _ = ⊥
 
 -- the word that says an effect
-abbrev pub effect_word : Effect → Kind
+abbrev pub effect_word : Effect → TokenKind
 effect_word Permit = k.Permit
 effect_word Forbid = k.Forbid
 

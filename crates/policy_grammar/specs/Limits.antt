@@ -9,14 +9,14 @@ use Rattle.policy_syntax.specs.declared.tree.ActionTree.{ActionTree}
 use Rattle.policy_syntax.specs.declared.tree.ActionTree.TheVariants as action
 use Rattle.policy_syntax.specs.declared.tree.PolicyTree.{PolicyTree}
 use Rattle.expressions.specs.Size as size
+use Rattle.expressions.specs.Size.{most_height, most_forms}
 use Rattle.policy_grammar.specs.declared.policy.Policy.{Policy}
 use Rattle.policy_grammar.specs.Whole.{expression_of}
 use Rattle.policy_grammar.specs.Conditions.{conditions_of}
 use Rattle.policy_grammar.specs.CoreOf.{IsCoreOf}
 
 -- A core expression, with all but its forms left out: a literal or a variable, a form over one or over two operands,
--- a set of
--- so many literals, and any expression by its height and its count of forms.
+-- a set of so many literals, and any expression by its height and its count of forms.
 pub data Shape : Type 0 where
   leaf : Shape
   over : Shape → Shape
@@ -67,21 +67,15 @@ shape_of text tree =
     let e = conditions_of text tree.conditions in
     shape_over tree (sized (size.height e) (size.forms e))
 
--- the greatest height and count of forms, and the greatest lengths, in bytes, of an id, a policy text and a file
-abbrev pub most_height : ℕ
-most_height = 1000
-
-abbrev pub most_forms : ℕ
-most_forms = 1000000
-
+-- the greatest lengths, in bytes, of an id, a policy text and a file
 abbrev pub most_id_bytes : ℕ
 most_id_bytes = 256
 
 abbrev pub most_policy_bytes : ℕ
-most_policy_bytes = 262144
+most_policy_bytes = 262_144
 
 abbrev pub most_file_bytes : ℕ
-most_file_bytes = 8388608
+most_file_bytes = 8_388_608
 
 abbrev pub IsSmallShape : Shape → Type 0
 IsSmallShape shape = (height shape ≤ most_height) × (forms shape ≤ most_forms)

@@ -7,13 +7,13 @@ use Rattle.policy_tokens.specs.declared.token.Token.{Token}
 use Rattle.policy_tokens.specs.Lexing.{spelling_of}
 use Rattle.policy_syntax.specs.declared.tree.Annotation.{Annotation}
 use Rattle.policy_syntax.specs.declared.tree.PolicyTree.{PolicyTree}
-use Rattle.desugaring.specs.Repeats.{Mark}
+use Rattle.desugaring.specs.Repeats.{NameAt}
 
 -- the annotations of a policy, each by its key at its `@`
-abbrev pub mark_of : List ℕ → Annotation → Mark
+abbrev pub mark_of : List ℕ → Annotation → NameAt
 mark_of text annotation = record { name = spelling_of text annotation.key; at = annotation.at.start }
 
-abbrev pub annotation_marks : List ℕ → PolicyTree → List Mark
+abbrev pub annotation_marks : List ℕ → PolicyTree → List NameAt
 annotation_marks text tree = map (mark_of text) tree.annotations
 
 -- where the first token of a policy stands
@@ -25,5 +25,5 @@ abbrev pub start_of : PolicyTree → ℕ
 start_of tree = start_behind tree.annotations tree.effect
 
 -- the policies of a file, each by its name at its first token
-abbrev pub policy_marks : List (List ℕ) → List PolicyTree → List Mark
+abbrev pub policy_marks : List (List ℕ) → List PolicyTree → List NameAt
 policy_marks names trees = map (λ named. record { name = named.0; at = start_of named.1 }) (zip names trees)

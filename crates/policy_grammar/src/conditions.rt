@@ -4,37 +4,36 @@ ghost use Rattle.std.specs.List.{AllByRecursion};
 ghost use Rattle.expressions.specs.declared.expr.Expr.TheVariants as core;
 ghost use Rattle.desugaring.specs.Faults.{faults_of};
 ghost use Rattle.desugaring.specs.Measured.{of};
-ghost use Rattle.policy_syntax.specs.Stands.{ConditionStands};
+ghost use Rattle.policy_syntax.specs.WellFormed.{WellFormedCondition};
 ghost use Rattle.policy_grammar.specs.Conditions.{asked_by, condition_of, conditions_of, condition_faults};
-ghost use Rattle.desugaring.specs.Standing.{StandsIn};
-ghost use Rattle.policy_grammar.specs.inner.Standing.{AreSound, judged_by};
+ghost use Rattle.desugaring.specs.BuiltFrom.{IsBuiltFrom};
+ghost use Rattle.policy_grammar.specs.inner.Parts.{AreSound, judged_by};
 
 use crate::held::beside;
 use desugaring::{Measure, build_expr, measure_expr, measures_add_up};
 use expressions::{Expr, Literal, Unary};
 use plain::NoMemory;
-use policy_syntax::Condition;
-use policy_tokens::Kind;
+use policy_syntax::{Condition, ConditionWord};
 use std::alloc::Global;
 
 /// What is told of an expression behind this word.
-fn judge_behind(word: Kind, measure: Measure) -> Measure
+fn judge_asked(word: ConditionWord, measure: Measure) -> Measure
     ensures { result ≡ judged_by word measure }
 {
     match word {
-        Kind::Unless => measure.above(),
-        _ => measure,
+        ConditionWord::When => measure,
+        ConditionWord::Unless => measure.above(),
     }
 }
 
 fn judge_condition(alloc: Global, text: &str, condition: &Condition) -> Result<Measure, NoMemory>
-    requires { StandsIn text.now (λ tokens. ConditionStands tokens condition.now) }
+    requires { IsBuiltFrom text.now (λ tokens. WellFormedCondition tokens condition.now) }
     ensures { IfOk result (λ j. j ≡ of (condition_of text.now condition.now)
         (faults_of text.now condition.now.expression)) }
 {
     measures_add_up();
     let measure = measure_expr(alloc, text, &condition.expression)?;
-    Ok(judge_behind(condition.word.kind, measure))
+    Ok(judge_asked(condition.word, measure))
 }
 
 /// How large the core expression of the conditions is, and their fault at the least place. Takes memory for the keys
@@ -44,7 +43,7 @@ pub(crate) fn judge_conditions(
     text: &str,
     conditions: &[Condition],
 ) -> Result<Measure, NoMemory>
-    requires { StandsIn text.now (λ tokens. AllByRecursion (ConditionStands tokens) conditions.now) }
+    requires { IsBuiltFrom text.now (λ tokens. AllByRecursion (WellFormedCondition tokens) conditions.now) }
     ensures { IfOk result (λ j. j ≡ of (conditions_of text.now conditions.now)
         (condition_faults text.now conditions.now)) }
 {
@@ -68,22 +67,22 @@ pub(crate) fn judge_conditions(
 }
 
 /// What is asked by an expression behind this word.
-fn asked(alloc: Global, word: Kind, expr: Expr) -> Result<Expr, NoMemory>
+fn asked(alloc: Global, word: ConditionWord, expr: Expr) -> Result<Expr, NoMemory>
     ensures { IfOk result (λ e. e ≡ asked_by word expr) }
 {
     match word {
-        Kind::Unless => Expr::unary(alloc, Unary::Not, expr),
-        _ => Ok(expr),
+        ConditionWord::When => Ok(expr),
+        ConditionWord::Unless => Expr::unary(alloc, Unary::Not, expr),
     }
 }
 
 fn build_condition(alloc: Global, text: &str, condition: &Condition) -> Result<Expr, NoMemory>
-    requires stands { StandsIn text.now (λ tokens. ConditionStands tokens condition.now) }
+    requires stands { IsBuiltFrom text.now (λ tokens. WellFormedCondition tokens condition.now) }
     requires sound { faults_of text.now condition.now.expression ≡ [] }
     ensures { IfOk result (λ e. e ≡ condition_of text.now condition.now) }
 {
     let expr = build_expr(alloc, text, &condition.expression)?;
-    asked(alloc, condition.word.kind, expr)
+    asked(alloc, condition.word, expr)
 }
 
 /// One condition more, before those that are joined.
@@ -93,7 +92,7 @@ fn join_before(
     condition: &Condition,
     joined: Expr,
 ) -> Result<Expr, NoMemory>
-    requires stands { StandsIn text.now (λ tokens. ConditionStands tokens condition.now) }
+    requires stands { IsBuiltFrom text.now (λ tokens. WellFormedCondition tokens condition.now) }
     requires sound { faults_of text.now condition.now.expression ≡ [] }
     ensures { IfOk result (λ e. e ≡ core.And (condition_of text.now condition.now) joined) }
 {
@@ -107,7 +106,7 @@ pub(crate) fn build_conditions(
     text: &str,
     conditions: &[Condition],
 ) -> Result<Expr, NoMemory>
-    requires stands { StandsIn text.now (λ tokens. AllByRecursion (ConditionStands tokens) conditions.now) }
+    requires stands { IsBuiltFrom text.now (λ tokens. AllByRecursion (WellFormedCondition tokens) conditions.now) }
     requires sound { AreSound text.now conditions.now }
     ensures { IfOk result (λ e. e ≡ conditions_of text.now conditions.now) }
 {

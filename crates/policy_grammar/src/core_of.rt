@@ -2,12 +2,13 @@
 ghost use Rattle.std.specs.Prelude.{◌≡◌, [], true, IfOk};
 ghost use Rattle.std.specs.List.{AllByRecursion};
 ghost use Rattle.policy_syntax.specs.Grammar.{effects};
-ghost use Rattle.policy_syntax.specs.Stands.{PathStands, UidStands, PartStands, ActionStands, PolicyStands};
+ghost use Rattle.policy_syntax.specs.WellFormed.{WellFormedPath, WellFormedUid, WellFormedPart, WellFormedAction};
+ghost use Rattle.policy_syntax.specs.WellFormed.{WellFormedPolicy};
 ghost use Rattle.policy_grammar.specs.Conditions.{condition_faults};
 ghost use Rattle.desugaring.specs.Meaning.{path_name};
 ghost use Rattle.policy_grammar.specs.CoreOf.{IsUidOf, AreUidsOf, IsEntityScopeOf, IsActionScopeOf, effect_word};
 ghost use Rattle.policy_grammar.specs.CoreOf.{IsCoreOf};
-ghost use Rattle.desugaring.specs.Standing.{StandsIn};
+ghost use Rattle.desugaring.specs.BuiltFrom.{IsBuiltFrom};
 
 use crate::conditions::build_conditions;
 use crate::held::beside;
@@ -15,19 +16,19 @@ use crate::policy::{ActionScope, Effect, EntityScope, Policy, Scope};
 use desugaring::type_name;
 use plain::{Items, NoMemory};
 use policy_syntax::{ActionTree, PartTree, PathTree, PolicyTree, UidTree};
-use policy_tokens::{Kind, decode_string};
+use policy_tokens::{TokenKind, decode_string};
 use std::alloc::Global;
 use values::{EntityUid, TypeName};
 
 fn type_name_of(alloc: Global, text: &str, path: &PathTree) -> Result<TypeName, NoMemory>
-    requires { StandsIn text.now (λ tokens. PathStands tokens path.now) }
+    requires { IsBuiltFrom text.now (λ tokens. WellFormedPath tokens path.now) }
     ensures { IfOk result (λ name. name ≡ path_name text.now path.now) }
 {
     type_name(alloc, text, path)
 }
 
 pub(crate) fn uid_of(alloc: Global, text: &str, tree: &UidTree) -> Result<EntityUid, NoMemory>
-    requires { StandsIn text.now (λ tokens. UidStands tokens tree.now) }
+    requires { IsBuiltFrom text.now (λ tokens. WellFormedUid tokens tree.now) }
     ensures { IfOk result (IsUidOf text.now tree.now) }
 {
     let type_name = type_name_of(alloc, text, &tree.path)?;
@@ -36,7 +37,7 @@ pub(crate) fn uid_of(alloc: Global, text: &str, tree: &UidTree) -> Result<Entity
 }
 
 fn uids_of(alloc: Global, text: &str, trees: &Items<UidTree>) -> Result<Items<EntityUid>, NoMemory>
-    requires { StandsIn text.now (λ tokens. AllByRecursion (UidStands tokens) trees.now) }
+    requires { IsBuiltFrom text.now (λ tokens. AllByRecursion (WellFormedUid tokens) trees.now) }
     ensures { IfOk result (AreUidsOf text.now trees.now) }
 {
     let mut uids = Vec::with_capacity(alloc, trees.len())?;
@@ -48,7 +49,7 @@ fn uids_of(alloc: Global, text: &str, trees: &Items<UidTree>) -> Result<Items<En
 }
 
 fn entity_scope_of(alloc: Global, text: &str, tree: &PartTree) -> Result<EntityScope, NoMemory>
-    requires { StandsIn text.now (λ tokens. PartStands tokens tree.now) }
+    requires { IsBuiltFrom text.now (λ tokens. WellFormedPart tokens tree.now) }
     ensures { IfOk result (IsEntityScopeOf text.now tree.now) }
 {
     match tree {
@@ -74,7 +75,7 @@ fn entity_scope_of(alloc: Global, text: &str, tree: &PartTree) -> Result<EntityS
 }
 
 fn action_scope_of(alloc: Global, text: &str, tree: &ActionTree) -> Result<ActionScope, NoMemory>
-    requires { StandsIn text.now (λ tokens. ActionStands tokens tree.now) }
+    requires { IsBuiltFrom text.now (λ tokens. WellFormedAction tokens tree.now) }
     ensures { IfOk result (IsActionScopeOf text.now tree.now) }
 {
     match tree {
@@ -95,19 +96,19 @@ fn action_scope_of(alloc: Global, text: &str, tree: &ActionTree) -> Result<Actio
 }
 
 /// The effect that a word says.
-fn effect_of(kind: Kind) -> Effect
+fn effect_of(kind: TokenKind) -> Effect
     requires { effects kind ≡ true }
     ensures { kind ≡ effect_word result }
 {
     match kind {
-        Kind::Permit => Effect::Permit,
-        Kind::Forbid => Effect::Forbid,
+        TokenKind::Permit => Effect::Permit,
+        TokenKind::Forbid => Effect::Forbid,
         _ => unreachable!(),
     }
 }
 
 fn scope_of(alloc: Global, text: &str, tree: &PolicyTree) -> Result<Scope, NoMemory>
-    requires { StandsIn text.now (λ tokens. PolicyStands tokens tree.now) }
+    requires { IsBuiltFrom text.now (λ tokens. WellFormedPolicy tokens tree.now) }
     ensures principal { IfOk result (λ scope. IsEntityScopeOf text.now tree.now.principal scope.principal) }
     ensures action { IfOk result (λ scope. IsActionScopeOf text.now tree.now.action scope.action) }
     ensures resource { IfOk result (λ scope. IsEntityScopeOf text.now tree.now.resource scope.resource) }
@@ -128,7 +129,7 @@ fn scope_of(alloc: Global, text: &str, tree: &PolicyTree) -> Result<Scope, NoMem
 
 /// What a tree stands for.
 pub(crate) fn core_of(alloc: Global, text: &str, tree: &PolicyTree) -> Result<Policy, NoMemory>
-    requires stands { StandsIn text.now (λ tokens. PolicyStands tokens tree.now) }
+    requires stands { IsBuiltFrom text.now (λ tokens. WellFormedPolicy tokens tree.now) }
     requires sound { condition_faults text.now tree.now.conditions ≡ [] }
     ensures { IfOk result (IsCoreOf text.now tree.now) }
 {

@@ -16,7 +16,7 @@ mod verdict;
 pub use expressions::{Expr, Pattern};
 pub use fault::ReadFault;
 pub use laws::{file_names_differ, texts_have_one_reading, told_fault_is_least};
-pub use limits::heads_are_small;
+pub use limits::{MOST_FILE_BYTES, MOST_ID_BYTES, MOST_POLICY_BYTES, heads_are_small};
 pub use policy::{ActionScope, Effect, EntityScope, Policy, Scope};
 pub use policy_tokens::{LexFault, Token, tokens};
 pub use texts::{parse_policies, parse_policy, parse_uid};

@@ -8,10 +8,10 @@ use plain::Text;
 use policy_syntax::{ActionTree, PartTree, PolicyTree};
 
 /// The most bytes of a policy text, or of one uid.
-pub(crate) const MOST_POLICY_BYTES: usize = 262_144;
+pub const MOST_POLICY_BYTES: usize = 262_144;
 
 /// The most bytes of a file of policies.
-pub(crate) const MOST_FILE_BYTES: usize = 8_388_608;
+pub const MOST_FILE_BYTES: usize = 8_388_608;
 
 /// The greatest height of the conditions' core expression: three `&&` stand above it, and no head is too high.
 const MOST_CONDITION_HEIGHT: u32 = HEIGHT_MAX - 3;
@@ -20,7 +20,7 @@ const MOST_CONDITION_HEIGHT: u32 = HEIGHT_MAX - 3;
 const MOST_FORMS: usize = FORMS_MAX as usize;
 
 /// The most bytes of a policy's id.
-const MOST_ID_BYTES: usize = 256;
+pub const MOST_ID_BYTES: usize = 256;
 
 fn part_forms(part: &PartTree) -> usize
     ensures is { result ≡ spec.forms (spec.part_shape part.now) }

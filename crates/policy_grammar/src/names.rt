@@ -2,11 +2,11 @@
 ghost use Rattle.std.specs.Prelude.{◌≡◌, ◌++◌, [], IfOk, IfSome, codes, decimal, find, length, map, string_bytes};
 ghost use Rattle.std.specs.Option.{option_copied};
 ghost use Rattle.std.specs.List.{AllByRecursion};
-ghost use Rattle.policy_syntax.specs.Stands.{AnnotationStands, PolicyStands};
+ghost use Rattle.policy_syntax.specs.WellFormed.{WellFormedAnnotation, WellFormedPolicy};
 ghost use Rattle.policy_grammar.specs.Conditions.{condition_faults};
 ghost use Rattle.policy_grammar.specs.CoreOf.{IsValueOf, is_id, IsNameOf, AreNamesOf, AreCoresOf};
-ghost use Rattle.desugaring.specs.Standing.{StandsIn};
-ghost use Rattle.policy_grammar.specs.inner.Standing.{has_id};
+ghost use Rattle.desugaring.specs.BuiltFrom.{IsBuiltFrom};
+ghost use Rattle.policy_grammar.specs.inner.Parts.{has_id};
 
 use crate::core_of::core_of;
 use crate::policy::Policy;
@@ -22,9 +22,9 @@ const MOST_PLACED_BYTES: usize = 26;
 
 /// The first annotation with the key `id`.
 fn id_of<'a>(text: &str, annotations: &'a [Annotation]) -> Option<&'a Annotation>
-    requires { StandsIn text.now (λ tokens. AllByRecursion (AnnotationStands tokens) annotations.now) }
+    requires { IsBuiltFrom text.now (λ tokens. AllByRecursion (WellFormedAnnotation tokens) annotations.now) }
     ensures found { option_copied result ≡ find (is_id text.now) annotations.entry.now }
-    ensures stands { IfSome result (λ id. StandsIn text.now (λ tokens. AnnotationStands tokens id.now)) }
+    ensures stands { IfSome result (λ id. IsBuiltFrom text.now (λ tokens. WellFormedAnnotation tokens id.now)) }
 {
     for annotation in annotations {
         if spelling(text, annotation.key) == "id" {
@@ -36,7 +36,7 @@ fn id_of<'a>(text: &str, annotations: &'a [Annotation]) -> Option<&'a Annotation
 
 /// Whether a policy is named by an `@id`, and not by its place.
 pub(crate) fn has_id(text: &str, tree: &PolicyTree) -> bool
-    requires { StandsIn text.now (λ tokens. PolicyStands tokens tree.now) }
+    requires { IsBuiltFrom text.now (λ tokens. WellFormedPolicy tokens tree.now) }
     ensures { result ≡ has_id text.now tree.now }
 {
     id_of(text, tree.annotations.as_slice()).is_some()
@@ -44,7 +44,7 @@ pub(crate) fn has_id(text: &str, tree: &PolicyTree) -> bool
 
 /// The text that an annotation has.
 fn value_of(alloc: Global, text: &str, annotation: &Annotation) -> Result<Text, NoMemory>
-    requires { StandsIn text.now (λ tokens. AnnotationStands tokens annotation.now) }
+    requires { IsBuiltFrom text.now (λ tokens. WellFormedAnnotation tokens annotation.now) }
     ensures { IfOk result (IsValueOf text.now annotation.now.value) }
 {
     match annotation.value {
@@ -66,7 +66,7 @@ fn placed_name(alloc: Global, place: usize) -> Result<Text, NoMemory>
 
 /// The name of the policy at this place of its file.
 fn name_of(alloc: Global, text: &str, place: usize, tree: &PolicyTree) -> Result<Text, NoMemory>
-    requires { StandsIn text.now (λ tokens. PolicyStands tokens tree.now) }
+    requires { IsBuiltFrom text.now (λ tokens. WellFormedPolicy tokens tree.now) }
     ensures { IfOk result (IsNameOf text.now place tree.now) }
 {
     match id_of(text, tree.annotations.as_slice()) {
@@ -81,7 +81,7 @@ pub(crate) fn names_of(
     text: &str,
     trees: &[PolicyTree],
 ) -> Result<Vec<Text>, NoMemory>
-    requires { StandsIn text.now (λ tokens. AllByRecursion (PolicyStands tokens) trees.now) }
+    requires { IsBuiltFrom text.now (λ tokens. AllByRecursion (WellFormedPolicy tokens) trees.now) }
     ensures { IfOk result (λ names. AreNamesOf text.now trees.now names.items) }
 {
     let mut names = Vec::with_capacity(alloc, trees.len())?;
@@ -100,7 +100,7 @@ pub(crate) fn named_of(
     trees: &[PolicyTree],
 ) -> Result<Vec<(String, Policy)>, NoMemory>
     requires same { length names.items ≡ length trees.now }
-    requires stands { StandsIn text.now (λ tokens. AllByRecursion (PolicyStands tokens) trees.now) }
+    requires stands { IsBuiltFrom text.now (λ tokens. AllByRecursion (WellFormedPolicy tokens) trees.now) }
     requires sound { AllByRecursion (λ tree. condition_faults text.now tree.conditions ≡ []) trees.now }
     ensures names { IfOk result (λ named. map (λ p. string_bytes p.0) named.items ≡ names.items) }
     ensures cores { IfOk result (λ named. AreCoresOf text.now trees.now (map (λ p. p.1) named.items)) }

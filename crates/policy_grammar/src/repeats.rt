@@ -1,16 +1,16 @@
 //! Which annotation or policy's name stands a second time, and where first.
 ghost use Rattle.std.specs.Prelude.{◌≡◌, ◌||◌, IfOk, length};
 ghost use Rattle.std.specs.List.{AllByRecursion};
-ghost use Rattle.policy_syntax.specs.Stands.{PolicyStands};
+ghost use Rattle.policy_syntax.specs.WellFormed.{WellFormedPolicy};
 ghost use Rattle.policy_grammar.specs.CoreOf.{AreNamesOf};
 ghost use Rattle.desugaring.specs.Refused.{least};
 ghost use Rattle.desugaring.specs.Repeats.{repeat_faults, shown};
-ghost use Rattle.desugaring.specs.Standing.{StandsIn};
+ghost use Rattle.desugaring.specs.BuiltFrom.{IsBuiltFrom};
 ghost use Rattle.policy_grammar.specs.Repeats.{annotation_marks, policy_marks, start_of};
-ghost use Rattle.policy_grammar.specs.inner.Standing.{has_id, looks_placed, meets_place, doubtful_marks};
+ghost use Rattle.policy_grammar.specs.inner.Parts.{has_id, looks_placed, meets_place, doubtful_marks};
 
 use crate::names::has_id;
-use desugaring::{DesugarFault, Mark, first_duplicate, repeats_stand_again};
+use desugaring::{DesugarFault, NameAt, first_duplicate, repeats_stand_again};
 use plain::{NoMemory, Text};
 use policy_syntax::PolicyTree;
 use policy_tokens::spelling;
@@ -21,13 +21,13 @@ fn marks_of_annotations<'a>(
     alloc: Global,
     text: &'a str,
     tree: &PolicyTree,
-) -> Result<Vec<Mark<'a>>, NoMemory>
-    requires { StandsIn text.now (λ tokens. PolicyStands tokens tree.now) }
+) -> Result<Vec<NameAt<'a>>, NoMemory>
+    requires { IsBuiltFrom text.now (λ tokens. WellFormedPolicy tokens tree.now) }
     ensures { IfOk result (λ marks. shown marks.items ≡ annotation_marks text.entry.now tree.now) }
 {
     let mut marks = Vec::new(alloc);
     for annotation in tree.annotations.as_slice() {
-        marks.push(Mark {
+        marks.push(NameAt {
             name: spelling(text, annotation.key),
             at: annotation.at.start,
         })?;
@@ -41,7 +41,7 @@ pub(crate) fn repeated_annotation(
     text: &str,
     tree: &PolicyTree,
 ) -> Result<Option<DesugarFault>, NoMemory>
-    requires { StandsIn text.now (λ tokens. PolicyStands tokens tree.now) }
+    requires { IsBuiltFrom text.now (λ tokens. WellFormedPolicy tokens tree.now) }
     ensures { IfOk result (λ fault. fault ≡ least (repeat_faults (annotation_marks text.now tree.now))) }
 {
     let keys = marks_of_annotations(alloc, text, tree)?;
@@ -60,7 +60,7 @@ fn start(tree: &PolicyTree) -> usize
 
 /// Whether a policy is named by an `@id` that begins as the names by places do.
 fn looks_placed(text: &str, name: &Text, tree: &PolicyTree) -> bool
-    requires { StandsIn text.now (λ tokens. PolicyStands tokens tree.now) }
+    requires { IsBuiltFrom text.now (λ tokens. WellFormedPolicy tokens tree.now) }
     ensures { result ≡ looks_placed text.now name.now tree.now }
 {
     has_id(text, tree) && name.as_str().as_bytes().starts_with(b"policy")
@@ -69,7 +69,7 @@ fn looks_placed(text: &str, name: &Text, tree: &PolicyTree) -> bool
 /// Whether an `@id` of a file may be the name that a policy has by its place.
 fn meets_place(text: &str, names: &[Text], trees: &[PolicyTree]) -> bool
     requires same { length names.now ≡ length trees.now }
-    requires stands { StandsIn text.now (λ tokens. AllByRecursion (PolicyStands tokens) trees.now) }
+    requires stands { IsBuiltFrom text.now (λ tokens. AllByRecursion (WellFormedPolicy tokens) trees.now) }
     ensures { result ≡ meets_place text.now names.now trees.now }
 {
     for (i, tree) in trees.iter().enumerate() {
@@ -82,7 +82,7 @@ fn meets_place(text: &str, names: &[Text], trees: &[PolicyTree]) -> bool
 
 /// Whether the name of a policy may stand twice.
 fn is_doubtful(text: &str, wide: bool, tree: &PolicyTree) -> bool
-    requires { StandsIn text.now (λ tokens. PolicyStands tokens tree.now) }
+    requires { IsBuiltFrom text.now (λ tokens. WellFormedPolicy tokens tree.now) }
     ensures { result ≡ (wide || has_id text.now tree.now) }
 {
     wide || has_id(text, tree)
@@ -95,9 +95,9 @@ fn doubtful_marks<'a>(
     wide: bool,
     names: &'a [Text],
     trees: &[PolicyTree],
-) -> Result<Vec<Mark<'a>>, NoMemory>
+) -> Result<Vec<NameAt<'a>>, NoMemory>
     requires same { length names.now ≡ length trees.now }
-    requires stands { StandsIn text.now (λ tokens. AllByRecursion (PolicyStands tokens) trees.now) }
+    requires stands { IsBuiltFrom text.now (λ tokens. AllByRecursion (WellFormedPolicy tokens) trees.now) }
     ensures { IfOk result (λ marks. shown marks.items ≡ doubtful_marks text.now wide names.entry.now trees.now) }
 {
     let mut marks = Vec::new(alloc);
@@ -105,7 +105,7 @@ fn doubtful_marks<'a>(
         if !is_doubtful(text, wide, tree) {
             continue;
         }
-        marks.push(Mark {
+        marks.push(NameAt {
             name: names[i].as_str(),
             at: start(tree),
         })?;
@@ -122,7 +122,7 @@ pub(crate) fn repeated_name(
     trees: &[PolicyTree],
 ) -> Result<Option<DesugarFault>, NoMemory>
     requires named { AreNamesOf text.now trees.now names.now }
-    requires stands { StandsIn text.now (λ tokens. AllByRecursion (PolicyStands tokens) trees.now) }
+    requires stands { IsBuiltFrom text.now (λ tokens. AllByRecursion (WellFormedPolicy tokens) trees.now) }
     ensures { IfOk result (λ fault. fault ≡ least (repeat_faults (policy_marks names.now trees.now))) }
 {
     repeats_stand_again();

@@ -4,15 +4,15 @@ ghost use Rattle.std.specs.List.{AllByRecursion};
 ghost use Rattle.policy_syntax.specs.passed_on.expression_syntax.{nesting_limit};
 ghost use Rattle.token_readers.specs.Lang.{at_any};
 ghost use Rattle.policy_syntax.specs.Grammar as grammar;
-ghost use Rattle.policy_syntax.specs.Stands.{UidStands, PolicyStands};
+ghost use Rattle.policy_syntax.specs.WellFormed.{WellFormedUid, WellFormedPolicy};
 ghost use Rattle.policy_grammar.specs.CoreOf.{AreNamesOf};
 ghost use Rattle.policy_grammar.specs.Limits.{most_policy_bytes, most_file_bytes};
 ghost use Rattle.policy_grammar.specs.PolicyText.{Derives, IsUidText, IsPolicyOf, HasNoPolicy, ArePoliciesOf};
 ghost use Rattle.policy_grammar.specs.PolicyText.{HaveNoPolicies};
 ghost use Rattle.policy_grammar.specs.PolicyText.{IsPolicyText, IsPolicyFile, IsUnread, IsUidRefused};
 ghost use Rattle.policy_grammar.specs.PolicyText.{IsPolicyRefused, IsFileRefused, OrNoMemory, byte_of};
-ghost use Rattle.desugaring.specs.Standing.{StandsIn};
-ghost use Rattle.policy_grammar.specs.inner.Standing.{LexedIn, IsUnlexed, refusal_of};
+ghost use Rattle.desugaring.specs.BuiltFrom.{IsBuiltFrom};
+ghost use Rattle.policy_grammar.specs.inner.Parts.{LexedIn, IsUnlexed, refusal_of};
 
 use crate::core_of::{core_of, uid_of};
 use crate::fault::ReadFault;
@@ -65,7 +65,7 @@ fn refusal(text: &str, tokens: &[Token], fault: SyntaxFault) -> ReadFault
 
 fn uid_tree(alloc: Global, text: &str) -> Result<UidTree, ReadFault>
     ensures derives { IfOk result (Derives grammar.uid most_policy_bytes text.now) }
-    ensures stands { IfOk result (λ tree. StandsIn text.now (λ tokens. UidStands tokens tree)) }
+    ensures stands { IfOk result (λ tree. IsBuiltFrom text.now (λ tokens. WellFormedUid tokens tree)) }
     ensures err { IfErr result (OrNoMemory (IsUnread grammar.uid grammar.uid most_policy_bytes text.now)) }
 {
     let tokens = tokens_of(alloc, text, MOST_POLICY_BYTES)?;
@@ -77,7 +77,7 @@ fn uid_tree(alloc: Global, text: &str) -> Result<UidTree, ReadFault>
 
 fn policy_tree(alloc: Global, text: &str) -> Result<PolicyTree, ReadFault>
     ensures derives { IfOk result (Derives (grammar.policy nesting_limit) most_policy_bytes text.now) }
-    ensures stands { IfOk result (λ tree. StandsIn text.now (λ tokens. PolicyStands tokens tree)) }
+    ensures stands { IfOk result (λ tree. IsBuiltFrom text.now (λ tokens. WellFormedPolicy tokens tree)) }
     ensures err { IfErr result
         (OrNoMemory (IsUnread (grammar.policy nesting_limit) (at_any grammar.policy) most_policy_bytes text.now)) }
 {
@@ -92,7 +92,7 @@ fn policy_trees(alloc: Global, text: &str) -> Result<Vec<PolicyTree>, ReadFault>
     ensures derives { IfOk result
         (λ trees. Derives (grammar.policies nesting_limit) most_file_bytes text.now trees.items) }
     ensures stands { IfOk result
-        (λ trees. StandsIn text.now (λ tokens. AllByRecursion (PolicyStands tokens) trees.items)) }
+        (λ trees. IsBuiltFrom text.now (λ tokens. AllByRecursion (WellFormedPolicy tokens) trees.items)) }
     ensures err { IfErr result
         (OrNoMemory (IsUnread (grammar.policies nesting_limit) (at_any grammar.policies) most_file_bytes text.now)) }
 {
@@ -117,7 +117,7 @@ pub fn parse_uid(alloc: Global, text: &str) -> Result<EntityUid, ReadFault>
 
 /// The policy that a tree stands for, within the limits.
 fn policy_of(alloc: Global, text: &str, tree: &PolicyTree) -> Result<Policy, ReadFault>
-    requires { StandsIn text.now (λ tokens. PolicyStands tokens tree.now) }
+    requires { IsBuiltFrom text.now (λ tokens. WellFormedPolicy tokens tree.now) }
     ensures read { IfOk result (IsPolicyOf text.now tree.now) }
     ensures refused { IfErr result (OrNoMemory (HasNoPolicy text.now tree.now)) }
 {
@@ -158,7 +158,7 @@ fn policies_of(
     names: Vec<Text>,
 ) -> Result<Vec<(String, Policy)>, ReadFault>
     requires named { AreNamesOf text.now trees.now names.items }
-    requires stands { StandsIn text.now (λ tokens. AllByRecursion (PolicyStands tokens) trees.now) }
+    requires stands { IsBuiltFrom text.now (λ tokens. AllByRecursion (WellFormedPolicy tokens) trees.now) }
     ensures read { IfOk result
         (λ named. ArePoliciesOf text.now trees.now
         (map (λ p. string_bytes p.0) named.items) (map (λ p. p.1) named.items)) }

@@ -3,9 +3,9 @@
 ghost use Rattle.std.specs.Prelude.{◌≡◌, ◌↔◌, IsTrue, IfOk};
 ghost use Rattle.std.specs.List.{AllByRecursion};
 ghost use Rattle.desugaring.specs.Refused as spec;
-ghost use Rattle.desugaring.specs.Standing.{StandsIn};
-ghost use Rattle.policy_syntax.specs.Stands.{PolicyStands};
-ghost use Rattle.policy_grammar.specs.inner.Standing.{TellsPolicy, TellsFile};
+ghost use Rattle.desugaring.specs.BuiltFrom.{IsBuiltFrom};
+ghost use Rattle.policy_syntax.specs.WellFormed.{WellFormedPolicy};
+ghost use Rattle.policy_grammar.specs.inner.Parts.{TellsPolicy, TellsFile};
 
 use crate::conditions::judge_conditions;
 use crate::limits::is_small;
@@ -41,7 +41,7 @@ pub(crate) fn judge_policy(
     text: &str,
     tree: &PolicyTree,
 ) -> Result<Verdict, NoMemory>
-    requires { StandsIn text.now (λ tokens. PolicyStands tokens tree.now) }
+    requires { IsBuiltFrom text.now (λ tokens. WellFormedPolicy tokens tree.now) }
     ensures { IfOk result (TellsPolicy text.now tree.now) }
 {
     least_fault_is_told();
@@ -60,7 +60,7 @@ pub(crate) fn judge_policies(
     text: &str,
     trees: &[PolicyTree],
 ) -> Result<Verdict, NoMemory>
-    requires { StandsIn text.now (λ tokens. AllByRecursion (PolicyStands tokens) trees.now) }
+    requires { IsBuiltFrom text.now (λ tokens. AllByRecursion (WellFormedPolicy tokens) trees.now) }
     ensures { IfOk result (TellsFile text.now trees.now) }
 {
     least_fault_is_told();

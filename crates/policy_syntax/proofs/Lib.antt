@@ -1,3 +1,3 @@
 pub mod ScopeRules
 pub mod Exact
-pub mod StandsLemmas
+pub mod WellFormedLemmas

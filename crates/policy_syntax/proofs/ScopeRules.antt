@@ -1,8 +1,8 @@
 -- The parts of a scope, annotations and policies are read exactly.
 use Rattle.std.proofs.Common.{◌≡◌, ℕ, suc, ◌≤◌, true, false, List, [], ◌∷◌, ◌++◌, Option, None, refl, ap, ◌∙◌, append_assoc, arith}
 use Rattle.policy_tokens.specs.declared.token.Token.{Token}
-use Rattle.policy_tokens.specs.declared.token.Kind.{Kind}
-use Rattle.policy_tokens.specs.declared.token.Kind.TheVariants as k
+use Rattle.policy_tokens.specs.declared.token.TokenKind.{TokenKind}
+use Rattle.policy_tokens.specs.declared.token.TokenKind.TheVariants as k
 use Rattle.token_readers.specs.declared.tree.PathTree.{PathTree}
 use Rattle.token_readers.specs.declared.tree.UidTree.{UidTree}
 use Rattle.policy_syntax.specs.declared.tree.Annotation.{Annotation}
@@ -13,15 +13,16 @@ use Rattle.policy_syntax.specs.declared.tree.ActionTree.TheVariants as action
 use Rattle.policy_syntax.specs.declared.tree.ScopeTree.{ScopeTree}
 use Rattle.expression_syntax.specs.passed_on.expression_trees.{ExprTree}
 use Rattle.policy_syntax.specs.declared.tree.Condition.{Condition}
+use Rattle.policy_syntax.specs.declared.tree.ConditionWord.{ConditionWord}
 use Rattle.policy_syntax.specs.declared.tree.PolicyTree.{PolicyTree}
 use Rattle.token_readers.specs.Kinds.{Kinds, only, same_kind}
 use Rattle.token_readers.specs.Lang.{Lang}
 use Rattle.token_readers.specs.Lang as lang
 use Rattle.policy_syntax.specs.Grammar as g
-use Rattle.policy_syntax.specs.Grammar.{identifiers, words, effects, condition_words, is_in}
-use Rattle.expression_syntax.specs.Expressions.{expr}
+use Rattle.policy_syntax.specs.Grammar.{identifiers, words, effects, condition_word_of, condition_words, is_in}
+use Rattle.expression_syntax.specs.Expressions.{expr, symbol}
 use Rattle.expression_syntax.specs.ExpressionReading as expressions
-use Rattle.expression_syntax.proofs.Published.{after_expr, expr_rule, alive_expr}
+use Rattle.expression_syntax.proofs.Published.{after_expr, expr_rule, alive_expr, starts_symbol, symbol_rule}
 use Rattle.token_readers.proofs.Depths.{levels}
 use Rattle.token_readers.specs.Reads.{Begins, sees}
 use Rattle.token_readers.specs.Reading.{Parser, pure, either, ◌>>=◌}
@@ -62,7 +63,7 @@ alive_constraint =
     alive_right (lang.◌giving◌ g.equal_uid part.Equal) or_in []
     (alive_right (lang.◌giving◌ g.in_uid part.In) or_any [] (alive_right g.type_test (lang.empty part.Any) [] (alive_empty part.Any)))
 
-alive_entity : (variable : Kind) → Begins (g.entity_part variable) []
+alive_entity : (variable : TokenKind) → Begins (g.entity_part variable) []
 alive_entity variable = go_one variable (λ _. alive_constraint)
 
 abbrev pub read_giving : {A B : Type 0} → Parser A → (A → B) → Parser B
@@ -129,7 +130,7 @@ module _ (D : Levels) where
       (giving_rule g.equal_uid r.equal_uid part.Equal after_name after_part equal_rule refl refl) or_in_rule (starts_giving g.equal_uid part.Equal (only k.Equal) starts_equal)
       (leads_or (lang.◌giving◌ g.in_uid part.In) or_any (only k.Equal) after_part (leads_first (only k.In) (only k.Equal) after_part starts_in refl) (leads_any (only k.Equal) refl refl))
 
-  pub entity_rule : (variable : Kind) → Rule (g.entity_part variable) (g.entity_part variable) (r.entity_part variable) (r.entity_part variable) after_part D
+  pub entity_rule : (variable : TokenKind) → Rule (g.entity_part variable) (g.entity_part variable) (r.entity_part variable) (r.entity_part variable) after_part D
   unfolding r.entity_part
   entity_rule variable = behind variable after_part D constraint_rule alive_constraint
 
@@ -178,7 +179,7 @@ module _ (D : Levels) where
   comma_rule = behind k.Comma after_name D (uid_rule D) alive_uid
 
   uids_rule : Rule g.uids g.uids r.uids r.uids after_uids D
-  unfolding r.uids r.uids_behind same_kind
+  unfolding r.uids r.rest_of_uids same_kind
   uids_rule =
       or (lang.◌>>=◌ g.uid listed) (lang.◌>>=◌ g.uid listed) (lang.empty []) (lang.empty []) _ _ _ _ identifiers after_uids D
       (seq (uid_rule D)
@@ -314,7 +315,7 @@ after_annotations k.At = true
 after_annotations k.LParen = true
 after_annotations _ = false
 
-abbrev condition_made : Token → ExprTree → Condition
+abbrev condition_made : ConditionWord → ExprTree → Condition
 condition_made word x = record { word = word; expression = x }
 
 abbrev policy_made : List Annotation → Token → ScopeTree → List Condition → PolicyTree
@@ -322,11 +323,11 @@ policy_made notes effect s cs = record { annotations = notes; effect = effect; p
 
 -- with n levels of nesting
 module _ (n : ℕ) where
-  abbrev braced : Token → Lang Condition
+  abbrev braced : ConditionWord → Lang Condition
   braced word = lang.◌>>◌ (lang.one k.LBrace) (lang.◌>>=◌ (expr n) (λ x. lang.◌>>◌ (lang.one k.RBrace) (lang.empty (condition_made word x))))
 
   starts_condition : Starts (g.condition n) condition_words
-  starts_condition = starts_both (lang.of condition_words) braced condition_words (starts_of condition_words)
+  starts_condition = starts_both (symbol condition_word_of) braced condition_words (starts_symbol condition_word_of)
 
   abbrev policy_end : List Annotation → Token → ScopeTree → Lang PolicyTree
   policy_end notes effect s = lang.◌>>◌ (lang.one k.RParen) (lang.◌>>=◌ (lang.many (g.condition n)) (λ cs. lang.◌>>◌ (lang.one k.Semicolon) (lang.empty (policy_made notes effect s cs))))
@@ -377,13 +378,13 @@ module _ (n m : ℕ) (le : n ≤ m) where
   inner : Rule (expr (suc n)) (expr (suc m)) (expressions.expr (suc n)) (expressions.expr (suc m)) after_expr here
   inner = expr_rule (suc n) (suc m) (omega (arith, le)) refl
 
-  alive_behind_brace : (word : Token) → Begins (lang.◌>>=◌ (expr (suc n)) (λ x. lang.◌>>◌ (lang.one k.RBrace) (lang.empty (condition_made word x)))) []
+  alive_behind_brace : (word : ConditionWord) → Begins (lang.◌>>=◌ (expr (suc n)) (λ x. lang.◌>>◌ (lang.one k.RBrace) (lang.empty (condition_made word x)))) []
   alive_behind_brace word = go (alive_expr (suc n) refl) (λ x. go_one k.RBrace (λ _. alive_empty (condition_made word x)))
 
   condition_rule : Rule (g.condition (suc n)) (g.condition (suc m)) (r.condition (suc n)) (r.condition (suc m)) none here
   unfolding r.condition same_kind
   condition_rule =
-      seq (of condition_words none here)
+      seq (symbol_rule condition_word_of none here)
       (λ word. behind k.LBrace none here
       (seq inner (λ x. behind k.RBrace none here (nothing (condition_made word x) none here) (alive_empty (condition_made word x)))
       (λ x. leads_one k.RBrace after_expr none refl) (λ x. go_one k.RBrace (λ _. alive_empty (condition_made word x))))

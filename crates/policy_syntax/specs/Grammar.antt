@@ -2,8 +2,8 @@
 -- Source: Cedar reference guide 4.0, "Grammar specification for Cedar policy syntax". Rules of this product: `__cedar`
 -- is reserved too, and so is no Ident; an annotation's value may be missing, with its parentheses or between them.
 use Rattle.std.specs.Prelude.{ℕ, true, false, ◌||◌, List, [], ◌∷◌, Option, Some, None}
-use Rattle.policy_tokens.specs.declared.token.Kind.{Kind}
-use Rattle.policy_tokens.specs.declared.token.Kind.TheVariants as k
+use Rattle.policy_tokens.specs.declared.token.TokenKind.{TokenKind}
+use Rattle.policy_tokens.specs.declared.token.TokenKind.TheVariants as k
 use Rattle.policy_tokens.specs.declared.token.Token.{Token}
 use Rattle.policy_tokens.specs.Idents.{is_reserved}
 use Rattle.token_readers.specs.declared.tree.PathTree.{PathTree}
@@ -15,10 +15,12 @@ use Rattle.policy_syntax.specs.declared.tree.ActionTree.{ActionTree}
 use Rattle.policy_syntax.specs.declared.tree.ActionTree.TheVariants as action
 use Rattle.policy_syntax.specs.declared.tree.ScopeTree.{ScopeTree}
 use Rattle.policy_syntax.specs.declared.tree.Condition.{Condition}
+use Rattle.policy_syntax.specs.declared.tree.ConditionWord.{ConditionWord}
+use Rattle.policy_syntax.specs.declared.tree.ConditionWord.TheVariants.{When, Unless}
 use Rattle.policy_syntax.specs.declared.tree.PolicyTree.{PolicyTree}
 use Rattle.token_readers.specs.Kinds.{Kinds}
 pub use Rattle.token_readers.specs.Grammar.{identifiers, path, uid}
-use Rattle.expression_syntax.specs.Expressions.{expr}
+use Rattle.expression_syntax.specs.Expressions.{expr, symbol, known}
 use Rattle.token_readers.specs.Lang.{Lang, of, one, empty, ◌>>=◌, ◌>>◌, ◌giving◌, ◌or◌, optional, many}
 
 -- Ident | Reserved
@@ -72,7 +74,7 @@ abbrev pub entity_constraint : Lang PartTree
 entity_constraint = (equal_uid giving part.Equal) or (in_uid giving part.In) or type_test or empty part.Any
 
 -- Principal is the word "principal" and a constraint, and Resource the word "resource" and a constraint.
-abbrev pub entity_part : Kind → Lang PartTree
+abbrev pub entity_part : TokenKind → Lang PartTree
 entity_part variable = one variable >> entity_constraint
 
 -- [ Uid { "," Uid } ]
@@ -110,17 +112,20 @@ scope = do
   empty (record { principal = principal; action = action; resource = resource })
 
 -- "when" | "unless"
+abbrev pub condition_word_of : TokenKind → Option ConditionWord
+condition_word_of k.When = Some When
+condition_word_of k.Unless = Some Unless
+condition_word_of _ = None
+
 abbrev pub condition_words : Kinds
-condition_words k.When = true
-condition_words k.Unless = true
-condition_words _ = false
+condition_words = known condition_word_of
 
 -- by the levels of nesting that an expression may have
 module _ (levels : ℕ) where
   -- Condition = ("when" | "unless") "{" Expr "}"
   abbrev pub condition : Lang Condition
   condition = do
-    word ← of condition_words
+    word ← symbol condition_word_of
     one k.LBrace
     x ← expr levels
     one k.RBrace

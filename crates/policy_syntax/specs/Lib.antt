@@ -1,4 +1,4 @@
 pub mod Grammar
-pub mod Stands
+pub mod WellFormed
 pub mod inner
 pub mod passed_on

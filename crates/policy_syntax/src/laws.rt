@@ -1,7 +1,7 @@
 //! Laws of the definitions.
 ghost use Rattle.std.specs.List.{AllByRecursion};
 ghost use Rattle.policy_syntax.specs.Grammar.{policy, policies, uid};
-ghost use Rattle.policy_syntax.specs.Stands.{IsMadeOfTokens, PolicyStands, UidStands};
+ghost use Rattle.policy_syntax.specs.WellFormed.{IsMadeOfTokens, WellFormedPolicy, WellFormedUid};
 ghost use Rattle.expression_syntax.specs.Expressions.{nesting_limit};
 ghost use Rattle.token_readers.specs.Lang.{at_any};
 ghost use Rattle.token_readers.specs.Reads.{HasOneTree, HasOneAnswer, HasOneAnswerWithin, OpensNextLevel};
@@ -22,7 +22,7 @@ pub fn reading_is_unique()
 /// That a tree is made of the tokens that derive it, each of a kind that its place asks for: it does nothing, and its
 /// clauses are laws of the definitions.
 pub fn trees_stand_in_tokens()
-    ensures policy { IsMadeOfTokens (policy nesting_limit) PolicyStands }
-    ensures list { IsMadeOfTokens (policies nesting_limit) (λ ts. AllByRecursion (PolicyStands ts)) }
-    ensures uid { IsMadeOfTokens uid UidStands }
+    ensures policy { IsMadeOfTokens (policy nesting_limit) WellFormedPolicy }
+    ensures list { IsMadeOfTokens (policies nesting_limit) (λ ts. AllByRecursion (WellFormedPolicy ts)) }
+    ensures uid { IsMadeOfTokens uid WellFormedUid }
 {}

@@ -9,9 +9,10 @@ mod policy;
 mod policy_sets;
 mod read;
 mod scope;
+mod symbols;
 mod tree;
 
 pub use expression_syntax::{ExprTree, PathTree, SyntaxFault, UidTree};
 pub use laws::{reading_is_unique, trees_stand_in_tokens};
 pub use read::{read_policies, read_policy, read_uid};
-pub use tree::{ActionTree, Annotation, Condition, PartTree, PolicyTree};
+pub use tree::{ActionTree, Annotation, Condition, ConditionWord, PartTree, PolicyTree};

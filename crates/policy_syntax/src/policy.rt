@@ -1,50 +1,50 @@
 //! Annotations and policies.
 
 ghost use Rattle.std.specs.Prelude.{◌≡◌, IfErr};
-ghost use Rattle.token_readers.specs.Gives.{Gives};
+ghost use Rattle.token_readers.specs.ParsesTo.{ParsesTo};
 ghost use Rattle.token_readers.specs.declared.fault.Halt.TheVariants as halt;
 ghost use Rattle.expression_syntax.specs.Expressions.{nesting_limit};
 ghost use Rattle.policy_syntax.specs.inner.Parsing as spec;
 
 use crate::policy_sets::PolicySet;
 use crate::scope::scope;
-use crate::tree::{Annotation, Condition, PolicyTree, ScopeTree};
-use expression_syntax::{NESTING_LIMIT, beside, expr};
+use crate::tree::{Annotation, Condition, ConditionWord, PolicyTree, ScopeTree};
+use expression_syntax::{NESTING_LIMIT, beside, expr, take_symbol};
 use plain::Items;
-use policy_tokens::{Kind, Token};
+use policy_tokens::{Token, TokenKind};
 use std::alloc::Global;
 use token_readers::{Cursor, Halt};
 
 #[tactic(auto, unfolding(crate::specs::inner::Parsing::maybe_text))]
 fn maybe_text(tokens: &mut Cursor<'_>) -> Result<Option<Token>, Halt>
-    ensures reads { Gives (spec.maybe_text tokens.old.rest.now) result tokens.new.rest.now }
+    ensures reads { ParsesTo (spec.maybe_text tokens.old.rest.now) result tokens.new.rest.now }
     ensures only { IfErr result (λ why. why ≡ halt.Unexpected) }
 {
-    if !tokens.sees(Kind::Text) {
+    if !tokens.sees(TokenKind::Text) {
         return Ok(None);
     }
-    let text = tokens.take(Kind::Text)?;
+    let text = tokens.take(TokenKind::Text)?;
     Ok(Some(text))
 }
 
 /// "(" [ String ] ")"
 #[tactic(auto, unfolding(crate::specs::inner::Parsing::annotation_value))]
 fn annotation_value(tokens: &mut Cursor<'_>) -> Result<Option<Token>, Halt>
-    ensures reads { Gives (spec.annotation_value tokens.old.rest.now) result tokens.new.rest.now }
+    ensures reads { ParsesTo (spec.annotation_value tokens.old.rest.now) result tokens.new.rest.now }
     ensures only { IfErr result (λ why. why ≡ halt.Unexpected) }
 {
-    tokens.take(Kind::LParen)?;
+    tokens.take(TokenKind::LParen)?;
     let text = maybe_text(tokens)?;
-    tokens.take(Kind::RParen)?;
+    tokens.take(TokenKind::RParen)?;
     Ok(text)
 }
 
 #[tactic(auto, unfolding(crate::specs::inner::Parsing::maybe_value))]
 fn maybe_value(tokens: &mut Cursor<'_>) -> Result<Option<Token>, Halt>
-    ensures reads { Gives (spec.maybe_value tokens.old.rest.now) result tokens.new.rest.now }
+    ensures reads { ParsesTo (spec.maybe_value tokens.old.rest.now) result tokens.new.rest.now }
     ensures only { IfErr result (λ why. why ≡ halt.Unexpected) }
 {
-    if !tokens.sees(Kind::LParen) {
+    if !tokens.sees(TokenKind::LParen) {
         return Ok(None);
     }
     annotation_value(tokens)
@@ -53,21 +53,21 @@ fn maybe_value(tokens: &mut Cursor<'_>) -> Result<Option<Token>, Halt>
 /// Annotation = "@" (Ident | Reserved) [ "(" [ String ] ")" ]
 #[tactic(auto, unfolding(crate::specs::inner::Parsing::annotation))]
 fn annotation(tokens: &mut Cursor<'_>) -> Result<Annotation, Halt>
-    ensures reads { Gives (spec.annotation tokens.old.rest.now) result tokens.new.rest.now }
+    ensures reads { ParsesTo (spec.annotation tokens.old.rest.now) result tokens.new.rest.now }
     ensures only { IfErr result (λ why. why ≡ halt.Unexpected) }
 {
-    let at = tokens.take(Kind::At)?;
+    let at = tokens.take(TokenKind::At)?;
     let key = tokens.take_one_of(PolicySet::Words)?;
     let value = maybe_value(tokens)?;
     Ok(Annotation { at, key, value })
 }
 
 fn annotations(alloc: Global, tokens: &mut Cursor<'_>) -> Result<Items<Annotation>, Halt>
-    ensures { Gives (spec.annotations tokens.old.rest.now) result tokens.new.rest.now }
+    ensures { ParsesTo (spec.annotations tokens.old.rest.now) result tokens.new.rest.now }
 {
     let mut found = Items::new(alloc);
     for _turn in 0..tokens.left() {
-        if !tokens.sees(Kind::At) {
+        if !tokens.sees(TokenKind::At) {
             return Ok(found);
         }
         let next = annotation(tokens)?;
@@ -79,17 +79,17 @@ fn annotations(alloc: Global, tokens: &mut Cursor<'_>) -> Result<Items<Annotatio
 /// ("when" | "unless") "{" Expr "}"
 #[tactic(auto, unfolding(crate::specs::inner::Parsing::condition))]
 fn condition(alloc: Global, tokens: &mut Cursor<'_>) -> Result<Condition, Halt>
-    ensures { Gives (spec.condition nesting_limit tokens.old.rest.now) result tokens.new.rest.now }
+    ensures { ParsesTo (spec.condition nesting_limit tokens.old.rest.now) result tokens.new.rest.now }
 {
-    let word = tokens.take_one_of(PolicySet::ConditionWords)?;
-    tokens.take(Kind::LBrace)?;
+    let word = take_symbol::<ConditionWord>(tokens)?;
+    tokens.take(TokenKind::LBrace)?;
     let expression = expr(alloc, tokens, NESTING_LIMIT)?;
-    let (expression, _closed) = beside(expression, tokens.take(Kind::RBrace))?;
+    let (expression, _closed) = beside(expression, tokens.take(TokenKind::RBrace))?;
     Ok(Condition { word, expression })
 }
 
 fn conditions(alloc: Global, tokens: &mut Cursor<'_>) -> Result<Items<Condition>, Halt>
-    ensures { Gives (spec.conditions nesting_limit tokens.old.rest.now) result tokens.new.rest.now }
+    ensures { ParsesTo (spec.conditions nesting_limit tokens.old.rest.now) result tokens.new.rest.now }
 {
     let mut found = Items::new(alloc);
     for _turn in 0..tokens.left() {
@@ -111,12 +111,15 @@ fn policy_of(
     effect: Token,
     found: ScopeTree,
 ) -> Result<PolicyTree, Halt>
-    ensures { Gives (spec.policy_of nesting_limit annotations effect found tokens.old.rest.now)
+    ensures { ParsesTo (spec.policy_of nesting_limit annotations effect found tokens.old.rest.now)
         result tokens.new.rest.now }
 {
-    let (kept, _closed) = beside((annotations, found), tokens.take(Kind::RParen))?;
+    let (kept, _closed) = beside((annotations, found), tokens.take(TokenKind::RParen))?;
     let (kept, conditions) = beside(kept, conditions(alloc, tokens))?;
-    let ((kept, conditions), _ended) = beside((kept, conditions), tokens.take(Kind::Semicolon))?;
+    let ((kept, conditions), _ended) = beside(
+        (kept, conditions),
+        tokens.take(TokenKind::Semicolon),
+    )?;
     let (annotations, found) = kept;
     Ok(PolicyTree {
         annotations,
@@ -131,18 +134,18 @@ fn policy_of(
 /// Policy = { Annotation } Effect "(" Scope ")" { Condition } ";"
 #[tactic(auto, unfolding(crate::specs::inner::Parsing::policy))]
 pub(crate) fn policy(alloc: Global, tokens: &mut Cursor<'_>) -> Result<PolicyTree, Halt>
-    ensures { Gives (spec.policy nesting_limit tokens.old.rest.now) result tokens.new.rest.now }
+    ensures { ParsesTo (spec.policy nesting_limit tokens.old.rest.now) result tokens.new.rest.now }
 {
     let annotations = annotations(alloc, tokens)?;
     let effect = tokens.take_one_of(PolicySet::Effects)?;
-    tokens.take(Kind::LParen)?;
+    tokens.take(TokenKind::LParen)?;
     let found = scope(alloc, tokens)?;
     policy_of(alloc, tokens, annotations, effect, found)
 }
 
 /// A file: any number of policies.
 pub(crate) fn policies(alloc: Global, tokens: &mut Cursor<'_>) -> Result<Items<PolicyTree>, Halt>
-    ensures { Gives (spec.policies nesting_limit tokens.old.rest.now) result tokens.new.rest.now }
+    ensures { ParsesTo (spec.policies nesting_limit tokens.old.rest.now) result tokens.new.rest.now }
 {
     let mut found = Items::new(alloc);
     for _turn in 0..tokens.left() {

@@ -1,7 +1,7 @@
 //! The kinds of tokens that readers of policies ask for.
 ghost use Rattle.policy_syntax.specs.inner.Included.{included as of_policies};
 
-use policy_tokens::Kind;
+use policy_tokens::TokenKind;
 use token_readers::KindSet;
 
 /// What readers of policies ask for.
@@ -20,12 +20,15 @@ pub(crate) enum PolicySet {
 impl KindSet for PolicySet {
     ghost included = { of_policies };
 
-    fn includes(self, kind: Kind) -> bool {
+    fn includes(self, kind: TokenKind) -> bool {
         match self {
             PolicySet::Words => kind.is_reserved() || kind.is_ident(),
-            PolicySet::Effects => matches!(kind, Kind::Permit | Kind::Forbid),
-            PolicySet::ConditionWords => matches!(kind, Kind::When | Kind::Unless),
-            PolicySet::PolicyStarts => matches!(kind, Kind::At | Kind::Permit | Kind::Forbid),
+            PolicySet::Effects => matches!(kind, TokenKind::Permit | TokenKind::Forbid),
+            PolicySet::ConditionWords => matches!(kind, TokenKind::When | TokenKind::Unless),
+            PolicySet::PolicyStarts => matches!(
+                kind,
+                TokenKind::At | TokenKind::Permit | TokenKind::Forbid
+            ),
         }
     }
 }

@@ -6,29 +6,22 @@ ghost use Rattle.expression_syntax.specs.Expressions.{nesting_limit};
 ghost use Rattle.token_readers.specs.Lang.{at_any};
 ghost use Rattle.token_readers.specs.Reads.{Reads, ReadsWithin, with_items};
 ghost use Rattle.policy_syntax.specs.Grammar as grammar;
-ghost use Rattle.policy_syntax.specs.Stands.{PolicyStands, UidStands};
+ghost use Rattle.policy_syntax.specs.WellFormed.{WellFormedPolicy, WellFormedUid};
 
-use crate::policy;
+use crate::policy::{policies, policy};
 use crate::tree::PolicyTree;
 use policy_tokens::Token;
 use std::alloc::Global;
-use token_readers::{Cursor, Halt, SyntaxFault, UidTree, refusal, uid};
+use token_readers::{Cursor, SyntaxFault, UidTree, read_to_end, uid};
 
 /// The policy that the tokens are, or the first token with which no policy goes on.
 pub fn read_policy(alloc: Global, tokens: &[Token]) -> Result<PolicyTree, SyntaxFault>
     ensures reads { ReadsWithin (grammar.policy nesting_limit) (at_any grammar.policy) tokens.now result }
-    ensures stands { IfOk result (PolicyStands tokens.now) }
+    ensures stands { IfOk result (WellFormedPolicy tokens.now) }
 {
     let mut cursor = Cursor { rest: tokens };
-    match policy::policy(alloc, &mut cursor) {
-        Ok(tree) => {
-            if cursor.left() > 0 {
-                return Err(refusal(tokens, &cursor, Halt::Unexpected));
-            }
-            Ok(tree)
-        }
-        Err(halt) => Err(refusal(tokens, &cursor, halt)),
-    }
+    let read = policy(alloc, &mut cursor);
+    read_to_end(tokens, &cursor, read)
 }
 
 /// The policies that the tokens are, in their order, or the first token with which no list of
@@ -36,34 +29,21 @@ pub fn read_policy(alloc: Global, tokens: &[Token]) -> Result<PolicyTree, Syntax
 pub fn read_policies(alloc: Global, tokens: &[Token]) -> Result<Vec<PolicyTree>, SyntaxFault>
     ensures reads { ReadsWithin (grammar.policies nesting_limit) (at_any grammar.policies)
         tokens.now (with_items result) }
-    ensures stands { IfOk result (λ found. AllByRecursion (PolicyStands tokens.now) found.items) }
+    ensures stands { IfOk result (λ found. AllByRecursion (WellFormedPolicy tokens.now) found.items) }
 {
     let mut cursor = Cursor { rest: tokens };
-    match policy::policies(alloc, &mut cursor) {
-        Ok(trees) => {
-            if cursor.left() > 0 {
-                return Err(refusal(tokens, &cursor, Halt::Unexpected));
-            }
-            let found = trees.into_vec();
-            Ok(found)
-        }
-        Err(halt) => Err(refusal(tokens, &cursor, halt)),
-    }
+    let read = policies(alloc, &mut cursor);
+    let trees = read_to_end(tokens, &cursor, read)?;
+    let found = trees.into_vec();
+    Ok(found)
 }
 
 /// The uid that the tokens are, or the first token with which no uid goes on.
 pub fn read_uid(alloc: Global, tokens: &[Token]) -> Result<UidTree, SyntaxFault>
     ensures reads { Reads grammar.uid tokens.now result }
-    ensures stands { IfOk result (UidStands tokens.now) }
+    ensures stands { IfOk result (WellFormedUid tokens.now) }
 {
     let mut cursor = Cursor { rest: tokens };
-    match uid(alloc, &mut cursor) {
-        Ok(tree) => {
-            if cursor.left() > 0 {
-                return Err(refusal(tokens, &cursor, Halt::Unexpected));
-            }
-            Ok(tree)
-        }
-        Err(halt) => Err(refusal(tokens, &cursor, halt)),
-    }
+    let read = uid(alloc, &mut cursor);
+    read_to_end(tokens, &cursor, read)
 }

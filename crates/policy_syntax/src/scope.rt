@@ -1,41 +1,41 @@
 //! The parts of a scope.
 
-ghost use Rattle.token_readers.specs.Gives.{Gives};
+ghost use Rattle.token_readers.specs.ParsesTo.{ParsesTo};
 ghost use Rattle.policy_syntax.specs.inner.Parsing as spec;
 
 use crate::tree::{ActionTree, PartTree, ScopeTree};
 use expression_syntax::beside;
 use plain::Items;
-use policy_tokens::Kind;
+use policy_tokens::TokenKind;
 use std::alloc::Global;
 use token_readers::{Cursor, Halt, NameSet, UidTree, path, uid};
 
 /// "==" Uid
 #[tactic(auto, unfolding(crate::specs::inner::Parsing::equal_uid))]
 fn equal_uid(alloc: Global, tokens: &mut Cursor<'_>) -> Result<UidTree, Halt>
-    ensures { Gives (spec.equal_uid tokens.old.rest.now) result tokens.new.rest.now }
+    ensures { ParsesTo (spec.equal_uid tokens.old.rest.now) result tokens.new.rest.now }
 {
-    tokens.take(Kind::Equal)?;
+    tokens.take(TokenKind::Equal)?;
     uid(alloc, tokens)
 }
 
 /// "in" Uid
 #[tactic(auto, unfolding(crate::specs::inner::Parsing::in_uid))]
 fn in_uid(alloc: Global, tokens: &mut Cursor<'_>) -> Result<UidTree, Halt>
-    ensures { Gives (spec.in_uid tokens.old.rest.now) result tokens.new.rest.now }
+    ensures { ParsesTo (spec.in_uid tokens.old.rest.now) result tokens.new.rest.now }
 {
-    tokens.take(Kind::In)?;
+    tokens.take(TokenKind::In)?;
     uid(alloc, tokens)
 }
 
 /// "is" Path [ "in" Uid ]
 #[tactic(auto, unfolding(crate::specs::inner::Parsing::type_test))]
 fn type_test(alloc: Global, tokens: &mut Cursor<'_>) -> Result<PartTree, Halt>
-    ensures { Gives (spec.type_test tokens.old.rest.now) result tokens.new.rest.now }
+    ensures { ParsesTo (spec.type_test tokens.old.rest.now) result tokens.new.rest.now }
 {
-    tokens.take(Kind::Is)?;
+    tokens.take(TokenKind::Is)?;
     let type_name = path(alloc, tokens)?;
-    if !tokens.sees(Kind::In) {
+    if !tokens.sees(TokenKind::In) {
         return Ok(PartTree::Is(type_name));
     }
     let entity = in_uid(alloc, tokens)?;
@@ -45,17 +45,17 @@ fn type_test(alloc: Global, tokens: &mut Cursor<'_>) -> Result<PartTree, Halt>
 /// [ "==" Uid | "in" Uid | "is" Path [ "in" Uid ] ]
 #[tactic(auto, unfolding(crate::specs::inner::Parsing::entity_constraint))]
 fn entity_constraint(alloc: Global, tokens: &mut Cursor<'_>) -> Result<PartTree, Halt>
-    ensures { Gives (spec.entity_constraint tokens.old.rest.now) result tokens.new.rest.now }
+    ensures { ParsesTo (spec.entity_constraint tokens.old.rest.now) result tokens.new.rest.now }
 {
-    if tokens.sees(Kind::Equal) {
+    if tokens.sees(TokenKind::Equal) {
         let entity = equal_uid(alloc, tokens)?;
         return Ok(PartTree::Equal(entity));
     }
-    if tokens.sees(Kind::In) {
+    if tokens.sees(TokenKind::In) {
         let entity = in_uid(alloc, tokens)?;
         return Ok(PartTree::In(entity));
     }
-    if tokens.sees(Kind::Is) {
+    if tokens.sees(TokenKind::Is) {
         return type_test(alloc, tokens);
     }
     Ok(PartTree::Any)
@@ -63,8 +63,12 @@ fn entity_constraint(alloc: Global, tokens: &mut Cursor<'_>) -> Result<PartTree,
 
 /// The variable and its constraint: Principal or Resource.
 #[tactic(auto, unfolding(crate::specs::inner::Parsing::entity_part))]
-fn entity_part(alloc: Global, tokens: &mut Cursor<'_>, variable: Kind) -> Result<PartTree, Halt>
-    ensures { Gives (spec.entity_part variable tokens.old.rest.now) result tokens.new.rest.now }
+fn entity_part(
+    alloc: Global,
+    tokens: &mut Cursor<'_>,
+    variable: TokenKind,
+) -> Result<PartTree, Halt>
+    ensures { ParsesTo (spec.entity_part variable tokens.old.rest.now) result tokens.new.rest.now }
 {
     tokens.take(variable)?;
     entity_constraint(alloc, tokens)
@@ -72,23 +76,23 @@ fn entity_part(alloc: Global, tokens: &mut Cursor<'_>, variable: Kind) -> Result
 
 #[tactic(auto, unfolding(crate::specs::inner::Parsing::comma_uid))]
 fn comma_uid(alloc: Global, tokens: &mut Cursor<'_>) -> Result<UidTree, Halt>
-    ensures { Gives (spec.comma_uid tokens.old.rest.now) result tokens.new.rest.now }
+    ensures { ParsesTo (spec.comma_uid tokens.old.rest.now) result tokens.new.rest.now }
 {
-    tokens.take(Kind::Comma)?;
+    tokens.take(TokenKind::Comma)?;
     uid(alloc, tokens)
 }
 
-fn uids_behind(
+fn rest_of_uids(
     alloc: Global,
     tokens: &mut Cursor<'_>,
     first: UidTree,
 ) -> Result<Items<UidTree>, Halt>
-    ensures { Gives (spec.uids_behind first tokens.old.rest.now) result tokens.new.rest.now }
+    ensures { ParsesTo (spec.rest_of_uids first tokens.old.rest.now) result tokens.new.rest.now }
 {
     let mut found = Items::new(alloc);
     found.push(first)?;
     for _turn in 0..tokens.left() {
-        if !tokens.sees(Kind::Comma) {
+        if !tokens.sees(TokenKind::Comma) {
             return Ok(found);
         }
         let next = comma_uid(alloc, tokens)?;
@@ -100,30 +104,30 @@ fn uids_behind(
 /// [ Uid { "," Uid } ]
 #[tactic(auto, unfolding(crate::specs::inner::Parsing::uids))]
 fn uids(alloc: Global, tokens: &mut Cursor<'_>) -> Result<Items<UidTree>, Halt>
-    ensures { Gives (spec.uids tokens.old.rest.now) result tokens.new.rest.now }
+    ensures { ParsesTo (spec.uids tokens.old.rest.now) result tokens.new.rest.now }
 {
     if !tokens.sees_one_of(NameSet::Identifiers) {
         return Ok(Items::new(alloc));
     }
     let first = uid(alloc, tokens)?;
-    uids_behind(alloc, tokens, first)
+    rest_of_uids(alloc, tokens, first)
 }
 
 #[tactic(auto, unfolding(crate::specs::inner::Parsing::uid_list))]
 fn uid_list(alloc: Global, tokens: &mut Cursor<'_>) -> Result<ActionTree, Halt>
-    ensures { Gives (spec.uid_list tokens.old.rest.now) result tokens.new.rest.now }
+    ensures { ParsesTo (spec.uid_list tokens.old.rest.now) result tokens.new.rest.now }
 {
-    tokens.take(Kind::LBracket)?;
+    tokens.take(TokenKind::LBracket)?;
     let found = uids(alloc, tokens)?;
-    tokens.take(Kind::RBracket)?;
+    tokens.take(TokenKind::RBracket)?;
     Ok(ActionTree::InList(found))
 }
 
 #[tactic(auto, unfolding(crate::specs::inner::Parsing::list_or_uid))]
 fn list_or_uid(alloc: Global, tokens: &mut Cursor<'_>) -> Result<ActionTree, Halt>
-    ensures { Gives (spec.list_or_uid tokens.old.rest.now) result tokens.new.rest.now }
+    ensures { ParsesTo (spec.list_or_uid tokens.old.rest.now) result tokens.new.rest.now }
 {
-    if tokens.sees(Kind::LBracket) {
+    if tokens.sees(TokenKind::LBracket) {
         return uid_list(alloc, tokens);
     }
     let entity = uid(alloc, tokens)?;
@@ -133,22 +137,22 @@ fn list_or_uid(alloc: Global, tokens: &mut Cursor<'_>) -> Result<ActionTree, Hal
 /// "in" ( "[" [ Uid { "," Uid } ] "]" | Uid )
 #[tactic(auto, unfolding(crate::specs::inner::Parsing::in_actions))]
 fn in_actions(alloc: Global, tokens: &mut Cursor<'_>) -> Result<ActionTree, Halt>
-    ensures { Gives (spec.in_actions tokens.old.rest.now) result tokens.new.rest.now }
+    ensures { ParsesTo (spec.in_actions tokens.old.rest.now) result tokens.new.rest.now }
 {
-    tokens.take(Kind::In)?;
+    tokens.take(TokenKind::In)?;
     list_or_uid(alloc, tokens)
 }
 
 /// [ "==" Uid | "in" Uid | "in" "[" [ Uid { "," Uid } ] "]" ]
 #[tactic(auto, unfolding(crate::specs::inner::Parsing::action_constraint))]
 fn action_constraint(alloc: Global, tokens: &mut Cursor<'_>) -> Result<ActionTree, Halt>
-    ensures { Gives (spec.action_constraint tokens.old.rest.now) result tokens.new.rest.now }
+    ensures { ParsesTo (spec.action_constraint tokens.old.rest.now) result tokens.new.rest.now }
 {
-    if tokens.sees(Kind::Equal) {
+    if tokens.sees(TokenKind::Equal) {
         let entity = equal_uid(alloc, tokens)?;
         return Ok(ActionTree::Equal(entity));
     }
-    if tokens.sees(Kind::In) {
+    if tokens.sees(TokenKind::In) {
         return in_actions(alloc, tokens);
     }
     Ok(ActionTree::Any)
@@ -157,24 +161,24 @@ fn action_constraint(alloc: Global, tokens: &mut Cursor<'_>) -> Result<ActionTre
 /// "action" and its constraint.
 #[tactic(auto, unfolding(crate::specs::inner::Parsing::action_part))]
 fn action_part(alloc: Global, tokens: &mut Cursor<'_>) -> Result<ActionTree, Halt>
-    ensures { Gives (spec.action_part tokens.old.rest.now) result tokens.new.rest.now }
+    ensures { ParsesTo (spec.action_part tokens.old.rest.now) result tokens.new.rest.now }
 {
-    tokens.take(Kind::Action)?;
+    tokens.take(TokenKind::Action)?;
     action_constraint(alloc, tokens)
 }
 
 /// Scope = Principal "," Action "," Resource
 #[tactic(auto, unfolding(crate::specs::inner::Parsing::scope))]
 pub(crate) fn scope(alloc: Global, tokens: &mut Cursor<'_>) -> Result<ScopeTree, Halt>
-    ensures { Gives (spec.scope tokens.old.rest.now) result tokens.new.rest.now }
+    ensures { ParsesTo (spec.scope tokens.old.rest.now) result tokens.new.rest.now }
 {
-    let principal = entity_part(alloc, tokens, Kind::Principal)?;
-    let (principal, _comma) = beside(principal, tokens.take(Kind::Comma))?;
+    let principal = entity_part(alloc, tokens, TokenKind::Principal)?;
+    let (principal, _comma) = beside(principal, tokens.take(TokenKind::Comma))?;
     let (principal, action) = beside(principal, action_part(alloc, tokens))?;
-    let (parts, _comma) = beside((principal, action), tokens.take(Kind::Comma))?;
+    let (parts, _comma) = beside((principal, action), tokens.take(TokenKind::Comma))?;
     let ((principal, action), resource) = beside(
         parts,
-        entity_part(alloc, tokens, Kind::Resource),
+        entity_part(alloc, tokens, TokenKind::Resource),
     )?;
     Ok(ScopeTree {
         principal,

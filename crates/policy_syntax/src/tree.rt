@@ -42,11 +42,19 @@ pub(crate) struct ScopeTree {
     pub(crate) resource: PartTree,
 }
 
+/// The word before a condition, which says how its expression is asked.
+#[derive(Clone, Copy, PartialEq, Eq)]
+pub enum ConditionWord {
+    /// `when`
+    When,
+    /// `unless`
+    Unless,
+}
+
 /// `when {..}` or `unless {..}`.
 #[derive(Drop)]
 pub struct Condition {
-    /// `when` or `unless`.
-    pub word: Token,
+    pub word: ConditionWord,
     pub expression: ExprTree,
 }
 

@@ -4,7 +4,7 @@ use Rattle.std.specs.List.{list_all}
 use Rattle.std.specs.Str.{IsUtf8, IsCharBoundary}
 use Rattle.std.proofs.lemmas.List.{append_assoc, drop-drop, length-drop, length-take-le, get_or-take, get_or-drop, take_at}
 use Rattle.std.proofs.lemmas.Str.{IsCharBoundary-before_ascii, IsCharBoundary-after_ascii}
-use Rattle.policy_tokens.specs.declared.token.Kind.{Kind}
+use Rattle.policy_tokens.specs.declared.token.TokenKind.{TokenKind}
 use Rattle.policy_tokens.specs.declared.token.Token.{Token}
 use Rattle.policy_tokens.specs.declared.piece.Piece.{Piece}
 use Rattle.policy_tokens.specs.Lexing.{Entry, listed, reserved, named, singles, pairs, slots, kind_of_word, IsBody, kind_of_pieces, IsToken, word, number, quoted, single, pair, slot, spelling_of, IsSpelledIn}
@@ -43,14 +43,14 @@ word_no w = elim (looked (listed reserved w)) [
 ]
 
 -- a string's pieces, between its quotes
-pub record IsBetween (k : Kind) (w : List ℕ) : Type 0 where
+pub record IsBetween (k : TokenKind) (w : List ℕ) : Type 0 where
   pub pieces : List Piece
   pub body : List ℕ
   pub is : IsBody pieces body
   pub spelled : w ≡ 34 ∷ (body ++ 34 ∷ [])
   pub kind : k ≡ kind_of_pieces pieces
 
-pub between : (k : Kind) (w : List ℕ) → IsToken k w → is_string k ≡ true → IsBetween k w
+pub between : (k : TokenKind) (w : List ℕ) → IsToken k w → is_string k ≡ true → IsBetween k w
 between k w (word i e) h = absurd (not_both (is_string k) h (ap is_string e ∙ word_no w))
 between k w (number i e) h = absurd (not_both (is_string k) h (ap is_string e))
 between k w (quoted ps body b e f) h = record { pieces = ps; body = body; is = b; spelled = e; kind = f }
@@ -59,12 +59,12 @@ between k w (pair l) h = absurd (not_both (is_string k) h (negated (is_string k)
 between k w (slot l) h = absurd (not_both (is_string k) h (negated (is_string k) (listed_passes no_string slots slots_no w k l)))
 
 -- The same, with what is known to stand between the quotes.
-pub record IsBodyIn (k : Kind) (body : List ℕ) : Type 0 where
+pub record IsBodyIn (k : TokenKind) (body : List ℕ) : Type 0 where
   pub pieces : List Piece
   pub is : IsBody pieces body
   pub kind : k ≡ kind_of_pieces pieces
 
-pub body_in : (k : Kind) (w body : List ℕ) → IsToken k w → is_string k ≡ true → w ≡ 34 ∷ (body ++ 34 ∷ []) → IsBodyIn k body
+pub body_in : (k : TokenKind) (w body : List ℕ) → IsToken k w → is_string k ≡ true → w ≡ 34 ∷ (body ++ 34 ∷ []) → IsBodyIn k body
 body_in k w body t h e =
     let b = between k w t h in
     record { pieces = b.pieces; is = subst (IsBody b.pieces) (one_body b.body body (sym b.spelled ∙ e)) b.is; kind = b.kind }

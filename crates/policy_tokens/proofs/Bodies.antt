@@ -3,8 +3,8 @@ use Rattle.std.proofs.Common.{◌≡◌, ℕ, suc, ◌+◌, List, [], ◌∷◌,
 use Rattle.std.proofs.lemmas.List.{append_assoc, append_cancel_left, append-nil}
 use Rattle.policy_tokens.specs.declared.piece.Piece.{Piece}
 use Rattle.policy_tokens.specs.declared.piece.Piece.TheVariants.{Byte, Char, Star}
-use Rattle.policy_tokens.specs.declared.token.Kind.{Kind}
-use Rattle.policy_tokens.specs.declared.token.Kind.TheVariants.{Text}
+use Rattle.policy_tokens.specs.declared.token.TokenKind.{TokenKind}
+use Rattle.policy_tokens.specs.declared.token.TokenKind.TheVariants.{Text}
 use Rattle.policy_tokens.specs.Lexing.{IsEscape, IsBody, done, itself, escape, kind_of_pieces, IsToken, quoted, NoToken}
 use Rattle.policy_tokens.specs.inner.Reading.{NoEscape, kind_with, IsFirst}
 use Rattle.plain.specs.Words.{is_letter, is_digit}
@@ -48,7 +48,7 @@ pub record Ahead (rest w more : List ℕ) (at : ℕ) : Type 0 where
   pub long : suc (length w) ≡ at + length tail
 
 -- The text was read as quoted up to this place, and any quoted text at its front goes on here.
-pub record Passed (at : ℕ) (text rest : List ℕ) (kind : Kind) : Type 0 where
+pub record Passed (at : ℕ) (text rest : List ℕ) (kind : TokenKind) : Type 0 where
   pub pieces : List Piece
   pub body : List ℕ
   pub is : IsBody pieces body
@@ -77,7 +77,7 @@ after_byte b rest more n m ps w (escape {p = p} x v i s h) e =
     let t = slash p x (v ++ 34 ∷ more) i in
     absurd (m (heads b 92 rest t.0 (e ∙ ((ap (λ (y : List ℕ). y ++ 34 ∷ more) s ∙ append_assoc x v (34 ∷ more)) ∙ t.1))))
 
-pub passed_byte : (at b : ℕ) (text rest : List ℕ) (kind : Kind) → (b ≡ 34 → ⊥) → (b ≡ 92 → ⊥) → Passed at text (b ∷ rest) kind → Passed (at + 1) text rest kind
+pub passed_byte : (at b : ℕ) (text rest : List ℕ) (kind : TokenKind) → (b ≡ 34 → ⊥) → (b ≡ 92 → ⊥) → Passed at text (b ∷ rest) kind → Passed (at + 1) text rest kind
 passed_byte at b text rest kind n m p = record {
   pieces = p.pieces ++ Byte b ∷ [];
   body = p.body ++ b ∷ [];
@@ -105,26 +105,26 @@ after_escape p e rest more i ps w (escape {p = q} {ps = qs} x v j s h) c =
     let rests : rest ≡ v ++ 34 ∷ more = append_cancel_left e rest (v ++ 34 ∷ more) (whole ∙ ap (λ (y : List ℕ). y ++ (v ++ 34 ∷ more)) (sym same.bytes)) in
     (qs, v, h, rests, ap length s ∙ (length-append x v ∙ ap (λ (y : List ℕ). length y + length v) (sym same.bytes)))
 
-pub passed_escape : (at n : ℕ) (p : Piece) (text e rest : List ℕ) (kind : Kind) → IsEscape p e → length e ≡ n → Passed at text (e ++ rest) kind → Passed (at + n) text rest (kind_with kind p)
+pub passed_escape : (at n : ℕ) (p : Piece) (text e rest : List ℕ) (kind : TokenKind) → IsEscape p e → length e ≡ n → Passed at text (e ++ rest) kind → Passed (at + n) text rest (kind_with kind p)
 passed_escape at n p text e rest kind i l g = record {
   pieces = g.pieces ++ p ∷ [];
   body = g.body ++ e;
   is = body_append g.is (escape e [] i (sym (append-nil e)) done);
   cut = g.cut ∙ ap (λ (x : List ℕ). 34 ∷ x) (sym (append_assoc g.body e rest));
   long = omega (arith, g.long, l, length-append g.body e);
-  kind_is = ap (λ (k : Kind). kind_with k p) g.kind_is ∙ sym (kind-snoc g.pieces p);
+  kind_is = ap (λ (k : TokenKind). kind_with k p) g.kind_is ∙ sym (kind-snoc g.pieces p);
   only = λ ps w more j f.
       let a = g.only ps w more j f in
       let s = after_escape p e rest more i a.pieces a.tail a.is a.cut in
       record { pieces = s.0; tail = s.1; is = s.2; cut = s.3; long = omega (arith, a.long, s.4, l) };
 }
 
-of_quotes : (k : Kind) (v : List ℕ) → OfClass (class 34) k (34 ∷ v) → OfClass quotes k (34 ∷ v)
+of_quotes : (k : TokenKind) (v : List ℕ) → OfClass (class 34) k (34 ∷ v) → OfClass quotes k (34 ∷ v)
 unfolding is_letter is_digit
 of_quotes k v o = o
 
 -- a quoted text at the front, as its first byte says
-quoted_front : (rest v more : List ℕ) (k : Kind) → IsToken k v → 34 ∷ rest ≡ v ++ more → (ps : List Piece) × (w : List ℕ) × IsBody ps w × (v ≡ 34 ∷ (w ++ 34 ∷ [])) × (rest ≡ w ++ 34 ∷ more)
+quoted_front : (rest v more : List ℕ) (k : TokenKind) → IsToken k v → 34 ∷ rest ≡ v ++ more → (ps : List Piece) × (w : List ℕ) × IsBody ps w × (v ≡ 34 ∷ (w ++ 34 ∷ [])) × (rest ≡ w ++ 34 ∷ more)
 quoted_front rest v more k t e =
     let b = begins k 34 rest v more t e in
     let o = of_quotes k b.tail b.is in
@@ -132,7 +132,7 @@ quoted_front rest v more k t e =
     (o.0, o.1, o.2, b.whole ∙ ap (λ (x : List ℕ). 34 ∷ x) tail, b.rest ∙ (ap (λ (x : List ℕ). x ++ more) tail ∙ append_assoc o.1 (34 ∷ []) more))
 
 -- and where the text goes on, at the place that was reached
-onward : (at : ℕ) (text rest v more : List ℕ) (kind k : Kind) → Passed at text rest kind → IsToken k v → text ≡ v ++ more →
+onward : (at : ℕ) (text rest v more : List ℕ) (kind k : TokenKind) → Passed at text rest kind → IsToken k v → text ≡ v ++ more →
     (tail : List ℕ) × (ps : List Piece) × IsBody ps tail × (rest ≡ tail ++ 34 ∷ more) × (length v ≡ suc (at + length tail))
 onward at text rest v more kind k p t e =
     let q = quoted_front (p.body ++ rest) v more k t (sym p.cut ∙ e) in
@@ -146,7 +146,7 @@ ends_here rest more ps tail (escape {p = p} x v i s h) e =
     let t = slash p x (v ++ 34 ∷ more) i in
     absurd (clash rest t.0 (e ∙ ((ap (λ (y : List ℕ). y ++ 34 ∷ more) s ∙ append_assoc x v (34 ∷ more)) ∙ t.1)))
 
-pub quoted_found : (at : ℕ) (text rest : List ℕ) (kind : Kind) → Passed at text (34 ∷ rest) kind → IsFirst (record { kind = kind; len = at + 1 }) text
+pub quoted_found : (at : ℕ) (text rest : List ℕ) (kind : TokenKind) → Passed at text (34 ∷ rest) kind → IsFirst (record { kind = kind; len = at + 1 }) text
 quoted_found at text rest kind p =
     let cut : text ≡ (34 ∷ (p.body ++ 34 ∷ [])) ++ rest = p.cut ∙ ap (λ (x : List ℕ). 34 ∷ x) (sym (append_assoc p.body (34 ∷ []) rest)) in
     let long : length (34 ∷ (p.body ++ 34 ∷ [])) ≡ at + 1 = omega (arith, length-append p.body (34 ∷ []), p.long) in
@@ -164,7 +164,7 @@ quoted_found at text rest kind p =
       len = long;
     }
 
-pub never_closed : (at : ℕ) (text rest : List ℕ) (kind : Kind) → length rest ≡ 0 → Passed at text rest kind → NoToken text
+pub never_closed : (at : ℕ) (text rest : List ℕ) (kind : TokenKind) → length rest ≡ 0 → Passed at text rest kind → NoToken text
 never_closed at text rest kind z p k v more t e =
     let o = onward at text rest v more kind k p t e in
     omega (arith, z, ap length o.3, length-append o.0 (34 ∷ more))
@@ -175,7 +175,7 @@ no_escape_here rest more n ps tail (itself {b = x} {w = v} a m h) e = m (sym (he
 no_escape_here rest more n ps tail (escape {p = p} x v i s h) e =
     n p x (v ++ 34 ∷ more) i (e ∙ (ap (λ (y : List ℕ). y ++ 34 ∷ more) s ∙ append_assoc x v (34 ∷ more)))
 
-pub bad_escape : (at : ℕ) (text rest : List ℕ) (kind : Kind) → NoEscape (92 ∷ rest) → Passed at text (92 ∷ rest) kind → NoToken text
+pub bad_escape : (at : ℕ) (text rest : List ℕ) (kind : TokenKind) → NoEscape (92 ∷ rest) → Passed at text (92 ∷ rest) kind → NoToken text
 bad_escape at text rest kind n p k v more t e =
     let o = onward at text (92 ∷ rest) v more kind k p t e in
     no_escape_here rest more n o.1 o.0 o.2 o.3

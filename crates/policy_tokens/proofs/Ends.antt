@@ -5,7 +5,7 @@ use Rattle.std.specs.Str.{IsUtf8, IsCharBoundary}
 use Rattle.std.proofs.lemmas.Str.{IsCharBoundary-after_ascii}
 use Rattle.std.proofs.lemmas.List.{append_assoc}
 use Rattle.std.proofs.lemmas.Bool.{ltb-true, eqb-true, leb-true, and_parts, or_cases}
-use Rattle.policy_tokens.specs.declared.token.Kind.{Kind}
+use Rattle.policy_tokens.specs.declared.token.TokenKind.{TokenKind}
 use Rattle.plain.specs.Words.{AllAre, is_letter, is_digit, is_word_byte, IsWord}
 use Rattle.policy_tokens.specs.Lexing.{IsNumber, singles, pairs, slots, IsToken, word, number, quoted, single, pair, slot}
 use Rattle.policy_tokens.proofs.FirstByte.{known}
@@ -68,7 +68,7 @@ pairs_low = refl
 slots_low : list_all (λ e. last_low e.spelling) slots ≡ true
 slots_low = refl
 
-pub ends_low : (k : Kind) (w : List ℕ) → IsToken k w → EndsLow w
+pub ends_low : (k : TokenKind) (w : List ℕ) → IsToken k w → EndsLow w
 ends_low k w (word i e) = ends_word w i
 ends_low k w (number i e) = ends_number w i
 ends_low k w (quoted ps body b e f) = record { front = 34 ∷ body; last = 34; whole = e; low = omega arith }
@@ -80,7 +80,7 @@ pub at_seam : (xs rest : List ℕ) (x : ℕ) → get_or (xs ++ x ∷ rest) (leng
 at_seam [] rest x = refl
 at_seam (y ∷ xs) rest x = at_seam xs rest x
 
-pub boundary : (k : Kind) (text w rest : List ℕ) (len : ℕ) → IsUtf8 text → IsToken k w → text ≡ w ++ rest → length w ≡ len → IsCharBoundary text len
+pub boundary : (k : TokenKind) (text w rest : List ℕ) (len : ℕ) → IsUtf8 text → IsToken k w → text ≡ w ++ rest → length w ≡ len → IsCharBoundary text len
 boundary k text w rest len u t e l =
     let d = ends_low k w t in
     let cut : text ≡ d.front ++ d.last ∷ rest = e ∙ (ap (λ (x : List ℕ). x ++ rest) d.whole ∙ append_assoc d.front (d.last ∷ []) rest) in

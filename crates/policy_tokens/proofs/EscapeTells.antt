@@ -5,11 +5,11 @@ use borrow.Author.Tests.{ltb-true}
 use Rattle.std.specs.Option.{SomeIff, IsSome}
 use Rattle.std.specs.Char.{IsScalar, digit_value}
 use Rattle.policy_tokens.specs.declared.piece.Piece.TheVariants.{Char, Star}
-use Rattle.plain.specs.Words.{AllAre}
+use Rattle.plain.specs.Words.{AllAre, run}
 use Rattle.policy_tokens.specs.Lexing.{escaped, is_hex, hex_after, letter, star, short, long}
-use Rattle.policy_tokens.specs.inner.Reading.{run, NoEscape, IsFirstEscape}
+use Rattle.policy_tokens.specs.inner.Reading.{NoEscape, IsFirstEscape}
 use Rattle.std.proofs.lemmas.List.{length-take-le}
-use Rattle.policy_tokens.proofs.Runs.{run_all}
+use Rattle.plain.proofs.Runs.{run_all}
 use Rattle.policy_tokens.proofs.Escapes.{Sort, letters, sort, Shape, goes, closed}
 
 pub no_escape_at_end : NoEscape (92 ∷ []) → (rest : List ℕ) → length rest ≡ 0 → NoEscape (92 ∷ rest)

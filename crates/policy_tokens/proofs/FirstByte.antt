@@ -4,8 +4,8 @@ use Rattle.std.specs.List.{list_all}
 use Rattle.std.specs.Str.{bytes_eq}
 use Rattle.std.proofs.lemmas.Bool.{cases_Bool, false_from_ne_true, eqb-true, leb-true, and_parts, or_cases}
 use Rattle.std.proofs.lemmas.Slice.Eq.{bytes_eq-Decides}
-use Rattle.policy_tokens.specs.declared.token.Kind.{Kind}
-use Rattle.policy_tokens.specs.declared.token.Kind.TheVariants.{Number}
+use Rattle.policy_tokens.specs.declared.token.TokenKind.{TokenKind}
+use Rattle.policy_tokens.specs.declared.token.TokenKind.TheVariants.{Number}
 use Rattle.plain.specs.Words.{is_letter, is_digit, IsWord}
 use Rattle.policy_tokens.specs.Lexing.{IsNumber, Entry, kind_of_word, listed, singles, pairs, slots, IsToken, word, number, quoted, single, pair, slot, quote, IsBody, kind_of_pieces}
 use Rattle.policy_tokens.specs.declared.piece.Piece.{Piece}
@@ -22,7 +22,7 @@ abbrev pub class : ℕ → Class
 class c = if is_letter c then letters else (if is_digit c then digits else (if c == 34 then quotes else (if c == 63 then question else others)))
 
 -- what a token of such a first byte is
-abbrev pub OfClass : Class → Kind → List ℕ → Type 0
+abbrev pub OfClass : Class → TokenKind → List ℕ → Type 0
 OfClass letters k w = IsWord w × (k ≡ kind_of_word w)
 OfClass digits k w = IsNumber w × (k ≡ Number)
 OfClass quotes k w = (ps : List Piece) × (body : List ℕ) × IsBody ps body × (w ≡ quote ∷ body ++ quote ∷ []) × (k ≡ kind_of_pieces ps)
@@ -31,7 +31,7 @@ OfClass others k w = ((listed singles w ≡ Some k) × (length w ≡ 1)) ⊎ ((l
 
 -- what all spellings of a table pass, each spelling in it passes
 pub known : (test : List ℕ → Bool) (table : List Entry) → list_all (λ e. test e.spelling) table ≡ true →
-    (w : List ℕ) (k : Kind) → listed table w ≡ Some k → test w ≡ true
+    (w : List ℕ) (k : TokenKind) → listed table w ≡ Some k → test w ≡ true
 known test [] a w k h = absurd (cc)
 known test (e ∷ table) a w k h =
     let both = and_parts (test e.spelling) (list_all (λ e. test e.spelling) table) a in
@@ -124,7 +124,7 @@ class_of_digit c d = elim (cases_Bool (is_letter c)) [
 ]
 
 -- A token is what its first byte says.
-pub of_class : (k : Kind) (c : ℕ) (v : List ℕ) → IsToken k (c ∷ v) → OfClass (class c) k (c ∷ v)
+pub of_class : (k : TokenKind) (c : ℕ) (v : List ℕ) → IsToken k (c ∷ v) → OfClass (class c) k (c ∷ v)
 unfolding is_letter is_digit
 of_class k c v (word w e) = rw (class_of_letter c w.0) (w, e)
 of_class k c v (number n e) = rw (class_of_digit c n.0) (n, e)
@@ -142,7 +142,7 @@ of_class k c v (slot l) =
     rw (is_class-true (class c) question t) l
 
 -- No token is empty.
-pub not_empty : (k : Kind) → IsToken k [] → ⊥
+pub not_empty : (k : TokenKind) → IsToken k [] → ⊥
 not_empty k (word w e) = w
 not_empty k (number n e) = n
 not_empty k (quoted ps body b e f) = cc

@@ -1,22 +1,22 @@
 -- What a text begins with, by its first byte.
 use Rattle.std.proofs.Common.{◌≡◌, ℕ, suc, ◌≤◌, true, List, [], ◌∷◌, ◌++◌, inl, inr, refl, sym, ◌∙◌, ap, subst, arith, length, take, drop, take-append-drop, Option, Some, None}
-use Rattle.policy_tokens.specs.declared.token.Kind.{Kind}
-use Rattle.policy_tokens.specs.declared.token.Kind.TheVariants.{Number}
+use Rattle.policy_tokens.specs.declared.token.TokenKind.{TokenKind}
+use Rattle.policy_tokens.specs.declared.token.TokenKind.TheVariants.{Number}
 use Rattle.policy_tokens.specs.declared.token.Found.{Found}
-use Rattle.plain.specs.Words.{is_letter, is_digit, is_word_byte}
+use Rattle.plain.specs.Words.{is_letter, is_digit, is_word_byte, run}
 use Rattle.policy_tokens.specs.Lexing.{kind_of_word, listed, singles, pairs, IsToken, word, number, single, pair, NoToken}
-use Rattle.policy_tokens.specs.inner.Reading.{run, IsFirst, TellsToken, sized, first_found, mark_of}
-use Rattle.policy_tokens.proofs.Runs.{run_all, run_most, run_within}
+use Rattle.policy_tokens.specs.inner.Reading.{IsFirst, TellsToken, sized, first_found, mark_of}
+use Rattle.plain.proofs.Runs.{run_all, run_most, run_within}
 use Rattle.policy_tokens.proofs.FirstByte.{Class, letters, digits, others, class, OfClass, class_of_letter, class_of_digit, of_class, not_empty}
 
 -- A token that begins a text begins with its first byte, and is of that byte's class.
-pub record Begins (k : Kind) (c : ℕ) (cs v more : List ℕ) : Type 0 where
+pub record Begins (k : TokenKind) (c : ℕ) (cs v more : List ℕ) : Type 0 where
   pub tail : List ℕ
   pub whole : v ≡ c ∷ tail
   pub rest : cs ≡ tail ++ more
   pub is : OfClass (class c) k (c ∷ tail)
 
-pub begins : (k : Kind) (c : ℕ) (cs v more : List ℕ) → IsToken k v → c ∷ cs ≡ v ++ more → Begins k c cs v more
+pub begins : (k : TokenKind) (c : ℕ) (cs v more : List ℕ) → IsToken k v → c ∷ cs ≡ v ++ more → Begins k c cs v more
 begins k c cs [] more t e = absurd (not_empty k t)
 begins k c cs (x ∷ v) more t e =
     let same : x ≡ c = cc in
@@ -28,17 +28,17 @@ at_end k [] more t e = not_empty k t
 at_end k (x ∷ v) more t e = cc
 
 -- a first byte of the class, and a token there
-at_class : (a : Class) (k : Kind) (c : ℕ) (cs v more : List ℕ) → class c ≡ a → (b : Begins k c cs v more) → OfClass a k (c ∷ b.tail)
+at_class : (a : Class) (k : TokenKind) (c : ℕ) (cs v more : List ℕ) → class c ≡ a → (b : Begins k c cs v more) → OfClass a k (c ∷ b.tail)
 at_class a k c cs v more e b = subst (λ (x : Class). OfClass x k (c ∷ b.tail)) e b.is
 
-word_longest : (c : ℕ) (cs : List ℕ) → is_letter c ≡ true → (j : Kind) (v more : List ℕ) → IsToken j v → c ∷ cs ≡ v ++ more → length v ≤ suc (run is_word_byte cs)
+word_longest : (c : ℕ) (cs : List ℕ) → is_letter c ≡ true → (j : TokenKind) (v more : List ℕ) → IsToken j v → c ∷ cs ≡ v ++ more → length v ≤ suc (run is_word_byte cs)
 word_longest c cs l j v more t e =
     let b = begins j c cs v more t e in
     let o = at_class letters j c cs v more (class_of_letter c l) b in
     let most = run_most is_word_byte cs b.tail more o.0.1 b.rest in
     omega (arith, ap length b.whole)
 
-number_longest : (c : ℕ) (cs : List ℕ) → is_digit c ≡ true → (j : Kind) (v more : List ℕ) → IsToken j v → c ∷ cs ≡ v ++ more → length v ≤ suc (run is_digit cs)
+number_longest : (c : ℕ) (cs : List ℕ) → is_digit c ≡ true → (j : TokenKind) (v more : List ℕ) → IsToken j v → c ∷ cs ≡ v ++ more → length v ≤ suc (run is_digit cs)
 number_longest c cs l j v more t e =
     let b = begins j c cs v more t e in
     let o = at_class digits j c cs v more (class_of_digit c l) b in
@@ -83,13 +83,13 @@ unfolding is_word_byte
 run_word c cs l = rw l refl
 
 -- what the code finds at a letter
-pub word_tells : (c : ℕ) (cs : List ℕ) (k : Kind) (len : ℕ) → is_letter c ≡ true → len ≡ run is_word_byte (c ∷ cs) → k ≡ kind_of_word (take len (c ∷ cs)) →
+pub word_tells : (c : ℕ) (cs : List ℕ) (k : TokenKind) (len : ℕ) → is_letter c ≡ true → len ≡ run is_word_byte (c ∷ cs) → k ≡ kind_of_word (take len (c ∷ cs)) →
     IsFirst (record { kind = k; len = len }) (c ∷ cs)
 word_tells c cs k len l e f =
     let long = e ∙ run_word c cs l in
     let kinds : k ≡ kind_of_word (c ∷ take (run is_word_byte cs) cs) = f ∙ ap (λ (n : ℕ). kind_of_word (take n (c ∷ cs))) long in
     subst (λ (n : ℕ). IsFirst (record { kind = k; len = n }) (c ∷ cs)) (sym long)
-    (subst (λ (x : Kind). IsFirst (record { kind = x; len = suc (run is_word_byte cs) }) (c ∷ cs)) (sym kinds) (word_found c cs l))
+    (subst (λ (x : TokenKind). IsFirst (record { kind = x; len = suc (run is_word_byte cs) }) (c ∷ cs)) (sym kinds) (word_found c cs l))
 
 -- and at a digit
 pub number_tells : (c : ℕ) (cs : List ℕ) (len : ℕ) → is_digit c ≡ true → len ≡ run is_digit (c ∷ cs) → IsFirst (record { kind = Number; len = len }) (c ∷ cs)
@@ -98,7 +98,7 @@ number_tells c cs len l e =
     subst (λ (n : ℕ). IsFirst (record { kind = Number; len = n }) (c ∷ cs)) (sym long) (number_found c cs l)
 
 -- a mark of two bytes is the longest token there
-pair_found : (c d : ℕ) (rest : List ℕ) (k : Kind) → class c ≡ others → listed pairs (c ∷ d ∷ []) ≡ Some k → IsFirst (record { kind = k; len = 2 }) (c ∷ d ∷ rest)
+pair_found : (c d : ℕ) (rest : List ℕ) (k : TokenKind) → class c ≡ others → listed pairs (c ∷ d ∷ []) ≡ Some k → IsFirst (record { kind = k; len = 2 }) (c ∷ d ∷ rest)
 pair_found c d rest k o l = record {
   w = c ∷ d ∷ [];
   rest = rest;
@@ -120,12 +120,12 @@ abbrev NoPair : ℕ → List ℕ → Type 0
 NoPair c cs = (d : ℕ) (rest : List ℕ) → cs ≡ d ∷ rest → listed pairs (c ∷ d ∷ []) ≡ None
 
 -- A list of two elements begins with the second.
-two : (k j : Kind) (c : ℕ) (cs tail more : List ℕ) → NoPair c cs → cs ≡ tail ++ more → listed pairs (c ∷ tail) ≡ Some j → length (c ∷ tail) ≡ 2 → ⊥
+two : (k j : TokenKind) (c : ℕ) (cs tail more : List ℕ) → NoPair c cs → cs ≡ tail ++ more → listed pairs (c ∷ tail) ≡ Some j → length (c ∷ tail) ≡ 2 → ⊥
 two k j c cs [] more n e l long = omega arith
 two k j c cs (d ∷ []) more n e l long = let none = n d more e in cc
 two k j c cs (d ∷ x ∷ tail) more n e l long = omega arith
 
-single_found : (c : ℕ) (cs : List ℕ) (k : Kind) → class c ≡ others → NoPair c cs → listed singles (c ∷ []) ≡ Some k → IsFirst (record { kind = k; len = 1 }) (c ∷ cs)
+single_found : (c : ℕ) (cs : List ℕ) (k : TokenKind) → class c ≡ others → NoPair c cs → listed singles (c ∷ []) ≡ Some k → IsFirst (record { kind = k; len = 1 }) (c ∷ cs)
 single_found c cs k o n l = record {
   w = c ∷ [];
   rest = cs;
@@ -142,7 +142,7 @@ single_found c cs k o n l = record {
   len = refl;
 }
 
-one : (j : Kind) (c : ℕ) (tail : List ℕ) → listed singles (c ∷ []) ≡ None → listed singles (c ∷ tail) ≡ Some j → length (c ∷ tail) ≡ 1 → ⊥
+one : (j : TokenKind) (c : ℕ) (tail : List ℕ) → listed singles (c ∷ []) ≡ None → listed singles (c ∷ tail) ≡ Some j → length (c ∷ tail) ≡ 1 → ⊥
 one j c [] n l long = cc
 one j c (x ∷ tail) n l long = omega arith
 
@@ -154,19 +154,19 @@ no_mark c cs o n l j v more t e =
       | inr p ↦ two j j c cs b.tail more n b.rest p.0 p.1
     ]
 
-data Which : Option Kind → Type 0 where
+data Which : Option TokenKind → Type 0 where
   none : Which None
-  some : (k : Kind) → Which (Some k)
+  some : (k : TokenKind) → Which (Some k)
 
-which : (o : Option Kind) → Which o
+which : (o : Option TokenKind) → Which o
 which None = none
 which (Some k) = some k
 
-single_tells : (c : ℕ) (cs : List ℕ) → class c ≡ others → NoPair c cs → (o : Option Kind) → listed singles (c ∷ []) ≡ o → TellsToken (c ∷ cs) (sized 1 o)
+single_tells : (c : ℕ) (cs : List ℕ) → class c ≡ others → NoPair c cs → (o : Option TokenKind) → listed singles (c ∷ []) ≡ o → TellsToken (c ∷ cs) (sized 1 o)
 single_tells c cs o n None l = no_mark c cs o n l
 single_tells c cs o n (Some k) l = single_found c cs k o n l
 
-pair_tells : (c d : ℕ) (rest : List ℕ) → class c ≡ others → (o : Option Kind) → listed pairs (c ∷ d ∷ []) ≡ o → TellsToken (c ∷ d ∷ rest) (first_found (sized 2 o) (sized 1 (listed singles (c ∷ []))))
+pair_tells : (c d : ℕ) (rest : List ℕ) → class c ≡ others → (o : Option TokenKind) → listed pairs (c ∷ d ∷ []) ≡ o → TellsToken (c ∷ d ∷ rest) (first_found (sized 2 o) (sized 1 (listed singles (c ∷ []))))
 pair_tells c d rest o None l = single_tells c (d ∷ rest) o (λ x more e. let same : d ≡ x = cc in subst (λ (y : ℕ). listed pairs (c ∷ y ∷ []) ≡ None) same l) (listed singles (c ∷ [])) refl
 pair_tells c d rest o (Some k) l = pair_found c d rest k o l
 
@@ -186,9 +186,9 @@ number_at text rest c len e l f = subst (λ (x : List ℕ). IsFirst (record { ki
 pub mark_at : (text rest : List ℕ) (c : ℕ) (r : Option Found) → text ≡ c ∷ rest → class c ≡ others → r ≡ mark_of text → TellsToken text r
 mark_at text rest c r e o f = subst (TellsToken text) (sym f) (subst (λ (x : List ℕ). TellsToken x (mark_of x)) (sym e) (mark_tells c rest o))
 
-pub word_here : (text rest word : List ℕ) (c len : ℕ) (k : Kind) → text ≡ c ∷ rest → is_letter c ≡ true → len ≡ run is_word_byte text → word ≡ take len text → k ≡ kind_of_word word →
+pub word_here : (text rest word : List ℕ) (c len : ℕ) (k : TokenKind) → text ≡ c ∷ rest → is_letter c ≡ true → len ≡ run is_word_byte text → word ≡ take len text → k ≡ kind_of_word word →
     IsFirst (record { kind = k; len = len }) text
 word_here text rest w c len k e l n f g =
     let found = word_at text rest c e l in
     let sized = subst (λ (m : ℕ). IsFirst (record { kind = kind_of_word (take m text); len = m }) text) (sym n) found in
-    subst (λ (x : Kind). IsFirst (record { kind = x; len = len }) text) (sym (g ∙ ap kind_of_word f)) sized
+    subst (λ (x : TokenKind). IsFirst (record { kind = x; len = len }) text) (sym (g ∙ ap kind_of_word f)) sized

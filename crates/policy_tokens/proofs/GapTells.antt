@@ -7,8 +7,9 @@ use Rattle.std.proofs.lemmas.Str.{encode_same, length-encode, len_utf8_bounds, I
 use Rattle.std.proofs.lemmas.Bool.{cases_Bool, eqb-true}
 use Rattle.std.proofs.lemmas.List.{append-nil}
 use Rattle.policy_tokens.specs.Lexing.{in_line, EndsLine, IsGap, blank, comment, NoGap}
-use Rattle.policy_tokens.specs.inner.Reading.{run, IsGapOf, TellsBlank}
-use Rattle.policy_tokens.proofs.Runs.{run_all, run_within}
+use Rattle.plain.specs.Words.{run}
+use Rattle.policy_tokens.specs.inner.Reading.{IsGapOf, TellsBlank}
+use Rattle.plain.proofs.Runs.{run_all, run_within}
 
 run_ends : (cs : List ℕ) → EndsLine (drop (run in_line cs) cs)
 run_ends [] = tt

@@ -1,5 +1,4 @@
 pub mod Parts
-pub mod Runs
 pub mod FirstByte
 pub mod FrontTells
 pub mod Escapes

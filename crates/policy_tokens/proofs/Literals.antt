@@ -11,7 +11,8 @@ use Rattle.policy_tokens.specs.declared.piece.Piece.{Piece}
 use Rattle.policy_tokens.specs.declared.piece.Piece.TheVariants.{Byte}
 use Rattle.policy_tokens.specs.declared.piece.Escape.{Escape}
 use Rattle.policy_tokens.specs.Lexing.{IsEscape, letter, star, short, long, IsBody, done, itself, escape}
-use Rattle.policy_tokens.specs.inner.Reading.{run, NoEscape, IsFirstEscape, is_plain, character_of, is_literal, EndsLiteral, IsRead, IsLiteral}
+use Rattle.plain.specs.Words.{run}
+use Rattle.policy_tokens.specs.inner.Reading.{NoEscape, IsFirstEscape, is_plain, character_of, is_literal, EndsLiteral, IsRead, IsLiteral}
 use Rattle.policy_tokens.specs.Strings.{piece_bytes, bytes_of, is_wildcard}
 use Rattle.policy_tokens.proofs.Escapes.{same_escape}
 use Rattle.policy_tokens.proofs.Bodies.{body_append, slash}

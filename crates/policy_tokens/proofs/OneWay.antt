@@ -2,7 +2,7 @@
 use Rattle.std.proofs.Common.{◌≡◌, ℕ, ◌+◌, List, [], ◌∷◌, ◌++◌, inl, inr, refl, sym, ◌∙◌, ap, subst, arith, length}
 use Rattle.std.proofs.lemmas.Str.{length-encode, len_utf8_bounds}
 use Rattle.std.proofs.lemmas.List.{append_cancel_left, append_cancel_right}
-use Rattle.policy_tokens.specs.declared.token.Kind.{Kind}
+use Rattle.policy_tokens.specs.declared.token.TokenKind.{TokenKind}
 use Rattle.policy_tokens.specs.declared.token.Token.{Token}
 use Rattle.policy_tokens.specs.declared.piece.Piece.{Piece}
 use Rattle.policy_tokens.specs.declared.piece.Piece.TheVariants.{Byte}
@@ -32,18 +32,18 @@ same_body (escape {p = p} {ps = ps} x rest i s g) (escape {p = q} {ps = qs} y mo
     let rests : rest ≡ more = append_cancel_left x rest more (whole ∙ ap (λ (z : List ℕ). z ++ more) (sym same.bytes)) in
     ap (λ (z : Piece). z ∷ ps) same.piece ∙ ap (λ (z : List Piece). q ∷ z) (same_body g h rests)
 
-same_mark : (k j : Kind) (w : List ℕ) → OfClass others k w → OfClass others j w → k ≡ j
+same_mark : (k j : TokenKind) (w : List ℕ) → OfClass others k w → OfClass others j w → k ≡ j
 same_mark k j w (inl a) (inl b) = let x = a.0 in let y = b.0 in cc
 same_mark k j w (inl a) (inr b) = absurd (omega (arith, a.1, b.1))
 same_mark k j w (inr a) (inl b) = absurd (omega (arith, a.1, b.1))
 same_mark k j w (inr a) (inr b) = let x = a.0 in let y = b.0 in cc
 
-same_quoted : (k j : Kind) (w : List ℕ) → OfClass quotes k w → OfClass quotes j w → k ≡ j
+same_quoted : (k j : TokenKind) (w : List ℕ) → OfClass quotes k w → OfClass quotes j w → k ≡ j
 same_quoted k j w a b =
     let bodies : a.1 ≡ b.1 = append_cancel_right a.1 b.1 (34 ∷ []) (tails 34 34 (a.1 ++ 34 ∷ []) (b.1 ++ 34 ∷ []) (sym a.3 ∙ b.3)) in
     a.4 ∙ (ap kind_of_pieces (same_body a.2 b.2 bodies) ∙ sym b.4)
 
-of_one_class : (x : Class) (k j : Kind) (w : List ℕ) → OfClass x k w → OfClass x j w → k ≡ j
+of_one_class : (x : Class) (k j : TokenKind) (w : List ℕ) → OfClass x k w → OfClass x j w → k ≡ j
 of_one_class letters k j w a b = a.1 ∙ sym b.1
 of_one_class digits k j w a b = a.1 ∙ sym b.1
 of_one_class quotes k j w a b = same_quoted k j w a b
@@ -51,7 +51,7 @@ of_one_class question k j w a b = cc
 of_one_class others k j w a b = same_mark k j w a b
 
 -- the kind of a token is determined
-pub same_kind : (k j : Kind) (w : List ℕ) → IsToken k w → IsToken j w → k ≡ j
+pub same_kind : (k j : TokenKind) (w : List ℕ) → IsToken k w → IsToken j w → k ≡ j
 same_kind k j [] a b = absurd (not_empty k a)
 same_kind k j (c ∷ v) a b = of_one_class (class c) k j (c ∷ v) (of_class k c v a) (of_class j c v b)
 
@@ -102,7 +102,7 @@ same_lex {at} (token {ts = ts} k w rest e l g) (token {ts = us} j v more f m h) 
     record {
       place = r.place;
       rest = r.rest;
-      tokens = ap (λ (z : Kind). record { kind = z; start = at; end = at + length w } ∷ ts) kinds
+      tokens = ap (λ (z : TokenKind). record { kind = z; start = at; end = at + length w } ∷ ts) kinds
           ∙ (ap (λ (z : List ℕ). record { kind = j; start = at; end = at + length z } ∷ ts) c.front
           ∙ ap (λ (z : List Token). record { kind = j; start = at; end = at + length v } ∷ z) r.tokens);
     }
@@ -111,7 +111,7 @@ no_empty_gap : (rest : List ℕ) → IsGap [] rest → ⊥
 no_empty_gap rest (blank c h f) = omega (arith, ap length f, length-encode c, (len_utf8_bounds c).0)
 no_empty_gap rest (comment said a b f) = nothing 47 (47 ∷ said) f
 
-token_some : (w rest : List ℕ) (k : Kind) → IsToken k w → [] ≡ w ++ rest → ⊥
+token_some : (w rest : List ℕ) (k : TokenKind) → IsToken k w → [] ≡ w ++ rest → ⊥
 token_some [] rest k t e = not_empty k t
 token_some (x ∷ w) rest k t e = nothing x (w ++ rest) e
 

@@ -4,8 +4,8 @@ use Rattle.std.proofs.lemmas.Bool.{cases_Bool}
 use Rattle.std.proofs.lemmas.List.{append_assoc, append-nil}
 use Rattle.policy_tokens.specs.declared.piece.Piece.{Piece}
 use Rattle.policy_tokens.specs.declared.piece.Piece.TheVariants.{Byte}
-use Rattle.policy_tokens.specs.declared.token.Kind.{Kind}
-use Rattle.policy_tokens.specs.declared.token.Kind.TheVariants.{Text, StarText}
+use Rattle.policy_tokens.specs.declared.token.TokenKind.{TokenKind}
+use Rattle.policy_tokens.specs.declared.token.TokenKind.TheVariants.{Text, StarText}
 use Rattle.policy_tokens.specs.Lexing.{IsBody, done, itself, escape, has_star, IsToken}
 use Rattle.policy_tokens.specs.inner.Reading.{EndsLiteral, IsLiteral}
 use Rattle.policy_tokens.specs.Strings.{is_string, piece_bytes, bytes_of, is_wildcard, literals_of, prefixed, IsStringOf, IsPatternOf, HasValue, HasPattern}
@@ -27,7 +27,7 @@ no_star false e = refl
 front_whole : (front body rest : List ℕ) → body ≡ front ++ rest → rest ≡ [] → front ≡ body
 front_whole front body rest e n = sym (e ∙ (ap (λ (x : List ℕ). front ++ x) n ∙ append-nil front))
 
-pub string_of : (k : Kind) (w body value : List ℕ) (len : ℕ) → IsToken k w → k ≡ Text → w ≡ 34 ∷ (body ++ 34 ∷ []) → IsLiteral false value len body → IsStringOf value w
+pub string_of : (k : TokenKind) (w body value : List ℕ) (len : ℕ) → IsToken k w → k ≡ Text → w ≡ 34 ∷ (body ++ 34 ∷ []) → IsLiteral false value len body → IsStringOf value w
 string_of k w body value len t s e l =
     let d = l.read in
     let whole : d.front ≡ body = front_whole d.front body (drop len body) d.cut (ended (drop len body) l.ends) in

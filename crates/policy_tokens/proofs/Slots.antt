@@ -5,8 +5,8 @@ use Rattle.std.specs.Str.{bytes_eq}
 use Rattle.std.specs.Cmp.Lexicographic.{same_text, other_text}
 use Rattle.std.proofs.Math.Seq.{take-append_seam}
 use Rattle.std.proofs.lemmas.Bool.{cases_Bool}
-use Rattle.policy_tokens.specs.declared.token.Kind.{Kind}
-use Rattle.policy_tokens.specs.declared.token.Kind.TheVariants.{PrincipalSlot, ResourceSlot}
+use Rattle.policy_tokens.specs.declared.token.TokenKind.{TokenKind}
+use Rattle.policy_tokens.specs.declared.token.TokenKind.TheVariants.{PrincipalSlot, ResourceSlot}
 use Rattle.plain.specs.Words.{is_letter, is_digit}
 use Rattle.policy_tokens.specs.Lexing.{listed, slots, IsToken, slot, NoToken}
 use Rattle.policy_tokens.specs.inner.Reading.{IsFirst}
@@ -22,7 +22,7 @@ no_prefix text s h more e = other_text s (take (length s) text) (sym h) (sym (ap
 abbrev IsSlot : List ℕ → Type 0
 IsSlot w = (w ≡ codes "?principal") ⊎ (w ≡ codes "?resource")
 
-slot_cases : (w : List ℕ) (k : Kind) → listed slots w ≡ Some k → IsSlot w
+slot_cases : (w : List ℕ) (k : TokenKind) → listed slots w ≡ Some k → IsSlot w
 slot_cases w k h = elim (cases_Bool (bytes_eq (codes "?principal") w)) [
   | inl y ↦ inl (sym (same_text (codes "?principal") w (sym y)))
   | inr n ↦ elim (cases_Bool (bytes_eq (codes "?resource") w)) [
@@ -31,12 +31,12 @@ slot_cases w k h = elim (cases_Bool (bytes_eq (codes "?principal") w)) [
   ]
 ]
 
-of_question : (k : Kind) (v : List ℕ) → OfClass (class 63) k (63 ∷ v) → listed slots (63 ∷ v) ≡ Some k
+of_question : (k : TokenKind) (v : List ℕ) → OfClass (class 63) k (63 ∷ v) → listed slots (63 ∷ v) ≡ Some k
 unfolding is_letter is_digit
 of_question k v o = o
 
 -- a token at a question mark is one of the slots
-at_question : (rest text v more : List ℕ) (k : Kind) → text ≡ codes "?" ++ rest → IsToken k v → text ≡ v ++ more → IsSlot v
+at_question : (rest text v more : List ℕ) (k : TokenKind) → text ≡ codes "?" ++ rest → IsToken k v → text ≡ v ++ more → IsSlot v
 at_question rest text v more k q t e =
     let b = begins k 63 rest v more t (sym q ∙ e) in
     subst IsSlot (sym b.whole) (slot_cases (63 ∷ b.tail) k (of_question k b.tail b.is))

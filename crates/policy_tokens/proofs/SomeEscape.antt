@@ -6,7 +6,8 @@ use Rattle.std.proofs.lemmas.Bool.{cases_Bool, cases_eq, cases_lt, ne_eqb}
 use Rattle.policy_tokens.specs.declared.piece.Piece.TheVariants.{Char, Star}
 use Rattle.policy_tokens.specs.declared.piece.Escape.{Escape}
 use Rattle.policy_tokens.specs.Lexing.{escaped, is_hex, hex_after}
-use Rattle.policy_tokens.specs.inner.Reading.{run, NoEscape, IsFirstEscape}
+use Rattle.plain.specs.Words.{run}
+use Rattle.policy_tokens.specs.inner.Reading.{NoEscape, IsFirstEscape}
 use Rattle.policy_tokens.proofs.Escapes.{letters, sort, no_escape_alone}
 use Rattle.policy_tokens.proofs.EscapeTells.{letter_found, no_letter, star_found, short_found, no_short, no_long, no_long_at, long_at}
 use Rattle.policy_tokens.proofs.Parts.{heads, tails, nothing, not_both}

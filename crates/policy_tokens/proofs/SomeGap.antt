@@ -5,7 +5,8 @@ use Rattle.std.specs.Char.{is_whitespace}
 use Rattle.std.specs.List.{starts_with}
 use Rattle.std.proofs.lemmas.Bool.{cases_Bool, cases_lt, or_cases, and_parts, eqb-true, ltb-true}
 use Rattle.policy_tokens.specs.Lexing.{in_line, blank, NoGap}
-use Rattle.policy_tokens.specs.inner.Reading.{run, IsGapOf}
+use Rattle.plain.specs.Words.{run}
+use Rattle.policy_tokens.specs.inner.Reading.{IsGapOf}
 use Rattle.policy_tokens.proofs.GapTells.{comment_found, no_gap}
 use Rattle.policy_tokens.proofs.Slots.{prefix, no_prefix}
 use Rattle.policy_tokens.proofs.Parts.{not_both}

@@ -2,13 +2,13 @@
 use Rattle.std.proofs.Common.{◌≡◌, ◌⊎◌, ℕ, zero, suc, ◌+◌, ◌≤◌, List, [], ◌∷◌, ◌++◌, inl, inr, refl, ◌∙◌, ap, subst, arith, length, length-append, take, Option, Some, None, codes, nat_eq}
 use Rattle.std.specs.List.{starts_with}
 use Rattle.std.proofs.lemmas.Bool.{cases_Bool, cases_eq}
-use Rattle.plain.specs.Words.{is_letter, is_digit, is_word_byte}
-use Rattle.policy_tokens.specs.declared.token.Kind.{Kind}
-use Rattle.policy_tokens.specs.declared.token.Kind.TheVariants.{Number, Text, PrincipalSlot, ResourceSlot}
+use Rattle.plain.specs.Words.{is_letter, is_digit, is_word_byte, run}
+use Rattle.policy_tokens.specs.declared.token.TokenKind.{TokenKind}
+use Rattle.policy_tokens.specs.declared.token.TokenKind.TheVariants.{Number, Text, PrincipalSlot, ResourceSlot}
 use Rattle.policy_tokens.specs.declared.token.Found.{Found}
 use Rattle.policy_tokens.specs.declared.piece.Piece.{Piece}
 use Rattle.policy_tokens.specs.Lexing.{kind_of_word, IsEscape, NoToken}
-use Rattle.policy_tokens.specs.inner.Reading.{run, kind_with, IsFirst, TellsToken, mark_of}
+use Rattle.policy_tokens.specs.inner.Reading.{kind_with, IsFirst, TellsToken, mark_of}
 use Rattle.policy_tokens.proofs.Escapes.{shaped}
 use Rattle.policy_tokens.proofs.FirstByte.{class_of_other}
 use Rattle.policy_tokens.proofs.FrontTells.{at_end, word_found, number_found, mark_tells}
@@ -27,7 +27,7 @@ escape_long p w rest more n i e h =
     omega (arith, h, ap length e, length-append w more, ap length s.whole)
 
 -- a quoted text that was read up to this place, with so many bytes left at most
-in_body : (n at : ℕ) (text rest : List ℕ) (kind : Kind) → length rest ≤ n → Passed at text rest kind → MayBegin text
+in_body : (n at : ℕ) (text rest : List ℕ) (kind : TokenKind) → length rest ≤ n → Passed at text rest kind → MayBegin text
 in_body n at text [] kind h p = inr (never_closed at text [] kind refl p)
 in_body zero at text (b ∷ rest) kind h p = absurd (omega arith)
 in_body (suc n) at text (b ∷ rest) kind h p = elim (cases_eq b 34) [

@@ -1,7 +1,7 @@
 -- Each text has tokens, or a place at which none begins.
 use Rattle.std.proofs.Common.{◌≡◌, ◌⊎◌, ℕ, zero, suc, ◌+◌, ◌≤◌, ◌<◌, List, [], ◌∷◌, ◌++◌, inl, inr, ap, arith, length, length-append, codes}
 use Rattle.std.proofs.lemmas.Str.{length-encode, len_utf8_bounds}
-use Rattle.policy_tokens.specs.declared.token.Kind.{Kind}
+use Rattle.policy_tokens.specs.declared.token.TokenKind.{TokenKind}
 use Rattle.policy_tokens.specs.declared.token.Token.{Token}
 use Rattle.policy_tokens.specs.Lexing.{IsToken, IsLongest, NoToken, IsGap, blank, comment, NoGap, Lex, finish, gap, token, EachIsLexedOrBad}
 use Rattle.policy_tokens.proofs.FirstByte.{not_empty}
@@ -34,7 +34,7 @@ behind_gap at text w rest e i (inr s) = inr (record {
   no_token = s.no_token;
 })
 
-behind_token : (at : ℕ) (text : List ℕ) (k : Kind) (w rest : List ℕ) → text ≡ w ++ rest → IsLongest k w rest → Goes (at + length w) rest → Goes at text
+behind_token : (at : ℕ) (text : List ℕ) (k : TokenKind) (w rest : List ℕ) → text ≡ w ++ rest → IsLongest k w rest → Goes (at + length w) rest → Goes at text
 behind_token at text k w rest e i (inl h) = inl (h.0, record { kind = k; start = at; end = at + length w } ∷ h.1, token k w rest e i h.2)
 behind_token at text k w rest e i (inr s) = inr (record {
   to = s.to;
@@ -50,7 +50,7 @@ gap_long : (w rest : List ℕ) → IsGap w rest → 0 < length w
 gap_long w rest (blank c h f) = omega (arith, ap length f, length-encode c, (len_utf8_bounds c).0)
 gap_long w rest (comment said a b f) = omega (arith, ap length f, length-append (codes "//") said)
 
-token_long : (k : Kind) (w : List ℕ) → IsToken k w → 0 < length w
+token_long : (k : TokenKind) (w : List ℕ) → IsToken k w → 0 < length w
 token_long k [] t = absurd (not_empty k t)
 token_long k (x ∷ w) t = omega arith
 

@@ -6,7 +6,7 @@ use Rattle.std.proofs.Math.Nat.{add-sub_cancel_left}
 use Rattle.std.proofs.Math.Seq.{take-append_seam}
 use Rattle.std.proofs.lemmas.Str.{IsUtf8-drop, IsCharBoundary-before_ascii, IsCharBoundary-from_rest}
 use Rattle.std.proofs.lemmas.List.{append_assoc}
-use Rattle.policy_tokens.specs.declared.token.Kind.{Kind}
+use Rattle.policy_tokens.specs.declared.token.TokenKind.{TokenKind}
 use Rattle.policy_tokens.specs.declared.token.Token.{Token}
 use Rattle.policy_tokens.specs.Lexing.{IsToken, Lex, finish, gap, token, spelling_of, IsSpelledIn, AreInOrder, EachIsSpelled}
 use Rattle.policy_tokens.proofs.FirstByte.{not_empty}
@@ -19,7 +19,7 @@ behind : (text front more : List ℕ) (at : ℕ) → text ≡ front ++ more → 
 behind text front more at e l = ap (λ (m : ℕ). drop m text) (sym l) ∙ (ap (λ (y : List ℕ). drop (length front) y) e ∙ past front more)
 
 -- a token behind a front part of the text is spelled there
-written : (text front w rest : List ℕ) (k : Kind) (at : ℕ) → text ≡ front ++ (w ++ rest) → length front ≡ at → IsToken k w →
+written : (text front w rest : List ℕ) (k : TokenKind) (at : ℕ) → text ≡ front ++ (w ++ rest) → length front ≡ at → IsToken k w →
     IsToken k (take (at + length w - at) (drop at text))
 written text front w rest k at e l t =
     let n = length w in
@@ -27,7 +27,7 @@ written text front w rest k at e l t =
     (subst (IsToken k) (sym (ap (λ (y : List ℕ). take n y) (behind text front (w ++ rest) at e l) ∙ take-append_seam w rest)) t)
 
 -- and may be cut out
-spelled : (text front w rest : List ℕ) (k : Kind) (at : ℕ) → IsUtf8 text → text ≡ front ++ (w ++ rest) → length front ≡ at → IsToken k w →
+spelled : (text front w rest : List ℕ) (k : TokenKind) (at : ℕ) → IsUtf8 text → text ≡ front ++ (w ++ rest) → length front ≡ at → IsToken k w →
     IsSpelledIn text (record { kind = k; start = at; end = at + length w })
 spelled text front [] rest k at u e l t = absurd (not_empty k t)
 spelled text front (x ∷ v) rest k at u e l t =
@@ -48,7 +48,7 @@ spelled text front (x ∷ v) rest k at u e l t =
 
 -- what holds of a token wherever it stands in the text holds of each
 all_tokens : {at to : ℕ} {tail left : List ℕ} {ts : List Token} (P : Token → Type 0) (text front : List ℕ) →
-    ((front w rest : List ℕ) (k : Kind) (at : ℕ) → text ≡ front ++ (w ++ rest) → length front ≡ at → IsToken k w → P (record { kind = k; start = at; end = at + length w })) →
+    ((front w rest : List ℕ) (k : TokenKind) (at : ℕ) → text ≡ front ++ (w ++ rest) → length front ≡ at → IsToken k w → P (record { kind = k; start = at; end = at + length w })) →
     text ≡ front ++ tail → length front ≡ at → Lex at tail ts to left → AllByRecursion P ts
 all_tokens P text front p e l finish = tt
 all_tokens P text front p e l (gap w rest f i g) =

@@ -5,10 +5,9 @@ use Rattle.std.specs.List.{list_all}
 use Rattle.std.specs.Char.{is_whitespace}
 use Rattle.std.proofs.lemmas.Str.{encode_same, char_from_byte}
 use Rattle.std.proofs.lemmas.Bool.{eqb-true, leb-true, ltb-true, and_parts, or_cases, eqb-false, false_from_ne_true}
-use Rattle.policy_tokens.specs.declared.token.Kind.{Kind}
-use Rattle.plain.specs.Words.{AllAre, is_letter, is_digit}
+use Rattle.policy_tokens.specs.declared.token.TokenKind.{TokenKind}
+use Rattle.plain.specs.Words.{AllAre, is_letter, is_digit, run}
 use Rattle.policy_tokens.specs.Lexing.{singles, pairs, slots, IsToken, word, number, quoted, single, pair, slot, in_line, EndsLine, IsGap, blank, comment}
-use Rattle.policy_tokens.specs.inner.Reading.{run}
 use Rattle.policy_tokens.proofs.FirstByte.{known, not_empty}
 use Rattle.policy_tokens.proofs.Parts.{heads, negated, tails}
 
@@ -63,7 +62,7 @@ pairs_dark = refl
 slots_dark : list_all (λ e. first_dark e.spelling) slots ≡ true
 slots_dark = refl
 
-pub token_dark : (k : Kind) (x : ℕ) (v : List ℕ) → IsToken k (x ∷ v) → IsDark x
+pub token_dark : (k : TokenKind) (x : ℕ) (v : List ℕ) → IsToken k (x ∷ v) → IsDark x
 token_dark k x v (word i e) = dark_letter x i.0
 token_dark k x v (number i e) = dark_digit x i.0
 token_dark k x v (quoted ps body b e f) = let same : x ≡ 34 = quote_first x v (body ++ 34 ∷ []) e in record { above = omega arith; below = omega arith; no_slash = ap (λ (y : ℕ). y == 47) same }
@@ -117,7 +116,7 @@ white_low x l h =
     ]
 
 -- No gap begins where a token does.
-pub gap_token : (w rest v more : List ℕ) (k : Kind) → IsGap w rest → IsToken k v → w ++ rest ≡ v ++ more → ⊥
+pub gap_token : (w rest v more : List ℕ) (k : TokenKind) → IsGap w rest → IsToken k v → w ++ rest ≡ v ++ more → ⊥
 gap_token w rest [] more k g t e = not_empty k t
 gap_token w rest (x ∷ v) more k (blank c h f) t e =
     let d = token_dark k x v t in

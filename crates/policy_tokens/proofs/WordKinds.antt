@@ -6,21 +6,21 @@ use Rattle.std.specs.Str.{bytes_eq}
 use Rattle.std.proofs.lemmas.Bool.{cases_Bool, and_parts}
 use Rattle.std.proofs.lemmas.Slice.Eq.{bytes_eq-Decides}
 use Rattle.plain.specs.Words.{is_letter, IsWord, reserved_words, IsReserved, IsIdent}
-use Rattle.policy_tokens.specs.declared.token.Kind.{Kind}
-use Rattle.policy_tokens.specs.declared.token.Kind.TheVariants.{Ident, Text, StarText}
+use Rattle.policy_tokens.specs.declared.token.TokenKind.{TokenKind}
+use Rattle.policy_tokens.specs.declared.token.TokenKind.TheVariants.{Ident, Text, StarText}
 use Rattle.policy_tokens.specs.Lexing.{Entry, listed, reserved, named, singles, pairs, slots, kind_of_word, has_star, IsToken, word, number, quoted, single, pair, slot}
 use Rattle.policy_tokens.specs.Idents.{is_ident, is_reserved, IdentsByKind, ReservedByKind, IdentsAreTokens}
 use Rattle.policy_tokens.proofs.FirstByte.{Class, known, of_class, OfClass, class_of_letter}
 use Rattle.policy_tokens.proofs.Parts.{negated, not_both}
 
-abbrev entry_at : List ℕ → Kind → Entry
+abbrev entry_at : List ℕ → TokenKind → Entry
 entry_at w k = record { spelling = w; kind = k }
 
 same_spelling : (s w : List ℕ) → bytes_eq s w ≡ true → s ≡ w
 same_spelling s w h = (bytes_eq-Decides s w).0 h
 
 -- what all entries of a table pass, a spelling passes with the kind that the table gives it
-pub listed_passes : (test : Entry → Bool) (table : List Entry) → list_all test table ≡ true → (w : List ℕ) (k : Kind) → listed table w ≡ Some k → test (entry_at w k) ≡ true
+pub listed_passes : (test : Entry → Bool) (table : List Entry) → list_all test table ≡ true → (w : List ℕ) (k : TokenKind) → listed table w ≡ Some k → test (entry_at w k) ≡ true
 listed_passes test [] a w k h = absurd (cc)
 listed_passes test (e ∷ table) a w k h =
     let both = and_parts (test e) (list_all test table) a in
@@ -28,7 +28,7 @@ listed_passes test (e ∷ table) a w k h =
       | inl y ↦
           let g : Some e.kind ≡ Some k = rw y at h in
           let kinds : e.kind ≡ k = cc in
-          subst (λ (x : Kind). test (entry_at w x) ≡ true) kinds (subst (λ (s : List ℕ). test (entry_at s e.kind) ≡ true) (same_spelling e.spelling w y) both.0)
+          subst (λ (x : TokenKind). test (entry_at w x) ≡ true) kinds (subst (λ (s : List ℕ). test (entry_at s e.kind) ≡ true) (same_spelling e.spelling w y) both.0)
       | inr n ↦ let g : listed table w ≡ Some k = rw n at h in listed_passes test table both.1 w k g
     ]
 
@@ -46,7 +46,7 @@ abbrev spellings : List Entry → List (List ℕ)
 spellings table = map (λ e. e.spelling) table
 
 -- a spelling that a table has is one of its spellings
-listed_contains : (table : List Entry) (w : List ℕ) (k : Kind) → listed table w ≡ Some k → Contains (spellings table) w
+listed_contains : (table : List Entry) (w : List ℕ) (k : TokenKind) → listed table w ≡ Some k → Contains (spellings table) w
 listed_contains [] w k h = absurd (cc)
 listed_contains (e ∷ table) w k h = elim (cases_Bool (bytes_eq e.spelling w)) [
   | inl y ↦ subst (λ (s : List ℕ). Contains (e.spelling ∷ spellings table) s) (same_spelling e.spelling w y) (here e.spelling (spellings table))
@@ -66,11 +66,11 @@ unlisted_lacks (e ∷ table) w h c = elim (cases_Bool (bytes_eq e.spelling w)) [
       ]
 ]
 
-pub data Looked : Option Kind → Type 0 where
-  found : {o : Option Kind} (k : Kind) → o ≡ Some k → Looked o
-  lacking : {o : Option Kind} → o ≡ None → Looked o
+pub data Looked : Option TokenKind → Type 0 where
+  found : {o : Option TokenKind} (k : TokenKind) → o ≡ Some k → Looked o
+  lacking : {o : Option TokenKind} → o ≡ None → Looked o
 
-pub looked : (o : Option Kind) → Looked o
+pub looked : (o : Option TokenKind) → Looked o
 looked None = lacking refl
 looked (Some k) = found k refl
 
@@ -84,14 +84,14 @@ reserved_spellings : spellings reserved ≡ reserved_words
 reserved_spellings = refl
 
 -- what the kind of a word tells
-record Told (w : List ℕ) (k : Kind) : Type 0 where
+record Told (w : List ℕ) (k : TokenKind) : Type 0 where
   ident : is_ident k ≡ true → IsReserved w → ⊥
   not_ident : (IsReserved w → ⊥) → is_ident k ≡ true
   reserved : is_reserved k ≡ true → IsReserved w
   not_reserved : IsReserved w → is_reserved k ≡ true
 
 -- of a reserved word
-told_reserved : (w : List ℕ) (k : Kind) → IsReserved w → is_reserved k ≡ true → is_ident k ≡ false → Told w k
+told_reserved : (w : List ℕ) (k : TokenKind) → IsReserved w → is_reserved k ≡ true → is_ident k ≡ false → Told w k
 told_reserved w k r a b = record {
   ident = λ i n. not_both (is_ident k) i b;
   not_ident = λ n. absurd (n r);
@@ -100,7 +100,7 @@ told_reserved w k r a b = record {
 }
 
 -- of another one
-told_ident : (w : List ℕ) (k : Kind) → (IsReserved w → ⊥) → is_ident k ≡ true → is_reserved k ≡ false → Told w k
+told_ident : (w : List ℕ) (k : TokenKind) → (IsReserved w → ⊥) → is_ident k ≡ true → is_reserved k ≡ false → Told w k
 told_ident w k n a b = record {
   ident = λ i. n;
   not_ident = λ h. a;
@@ -126,7 +126,7 @@ told_word w = elim (looked (listed reserved w)) [
 ]
 
 -- neither an identifier nor a reserved word
-abbrev is_other : Kind → Bool
+abbrev is_other : TokenKind → Bool
 is_other k = not (is_ident k) && not (is_reserved k)
 
 singles_other : list_all (λ e. is_other e.kind) singles ≡ true
@@ -143,7 +143,7 @@ other_string true = refl
 other_string false = refl
 
 -- A token is a word, of that word's kind, or of another kind than words are.
-word_or_other : (k : Kind) (w : List ℕ) → IsToken k w → (IsWord w × (k ≡ kind_of_word w)) ⊎ (is_other k ≡ true)
+word_or_other : (k : TokenKind) (w : List ℕ) → IsToken k w → (IsWord w × (k ≡ kind_of_word w)) ⊎ (is_other k ≡ true)
 word_or_other k w (word i e) = inl (i, e)
 word_or_other k w (number i e) = inr (ap is_other e)
 word_or_other k w (quoted ps body b e f) = inr (ap is_other f ∙ other_string (has_star ps))
@@ -156,7 +156,7 @@ starts_letter [] = false
 starts_letter (c ∷ cs) = is_letter c
 
 -- A token that begins with a letter is a word, of that word's kind.
-word_kind : (k : Kind) (w : List ℕ) → IsToken k w → starts_letter w ≡ true → IsWord w × (k ≡ kind_of_word w)
+word_kind : (k : TokenKind) (w : List ℕ) → IsToken k w → starts_letter w ≡ true → IsWord w × (k ≡ kind_of_word w)
 word_kind k [] t l = absurd (cc)
 word_kind k (c ∷ v) t l = subst (λ (x : Class). OfClass x k (c ∷ v)) (class_of_letter c l) (of_class k c v t)
 
@@ -174,30 +174,30 @@ ident_starts : (w : List ℕ) → IsWord w → starts_letter w ≡ true
 ident_starts [] i = absurd i
 ident_starts (c ∷ v) i = i.0
 
-told : (k : Kind) (w : List ℕ) → k ≡ kind_of_word w → Told w k
+told : (k : TokenKind) (w : List ℕ) → k ≡ kind_of_word w → Told w k
 told k w e = subst (Told w) (sym e) (told_word w)
 
-other_parts : (k : Kind) → is_other k ≡ true → (is_ident k ≡ false) × (is_reserved k ≡ false)
+other_parts : (k : TokenKind) → is_other k ≡ true → (is_ident k ≡ false) × (is_reserved k ≡ false)
 other_parts k h =
     let both = and_parts (not (is_ident k)) (not (is_reserved k)) h in
     (negated (is_ident k) both.0, negated (is_reserved k) both.1)
 
-ident_of_kind : (k : Kind) (w : List ℕ) → IsToken k w → is_ident k ≡ true → IsIdent w
+ident_of_kind : (k : TokenKind) (w : List ℕ) → IsToken k w → is_ident k ≡ true → IsIdent w
 ident_of_kind k w t h = elim (word_or_other k w t) [
   | inl i ↦ (i.0, (told k w i.1).ident h)
   | inr o ↦ absurd (not_both (is_ident k) h (other_parts k o).0)
 ]
 
-kind_of_ident : (k : Kind) (w : List ℕ) → IsToken k w → IsIdent w → is_ident k ≡ true
+kind_of_ident : (k : TokenKind) (w : List ℕ) → IsToken k w → IsIdent w → is_ident k ≡ true
 kind_of_ident k w t i = (told k w (word_kind k w t (ident_starts w i.0)).1).not_ident i.1
 
-reserved_of_kind : (k : Kind) (w : List ℕ) → IsToken k w → is_reserved k ≡ true → IsReserved w
+reserved_of_kind : (k : TokenKind) (w : List ℕ) → IsToken k w → is_reserved k ≡ true → IsReserved w
 reserved_of_kind k w t h = elim (word_or_other k w t) [
   | inl i ↦ (told k w i.1).reserved h
   | inr o ↦ absurd (not_both (is_reserved k) h (other_parts k o).1)
 ]
 
-kind_of_reserved : (k : Kind) (w : List ℕ) → IsToken k w → IsReserved w → is_reserved k ≡ true
+kind_of_reserved : (k : TokenKind) (w : List ℕ) → IsToken k w → IsReserved w → is_reserved k ≡ true
 kind_of_reserved k w t r = (told k w (word_kind k w t (reserved_starts w r)).1).not_reserved r
 
 pub idents_by_kind : IdentsByKind

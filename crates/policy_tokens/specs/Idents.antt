@@ -3,14 +3,16 @@
 -- `when`, `principal` and the like are identifiers too, and may stand in a Path.
 use Rattle.std.specs.Prelude.{◌≡◌, ◌↔◌, ℕ, Bool, true, false, List}
 use Rattle.plain.specs.Words.{IsIdent, IsReserved}
-use Rattle.policy_tokens.specs.declared.token.Kind.{Kind}
-use Rattle.policy_tokens.specs.declared.token.Kind.TheVariants.{Ident, True, False, If, Then, Else, In, Is, Like, Has}
-use Rattle.policy_tokens.specs.declared.token.Kind.TheVariants.{Cedar, Permit, Forbid, When, Unless, Principal, Action}
-use Rattle.policy_tokens.specs.declared.token.Kind.TheVariants.{Resource, Context}
+use Rattle.policy_tokens.specs.declared.token.TokenKind.{TokenKind}
+use Rattle.policy_tokens.specs.declared.token.TokenKind.TheVariants.{Ident, True, False, If, Then, Else, In, Is, Like}
+use Rattle.policy_tokens.specs.declared.token.TokenKind.TheVariants.{Has}
+use Rattle.policy_tokens.specs.declared.token.TokenKind.TheVariants.{Cedar, Permit, Forbid, When, Unless, Principal}
+use Rattle.policy_tokens.specs.declared.token.TokenKind.TheVariants.{Action}
+use Rattle.policy_tokens.specs.declared.token.TokenKind.TheVariants.{Resource, Context}
 use Rattle.policy_tokens.specs.Lexing.{IsToken}
 
 -- the kinds of tokens that are identifiers
-abbrev pub is_ident : Kind → Bool
+abbrev pub is_ident : TokenKind → Bool
 is_ident Ident = true
 is_ident Permit = true
 is_ident Forbid = true
@@ -23,7 +25,7 @@ is_ident Context = true
 is_ident other = false
 
 -- the kinds of tokens that are reserved words
-abbrev pub is_reserved : Kind → Bool
+abbrev pub is_reserved : TokenKind → Bool
 is_reserved True = true
 is_reserved False = true
 is_reserved If = true
@@ -38,12 +40,12 @@ is_reserved other = false
 
 -- A token is of such a kind exactly where it is spelled as an identifier,
 abbrev pub IdentsByKind : Type 0
-IdentsByKind = (k : Kind) (w : List ℕ) → IsToken k w → (is_ident k ≡ true) ↔ IsIdent w
+IdentsByKind = (k : TokenKind) (w : List ℕ) → IsToken k w → (is_ident k ≡ true) ↔ IsIdent w
 
 -- or as a reserved word;
 abbrev pub ReservedByKind : Type 0
-ReservedByKind = (k : Kind) (w : List ℕ) → IsToken k w → (is_reserved k ≡ true) ↔ IsReserved w
+ReservedByKind = (k : TokenKind) (w : List ℕ) → IsToken k w → (is_reserved k ≡ true) ↔ IsReserved w
 
 -- and each identifier is the spelling of a token.
 abbrev pub IdentsAreTokens : Type 0
-IdentsAreTokens = (w : List ℕ) → IsIdent w → (k : Kind) × IsToken k w × (is_ident k ≡ true)
+IdentsAreTokens = (w : List ℕ) → IsIdent w → (k : TokenKind) × IsToken k w × (is_ident k ≡ true)

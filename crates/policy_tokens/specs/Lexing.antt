@@ -15,15 +15,20 @@ use Rattle.std.specs.Prelude.{◌⊎◌, encode_utf8}
 use Rattle.std.specs.List.{AllByRecursion}
 use Rattle.std.specs.Str.{bytes_eq, IsCharBoundary}
 use Rattle.std.specs.Char.{is_whitespace, IsScalar, digit_value}
-use Rattle.plain.specs.Words.{is_digit, AllAre, IsWord}
-use Rattle.policy_tokens.specs.declared.token.Kind.{Kind}
-use Rattle.policy_tokens.specs.declared.token.Kind.TheVariants.{Ident, Number, Text, StarText, True, False, If, Then}
-use Rattle.policy_tokens.specs.declared.token.Kind.TheVariants.{Else, In, Is, Like, Has, Cedar, Permit, Forbid, When}
-use Rattle.policy_tokens.specs.declared.token.Kind.TheVariants.{Unless, Principal, Action, Resource, Context}
-use Rattle.policy_tokens.specs.declared.token.Kind.TheVariants.{PrincipalSlot, ResourceSlot, At, LParen, RParen, LBrace}
-use Rattle.policy_tokens.specs.declared.token.Kind.TheVariants.{RBrace, LBracket, RBracket, Comma, Semicolon, Colon}
-use Rattle.policy_tokens.specs.declared.token.Kind.TheVariants.{Colons, Dot, Equal, NotEqual, Less, LessEqual, Greater}
-use Rattle.policy_tokens.specs.declared.token.Kind.TheVariants.{GreaterEqual, And, Or, Plus, Minus, Star, Not}
+use Rattle.plain.specs.Words.{is_digit, reserved_words, AllAre, IsWord}
+use Rattle.policy_tokens.specs.declared.token.TokenKind.{TokenKind}
+use Rattle.policy_tokens.specs.declared.token.TokenKind.TheVariants.{Ident, Number, Text, StarText, True, False, If}
+use Rattle.policy_tokens.specs.declared.token.TokenKind.TheVariants.{Then}
+use Rattle.policy_tokens.specs.declared.token.TokenKind.TheVariants.{Else, In, Is, Like, Has, Cedar, Permit, Forbid}
+use Rattle.policy_tokens.specs.declared.token.TokenKind.TheVariants.{When}
+use Rattle.policy_tokens.specs.declared.token.TokenKind.TheVariants.{Unless, Principal, Action, Resource, Context}
+use Rattle.policy_tokens.specs.declared.token.TokenKind.TheVariants.{PrincipalSlot, ResourceSlot, At, LParen, RParen}
+use Rattle.policy_tokens.specs.declared.token.TokenKind.TheVariants.{LBrace}
+use Rattle.policy_tokens.specs.declared.token.TokenKind.TheVariants.{RBrace, LBracket, RBracket, Comma, Semicolon}
+use Rattle.policy_tokens.specs.declared.token.TokenKind.TheVariants.{Colon}
+use Rattle.policy_tokens.specs.declared.token.TokenKind.TheVariants.{Colons, Dot, Equal, NotEqual, Less, LessEqual}
+use Rattle.policy_tokens.specs.declared.token.TokenKind.TheVariants.{Greater}
+use Rattle.policy_tokens.specs.declared.token.TokenKind.TheVariants.{GreaterEqual, And, Or, Plus, Minus, Star, Not}
 use Rattle.policy_tokens.specs.declared.token.Token.{Token}
 use Rattle.policy_tokens.specs.declared.piece.Piece.{Piece}
 use Rattle.policy_tokens.specs.declared.piece.Piece.TheVariants as piece
@@ -35,64 +40,64 @@ use Rattle.policy_tokens.specs.declared.fault.LexFault.TheVariants.{NoMemory, Ba
 -- a spelling and the kind of token that it is
 pub record Entry : Type 0 where
   pub spelling : List ℕ
-  pub kind : Kind
+  pub kind : TokenKind
 
-abbrev entry : List ℕ → Kind → Entry
+abbrev entry : List ℕ → TokenKind → Entry
 entry s k = record { spelling = s; kind = k }
+
+-- spellings, each with its kind
+abbrev entries : List (List ℕ) → List TokenKind → List Entry
+entries [] ks = []
+entries (s ∷ ss) [] = []
+entries (s ∷ ss) (k ∷ ks) = entry s k ∷ entries ss ks
 
 -- the reserved words, which are no identifiers
 abbrev pub reserved : List Entry
-reserved = entry (codes "true") True ∷ entry (codes "false") False ∷ entry (codes "if") If ∷ entry (codes "then") Then
-    ∷ entry (codes "else") Else
-    ∷ entry (codes "in") In ∷ entry (codes "is") Is ∷ entry (codes "like") Like ∷ entry (codes "has") Has ∷ entry
-    (codes "__cedar") Cedar ∷ []
+reserved = entries reserved_words (True ∷ False ∷ If ∷ Then ∷ Else ∷ In ∷ Is ∷ Like ∷ Has ∷ Cedar ∷ [])
 
 -- identifiers that are words of the grammar too
 abbrev pub named : List Entry
-named = entry (codes "permit") Permit ∷ entry (codes "forbid") Forbid ∷ entry (codes "when") When ∷ entry
-    (codes "unless") Unless
-    ∷ entry (codes "principal") Principal ∷ entry (codes "action") Action ∷ entry (codes "resource") Resource ∷ entry
-    (codes "context") Context ∷ []
+named = entry (codes "permit") Permit ∷ entry (codes "forbid") Forbid ∷ entry (codes "when") When
+    ∷ entry (codes "unless") Unless ∷ entry (codes "principal") Principal ∷ entry (codes "action") Action
+    ∷ entry (codes "resource") Resource ∷ entry (codes "context") Context ∷ []
 
 -- the marks of one byte
 abbrev pub singles : List Entry
-singles = entry (codes "@") At ∷ entry (codes "(") LParen ∷ entry (codes ")") RParen ∷ entry (codes "{") LBrace ∷ entry
-    (codes "}") RBrace
-    ∷ entry (codes "[") LBracket ∷ entry (codes "]") RBracket ∷ entry (codes ",") Comma ∷ entry (codes ";") Semicolon ∷
-    entry (codes ":") Colon
-    ∷ entry (codes ".") Dot ∷ entry (codes "<") Less ∷ entry (codes ">") Greater ∷ entry (codes "+") Plus ∷ entry
-    (codes "-") Minus
-    ∷ entry (codes "*") Star ∷ entry (codes "!") Not ∷ []
+singles = entry (codes "@") At ∷ entry (codes "(") LParen ∷ entry (codes ")") RParen ∷ entry (codes "{") LBrace
+    ∷ entry (codes "}") RBrace ∷ entry (codes "[") LBracket ∷ entry (codes "]") RBracket ∷ entry (codes ",") Comma
+    ∷ entry (codes ";") Semicolon ∷ entry (codes ":") Colon ∷ entry (codes ".") Dot ∷ entry (codes "<") Less
+    ∷ entry (codes ">") Greater ∷ entry (codes "+") Plus ∷ entry (codes "-") Minus ∷ entry (codes "*") Star
+    ∷ entry (codes "!") Not ∷ []
 
 -- the marks of two bytes
 abbrev pub pairs : List Entry
-pairs = entry (codes "::") Colons ∷ entry (codes "==") Equal ∷ entry (codes "!=") NotEqual ∷ entry (codes "<=")
-    LessEqual
-    ∷ entry (codes ">=") GreaterEqual ∷ entry (codes "&&") And ∷ entry (codes "||") Or ∷ []
+pairs = entry (codes "::") Colons ∷ entry (codes "==") Equal ∷ entry (codes "!=") NotEqual
+    ∷ entry (codes "<=") LessEqual ∷ entry (codes ">=") GreaterEqual ∷ entry (codes "&&") And ∷ entry (codes "||") Or
+    ∷ []
 
 -- the slots of templates
 abbrev pub slots : List Entry
 slots = entry (codes "?principal") PrincipalSlot ∷ entry (codes "?resource") ResourceSlot ∷ []
 
 -- the kind that a table gives a spelling
-abbrev pub listed : List Entry → List ℕ → Option Kind
+abbrev pub listed : List Entry → List ℕ → Option TokenKind
 listed [] w = None
 listed (e ∷ table) w = if bytes_eq e.spelling w then Some e.kind else listed table w
 
 -- ## Words and numbers
 
 -- the first that is there
-abbrev pub or_else : Option Kind → Option Kind → Option Kind
+abbrev pub or_else : Option TokenKind → Option TokenKind → Option TokenKind
 or_else None other = other
 or_else (Some k) other = Some k
 
 -- of a word that no table has: an identifier
-abbrev pub or_ident : Option Kind → Kind
+abbrev pub or_ident : Option TokenKind → TokenKind
 or_ident None = Ident
 or_ident (Some k) = k
 
 -- the kind of a word: reserved, a word of the grammar, or another identifier
-unfoldable pub kind_of_word : List ℕ → Kind
+unfoldable pub kind_of_word : List ℕ → TokenKind
 kind_of_word w = or_ident (or_else (listed reserved w) (listed named w))
 
 -- one or more digits
@@ -167,29 +172,30 @@ has_star [] = false
 has_star (p ∷ ps) = is_star p || has_star ps
 
 -- a string with `\*` can be a pattern alone
-abbrev pub kind_of_pieces : List Piece → Kind
+abbrev pub kind_of_pieces : List Piece → TokenKind
 kind_of_pieces ps = if has_star ps then StarText else Text
 
 -- ## Tokens
 
 -- The bytes spell a token of the kind.
-pub data IsToken : Kind → List ℕ → Type 0 where
-  word : {k : Kind} {w : List ℕ} → IsWord w → k ≡ kind_of_word w → IsToken k w
-  number : {k : Kind} {w : List ℕ} → IsNumber w → k ≡ Number → IsToken k w
-  quoted : {k : Kind} {w : List ℕ} (ps : List Piece) (body : List ℕ) → IsBody ps body → w ≡ quote ∷ body ++ quote ∷ []
+pub data IsToken : TokenKind → List ℕ → Type 0 where
+  word : {k : TokenKind} {w : List ℕ} → IsWord w → k ≡ kind_of_word w → IsToken k w
+  number : {k : TokenKind} {w : List ℕ} → IsNumber w → k ≡ Number → IsToken k w
+  quoted : {k : TokenKind} {w : List ℕ} (ps : List Piece) (body : List ℕ) → IsBody ps body
+      → w ≡ quote ∷ body ++ quote ∷ []
       → k ≡ kind_of_pieces ps → IsToken k w
-  single : {k : Kind} {w : List ℕ} → listed singles w ≡ Some k → IsToken k w
-  pair : {k : Kind} {w : List ℕ} → listed pairs w ≡ Some k → IsToken k w
-  slot : {k : Kind} {w : List ℕ} → listed slots w ≡ Some k → IsToken k w
+  single : {k : TokenKind} {w : List ℕ} → listed singles w ≡ Some k → IsToken k w
+  pair : {k : TokenKind} {w : List ℕ} → listed pairs w ≡ Some k → IsToken k w
+  slot : {k : TokenKind} {w : List ℕ} → listed slots w ≡ Some k → IsToken k w
 
 -- w is a token before rest, and no longer one begins where it does.
-pub record IsLongest (k : Kind) (w rest : List ℕ) : Type 0 where
+pub record IsLongest (k : TokenKind) (w rest : List ℕ) : Type 0 where
   pub is : IsToken k w
-  pub longest : (j : Kind) (v more : List ℕ) → IsToken j v → w ++ rest ≡ v ++ more → length v ≤ length w
+  pub longest : (j : TokenKind) (v more : List ℕ) → IsToken j v → w ++ rest ≡ v ++ more → length v ≤ length w
 
 -- No token begins here.
 abbrev pub NoToken : List ℕ → Type 0
-NoToken text = (k : Kind) (w more : List ℕ) → IsToken k w → text ≡ w ++ more → ⊥
+NoToken text = (k : TokenKind) (w more : List ℕ) → IsToken k w → text ≡ w ++ more → ⊥
 
 -- ## Blanks and comments
 
@@ -220,7 +226,7 @@ pub data Lex : ℕ → List ℕ → List Token → ℕ → List ℕ → Type 0 w
   finish : {at : ℕ} {text : List ℕ} → Lex at text [] at text
   gap : {at to : ℕ} {text left : List ℕ} {ts : List Token} (w rest : List ℕ) → text ≡ w ++ rest → IsGap w rest →
       Lex (at + length w) rest ts to left → Lex at text ts to left
-  token : {at to : ℕ} {text left : List ℕ} {ts : List Token} (k : Kind) (w rest : List ℕ) → text ≡ w ++ rest
+  token : {at to : ℕ} {text left : List ℕ} {ts : List Token} (k : TokenKind) (w rest : List ℕ) → text ≡ w ++ rest
       → IsLongest k w rest →
       Lex (at + length w) rest ts to left
       → Lex at text (record { kind = k; start = at; end = at + length w } ∷ ts) to left

@@ -5,12 +5,12 @@ use Prim.Native.Char.{code}
 use Rattle.std.specs.Prelude.{◌≡◌, ℕ, Bool, true, false, ◌==◌, if◌then◌else◌, List, [], ◌∷◌, ◌++◌, codes, encode_utf8}
 use Rattle.policy_tokens.specs.declared.piece.Piece.{Piece}
 use Rattle.policy_tokens.specs.declared.piece.Piece.TheVariants.{Byte, Char, Star}
-use Rattle.policy_tokens.specs.declared.token.Kind.{Kind}
-use Rattle.policy_tokens.specs.declared.token.Kind.TheVariants.{Text, StarText}
+use Rattle.policy_tokens.specs.declared.token.TokenKind.{TokenKind}
+use Rattle.policy_tokens.specs.declared.token.TokenKind.TheVariants.{Text, StarText}
 use Rattle.policy_tokens.specs.Lexing.{quote, IsBody, has_star, IsToken}
 
 -- the kinds of tokens that are strings
-abbrev pub is_string : Kind → Bool
+abbrev pub is_string : TokenKind → Bool
 is_string Text = true
 is_string StarText = true
 is_string other = false
@@ -70,7 +70,7 @@ OneValue = (v w spelling : List ℕ) → IsStringOf v spelling → IsStringOf w 
 
 -- Each string is a pattern,
 abbrev pub HasPattern : Type 0
-HasPattern = (k : Kind) (spelling : List ℕ) → IsToken k spelling → is_string k ≡ true
+HasPattern = (k : TokenKind) (spelling : List ℕ) → IsToken k spelling → is_string k ≡ true
     → (literals : List (List ℕ)) × IsPatternOf literals spelling
 
 -- and one at most.

@@ -2,10 +2,10 @@
 ghost use Rattle.std.specs.Prelude.{◌≡◌, ◌∷◌, ◌<◌, ◌++◌, List, length, codes, ℕ};
 ghost use Rattle.policy_tokens.specs.inner.Reading.{TellsToken, mark_of};
 
-use crate::classes::{digit, digits_len, letter, word_len};
 use crate::quoted::quoted;
-use crate::token::{Found, Kind};
+use crate::token::{Found, TokenKind};
 use crate::words::{pair, single, word_kind};
+use plain::words::{digit, digits_len, letter, word_len};
 
 /// The mark that a text begins with.
 pub(crate) fn mark(text: &[u8]) -> Option<Found>
@@ -28,12 +28,12 @@ pub(crate) fn slot(text: &[u8]) -> Option<Found>
 {
     if text.starts_with(b"?principal") {
         Some(Found {
-            kind: Kind::PrincipalSlot,
+            kind: TokenKind::PrincipalSlot,
             len: 10,
         })
     } else if text.starts_with(b"?resource") {
         Some(Found {
-            kind: Kind::ResourceSlot,
+            kind: TokenKind::ResourceSlot,
             len: 9,
         })
     } else {
@@ -56,7 +56,7 @@ pub(crate) fn front(text: &str) -> Option<Found>
     }
     if digit(*first) {
         return Some(Found {
-            kind: Kind::Number,
+            kind: TokenKind::Number,
             len: digits_len(bytes),
         });
     }

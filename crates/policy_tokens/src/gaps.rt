@@ -1,7 +1,8 @@
 //! What may stand between tokens.
 ghost use Rattle.std.specs.Prelude.{◌≡◌, ◌≤◌, length};
 ghost use Rattle.policy_tokens.specs.Lexing.{in_line};
-ghost use Rattle.policy_tokens.specs.inner.Reading.{run, TellsBlank, TellsGap};
+ghost use Rattle.plain.specs.Words.{run};
+ghost use Rattle.policy_tokens.specs.inner.Reading.{TellsBlank, TellsGap};
 
 /// Whether a comment goes on over this byte.
 #[tactic(auto, unfolding(crate::specs::Lexing::in_line))]

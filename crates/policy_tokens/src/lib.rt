@@ -1,7 +1,6 @@
 //! The tokens of a policy text.
 #![tactic(auto)]
 
-mod classes;
 mod fault;
 mod front;
 mod gaps;
@@ -18,5 +17,5 @@ pub use fault::LexFault;
 pub use laws::{kinds_of_words, lexing_is_unique, strings_have_one_meaning};
 pub use lexer::tokens;
 pub use strings::{decode_pattern, decode_string};
-pub use token::{Kind, Token};
+pub use token::{Token, TokenKind};
 pub use written::{body, spelling};

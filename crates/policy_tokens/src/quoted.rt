@@ -2,12 +2,12 @@
 ghost use Rattle.std.specs.Prelude.{◌≡◌, ◌<◌, ◌≤◌, ◌∷◌, List, ℕ, length};
 ghost use Rattle.std.specs.Option.{SomeIff};
 ghost use Rattle.std.specs.Char.{digit_value};
-ghost use Rattle.plain.specs.Words.{AllAre};
+ghost use Rattle.plain.specs.Words.{AllAre, run};
 ghost use Rattle.policy_tokens.specs.Lexing.{quote, backslash, escaped, is_hex, hex_after};
-ghost use Rattle.policy_tokens.specs.inner.Reading.{run, kind_with, TellsEscape, TellsToken};
+ghost use Rattle.policy_tokens.specs.inner.Reading.{kind_with, TellsEscape, TellsToken};
 
 use crate::piece::{Escape, Piece};
-use crate::token::{Found, Kind};
+use crate::token::{Found, TokenKind};
 
 /// What a letter or mark after a backslash stands for.
 fn letter_meant(byte: u8) -> Option<char>
@@ -138,11 +138,11 @@ pub(crate) fn escape(text: &[u8]) -> Option<Escape>
 }
 
 /// The kind of a quoted text that goes on with this piece.
-fn kind_with(kind: Kind, piece: Piece) -> Kind
+fn kind_with(kind: TokenKind, piece: Piece) -> TokenKind
     ensures { result ≡ kind_with kind piece }
 {
     match piece {
-        Piece::Star => Kind::StarText,
+        Piece::Star => TokenKind::StarText,
         _ => kind,
     }
 }
@@ -152,7 +152,7 @@ pub(crate) fn quoted(text: &[u8]) -> Option<Found>
     requires { (rest : List ℕ) × (text.now ≡ quote ∷ rest) }
     ensures { TellsToken text.now result }
 {
-    let mut kind = Kind::Text;
+    let mut kind = TokenKind::Text;
     let mut at = 1;
     while at < text.len() {
         let byte = text[at];

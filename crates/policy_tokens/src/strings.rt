@@ -1,13 +1,14 @@
 //! What strings stand for.
 ghost use Rattle.std.specs.Prelude.{◌≡◌, ◌≤◌, List, IfOk, length, encode_utf8, true};
 ghost use Rattle.policy_tokens.specs.Lexing.{IsSpelledIn, spelling_of, IsBody};
-ghost use Rattle.policy_tokens.specs.inner.Reading.{run, is_plain, character_of, IsLiteral};
+ghost use Rattle.plain.specs.Words.{run};
+ghost use Rattle.policy_tokens.specs.inner.Reading.{is_plain, character_of, IsLiteral};
 ghost use Rattle.policy_tokens.specs.Strings.{is_string, IsStringOf, IsPatternOf};
 ghost use Rattle.policy_tokens.specs.declared.piece.Piece.{Piece};
 
 use crate::piece::Piece;
 use crate::quoted::escape;
-use crate::token::{Kind, Token};
+use crate::token::{Token, TokenKind};
 use crate::written::body;
 use plain::{NoMemory, Text};
 use std::alloc::Global;
@@ -91,7 +92,7 @@ fn read_literal(alloc: Global, body: &str, in_pattern: bool) -> Result<Literal, 
 /// The only error is `NoMemory`.
 pub fn decode_string(alloc: Global, text: &str, token: Token) -> Result<Text, NoMemory>
     requires spelled { IsSpelledIn text.now token }
-    requires string { token.kind ≡ Kind.Text }
+    requires string { token.kind ≡ TokenKind.Text }
     ensures { IfOk result (λ value. IsStringOf value (spelling_of text.now token)) }
 {
     let Literal { value, len: _ } = read_literal(alloc, body(text, token), false)?;

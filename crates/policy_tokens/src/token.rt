@@ -4,7 +4,7 @@ ghost use Rattle.policy_tokens.specs.Idents.{is_ident, is_reserved};
 
 /// The kinds of tokens: each word of the language, each mark, and the open classes.
 #[derive(Clone, Copy, Debug, PartialEq, Eq)]
-pub enum Kind {
+pub enum TokenKind {
     /// An identifier that is no word of the language.
     Ident,
     /// One or more digits.
@@ -62,22 +62,22 @@ pub enum Kind {
     Not,
 }
 
-impl Kind {
+impl TokenKind {
     /// Whether a token of this kind is an identifier.
     pub fn is_ident(self) -> bool
         ensures { result ≡ is_ident self }
     {
         matches!(
             self,
-            Kind::Ident
-                | Kind::Permit
-                | Kind::Forbid
-                | Kind::When
-                | Kind::Unless
-                | Kind::Principal
-                | Kind::Action
-                | Kind::Resource
-                | Kind::Context
+            TokenKind::Ident
+                | TokenKind::Permit
+                | TokenKind::Forbid
+                | TokenKind::When
+                | TokenKind::Unless
+                | TokenKind::Principal
+                | TokenKind::Action
+                | TokenKind::Resource
+                | TokenKind::Context
         )
     }
 
@@ -87,16 +87,16 @@ impl Kind {
     {
         matches!(
             self,
-            Kind::True
-                | Kind::False
-                | Kind::If
-                | Kind::Then
-                | Kind::Else
-                | Kind::In
-                | Kind::Is
-                | Kind::Like
-                | Kind::Has
-                | Kind::Cedar
+            TokenKind::True
+                | TokenKind::False
+                | TokenKind::If
+                | TokenKind::Then
+                | TokenKind::Else
+                | TokenKind::In
+                | TokenKind::Is
+                | TokenKind::Like
+                | TokenKind::Has
+                | TokenKind::Cedar
         )
     }
 }
@@ -104,7 +104,7 @@ impl Kind {
 /// A token, and where it stands: it is spelled by the bytes from `start` up to `end`.
 #[derive(Clone, Copy, Debug, PartialEq, Eq)]
 pub struct Token {
-    pub kind: Kind,
+    pub kind: TokenKind,
     pub start: usize,
     pub end: usize,
 }
@@ -112,6 +112,6 @@ pub struct Token {
 /// What kind of token begins a text, and of how many bytes.
 #[derive(Clone, Copy)]
 pub(crate) struct Found {
-    pub(crate) kind: Kind,
+    pub(crate) kind: TokenKind,
     pub(crate) len: usize,
 }

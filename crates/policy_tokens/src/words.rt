@@ -2,74 +2,74 @@
 ghost use Rattle.std.specs.Prelude.{◌≡◌, ◌∷◌, []};
 ghost use Rattle.policy_tokens.specs.Lexing.{kind_of_word, listed, singles, pairs};
 
-use crate::token::Kind;
+use crate::token::TokenKind;
 
 /// The kind of a word: of one that is no word of the language, an identifier.
 #[tactic(auto, unfolding(crate::specs::Lexing::kind_of_word))]
-pub(crate) fn word_kind(word: &str) -> Kind
+pub(crate) fn word_kind(word: &str) -> TokenKind
     ensures { result ≡ kind_of_word word.now }
 {
     match word {
-        "true" => Kind::True,
-        "false" => Kind::False,
-        "if" => Kind::If,
-        "then" => Kind::Then,
-        "else" => Kind::Else,
-        "in" => Kind::In,
-        "is" => Kind::Is,
-        "like" => Kind::Like,
-        "has" => Kind::Has,
-        "__cedar" => Kind::Cedar,
-        "permit" => Kind::Permit,
-        "forbid" => Kind::Forbid,
-        "when" => Kind::When,
-        "unless" => Kind::Unless,
-        "principal" => Kind::Principal,
-        "action" => Kind::Action,
-        "resource" => Kind::Resource,
-        "context" => Kind::Context,
-        _ => Kind::Ident,
+        "true" => TokenKind::True,
+        "false" => TokenKind::False,
+        "if" => TokenKind::If,
+        "then" => TokenKind::Then,
+        "else" => TokenKind::Else,
+        "in" => TokenKind::In,
+        "is" => TokenKind::Is,
+        "like" => TokenKind::Like,
+        "has" => TokenKind::Has,
+        "__cedar" => TokenKind::Cedar,
+        "permit" => TokenKind::Permit,
+        "forbid" => TokenKind::Forbid,
+        "when" => TokenKind::When,
+        "unless" => TokenKind::Unless,
+        "principal" => TokenKind::Principal,
+        "action" => TokenKind::Action,
+        "resource" => TokenKind::Resource,
+        "context" => TokenKind::Context,
+        _ => TokenKind::Ident,
     }
 }
 
 /// The mark of one byte that this byte is.
-pub(crate) fn single(byte: u8) -> Option<Kind>
+pub(crate) fn single(byte: u8) -> Option<TokenKind>
     ensures { result ≡ listed singles (byte ∷ []) }
 {
     match byte {
-        b'@' => Some(Kind::At),
-        b'(' => Some(Kind::LParen),
-        b')' => Some(Kind::RParen),
-        b'{' => Some(Kind::LBrace),
-        b'}' => Some(Kind::RBrace),
-        b'[' => Some(Kind::LBracket),
-        b']' => Some(Kind::RBracket),
-        b',' => Some(Kind::Comma),
-        b';' => Some(Kind::Semicolon),
-        b':' => Some(Kind::Colon),
-        b'.' => Some(Kind::Dot),
-        b'<' => Some(Kind::Less),
-        b'>' => Some(Kind::Greater),
-        b'+' => Some(Kind::Plus),
-        b'-' => Some(Kind::Minus),
-        b'*' => Some(Kind::Star),
-        b'!' => Some(Kind::Not),
+        b'@' => Some(TokenKind::At),
+        b'(' => Some(TokenKind::LParen),
+        b')' => Some(TokenKind::RParen),
+        b'{' => Some(TokenKind::LBrace),
+        b'}' => Some(TokenKind::RBrace),
+        b'[' => Some(TokenKind::LBracket),
+        b']' => Some(TokenKind::RBracket),
+        b',' => Some(TokenKind::Comma),
+        b';' => Some(TokenKind::Semicolon),
+        b':' => Some(TokenKind::Colon),
+        b'.' => Some(TokenKind::Dot),
+        b'<' => Some(TokenKind::Less),
+        b'>' => Some(TokenKind::Greater),
+        b'+' => Some(TokenKind::Plus),
+        b'-' => Some(TokenKind::Minus),
+        b'*' => Some(TokenKind::Star),
+        b'!' => Some(TokenKind::Not),
         _ => None,
     }
 }
 
 /// The mark that these two bytes are.
-pub(crate) fn pair(first: u8, second: u8) -> Option<Kind>
+pub(crate) fn pair(first: u8, second: u8) -> Option<TokenKind>
     ensures { result ≡ listed pairs (first ∷ second ∷ []) }
 {
     match (first, second) {
-        (b':', b':') => Some(Kind::Colons),
-        (b'=', b'=') => Some(Kind::Equal),
-        (b'!', b'=') => Some(Kind::NotEqual),
-        (b'<', b'=') => Some(Kind::LessEqual),
-        (b'>', b'=') => Some(Kind::GreaterEqual),
-        (b'&', b'&') => Some(Kind::And),
-        (b'|', b'|') => Some(Kind::Or),
+        (b':', b':') => Some(TokenKind::Colons),
+        (b'=', b'=') => Some(TokenKind::Equal),
+        (b'!', b'=') => Some(TokenKind::NotEqual),
+        (b'<', b'=') => Some(TokenKind::LessEqual),
+        (b'>', b'=') => Some(TokenKind::GreaterEqual),
+        (b'&', b'&') => Some(TokenKind::And),
+        (b'|', b'|') => Some(TokenKind::Or),
         _ => None,
     }
 }

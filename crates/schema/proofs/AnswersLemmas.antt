@@ -26,12 +26,12 @@ use Rattle.sha2.specs.Sha256.{sha256}
 use Rattle.hex.specs.Hex.{encode_lower}
 use Rattle.schema_names.specs.Naming.{StatesNamed}
 use Rattle.schema.specs.Schemas.{EnvironmentOf, Answers, IsSound, IsSchemaOf, IsShape, IsAction, IsEnvironment, IsPlace, IsRecordOf, action_parents, type_parents, type_uid, place_cmp}
-use Rattle.schema.specs.Kept.{kept}
+use Rattle.schema.specs.SchemaEntries.{kept}
 use Rattle.schema_parts.specs.Places.{environment_of}
 use Rattle.schema_parts.specs.LookUps as look_ups
 use Rattle.schema_parts.specs.LookUps.{is_among, is_before, is_above}
 use Rattle.schema.specs.Views.{environment_view, schema_view}
-use Rattle.schema_parts.specs.declared.parts.Standing.{Standing}
+use Rattle.schema_parts.specs.declared.parts.LinePlace.{LinePlace}
 use Rattle.schema.specs.declared.lines.Lines.{Lines}
 use Rattle.schema.specs.inner.Lines.{is_in, stands_below, below_by, may_have_in, Before, StandsBelow, AreLines}
 use Rattle.schema.specs.inner.Making.{shape_in, Places, AreShapes, ArePlaces, AreAncestors}
@@ -102,18 +102,18 @@ module _ (s : FoundSchema) (ancestors : BTreeMap EntityUid (List EntityUid)) (ar
 
 -- ---- types above types
 
-pub before_so : (o : Option Standing) (s : Standing) → is_before o s ≡ true → (t : Standing) × (o ≡ Some t) × Before t s
+pub before_so : (o : Option LinePlace) (s : LinePlace) → is_before o s ≡ true → (t : LinePlace) × (o ≡ Some t) × Before t s
 before_so None s h = absurd cc
 before_so (Some t) s h =
     let a = and_both (t.is_member && t.line == s.line) (nat_lt t.bound s.bound) h in
     let b = and_both t.is_member (t.line == s.line) a.0 in
     (t, refl, record { member = b.0; line = eqb-true t.line s.line b.1; bound = ltb-true t.bound s.bound a.1 })
 
-before_test : (t s : Standing) → Before t s → (t.is_member && t.line == s.line && nat_lt t.bound s.bound) ≡ true
+before_test : (t s : LinePlace) → Before t s → (t.is_member && t.line == s.line && nat_lt t.bound s.bound) ≡ true
 before_test t s h = rw (h.member, eq-eqb t.line s.line h.line, lt-ltb t.bound s.bound h.bound) refl
 
-before_is : (o : Option Standing) (s t : Standing) → o ≡ Some t → Before t s → is_before o s ≡ true
-before_is o s t e h = ap (λ (p : Option Standing). is_before p s) e ∙ before_test t s h
+before_is : (o : Option LinePlace) (s t : LinePlace) → o ≡ Some t → Before t s → is_before o s ≡ true
+before_is o s t e h = ap (λ (p : Option LinePlace). is_before p s) e ∙ before_test t s h
 
 or_cases : (a b : Bool) → (a || b) ≡ true → (a ≡ true) ⊎ (b ≡ true)
 or_cases true b h = inl refl
@@ -127,7 +127,7 @@ or_right : (a b : Bool) → b ≡ true → (a || b) ≡ true
 or_right true b h = refl
 or_right false b h = h
 
-module _ (at : List ℕ → Option Standing) (beyond : List (BTreeSet (List ℕ))) (s : Standing) (n : List ℕ) where
+module _ (at : List ℕ → Option LinePlace) (beyond : List (BTreeSet (List ℕ))) (s : LinePlace) (n : List ℕ) where
   below_so : stands_below at beyond s n ≡ true → StandsBelow at beyond s n
   below_so h = elim (or_cases (is_before (at n) s) _ h) [
     | inl b ↦ inl (before_so (at n) s b)
@@ -139,23 +139,23 @@ module _ (at : List ℕ → Option Standing) (beyond : List (BTreeSet (List ℕ)
   below_is (inr k) = or_right (is_before (at n) s) _ k
 
 module _ (s : FoundSchema) (l : Lines) (are : AreLines (type_parents s) s.entity_types l) where
-  parent_at : (child parent : List ℕ) (o : Option Standing) → get text_cmp l.standings child ≡ o
-      → IsTrue (below_by (get text_cmp l.standings) l.beyond.items o parent) ↔ Above (type_parents s) (type_uid parent) (type_uid child)
+  parent_at : (child parent : List ℕ) (o : Option LinePlace) → get text_cmp l.line_places child ≡ o
+      → IsTrue (below_by (get text_cmp l.line_places) l.beyond.items o parent) ↔ Above (type_parents s) (type_uid parent) (type_uid child)
   parent_at child parent None e = (
     (λ h. cc),
     (λ h.
         let found = is_declared s.entity_types (type_uid child) (type_uid parent) h in
-        is_none (get text_cmp l.standings child) e
-        (subst (λ (n : List ℕ). IsSome (get text_cmp l.standings n)) (ap (λ (u : EntityUid). u.type_name) found.2) (are.all found.0 found.1))),
+        is_none (get text_cmp l.line_places child) e
+        (subst (λ (n : List ℕ). IsSome (get text_cmp l.line_places n)) (ap (λ (u : EntityUid). u.type_name) found.2) (are.all found.0 found.1))),
   )
   parent_at child parent (Some t) e =
       let exact = are.keeps.exact child t e parent in (
-        (λ h. exact.0 (below_so (get text_cmp l.standings) l.beyond.items t parent h)),
-        (λ h. below_is (get text_cmp l.standings) l.beyond.items t parent (exact.1 h)),
+        (λ h. exact.0 (below_so (get text_cmp l.line_places) l.beyond.items t parent h)),
+        (λ h. below_is (get text_cmp l.line_places) l.beyond.items t parent (exact.1 h)),
       )
 
-  pub parents_are : (child parent : List ℕ) → IsTrue (may_have_in l.standings l.beyond.items child parent) ↔ Above (type_parents s) (type_uid parent) (type_uid child)
-  parents_are child parent = parent_at child parent (get text_cmp l.standings child) refl
+  pub parents_are : (child parent : List ℕ) → IsTrue (may_have_in l.line_places l.beyond.items child parent) ↔ Above (type_parents s) (type_uid parent) (type_uid child)
+  parents_are child parent = parent_at child parent (get text_cmp l.line_places child) refl
 
 -- ---- environments
 
@@ -197,19 +197,19 @@ among_keys (Some s) n = refl
 among_at : (beyond : List (BTreeSet (List ℕ))) (i : ℕ) (n : List ℕ) → is_among (slice_get (map (λ s. s.keys) beyond) i) n ≡ is_in (slice_get beyond i) n
 among_at beyond i n = ap (λ (o : Option (List (List ℕ))). is_among o n) (slice_get-map (λ (s : BTreeSet (List ℕ)). s.keys) beyond i) ∙ among_keys (slice_get beyond i) n
 
-below_in : (standings : BTreeMap (List ℕ) Standing) (beyond : List (BTreeSet (List ℕ))) (o : Option Standing) (n : List ℕ)
-    → look_ups.stands_below standings.entries (map (λ s. s.keys) beyond) o n ≡ below_by (get text_cmp standings) beyond o n
-below_in standings beyond None n = refl
-below_in standings beyond (Some s) n = ap (λ (b : Bool). is_before (get text_cmp standings n) s || b) (among_at beyond s.line n)
+below_in : (line_places : BTreeMap (List ℕ) LinePlace) (beyond : List (BTreeSet (List ℕ))) (o : Option LinePlace) (n : List ℕ)
+    → look_ups.stands_below line_places.entries (map (λ s. s.keys) beyond) o n ≡ below_by (get text_cmp line_places) beyond o n
+below_in line_places beyond None n = refl
+below_in line_places beyond (Some s) n = ap (λ (b : Bool). is_before (get text_cmp line_places n) s || b) (among_at beyond s.line n)
 
-pub above_in : (standings : BTreeMap (List ℕ) Standing) (beyond : List (BTreeSet (List ℕ))) (child parent : List ℕ)
-    → is_above standings.entries (map (λ s. s.keys) beyond) child parent ≡ may_have_in standings beyond child parent
-above_in standings beyond child parent = below_in standings beyond (get text_cmp standings child) parent
+pub above_in : (line_places : BTreeMap (List ℕ) LinePlace) (beyond : List (BTreeSet (List ℕ))) (child parent : List ℕ)
+    → is_above line_places.entries (map (λ s. s.keys) beyond) child parent ≡ may_have_in line_places beyond child parent
+above_in line_places beyond child parent = below_in line_places beyond (get text_cmp line_places child) parent
 
 -- ---- all together
 
 made_answers : (s : FoundSchema) (label : List ℕ) (t : Types) (h : Hierarchies) → AreTypesOf s.commons s t → AreHierarchiesOf s h
-    → Answers s (schema_view (kept label t.environments h.actions t.shapes h.ancestors h.lines.standings h.lines.beyond.items))
+    → Answers s (schema_view (kept label t.environments h.actions t.shapes h.ancestors h.lines.line_places h.lines.beyond.items))
 made_answers s label t h types hierarchies = record {
   shapes = shape_found s t.shapes types.shapes;
   all_shapes = shape_there s t.shapes types.shapes;
@@ -217,7 +217,7 @@ made_answers s label t h types hierarchies = record {
   actions_ascend = subst (λ (us : List EntityUid). IsAscending us) (sym hierarchies.actions) hierarchies.ascending;
   ancestors = ancestors_found s h.ancestors hierarchies.ancestors;
   all_ancestors = ancestors_there s h.ancestors hierarchies.ancestors;
-  parents = λ child parent. subst (λ (b : Bool). IsTrue b ↔ Above (type_parents s) (type_uid parent) (type_uid child)) (sym (above_in h.lines.standings h.lines.beyond.items child parent)) (parents_are s h.lines hierarchies.lines child parent);
+  parents = λ child parent. subst (λ (b : Bool). IsTrue b ↔ Above (type_parents s) (type_uid parent) (type_uid child)) (sym (above_in h.lines.line_places h.lines.beyond.items child parent)) (parents_are s h.lines hierarchies.lines child parent);
   environments = subst (λ (es : List Environment). (e : EnvironmentOf) → Contains (map environment_view es) e → IsEnvironment s e) (sym types.environments) (environments_are s types.places types.are types.ordered);
   all_environments = subst (λ (es : List Environment). (p : Place) → IsPlace s p → Contains (map (λ e. e.place) (map environment_view es)) p) (sym types.environments) (all_environments s types.places types.are types.ordered);
   environments_ascend = subst (λ (es : List Environment). IsStrictlySortedBy place_cmp (map (λ e. e.place) (map environment_view es))) (sym types.environments) (environments_ascend s types.places types.are types.ordered);
@@ -225,7 +225,7 @@ made_answers s label t h types hierarchies = record {
 
 -- what was made is the schema that the bytes state
 pub made_schema : (bytes : List ℕ) (s : FoundSchema) → StatesNamed bytes s → IsSound s → (label : List ℕ) → label ≡ encode_lower (sha256 bytes) → (t : Types) (h : Hierarchies)
-    → AreTypesOf s.commons s t → AreHierarchiesOf s h → IsSchemaOf bytes (schema_view (kept label t.environments h.actions t.shapes h.ancestors h.lines.standings h.lines.beyond.items))
+    → AreTypesOf s.commons s t → AreHierarchiesOf s h → IsSchemaOf bytes (schema_view (kept label t.environments h.actions t.shapes h.ancestors h.lines.line_places h.lines.beyond.items))
 made_schema bytes s states sound label is t h types hierarchies = record {
   named = s;
   states = states;

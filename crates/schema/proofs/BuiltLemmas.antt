@@ -25,7 +25,7 @@ use Rattle.schema_parts.specs.declared.parts.Place.{Place}
 use Rattle.schema.specs.Schemas as schemas
 use Rattle.schema.specs.Schemas.{EnvironmentOf, StatedSchema, Answers, IsAction, IsShape, IsEnvironment, IsPlace, Applies, IsRecordOf, IsWritten, StandsIn, IsSound, IsUnsound, IsSchemaOf, action_parents, type_parents, type_uid, with_types, place_cmp}
 use Rattle.schema.specs.Outcomes as outcomes
-use Rattle.schema.specs.Outcomes.{Outcome, SomeOutcome}
+use Rattle.schema.specs.Outcomes.{SchemaOrRefusal, SomeOutcome}
 use Rattle.schema_parts.specs.Places.{place_of}
 use Rattle.schema.proofs.AnswersLemmas.{contains_map}
 use Rattle.schema.proofs.PlaceLemmas.{place_cmp-IsTotalOrder, place_cmp-IsAntisymmetric}
@@ -280,10 +280,10 @@ module _ (s : FoundSchema) (sound : IsSound s) where
 pub some_outcome : names.SomeOutcome → names.FilesDeclareOnce → names.FilesNameTheirOwn → TypesEndOrNot → PathsAreDecided → SomeOutcome
 some_outcome some once own ends decided bytes = by (some bytes)
   where
-    told : (s : FoundSchema) → StatesNamed bytes s → IsSound s ⊎ ((f : SchemaFault) × IsUnsound s f) → Outcome bytes
+    told : (s : FoundSchema) → StatesNamed bytes s → IsSound s ⊎ ((f : SchemaFault) × IsUnsound s f) → SchemaOrRefusal bytes
     told s states (inl sound) = outcomes.states (built s sound decided bytes) (built_schema s sound decided bytes states)
     told s states (inr (f, unsound)) = outcomes.refused f (schemas.unsound s f states unsound)
 
-    by : names.Outcome bytes → Outcome bytes
+    by : names.NamesOrRefusal bytes → SchemaOrRefusal bytes
     by (names.states s states) = told s states (sound_or_not s ends (once bytes s states) (own bytes s states) decided)
     by (names.refused f refused) = outcomes.refused f (schemas.naming f refused)

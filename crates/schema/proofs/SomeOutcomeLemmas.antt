@@ -122,22 +122,22 @@ last_edge parents b [] a h = (b, h)
 last_edge parents b (c ∷ cs) a h = last_edge parents c cs a h.1
 
 -- an action that gives b this parent
-abbrev Gives : List FoundAction → EntityUid → EntityUid → Type 0
-Gives us b a = (x : FoundAction) × Contains us x × (x.uid ≡ b) × Contains x.parents a
+abbrev HasParent : List FoundAction → EntityUid → EntityUid → Type 0
+HasParent us b a = (x : FoundAction) × Contains us x × (x.uid ≡ b) × Contains x.parents a
 
 given_at : (x : FoundAction) (old : List EntityUid) (b a : EntityUid) (same : Bool) → is_eq (uid_cmp x.uid b) ≡ same → Contains (cond same x.parents old) a → ((x.uid ≡ b) × Contains x.parents a) ⊎ Contains old a
 given_at x old b a true e h = inl (same_uid x.uid b e, h)
 given_at x old b a false e h = inr h
 
-edge_given : (parents : Parents) (us : List FoundAction) (b a : EntityUid) → Contains (with_actions parents us b) a → Gives us b a ⊎ Contains (parents b) a
+edge_given : (parents : Parents) (us : List FoundAction) (b a : EntityUid) → Contains (with_actions parents us b) a → HasParent us b a ⊎ Contains (parents b) a
 edge_given parents [] b a h = inr h
 edge_given parents (x ∷ us) b a h = by (edge_given (with_parents parents x.uid x.parents) us b a h)
   where
-    here : ((x.uid ≡ b) × Contains x.parents a) ⊎ Contains (parents b) a → Gives (x ∷ us) b a ⊎ Contains (parents b) a
+    here : ((x.uid ≡ b) × Contains x.parents a) ⊎ Contains (parents b) a → HasParent (x ∷ us) b a ⊎ Contains (parents b) a
     here (inl found) = inl (x, Contains-here x us, found.0, found.1)
     here (inr old) = inr old
 
-    by : Gives us b a ⊎ Contains (with_parents parents x.uid x.parents b) a → Gives (x ∷ us) b a ⊎ Contains (parents b) a
+    by : HasParent us b a ⊎ Contains (with_parents parents x.uid x.parents b) a → HasParent (x ∷ us) b a ⊎ Contains (parents b) a
     by (inl (y, there, same, inside)) = inl (y, Contains-there x us y there, same, inside)
     by (inr before) = here (given_at x (parents b) b a (is_eq (uid_cmp x.uid b)) refl before)
 
@@ -160,10 +160,10 @@ module _ (us : List FoundAction) where
   abbrev edges : Parents
   edges = with_actions no_parents us
 
-  edge_from : (b a : EntityUid) → Contains (edges b) a → Gives us b a
+  edge_from : (b a : EntityUid) → Contains (edges b) a → HasParent us b a
   edge_from b a h = by (edge_given no_parents us b a h)
     where
-      by : Gives us b a ⊎ Contains (no_parents b) a → Gives us b a
+      by : HasParent us b a ⊎ Contains (no_parents b) a → HasParent us b a
       by (inl found) = found
       by (inr none) = Contains-none a none
 

@@ -1,4 +1,4 @@
-pub mod Kept
+pub mod SchemaEntries
 pub mod Outcomes
 pub mod Schemas
 pub mod Views

@@ -4,12 +4,12 @@ use Rattle.schema_types.specs.declared.fault.SchemaFault.{SchemaFault}
 use Rattle.schema.specs.Schemas.{StatedSchema, IsSchemaOf, RefusedFor}
 
 -- bytes state a schema, or are refused
-pub data Outcome (bytes : List ℕ) : Type 0 where
-  states : (v : StatedSchema) → IsSchemaOf bytes v → Outcome bytes
-  refused : (f : SchemaFault) → RefusedFor bytes f → Outcome bytes
+pub data SchemaOrRefusal (bytes : List ℕ) : Type 0 where
+  states : (v : StatedSchema) → IsSchemaOf bytes v → SchemaOrRefusal bytes
+  refused : (f : SchemaFault) → RefusedFor bytes f → SchemaOrRefusal bytes
 
 abbrev pub SomeOutcome : Type 0
-SomeOutcome = (bytes : List ℕ) → Outcome bytes
+SomeOutcome = (bytes : List ℕ) → SchemaOrRefusal bytes
 
 -- bytes state one schema at most
 abbrev pub OneSchema : Type 0

@@ -8,7 +8,7 @@ use Rattle.schema_types.specs.CedarViews.{cedar_view}
 use Rattle.schema_parts.specs.declared.parts.Environment.{Environment}
 use Rattle.schema_parts.specs.declared.parts.EntityDecl.{EntityDecl}
 pub use Rattle.schema_parts.specs.LookUps.{ancestors_at, is_above}
-use Rattle.schema.specs.Kept.{Kept}
+use Rattle.schema.specs.SchemaEntries.{SchemaEntries}
 use Rattle.schema.specs.Schemas.{EnvironmentOf, StatedSchema, IsSchemaOf}
 
 abbrev pub environment_view : Environment → EnvironmentOf
@@ -17,16 +17,16 @@ environment_view e = record { place = e.place; context = cedar_view e.context }
 abbrev pub shape_at : List (List ℕ × EntityDecl) → List ℕ → Option Cedar
 shape_at types n = option_map (λ d. cedar_view d.shape) (lookup (is_at (text_cmp n)) types)
 
-abbrev pub schema_view : Kept → StatedSchema
+abbrev pub schema_view : SchemaEntries → StatedSchema
 schema_view k = record {
   label = k.label;
   environments = map environment_view k.environments;
   actions = k.actions;
   shape = shape_at k.entity_types;
   ancestors = ancestors_at k.ancestors;
-  may_have_parent = is_above k.standings k.beyond;
+  may_have_parent = is_above k.line_places k.beyond;
 }
 
 -- some bytes state the schema that this is
-abbrev pub IsStated : Kept → Type 0
+abbrev pub IsStated : SchemaEntries → Type 0
 IsStated k = (bytes : List ℕ) × IsSchemaOf bytes (schema_view k)

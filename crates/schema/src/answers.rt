@@ -1,7 +1,7 @@
 //! What a schema answers.
 
 use plain::{Items, Text};
-use schema_parts::{EntityDecl, Environment, Standing, ancestors_at, may_have_parent};
+use schema_parts::{EntityDecl, Environment, LinePlace, ancestors_at, may_have_parent};
 use std::collections::{BTreeMap, BTreeSet};
 use std::marker::Model;
 use values::{EntityUid, TypeName};
@@ -18,7 +18,7 @@ pub struct Schema {
     pub(crate) shapes: BTreeMap<TypeName, EntityDecl>,
     pub(crate) ancestors: BTreeMap<EntityUid, Items<EntityUid>>,
     /// Where each entity type stands among those above it.
-    pub(crate) standings: BTreeMap<TypeName, Standing>,
+    pub(crate) line_places: BTreeMap<TypeName, LinePlace>,
     /// Of each line of types those above its first.
     pub(crate) beyond: Vec<BTreeSet<TypeName>>,
 }
@@ -26,16 +26,17 @@ pub struct Schema {
 impl Model for Schema {
     ghost use Rattle.std.specs.Coded.{codes};
     ghost use Rattle.schema_types.specs.contracts.cedar.CedarType as cedar;
-    ghost use Rattle.schema.specs.Kept.{Kept, kept};
+    ghost use Rattle.schema.specs.SchemaEntries.{SchemaEntries, kept};
     ghost use Rattle.schema.specs.Views.{IsStated};
 
-    ghost Value = { Kept };
+    ghost Value = { SchemaEntries };
 
     ghost coded = { Prim.hlevel (codes, cedar.the_row.coded) };
 
-    ghost view = { λ s. kept s.label s.environments s.actions s.shapes s.ancestors s.standings s.beyond.items };
+    ghost view = { λ s. kept s.label s.environments s.actions s.shapes s.ancestors s.line_places s.beyond.items };
 
-    ghost invariant = { λ s. IsStated (kept s.label s.environments s.actions s.shapes s.ancestors s.standings s.beyond.items) };
+    ghost invariant = { λ s. IsStated
+        (kept s.label s.environments s.actions s.shapes s.ancestors s.line_places s.beyond.items) };
 }
 
 impl Schema {
@@ -83,7 +84,7 @@ impl Schema {
     pub fn may_have_parent(&self, child: &TypeName, parent: &TypeName) -> bool
         ensures { result ≡ (schema_view self.now).may_have_parent child.now parent.now }
     {
-        may_have_parent(&self.standings, self.beyond.as_slice(), child, parent)
+        may_have_parent(&self.line_places, self.beyond.as_slice(), child, parent)
     }
 
     /// The label: 64 lower case hexadecimal digits, SHA-256 of the bytes that were read.

@@ -19,7 +19,7 @@ use crate::maps::put;
 use ancestor_closure::{Ancestry, ParentsOf, Searched};
 use plain::NoMemory;
 use schema_names::FoundEntityType;
-use schema_parts::Standing;
+use schema_parts::LinePlace;
 use std::alloc::Global;
 use std::collections::{BTreeMap, BTreeSet};
 use values::{EntityUid, TypeName};
@@ -27,7 +27,7 @@ use values::{EntityUid, TypeName};
 /// The lines of some types.
 #[derive(Drop)]
 pub(crate) struct Lines {
-    pub(crate) standings: BTreeMap<TypeName, Standing>,
+    pub(crate) line_places: BTreeMap<TypeName, LinePlace>,
     /// Of each line the types above its first.
     pub(crate) beyond: Vec<BTreeSet<TypeName>>,
     /// How many types the last line has.
@@ -65,7 +65,7 @@ fn is_last(line: usize, lines: usize) -> bool
 }
 
 /// What stands behind one of a line: in that line, where it is the last of the last.
-fn next_place(lines: &Lines, found: Standing) -> Option<Standing>
+fn next_place(lines: &Lines, found: LinePlace) -> Option<LinePlace>
     ensures { MayBeNext lines.now found result }
 {
     if !found.is_member {
@@ -76,23 +76,23 @@ fn next_place(lines: &Lines, found: Standing) -> Option<Standing>
     }
     let bound = found.bound + 1;
     let is_member = is_last(found.line, lines.beyond.len()) && bound == lines.count;
-    Some(Standing {
+    Some(LinePlace {
         line: found.line,
         bound,
         is_member,
     })
 }
 
-fn behind_type(lines: &Lines, parent: &TypeName) -> Option<Standing>
+fn behind_type(lines: &Lines, parent: &TypeName) -> Option<LinePlace>
     ensures { IsBehind lines.now parent.now result }
 {
-    match lines.standings.get(parent) {
+    match lines.line_places.get(parent) {
         Some(found) => next_place(lines, *found),
         None => None,
     }
 }
 
-fn behind(lines: &Lines, parent: Option<&TypeName>) -> Option<Standing>
+fn behind(lines: &Lines, parent: Option<&TypeName>) -> Option<LinePlace>
     ensures { MayBeBehind lines.now (option_map (λ p. p.now) parent.entry) result }
 {
     match parent {
@@ -101,7 +101,7 @@ fn behind(lines: &Lines, parent: Option<&TypeName>) -> Option<Standing>
     }
 }
 
-fn next_count(standing: Standing, count: usize) -> usize
+fn next_count(standing: LinePlace, count: usize) -> usize
     requires { standing.bound < 4294967296 }
     ensures { result ≡ (if standing.is_member then suc standing.bound else count) }
 {
@@ -113,12 +113,12 @@ fn next_count(standing: Standing, count: usize) -> usize
 }
 
 /// Lets a type stand so.
-fn hang(name: &TypeName, standing: Standing, lines: &mut Lines) -> Result<(), NoMemory>
+fn hang(name: &TypeName, standing: LinePlace, lines: &mut Lines) -> Result<(), NoMemory>
     requires { standing.bound < 4294967296 }
     ensures { OnOk result (Hangs name.now standing lines.old lines.new) }
 {
     let key = name.copy()?;
-    put(&mut lines.standings, key, standing)?;
+    put(&mut lines.line_places, key, standing)?;
     lines.count = next_count(standing, lines.count);
     Ok(())
 }
@@ -145,14 +145,14 @@ fn begin_line(
 ) -> Result<(), NoMemory>
     ensures { OnOk result (Alone name.now beyond lines.old lines.new) }
 {
-    let standing = Standing {
+    let standing = LinePlace {
         line: lines.beyond.len(),
         bound: 0,
         is_member: true,
     };
     lines.beyond.push(beyond)?;
     let key = name.copy()?;
-    put(&mut lines.standings, key, standing)?;
+    put(&mut lines.line_places, key, standing)?;
     lines.count = 1;
     Ok(())
 }
@@ -179,7 +179,7 @@ fn add_new(
     lines: &mut Lines,
 ) -> Result<(), NoMemory>
     requires types { AreTypes (searched.parents-value.it edges.now) }
-    requires none { get text_cmp lines.old.standings name.now ≡ None }
+    requires none { get text_cmp lines.old.line_places name.now ≡ None }
     ensures { OnOk result (Adds (searched.parents-value.it edges.now) name.now lines.old lines.new) }
 {
     let parent = parent_of(alloc, edges, name)?;
@@ -198,7 +198,7 @@ fn add_one(
     requires { AreTypes (searched.parents-value.it edges.now) }
     ensures { OnOk result (Adds (searched.parents-value.it edges.now) name.now lines.old lines.new) }
 {
-    if lines.standings.contains_key(name) {
+    if lines.line_places.contains_key(name) {
         return Ok(());
     }
     add_new(alloc, edges, name, lines)?;
@@ -221,7 +221,7 @@ fn path_from<'e>(
         let Some(parent) = next else {
             break;
         };
-        if lines.standings.contains_key(parent) {
+        if lines.line_places.contains_key(parent) {
             break;
         }
         path.push(parent)?;
@@ -242,7 +242,7 @@ fn add_type(
     requires { AreTypes (searched.parents-value.it edges.now) }
     ensures { OnOk result (Adds (searched.parents-value.it edges.now) name.now lines.old lines.new) }
 {
-    if lines.standings.contains_key(name) {
+    if lines.line_places.contains_key(name) {
         return Ok(());
     }
     let path = path_from(alloc, edges, name, lines, most)?;
@@ -256,10 +256,10 @@ fn add_type(
 /// No type stands anywhere yet.
 fn no_lines(alloc: Global) -> Lines
     ensures keeps { (parents : Parents) → KeepsLines parents result }
-    ensures empty { (n : List ℕ) → get text_cmp result.standings n ≡ None }
+    ensures empty { (n : List ℕ) → get text_cmp result.line_places n ≡ None }
 {
     Lines {
-        standings: BTreeMap::new(alloc),
+        line_places: BTreeMap::new(alloc),
         beyond: Vec::new(alloc),
         count: 0,
     }

@@ -121,7 +121,7 @@ fn make_schema(
         actions: hierarchies.actions,
         shapes: types.shapes,
         ancestors: hierarchies.ancestors,
-        standings: hierarchies.lines.standings,
+        line_places: hierarchies.lines.line_places,
         beyond: hierarchies.lines.beyond,
     })
 }

@@ -5,7 +5,7 @@ use Rattle.values.specs.declared.request.Request.{Request}
 use Rattle.policy_grammar.specs.declared.policy.Policy.{Policy}
 use Rattle.evaluator.specs.Operators.{World}
 use Rattle.authoriser.specs.declared.answer.Answer.{Answer}
-use Rattle.authoriser.specs.Answers.{Named, IsAnswer}
+use Rattle.authoriser.specs.Answers.{NamedPolicy, IsAnswer}
 use Rattle.schema.specs.Schemas.{StatedSchema}
 use Rattle.entity_worlds.specs.Keeping.{Entries}
 use Rattle.validator.specs.Passing.{Passes}
@@ -20,10 +20,10 @@ use Rattle.schema_decisions.specs.inner.Stores.{Keeps, world_held, IsLineTo}
 use Rattle.schema_decisions.proofs.StoreLemmas.{held_world}
 
 -- what is tried is in order
-pub in_order_answered : {E : Type 0} (policies tried ordered : List Named) (W : World) (q : Request) (result : Result Answer E) → tried ≡ ordered
+pub in_order_answered : {E : Type 0} (policies tried ordered : List NamedPolicy) (W : World) (q : Request) (result : Result Answer E) → tried ≡ ordered
     → IsInOrder policies ordered → IfOk result (IsAnswer W q tried) → IfOk result (IsAnswerTo policies W q)
 in_order_answered policies tried ordered W q (Ok a) same order is =
-    record { ordered = ordered; order = order; is = subst (λ (ps : List Named). IsAnswer W q ps a) same is }
+    record { ordered = ordered; order = order; is = subst (λ (ps : List NamedPolicy). IsAnswer W q ps a) same is }
 in_order_answered policies tried ordered W q (Err e) same order is = tt
 
 -- what goes on where a check was passed, and what is refused for the check
@@ -42,7 +42,7 @@ module _ {X : Type 0} (kept : X) (checked : Result ⊤ Refusal) (result : Result
   ] goes_on is
 
 module _ (s : StatedSchema) where
-  pub answered : (policies : List Named) (entities request line : List ℕ) (store : Entries) → Keeps (entities_of s entities) store
+  pub answered : (policies : List NamedPolicy) (entities request line : List ℕ) (store : Entries) → Keeps (entities_of s entities) store
       → IsLineTo s policies (world_held s store) request line → IsAnswered s policies entities request line
   answered policies entities request line store kept to = record {
     stored = kept.entities;

@@ -3,8 +3,5 @@ pub mod CheckLemmas
 pub mod DecidedLemmas
 pub mod FaultLemmas
 pub mod LineOrRefusal
-pub mod NameLemmas
-pub mod OrderLemmas
 pub mod OutcomeLemmas
-pub mod Placing
 pub mod StoreLemmas

@@ -29,7 +29,7 @@ use Rattle.schema_decisions.specs.Requests.{IsRequestText}
 use Rattle.schema_decisions.specs.Decisions.{world_under, IsAnswered, IsUnanswered, by_entities, by_request, IsDecidedUnder, IsRefusedUnder}
 use Rattle.schema_decisions.specs.Decisions.{by_policies, by_question, IsDecided, IsRefused, by_schema, under_schema}
 use Rattle.schema_decisions.specs.Outcomes.{LineOrRefusal}
-use Rattle.schema_decisions.proofs.NameLemmas.{some_order}
+use Rattle.decision_texts.proofs.NameLemmas.{some_order}
 use Rattle.schema_decisions.proofs.StoreLemmas.{with_parents, all_parents}
 
 -- the laws of what the texts are made of
@@ -63,7 +63,7 @@ module _ (laws : Laws) where
   later s place p ps passes (inl all) = inl (All-cons (Passes s) p ps passes all)
   later s place p ps passes (inr first) = inr (first.0, unpassed_later passes first.1)
 
-  by_check : (s : StatedSchema) (place : ℕ) (p : Policy) (ps : List Policy) (o : checks.Outcome) → checks.ComesTo s p o → AllOrFirst s (suc place) ps
+  by_check : (s : StatedSchema) (place : ℕ) (p : Policy) (ps : List Policy) (o : checks.CheckResult) → checks.ComesTo s p o → AllOrFirst s (suc place) ps
       → AllOrFirst s place (p ∷ ps)
   by_check s place p ps (checks.passes b) is rest = later s place p ps is.passes rest
   by_check s place p ps (checks.refused f) is rest = inr (check_refusal place f, unpassed_here (record { fault = f; due = is; is = refl }))
@@ -134,7 +134,7 @@ module _ (laws : Laws) where
   joined schema s states policies entities request (inl told) = inl (told.0, record { stated = s; states = states; decided = told.1 })
   joined schema s states policies entities request (inr none) = inr (none.0, under_schema s states none.1)
 
-  outcome : (schema policies entities request : List ℕ) → schemas.Outcome schema → Outcome schema policies entities request
+  outcome : (schema policies entities request : List ℕ) → schemas.SchemaOrRefusal schema → Outcome schema policies entities request
   outcome schema policies entities request (schemas.states s states) =
       joined schema s states policies entities request (by_file schema s states policies entities request
       (come schema policies s states (laws.told schema policies).0 (laws.told schema policies).1))

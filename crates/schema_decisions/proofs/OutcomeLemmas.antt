@@ -10,7 +10,7 @@ use Rattle.policy_grammar.specs.declared.policy.Policy.{Policy}
 use Rattle.policy_grammar.specs.PolicyText.{IsFileRefused}
 use Rattle.policy_grammar.specs.Unique.{HasOneReading, IsFileOf, EachIsNamed, NamesDiffer}
 use Rattle.authoriser.specs.declared.answer.Answer.{Answer}
-use Rattle.authoriser.specs.Answers.{Named, IsAnswer}
+use Rattle.authoriser.specs.Answers.{NamedPolicy, IsAnswer}
 use Rattle.authoriser.specs.Laws.{OneAnswerInFiniteHierarchies, ListsAscend}
 use Rattle.schema.specs.Schemas.{StatedSchema, IsSchemaOf}
 use Rattle.schema.specs.Outcomes as schemas
@@ -38,7 +38,7 @@ use Rattle.schema_decisions.specs.Decisions.{world_under, IsAnswerTo, IsAnswered
 use Rattle.schema_decisions.specs.Decisions.{IsDecidedUnder, IsRefusedUnder, by_policies, by_question, by_schema, under_schema}
 use Rattle.schema_decisions.specs.Outcomes.{OneLine, NotBoth, OneRefusal, ListsOfLinesAscend, MemberOfDecidesAlike}
 use Rattle.schema_decisions.proofs.StoreLemmas.{with_parents, all_parents}
-use Rattle.schema_decisions.proofs.NameLemmas.{HaveOwnNames, own_names, one_order, ids_ascend}
+use Rattle.decision_texts.proofs.NameLemmas.{HaveOwnNames, own_names, one_order, ids_ascend}
 
 -- the laws of what the texts are made of
 pub record Laws : Type 0 where
@@ -157,14 +157,14 @@ module _ (laws : Laws) where
 
   -- ---- answers
 
-  answer_same : (bytes : List ℕ) (s : StatedSchema) → IsSchemaOf bytes s → (policies : List Named) (stored : List Entity) (asked : Request) (a b : Answer)
+  answer_same : (bytes : List ℕ) (s : StatedSchema) → IsSchemaOf bytes s → (policies : List NamedPolicy) (stored : List Entity) (asked : Request) (a b : Answer)
       → HaveOwnNames policies → IsAnswerTo policies (world_under s stored) asked a → IsAnswerTo policies (world_under s stored) asked b → a ≡ b
   answer_same bytes s states policies stored asked a b own x y =
       let order : x.ordered ≡ y.ordered = one_order policies x.ordered y.ordered own x.order y.order in
       let one = laws.answers (world_under s stored) (with_parents s stored) (all_parents bytes s states stored) asked y.ordered in
       one.2 a (subst (λ ps. IsAnswer (world_under s stored) asked ps a) order x.is) ∙ sym (one.2 b y.is)
 
-  line_same : (bytes : List ℕ) (s : StatedSchema) → IsSchemaOf bytes s → (policies : List Named) (entities request line other : List ℕ) → HaveOwnNames policies
+  line_same : (bytes : List ℕ) (s : StatedSchema) → IsSchemaOf bytes s → (policies : List NamedPolicy) (entities request line other : List ℕ) → HaveOwnNames policies
       → IsAnswered s policies entities request line → IsAnswered s policies entities request other → line ≡ other
   line_same bytes s states policies entities request line other own x y =
       let stored = ok_same (entities_of s entities) x.stored y.stored x.array y.array in
@@ -173,7 +173,7 @@ module _ (laws : Laws) where
       (subst (λ (q : Request). IsAnswerTo policies (world_under s x.stored) q x.answer) asked x.answers) in
       x.line_is ∙ ap answer_line (answer_same bytes s states policies y.stored y.asked x.answer y.answer own moved y.answers) ∙ sym y.line_is
 
-  answered_or_not : (s : StatedSchema) (policies : List Named) (entities request line : List ℕ) (refusal : Refusal)
+  answered_or_not : (s : StatedSchema) (policies : List NamedPolicy) (entities request line : List ℕ) (refusal : Refusal)
       → IsAnswered s policies entities request line → IsUnanswered s entities request refusal → ⊥
   answered_or_not s policies entities request line refusal x (by_entities none) = ok_or_err (entities_of s entities) x.stored refusal x.array none
   answered_or_not s policies entities request line refusal x (by_request stored array none) = request_or_refused s request x.asked refusal x.question none

@@ -16,31 +16,11 @@ use Rattle.entity_worlds.specs.declared.entity.Entity.{Entity}
 use Rattle.entity_worlds.specs.declared.data.EntityData.{EntityData}
 use Rattle.entity_worlds.specs.Entities.{EntityMap, Actions, action_or, with_actions, world_in, attributes_of, parents_of}
 use Rattle.entity_worlds.specs.Keeping.{Entries, kept_in, Puts, data_of}
+use Rattle.decision_texts.proofs.StoreLemmas.{not_first, other, later, none_in, some_if}
 use Rattle.schema_decisions.specs.Decisions.{stated, world_under}
 use Rattle.schema_decisions.specs.inner.Stores.{Holds, world_held}
 
 -- ---- one more entity behind others
-
-not_first : (b : Bool) (x : EntityData) (o : Option EntityData) → (if b then Some x else o) ≡ None → (b ≡ false) × (o ≡ None)
-not_first true x o h = absurd (cc)
-not_first false x o h = (refl, h)
-
-true_false : {G : Type 0} (b : Bool) → b ≡ true → b ≡ false → G
-true_false b yes' no' = let e : true ≡ false = sym yes' ∙ no' in absurd (cc)
-
-other : (x e q : EntityUid) → is_same x q ≡ true → is_same x e ≡ false → is_same e q ≡ false
-other x e q same apart = elim (cases_Bool (is_same e q)) [
-  | inl y ↦
-      let xq = (equal-is uid_cmp-IsTotalOrder uid_cmp-IsAntisymmetric x q).0 same in
-      let eq = (equal-is uid_cmp-IsTotalOrder uid_cmp-IsAntisymmetric e q).0 y in
-      true_false (is_same x e) ((equal-is uid_cmp-IsTotalOrder uid_cmp-IsAntisymmetric x e).1 (xq ∙ sym eq)) apart
-  | inr n ↦ n
-]
-
-later : (b c : Bool) (x e : EntityData) (o n : Option EntityData) → (b ≡ true → c ≡ false) → (b ≡ false → n ≡ (if c then Some e else o)) →
-    (if b then Some x else n) ≡ (if c then Some e else (if b then Some x else o))
-later true c x e o n apart behind = rw (apart refl) refl
-later false c x e o n apart behind = behind refl
 
 stated_more : (es : List Entity) (e : Entity) (q : EntityUid) → stated es e.uid ≡ None →
     stated (es ++ e ∷ []) q ≡ (if is_same e.uid q then Some (data_of e) else stated es q)
@@ -50,10 +30,6 @@ stated_more (x ∷ es) e q none =
     later (is_same x.uid q) (is_same e.uid q) (data_of x) (data_of e) (stated es q) (stated (es ++ e ∷ []) q)
     (λ same. other x.uid e.uid q same parts.0) (λ apart. stated_more es e q parts.1)
 
-none_in : (o : Option EntityData) → is_some o ≡ false → o ≡ None
-none_in None h = refl
-none_in (Some x) h = absurd (cc)
-
 -- an entity that the store did not have is put behind those that it has
 pub holds_more : (old new : Entries) (es : List Entity) (e : Entity) → Puts (kept_in old) (kept_in new) e
     → is_some (kept_in old e.uid) ≡ false → Holds old es → Holds new (es ++ e ∷ [])
@@ -62,10 +38,6 @@ holds_more old new es e puts none held q =
     ∙ sym (stated_more es e q (sym (held e.uid) ∙ none_in (kept_in old e.uid) none))
 
 -- ---- the store
-
-some_if : (b r : Bool) (x : EntityData) (o : Option EntityData) → is_some o ≡ r → is_some (if b then Some x else o) ≡ (b || r)
-some_if true r x o h = refl
-some_if false r x o h = h
 
 some_stated : (es : List Entity) (q : EntityUid) → is_some (stated es q) ≡ list_any (λ e. is_same e.uid q) es
 some_stated [] q = refl

@@ -8,7 +8,7 @@ use Rattle.policy_grammar.specs.declared.policy.Policy.{Policy}
 use Rattle.ancestor_closure.specs.Decided.{is_same}
 use Rattle.evaluator.specs.Operators.{World}
 use Rattle.authoriser.specs.declared.answer.Answer.{Answer}
-use Rattle.authoriser.specs.Answers.{Named, IsAnswer}
+use Rattle.authoriser.specs.Answers.{NamedPolicy, IsAnswer}
 use Rattle.schema.specs.Schemas.{StatedSchema, IsSchemaOf}
 use Rattle.entity_worlds.specs.declared.entity.Entity.{Entity}
 use Rattle.entity_worlds.specs.Entities.{EntityMap, with_actions, world_in}
@@ -33,15 +33,15 @@ abbrev pub world_under : StatedSchema → List Entity → World
 world_under s es = world_in (with_actions s.ancestors (stated es))
 
 -- the answer to the request over these policies, tried in the order of their names
-pub record IsAnswerTo (policies : List Named) (W : World) (asked : Request) (answer : Answer) : Type 0 where
-  pub ordered : List Named
+pub record IsAnswerTo (policies : List NamedPolicy) (W : World) (asked : Request) (answer : Answer) : Type 0 where
+  pub ordered : List NamedPolicy
   pub order : IsInOrder policies ordered
   pub is : IsAnswer W asked ordered answer
 
 -- ---- entities and a request, under a schema and over policies that pass
 
 -- the two texts are read, and this is the line of the request's answer
-pub record IsAnswered (s : StatedSchema) (policies : List Named) (entities request line : List ℕ) : Type 0 where
+pub record IsAnswered (s : StatedSchema) (policies : List NamedPolicy) (entities request line : List ℕ) : Type 0 where
   pub stored : List Entity
   pub array : entities_of s entities ≡ Ok stored
   pub asked : Request

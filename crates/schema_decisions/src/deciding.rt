@@ -14,7 +14,7 @@ use crate::entity_array::read_entities;
 use crate::policies::passing_policies;
 use crate::question::request_in;
 use authoriser::{Answer, decide};
-use decision_texts::{Refusal, answer_line};
+use decision_texts::{Refusal, answer_line, in_order};
 use entity_store::{EntityStore, world_under};
 use plain::NoMemory;
 use policy_checks::schema_in;
@@ -22,34 +22,6 @@ use policy_grammar::Policy;
 use schema::Schema;
 use std::alloc::Global;
 use values::Request;
-
-/// The policies by reference, in the same order.
-fn referred<'p>(
-    alloc: Global,
-    policies: &'p [(String, Policy)],
-) -> Result<Vec<(&'p str, &'p Policy)>, NoMemory>
-    ensures { IfOk result (λ refs. named refs.items ≡ named_policies (map (λ p. string_bytes p.0) policies.now)
-        (map (λ p. p.1) policies.now)) }
-{
-    let mut refs = Vec::with_capacity(alloc, policies.len())?;
-    for (id, policy) in policies {
-        refs.push((id.as_str(), policy))?;
-    }
-    Ok(refs)
-}
-
-/// The policies by reference, ascending by name.
-fn in_order<'p>(
-    alloc: Global,
-    policies: &'p [(String, Policy)],
-) -> Result<Vec<(&'p str, &'p Policy)>, NoMemory>
-    ensures { IfOk result (λ refs. IsInOrder
-        (named_policies (map (λ p. string_bytes p.0) policies.now) (map (λ p. p.1) policies.now)) (named refs.items)) }
-{
-    let mut refs = referred(alloc, policies)?;
-    refs.sort_by_key(|p| p.0)?;
-    Ok(refs)
-}
 
 /// The answer to a request over these policies and entities, and the schema's actions.
 fn answer_over(

@@ -2,7 +2,7 @@
 ghost use Rattle.std.specs.Prelude.{◌≡◌, Some, option_map};
 ghost use Rattle.serde_json.specs.Find.{as_array};
 ghost use Rattle.serde_json.specs.View.{view, items_view};
-ghost use Rattle.json_words.specs.Gives.{Gives};
+ghost use Rattle.json_words.specs.ReadsAs.{ReadsAs};
 ghost use Rattle.schema.specs.Views.{schema_view};
 ghost use Rattle.entities.specs.Entities.{entity_in};
 ghost use Rattle.decision_texts.specs.Refusals.{no_memory, bad_shape};
@@ -33,7 +33,7 @@ fn read_entity_at(
     value: &Value,
     place: usize,
 ) -> Result<Entity, Refusal>
-    ensures { Gives no_memory (λ e. e) result (placed place (entity_in (schema_view schema.now) (view value.now))) }
+    ensures { ReadsAs no_memory (λ e. e) result (placed place (entity_in (schema_view schema.now) (view value.now))) }
 {
     match read_entity(alloc, schema, value) {
         Ok(entity) => Ok(entity),

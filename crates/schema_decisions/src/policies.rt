@@ -5,8 +5,8 @@ ghost use Rattle.validator.specs.Passing.{Passes};
 ghost use Rattle.schema_decisions.specs.Refusals.{OrNoMemory};
 ghost use Rattle.schema_decisions.specs.Policies.{ArePassing, IsUnpassed, FirstUnpassed, ArePassingRefused};
 
-use decision_texts::Refusal;
-use policy_checks::{check_refusal, policies_in};
+use decision_texts::{Refusal, policies_in};
+use policy_checks::check_refusal;
 use policy_grammar::Policy;
 use schema::Schema;
 use std::alloc::Global;

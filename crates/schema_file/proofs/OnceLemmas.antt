@@ -11,7 +11,7 @@ use Rattle.std.proofs.lemmas.Cmp.{nat_list_cmp_total}
 use Rattle.values.specs.Paths.{is_path}
 use Rattle.serde_json.specs.Data.{Data, Members, no_members, member}
 use Rattle.serde_json.specs.Find.{as_object}
-use Rattle.json_words.specs.Gives.{◌>>=◌, demand, or_fault}
+use Rattle.json_words.specs.ReadsAs.{◌>>=◌, demand, or_fault}
 use Rattle.json_words.specs.Each.{each_member}
 use Rattle.json_words.specs.Keys.{has_only}
 use Rattle.json_words.proofs.EachLemmas.{bind_ok}

@@ -8,7 +8,7 @@ use Rattle.std.specs.declared.cmp.Ordering.TheVariants.{Less, Equal, Greater}
 use Rattle.std.specs.List.Sorted.{IsStrictlySortedBy}
 use Rattle.serde_json.specs.Data.{Data, null, boolean, number, string, array, object, Members, no_members, member}
 use Rattle.serde_json.specs.Find.{get, get_member, as_object}
-use Rattle.json_words.specs.Gives.{◌>>=◌, demand, or_fault}
+use Rattle.json_words.specs.ReadsAs.{◌>>=◌, demand, or_fault}
 use Rattle.json_words.specs.Each.{each_member}
 use Rattle.json_words.specs.Keys.{has_only}
 use Rattle.json_words.proofs.EachLemmas.{bind_ok}

@@ -1,7 +1,7 @@
 //! Reading the shape of a schema file.
 ghost use Rattle.std.specs.Prelude.{◌≡◌, map, option_map};
 ghost use Rattle.serde_json.specs.View.{view, items_view, members_view};
-ghost use Rattle.json_words.specs.Gives.{Gives};
+ghost use Rattle.json_words.specs.ReadsAs.{ReadsAs};
 ghost use Rattle.schema_types.specs.Views.{raw_view};
 ghost use Rattle.schema_file.specs.StatedViews.{common_view, entity_type_view, use_view, action_view, namespace_view};
 ghost use Rattle.schema_file.specs.Stated.{ident, name_of, names_of, names_in, names_at, type_in, name_in_place};
@@ -27,7 +27,7 @@ use values::TypeName;
 /// The identifier that a text is.
 #[tactic(auto, unfolding(crate::specs::Stated::ident))]
 fn read_ident(alloc: Global, text: &str) -> Result<TypeName, SchemaFault>
-    ensures { Gives SchemaFault.NoMemory (λ t. t) result (ident text.now) }
+    ensures { ReadsAs SchemaFault.NoMemory (λ t. t) result (ident text.now) }
 {
     let name = read_type_name(alloc, text)?;
     if is_qualified(text) {
@@ -39,7 +39,7 @@ fn read_ident(alloc: Global, text: &str) -> Result<TypeName, SchemaFault>
 /// The name that a value is.
 #[tactic(auto, unfolding(crate::specs::Stated::name_of))]
 fn read_name(alloc: Global, value: &Value) -> Result<TypeName, SchemaFault>
-    ensures { Gives SchemaFault.NoMemory (λ t. t) result (name_of (view value.now)) }
+    ensures { ReadsAs SchemaFault.NoMemory (λ t. t) result (name_of (view value.now)) }
 {
     match value.as_str() {
         Some(text) => read_type_name(alloc, text),
@@ -48,7 +48,7 @@ fn read_name(alloc: Global, value: &Value) -> Result<TypeName, SchemaFault>
 }
 
 fn read_names(alloc: Global, values: &[Value]) -> Result<Items<TypeName>, SchemaFault>
-    ensures { Gives SchemaFault.NoMemory (λ ns. ns) result (names_of (items_view values.now)) }
+    ensures { ReadsAs SchemaFault.NoMemory (λ ns. ns) result (names_of (items_view values.now)) }
 {
     let mut names = Items::new(alloc);
     for value in values {
@@ -60,7 +60,7 @@ fn read_names(alloc: Global, values: &[Value]) -> Result<Items<TypeName>, Schema
 
 /// The names in an array that may be missing.
 fn read_optional_names(alloc: Global, found: Option<&Value>) -> Result<Items<TypeName>, SchemaFault>
-    ensures { Gives SchemaFault.NoMemory (λ ns. ns) result (names_in (option_map (λ v. view v.now) found.entry)) }
+    ensures { ReadsAs SchemaFault.NoMemory (λ ns. ns) result (names_in (option_map (λ v. view v.now) found.entry)) }
 {
     match found {
         None => Ok(Items::new(alloc)),
@@ -73,7 +73,7 @@ fn read_optional_names(alloc: Global, found: Option<&Value>) -> Result<Items<Typ
 
 /// The names in the array at a key.
 fn read_names_at(alloc: Global, value: &Value, key: &str) -> Result<Items<TypeName>, SchemaFault>
-    ensures { Gives SchemaFault.NoMemory (λ ns. ns) result (names_at key.now (view value.now)) }
+    ensures { ReadsAs SchemaFault.NoMemory (λ ns. ns) result (names_at key.now (view value.now)) }
 {
     match value.get(key) {
         None => Err(SchemaFault::BadShape),
@@ -86,7 +86,7 @@ fn read_names_at(alloc: Global, value: &Value, key: &str) -> Result<Items<TypeNa
 
 /// A type that may be missing.
 fn read_optional_type(alloc: Global, found: Option<&Value>) -> Result<Option<RawType>, SchemaFault>
-    ensures { Gives SchemaFault.NoMemory (option_map raw_view) result
+    ensures { ReadsAs SchemaFault.NoMemory (option_map raw_view) result
         (type_in (option_map (λ v. view v.now) found.entry)) }
 {
     match found {
@@ -97,7 +97,7 @@ fn read_optional_type(alloc: Global, found: Option<&Value>) -> Result<Option<Raw
 
 /// A name that may be missing.
 fn read_optional_name(alloc: Global, found: Option<&Value>) -> Result<Option<TypeName>, SchemaFault>
-    ensures { Gives SchemaFault.NoMemory (λ n. n) result (name_in_place (option_map (λ v. view v.now) found.entry)) }
+    ensures { ReadsAs SchemaFault.NoMemory (λ n. n) result (name_in_place (option_map (λ v. view v.now) found.entry)) }
 {
     match found {
         None => Ok(None),
@@ -114,7 +114,7 @@ fn is_common(form: Form) -> bool
 /// The common type under a key.
 #[tactic(auto, unfolding(crate::specs::Stated::common_of))]
 fn read_common(alloc: Global, key: &str, value: &Value) -> Result<StatedCommon, SchemaFault>
-    ensures { Gives SchemaFault.NoMemory common_view result (common_of key.now (view value.now)) }
+    ensures { ReadsAs SchemaFault.NoMemory common_view result (common_of key.now (view value.now)) }
 {
     let name = read_ident(alloc, key)?;
     if !is_common(form_named(key)) {
@@ -127,7 +127,7 @@ fn read_common(alloc: Global, key: &str, value: &Value) -> Result<StatedCommon, 
 /// The name of the entity type under a key.
 #[tactic(auto)]
 fn read_entity_type_name(alloc: Global, key: &str) -> Result<TypeName, SchemaFault>
-    ensures { Gives SchemaFault.NoMemory (λ t. t) result (entity_type_name key.now) }
+    ensures { ReadsAs SchemaFault.NoMemory (λ t. t) result (entity_type_name key.now) }
 {
     let name = read_ident(alloc, key)?;
     if key == "Action" {
@@ -143,7 +143,7 @@ fn read_entity_type(
     key: &str,
     value: &Value,
 ) -> Result<StatedEntityType, SchemaFault>
-    ensures { Gives SchemaFault.NoMemory entity_type_view result (entity_type_of key.now (view value.now)) }
+    ensures { ReadsAs SchemaFault.NoMemory entity_type_view result (entity_type_of key.now (view value.now)) }
 {
     let name = read_entity_type_name(alloc, key)?;
     if !only_keys(value, &["memberOfTypes", "shape", "annotations"]) {
@@ -161,7 +161,7 @@ fn read_entity_type(
 /// One of the actions above an action.
 #[tactic(auto, unfolding(crate::specs::Stated::parent_of))]
 fn read_parent(alloc: Global, value: &Value) -> Result<StatedParent, SchemaFault>
-    ensures { Gives SchemaFault.NoMemory (λ p. p) result (parent_of (view value.now)) }
+    ensures { ReadsAs SchemaFault.NoMemory (λ p. p) result (parent_of (view value.now)) }
 {
     if !only_keys(value, &["id", "type", "annotations"]) {
         return Err(SchemaFault::BadShape);
@@ -173,7 +173,7 @@ fn read_parent(alloc: Global, value: &Value) -> Result<StatedParent, SchemaFault
 }
 
 fn read_parents(alloc: Global, values: &[Value]) -> Result<Items<StatedParent>, SchemaFault>
-    ensures { Gives SchemaFault.NoMemory (λ ps. ps) result (parents_of (items_view values.now)) }
+    ensures { ReadsAs SchemaFault.NoMemory (λ ps. ps) result (parents_of (items_view values.now)) }
 {
     let mut parents = Items::new(alloc);
     for value in values {
@@ -188,7 +188,7 @@ fn read_optional_parents(
     alloc: Global,
     found: Option<&Value>,
 ) -> Result<Items<StatedParent>, SchemaFault>
-    ensures { Gives SchemaFault.NoMemory (λ ps. ps) result (parents_in (option_map (λ v. view v.now) found.entry)) }
+    ensures { ReadsAs SchemaFault.NoMemory (λ ps. ps) result (parents_in (option_map (λ v. view v.now) found.entry)) }
 {
     match found {
         None => Ok(Items::new(alloc)),
@@ -202,7 +202,7 @@ fn read_optional_parents(
 /// To what an action applies.
 #[tactic(auto, unfolding(crate::specs::Stated::use_of))]
 fn read_use(alloc: Global, value: &Value) -> Result<StatedUse, SchemaFault>
-    ensures { Gives SchemaFault.NoMemory use_view result (use_of (view value.now)) }
+    ensures { ReadsAs SchemaFault.NoMemory use_view result (use_of (view value.now)) }
 {
     if !only_keys(
         value,
@@ -222,7 +222,7 @@ fn read_use(alloc: Global, value: &Value) -> Result<StatedUse, SchemaFault>
 
 /// To what an action applies, where that is said.
 fn read_optional_use(alloc: Global, found: Option<&Value>) -> Result<Option<StatedUse>, SchemaFault>
-    ensures { Gives SchemaFault.NoMemory (option_map use_view) result
+    ensures { ReadsAs SchemaFault.NoMemory (option_map use_view) result
         (use_in (option_map (λ v. view v.now) found.entry)) }
 {
     match found {
@@ -244,7 +244,7 @@ fn is_empty(found: Option<&Value>) -> bool
 /// The action under a key.
 #[tactic(auto, unfolding(crate::specs::Stated::action_of))]
 fn read_action(alloc: Global, key: &str, value: &Value) -> Result<StatedAction, SchemaFault>
-    ensures { Gives SchemaFault.NoMemory action_view result (action_of key.now (view value.now)) }
+    ensures { ReadsAs SchemaFault.NoMemory action_view result (action_of key.now (view value.now)) }
 {
     if !only_keys(
         value,
@@ -268,7 +268,7 @@ fn read_action(alloc: Global, key: &str, value: &Value) -> Result<StatedAction, 
 /// The name of the namespace under a key.
 #[tactic(auto, unfolding(crate::specs::Stated::namespace_name))]
 fn read_namespace_name(alloc: Global, key: &str) -> Result<Option<TypeName>, SchemaFault>
-    ensures { Gives SchemaFault.NoMemory (λ n. n) result (namespace_name key.now) }
+    ensures { ReadsAs SchemaFault.NoMemory (λ n. n) result (namespace_name key.now) }
 {
     if key.is_empty() {
         return Ok(None);
@@ -280,7 +280,7 @@ fn read_commons(
     alloc: Global,
     members: &Map<String, Value>,
 ) -> Result<Items<StatedCommon>, SchemaFault>
-    ensures { Gives SchemaFault.NoMemory (map common_view) result (commons_of (members_view members.now.entries)) }
+    ensures { ReadsAs SchemaFault.NoMemory (map common_view) result (commons_of (members_view members.now.entries)) }
 {
     let mut commons = Items::new(alloc);
     for (key, value) in members.iter() {
@@ -295,7 +295,7 @@ fn read_optional_commons(
     alloc: Global,
     found: Option<&Value>,
 ) -> Result<Items<StatedCommon>, SchemaFault>
-    ensures { Gives SchemaFault.NoMemory (map common_view) result
+    ensures { ReadsAs SchemaFault.NoMemory (map common_view) result
         (commons_in (option_map (λ v. view v.now) found.entry)) }
 {
     match found {
@@ -311,7 +311,7 @@ fn read_entity_types(
     alloc: Global,
     members: &Map<String, Value>,
 ) -> Result<Items<StatedEntityType>, SchemaFault>
-    ensures { Gives SchemaFault.NoMemory (map entity_type_view) result
+    ensures { ReadsAs SchemaFault.NoMemory (map entity_type_view) result
         (entity_types_of (members_view members.now.entries)) }
 {
     let mut entity_types = Items::new(alloc);
@@ -327,7 +327,7 @@ fn read_optional_entity_types(
     alloc: Global,
     found: Option<&Value>,
 ) -> Result<Items<StatedEntityType>, SchemaFault>
-    ensures { Gives SchemaFault.NoMemory (map entity_type_view) result
+    ensures { ReadsAs SchemaFault.NoMemory (map entity_type_view) result
         (entity_types_in (option_map (λ v. view v.now) found.entry)) }
 {
     match found {
@@ -343,7 +343,7 @@ fn read_actions(
     alloc: Global,
     members: &Map<String, Value>,
 ) -> Result<Items<StatedAction>, SchemaFault>
-    ensures { Gives SchemaFault.NoMemory (map action_view) result (actions_of (members_view members.now.entries)) }
+    ensures { ReadsAs SchemaFault.NoMemory (map action_view) result (actions_of (members_view members.now.entries)) }
 {
     let mut actions = Items::new(alloc);
     for (key, value) in members.iter() {
@@ -358,7 +358,7 @@ fn read_optional_actions(
     alloc: Global,
     found: Option<&Value>,
 ) -> Result<Items<StatedAction>, SchemaFault>
-    ensures { Gives SchemaFault.NoMemory (map action_view) result
+    ensures { ReadsAs SchemaFault.NoMemory (map action_view) result
         (actions_in (option_map (λ v. view v.now) found.entry)) }
 {
     match found {
@@ -373,7 +373,7 @@ fn read_optional_actions(
 /// The namespace under a key.
 #[tactic(auto, unfolding(crate::specs::Stated::namespace_of))]
 fn read_namespace(alloc: Global, key: &str, value: &Value) -> Result<StatedNamespace, SchemaFault>
-    ensures { Gives SchemaFault.NoMemory namespace_view result (namespace_of key.now (view value.now)) }
+    ensures { ReadsAs SchemaFault.NoMemory namespace_view result (namespace_of key.now (view value.now)) }
 {
     let name = read_namespace_name(alloc, key)?;
     if !only_keys(
@@ -397,7 +397,7 @@ fn read_namespaces(
     alloc: Global,
     members: &Map<String, Value>,
 ) -> Result<Items<StatedNamespace>, SchemaFault>
-    ensures { Gives SchemaFault.NoMemory (map namespace_view) result
+    ensures { ReadsAs SchemaFault.NoMemory (map namespace_view) result
         (namespaces_of (members_view members.now.entries)) }
 {
     let mut namespaces = Items::new(alloc);
@@ -413,7 +413,7 @@ fn read_namespaces(
 /// Refused where the value has not the shape of a schema.
 #[tactic(auto, unfolding(crate::specs::Stated::stated))]
 pub fn read_stated(alloc: Global, value: &Value) -> Result<Items<StatedNamespace>, SchemaFault>
-    ensures { Gives SchemaFault.NoMemory (map namespace_view) result (stated (view value.now)) }
+    ensures { ReadsAs SchemaFault.NoMemory (map namespace_view) result (stated (view value.now)) }
 {
     match value.as_object() {
         Some(members) => read_namespaces(alloc, members),

@@ -13,7 +13,7 @@ use Rattle.schema_names.specs.Qualifying.{CommonOf, commons_declared, scope_in, 
 use Rattle.schema_names.specs.Records.{SomeIsNoRecord}
 use Rattle.schema_names.specs.inner.Spreading.{means_now, NamesNoRecord, TellsRecords, are_records}
 use Rattle.schema_names.specs.Naming.{no_record, unknown, not_json, bad_shape, bad_names}
-use Rattle.schema_names.specs.Laws.{Outcome, SomeOutcome, states, refused}
+use Rattle.schema_names.specs.Laws.{NamesOrRefusal, SomeOutcome, states, refused}
 use Rattle.schema_names.proofs.FoundLemmas.{member_cases}
 use Rattle.schema_names.proofs.FollowLemmas.{Known, IsSo, IsDone, found_so, all_found}
 use Rattle.schema_names.proofs.RecordLemmas.{all_records, some_record}
@@ -128,16 +128,16 @@ module _ (ns : List NamespaceOf) where
 
 -- ---- bytes state a file, or are refused
 
-by_names : (bytes : List ℕ) (d : Data) (ns : List NamespaceOf) (r : Result FoundSchema SchemaFault) → json_of bytes ≡ Some d → stated d ≡ Ok ns → qualified ns ≡ r → (SomeIsNoRecord ns → ⊥) ⊎ SomeIsNoRecord ns → Outcome bytes
+by_names : (bytes : List ℕ) (d : Data) (ns : List NamespaceOf) (r : Result FoundSchema SchemaFault) → json_of bytes ≡ Some d → stated d ≡ Ok ns → qualified ns ≡ r → (SomeIsNoRecord ns → ⊥) ⊎ SomeIsNoRecord ns → NamesOrRefusal bytes
 by_names bytes d ns r json shape found (inr some) = refused _ (bad_names d ns _ json shape (no_record some))
 by_names bytes d ns (Ok s) json shape found (inl none) = states s (record { value = d; namespaces = ns; json = json; shape = shape; named = record { records = none; found = found } })
 by_names bytes d ns (Err f) json shape found (inl none) = refused f (bad_names d ns f json shape (unknown f none found))
 
-by_shape : (bytes : List ℕ) (d : Data) (r : Result (List NamespaceOf) SchemaFault) → json_of bytes ≡ Some d → stated d ≡ r → Outcome bytes
+by_shape : (bytes : List ℕ) (d : Data) (r : Result (List NamespaceOf) SchemaFault) → json_of bytes ≡ Some d → stated d ≡ r → NamesOrRefusal bytes
 by_shape bytes d (Ok ns) json shape = by_names bytes d ns (qualified ns) json shape refl (records_decided ns)
 by_shape bytes d (Err f) json shape = refused f (bad_shape d f json shape)
 
-by_json : (bytes : List ℕ) (o : Option Data) → json_of bytes ≡ o → Outcome bytes
+by_json : (bytes : List ℕ) (o : Option Data) → json_of bytes ≡ o → NamesOrRefusal bytes
 by_json bytes (Some d) json = by_shape bytes d (stated d) json refl
 by_json bytes None json = refused _ (not_json json)
 

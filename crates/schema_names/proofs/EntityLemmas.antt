@@ -3,7 +3,7 @@ use Rattle.std.proofs.Common.{◌≡◌, ◌∙◌, ℕ, List, map, true, Option
 use Rattle.std.specs.Prelude.{Contains}
 use Rattle.std.specs.Str.{bytes_eq}
 use Rattle.std.proofs.lemmas.Slice.Eq.{bytes_eq-Decides}
-use Rattle.json_words.specs.Gives.{◌>>=◌}
+use Rattle.json_words.specs.ReadsAs.{◌>>=◌}
 use Rattle.json_words.proofs.EachLemmas.{bind_ok}
 use Rattle.schema_types.specs.Raw as raw
 use Rattle.schema_types.specs.Qualified as qualified_types

@@ -5,7 +5,7 @@ use Rattle.std.specs.List.{list_any}
 use Rattle.std.specs.Str.{bytes_eq}
 use Rattle.std.proofs.lemmas.List.Elements.{Contains-append_left, Contains-append_right, Contains-append_cases}
 use Rattle.std.proofs.lemmas.Slice.Eq.{bytes_eq-Decides}
-use Rattle.json_words.specs.Gives.{◌>>=◌}
+use Rattle.json_words.specs.ReadsAs.{◌>>=◌}
 use Rattle.json_words.specs.Each.{each}
 use Rattle.json_words.proofs.EachLemmas.{bind_ok}
 use Rattle.values.specs.declared.entity_uid.EntityUid.{EntityUid}

@@ -1,6 +1,6 @@
 -- From bytes to names, step by step.
 use Rattle.std.proofs.Common.{◌≡◌, ◌≢◌, ◌∙◌, inl, inr, ℕ, List, map, Option, Some, None, Result, Ok, Err, MatchResult, refl, sym, ap, subst}
-use Rattle.json_words.specs.Gives.{or_fault, Gives, Fails}
+use Rattle.json_words.specs.ReadsAs.{or_fault, ReadsAs, Fails}
 use Rattle.json_words.specs.Json.{json_of}
 use Rattle.serde_json.specs.Data.{Data}
 use Rattle.schema_types.specs.declared.fault.SchemaFault.{SchemaFault}
@@ -21,7 +21,7 @@ records_refused ns f (inl m) apart = absurd (apart m)
 records_refused ns f (inr (b, s)) apart = subst (λ (e : SchemaFault). NamesRefused ns e) (sym b) (no_record s)
 
 pub names_found : (ns : List NamespaceOf) (names : Names) → Declares ns names → (SomeIsNoRecord ns → ⊥) → (r : Result (List Found) SchemaFault)
-    → Gives NoMemory (map found_view) r (qualified_namespaces (scope_of names) (is_action_of names) ns)
+    → ReadsAs NoMemory (map found_view) r (qualified_namespaces (scope_of names) (is_action_of names) ns)
     → MatchResult r (λ ps. IsNamed ns (together (map found_view ps))) (λ f. f ≢ NoMemory → NamesRefused ns f)
 unfolding qualified
 names_found ns names d none (Ok ps) gives =

@@ -6,7 +6,7 @@ use Rattle.std.specs.Str.{bytes_eq}
 use Rattle.std.proofs.lemmas.List.{append_assoc, map-append}
 use Rattle.serde_json.specs.Data.{Data, Members, no_members, member}
 use Rattle.serde_json.specs.Find.{as_object}
-use Rattle.json_words.specs.Gives.{◌>>=◌, or_fault, demand}
+use Rattle.json_words.specs.ReadsAs.{◌>>=◌, or_fault, demand}
 use Rattle.json_words.specs.Each.{each, each_member}
 use Rattle.json_words.specs.Keys.{has_only}
 use Rattle.json_words.proofs.EachLemmas.{bind_ok}

@@ -70,12 +70,12 @@ ShapesAreRecords =
 
 -- ---- bytes state one file, or are refused for one cause, and never both
 
-pub data Outcome (bytes : List ℕ) : Type 0 where
-  states : (s : FoundSchema) → StatesNamed bytes s → Outcome bytes
-  refused : (f : SchemaFault) → NamingRefused bytes f → Outcome bytes
+pub data NamesOrRefusal (bytes : List ℕ) : Type 0 where
+  states : (s : FoundSchema) → StatesNamed bytes s → NamesOrRefusal bytes
+  refused : (f : SchemaFault) → NamingRefused bytes f → NamesOrRefusal bytes
 
 abbrev pub SomeOutcome : Type 0
-SomeOutcome = (bytes : List ℕ) → Outcome bytes
+SomeOutcome = (bytes : List ℕ) → NamesOrRefusal bytes
 
 abbrev pub OneFile : Type 0
 OneFile = (bytes : List ℕ) (s t : FoundSchema) → StatesNamed bytes s → StatesNamed bytes t → s ≡ t

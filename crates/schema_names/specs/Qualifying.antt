@@ -7,7 +7,7 @@ use Rattle.std.specs.Prelude.{ℕ, List, [], ◌∷◌, ◌++◌, map, Bool, Opt
 use Rattle.std.specs.Ordering.{is_eq}
 use Rattle.std.specs.List.{list_any}
 use Rattle.std.specs.Str.{bytes_eq}
-use Rattle.json_words.specs.Gives.{◌>>=◌, or_fault}
+use Rattle.json_words.specs.ReadsAs.{◌>>=◌, or_fault}
 use Rattle.json_words.specs.Each.{each}
 use Rattle.values.specs.declared.entity_uid.EntityUid.{EntityUid}
 use Rattle.values.specs.Names.{uid_cmp}

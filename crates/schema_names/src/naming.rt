@@ -1,7 +1,7 @@
 //! From bytes to a schema file with each name found.
 ghost use Rattle.std.specs.Prelude.{◌≢◌, MatchResult, map};
 ghost use Rattle.serde_json.specs.View.{view};
-ghost use Rattle.json_words.specs.Gives.{Gives, or_fault};
+ghost use Rattle.json_words.specs.ReadsAs.{ReadsAs, or_fault};
 ghost use Rattle.json_words.specs.Json.{json_of};
 ghost use Rattle.schema_file.specs.StatedViews.{namespace_view};
 ghost use Rattle.schema_names.specs.Qualifying.{together};
@@ -21,7 +21,7 @@ use serde_json::Value;
 use std::alloc::Global;
 
 fn read_value(alloc: Global, bytes: &[u8]) -> Result<Value, SchemaFault>
-    ensures { Gives SchemaFault.NoMemory view result (or_fault SchemaFault.NotJson (json_of bytes.now)) }
+    ensures { ReadsAs SchemaFault.NoMemory view result (or_fault SchemaFault.NotJson (json_of bytes.now)) }
 {
     match read_json(alloc, bytes)? {
         Some(value) => Ok(value),

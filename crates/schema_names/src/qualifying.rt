@@ -1,6 +1,6 @@
 //! A schema file with each name found.
 ghost use Rattle.std.specs.Prelude.{◌≡◌, IfOk, map, option_map};
-ghost use Rattle.json_words.specs.Gives.{Gives};
+ghost use Rattle.json_words.specs.ReadsAs.{ReadsAs};
 ghost use Rattle.schema_types.specs.Views.{raw_view};
 ghost use Rattle.schema_types.specs.QualifiedViews.{qualified_view};
 ghost use Rattle.named_types.specs.NamesViews.{scope_of, is_action_of};
@@ -64,7 +64,7 @@ fn qualify_name(
     own: &Option<TypeName>,
     word: &TypeName,
 ) -> Result<TypeName, SchemaFault>
-    ensures { Gives SchemaFault.NoMemory (λ t. t) result (entity_type_named (scope_of names.now) own.now word.now) }
+    ensures { ReadsAs SchemaFault.NoMemory (λ t. t) result (entity_type_named (scope_of names.now) own.now word.now) }
 {
     match find(alloc, &names.entities, own, word)? {
         Some(name) => Ok(name),
@@ -78,7 +78,8 @@ fn qualify_names(
     own: &Option<TypeName>,
     words: &[TypeName],
 ) -> Result<Items<TypeName>, SchemaFault>
-    ensures { Gives SchemaFault.NoMemory (λ ns. ns) result (entity_types_named (scope_of names.now) own.now words.now) }
+    ensures { ReadsAs SchemaFault.NoMemory (λ ns. ns) result
+        (entity_types_named (scope_of names.now) own.now words.now) }
 {
     let mut found = Items::new(alloc);
     for word in words {
@@ -95,7 +96,7 @@ fn qualify_optional(
     own: &Option<TypeName>,
     ty: &Option<RawType>,
 ) -> Result<Option<QualifiedType>, SchemaFault>
-    ensures { Gives SchemaFault.NoMemory (option_map qualified_view) result
+    ensures { ReadsAs SchemaFault.NoMemory (option_map qualified_view) result
         (type_named (scope_of names.now) own.now (option_map raw_view ty.now)) }
 {
     match ty {
@@ -112,7 +113,7 @@ fn qualify_common(
     own: &Option<TypeName>,
     common: &StatedCommon,
 ) -> Result<FoundCommon, SchemaFault>
-    ensures { Gives SchemaFault.NoMemory found_common_view result
+    ensures { ReadsAs SchemaFault.NoMemory found_common_view result
         (qualified_common (scope_of names.now) own.now (common_view common.now)) }
 {
     let ty = resolve(alloc, names, own, &common.ty)?;
@@ -128,7 +129,7 @@ fn qualify_entity_type(
     own: &Option<TypeName>,
     entity_type: &StatedEntityType,
 ) -> Result<FoundEntityType, SchemaFault>
-    ensures { Gives SchemaFault.NoMemory found_entity_type_view result
+    ensures { ReadsAs SchemaFault.NoMemory found_entity_type_view result
         (qualified_entity_type (scope_of names.now) own.now (entity_type_view entity_type.now)) }
 {
     let parents = qualify_names(alloc, names, own, entity_type.parents.as_slice())?;
@@ -149,7 +150,7 @@ fn qualify_use(
     own: &Option<TypeName>,
     stated: &StatedUse,
 ) -> Result<FoundUse, SchemaFault>
-    ensures { Gives SchemaFault.NoMemory found_use_view result
+    ensures { ReadsAs SchemaFault.NoMemory found_use_view result
         (qualified_use (scope_of names.now) own.now (use_view stated.now)) }
 {
     let principals = qualify_names(alloc, names, own, stated.principals.as_slice())?;
@@ -169,7 +170,7 @@ fn qualify_optional_use(
     own: &Option<TypeName>,
     stated: &Option<StatedUse>,
 ) -> Result<Option<FoundUse>, SchemaFault>
-    ensures { Gives SchemaFault.NoMemory (option_map found_use_view) result
+    ensures { ReadsAs SchemaFault.NoMemory (option_map found_use_view) result
         (use_named (scope_of names.now) own.now (option_map use_view stated.now)) }
 {
     match stated {
@@ -201,7 +202,7 @@ fn qualify_parent(
     own: &Option<TypeName>,
     parent: &StatedParent,
 ) -> Result<EntityUid, SchemaFault>
-    ensures { Gives SchemaFault.NoMemory (λ u. u) result (parent_named (is_action_of names.now) own.now parent.now) }
+    ensures { ReadsAs SchemaFault.NoMemory (λ u. u) result (parent_named (is_action_of names.now) own.now parent.now) }
 {
     match find_action(alloc, names, own, parent)? {
         Some(uid) => Ok(uid),
@@ -215,7 +216,7 @@ fn qualify_parents(
     own: &Option<TypeName>,
     parents: &[StatedParent],
 ) -> Result<Items<EntityUid>, SchemaFault>
-    ensures { Gives SchemaFault.NoMemory (λ us. us) result
+    ensures { ReadsAs SchemaFault.NoMemory (λ us. us) result
         (parents_named (is_action_of names.now) own.now parents.now) }
 {
     let mut found = Items::new(alloc);
@@ -234,7 +235,7 @@ fn qualify_action(
     own: &Option<TypeName>,
     action: &StatedAction,
 ) -> Result<FoundAction, SchemaFault>
-    ensures { Gives SchemaFault.NoMemory found_action_view result
+    ensures { ReadsAs SchemaFault.NoMemory found_action_view result
         (qualified_action (scope_of names.now) (is_action_of names.now) own.now (action_view action.now)) }
 {
     let parents = qualify_parents(alloc, names, own, action.parents.as_slice())?;
@@ -254,7 +255,7 @@ fn qualify_commons(
     own: &Option<TypeName>,
     stated: &[StatedCommon],
 ) -> Result<Items<FoundCommon>, SchemaFault>
-    ensures { Gives SchemaFault.NoMemory (map found_common_view) result
+    ensures { ReadsAs SchemaFault.NoMemory (map found_common_view) result
         (qualified_commons (scope_of names.now) own.now (map common_view stated.now)) }
 {
     let mut found = Items::new(alloc);
@@ -271,7 +272,7 @@ fn qualify_entity_types(
     own: &Option<TypeName>,
     stated: &[StatedEntityType],
 ) -> Result<Items<FoundEntityType>, SchemaFault>
-    ensures { Gives SchemaFault.NoMemory (map found_entity_type_view) result
+    ensures { ReadsAs SchemaFault.NoMemory (map found_entity_type_view) result
         (qualified_entity_types (scope_of names.now) own.now (map entity_type_view stated.now)) }
 {
     let mut found = Items::new(alloc);
@@ -288,7 +289,7 @@ fn qualify_actions(
     own: &Option<TypeName>,
     stated: &[StatedAction],
 ) -> Result<Items<FoundAction>, SchemaFault>
-    ensures { Gives SchemaFault.NoMemory (map found_action_view) result
+    ensures { ReadsAs SchemaFault.NoMemory (map found_action_view) result
         (qualified_actions (scope_of names.now) (is_action_of names.now) own.now (map action_view stated.now)) }
 {
     let mut found = Items::new(alloc);
@@ -306,7 +307,7 @@ pub(crate) fn qualify_namespace(
     names: &Names,
     namespace: &StatedNamespace,
 ) -> Result<Found, SchemaFault>
-    ensures { Gives SchemaFault.NoMemory found_view result
+    ensures { ReadsAs SchemaFault.NoMemory found_view result
         (qualified_namespace (scope_of names.now) (is_action_of names.now) (namespace_view namespace.now)) }
 {
     let own = &namespace.name;
@@ -328,7 +329,7 @@ pub(crate) fn qualify_namespaces(
     names: &Names,
     stated: &[StatedNamespace],
 ) -> Result<Items<Found>, SchemaFault>
-    ensures { Gives SchemaFault.NoMemory (map found_view) result
+    ensures { ReadsAs SchemaFault.NoMemory (map found_view) result
         (qualified_namespaces (scope_of names.now) (is_action_of names.now) (map namespace_view stated.now)) }
 {
     let mut found = Items::new(alloc);

@@ -5,7 +5,7 @@ ghost use Rattle.std.specs.BTreeMap.{get};
 ghost use Rattle.values.specs.Names.{text_cmp};
 ghost use Rattle.schema_parts.specs.LookUps.{ancestors_at, is_among, is_before, is_above};
 
-use crate::parts::Standing;
+use crate::parts::LinePlace;
 use plain::Items;
 use std::collections::{BTreeMap, BTreeSet};
 use values::{EntityUid, TypeName};
@@ -25,13 +25,13 @@ pub fn ancestors_at<'a>(
 
 /// Whether a type stands before another in its line.
 fn stands_before(
-    standings: &BTreeMap<TypeName, Standing>,
+    line_places: &BTreeMap<TypeName, LinePlace>,
     name: &TypeName,
-    standing: Standing,
+    standing: LinePlace,
 ) -> bool
-    ensures { result ≡ is_before (get text_cmp standings.now name.now) standing }
+    ensures { result ≡ is_before (get text_cmp line_places.now name.now) standing }
 {
-    match standings.get(name) {
+    match line_places.get(name) {
         Some(found) => {
             found.is_member && found.line == standing.line && found.bound < standing.bound
         }
@@ -51,16 +51,17 @@ fn is_beyond(beyond: &[BTreeSet<TypeName>], line: usize, name: &TypeName) -> boo
 
 /// Whether the parent is one of the types above the child: it stands before it in its line, or is beyond the line.
 pub fn may_have_parent(
-    standings: &BTreeMap<TypeName, Standing>,
+    line_places: &BTreeMap<TypeName, LinePlace>,
     beyond: &[BTreeSet<TypeName>],
     child: &TypeName,
     parent: &TypeName,
 ) -> bool
-    ensures { result ≡ is_above standings.now.entries (map (λ s. s.keys) beyond.now) child.now parent.now }
+    ensures { result ≡ is_above line_places.now.entries (map (λ s. s.keys) beyond.now) child.now parent.now }
 {
-    match standings.get(child) {
+    match line_places.get(child) {
         Some(standing) => {
-            stands_before(standings, parent, *standing) || is_beyond(beyond, standing.line, parent)
+            stands_before(line_places, parent, *standing)
+                || is_beyond(beyond, standing.line, parent)
         }
         None => false,
     }

@@ -32,7 +32,7 @@ pub struct EntityDecl {
 /// Where an entity type stands among those above it. They are kept in lines, in each of which a type has the one before
 /// it as its only parent.
 #[derive(Clone, Copy)]
-pub struct Standing {
+pub struct LinePlace {
     /// The number of its line.
     pub line: usize,
     /// Those of the line with a lesser number are above it.

@@ -2,7 +2,7 @@
 use Rattle.std.proofs.Common.{◌≡◌, inl, inr, ℕ, Bool, true, false, cond, List, Option, Some, None, Result, Ok, refl, ap, subst}
 use Rattle.std.specs.Prelude.{codes}
 use Rattle.std.specs.Str.{bytes_eq}
-use Rattle.json_words.specs.Gives.{◌>>=◌, or_fault}
+use Rattle.json_words.specs.ReadsAs.{◌>>=◌, or_fault}
 use Rattle.json_words.proofs.EachLemmas.{bind_ok}
 use Rattle.schema_types.specs.Raw as raw
 use Rattle.schema_types.specs.Raw.{Raw, RawFields}

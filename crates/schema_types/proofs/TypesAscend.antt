@@ -4,7 +4,7 @@ use Rattle.std.specs.Prelude.{codes, ⊤}
 use Rattle.std.specs.Str.{bytes_eq}
 use Rattle.std.specs.List.Sorted.{IsStrictlySortedBy}
 use Rattle.serde_json.specs.Data.{Data, null, boolean, number, string, array, object, Members, no_members, member}
-use Rattle.json_words.specs.Gives.{◌>>=◌, or_fault, demand}
+use Rattle.json_words.specs.ReadsAs.{◌>>=◌, or_fault, demand}
 use Rattle.json_words.specs.Keys.{has_only}
 use Rattle.json_words.proofs.EachLemmas.{bind_ok}
 use Rattle.values.specs.Paths.{is_path}

@@ -2,7 +2,7 @@
 use Rattle.std.proofs.Common.{◌≡◌, ◌∙◌, Bool, true, String, Global, string_bytes, List, [], ◌∷◌, ◌++◌, Result, Ok, Err, refl, sym, ap}
 use Rattle.serde_json.specs.View.{view, members_view}
 use Rattle.serde_json.specs.declared.value.Value.{Value}
-use Rattle.json_words.specs.Gives.{◌>>=◌, Fails}
+use Rattle.json_words.specs.ReadsAs.{◌>>=◌, Fails}
 use Rattle.schema_types.specs.declared.fault.SchemaFault.TheVariants.{NoMemory}
 use Rattle.schema_types.specs.declared.fault.SchemaFault.{SchemaFault}
 use Rattle.schema_types.specs.declared.raw.RawType.{RawType}

@@ -2,10 +2,11 @@
 -- Source: Cedar reference guide, "Schema JSON format": namespaces, `EntityOrCommon`. Rules of this product: an
 -- unqualified name is looked for in its own namespace and then in the empty one; a common type goes before an entity
 -- type, and that before a primitive.
+use Prim.Native.Char.{code}
 use Rattle.std.specs.Prelude.{ℕ, List, ◌++◌, ◌==◌, Bool, codes, Option, Some, None, Result, Ok, if◌then◌else◌}
 use Rattle.std.specs.List.{list_any}
 use Rattle.std.specs.Str.{bytes_eq}
-use Rattle.json_words.specs.Gives.{◌>>=◌, or_fault}
+use Rattle.json_words.specs.ReadsAs.{◌>>=◌, or_fault}
 use Rattle.schema_types.specs.Raw as raw
 use Rattle.schema_types.specs.Raw.{Raw, RawFields}
 use Rattle.schema_types.specs.Qualified as qualified
@@ -20,7 +21,7 @@ pub record Scope : Type 0 where
 
 -- a name with a namespace in it
 abbrev pub is_qualified : List ℕ → Bool
-is_qualified w = list_any (λ b. b == 58) w
+is_qualified w = list_any (λ b. b == code ":") w
 
 -- a namespace is a Path, or none: the empty one
 abbrev pub full_name : Option (List ℕ) → List ℕ → List ℕ

@@ -2,7 +2,7 @@
 use Rattle.std.specs.Prelude.{⊤, Bool, true, false, ℕ, List, Option, Some, None, Result, Ok}
 use Rattle.serde_json.specs.Data.{Data, null, boolean, number, string, array, object}
 use Rattle.serde_json.specs.Find.{get, as_bool, as_str}
-use Rattle.json_words.specs.Gives.{◌>>=◌, or_fault, demand}
+use Rattle.json_words.specs.ReadsAs.{◌>>=◌, or_fault, demand}
 use Rattle.schema_types.specs.declared.fault.SchemaFault.{SchemaFault}
 use Rattle.schema_types.specs.declared.fault.SchemaFault.TheVariants.{BadShape}
 

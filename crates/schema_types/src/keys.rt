@@ -1,7 +1,7 @@
 //! Keys that may be missing, and texts that must be there.
 ghost use Rattle.std.specs.Prelude.{◌≡◌, option_map};
 ghost use Rattle.serde_json.specs.View.{view};
-ghost use Rattle.json_words.specs.Gives.{GivesAlways};
+ghost use Rattle.json_words.specs.ReadsAs.{AlwaysReadsAs};
 ghost use Rattle.schema_types.specs.Optional.{optional as optional_of, text_at as text_of, truth_or as truth_of};
 ghost use Rattle.schema_types.specs.Optional.{closed_in};
 
@@ -21,7 +21,7 @@ pub fn optional<'v>(value: &'v Value, key: &str) -> Option<&'v Value>
 
 /// The text at a key.
 pub fn text_at<'v>(value: &'v Value, key: &str) -> Result<&'v str, SchemaFault>
-    ensures { GivesAlways (λ s. s.now) result (text_of key.now (view value.now)) }
+    ensures { AlwaysReadsAs (λ s. s.now) result (text_of key.now (view value.now)) }
 {
     match value.get(key) {
         Some(found) => match found.as_str() {
@@ -34,7 +34,7 @@ pub fn text_at<'v>(value: &'v Value, key: &str) -> Result<&'v str, SchemaFault>
 
 /// The truth that a value says, or this one where there is none.
 pub(crate) fn truth_or(missing: bool, value: Option<&Value>) -> Result<bool, SchemaFault>
-    ensures { GivesAlways (λ b. b) result (truth_of missing (option_map (λ v. view v.now) value.entry)) }
+    ensures { AlwaysReadsAs (λ b. b) result (truth_of missing (option_map (λ v. view v.now) value.entry)) }
 {
     match value {
         None => Ok(missing),
@@ -47,7 +47,7 @@ pub(crate) fn truth_or(missing: bool, value: Option<&Value>) -> Result<bool, Sch
 
 /// Refuses a record that would admit further attributes.
 pub(crate) fn demand_closed(additional: Option<&Value>) -> Result<(), SchemaFault>
-    ensures { GivesAlways (λ u. tt) result (closed_in (option_map (λ v. view v.now) additional.entry)) }
+    ensures { AlwaysReadsAs (λ u. tt) result (closed_in (option_map (λ v. view v.now) additional.entry)) }
 {
     let more = truth_or(false, additional)?;
     if more {

@@ -1,7 +1,7 @@
 //! The type that JSON states.
 ghost use Rattle.std.specs.Prelude.{◌≡◌, option_map};
 ghost use Rattle.serde_json.specs.View.{view, members_view};
-ghost use Rattle.json_words.specs.Gives.{Gives, GivesAlways};
+ghost use Rattle.json_words.specs.ReadsAs.{ReadsAs, AlwaysReadsAs};
 ghost use Rattle.schema_types.specs.Views.{raw_view, fields_view};
 ghost use Rattle.schema_types.specs.TypeShape.{type_of, attributes_of, required_in, fields_in, type_name};
 ghost use Rattle.schema_types.specs.inner.TypeRule.{type_rule};
@@ -18,7 +18,7 @@ use values::{TypeName, paths_are_told};
 
 /// The name that a text is.
 pub fn read_type_name(alloc: Global, word: &str) -> Result<TypeName, SchemaFault>
-    ensures { Gives SchemaFault.NoMemory (λ t. t) result (type_name word.now) }
+    ensures { ReadsAs SchemaFault.NoMemory (λ t. t) result (type_name word.now) }
 {
     paths_are_told();
     match TypeName::parse(alloc, word)? {
@@ -29,7 +29,7 @@ pub fn read_type_name(alloc: Global, word: &str) -> Result<TypeName, SchemaFault
 
 /// The name at the key `name`.
 fn name_in(alloc: Global, value: &Value) -> Result<TypeName, SchemaFault>
-    ensures { Gives SchemaFault.NoMemory (λ t. t) result (name_in (view value.now)) }
+    ensures { ReadsAs SchemaFault.NoMemory (λ t. t) result (name_in (view value.now)) }
 {
     let word = text_at(value, "name")?;
     read_type_name(alloc, word)
@@ -63,7 +63,7 @@ fn reserved_type(word: &str) -> Option<RawType>
 
 /// What the name of an `EntityOrCommon` says before it is looked for.
 fn entity_or_common(alloc: Global, word: &str) -> Result<RawType, SchemaFault>
-    ensures { Gives SchemaFault.NoMemory raw_view result (entity_or_common word.now) }
+    ensures { ReadsAs SchemaFault.NoMemory raw_view result (entity_or_common word.now) }
 {
     match reserved_type(word) {
         Some(ty) => Ok(ty),
@@ -86,7 +86,7 @@ fn extension_named(word: &str) -> Option<RawType>
 
 /// Whether an attribute is required, as it is where nothing is said.
 fn is_required(value: &Value) -> Result<bool, SchemaFault>
-    ensures { GivesAlways (λ b. b) result (required_in (view value.now)) }
+    ensures { AlwaysReadsAs (λ b. b) result (required_in (view value.now)) }
 {
     truth_or(true, optional(value, "required"))
 }
@@ -96,7 +96,7 @@ fn is_required(value: &Value) -> Result<bool, SchemaFault>
 /// Refused where the value has the shape of no form.
 #[cycle(read_type)]
 pub fn read_type(alloc: Global, value: &Value, is_attribute: bool) -> Result<RawType, SchemaFault>
-    ensures { Gives SchemaFault.NoMemory raw_view result (type_of is_attribute (view value.now)) }
+    ensures { ReadsAs SchemaFault.NoMemory raw_view result (type_of is_attribute (view value.now)) }
 {
     read_formed(alloc, value, is_attribute)
 }
@@ -104,7 +104,7 @@ pub fn read_type(alloc: Global, value: &Value, is_attribute: bool) -> Result<Raw
 #[cycle(read_type)]
 #[tactic(auto, unfolding(crate::specs::TypeShape::formed))]
 fn read_formed(alloc: Global, value: &Value, is_attribute: bool) -> Result<RawType, SchemaFault>
-    ensures { Gives SchemaFault.NoMemory raw_view result (type_rule is_attribute (view value.now)) }
+    ensures { ReadsAs SchemaFault.NoMemory raw_view result (type_rule is_attribute (view value.now)) }
 {
     let word = text_at(value, "type")?;
     let form = form_named(word);
@@ -148,7 +148,7 @@ fn read_attributes(
     alloc: Global,
     value: &Value,
 ) -> Result<Vec<(String, RawType, bool)>, SchemaFault>
-    ensures { Gives SchemaFault.NoMemory (λ fs. fields_view fs.items) result (attributes_of (view value.now)) }
+    ensures { ReadsAs SchemaFault.NoMemory (λ fs. fields_view fs.items) result (attributes_of (view value.now)) }
 {
     match value {
         Value::Null | Value::Bool(_) | Value::Number(_) | Value::String(_) | Value::Array(_) => {
@@ -163,7 +163,7 @@ fn read_fields(
     alloc: Global,
     members: &Map<String, Value>,
 ) -> Result<Vec<(String, RawType, bool)>, SchemaFault>
-    ensures { Gives SchemaFault.NoMemory (λ fs. fields_view fs.items) result
+    ensures { ReadsAs SchemaFault.NoMemory (λ fs. fields_view fs.items) result
         (fields_in (members_view members.now.entries)) }
 {
     let mut fields = Vec::new(alloc);

@@ -12,8 +12,8 @@ mod telling;
 pub use laws::errors_have_one_line;
 pub use site::{Site, SiteFault};
 pub use telling::{
-    tell_answer, tell_fault, tell_found, tell_message, tell_put, tell_stamp, tell_status,
-    tell_taken,
+    report_answer, report_fault, report_found, report_message, report_put, report_stamp,
+    report_status, report_taken,
 };
 
 /// No reply to a change, and no refusal, has a longer body than so many bytes.

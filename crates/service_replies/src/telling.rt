@@ -19,7 +19,7 @@ use stamped_store::Stamp;
 use std::alloc::Global;
 
 /// Tells a refusal of the site, by its number, its place and the number within. Takes no memory.
-pub fn tell_fault(text: &mut Vec<u8>, fault: SiteFault) -> Status
+pub fn report_fault(text: &mut Vec<u8>, fault: SiteFault) -> Status
     requires room { vec_len text.old + LINE_ROOM ≤ vec_capacity text.old }
     ensures status { result ≡ (fault_reply fault).0 }
     ensures body { text.new.items ≡ text.old.items ++ (fault_reply fault).1 }
@@ -30,7 +30,7 @@ pub fn tell_fault(text: &mut Vec<u8>, fault: SiteFault) -> Status
 }
 
 /// Tells an error that is a status alone, as an unknown path (404) or another method (405). Takes no memory.
-pub fn tell_status(text: &mut Vec<u8>, status: Status) -> Status
+pub fn report_status(text: &mut Vec<u8>, status: Status) -> Status
     requires room { vec_len text.old + LINE_ROOM ≤ vec_capacity text.old }
     ensures status { result ≡ (status_reply status).0 }
     ensures body { text.new.items ≡ text.old.items ++ (status_reply status).1 }
@@ -41,7 +41,7 @@ pub fn tell_status(text: &mut Vec<u8>, status: Status) -> Status
 }
 
 /// Tells what became of a policy that was to be put: `{"count":1,"impossible":true,"site":1}`. Takes no memory.
-pub fn tell_put(text: &mut Vec<u8>, outcome: Result<Put, SiteFault>) -> Status
+pub fn report_put(text: &mut Vec<u8>, outcome: Result<Put, SiteFault>) -> Status
     requires room { vec_len text.old + LINE_ROOM ≤ vec_capacity text.old }
     ensures status { result ≡ (put_reply outcome).0 }
     ensures body { text.new.items ≡ text.old.items ++ (put_reply outcome).1 }
@@ -52,13 +52,13 @@ pub fn tell_put(text: &mut Vec<u8>, outcome: Result<Put, SiteFault>) -> Status
             append_put(text, put.stamp, put.impossible);
             Status::Ok
         }
-        Err(fault) => tell_fault(text, fault),
+        Err(fault) => report_fault(text, fault),
     }
 }
 
 /// Tells what became of an entity that was to be put, or of what was to be taken away: `{"count":2,"site":1}`. Takes no
 /// memory.
-pub fn tell_stamp(text: &mut Vec<u8>, outcome: Result<Stamp, SiteFault>) -> Status
+pub fn report_stamp(text: &mut Vec<u8>, outcome: Result<Stamp, SiteFault>) -> Status
     requires room { vec_len text.old + LINE_ROOM ≤ vec_capacity text.old }
     ensures status { result ≡ (stamp_reply outcome).0 }
     ensures body { text.new.items ≡ text.old.items ++ (stamp_reply outcome).1 }
@@ -69,13 +69,13 @@ pub fn tell_stamp(text: &mut Vec<u8>, outcome: Result<Stamp, SiteFault>) -> Stat
             append_stamp(text, stamp);
             Status::Ok
         }
-        Err(fault) => tell_fault(text, fault),
+        Err(fault) => report_fault(text, fault),
     }
 }
 
 /// Tells what became of a message: `{"taken":3}`, or, where memory was refused for an update, 503 with the number of
 /// those that were taken for the place. Takes no memory.
-pub fn tell_taken(text: &mut Vec<u8>, outcome: Result<Taken, SiteFault>) -> Status
+pub fn report_taken(text: &mut Vec<u8>, outcome: Result<Taken, SiteFault>) -> Status
     requires room { vec_len text.old + LINE_ROOM ≤ vec_capacity text.old }
     ensures status { result ≡ (taken_reply outcome).0 }
     ensures body { text.new.items ≡ text.old.items ++ (taken_reply outcome).1 }
@@ -90,7 +90,7 @@ pub fn tell_taken(text: &mut Vec<u8>, outcome: Result<Taken, SiteFault>) -> Stat
             append_fault(text, 1, Some(count), None);
             Status::ServiceUnavailable
         }
-        Err(fault) => tell_fault(text, fault),
+        Err(fault) => report_fault(text, fault),
     }
 }
 
@@ -104,13 +104,17 @@ fn told_or_short(text: &mut Vec<u8>, appended: Result<(), NoMemory>) -> Status
 {
     match appended {
         Ok(()) => Status::Ok,
-        Err(_) => tell_fault(text, SiteFault::NoMemory),
+        Err(_) => report_fault(text, SiteFault::NoMemory),
     }
 }
 
 /// Tells what became of a request that was to be decided:
 /// `{"cycle":[],"decision":"Allow","errors":[],"reason":["p"]}`.
-pub fn tell_answer(alloc: Global, text: &mut Vec<u8>, outcome: &Result<Answer, SiteFault>) -> Status
+pub fn report_answer(
+    alloc: Global,
+    text: &mut Vec<u8>,
+    outcome: &Result<Answer, SiteFault>,
+) -> Status
     requires room { vec_len text.old + LINE_ROOM ≤ vec_capacity text.old }
     ensures reply { (body : List ℕ) × (text.new.items ≡ text.old.items ++ body)
         × IsReplyOrNoMemory (answer_reply outcome.now) result body }
@@ -121,13 +125,13 @@ pub fn tell_answer(alloc: Global, text: &mut Vec<u8>, outcome: &Result<Answer, S
             let appended = append_answer(alloc, text, answer);
             told_or_short(text, appended)
         }
-        Err(fault) => tell_fault(text, *fault),
+        Err(fault) => report_fault(text, *fault),
     }
 }
 
 /// Tells a policy's text and stamp, `{"count":1,"site":1,"text":"permit(principal, action, resource);"}`, or that there
 /// is no such policy (60).
-pub fn tell_found(alloc: Global, text: &mut Vec<u8>, found: Option<(&str, Stamp)>) -> Status
+pub fn report_found(alloc: Global, text: &mut Vec<u8>, found: Option<(&str, Stamp)>) -> Status
     requires room { vec_len text.old + LINE_ROOM ≤ vec_capacity text.old }
     ensures reply { (body : List ℕ) × (text.new.items ≡ text.old.items ++ body)
         × IsReplyOrNoMemory (found_reply (option_map (λ f. (f.0.now, f.1)) found.entry)) result body }
@@ -138,12 +142,12 @@ pub fn tell_found(alloc: Global, text: &mut Vec<u8>, found: Option<(&str, Stamp)
             let appended = append_found(alloc, text, policy, stamp);
             told_or_short(text, appended)
         }
-        None => tell_fault(text, SiteFault::NotThere),
+        None => report_fault(text, SiteFault::NotThere),
     }
 }
 
 /// Tells a message as it was written, or why it was not.
-pub fn tell_message(text: &mut Vec<u8>, outcome: &Result<Items<u8>, SiteFault>) -> Status
+pub fn report_message(text: &mut Vec<u8>, outcome: &Result<Items<u8>, SiteFault>) -> Status
     requires room { vec_len text.old + LINE_ROOM ≤ vec_capacity text.old }
     ensures reply { (body : List ℕ) × (text.new.items ≡ text.old.items ++ body)
         × IsReplyOrNoMemory (message_reply outcome.now) result body }
@@ -154,6 +158,6 @@ pub fn tell_message(text: &mut Vec<u8>, outcome: &Result<Items<u8>, SiteFault>) 
             let appended = append_bytes(text, bytes.as_slice());
             told_or_short(text, appended)
         }
-        Err(fault) => tell_fault(text, *fault),
+        Err(fault) => report_fault(text, *fault),
     }
 }

@@ -1,6 +1,7 @@
 -- What a request asks for, by its method and its target. Which paths and methods there are is a rule of this product. A
 -- path ends before the query, its segments stand between slashes, and a policy's id is one segment, percent-decoded
 -- (RFC 3986, sections 3.3, 3.4 and 2.1). Methods are told apart by their exact bytes (RFC 9110, section 9.1).
+use Prim.Native.Char.{code}
 use Rattle.std.specs.Prelude.{ℕ, Bool, true, false, not, ◌&&◌, ◌==◌, List, length, take, drop, Option, Some, None}
 use Rattle.std.specs.Prelude.{if◌then◌else◌, codes, bytes_eq}
 use Rattle.std.specs.List.{list_any, before_first}
@@ -14,10 +15,10 @@ use Rattle.service_routes.specs.declared.route.Route.TheVariants.{PutEntity, Del
 use Rattle.service_routes.specs.declared.route.Route.TheVariants.{Merge, Unknown, OtherMethod}
 
 abbrev pub is_question_mark : ℕ → Bool
-is_question_mark b = b == 63
+is_question_mark b = b == code "?"
 
 abbrev pub is_slash : ℕ → Bool
-is_slash b = b == 47
+is_slash b = b == code "/"
 
 -- the target up to its query
 unfoldable pub path_of : List ℕ → List ℕ

@@ -3,7 +3,7 @@ use Rattle.std.specs.Prelude.{◌≡◌, Option, Some, None, Result, Ok, Err, Ma
 use Rattle.std.proofs.Common.{subst, refl}
 use Rattle.serde_json.specs.Data.{Data}
 use Rattle.serde_json.specs.Find.{get}
-use Rattle.json_words.specs.Gives.{◌>>=◌, or_fault, demand}
+use Rattle.json_words.specs.ReadsAs.{◌>>=◌, or_fault, demand}
 use Rattle.plain.specs.Words.{IsPath}
 use Rattle.values.specs.declared.entity_uid.EntityUid.{EntityUid}
 use Rattle.uid_json.specs.Laws.{UidsAreFound}

@@ -13,7 +13,7 @@ use Rattle.entities.specs.Canonical.{canonical_text}
 use Rattle.stamped_store.specs.declared.entry.ReadText.{ReadText}
 use Rattle.stamped_store.specs.declared.entry.Stamp.{Stamp}
 use Rattle.stamped_store.specs.Contents.{text_under}
-use Rattle.stamped_store.specs.Store.{Store, Update, Kept, updates, store_of, issue, issued, policy_name, entity_name}
+use Rattle.stamped_store.specs.Store.{Store, Update, StoreEntries, updates, store_of, issue, issued, policy_name, entity_name}
 use Rattle.stamped_store.specs.Store.{KeepsOtherNames, shown_store}
 use Rattle.sync_messages.specs.Summaries.{IsStamped}
 use Rattle.state_messages.specs.Updates.{AreInRange, stamped}
@@ -27,7 +27,7 @@ use Rattle.site.specs.inner.Recording.{RecordsOr, PutsUnless, IsNext, put_result
 use Rattle.site.specs.inner.Recording.{OrMemory}
 
 -- ---- what is always true of a site, after a call that may have found no memory
-pub site_after : {A B : Type 0} → (schema : StatedSchema) (number : ℕ) (k l t : Kept Policy Entity) (u : Update)
+pub site_after : {A B : Type 0} → (schema : StatedSchema) (number : ℕ) (k l t : StoreEntries Policy Entity) (u : Update)
     (r : Result A B) → OnOk r (t ≡ l) → OnOk r (shown_store t ≡ store_of (updates (shown_store k) ++ u ∷ []))
     → OnErr r (t ≡ k) → IsSite schema number k → IsHeld schema l
     → ((m n : Store) (v : Update) → AreInRange (updates m) → IsStamped (stamped v)

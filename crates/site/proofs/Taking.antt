@@ -12,7 +12,7 @@ use Rattle.stamped_store.specs.declared.entry.ReadText.{ReadText}
 use Rattle.stamped_store.specs.EntryOrder.{body_bytes}
 use Rattle.stamped_store.specs.Reading.{AllNamed, IsBodyRead, IsEntryRead}
 use Rattle.stamped_store.specs.Shown.{shown_entries}
-use Rattle.stamped_store.specs.Store.{Store, Update, Kept, updates, store_of, shown_store, shown_updates, id_name, entity_name}
+use Rattle.stamped_store.specs.Store.{Store, Update, StoreEntries, updates, store_of, shown_store, shown_updates, id_name, entity_name}
 use Rattle.state_messages.specs.Updates.{AreValid, IsBodyReadable}
 use Rattle.site.specs.Admitted.{IsPolicyUnder, IsEntityUnder}
 use Rattle.site.specs.Seen.{IsSite, MayBeHeld}
@@ -54,7 +54,7 @@ module _ (schema : StatedSchema) where
   both_valid [] vs h k = k
   both_valid (u ∷ us) vs h k = (h.0, both_valid us vs h.1 k)
 
-  pub may_be_held : (number : ℕ) (k : Kept Policy Entity) → IsSite schema number k
+  pub may_be_held : (number : ℕ) (k : StoreEntries Policy Entity) → IsSite schema number k
       → updates (shown_store k) ≡ shown_updates k → MayBeHeld schema (shown_store k)
   may_be_held number k h in_order = record {
     in_range = h.in_range;

@@ -5,7 +5,7 @@
 -- in as JSON; the order of the refusals.
 use Rattle.std.specs.Prelude.{◌≡◌, ℕ, List, Option, Some, None, Result}
 use Rattle.serde_json.specs.Data.{Data}
-use Rattle.json_words.specs.Gives.{◌>>=◌, or_fault}
+use Rattle.json_words.specs.ReadsAs.{◌>>=◌, or_fault}
 use Rattle.values.specs.declared.entity_uid.EntityUid.{EntityUid}
 use Rattle.values.specs.declared.request.Request.{Request}
 use Rattle.policy_grammar.specs.declared.policy.Policy.{Policy}

@@ -2,19 +2,19 @@
 -- A rule of this product: a store of stamped texts is all that a site keeps, each text beside what it was read as.
 use Rattle.std.specs.Prelude.{◌≡◌, ◌≤◌, ℕ}
 use Rattle.policy_grammar.specs.declared.policy.Policy.{Policy}
-use Rattle.schema.specs.Kept as kept_schema
+use Rattle.schema.specs.SchemaEntries as kept_schema
 use Rattle.schema.specs.Schemas.{StatedSchema}
 use Rattle.schema.specs.Views.{schema_view}
 use Rattle.entity_worlds.specs.declared.entity.Entity.{Entity}
 use Rattle.stamped_store.specs.Reading.{IsKeptRead}
-use Rattle.stamped_store.specs.Store.{Store, Kept, shown_store, updates}
+use Rattle.stamped_store.specs.Store.{Store, StoreEntries, shown_store, updates}
 use Rattle.state_messages.specs.Updates.{AreInRange, AreValid}
 use Rattle.site.specs.Admitted.{IsPolicyUnder, IsEntityUnder}
 
 pub record Seen : Type 0 where
-  pub schema : kept_schema.Kept
+  pub schema : kept_schema.SchemaEntries
   pub number : ℕ
-  pub kept : Kept Policy Entity
+  pub kept : StoreEntries Policy Entity
 
 -- the schema, as what it states
 abbrev pub schema_of : Seen → StatedSchema
@@ -29,12 +29,12 @@ abbrev pub IsSameSite : Seen → Seen → Type 0
 IsSameSite a b = (b.schema ≡ a.schema) × (b.number ≡ a.number)
 
 -- each text that is kept is read as what stands beside it, under the site's schema
-abbrev pub IsHeld : StatedSchema → Kept Policy Entity → Type 0
+abbrev pub IsHeld : StatedSchema → StoreEntries Policy Entity → Type 0
 IsHeld schema k = IsKeptRead (IsPolicyUnder schema) (IsEntityUnder schema) k
 
 -- what is always true of a site: so are its texts read; each name and stamp that it keeps is one that messages may
 -- have, and its number is one of a stamp
-pub record IsSite (schema : StatedSchema) (number : ℕ) (k : Kept Policy Entity) : Type 0 where
+pub record IsSite (schema : StatedSchema) (number : ℕ) (k : StoreEntries Policy Entity) : Type 0 where
   pub held : IsHeld schema k
   pub in_range : AreInRange (updates (shown_store k))
   pub numbered : 1 ≤ number

@@ -5,13 +5,13 @@ ghost use Rattle.std.specs.declared.alloc.Global.{Global};
 ghost use Rattle.values.specs.declared.entity_uid.EntityUid.{EntityUid};
 ghost use Rattle.values.specs.Names.{uid_cmp};
 ghost use Rattle.policy_grammar.specs.declared.policy.Policy.{Policy};
-ghost use Rattle.schema.specs.Kept.{Kept as SchemaKept};
+ghost use Rattle.schema.specs.SchemaEntries.{SchemaEntries as SchemaKept};
 ghost use Rattle.schema.specs.Views.{schema_view};
 ghost use Rattle.entity_worlds.specs.declared.entity.Entity.{Entity};
 ghost use Rattle.stamped_store.specs.declared.entry.Entry.{Entry};
 ghost use Rattle.stamped_store.specs.EntryOrder.{greater};
 ghost use Rattle.stamped_store.specs.Reading.{IsEntryRead};
-ghost use Rattle.stamped_store.specs.Store.{Kept, kept, shown_store};
+ghost use Rattle.stamped_store.specs.Store.{StoreEntries, kept, shown_store};
 ghost use Rattle.stamped_store.specs.Stored.{taken};
 ghost use Rattle.stored_world.specs.Said.{IsAnswerOver, MakesCycle, MakesNoCycle};
 ghost use Rattle.site.specs.Admitted.{IsPolicyUnder, IsEntityUnder};
@@ -32,10 +32,10 @@ use values::Request;
 /// nothing.
 pub(crate) fn readings_stay()
     ensures empty { (schema : SchemaKept) → IsHeld (schema_view schema) (kept [] []) }
-    ensures policy { (schema : SchemaKept) (k : Kept Policy Entity) (id : String Global) (entry : Entry Policy)
+    ensures policy { (schema : SchemaKept) (k : StoreEntries Policy Entity) (id : String Global) (entry : Entry Policy)
         → IsHeld (schema_view schema) k → IsEntryRead (IsPolicyUnder (schema_view schema) (string_bytes id)) entry
         → IsHeld (schema_view schema) (kept (taken string_cmp greater k.policies id entry) k.entities) }
-    ensures entity { (schema : SchemaKept) (k : Kept Policy Entity) (uid : EntityUid) (entry : Entry Entity)
+    ensures entity { (schema : SchemaKept) (k : StoreEntries Policy Entity) (uid : EntityUid) (entry : Entry Entity)
         → IsHeld (schema_view schema) k → IsEntryRead (IsEntityUnder (schema_view schema) uid) entry
         → IsHeld (schema_view schema) (kept k.policies (taken uid_cmp greater k.entities uid entry)) }
 {

@@ -6,7 +6,7 @@ use Rattle.site_commands.specs.declared.device.FileFault.TheVariants.{Missing, F
 use Rattle.site_commands.specs.declared.device.Stream.{Stream}
 use Rattle.site_commands.specs.declared.device.Stream.TheVariants.{Answers}
 use Rattle.site_commands.specs.Events.{Event, read, stored, wrote, printed, connected, listened, Runs}
-use Rattle.site_commands.specs.Reports.{ended, status_after, IsTold, IsFileTold, IsFailureTold, IsPrinted}
+use Rattle.site_commands.specs.Reports.{ended, status_after, IsReported, IsFileReported, IsFailureReported, IsPrinted}
 use Rattle.site_commands.specs.Courses.{Course, Reads, ReadsIfThere, GoesOnIfThere, Stores, Connects, Listens, Announces}
 use Rattle.site_commands.specs.inner.Ways.{IsUnread, IsUnreadThere, found_as}
 
@@ -20,7 +20,7 @@ module _ {H : Type 0} (does : H → Event → H → Type 0) where
   -- a line is written
   pub told : (old new : H) (stream : Stream) (line : List ℕ) (done : Bool) (status end : ℕ)
       → does old (wrote stream (ended line) done) new → end ≡ status_after done status
-      → Runs does old new (λ events. IsTold stream line status events end)
+      → Runs does old new (λ events. IsReported stream line status events end)
   told old new stream line done status end step is = (wrote stream (ended line) done ∷ [], (new, step, refl), (done, refl, is))
 
   -- help or a fault of the words is written
@@ -53,17 +53,17 @@ module _ {H : Type 0} (does : H → Event → H → Type 0) where
 
   -- why a file was not read is told
   pub unread : (old next new : H) (name : List ℕ) (fault : FileFault) (end : ℕ) → does old (read name (Err fault)) next
-      → Runs does next new (λ events. IsFileTold name fault events end) → Runs does old new (λ events. IsUnread name events end)
+      → Runs does next new (λ events. IsFileReported name fault events end) → Runs does old new (λ events. IsUnread name events end)
   unread old next new name fault end step run =
       (read name (Err fault) ∷ run.0, (next, step, run.1), (fault, run.0, refl, run.2))
 
   pub unread_there : (old next new : H) (name : List ℕ) (fault : FileFault) (end : ℕ) → (fault ≡ Missing → ⊥) → does old (read name (Err fault)) next
-      → Runs does next new (λ events. IsFileTold name fault events end) → Runs does old new (λ events. IsUnreadThere name events end)
+      → Runs does next new (λ events. IsFileReported name fault events end) → Runs does old new (λ events. IsUnreadThere name events end)
   unread_there old next new name fault end there step run =
       (read name (Err fault) ∷ run.0, (next, step, run.1), (fault, run.0, there, refl, run.2))
 
   pub unread_as : (old next new : H) (name : List ℕ) (field fault : FileFault) (end : ℕ) → field ≡ fault → (fault ≡ Missing → ⊥)
-      → does old (read name (Err field)) next → Runs does next new (λ events. IsFileTold name fault events end)
+      → does old (read name (Err field)) next → Runs does next new (λ events. IsFileReported name fault events end)
       → Runs does old new (λ events. IsUnreadThere name events end)
   unread_as old next new name field fault end is there step run =
       unread_there old next new name fault end there (subst (λ (f : FileFault). does old (read name (Err f)) next) is step) run
@@ -78,7 +78,7 @@ module _ {H : Type 0} (does : H → Event → H → Type 0) where
       (read name (Ok bytes) ∷ run.0, (next, step, run.1), (Ok bytes, run.0, refl, run.2))
 
   unread_goes : (name : List ℕ) (goes_on : Option (List ℕ) → Course) (fault : FileFault) (events : List Event) (end : ℕ)
-      → (fault ≡ Missing → ⊥) → IsFileTold name fault events end → GoesOnIfThere name goes_on (Err fault) events end
+      → (fault ≡ Missing → ⊥) → IsFileReported name fault events end → GoesOnIfThere name goes_on (Err fault) events end
   unread_goes name goes_on Missing events end there told = absurd (there refl)
   unread_goes name goes_on Failed events end there told = told
   unread_goes name goes_on NoMemory events end there told = told
@@ -97,7 +97,7 @@ module _ {H : Type 0} (does : H → Event → H → Type 0) where
       (stored name bytes (Ok done) ∷ run.0, (next, step, run.1), (Ok done, run.0, refl, run.2))
 
   pub stores_none : (old next new : H) (name bytes : List ℕ) (fault : FileFault) (goes_on : Course) (end : ℕ)
-      → does old (stored name bytes (Err fault)) next → Runs does next new (λ events. IsFileTold name fault events end)
+      → does old (stored name bytes (Err fault)) next → Runs does next new (λ events. IsFileReported name fault events end)
       → Runs does old new (λ events. Stores name bytes goes_on events end)
   stores_none old next new name bytes fault goes_on end step run =
       (stored name bytes (Err fault) ∷ run.0, (next, step, run.1), (Err fault, run.0, refl, run.2))
@@ -110,7 +110,7 @@ module _ {H : Type 0} (does : H → Event → H → Type 0) where
       (connected address true ∷ run.0, (next, step, run.1), (true, run.0, refl, run.2))
 
   pub connects_none : (old next new : H) (address : List ℕ) (goes_on : Course) (end : ℕ)
-      → does old (connected address false) next → Runs does next new (λ events. IsFailureTold address events end)
+      → does old (connected address false) next → Runs does next new (λ events. IsFailureReported address events end)
       → Runs does old new (λ events. Connects address goes_on events end)
   connects_none old next new address goes_on end step run =
       (connected address false ∷ run.0, (next, step, run.1), (false, run.0, refl, run.2))
@@ -123,7 +123,7 @@ module _ {H : Type 0} (does : H → Event → H → Type 0) where
       (listened address true ∷ run.0, (next, step, run.1), (true, run.0, refl, run.2))
 
   pub listens_none : (old next new : H) (address : List ℕ) (goes_on : Course) (end : ℕ)
-      → does old (listened address false) next → Runs does next new (λ events. IsFailureTold address events end)
+      → does old (listened address false) next → Runs does next new (λ events. IsFailureReported address events end)
       → Runs does old new (λ events. Listens address goes_on events end)
   listens_none old next new address goes_on end step run =
       (listened address false ∷ run.0, (next, step, run.1), (false, run.0, refl, run.2))

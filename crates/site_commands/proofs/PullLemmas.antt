@@ -11,16 +11,16 @@ use Rattle.pulled_states.specs.declared.fault.PullFault.TheVariants.{Network, Re
 use Rattle.pulled_states.specs.Requests.{IsReady}
 use Rattle.pulled_states.specs.Pulls.{IsPulled, IsRefusedFirst}
 use Rattle.site_commands.specs.Events.{Event}
-use Rattle.site_commands.specs.Reports.{IsAnswerTold, IsMemoryTold, taken_line}
+use Rattle.site_commands.specs.Reports.{IsAnswerReported, IsMemoryReported, taken_line}
 use Rattle.site_commands.specs.Courses.{Stores}
 use Rattle.site_commands.specs.Pulling.{IsPulledOver, IsPullRefused, texts, message}
-use Rattle.site_commands.specs.inner.Ways.{IsPullFaultTold}
+use Rattle.site_commands.specs.inner.Ways.{IsPullFaultReported}
 use Rattle.site_commands.proofs.RefusalLemmas.{refused_for}
 
 module _ (schema : List ℕ) (state : Option (List ℕ)) (address name : List ℕ) where
   -- a state that was pulled is kept
   pub kept : (s : StatedSchema) (m : Store) (body text : List ℕ) (taken : ℕ) → IsReady schema state s m → IsPulled s m body text taken
-      → (events : List Event) (end : ℕ) → Stores name text (IsAnswerTold (taken_line taken)) events end ⊎ IsMemoryTold events end
+      → (events : List Event) (end : ℕ) → Stores name text (IsAnswerReported (taken_line taken)) events end ⊎ IsMemoryReported events end
       → IsPulledOver schema state address name events end
   kept s m body text taken ready pulled events end (inl stores) = inl (s, m, body, text, taken, ready, pulled, stores)
   kept s m body text taken ready pulled events end (inr memory) = inr (inr (inr memory))
@@ -35,7 +35,7 @@ module _ (schema : List ℕ) (state : Option (List ℕ)) (address name : List �
   -- a fault is told
   pub faulted : (fault : PullFault) → ((r : Refusal) → fault ≡ Refused r → r ≢ no_memory → IsPullRefused schema state r)
       → ((f : NetworkFault) → fault ≡ Network f → (s : StatedSchema) × (m : Store) × IsReady schema state s m)
-      → (events : List Event) (end : ℕ) → IsPullFaultTold address fault events end → IsPulledOver schema state address name events end
+      → (events : List Event) (end : ℕ) → IsPullFaultReported address fault events end → IsPulledOver schema state address name events end
   faulted (Network f) refused network events end told =
       let ready = network f refl in inr (inl (ready.0, ready.1, ready.2, told))
   faulted (Refused r) refused network events end told =

@@ -3,7 +3,7 @@ use Rattle.std.proofs.Common.{◌≡◌, ◌⊎◌, inl, inr, ℕ, zero, suc, Li
 use Rattle.decision_texts.specs.declared.refusal.Refusal.{Refusal}
 use Rattle.decision_texts.specs.Refusals.{no_memory}
 use Rattle.site_commands.specs.Events.{Event}
-use Rattle.site_commands.specs.Reports.{IsRefusalTold, IsMemoryTold}
+use Rattle.site_commands.specs.Reports.{IsRefusalReported, IsMemoryReported}
 use Rattle.site_commands.specs.Courses.{IsRefusedFor, IsLineOrRefusal}
 
 one_or : (n : ℕ) → (n ≡ 1) ⊎ (n ≡ 1 → ⊥)
@@ -31,7 +31,7 @@ is_no_memory r = by_parts r (one_or r.code) (none_or r.place) (none_or r.within)
 
 module _ (Refused : Refusal → Type 0) where
   told_as : (refusal : Refusal) (events : List Event) (end : ℕ) → (refusal ≡ no_memory) ⊎ (refusal ≡ no_memory → ⊥)
-      → ((refusal ≡ no_memory → ⊥) → Refused refusal) → IsRefusalTold refusal events end ⊎ IsMemoryTold events end
+      → ((refusal ≡ no_memory → ⊥) → Refused refusal) → IsRefusalReported refusal events end ⊎ IsMemoryReported events end
       → IsRefusedFor Refused events end
   told_as refusal events end which due (inr told) = inr told
   told_as refusal events end (inl is) due (inl told) = inr (inl (rw (← is) told))
@@ -39,11 +39,11 @@ module _ (Refused : Refusal → Type 0) where
 
   -- what texts are refused for is told, or that memory was refused
   pub refused_for : (refusal : Refusal) (end : ℕ) → ((refusal ≡ no_memory → ⊥) → Refused refusal)
-      → (events : List Event) → IsRefusalTold refusal events end ⊎ IsMemoryTold events end → IsRefusedFor Refused events end
+      → (events : List Event) → IsRefusalReported refusal events end ⊎ IsMemoryReported events end → IsRefusedFor Refused events end
   refused_for refusal end due events told = told_as refusal events end (is_no_memory refusal) due told
 
   -- and where a line could have been
   pub line_refused : (Decided : List ℕ → Type 0) (refusal : Refusal) (end : ℕ) → ((refusal ≡ no_memory → ⊥) → Refused refusal)
-      → (events : List Event) → IsRefusalTold refusal events end ⊎ IsMemoryTold events end
+      → (events : List Event) → IsRefusalReported refusal events end ⊎ IsMemoryReported events end
       → IsLineOrRefusal Decided Refused events end
   line_refused Decided refusal end due events told = inr (refused_for refusal end due events told)

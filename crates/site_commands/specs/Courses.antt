@@ -6,7 +6,8 @@ use Rattle.site_commands.specs.declared.device.FileFault.{FileFault}
 use Rattle.site_commands.specs.declared.device.FileFault.TheVariants as file
 use Rattle.site_commands.specs.Events.{Event, read, stored, wrote, connected, listened}
 use Rattle.site_commands.specs.declared.device.Stream.TheVariants.{Answers}
-use Rattle.site_commands.specs.Reports.{ended, IsAnswerTold, IsRefusalTold, IsMemoryTold, IsFileTold, IsFailureTold}
+use Rattle.site_commands.specs.Reports.{ended, IsAnswerReported, IsRefusalReported, IsMemoryReported, IsFileReported}
+use Rattle.site_commands.specs.Reports.{IsFailureReported}
 
 -- how a run goes on: what it does from here, and the status that it ends with
 abbrev pub Course : Type 1
@@ -15,17 +16,17 @@ Course = List Event → ℕ → Type 0
 -- what this is refused for is told, or that memory was refused
 abbrev pub IsRefusedFor : (Refusal → Type 0) → Course
 IsRefusedFor Refused events end =
-    ((refusal : Refusal) × Refused refusal × IsRefusalTold refusal events end) ⊎ IsMemoryTold events end
+    ((refusal : Refusal) × Refused refusal × IsRefusalReported refusal events end) ⊎ IsMemoryReported events end
 
 -- a line that is so is told, or the refusal
 abbrev pub IsLineOrRefusal : (List ℕ → Type 0) → (Refusal → Type 0) → Course
 IsLineOrRefusal Decided Refused events end =
-    ((line : List ℕ) × Decided line × IsAnswerTold line events end) ⊎ IsRefusedFor Refused events end
+    ((line : List ℕ) × Decided line × IsAnswerReported line events end) ⊎ IsRefusedFor Refused events end
 
 -- a file was read, and the run goes on with what it held; where it was not, that is told and the run ends
 abbrev pub GoesOnWith : List ℕ → (List ℕ → Course) → Result (List ℕ) FileFault → Course
 GoesOnWith name goes_on (Ok bytes) = goes_on bytes
-GoesOnWith name goes_on (Err fault) = IsFileTold name fault
+GoesOnWith name goes_on (Err fault) = IsFileReported name fault
 
 abbrev pub Reads : List ℕ → (List ℕ → Course) → Course
 Reads name goes_on events end = (came : Result (List ℕ) FileFault) × (rest : List Event)
@@ -40,8 +41,8 @@ ReadsIfNamed (Some name) goes_on = Reads name (λ bytes. goes_on (Some bytes))
 abbrev pub GoesOnIfThere : List ℕ → (Option (List ℕ) → Course) → Result (List ℕ) FileFault → Course
 GoesOnIfThere name goes_on (Ok bytes) = goes_on (Some bytes)
 GoesOnIfThere name goes_on (Err file.Missing) = goes_on None
-GoesOnIfThere name goes_on (Err file.Failed) = IsFileTold name file.Failed
-GoesOnIfThere name goes_on (Err file.NoMemory) = IsFileTold name file.NoMemory
+GoesOnIfThere name goes_on (Err file.Failed) = IsFileReported name file.Failed
+GoesOnIfThere name goes_on (Err file.NoMemory) = IsFileReported name file.NoMemory
 
 abbrev pub ReadsIfThere : List ℕ → (Option (List ℕ) → Course) → Course
 ReadsIfThere name goes_on events end = (came : Result (List ℕ) FileFault) × (rest : List Event)
@@ -50,7 +51,7 @@ ReadsIfThere name goes_on events end = (came : Result (List ℕ) FileFault) × (
 -- a file is written, and the run goes on; where it was not, that is told and the run ends
 abbrev pub GoesOnWritten : List ℕ → Course → Result (Unit {0}) FileFault → Course
 GoesOnWritten name goes_on (Ok done) = goes_on
-GoesOnWritten name goes_on (Err fault) = IsFileTold name fault
+GoesOnWritten name goes_on (Err fault) = IsFileReported name fault
 
 abbrev pub Stores : List ℕ → List ℕ → Course → Course
 Stores name bytes goes_on events end = (came : Result (Unit {0}) FileFault) × (rest : List Event)
@@ -59,7 +60,7 @@ Stores name bytes goes_on events end = (came : Result (Unit {0}) FileFault) × (
 -- a connection is opened, and the run goes on; where it could not be, that is told and the run ends
 abbrev pub GoesOnConnected : List ℕ → Course → Bool → Course
 GoesOnConnected address goes_on true = goes_on
-GoesOnConnected address goes_on false = IsFailureTold address
+GoesOnConnected address goes_on false = IsFailureReported address
 
 abbrev pub Connects : List ℕ → Course → Course
 Connects address goes_on events end = (done : Bool) × (rest : List Event)

@@ -7,7 +7,7 @@ use Rattle.decision_texts.specs.declared.refusal.Refusal.{Refusal}
 use Rattle.pulled_states.specs.passed_on.merged_states.{IsMessageRefused}
 use Rattle.pulled_states.specs.Requests.{IsReady}
 use Rattle.pulled_states.specs.Pulls.{IsPulled, IsRefusedFirst}
-use Rattle.site_commands.specs.Reports.{IsAnswerTold, IsFailureTold, taken_line}
+use Rattle.site_commands.specs.Reports.{IsAnswerReported, IsFailureReported, taken_line}
 use Rattle.site_commands.specs.Courses.{Course, Reads, ReadsIfThere, Connects, Stores, IsRefusedFor}
 
 -- the texts are refused, or the message that came
@@ -21,12 +21,12 @@ pub data IsPullRefused (schema : List ℕ) (state : Option (List ℕ)) (refusal 
 abbrev pub IsTaken : List ℕ → Option (List ℕ) → List ℕ → Course
 IsTaken schema state name events end = (s : StatedSchema) × (m : Store) × (body text : List ℕ) × (taken : ℕ)
     × IsReady schema state s m × IsPulled s m body text taken
-    × Stores name text (IsAnswerTold (taken_line taken)) events end
+    × Stores name text (IsAnswerReported (taken_line taken)) events end
 
 -- the texts are read, and the network failed, or its reply is none of status 200
 abbrev pub IsUnanswered : List ℕ → Option (List ℕ) → List ℕ → Course
 IsUnanswered schema state address events end = (s : StatedSchema) × (m : Store) × IsReady schema state s m
-    × IsFailureTold address events end
+    × IsFailureReported address events end
 
 -- over the connection
 abbrev pub IsPulledOver : List ℕ → Option (List ℕ) → List ℕ → List ℕ → Course

@@ -12,7 +12,7 @@ use Rattle.command_lines.specs.declared.fault.LineFault.{LineFault}
 use Rattle.command_lines.specs.Apps.{site_app}
 use Rattle.command_lines.specs.Faults.{IsFaultOf}
 use Rattle.command_lines.specs.Lines.{Says}
-use Rattle.site_commands.specs.Reports.{AreLinesTold, IsFaultTold}
+use Rattle.site_commands.specs.Reports.{AreLinesReported, IsFaultReported}
 use Rattle.site_commands.specs.Courses.{Course, Reads, ReadsIfNamed, IsRefusedFor, IsLineOrRefusal}
 use Rattle.site_commands.specs.Pulling.{IsPullRun}
 use Rattle.site_commands.specs.Serving.{IsServeRun}
@@ -22,13 +22,14 @@ abbrev pub IsJudged : Option (List ℕ) → List ℕ → List ℕ → List ℕ �
 IsJudged None policies entities request =
     IsLineOrRefusal (bare.IsDecided policies entities request) (bare.IsRefused policies entities request)
 IsJudged (Some schema) policies entities request =
-    IsLineOrRefusal (typed.IsDecided schema policies entities request) (typed.IsRefused schema policies entities request)
+    IsLineOrRefusal (typed.IsDecided schema policies entities request)
+    (typed.IsRefused schema policies entities request)
 
 -- the lines of policies under a schema are told
 abbrev pub AreChecked : List ℕ → List ℕ → Course
 AreChecked schema policies events end =
     ((text : List ℕ) × (some_refused : Bool) × checks.IsChecked schema policies text some_refused
-    × AreLinesTold text some_refused events end)
+    × AreLinesReported text some_refused events end)
     ⊎ IsRefusedFor (checks.IsRefused schema policies) events end
 
 -- the state that holds what two messages hold is told
@@ -73,4 +74,4 @@ IsLineRun (Merge schema first second) = IsMergeRun schema.now first.now second.n
 abbrev pub IsRun : List Text → Course
 IsRun words events end =
     ((line : Line) × Says words line × (fault_of site_app words ≡ []) × IsLineRun line events end)
-    ⊎ ((fault : LineFault) × IsFaultOf words fault × IsFaultTold fault events end)
+    ⊎ ((fault : LineFault) × IsFaultOf words fault × IsFaultReported fault events end)

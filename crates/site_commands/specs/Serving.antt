@@ -1,6 +1,7 @@
 -- What a run is that serves a site. A rule of this product: schema and state are judged before anything of the network
 -- is used; connections come one after another, and each is served from what the one before left.
-use Rattle.std.specs.Prelude.{◌≡◌, ◌⊎◌, ℕ, Bool, true, false, List, [], ◌∷◌, ◌++◌, map, length, Option, None, Some, codes}
+use Rattle.std.specs.Prelude.{◌≡◌, ◌⊎◌, ℕ, Bool, true, false, List, [], ◌∷◌, ◌++◌, map, length, Option, None, Some}
+use Rattle.std.specs.Prelude.{codes}
 use Rattle.http_service.specs.passed_on.site_runs.{Seen}
 use Rattle.http_service.specs.Streams.{LeavesRun}
 use Rattle.site_commands.specs.Events.{Event, accepted}

@@ -7,7 +7,7 @@ ghost use Rattle.site_commands.specs.inner.Ways.{IsRunOver};
 
 use crate::host::Host;
 use crate::reading::read_file;
-use crate::report::{tell_answer, tell_lines, tell_refusal};
+use crate::report::{report_answer, report_lines, report_refusal};
 use decision_texts::decide_texts;
 use schema_decisions::{check_texts, decide_under};
 use std::alloc::Global;
@@ -26,8 +26,8 @@ fn judge_under<H: Host>(
         (λ events. IsJudged (Some schema.now) policies.now entities.now request.now events (exit_status result)) }
 {
     match decide_under(alloc, schema, policies, entities, request) {
-        Ok(line) => tell_answer(host, &line),
-        Err(refusal) => tell_refusal(alloc, host, refusal),
+        Ok(line) => report_answer(host, &line),
+        Err(refusal) => report_refusal(alloc, host, refusal),
     }
 }
 
@@ -43,8 +43,8 @@ fn judge_bare<H: Host>(
         (λ events. IsJudged None policies.now entities.now request.now events (exit_status result)) }
 {
     match decide_texts(alloc, policies, entities, request) {
-        Ok(line) => tell_answer(host, &line),
-        Err(refusal) => tell_refusal(alloc, host, refusal),
+        Ok(line) => report_answer(host, &line),
+        Err(refusal) => report_refusal(alloc, host, refusal),
     }
 }
 
@@ -139,8 +139,8 @@ fn check<H: Host>(alloc: Global, host: &mut H, schema: &[u8], policies: &[u8]) -
         (λ events. AreChecked schema.now policies.now events (exit_status result)) }
 {
     match check_texts(alloc, schema, policies) {
-        Ok((lines, some_refused)) => tell_lines(host, &lines, some_refused),
-        Err(refusal) => tell_refusal(alloc, host, refusal),
+        Ok((lines, some_refused)) => report_lines(host, &lines, some_refused),
+        Err(refusal) => report_refusal(alloc, host, refusal),
     }
 }
 

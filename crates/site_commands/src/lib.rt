@@ -15,5 +15,5 @@ mod system;
 pub use device::{FileFault, Link, NetworkFailed, Stream, StreamFailed};
 pub use host::Host;
 pub use program::run;
-pub use report::tell_words;
+pub use report::report_words;
 pub use system::SystemHost;

@@ -7,7 +7,7 @@ ghost use Rattle.site_commands.specs.inner.Served.{HasSite};
 
 use crate::commands::{run_check, run_decide};
 use crate::host::Host;
-use crate::report::tell_words;
+use crate::report::report_words;
 use crate::serving::run_serve;
 use crate::states::{run_merge, run_pull};
 use command_lines::{Line, line_of};
@@ -58,6 +58,6 @@ pub fn run<H: Host>(alloc: Global, host: &mut H, words: &[String]) -> ExitCode
 {
     match line_of(alloc, words) {
         Ok(line) => run_line(alloc, host, line),
-        Err(fault) => tell_words(host, &fault),
+        Err(fault) => report_words(host, &fault),
     }
 }

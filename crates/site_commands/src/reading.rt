@@ -6,7 +6,7 @@ ghost use Rattle.site_commands.specs.inner.Ways.{found_as, IsUnread, IsUnreadThe
 
 use crate::device::FileFault;
 use crate::host::Host;
-use crate::report::tell_file;
+use crate::report::report_file;
 use std::process::ExitCode;
 
 /// What a file holds; where it is not read, that is told, and this is the status of the run.
@@ -16,7 +16,7 @@ pub(crate) fn read_file<H: Host>(host: &mut H, name: &str) -> Result<Vec<u8>, Ex
 {
     match host.read(name) {
         Ok(bytes) => Ok(bytes),
-        Err(fault) => Err(tell_file(host, name, fault)),
+        Err(fault) => Err(report_file(host, name, fault)),
     }
 }
 
@@ -29,7 +29,7 @@ pub(crate) fn read_if_there<H: Host>(host: &mut H, name: &str) -> Result<Option<
     match host.read(name) {
         Ok(bytes) => Ok(Some(bytes)),
         Err(FileFault::Missing) => Ok(None),
-        Err(FileFault::Failed) => Err(tell_file(host, name, FileFault::Failed)),
-        Err(FileFault::NoMemory) => Err(tell_file(host, name, FileFault::NoMemory)),
+        Err(FileFault::Failed) => Err(report_file(host, name, FileFault::Failed)),
+        Err(FileFault::NoMemory) => Err(report_file(host, name, FileFault::NoMemory)),
     }
 }

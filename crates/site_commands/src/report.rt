@@ -3,8 +3,10 @@ ghost use Rattle.std.specs.Prelude.{◌≡◌, ◌⊎◌, ◌++◌, is_ok, if◌
 ghost use Rattle.std.specs.Process.{exit_status};
 ghost use Rattle.decision_texts.specs.Refusals.{error_line, no_memory};
 ghost use Rattle.site_commands.specs.Events.{Runs};
-ghost use Rattle.site_commands.specs.Reports.{IsTold, IsAnswerTold, IsRefusalTold, IsMemoryTold, IsFileTold};
-ghost use Rattle.site_commands.specs.Reports.{IsFailureTold, IsFaultTold, IsPrinted, AreLinesTold, status_after};
+ghost use Rattle.site_commands.specs.Reports.{IsReported, IsAnswerReported, IsRefusalReported, IsMemoryReported};
+ghost use Rattle.site_commands.specs.Reports.{IsFileReported};
+ghost use Rattle.site_commands.specs.Reports.{IsFailureReported, IsFaultReported, IsPrinted, AreLinesReported};
+ghost use Rattle.site_commands.specs.Reports.{status_after};
 
 use crate::device::{FileFault, Stream, StreamFailed};
 use crate::host::Host;
@@ -41,15 +43,15 @@ pub(crate) fn status_of(written: Result<(), StreamFailed>, status: u8) -> ExitCo
 /// Writes the last line of a run.
 fn tell<H: Host>(host: &mut H, stream: Stream, label: &str, line: &[u8], status: u8) -> ExitCode
     ensures { Runs H.does host.old host.new
-        (λ events. IsTold stream (label.now ++ line.now) status events (exit_status result)) }
+        (λ events. IsReported stream (label.now ++ line.now) status events (exit_status result)) }
 {
     let written = host.write_line(stream, label, line);
     status_of(written, status)
 }
 
 /// Writes the line of an answer.
-pub(crate) fn tell_answer<H: Host>(host: &mut H, line: &[u8]) -> ExitCode
-    ensures { Runs H.does host.old host.new (λ events. IsAnswerTold line.now events (exit_status result)) }
+pub(crate) fn report_answer<H: Host>(host: &mut H, line: &[u8]) -> ExitCode
+    ensures { Runs H.does host.old host.new (λ events. IsAnswerReported line.now events (exit_status result)) }
 {
     tell(host, Stream::Answers, "", line, ANSWERED)
 }
@@ -62,9 +64,9 @@ fn check_status(some_refused: bool) -> u8
 }
 
 /// Writes the lines of policies, if there are any.
-pub(crate) fn tell_lines<H: Host>(host: &mut H, lines: &[u8], some_refused: bool) -> ExitCode
+pub(crate) fn report_lines<H: Host>(host: &mut H, lines: &[u8], some_refused: bool) -> ExitCode
     ensures { Runs H.does host.old host.new
-        (λ events. AreLinesTold lines.now some_refused events (exit_status result)) }
+        (λ events. AreLinesReported lines.now some_refused events (exit_status result)) }
 {
     let status = check_status(some_refused);
     if lines.is_empty() {
@@ -74,43 +76,44 @@ pub(crate) fn tell_lines<H: Host>(host: &mut H, lines: &[u8], some_refused: bool
 }
 
 /// Writes that memory was refused.
-pub(crate) fn tell_memory<H: Host>(host: &mut H) -> ExitCode
-    ensures { Runs H.does host.old host.new (λ events. IsMemoryTold events (exit_status result)) }
+pub(crate) fn report_memory<H: Host>(host: &mut H) -> ExitCode
+    ensures { Runs H.does host.old host.new (λ events. IsMemoryReported events (exit_status result)) }
 {
     tell(host, Stream::Faults, "", NO_MEMORY_LINE, REFUSED)
 }
 
 /// Writes the line of a refusal, or where memory for it is refused, the line that tells of that.
-pub(crate) fn tell_refusal<H: Host>(alloc: Global, host: &mut H, refusal: Refusal) -> ExitCode
+pub(crate) fn report_refusal<H: Host>(alloc: Global, host: &mut H, refusal: Refusal) -> ExitCode
     ensures { Runs H.does host.old host.new
-        (λ events. IsRefusalTold refusal events (exit_status result) ⊎ IsMemoryTold events (exit_status result)) }
+        (λ events. IsRefusalReported refusal events (exit_status result)
+        ⊎ IsMemoryReported events (exit_status result)) }
 {
     match error_line(alloc, refusal) {
         Ok(line) => tell(host, Stream::Faults, "", &line, REFUSED),
-        Err(_) => tell_memory(host),
+        Err(_) => report_memory(host),
     }
 }
 
 /// Writes the name of what failed, a file or an address.
-pub(crate) fn tell_failure<H: Host>(host: &mut H, name: &str) -> ExitCode
-    ensures { Runs H.does host.old host.new (λ events. IsFailureTold name.now events (exit_status result)) }
+pub(crate) fn report_failure<H: Host>(host: &mut H, name: &str) -> ExitCode
+    ensures { Runs H.does host.old host.new (λ events. IsFailureReported name.now events (exit_status result)) }
 {
     tell(host, Stream::Faults, "fault: ", name.as_bytes(), FAILED)
 }
 
 /// Writes why a file was not read or written.
-pub(crate) fn tell_file<H: Host>(host: &mut H, name: &str, fault: FileFault) -> ExitCode
-    ensures { Runs H.does host.old host.new (λ events. IsFileTold name.now fault events (exit_status result)) }
+pub(crate) fn report_file<H: Host>(host: &mut H, name: &str, fault: FileFault) -> ExitCode
+    ensures { Runs H.does host.old host.new (λ events. IsFileReported name.now fault events (exit_status result)) }
 {
     match fault {
-        FileFault::Missing => tell_failure(host, name),
-        FileFault::Failed => tell_failure(host, name),
-        FileFault::NoMemory => tell_memory(host),
+        FileFault::Missing => report_failure(host, name),
+        FileFault::Failed => report_failure(host, name),
+        FileFault::NoMemory => report_memory(host),
     }
 }
 
 /// Writes the text of a fault of the words, or the help that was asked for.
-fn tell_text<H: Host>(host: &mut H, stream: Stream, fault: &LineFault, status: u8) -> ExitCode
+fn report_text<H: Host>(host: &mut H, stream: Stream, fault: &LineFault, status: u8) -> ExitCode
     ensures { Runs H.does host.old host.new
         (λ events. IsPrinted stream fault.now status events (exit_status result)) }
 {
@@ -118,16 +121,16 @@ fn tell_text<H: Host>(host: &mut H, stream: Stream, fault: &LineFault, status: u
     status_of(written, status)
 }
 
-/// Writes why words are no command, or the help that was asked for, and answers the status: 0 for help, 2 for a fault of
-/// the words, 1 for want of memory, and 3 where the stream fails.
-pub fn tell_words<H: Host>(host: &mut H, fault: &LineFault) -> ExitCode
-    ensures { Runs H.does host.old host.new (λ events. IsFaultTold fault.now events (exit_status result)) }
+/// Writes why words are no command, or the help that was asked for, and answers the status: 0 for help, 2 for a fault
+/// of the words, 1 for want of memory, and 3 where the stream fails.
+pub fn report_words<H: Host>(host: &mut H, fault: &LineFault) -> ExitCode
+    ensures { Runs H.does host.old host.new (λ events. IsFaultReported fault.now events (exit_status result)) }
 {
     match fault {
-        LineFault::Help(_) => tell_text(host, Stream::Answers, fault, ANSWERED),
-        LineFault::Words(_) => tell_text(host, Stream::Faults, fault, LINE_FAULT),
-        LineFault::Incomplete => tell_text(host, Stream::Faults, fault, LINE_FAULT),
-        LineFault::NotText => tell_text(host, Stream::Faults, fault, LINE_FAULT),
-        LineFault::NoMemory => tell_memory(host),
+        LineFault::Help(_) => report_text(host, Stream::Answers, fault, ANSWERED),
+        LineFault::Words(_) => report_text(host, Stream::Faults, fault, LINE_FAULT),
+        LineFault::Incomplete => report_text(host, Stream::Faults, fault, LINE_FAULT),
+        LineFault::NotText => report_text(host, Stream::Faults, fault, LINE_FAULT),
+        LineFault::NoMemory => report_memory(host),
     }
 }

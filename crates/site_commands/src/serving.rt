@@ -10,7 +10,7 @@ use crate::begin::begin;
 use crate::device::{Link, NetworkFailed, Stream};
 use crate::host::Host;
 use crate::reading::read_file;
-use crate::report::{ANSWERED, status_of, tell_failure, tell_refusal};
+use crate::report::{ANSWERED, report_failure, report_refusal, status_of};
 use counted_devices::devices::{Sink, Source};
 use http_service::{Site, serve};
 use std::alloc::Global;
@@ -95,12 +95,12 @@ fn serve_listening<H: Host>(
 
 /// Listens at an address, and then serves.
 fn serve_at<H: Host>(alloc: Global, host: &mut H, site: Site, address: &str, most: u64) -> ExitCode
-    ensures { Runs H.does host.old host.new (λ events. Listens address.now (Announces (codes "listening " ++ address.now)
-        (AreAllServed most site)) events (exit_status result)) }
+    ensures { Runs H.does host.old host.new (λ events. Listens address.now
+        (Announces (codes "listening " ++ address.now) (AreAllServed most site)) events (exit_status result)) }
 {
     match host.listen(address) {
         Ok(listener) => serve_listening(alloc, host, &listener, site, address, most),
-        Err(NetworkFailed) => tell_failure(host, address),
+        Err(NetworkFailed) => report_failure(host, address),
     }
 }
 
@@ -121,7 +121,7 @@ fn serve_from<H: Host>(
 {
     match begin(alloc, schema, number, state) {
         Ok(site) => serve_at(alloc, host, site, address, most_of(connections)),
-        Err(refusal) => tell_refusal(alloc, host, refusal),
+        Err(refusal) => report_refusal(alloc, host, refusal),
     }
 }
 
@@ -175,8 +175,8 @@ fn serve_named<H: Host>(
     )
 }
 
-/// Reads the schema of this name, and then the state, if one is named; then begins the site and serves it at an address,
-/// one connection after another: so many, if a number is given.
+/// Reads the schema of this name, and then the state, if one is named; then begins the site and serves it at an
+/// address, one connection after another: so many, if a number is given.
 pub(crate) fn run_serve<H: Host>(
     alloc: Global,
     host: &mut H,

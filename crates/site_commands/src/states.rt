@@ -6,13 +6,13 @@ ghost use Rattle.site_commands.specs.Reports.{taken_line};
 ghost use Rattle.site_commands.specs.Runs.{AreMerged, IsMergeRun};
 ghost use Rattle.site_commands.specs.Courses.{Connects, Stores};
 ghost use Rattle.site_commands.specs.Pulling.{IsPulledOver, IsPullRun};
-ghost use Rattle.site_commands.specs.Reports.{IsAnswerTold, IsMemoryTold};
-ghost use Rattle.site_commands.specs.inner.Ways.{IsMergeUnder, IsPullUnder, IsPullFaultTold};
+ghost use Rattle.site_commands.specs.Reports.{IsAnswerReported, IsMemoryReported};
+ghost use Rattle.site_commands.specs.inner.Ways.{IsMergeUnder, IsPullUnder, IsPullFaultReported};
 
 use crate::device::{Link, NetworkFailed};
 use crate::host::Host;
 use crate::reading::{read_file, read_if_there};
-use crate::report::{tell_answer, tell_failure, tell_file, tell_memory, tell_refusal};
+use crate::report::{report_answer, report_failure, report_file, report_memory, report_refusal};
 use plain::NoMemory;
 use pulled_states::{PullFault, Pulled, merge_texts, pull_over};
 use std::alloc::Global;
@@ -30,8 +30,8 @@ fn merge<H: Host>(
         (λ events. AreMerged schema.now first.now second.now events (exit_status result)) }
 {
     match merge_texts(alloc, schema, first, second) {
-        Ok(line) => tell_answer(host, &line),
-        Err(refusal) => tell_refusal(alloc, host, refusal),
+        Ok(line) => report_answer(host, &line),
+        Err(refusal) => report_refusal(alloc, host, refusal),
     }
 }
 
@@ -83,18 +83,20 @@ fn taken_line(alloc: Global, count: usize) -> Result<String, NoMemory>
     format!(in alloc; "{{\"taken\":{count}}}")
 }
 
-/// Writes the new state, and then tells how many updates came. Nothing is written where there is no memory for the line.
+/// Writes the new state, and then tells how many updates came. Nothing is written where there is no memory for
+/// the line.
 fn keep<H: Host>(alloc: Global, host: &mut H, name: &str, pulled: &Pulled) -> ExitCode
     ensures { Runs H.does host.old host.new (λ events.
-        Stores name.now pulled.now.state.items (IsAnswerTold (taken_line pulled.now.taken)) events (exit_status result)
-        ⊎ IsMemoryTold events (exit_status result)) }
+        Stores name.now pulled.now.state.items (IsAnswerReported (taken_line pulled.now.taken)) events
+        (exit_status result)
+        ⊎ IsMemoryReported events (exit_status result)) }
 {
     let Ok(line) = taken_line(alloc, pulled.taken) else {
-        return tell_memory(host);
+        return report_memory(host);
     };
     match host.store(name, pulled.state.as_slice()) {
-        Ok(()) => tell_answer(host, line.as_bytes()),
-        Err(fault) => tell_file(host, name, fault),
+        Ok(()) => report_answer(host, line.as_bytes()),
+        Err(fault) => report_file(host, name, fault),
     }
 }
 
@@ -109,18 +111,18 @@ fn lent(state: &Option<Vec<u8>>) -> Option<&[u8]>
 }
 
 /// Tells why nothing was pulled.
-fn tell_pull_fault<H: Host>(
+fn report_pull_fault<H: Host>(
     alloc: Global,
     host: &mut H,
     address: &str,
     fault: PullFault,
 ) -> ExitCode
     ensures { Runs H.does host.old host.new
-        (λ events. IsPullFaultTold address.now fault events (exit_status result)) }
+        (λ events. IsPullFaultReported address.now fault events (exit_status result)) }
 {
     match fault {
-        PullFault::Network(_) => tell_failure(host, address),
-        PullFault::Refused(refusal) => tell_refusal(alloc, host, refusal),
+        PullFault::Network(_) => report_failure(host, address),
+        PullFault::Refused(refusal) => report_refusal(alloc, host, refusal),
     }
 }
 
@@ -151,7 +153,7 @@ fn pull<H: Host>(
     );
     match came {
         Ok(pulled) => keep(alloc, host, name, &pulled),
-        Err(fault) => tell_pull_fault(alloc, host, address, fault),
+        Err(fault) => report_pull_fault(alloc, host, address, fault),
     }
 }
 
@@ -171,7 +173,7 @@ fn pull_from<H: Host>(
 {
     match host.connect(address) {
         Ok(mut link) => pull(alloc, host, schema, site, state, address, name, &mut link),
-        Err(NetworkFailed) => tell_failure(host, address),
+        Err(NetworkFailed) => report_failure(host, address),
     }
 }
 

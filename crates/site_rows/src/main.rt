@@ -14,8 +14,8 @@
 //!   each a text, or JSON that stands for its compact text.
 //! - `decide_under`: the line of the answer, or of the refusal, for JSON with `policies`, and perhaps others of these
 //!   texts of its own.
-//! - `stored_entity`: the same of an entity's text, under the uid before the first blank, as JSON; `another name` for the
-//!   text of an entity of another uid.
+//! - `stored_entity`: the same of an entity's text, under the uid before the first blank, as JSON; `another name` for
+//!   the text of an entity of another uid.
 //!
 //! `part messages`:
 //!

@@ -1,7 +1,7 @@
 //! Streams that are served.
 
 use crate::stream_texts::{bytes_of, shown};
-use counted_devices::memory::{Fed, Kept, Plan};
+use counted_devices::memory::{MemoryReader, MemoryWriter, Plan};
 use http_service::serve;
 use http_streams::serve::StreamFault;
 use site::{Schema, Site, read_schema};
@@ -64,8 +64,8 @@ struct Outcome {
 
 /// Serves the bytes in this way.
 fn run(alloc: Global, site: &mut Site, bytes: &[u8], way: Way<'_>) -> Result<Outcome, AllocError> {
-    let mut reader = Fed::new(bytes, Plan::new(way.reads, way.bad_read));
-    let mut writer = Kept::new(alloc, Plan::new(way.writes, way.bad_write));
+    let mut reader = MemoryReader::new(bytes, Plan::new(way.reads, way.bad_read));
+    let mut writer = MemoryWriter::new(alloc, Plan::new(way.writes, way.bad_write));
     let fault = serve(alloc, site, &mut reader, &mut writer).err();
     let out = Vec::from_slice(alloc, writer.bytes())?;
     let left = reader.left().len();

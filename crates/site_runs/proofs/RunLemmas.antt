@@ -22,7 +22,7 @@ use Rattle.site_runs.specs.declared.input.Input.{Input}
 use Rattle.site_runs.specs.declared.input.Input.TheVariants as input
 use Rattle.site_runs.specs.declared.reply.Reply.{Reply}
 use Rattle.site_runs.specs.declared.reply.Reply.TheVariants as reply
-use Rattle.schema.specs.Kept.{Kept}
+use Rattle.schema.specs.SchemaEntries.{SchemaEntries}
 use Rattle.site.specs.passed_on.stored_texts.{SchemaTexts}
 use Rattle.site_runs.specs.Runs.{Step, Run, HoldsAfter, took_by, took, update_of_entity, updates_of_message}
 
@@ -193,7 +193,7 @@ same_step a b m n s i r t e f h =
 -- ---- equal sets of updates
 
 -- the texts of a schema, as what says what texts are read as
-abbrev pub texts_of : Kept → SchemaTexts
+abbrev pub texts_of : SchemaEntries → SchemaTexts
 texts_of schema = record { schema = record { ref_ptr = (0, 0); now = schema } }
 
 after_run : AreStores → (schema : StatedSchema) (us : List Update) (t : Store) → HoldsAfter schema us t
@@ -207,20 +207,20 @@ same_stores law schema us vs s t h k same = after_run law schema us s h ∙ same
 
 -- ---- messages, read under a schema that is the site's
 
-pub message_valid : (a b : Kept) (label bytes : List ℕ) (us : List (SentUpdate Policy Entity)) → a ≡ b
+pub message_valid : (a b : SchemaEntries) (label bytes : List ℕ) (us : List (SentUpdate Policy Entity)) → a ≡ b
     → IsMessage (IsPolicyUnder (schema_view a)) (IsEntityUnder (schema_view a)) label bytes us
     → AllByRecursion (IsValid (schema_view b)) us
 message_valid a b label bytes us same h =
-    subst (λ (k : Kept). AllByRecursion (IsValid (schema_view k)) us) same
+    subst (λ (k : SchemaEntries). AllByRecursion (IsValid (schema_view k)) us) same
     (all_valid (schema_view a) us h.in_range h.are_read)
 
-pub message_refused : (a b : Kept) (m label bytes : List ℕ) (f : MessageFault) → a ≡ b → m ≡ label
+pub message_refused : (a b : SchemaEntries) (m label bytes : List ℕ) (f : MessageFault) → a ≡ b → m ≡ label
     → IsRefused (IsPolicyUnder (schema_view a)) (IsEntityUnder (schema_view a)) (λ _. RefusesPolicy (schema_view a))
     (RefusesEntity (schema_view a)) m bytes f
     → IsRefused (IsPolicyUnder (schema_view b)) (IsEntityUnder (schema_view b)) (λ _. RefusesPolicy (schema_view b))
     (RefusesEntity (schema_view b)) label bytes f
 message_refused a b m label bytes f same named h =
-    subst (λ (k : Kept). IsRefused (IsPolicyUnder (schema_view k)) (IsEntityUnder (schema_view k))
+    subst (λ (k : SchemaEntries). IsRefused (IsPolicyUnder (schema_view k)) (IsEntityUnder (schema_view k))
     (λ _. RefusesPolicy (schema_view k)) (RefusesEntity (schema_view k)) label bytes f) same
     (subst (λ (l : List ℕ). IsRefused (IsPolicyUnder (schema_view a)) (IsEntityUnder (schema_view a))
     (λ _. RefusesPolicy (schema_view a)) (RefusesEntity (schema_view a)) l bytes f) named h)

@@ -20,7 +20,7 @@ use Rattle.policy_grammar.specs.Limits.{IsId}
 use Rattle.ancestor_closure.specs.Decided.{HaveAllParents, PathsAreDecided, reaches}
 use Rattle.ancestor_closure.specs.Deciding.{Contains-cases, Contains-here, Contains-none, Contains-there, same_uid}
 use Rattle.authoriser.specs.declared.answer.Answer.{Answer}
-use Rattle.authoriser.specs.Answers.{Named}
+use Rattle.authoriser.specs.Answers.{NamedPolicy}
 use Rattle.schema.specs.Schemas.{StatedSchema, IsSchemaOf}
 use Rattle.entity_worlds.specs.declared.entity.Entity.{Entity}
 use Rattle.entities.specs.declared.fault.EntityFault.{EntityFault}
@@ -29,7 +29,7 @@ use Rattle.entities.specs.Canonical.{canonical_text}
 use Rattle.entities.specs.Laws.{RequestOrRefusal}
 use Rattle.entity_worlds.specs.declared.data.EntityData.{EntityData}
 use Rattle.entity_worlds.specs.Entities.{action_or, parents_of}
-use Rattle.validator.specs.Outcomes.{passes, refused as check_refused, ComesTo, PoliciesHaveOneOutcome, PassingIsNotRefused, Outcome as CheckOutcome}
+use Rattle.validator.specs.Outcomes.{passes, refused as check_refused, ComesTo, PoliciesHaveOneOutcome, PassingIsNotRefused, CheckResult as CheckOutcome}
 use Rattle.validator.specs.Passing.{Passes, IsImpossible}
 use Rattle.stamped_store.specs.declared.entry.Stamp.{Stamp}
 use Rattle.stamped_store.specs.Contents.{text_under, policy_text, entities_of}
@@ -164,20 +164,20 @@ module _ (stores : LawsOfStores) (schema : StatedSchema) (s : Store) (held : May
   -- each of its policies
   with_policy : (q : Name) (b : Option (List ℕ)) (ts : List (List ℕ × List ℕ))
       → IsReadable (IsPolicyUnder schema) (IsEntityUnder schema) q b
-      → (ps : List Named) × AllZip (λ t p. (p.id ≡ t.0) × IsPolicyUnder schema t.0 t.1 p.policy) ts ps
-      → (ps : List Named) × AllZip (λ t p. (p.id ≡ t.0) × IsPolicyUnder schema t.0 t.1 p.policy) (policy_text q b ++ ts) ps
+      → (ps : List NamedPolicy) × AllZip (λ t p. (p.id ≡ t.0) × IsPolicyUnder schema t.0 t.1 p.policy) ts ps
+      → (ps : List NamedPolicy) × AllZip (λ t p. (p.id ≡ t.0) × IsPolicyUnder schema t.0 t.1 p.policy) (policy_text q b ++ ts) ps
   with_policy (name.Policy id) (Some text) ts h rest = (record { id = id; policy = h.0 } ∷ rest.0, ((refl, h.1), rest.1))
   with_policy (name.Policy id) None ts h rest = rest
   with_policy (name.Entity uid) b ts h rest = rest
 
   policies_in : (us : List Update) → AreValid (IsPolicyUnder schema) (IsEntityUnder schema) us
-      → (ps : List Named) × AllZip (λ t p. (p.id ≡ t.0) × IsPolicyUnder schema t.0 t.1 p.policy)
+      → (ps : List NamedPolicy) × AllZip (λ t p. (p.id ≡ t.0) × IsPolicyUnder schema t.0 t.1 p.policy)
       (flat_map (λ (u : Update). policy_text u.0 u.1.body) us) ps
   policies_in [] h = ([], tt)
   policies_in (u ∷ us) h =
       with_policy u.0 u.1.body (flat_map (λ (v : Update). policy_text v.0 v.1.body) us) h.0 (policies_in us h.1)
 
-  some_policies : (ps : List Named) × ArePolicies (IsPolicyUnder schema) s ps
+  some_policies : (ps : List NamedPolicy) × ArePolicies (IsPolicyUnder schema) s ps
   some_policies = policies_in (updates s) held.valid
 
   -- and of its entities
@@ -349,7 +349,7 @@ pub record LawsOfSome (schema : StatedSchema) : Type 0 where
   pub paths : PathsAreDecided
   pub messages : (bytes : List ℕ) → ReadsOrRefuses schema bytes
   pub asks : RequestOrRefusal
-  pub answers : (s : Store) (ps : List Named) (es : EntityUid → Option Entity) (q : Request)
+  pub answers : (s : Store) (ps : List NamedPolicy) (es : EntityUid → Option Entity) (q : Request)
       → ArePolicies (IsPolicyUnder schema) s ps → AreEntities (IsEntityUnder schema) s es
       → (a : Answer) × IsAnswerOver (IsPolicyUnder schema) (IsEntityUnder schema) schema s q a
 

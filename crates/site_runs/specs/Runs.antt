@@ -91,7 +91,10 @@ Step schema n s _ _ t = ⊥
 
 -- ---- runs
 
--- from s to t by one step for each input, each with its reply
+-- From s to t by one step for each input, each with its reply. An example: site 1 begins with nothing. It is given a
+-- text for the policy `a`, which gets the stamp (1, 1); is sent a message in which site 2 has put another text for `a`
+-- with the stamp (3, 2), and takes it; and is asked to delete `a`, which gets the stamp (4, 1). These are three inputs
+-- with three replies; three updates entered, and the store at the end says that `a` was deleted at (4, 1).
 abbrev pub Run : StatedSchema → ℕ → Store → List Input → List Reply → Store → Type 0
 Run schema n s [] [] t = t ≡ s
 Run schema n s [] (r ∷ rs) t = ⊥

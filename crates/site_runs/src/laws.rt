@@ -2,7 +2,7 @@
 ghost use Rattle.std.specs.Prelude.{◌≡◌, ◌↔◌, ℕ, List, Contains};
 ghost use Rattle.values.specs.declared.request.Request.{Request};
 ghost use Rattle.authoriser.specs.declared.answer.Answer.{Answer};
-ghost use Rattle.schema.specs.Kept.{Kept as SchemaKept};
+ghost use Rattle.schema.specs.SchemaEntries.{SchemaEntries as SchemaKept};
 ghost use Rattle.schema.specs.Schemas.{StatedSchema, IsSchemaOf};
 ghost use Rattle.schema.specs.Views.{schema_view};
 ghost use Rattle.stamped_store.specs.Store.{Store, Update};

@@ -30,7 +30,7 @@ use Rattle.stamped_store.specs.EntryOrder.{PlainEntry, plain_entry, entry_cmp, e
 use Rattle.stamped_store.specs.Stored.{value_at, value_at_text, taken, all_taken, joined_onto, IsBelow}
 use Rattle.stamped_store.specs.Greatest.{greatest_count, max_count, greatest_at}
 use Rattle.stamped_store.specs.Shown.{shown_entry, shown_entries, greatest_kept}
-use Rattle.stamped_store.specs.Store.{Store, Update, Kept, kept, all_kept, first_kept, updates, store_of, first_names, plain_below, IsStoreBelow, IsStoreJoin, joined_stores, id_name, entity_name, shown_updates, shown_store, KeepsOtherNames, IsCounted, issue, issued}
+use Rattle.stamped_store.specs.Store.{Store, Update, StoreEntries, kept, all_kept, first_kept, updates, store_of, first_names, plain_below, IsStoreBelow, IsStoreJoin, joined_stores, id_name, entity_name, shown_updates, shown_store, KeepsOtherNames, IsCounted, issue, issued}
 use Rattle.stamped_store.proofs.Greatests.{no_member, in_head, in_tail, by_place, count_le, count_of_find, greater_assoc, greater_commutes, greater_itself, greater_entry_is_join, alike, get-store_of, greatest_at-append, greatest_at-entries, store_of-append, store_of-append_right, store_of-entries, store_of-push, greatest_count-empty, greatest_count-insert, greatest_count-store_of, max_count-append}
 use Rattle.stamped_store.proofs.Lifted.{above_first, above_second, least_above}
 use Rattle.stamped_store.proofs.Showing.{plain_entry-onto, shown-insert_entry, find-shown}
@@ -275,10 +275,10 @@ module _ {P E : Type 0} where
       }
 
   -- ---- what a call leaves
-  pub joined_policy : (s t : Kept P E) (k : String Global) (v : Entry P) → t ≡ kept (taken string_cmp greater s.policies k v) s.entities → shown_store t ≡ store_of (updates (shown_store s) ++ (id_name k, plain_entry v) ∷ [])
+  pub joined_policy : (s t : StoreEntries P E) (k : String Global) (v : Entry P) → t ≡ kept (taken string_cmp greater s.policies k v) s.entities → shown_store t ≡ store_of (updates (shown_store s) ++ (id_name k, plain_entry v) ∷ [])
   joined_policy s t k v e = ap shown_store e ∙ shown-taken_policy s.policies s.entities k v
 
-  pub joined_entity : (s t : Kept P E) (u : EntityUid) (v : Entry E) → t ≡ kept s.policies (taken uid_cmp greater s.entities u v) → shown_store t ≡ store_of (updates (shown_store s) ++ (entity_name u, plain_entry v) ∷ [])
+  pub joined_entity : (s t : StoreEntries P E) (u : EntityUid) (v : Entry E) → t ≡ kept s.policies (taken uid_cmp greater s.entities u v) → shown_store t ≡ store_of (updates (shown_store s) ++ (entity_name u, plain_entry v) ∷ [])
   joined_entity s t u v e = ap shown_store e ∙ shown-taken_entity s.policies s.entities u v
 
 -- ---- the first names of a store
@@ -363,21 +363,21 @@ below_at_text ps qs h bytes (Some a) e =
 
 module _ {P E : Type 0} where
   -- the updates of the first names
-  first_updates : (n : ℕ) (k : Kept P E) → shown_updates (first_kept n k) ≡ take n (shown_updates k)
+  first_updates : (n : ℕ) (k : StoreEntries P E) → shown_updates (first_kept n k) ≡ take n (shown_updates k)
   first_updates n k = sym (
       take_both n (shown_entries id_name k.policies) (shown_entries entity_name k.entities)
       ∙ ap (λ us. us ++ take (n - length (shown_entries id_name k.policies)) (shown_entries entity_name k.entities)) (take-map (shown_entry id_name) n k.policies)
       ∙ ap (λ us. shown_entries id_name (take n k.policies) ++ us) (ap (λ m. take (n - m) (shown_entries entity_name k.entities)) (length-map k.policies (shown_entry id_name)) ∙ take-map (shown_entry entity_name) (n - length k.policies) k.entities))
 
   -- a store that took all that another has is their join
-  pub joined_whole : (s o t : Kept P E) → updates (shown_store o) ≡ shown_updates o → t ≡ all_kept s o → IsStoreJoin (shown_store s) (shown_store o) (shown_store t)
+  pub joined_whole : (s o t : StoreEntries P E) → updates (shown_store o) ≡ shown_updates o → t ≡ all_kept s o → IsStoreJoin (shown_store s) (shown_store o) (shown_store t)
   joined_whole s o t h e =
       let path : shown_store t ≡ joined_stores (shown_store s) (shown_store o) =
       ap shown_store e ∙ shown-all_taken s.policies o.policies s.entities o.entities ∙ ap (λ us. store_of (updates (shown_store s) ++ us)) (sym h) in
       subst (IsStoreJoin (shown_store s) (shown_store o)) (sym path) (joined_is_join (shown_store s) (shown_store o))
 
   -- and one that took the first names' entries is the join with these
-  pub joined_first : (s o t : Kept P E) (n : ℕ) → updates (shown_store o) ≡ shown_updates o → t ≡ all_kept s (first_kept n o) → IsStoreJoin (shown_store s) (first_names n (shown_store o)) (shown_store t)
+  pub joined_first : (s o t : StoreEntries P E) (n : ℕ) → updates (shown_store o) ≡ shown_updates o → t ≡ all_kept s (first_kept n o) → IsStoreJoin (shown_store s) (first_names n (shown_store o)) (shown_store t)
   joined_first s o t n h e =
       let path : shown_store t ≡ joined_stores (shown_store s) (first_names n (shown_store o)) =
       ap shown_store e
@@ -387,20 +387,20 @@ module _ {P E : Type 0} where
       subst (IsStoreJoin (shown_store s) (first_names n (shown_store o))) (sym path) (joined_is_join (shown_store s) (first_names n (shown_store o)))
 
   -- memory was refused among the policies
-  pub kept_first_policies : (s o : Kept P E) (n : List (String Global × Entry P)) (k : ℕ) → n ≡ all_taken string_cmp greater s.policies (take k o.policies) → k < length o.policies → kept n s.entities ≡ all_kept s (first_kept k o)
+  pub kept_first_policies : (s o : StoreEntries P E) (n : List (String Global × Entry P)) (k : ℕ) → n ≡ all_taken string_cmp greater s.policies (take k o.policies) → k < length o.policies → kept n s.entities ≡ all_kept s (first_kept k o)
   kept_first_policies s o n k e short =
       let none : 0 ≡ k - length o.policies = omega arith in
       ap (λ ps. kept ps s.entities) e ∙ ap (λ m. kept (all_taken string_cmp greater s.policies (take k o.policies)) (all_taken uid_cmp greater s.entities (take m o.entities))) none
 
   -- memory was refused among the entities
-  pub kept_first_entities : (s o : Kept P E) (n : List (String Global × Entry P)) (m : List (EntityUid × Entry E)) (j k : ℕ) → n ≡ all_taken string_cmp greater s.policies o.policies → m ≡ all_taken uid_cmp greater s.entities (take j o.entities) → k ≡ length o.policies + j → kept n m ≡ all_kept s (first_kept k o)
+  pub kept_first_entities : (s o : StoreEntries P E) (n : List (String Global × Entry P)) (m : List (EntityUid × Entry E)) (j k : ℕ) → n ≡ all_taken string_cmp greater s.policies o.policies → m ≡ all_taken uid_cmp greater s.entities (take j o.entities) → k ≡ length o.policies + j → kept n m ≡ all_kept s (first_kept k o)
   kept_first_entities s o n m j k e f is =
       let some : j ≡ k - length o.policies = omega arith in
       let all : o.policies ≡ take k o.policies = sym (take_all k o.policies (omega arith)) in
       ap (λ ps. kept ps m) (e ∙ ap (all_taken string_cmp greater s.policies) all)
       ∙ ap (kept (all_taken string_cmp greater s.policies (take k o.policies))) (f ∙ ap (λ i. all_taken uid_cmp greater s.entities (take i o.entities)) some)
 
-  store_below : (s o : Kept P E) → IsBelow string_cmp entry_below s.policies o.policies → IsBelow uid_cmp entry_below s.entities o.entities → IsStoreBelow (shown_store s) (shown_store o)
+  store_below : (s o : StoreEntries P E) → IsBelow string_cmp entry_below s.policies o.policies → IsBelow uid_cmp entry_below s.entities o.entities → IsStoreBelow (shown_store s) (shown_store o)
   store_below s o h k (Policy bytes) =
       ap (λ a. option_below plain_below a (get (shown_store o) (Policy bytes))) (get-policy s.policies s.entities bytes)
       ∙ ap (option_below plain_below (option_map plain_entry (value_at_text s.policies bytes))) (get-policy o.policies o.entities bytes)
@@ -412,21 +412,21 @@ module _ {P E : Type 0} where
       ∙ entries_below (value_at uid_cmp s.entities u) (value_at uid_cmp o.entities u)
       ∙ k u
 
-  policies_below : (s o : Kept P E) → IsStoreBelow (shown_store s) (shown_store o) → IsBelow string_cmp entry_below s.policies o.policies
+  policies_below : (s o : StoreEntries P E) → IsStoreBelow (shown_store s) (shown_store o) → IsBelow string_cmp entry_below s.policies o.policies
   policies_below s o h k = sym (entries_below (value_at string_cmp s.policies k) (value_at string_cmp o.policies k))
       ∙ sym (ap (λ a. option_below plain_below a (get (shown_store o) (id_name k))) (get-policy s.policies s.entities (string_bytes k)) ∙ ap (option_below plain_below (option_map plain_entry (value_at string_cmp s.policies k))) (get-policy o.policies o.entities (string_bytes k)))
       ∙ h (id_name k)
 
-  entities_below : (s o : Kept P E) → IsStoreBelow (shown_store s) (shown_store o) → IsBelow uid_cmp entry_below s.entities o.entities
+  entities_below : (s o : StoreEntries P E) → IsStoreBelow (shown_store s) (shown_store o) → IsBelow uid_cmp entry_below s.entities o.entities
   entities_below s o h u = sym (entries_below (value_at uid_cmp s.entities u) (value_at uid_cmp o.entities u))
       ∙ sym (ap (λ a. option_below plain_below a (get (shown_store o) (Entity u))) (get-entity s.policies s.entities u) ∙ ap (option_below plain_below (option_map plain_entry (value_at uid_cmp s.entities u))) (get-entity o.policies o.entities u))
       ∙ h (entity_name u)
 
   -- both parts are asked, the entities only where the policies are below
-  pub below_if_both : (s o : Kept P E) (p e : Bool) → IsTrue p ↔ IsBelow string_cmp entry_below s.policies o.policies → IsTrue e ↔ IsBelow uid_cmp entry_below s.entities o.entities → p ≡ true → IsTrue e ↔ IsStoreBelow (shown_store s) (shown_store o)
+  pub below_if_both : (s o : StoreEntries P E) (p e : Bool) → IsTrue p ↔ IsBelow string_cmp entry_below s.policies o.policies → IsTrue e ↔ IsBelow uid_cmp entry_below s.entities o.entities → p ≡ true → IsTrue e ↔ IsStoreBelow (shown_store s) (shown_store o)
   below_if_both s o p e h k first = ((λ is. store_below s o (h.0 first) (k.0 is)), (λ b. k.1 (entities_below s o b)))
 
-  pub below_if_not : (s o : Kept P E) (p : Bool) → IsTrue p ↔ IsBelow string_cmp entry_below s.policies o.policies → p ≡ false → IsTrue p ↔ IsStoreBelow (shown_store s) (shown_store o)
+  pub below_if_not : (s o : StoreEntries P E) (p : Bool) → IsTrue p ↔ IsBelow string_cmp entry_below s.policies o.policies → p ≡ false → IsTrue p ↔ IsStoreBelow (shown_store s) (shown_store o)
   below_if_not s o p h apart = ((λ is. let both : p ≡ true = is in absurd (cc)), (λ b. h.1 (policies_below s o b)))
 
 -- ---- laws of the join

@@ -5,7 +5,7 @@ use Rattle.std.specs.List.{AllByRecursion}
 use Rattle.values.specs.declared.entity_uid.EntityUid.{EntityUid}
 use Rattle.stamped_store.specs.declared.entry.Entry.{Entry}
 use Rattle.stamped_store.specs.declared.entry.ReadText.{ReadText}
-use Rattle.stamped_store.specs.Store.{Kept}
+use Rattle.stamped_store.specs.Store.{StoreEntries}
 
 -- F holds of each value and its name; a key shows its name by `name`, which leaves out where the key lies in memory
 abbrev pub AllNamed : {K N V : Type 0} → (K → N) → (N → V → Type 0) → List (K × V) → Type 0
@@ -22,6 +22,6 @@ IsEntryRead Reads e = IsBodyRead Reads e.body
 
 -- each text in a store is read as what stands beside it; what it may be read as depends on its name
 pub record IsKeptRead {P E : Type 0} (Policies : List ℕ → List ℕ → P → Type 0)
-    (Entities : EntityUid → List ℕ → E → Type 0) (k : Kept P E) : Type 0 where
+    (Entities : EntityUid → List ℕ → E → Type 0) (k : StoreEntries P E) : Type 0 where
   pub policies : AllNamed string_bytes (λ id. IsEntryRead (Policies id)) k.policies
   pub entities : AllNamed (λ uid. uid) (λ uid. IsEntryRead (Entities uid)) k.entities

@@ -65,11 +65,11 @@ abbrev pub issued : Stamp → Option (List ℕ) → PlainEntry
 issued stamp body = record { count = stamp.count; site = stamp.site; body = body }
 
 -- what the code keeps: policies by id and entities by uid, each ascending
-pub record Kept (P E : Type 0) : Type 0 where
+pub record StoreEntries (P E : Type 0) : Type 0 where
   pub policies : List (String Global × Entry P)
   pub entities : List (EntityUid × Entry E)
 
-abbrev pub kept : {P E : Type 0} → List (String Global × Entry P) → List (EntityUid × Entry E) → Kept P E
+abbrev pub kept : {P E : Type 0} → List (String Global × Entry P) → List (EntityUid × Entry E) → StoreEntries P E
 kept ps es = record { policies = ps; entities = es }
 
 -- the names of a policy of these bytes as its id, of one of this id, and of an entity
@@ -83,24 +83,24 @@ abbrev pub entity_name : EntityUid → Name
 entity_name uid = Entity uid
 
 -- its updates: policies, then entities
-abbrev pub shown_updates : {P E : Type 0} → Kept P E → List Update
+abbrev pub shown_updates : {P E : Type 0} → StoreEntries P E → List Update
 shown_updates k = shown_entries id_name k.policies ++ shown_entries entity_name k.entities
 
 -- the store that it stands for
-abbrev pub shown_store : {P E : Type 0} → Kept P E → Store
+abbrev pub shown_store : {P E : Type 0} → StoreEntries P E → Store
 shown_store k = map.from_entries (shown_updates k)
 
 -- k, with each entry of l joined in turn
-abbrev pub all_kept : {P E : Type 0} → Kept P E → Kept P E → Kept P E
+abbrev pub all_kept : {P E : Type 0} → StoreEntries P E → StoreEntries P E → StoreEntries P E
 all_kept k l = kept (all_taken string_cmp greater k.policies l.policies)
     (all_taken uid_cmp greater k.entities l.entities)
 
 -- the entries of the first n names: policies come first
-abbrev pub first_kept : {P E : Type 0} → ℕ → Kept P E → Kept P E
+abbrev pub first_kept : {P E : Type 0} → ℕ → StoreEntries P E → StoreEntries P E
 first_kept n k = kept (take n k.policies) (take (n - length k.policies) k.entities)
 
 -- what is always true of what the code keeps: the count beside it is the greatest, and its updates are those of the
 -- store, in order
-pub record IsCounted {P E : Type 0} (k : Kept P E) (greatest : ℕ) : Type 0 where
+pub record IsCounted {P E : Type 0} (k : StoreEntries P E) (greatest : ℕ) : Type 0 where
   pub counted : greatest ≡ updates_of.greatest_count (shown_store k)
   pub in_order : updates (shown_store k) ≡ shown_updates k

@@ -39,9 +39,9 @@ pub struct PolicyStore<P: Drop, E: Drop> {
 }
 
 impl<P: Drop, E: Drop> Model for PolicyStore<P, E> {
-    ghost use Rattle.stamped_store.specs.Store.{Kept, IsCounted, kept};
+    ghost use Rattle.stamped_store.specs.Store.{StoreEntries, IsCounted, kept};
 
-    ghost Value = { Kept P E };
+    ghost Value = { StoreEntries P E };
 
     ghost view = { λ s. kept s.policies s.entities };
 
@@ -64,7 +64,8 @@ impl<P: Drop, E: Drop> PolicyStore<P, E> {
     /// The entry of the policy of this id, if there is one, in logarithmic time and without memory.
     pub fn get_policy(&self, id: &str) -> Option<&Entry<P>>
         ensures kept { option_copied result ≡ value_at_text self.now.policies id.now }
-        ensures shown { option_map plain_entry (option_copied result) ≡ get (shown_store self.now) (policy_name id.now) }
+        ensures shown { option_map plain_entry (option_copied result) ≡ get (shown_store self.now)
+            (policy_name id.now) }
     {
         policy_at(&self.policies, id)
     }

@@ -20,7 +20,7 @@ use Rattle.stamped_store.specs.declared.entry.Entry.{Entry}
 use Rattle.stamped_store.specs.EntryOrder.{PlainEntry, plain_entry}
 use Rattle.stamped_store.specs.Deltas.{Summary, is_news, delta}
 use Rattle.stamped_store.specs.Shown.{shown_entry, shown_entries}
-use Rattle.stamped_store.specs.Store.{Store, Update, updates, Kept, shown_store, shown_updates, id_name, entity_name}
+use Rattle.stamped_store.specs.Store.{Store, Update, updates, StoreEntries, shown_store, shown_updates, id_name, entity_name}
 use Rattle.stamped_store.specs.Stored.{value_at}
 use Rattle.state_messages.specs.Messages.{entry_json, message_json, state_json, delta_json}
 use Rattle.state_messages.specs.inner.Writing.{is_new, news_json, all_news_json}
@@ -97,7 +97,7 @@ delta_news s m =
     ∙ filter_along (updates s) (λ q o. is_news (value_at name_cmp m q) o) (updates s) (each_at (updates s) (entries_sorted s))
 
 -- ---- what the code writes, policies and then entities
-store_news : {P E : Type 0} (k : Kept P E) (m : Summary) → updates (shown_store k) ≡ shown_updates k
+store_news : {P E : Type 0} (k : StoreEntries P E) (m : Summary) → updates (shown_store k) ≡ shown_updates k
     → all_news_json id_name m k.policies ++ all_news_json entity_name m k.entities ≡ map entry_json (updates (delta (shown_store k) m))
 store_news k m order =
     sym (flat_map-append (news_json m) (shown_entries id_name k.policies) (shown_entries entity_name k.entities))
@@ -119,7 +119,7 @@ entities_more see m xs x before after uid so same more =
     ∙ ap (λ (ds : List Data). flat_map (news_json m) all ++ ds) (sym (append-nil (news_json m one)))
     ∙ sym (flat_map-append (news_json m) all (one ∷ [])) ∙ ap (flat_map (news_json m)) (sym shown)
 
-pub written_news : {P E : Type 0} (k : Kept P E) (m : Summary) (ps es all : List Value) → updates (shown_store k) ≡ shown_updates k
+pub written_news : {P E : Type 0} (k : StoreEntries P E) (m : Summary) (ps es all : List Value) → updates (shown_store k) ≡ shown_updates k
     → map view ps ≡ all_news_json id_name m k.policies → map view es ≡ all_news_json entity_name m k.entities → all ≡ ps ++ es
     → map view all ≡ map entry_json (updates (delta (shown_store k) m))
 written_news k m ps es all order p e both =

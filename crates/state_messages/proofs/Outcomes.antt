@@ -2,7 +2,7 @@
 use Rattle.std.proofs.Common.{◌≡◌, ◌∙◌, ℕ, Bool, true, false, suc, List, [], ◌∷◌, Option, Some, None, Result, Ok, Err, refl, sym, ap, subst, inl, inr}
 use Rattle.std.specs.Prelude.{◌⊎◌, ◌&&◌, nat_le, MatchResult}
 use Rattle.std.specs.List.{AllByRecursion}
-use Rattle.json_words.specs.Gives.{◌>>=◌, demand}
+use Rattle.json_words.specs.ReadsAs.{◌>>=◌, demand}
 use Rattle.json_words.proofs.EachLemmas.{bind_ok}
 use Rattle.values.specs.declared.name.Name.{Name}
 use Rattle.values.specs.declared.name.Name.TheVariants as name

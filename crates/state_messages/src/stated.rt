@@ -1,7 +1,7 @@
 //! What a message states, before any entry is judged and any text is read.
 ghost use Rattle.std.specs.Prelude.{◌≡◌, ◌||◌, map, codes};
 ghost use Rattle.serde_json.specs.View.{view, items_view};
-ghost use Rattle.json_words.specs.Gives.{Gives};
+ghost use Rattle.json_words.specs.ReadsAs.{ReadsAs};
 ghost use Rattle.sync_messages.specs.declared.fault.MessageFault.TheVariants as MessageFault;
 ghost use Rattle.state_messages.specs.Messages.{body_in, entry_in, entries_of, entries_in, is_kind as names_kind};
 ghost use Rattle.state_messages.specs.Messages.{updates_in, updates_stated};
@@ -25,7 +25,7 @@ pub struct Stated {
 /// A text, or null for nothing.
 #[tactic(auto, unfolding(crate::specs::Messages::body_in, crate::specs::Messages::text_in))]
 fn read_body(alloc: Global, value: &Value) -> Result<Option<Text>, MessageFault>
-    ensures { Gives MessageFault.NoMemory (λ b. b) result (body_in (view value.now)) }
+    ensures { ReadsAs MessageFault.NoMemory (λ b. b) result (body_in (view value.now)) }
 {
     if value.is_null() {
         return Ok(None);
@@ -38,7 +38,7 @@ fn read_body(alloc: Global, value: &Value) -> Result<Option<Text>, MessageFault>
 
 #[tactic(auto, unfolding(crate::specs::Messages::entry_in))]
 fn read_entry(alloc: Global, value: &Value) -> Result<Stated, MessageFault>
-    ensures { Gives MessageFault.NoMemory stated_update result (entry_in (view value.now)) }
+    ensures { ReadsAs MessageFault.NoMemory stated_update result (entry_in (view value.now)) }
 {
     if !only_keys(value, &["body", "count", "name", "site"]) {
         return Err(MessageFault::BadShape);
@@ -52,7 +52,7 @@ fn read_entry(alloc: Global, value: &Value) -> Result<Stated, MessageFault>
 }
 
 fn read_each(alloc: Global, values: &[Value]) -> Result<Vec<Stated>, MessageFault>
-    ensures { Gives MessageFault.NoMemory (λ es. map stated_update es.items) result
+    ensures { ReadsAs MessageFault.NoMemory (λ es. map stated_update es.items) result
         (entries_of (items_view values.now)) }
 {
     let mut entries = Vec::with_capacity(alloc, values.len())?;
@@ -65,7 +65,7 @@ fn read_each(alloc: Global, values: &[Value]) -> Result<Vec<Stated>, MessageFaul
 
 #[tactic(auto, unfolding(crate::specs::Messages::entries_in))]
 fn read_entries(alloc: Global, value: &Value) -> Result<Vec<Stated>, MessageFault>
-    ensures { Gives MessageFault.NoMemory (λ es. map stated_update es.items) result (entries_in (view value.now)) }
+    ensures { ReadsAs MessageFault.NoMemory (λ es. map stated_update es.items) result (entries_in (view value.now)) }
 {
     let Some(found) = value.get("entries") else {
         return Err(MessageFault::BadShape);
@@ -86,7 +86,7 @@ fn is_kind(kind: &str) -> bool
 /// The updates that a value states.
 #[tactic(auto, unfolding(crate::specs::Messages::updates_in))]
 fn read_value(alloc: Global, label: &str, value: &Value) -> Result<Vec<Stated>, MessageFault>
-    ensures { Gives MessageFault.NoMemory (λ es. map stated_update es.items) result
+    ensures { ReadsAs MessageFault.NoMemory (λ es. map stated_update es.items) result
         (updates_in label.now (view value.now)) }
 {
     if number_at(value, "version")? != 1 {
@@ -119,7 +119,7 @@ pub(crate) fn read_stated(
     label: &str,
     bytes: &[u8],
 ) -> Result<Vec<Stated>, MessageFault>
-    ensures { Gives MessageFault.NoMemory (λ es. map stated_update es.items) result
+    ensures { ReadsAs MessageFault.NoMemory (λ es. map stated_update es.items) result
         (updates_stated label.now bytes.now) }
 {
     match read_json(alloc, bytes)? {

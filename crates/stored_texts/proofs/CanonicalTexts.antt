@@ -4,15 +4,15 @@ use Rattle.std.specs.Str.{bytes_eq}
 use Rattle.std.proofs.Common.{sym, ap, subst, refl}
 use Rattle.std.proofs.lemmas.Slice.Eq.{bytes_eq-Decides}
 use Rattle.serde_json.specs.Data.{Data}
-use Rattle.json_words.specs.Gives.{◌>>=◌, or_fault, demand}
+use Rattle.json_words.specs.ReadsAs.{◌>>=◌, or_fault, demand}
 use Rattle.json_words.specs.Json.{json_of}
 use Rattle.ancestor_closure.specs.Decided.{is_same}
 use Rattle.ancestor_closure.specs.Deciding.{same_self}
 use Rattle.schema.specs.Schemas.{StatedSchema}
 use Rattle.entity_worlds.specs.declared.entity.Entity.{Entity}
 use Rattle.entities.specs.Entities.{entity_in}
-use Rattle.entities.specs.Canonical.{canonical_json, canonical_text}
-use Rattle.entities.specs.Laws.{CanonicalIsRead, CanonicalNests}
+use Rattle.entities.specs.Canonical.{canonical_text}
+use Rattle.canonical_texts.specs.Laws.{CanonicalTextsReadBack}
 use Rattle.state_messages.specs.declared.bodies.BodyFault.TheVariants.{Refused, OtherName}
 use Rattle.stored_texts.specs.Texts.{refused_by, entity_of_text, ReadsEntity}
 use Rattle.stored_texts.specs.Laws.{CanonicalTextsAreRead}
@@ -32,7 +32,8 @@ read_in s e text json is_json is_read is_canonical is_named =
     (goes_on _ tt _ _ (ap (λ b. demand (Refused 57) b) is_canonical)
     (goes_on _ tt _ _ (ap (λ b. demand OtherName b) is_named) refl)))
 
-pub canonical_is_read : CanonicalIsRead → CanonicalNests → CanonicalTextsAreRead
-canonical_is_read read nests s json e text well h is_text is_json =
-    read_in s e text (canonical_json e) (is_json (nests s json e well h)) (read s json e h)
-    ((bytes_eq-Decides (canonical_text e) text).1 (sym is_text)) (same_self e.uid)
+pub canonical_is_read : CanonicalTextsReadBack → CanonicalTextsAreRead
+canonical_is_read back s bytes e well read =
+    let again = back s bytes e well read in
+    read_in s e (canonical_text e) again.json again.stands again.states
+    ((bytes_eq-Decides (canonical_text e) (canonical_text e)).1 refl) (same_self e.uid)

@@ -1,14 +1,11 @@
 -- That each text comes to exactly one thing under a schema.
-use Rattle.std.specs.Prelude.{◌≡◌, ◌≤◌, ℕ, List, Some, Ok}
-use Rattle.serde_json.specs.Data.{Data, depth}
-use Rattle.serde_json.specs.Read.{max_depth}
-use Rattle.json_words.specs.Json.{json_of}
+use Rattle.std.specs.Prelude.{ℕ, List}
 use Rattle.values.specs.declared.entity_uid.EntityUid.{EntityUid}
 use Rattle.schema.specs.Schemas.{StatedSchema}
 use Rattle.schema.specs.WellFormed.{IsWellFormed}
 use Rattle.entity_worlds.specs.declared.entity.Entity.{Entity}
-use Rattle.entities.specs.Entities.{entity_in}
-use Rattle.entities.specs.Canonical.{canonical_json, canonical_text}
+use Rattle.entities.specs.Canonical.{canonical_text}
+use Rattle.canonical_texts.specs.Laws.{IsReadFrom}
 use Rattle.state_messages.specs.declared.bodies.BodyFault.TheVariants.{OtherName}
 use Rattle.state_messages.specs.Bodies.{HasOneOutcome, HasOutcome}
 use Rattle.stored_texts.specs.Texts.{ReadsPolicy, RefusesPolicy, ReadsEntity, RefusesEntity}
@@ -28,10 +25,7 @@ EntitiesHaveOneReading = (s : StatedSchema) (uid : EntityUid) (text : List ℕ)
 abbrev pub PoliciesHaveNoOtherName : Type 0
 PoliciesHaveNoOtherName = (s : StatedSchema) (text : List ℕ) → RefusesPolicy s text OtherName → ⊥
 
--- The canonical text of an entity that a schema allows is read as that entity under its uid, where the text is JSON: as
--- each text is that was written.
+-- The canonical text of an entity that was read from bytes is read as that entity, under its uid.
 abbrev pub CanonicalTextsAreRead : Type 0
-CanonicalTextsAreRead = (s : StatedSchema) (json : Data) (e : Entity) (text : List ℕ) → IsWellFormed s
-    → entity_in s json ≡ Ok e → text ≡ canonical_text e
-    → (depth (canonical_json e) ≤ max_depth → json_of text ≡ Some (canonical_json e))
-    → ReadsEntity s e.uid text e
+CanonicalTextsAreRead = (s : StatedSchema) (bytes : List ℕ) (e : Entity) → IsWellFormed s → IsReadFrom s bytes e
+    → ReadsEntity s e.uid (canonical_text e) e

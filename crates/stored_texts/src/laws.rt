@@ -2,7 +2,6 @@
 ghost use Rattle.stored_texts.specs.Laws.{PoliciesHaveOneReading, EntitiesHaveOneReading};
 ghost use Rattle.stored_texts.specs.Laws.{PoliciesHaveNoOtherName, CanonicalTextsAreRead};
 
-use entities::entities_read_back;
 use validator::policies_have_one_outcome;
 
 /// That under a schema each text is that of one policy that passes, or refused for one fault, and never both; and so of
@@ -16,9 +15,9 @@ pub fn stored_texts_have_one_reading()
     policies_have_one_outcome();
 }
 
-/// That what is written of an entity is read again as that entity, under the schema that allowed it.
+/// That what is written of an entity which was read from bytes is read again as that entity, under the same schema.
 pub fn canonical_texts_are_read()
     ensures { CanonicalTextsAreRead }
 {
-    entities_read_back();
+    canonical_texts::canonical_texts_are_read();
 }

@@ -2,7 +2,7 @@
 ghost use Rattle.std.specs.Prelude.{◌≡◌, ◌≢◌, ℕ, List, IfOk, IfErr, MatchResult, Ok, Err};
 ghost use Rattle.std.specs.Str.{bytes_eq};
 ghost use Rattle.serde_json.specs.View.{view};
-ghost use Rattle.json_words.specs.Gives.{Gives, GivesAlways, or_fault, demand};
+ghost use Rattle.json_words.specs.ReadsAs.{ReadsAs, AlwaysReadsAs, or_fault, demand};
 ghost use Rattle.json_words.specs.Json.{json_of};
 ghost use Rattle.ancestor_closure.specs.Decided.{is_same};
 ghost use Rattle.policy_grammar.specs.Faults as grammar;
@@ -126,7 +126,7 @@ fn passing_policy(alloc: Global, schema: &Schema, text: &str) -> Result<Policy, 
 
 /// The JSON of a text.
 fn json_in(alloc: Global, text: &str) -> Result<Value, BodyFault>
-    ensures { Gives BodyFault.NoMemory view result (or_fault (BodyFault.Refused 30) (json_of text.now)) }
+    ensures { ReadsAs BodyFault.NoMemory view result (or_fault (BodyFault.Refused 30) (json_of text.now)) }
 {
     match read_json(alloc, text.as_bytes())? {
         Some(json) => Ok(json),
@@ -136,7 +136,7 @@ fn json_in(alloc: Global, text: &str) -> Result<Value, BodyFault>
 
 /// The entity that JSON states, or its fault by number.
 fn allowed_entity(alloc: Global, schema: &Schema, json: &Value) -> Result<Entity, BodyFault>
-    ensures { Gives BodyFault.NoMemory (λ e. e) result
+    ensures { ReadsAs BodyFault.NoMemory (λ e. e) result
         (refused_by (entity_in (schema_view schema.now) (view json.now))) }
 {
     match read_entity(alloc, schema, json) {
@@ -148,7 +148,7 @@ fn allowed_entity(alloc: Global, schema: &Schema, json: &Value) -> Result<Entity
 
 /// That a text is the canonical one of an entity.
 fn demand_canonical(alloc: Global, entity: &Entity, text: &str) -> Result<(), BodyFault>
-    ensures { Gives BodyFault.NoMemory (λ u. u) result
+    ensures { ReadsAs BodyFault.NoMemory (λ u. u) result
         (demand (BodyFault.Refused 57) (bytes_eq (canonical_text entity.now) text.now)) }
 {
     let canonical = canonical_text(alloc, entity)?;
@@ -161,7 +161,7 @@ fn demand_canonical(alloc: Global, entity: &Entity, text: &str) -> Result<(), Bo
 
 /// That an entity is of this uid.
 fn demand_uid(entity: &Entity, uid: &EntityUid) -> Result<(), BodyFault>
-    ensures { GivesAlways (λ u. u) result (demand BodyFault.OtherName (is_same entity.now.uid uid.now)) }
+    ensures { AlwaysReadsAs (λ u. u) result (demand BodyFault.OtherName (is_same entity.now.uid uid.now)) }
 {
     if entity.uid == *uid {
         Ok(())
@@ -178,7 +178,7 @@ fn canonical_entity(
     uid: &EntityUid,
     text: &str,
 ) -> Result<Entity, BodyFault>
-    ensures { Gives BodyFault.NoMemory (λ e. e) result (entity_of_text (schema_view schema.now) uid.now text.now) }
+    ensures { ReadsAs BodyFault.NoMemory (λ e. e) result (entity_of_text (schema_view schema.now) uid.now text.now) }
 {
     let json = json_in(alloc, text)?;
     let entity = allowed_entity(alloc, schema, &json)?;

@@ -7,15 +7,15 @@ use Rattle.policy_grammar.specs.declared.policy.Policy.{Policy}
 use Rattle.ancestor_closure.specs.Hierarchy.{IsOnCycle, with_parents}
 use Rattle.evaluator.specs.Operators.{World, world_of}
 use Rattle.authoriser.specs.declared.answer.Answer.{Answer}
-use Rattle.authoriser.specs.Answers.{Named, IsAnswer}
-use Rattle.schema.specs.Kept as schema_kept
+use Rattle.authoriser.specs.Answers.{NamedPolicy, IsAnswer}
+use Rattle.schema.specs.SchemaEntries as schema_kept
 use Rattle.schema.specs.Views.{schema_view}
 use Rattle.entity_worlds.specs.Entities.{EntityMap, attributes_of, parents_of}
 use Rattle.entity_store.specs.Entities.{entities_under}
 use Rattle.stored_world.specs.declared.stored_entities.StoredEntities.{StoredEntities}
 use Rattle.schema.specs.Schemas.{StatedSchema}
 use Rattle.entity_worlds.specs.declared.entity.Entity.{Entity}
-use Rattle.stamped_store.specs.Store.{Kept, updates, shown_store, shown_updates}
+use Rattle.stamped_store.specs.Store.{StoreEntries, updates, shown_store, shown_updates}
 use Rattle.stamped_store.specs.Reading.{IsKeptRead}
 use Rattle.stored_world.specs.Said.{data_in, world_under, parents_with, IsAnswerOver, MakesCycle, MakesNoCycle}
 use Rattle.stored_world.specs.Kept.{policies_read, entity_at}
@@ -23,7 +23,7 @@ use Rattle.stored_world.proofs.PolicyLemmas.{policies_are}
 use Rattle.stored_world.proofs.EntityLemmas.{entities_are}
 
 module _ {R E : Type 0} (Policies : R → List ℕ → List ℕ → Policy → Type 0) (Entities : R → EntityUid → List ℕ → Entity → Type 0)
-    (schema : StatedSchema) (k : Kept Policy Entity) (in_order : updates (shown_store k) ≡ shown_updates k) where
+    (schema : StatedSchema) (k : StoreEntries Policy Entity) (in_order : updates (shown_store k) ≡ shown_updates k) where
   pub answer_said : (q : Request) (result : Result Answer E)
       → IfOk result (IsAnswer (world_under schema (entity_at k.entities)) q (policies_read k.policies))
       → IfOk result (λ a. (r : R) → IsKeptRead (Policies r) (Entities r) k
@@ -61,7 +61,7 @@ module _ {R E : Type 0} (Policies : R → List ℕ → List ℕ → Policy → T
 
 -- ---- what the code sees of a store and a schema
 abbrev Seen : Type 0
-Seen = StoredEntities × schema_kept.Kept
+Seen = StoredEntities × schema_kept.SchemaEntries
 
 -- the entities that it asks about
 abbrev asked : Seen → EntityMap
@@ -70,24 +70,24 @@ asked w = entities_under w.1 (data_in (entity_at w.0.store.now.entities))
 abbrev world_seen : Seen → World
 world_seen w = world_of (λ u. attributes_of (asked w u)) (λ u. parents_of (asked w u))
 
-abbrev world_kept : schema_kept.Kept → Kept Policy Entity → World
+abbrev world_kept : schema_kept.SchemaEntries → StoreEntries Policy Entity → World
 world_kept schema k = world_under (schema_view schema) (entity_at k.entities)
 
-pub answered : {E : Type 0} (result : Result Answer E) (q : Request) (schema : schema_kept.Kept) (k : Kept Policy Entity)
-    (w : Seen) (e : StoredEntities) (ps : List Named) → w ≡ (e, schema) → e.store.now ≡ k → ps ≡ policies_read k.policies
+pub answered : {E : Type 0} (result : Result Answer E) (q : Request) (schema : schema_kept.SchemaEntries) (k : StoreEntries Policy Entity)
+    (w : Seen) (e : StoredEntities) (ps : List NamedPolicy) → w ≡ (e, schema) → e.store.now ≡ k → ps ≡ policies_read k.policies
     → IfOk result (IsAnswer (world_seen w) q ps)
     → IfOk result (IsAnswer (world_kept schema k) q (policies_read k.policies))
 answered result q schema k w e ps is_seen is_kept are h =
     let seen = subst (λ (x : Seen). IfOk result (IsAnswer (world_seen x) q ps)) is_seen h in
-    let known = subst (λ (s : Kept Policy Entity). IfOk result (IsAnswer (world_kept schema s) q ps)) is_kept seen in
-    subst (λ (xs : List Named). IfOk result (IsAnswer (world_kept schema k) q xs)) are known
+    let known = subst (λ (s : StoreEntries Policy Entity). IfOk result (IsAnswer (world_kept schema s) q ps)) is_kept seen in
+    subst (λ (xs : List NamedPolicy). IfOk result (IsAnswer (world_kept schema k) q xs)) are known
 
 abbrev tells_cycle : {E : Type 0} → Result Bool E → World → Entity → Type 0
 tells_cycle result W e = IfOk result (λ yes. IsTrue yes ↔ IsOnCycle (with_parents W.parents e.uid e.parents) e.uid)
 
-pub cycled : {E : Type 0} (result : Result Bool E) (schema : schema_kept.Kept) (k : Kept Policy Entity) (w : Seen) (s : StoredEntities)
+pub cycled : {E : Type 0} (result : Result Bool E) (schema : schema_kept.SchemaEntries) (k : StoreEntries Policy Entity) (w : Seen) (s : StoredEntities)
     (e : Entity) → w ≡ (s, schema) → s.store.now ≡ k
     → tells_cycle result (world_seen w) e → tells_cycle result (world_kept schema k) e
 cycled result schema k w s e is_seen is_kept h =
     let seen = subst (λ (x : Seen). tells_cycle result (world_seen x) e) is_seen h in
-    subst (λ (l : Kept Policy Entity). tells_cycle result (world_kept schema l) e) is_kept seen
+    subst (λ (l : StoreEntries Policy Entity). tells_cycle result (world_kept schema l) e) is_kept seen

@@ -17,7 +17,7 @@ use Rattle.stamped_store.specs.declared.entry.ReadText.{ReadText}
 use Rattle.stamped_store.specs.EntryOrder.{PlainEntry, plain_entry, body_bytes}
 use Rattle.stamped_store.specs.Shown.{shown_entries}
 use Rattle.stamped_store.specs.Stored.{value_at}
-use Rattle.stamped_store.specs.Store.{Store, Update, Kept, updates, shown_store, shown_updates, id_name, entity_name}
+use Rattle.stamped_store.specs.Store.{Store, Update, StoreEntries, updates, shown_store, shown_updates, id_name, entity_name}
 use Rattle.stamped_store.specs.Contents.{text_under}
 use Rattle.stamped_store.specs.Reading.{AllNamed, IsBodyRead, IsEntryRead}
 use Rattle.stored_world.specs.Said.{IsReadFrom, AreEntities, HaveOneReading}
@@ -43,7 +43,7 @@ found_at (e ∷ es) uid =
       | false ↦ found_at es uid
     ]
 
-text_kept : (k : Kept Policy Entity) → updates (shown_store k) ≡ shown_updates k → (uid : EntityUid)
+text_kept : (k : StoreEntries Policy Entity) → updates (shown_store k) ≡ shown_updates k → (uid : EntityUid)
     → text_under (shown_store k) (entity_name uid) ≡ option_and_then (λ (e : PlainEntry). e.body) (option_map plain_entry (value_at uid_cmp k.entities uid))
 text_kept k in_order uid = ap (option_and_then (λ (e : PlainEntry). e.body))
     (get-entries (shown_store k) (entity_name uid)
@@ -71,7 +71,7 @@ module _ (Reads : EntityUid → List ℕ → Entity → Type 0) where
         | false ↦ λ apart. all_read es h.1 uid
       ] refl
 
-  pub entities_are : (k : Kept Policy Entity) → AllNamed (λ uid. uid) (λ uid. IsEntryRead (Reads uid)) k.entities
+  pub entities_are : (k : StoreEntries Policy Entity) → AllNamed (λ uid. uid) (λ uid. IsEntryRead (Reads uid)) k.entities
       → updates (shown_store k) ≡ shown_updates k → AreEntities Reads (shown_store k) (entity_at k.entities)
   entities_are k h in_order uid =
       subst (λ (b : Option (List ℕ)). IsReadFrom (Reads uid) b (entity_at k.entities uid)) (sym (text_kept k in_order uid)) (all_read k.entities h uid)

@@ -8,7 +8,7 @@ use Rattle.values.specs.declared.request.Request.{Request}
 use Rattle.policy_grammar.specs.declared.policy.Policy.{Policy}
 use Rattle.ancestor_closure.specs.Decided.{HaveAllParents}
 use Rattle.authoriser.specs.declared.answer.Answer.{Answer}
-use Rattle.authoriser.specs.Answers.{Named, IsAnswer}
+use Rattle.authoriser.specs.Answers.{NamedPolicy, IsAnswer}
 use Rattle.authoriser.specs.Laws.{HasOneAnswer, OneAnswerInFiniteHierarchies}
 use Rattle.schema.specs.Schemas.{StatedSchema, IsSchemaOf}
 use Rattle.entity_worlds.specs.declared.entity.Entity.{Entity}
@@ -65,7 +65,7 @@ module _ (Entities : EntityUid → List ℕ → Entity → Type 0) (schema : Sta
     answer_in : (s : Store) (es : EntityUid → Option Entity) → AreEntities Entities s es → HasOneAnswer (world_under schema es)
     answer_in s es are = finite (world_under schema es) (with_parents_of s) (all_parents s es are)
 
-    pub some_answer : (s : Store) (ps : List Named) (es : EntityUid → Option Entity) (q : Request) → ArePolicies Policies s ps
+    pub some_answer : (s : Store) (ps : List NamedPolicy) (es : EntityUid → Option Entity) (q : Request) → ArePolicies Policies s ps
         → AreEntities Entities s es → (a : Answer) × IsAnswerOver Policies Entities schema s q a
     some_answer s ps es q are_policies are_entities =
         let found = answer_in s es are_entities q ps in
@@ -78,6 +78,6 @@ module _ (Entities : EntityUid → List ℕ → Entity → Type 0) (schema : Sta
         let entities : k.entities ≡ h.entities = one_entities Entities one_entity s k.entities h.entities k.are_entities h.are_entities in
         let same : IsAnswer (world_under schema h.entities) q h.policies b =
         subst (λ (es : EntityUid → Option Entity). IsAnswer (world_under schema es) q h.policies b) entities
-        (subst (λ (ps : List Named). IsAnswer (world_under schema k.entities) q ps b) policies k.is_answer) in
+        (subst (λ (ps : List NamedPolicy). IsAnswer (world_under schema k.entities) q ps b) policies k.is_answer) in
         let found = answer_in s h.entities h.are_entities q h.policies in
         found.2 a h.is_answer ∙ sym (found.2 b same)

@@ -16,7 +16,7 @@ use Rattle.values.specs.declared.name.Name.TheVariants as name
 use Rattle.values.specs.declared.entity_uid.EntityUid.{EntityUid}
 use Rattle.values.specs.Names.{name_cmp, text_cmp}
 use Rattle.policy_grammar.specs.declared.policy.Policy.{Policy}
-use Rattle.authoriser.specs.Answers.{Named}
+use Rattle.authoriser.specs.Answers.{NamedPolicy}
 use Rattle.authoriser.specs.Laws.{AreIdsAscending}
 use Rattle.authoriser.specs.Views.{named}
 use Rattle.entity_worlds.specs.declared.entity.Entity.{Entity}
@@ -24,7 +24,7 @@ use Rattle.stamped_store.specs.declared.entry.Entry.{Entry}
 use Rattle.stamped_store.specs.declared.entry.ReadText.{ReadText}
 use Rattle.stamped_store.specs.EntryOrder.{PlainEntry, body_bytes}
 use Rattle.stamped_store.specs.Shown.{shown_entries}
-use Rattle.stamped_store.specs.Store.{Store, Update, Kept, updates, shown_store, shown_updates, id_name, entity_name, policy_name}
+use Rattle.stamped_store.specs.Store.{Store, Update, StoreEntries, updates, shown_store, shown_updates, id_name, entity_name, policy_name}
 use Rattle.stamped_store.specs.Contents.{text_under, policy_text, policies_of}
 use Rattle.stamped_store.specs.Reading.{AllNamed, IsBodyRead, IsEntryRead}
 use Rattle.stored_world.specs.Said.{ArePolicies, HaveOneReading}
@@ -36,10 +36,10 @@ texts us = flat_map (λ (u : Update). policy_text u.0 u.1.body) us
 
 -- ---- what stands beside the texts
 module _ (Reads : List ℕ → List ℕ → Policy → Type 0) where
-  abbrev pub Fits : List ℕ × List ℕ → Named → Type 0
+  abbrev pub Fits : List ℕ × List ℕ → NamedPolicy → Type 0
   Fits t p = (p.id ≡ t.0) × Reads t.0 t.1 p.policy
 
-  one_read : (id : List ℕ) (b : Option (ReadText Policy)) (ts : List (List ℕ × List ℕ)) (ps : List Named)
+  one_read : (id : List ℕ) (b : Option (ReadText Policy)) (ts : List (List ℕ × List ℕ)) (ps : List NamedPolicy)
       → IsBodyRead (Reads id) b → AllZip Fits ts ps
       → AllZip Fits (policy_text (name.Policy id) (body_bytes b) ++ ts) (policy_read id b ++ ps)
   one_read id None ts ps h rest = rest
@@ -59,7 +59,7 @@ module _ (Reads : List ℕ → List ℕ → Policy → Type 0) where
       one_read (string_bytes p.0) p.1.body (texts (shown_entries id_name ps ++ shown_entries entity_name es))
       (policies_read ps) h.0 (all_read ps es h.1)
 
-  pub policies_are : (k : Kept Policy Entity) → AllNamed string_bytes (λ id. IsEntryRead (Reads id)) k.policies
+  pub policies_are : (k : StoreEntries Policy Entity) → AllNamed string_bytes (λ id. IsEntryRead (Reads id)) k.policies
       → updates (shown_store k) ≡ shown_updates k → ArePolicies Reads (shown_store k) (policies_read k.policies)
   unfolding texts
   policies_are k h in_order =
@@ -114,7 +114,7 @@ rise (u ∷ us) h =
     (rise us (right_of (below_all name_cmp u.0 us) (is_sorted name_cmp us) h))
 
 module _ (Reads : List ℕ → List ℕ → Policy → Type 0) where
-  ids_are : (ts : List (List ℕ × List ℕ)) (ps : List Named) → AllZip (Fits Reads) ts ps → firsts ts ≡ map (λ p. p.id) ps
+  ids_are : (ts : List (List ℕ × List ℕ)) (ps : List NamedPolicy) → AllZip (Fits Reads) ts ps → firsts ts ≡ map (λ p. p.id) ps
   unfolding firsts
   ids_are [] [] h = refl
   ids_are [] (p ∷ ps) h = absurd h
@@ -124,24 +124,24 @@ module _ (Reads : List ℕ → List ℕ → Policy → Type 0) where
       let rest : firsts ts ≡ map (λ q. q.id) ps = ids_are ts ps h.1 in
       λ i. first i ∷ rest i
 
-  pub policies_ascend : (s : Store) (ps : List Named) → ArePolicies Reads s ps → AreIdsAscending (map (λ p. p.id) ps)
+  pub policies_ascend : (s : Store) (ps : List NamedPolicy) → ArePolicies Reads s ps → AreIdsAscending (map (λ p. p.id) ps)
   unfolding texts
   policies_ascend s ps h =
       subst (λ ids. IsStrictlySortedBy text_cmp ids) (ids_are (policies_of s) ps h) (rise (updates s) (entries_sorted s))
 
   -- ---- one list, and exactly those with a text
   module _ (one : HaveOneReading Reads) where
-    same : (t : List ℕ × List ℕ) (p q : Named) → Fits Reads t p → Fits Reads t q → p ≡ q
+    same : (t : List ℕ × List ℕ) (p q : NamedPolicy) → Fits Reads t p → Fits Reads t q → p ≡ q
     same t p q h k =
         let ids : p.id ≡ q.id = λ i. (h.0 ∙ sym k.0) i in
         let policies : p.policy ≡ q.policy = one t.0 t.1 p.policy q.policy h.1 k.1 in
         λ i. record { id = ids i; policy = policies i }
 
-    pub one_policies : (s : Store) (ps qs : List Named) → ArePolicies Reads s ps → ArePolicies Reads s qs → ps ≡ qs
+    pub one_policies : (s : Store) (ps qs : List NamedPolicy) → ArePolicies Reads s ps → ArePolicies Reads s qs → ps ≡ qs
     one_policies s ps qs h k = one_list (Fits Reads) same (policies_of s) ps qs h k
 
     pub policy_said : ((s : Store) (id text : List ℕ) → Contains (policies_of s) (id, text) ↔ (text_under s (policy_name id) ≡ Some text))
-        → (s : Store) (ps : List Named) → ArePolicies Reads s ps → (p : Named)
+        → (s : Store) (ps : List NamedPolicy) → ArePolicies Reads s ps → (p : NamedPolicy)
         → Contains ps p ↔ ((text : List ℕ) × (text_under s (policy_name p.id) ≡ Some text) × Reads p.id text p.policy)
     policy_said told s ps h p = (to, from)
       where
@@ -173,13 +173,13 @@ any_read : (ps : List (String Global × Entry Policy)) → AllNamed string_bytes
 any_read [] = tt
 any_read (p ∷ ps) = (any_body (string_bytes p.0) p.1.body, any_read ps)
 
-pub kept_ascend : (k : Kept Policy Entity) (ps : List Named) → updates (shown_store k) ≡ shown_updates k
+pub kept_ascend : (k : StoreEntries Policy Entity) (ps : List NamedPolicy) → updates (shown_store k) ≡ shown_updates k
     → ps ≡ policies_read k.policies → AreIdsAscending (map (λ p. p.id) ps)
 kept_ascend k ps in_order is =
-    subst (λ qs. AreIdsAscending (map (λ (p : Named). p.id) qs)) (sym is)
+    subst (λ qs. AreIdsAscending (map (λ (p : NamedPolicy). p.id) qs)) (sym is)
     (policies_ascend AnyText (shown_store k) (policies_read k.policies) (policies_are AnyText k (any_read k.policies) in_order))
 
-pub result_ascends : {E : Type 0} (k : Kept Policy Entity) → updates (shown_store k) ≡ shown_updates k
+pub result_ascends : {E : Type 0} (k : StoreEntries Policy Entity) → updates (shown_store k) ≡ shown_updates k
     → (result : Result (Vec (Bor (List ℕ) × Bor Policy) Global) E) → IfOk result (λ ps. named ps.items ≡ policies_read k.policies)
     → IfOk result (λ ps. AreIdsAscending (map (λ p. p.id) (named ps.items)))
 result_ascends k in_order (Ok ps) is = kept_ascend k (named ps.items) in_order is

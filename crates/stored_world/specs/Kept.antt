@@ -7,19 +7,19 @@ use Rattle.std.specs.declared.string.String.{String}
 use Rattle.values.specs.declared.entity_uid.EntityUid.{EntityUid}
 use Rattle.values.specs.Names.{uid_cmp}
 use Rattle.policy_grammar.specs.declared.policy.Policy.{Policy}
-use Rattle.authoriser.specs.Answers.{Named}
+use Rattle.authoriser.specs.Answers.{NamedPolicy}
 use Rattle.entity_worlds.specs.declared.entity.Entity.{Entity}
 use Rattle.stamped_store.specs.declared.entry.Entry.{Entry}
 use Rattle.stamped_store.specs.declared.entry.ReadText.{ReadText}
 use Rattle.stamped_store.specs.Stored.{value_at}
 
 -- the policy under an id, where there is a text
-abbrev pub policy_read : List ℕ → Option (ReadText Policy) → List Named
+abbrev pub policy_read : List ℕ → Option (ReadText Policy) → List NamedPolicy
 policy_read id None = []
 policy_read id (Some t) = record { id = id; policy = t.read } ∷ []
 
 -- the policies of these entries, in their order
-abbrev pub policies_read : List (String Global × Entry Policy) → List Named
+abbrev pub policies_read : List (String Global × Entry Policy) → List NamedPolicy
 policies_read es = flat_map (λ e. policy_read (string_bytes e.0) e.1.body) es
 
 -- the entity that stands beside a text

@@ -10,7 +10,7 @@ use Rattle.policy_grammar.specs.declared.policy.Policy.{Policy}
 use Rattle.ancestor_closure.specs.Hierarchy.{Parents, IsOnCycle, with_parents}
 use Rattle.evaluator.specs.Operators.{World}
 use Rattle.authoriser.specs.declared.answer.Answer.{Answer}
-use Rattle.authoriser.specs.Answers.{Named, IsAnswer}
+use Rattle.authoriser.specs.Answers.{NamedPolicy, IsAnswer}
 use Rattle.schema.specs.Schemas.{StatedSchema}
 use Rattle.entity_worlds.specs.declared.entity.Entity.{Entity}
 use Rattle.entity_worlds.specs.declared.data.EntityData.{EntityData}
@@ -23,7 +23,7 @@ abbrev pub HaveOneReading : {N X : Type 0} → (N → List ℕ → X → Type 0)
 HaveOneReading {N} {X} Reads = (name : N) (text : List ℕ) (x y : X) → Reads name text x → Reads name text y → x ≡ y
 
 -- the policies of a store, ascending by id: of each id with a text, what that text may be read as
-abbrev pub ArePolicies : (List ℕ → List ℕ → Policy → Type 0) → Store → List Named → Type 0
+abbrev pub ArePolicies : (List ℕ → List ℕ → Policy → Type 0) → Store → List NamedPolicy → Type 0
 ArePolicies Reads s ps = AllZip (λ t p. (p.id ≡ t.0) × Reads t.0 t.1 p.policy) (policies_of s) ps
 
 -- an entity where there is a text that may be read as it, and none where there is no text
@@ -52,7 +52,7 @@ world_under schema entities = world_in (with_actions schema.ancestors (data_in e
 -- the answer to a request over a store
 pub record IsAnswerOver (Policies : List ℕ → List ℕ → Policy → Type 0) (Entities : EntityUid → List ℕ → Entity → Type 0)
     (schema : StatedSchema) (s : Store) (q : Request) (a : Answer) : Type 0 where
-  pub policies : List Named
+  pub policies : List NamedPolicy
   pub are_policies : ArePolicies Policies s policies
   pub entities : EntityUid → Option Entity
   pub are_entities : AreEntities Entities s entities

@@ -3,7 +3,7 @@ ghost use Rattle.std.specs.Prelude.{◌≡◌, ◌↔◌, ℕ, List, Option, Som
 ghost use Rattle.values.specs.declared.entity_uid.EntityUid.{EntityUid};
 ghost use Rattle.values.specs.declared.request.Request.{Request as PlainRequest};
 ghost use Rattle.authoriser.specs.declared.answer.Answer.{Answer as PlainAnswer};
-ghost use Rattle.authoriser.specs.Answers.{Named};
+ghost use Rattle.authoriser.specs.Answers.{NamedPolicy};
 ghost use Rattle.authoriser.specs.Laws.{AreIdsAscending};
 ghost use Rattle.schema.specs.Schemas.{StatedSchema, IsSchemaOf};
 ghost use Rattle.entity_worlds.specs.declared.entity.Entity.{Entity as PlainEntity};
@@ -20,19 +20,19 @@ use stamped_store::laws::contents_are_told;
 /// Where a text may be read as one value at most under its name, a store has one list of policies at most, and at each
 /// uid one entity at most: exactly those whose name has a text. The ids of the policies ascend.
 pub fn stores_have_one_reading<R: Readings<Policy, Entity>>()
-    ensures policies { (r : R) (s : Store) (ps qs : List Named) → HaveOneReading (R.reads_policy r)
+    ensures policies { (r : R) (s : Store) (ps qs : List NamedPolicy) → HaveOneReading (R.reads_policy r)
         → ArePolicies (R.reads_policy r) s ps → ArePolicies (R.reads_policy r) s qs → ps ≡ qs }
     ensures entities { (r : R) (s : Store) (es fs : EntityUid → Option PlainEntity) → HaveOneReading (R.reads_entity r)
         → AreEntities (R.reads_entity r) s es → AreEntities (R.reads_entity r) s fs → es ≡ fs }
-    ensures policy { (r : R) (s : Store) (ps : List Named) → HaveOneReading (R.reads_policy r)
-        → ArePolicies (R.reads_policy r) s ps → (p : Named)
+    ensures policy { (r : R) (s : Store) (ps : List NamedPolicy) → HaveOneReading (R.reads_policy r)
+        → ArePolicies (R.reads_policy r) s ps → (p : NamedPolicy)
         → Contains ps p ↔ ((text : List ℕ) × (text_under s (policy_name p.id) ≡ Some text)
         × R.reads_policy r p.id text p.policy) }
     ensures entity { (r : R) (s : Store) (es : EntityUid → Option PlainEntity) → HaveOneReading (R.reads_entity r)
         → AreEntities (R.reads_entity r) s es → (uid : EntityUid) (e : PlainEntity)
         → (es uid ≡ Some e) ↔ ((text : List ℕ) × (text_under s (entity_name uid) ≡ Some text)
         × R.reads_entity r uid text e) }
-    ensures ascending { (r : R) (s : Store) (ps : List Named) → ArePolicies (R.reads_policy r) s ps
+    ensures ascending { (r : R) (s : Store) (ps : List NamedPolicy) → ArePolicies (R.reads_policy r) s ps
         → AreIdsAscending (map (λ p. p.id) ps) }
 {
     contents_are_told();
@@ -41,7 +41,7 @@ pub fn stores_have_one_reading<R: Readings<Policy, Entity>>()
 /// Where each text of a store can be read, each request has an answer over it, under a schema that bytes state; and
 /// where a text may be read as one value at most, it has one answer at most. So stores that are equal answer equally.
 pub fn requests_have_one_answer<R: Readings<Policy, Entity>>()
-    ensures some { (r : R) (bytes : List ℕ) (schema : StatedSchema) (s : Store) (ps : List Named)
+    ensures some { (r : R) (bytes : List ℕ) (schema : StatedSchema) (s : Store) (ps : List NamedPolicy)
         (es : EntityUid → Option PlainEntity) (q : PlainRequest) → IsSchemaOf bytes schema
         → ArePolicies (R.reads_policy r) s ps → AreEntities (R.reads_entity r) s es
         → (a : PlainAnswer) × IsAnswerOver (R.reads_policy r) (R.reads_entity r) schema s q a }

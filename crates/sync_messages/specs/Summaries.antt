@@ -12,7 +12,7 @@ use Rattle.serde_json.specs.Find.{get, as_array, as_number, as_u64}
 use Rattle.serde_json.specs.View.{items_of}
 use Rattle.serde_json.specs.Written.{compact_text}
 use Rattle.json_words.specs.Each.{each, list_of}
-use Rattle.json_words.specs.Gives.{◌>>=◌, or_fault, demand}
+use Rattle.json_words.specs.ReadsAs.{◌>>=◌, or_fault, demand}
 use Rattle.json_words.specs.Json.{json_of, text_at}
 use Rattle.json_words.specs.Keys.{has_only}
 use Rattle.plain.specs.Words.{IsPath}

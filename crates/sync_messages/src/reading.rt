@@ -3,7 +3,7 @@ ghost use Rattle.std.specs.Prelude.{◌≡◌, true, IfOk, map, option_map};
 ghost use Rattle.std.specs.Ordering.{is_lt};
 ghost use Rattle.serde_json.specs.Data.{Data};
 ghost use Rattle.serde_json.specs.View.{view, items_view};
-ghost use Rattle.json_words.specs.Gives.{Gives, GivesAlways};
+ghost use Rattle.json_words.specs.ReadsAs.{ReadsAs, AlwaysReadsAs};
 ghost use Rattle.json_words.specs.Each.{each};
 ghost use Rattle.values.specs.Names.{name_cmp};
 ghost use Rattle.sync_messages.specs.declared.fault.MessageFault.TheVariants as MessageFault;
@@ -24,7 +24,7 @@ use values::Name;
 /// The whole number that an object has at a key, where it fits 64 bits without a sign; else the value has a bad shape.
 /// Takes no memory.
 pub fn number_at(value: &Value, key: &str) -> Result<u64, MessageFault>
-    ensures { GivesAlways (λ n. n) result (number_of key.now (view value.now)) }
+    ensures { AlwaysReadsAs (λ n. n) result (number_of key.now (view value.now)) }
 {
     match value.get(key) {
         Some(found) => match found.as_u64() {
@@ -37,7 +37,7 @@ pub fn number_at(value: &Value, key: &str) -> Result<u64, MessageFault>
 
 #[tactic(auto, unfolding(crate::specs::Summaries::policy_in))]
 fn read_policy(alloc: Global, value: &Value) -> Result<Name, MessageFault>
-    ensures { Gives MessageFault.NoMemory (λ n. n) result (policy_in (view value.now)) }
+    ensures { ReadsAs MessageFault.NoMemory (λ n. n) result (policy_in (view value.now)) }
 {
     let Some(id) = text_at(value, "policy") else {
         return Err(MessageFault::BadShape);
@@ -47,7 +47,7 @@ fn read_policy(alloc: Global, value: &Value) -> Result<Name, MessageFault>
 
 #[tactic(auto, unfolding(crate::specs::Summaries::entity_in))]
 fn read_entity(alloc: Global, value: &Value) -> Result<Name, MessageFault>
-    ensures { Gives MessageFault.NoMemory (λ n. n) result (entity_in (view value.now)) }
+    ensures { ReadsAs MessageFault.NoMemory (λ n. n) result (entity_in (view value.now)) }
 {
     if !only_keys(value, &["entity"]) {
         return Err(MessageFault::BadShape);
@@ -67,7 +67,7 @@ fn read_entity(alloc: Global, value: &Value) -> Result<Name, MessageFault>
 /// The name that an object states.
 #[tactic(auto, unfolding(crate::specs::Summaries::name_in))]
 fn read_name(alloc: Global, value: &Value) -> Result<Name, MessageFault>
-    ensures { Gives MessageFault.NoMemory (λ n. n) result (name_in (view value.now)) }
+    ensures { ReadsAs MessageFault.NoMemory (λ n. n) result (name_in (view value.now)) }
 {
     if only_keys(value, &["policy"]) {
         return read_policy(alloc, value);
@@ -80,7 +80,7 @@ fn read_name(alloc: Global, value: &Value) -> Result<Name, MessageFault>
 /// bad shape. Fails for memory too.
 #[tactic(auto, unfolding(crate::specs::Summaries::stamped_in))]
 pub fn read_stamped(alloc: Global, value: &Value) -> Result<(Name, Stamp), MessageFault>
-    ensures { Gives MessageFault.NoMemory (λ u. u) result (stamped_in (view value.now)) }
+    ensures { ReadsAs MessageFault.NoMemory (λ u. u) result (stamped_in (view value.now)) }
 {
     let count = number_at(value, "count")?;
     let site = number_at(value, "site")?;
@@ -101,7 +101,7 @@ pub fn read_stamped(alloc: Global, value: &Value) -> Result<(Name, Stamp), Messa
 /// A name with its stamp.
 #[tactic(auto, unfolding(crate::specs::Summaries::stamp_in))]
 fn read_stamp(alloc: Global, value: &Value) -> Result<(Name, Stamp), MessageFault>
-    ensures { Gives MessageFault.NoMemory (λ u. u) result (stamp_in (view value.now)) }
+    ensures { ReadsAs MessageFault.NoMemory (λ u. u) result (stamp_in (view value.now)) }
 {
     if !only_keys(value, &["count", "name", "site"]) {
         return Err(MessageFault::BadShape);
@@ -110,7 +110,7 @@ fn read_stamp(alloc: Global, value: &Value) -> Result<(Name, Stamp), MessageFaul
 }
 
 fn read_each(alloc: Global, values: &[Value]) -> Result<Vec<(Name, Stamp)>, MessageFault>
-    ensures { Gives MessageFault.NoMemory (λ us. us.items) result (stamps_of (items_view values.now)) }
+    ensures { ReadsAs MessageFault.NoMemory (λ us. us.items) result (stamps_of (items_view values.now)) }
 {
     let mut stamps = Vec::with_capacity(alloc, values.len())?;
     for value in values {
@@ -142,7 +142,7 @@ fn ascend(stamps: &[(Name, Stamp)]) -> bool
 /// Stamps whose names ascend.
 #[tactic(auto, unfolding(crate::specs::Summaries::stamps_in))]
 fn read_stamps(alloc: Global, value: &Value) -> Result<Vec<(Name, Stamp)>, MessageFault>
-    ensures stamps { Gives MessageFault.NoMemory (λ us. us.items) result (stamps_in (view value.now)) }
+    ensures stamps { ReadsAs MessageFault.NoMemory (λ us. us.items) result (stamps_in (view value.now)) }
     ensures ascending { IfOk result (λ us. ascends us.items ≡ true) }
 {
     let Some(found) = value.get("stamps") else {
@@ -172,7 +172,7 @@ fn has_id(name: &Name) -> bool
 /// bytes. Takes no memory.
 #[tactic(auto, unfolding(crate::specs::Summaries::judged))]
 pub fn judge_stamp(place: usize, stamp: &(Name, Stamp)) -> Result<(), MessageFault>
-    ensures { GivesAlways (λ u. stamp.now) result (judged place stamp.now) }
+    ensures { AlwaysReadsAs (λ u. stamp.now) result (judged place stamp.now) }
 {
     if !(1 <= stamp.1.count && stamp.1.count <= 1_000_000_000_000_000_000) {
         return Err(MessageFault::CountRange(place));
@@ -184,7 +184,7 @@ pub fn judge_stamp(place: usize, stamp: &(Name, Stamp)) -> Result<(), MessageFau
 }
 
 fn judge_all(stamps: &[(Name, Stamp)]) -> Result<(), MessageFault>
-    ensures { Gives MessageFault.NoMemory (λ u. stamps.now) result (each judged 0 stamps.now) }
+    ensures { ReadsAs MessageFault.NoMemory (λ u. stamps.now) result (each judged 0 stamps.now) }
 {
     for (place, stamp) in stamps.iter().enumerate() {
         judge_stamp(place, stamp)?;
@@ -195,7 +195,7 @@ fn judge_all(stamps: &[(Name, Stamp)]) -> Result<(), MessageFault>
 /// The summary that a value is.
 #[tactic(auto, unfolding(crate::specs::Summaries::summary_in))]
 fn read_summary_value(alloc: Global, label: &str, value: &Value) -> Result<Summary, MessageFault>
-    ensures { Gives MessageFault.NoMemory (λ m. m) result (summary_in label.now (view value.now)) }
+    ensures { ReadsAs MessageFault.NoMemory (λ m. m) result (summary_in label.now (view value.now)) }
 {
     if number_at(value, "version")? != 1 {
         return Err(MessageFault::Version);
@@ -226,7 +226,7 @@ fn read_summary_value(alloc: Global, label: &str, value: &Value) -> Result<Summa
 /// 256 bytes. Fails for memory too.
 #[tactic(auto, unfolding(crate::specs::Summaries::summary_stated))]
 pub fn read_summary(alloc: Global, label: &str, bytes: &[u8]) -> Result<Summary, MessageFault>
-    ensures { Gives MessageFault.NoMemory (λ m. m) result (summary_stated label.now bytes.now) }
+    ensures { ReadsAs MessageFault.NoMemory (λ m. m) result (summary_stated label.now bytes.now) }
 {
     match read_json(alloc, bytes)? {
         Some(value) => read_summary_value(alloc, label, &value),

@@ -1,13 +1,12 @@
 -- A language by its levels of nesting: with n of them, and with any number.
-use Rattle.std.proofs.Common.{◌≡◌, ℕ, suc, ◌+◌, ◌-◌, ◌≤◌, ◌<◌, List, [], ◌∷◌, ◌++◌, Result, Err, length, refl, sym, subst, ◌∙◌, append_assoc, arith}
+use Rattle.std.proofs.Common.{◌≡◌, ℕ, suc, ◌+◌, ◌-◌, ◌≤◌, ◌<◌, List, [], ◌∷◌, ◌++◌, Result, length, refl, sym, subst, ◌∙◌, append_assoc, arith}
 use Rattle.policy_tokens.specs.declared.token.Token.{Token}
 use Rattle.token_readers.specs.declared.fault.Halt.{Halt}
-use Rattle.token_readers.specs.declared.fault.Halt.TheVariants as halt
 use Rattle.token_readers.specs.Kinds.{Kinds}
 use Rattle.token_readers.specs.Lang.{Lang, at_any}
-use Rattle.token_readers.specs.Gives.{Gives}
+use Rattle.token_readers.specs.ParsesTo.{ParsesTo}
 use Rattle.token_readers.specs.Reading.{Parser, Read, Stop, Why, Unexpected, TooDeep}
-use Rattle.token_readers.specs.Reads.{Begins, BreaksAt, GoesOn, HasOneTree, HasOneAnswerWithin, ReadsWithin, ReadsFrontWithin, OpensNextLevel, refusal_of}
+use Rattle.token_readers.specs.Reads.{Begins, BreaksAt, GoesOn, HasOneTree, HasOneAnswerWithin, ReadsWithin, ReadsFrontWithin, OpensNextLevel, whole_of}
 use Rattle.token_readers.proofs.Rules.{Rule, Levels, Opens}
 use Rattle.token_readers.proofs.Firm.{Firm}
 use Rattle.token_readers.proofs.Whole as whole
@@ -71,20 +70,13 @@ module _ {A : Type 0} (G : ℕ → Lang A) (P : ℕ → Parser A) (ks : Kinds)
   one_tree_at_any ts x y d e =
       one_tree (d.0 + e.0) ts x y ((rule d.0 (d.0 + e.0) (omega arith)).wider ts x d.1) ((rule e.0 (d.0 + e.0) (omega arith)).wider ts y e.1)
 
-  -- ---- the exits of a reader
+  -- ---- what a reader answers
 
-  pub whole_read : (n : ℕ) (ts rest : List Token) (x : A) → P (suc n) ts ≡ Read x rest → length rest ≤ 0 → G (suc n) ts x
-  whole_read n = whole.whole_read (G (suc n)) (P (suc n)) ks (levels (suc n) (suc n)) (rule n n (omega arith)) refl (alive n)
+  pub answered_whole : (n : ℕ) (ts rest : List Token) (read : Result A Halt) → ParsesTo (P (suc n) ts) read rest
+      → ReadsWithin (G (suc n)) (at_any G) ts (whole_of read (length ts - length rest) rest)
+  answered_whole n = whole.answered_whole (G (suc n)) (at_any G) (P (suc n)) ks (levels (suc n) (suc n)) (rule n n (omega arith)) refl (alive n) (limited n)
 
-  pub part_read : (n : ℕ) (ts rest : List Token) (x : A) → P (suc n) ts ≡ Read x rest → 0 < length rest
-      → ReadsWithin (G (suc n)) (at_any G) ts (Err (refusal_of halt.Unexpected (length ts - length rest) rest))
-  part_read n = whole.part_read (G (suc n)) (at_any G) (P (suc n)) ks (levels (suc n) (suc n)) (rule n n (omega arith)) refl (alive n) (limited n)
-
-  pub halted_read : (n : ℕ) (ts rest : List Token) (e : Halt) → Gives (P (suc n) ts) (Err e) rest
-      → ReadsWithin (G (suc n)) (at_any G) ts (Err (refusal_of e (length ts - length rest) rest))
-  halted_read n = whole.halted_read (G (suc n)) (at_any G) (P (suc n)) ks (levels (suc n) (suc n)) (rule n n (omega arith)) refl (alive n) (limited n)
-
-  pub front_read : (n : ℕ) → Firm (G (suc n)) (P (suc n)) → (ts rest : List Token) (r : Result A Halt) → Gives (P (suc n) ts) r rest
+  pub front_read : (n : ℕ) → Firm (G (suc n)) (P (suc n)) → (ts rest : List Token) (r : Result A Halt) → ParsesTo (P (suc n) ts) r rest
       → ReadsFrontWithin (G (suc n)) (at_any G) ts r rest
   front_read n = whole.front_read (G (suc n)) (at_any G) (P (suc n)) ks (levels (suc n) (suc n)) (rule n n (omega arith)) refl (alive n) (limited n)
 

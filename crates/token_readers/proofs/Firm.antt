@@ -1,7 +1,7 @@
 -- A reader stops for a token at no place at which a tree ends: there it ends too.
 use Rattle.std.proofs.Common.{◌≡◌, ◌⊎◌, inl, inr, ℕ, zero, suc, Bool, true, false, List, [], ◌∷◌, ◌++◌, length, Option, Some, None, refl, sym, ap, subst, ◌∙◌, append_assoc, append-nil, length-append, arith}
 use Rattle.policy_tokens.specs.declared.token.Token.{Token}
-use Rattle.policy_tokens.specs.declared.token.Kind.{Kind}
+use Rattle.policy_tokens.specs.declared.token.TokenKind.{TokenKind}
 use Rattle.token_readers.specs.Kinds.{Kinds}
 use Rattle.token_readers.specs.Lang.{Lang, Joined}
 use Rattle.token_readers.specs.Lang as lang
@@ -112,7 +112,7 @@ pub firm_seq : {A B : Type 0} {L : Lang A} {p : Parser A} {M : A → Lang B} {f 
 firm_seq l m leads first second = record { at = firm_both l m leads first second }
 
 -- a token, and then a piece
-pub firm_token : {B : Type 0} (k : Kind) (js : Kinds) (D : Levels) {M : Lang B} {f : Parser B} → Rule M M f f js D → Firm M f → Firm (lang.◌>>◌ (lang.one k) M) (token k >> f)
+pub firm_token : {B : Type 0} (k : TokenKind) (js : Kinds) (D : Levels) {M : Lang B} {f : Parser B} → Rule M M f f js D → Firm M f → Firm (lang.◌>>◌ (lang.one k) M) (token k >> f)
 firm_token k js D {M = M} m firm = firm_seq (one k none D) (λ _. m) (λ _. free M js) (firm_free (one k none D)) (λ _. firm)
 
 -- a piece, put together

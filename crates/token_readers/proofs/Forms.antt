@@ -1,11 +1,11 @@
 -- The other forms of a production.
 use Rattle.std.proofs.Common.{◌≡◌, ◌⊎◌, inl, inr, ◌≤◌, Bool, true, false, List, [], ◌∷◌, ◌++◌, length, Some, None, refl, sym, ap, subst, ◌∙◌, append_assoc, length-append, arith, eq-eqb}
 use Rattle.policy_tokens.specs.declared.token.Token.{Token}
-use Rattle.policy_tokens.specs.declared.token.Kind.{Kind}
+use Rattle.policy_tokens.specs.declared.token.TokenKind.{TokenKind}
 use Rattle.token_readers.specs.Kinds.{Kinds, only, same_kind, number_of}
 use Rattle.token_readers.specs.Lang.{Lang, Joined}
 use Rattle.token_readers.specs.Lang as lang
-use Rattle.token_readers.specs.Reading.{Parser, Outcome, Read, Stop, Why, Unexpected, TooDeep, pure, take, take_if, either, chosen, refuse}
+use Rattle.token_readers.specs.Reading.{Parser, ParseResult, Read, Stop, Why, Unexpected, TooDeep, pure, take, take_if, either, chosen, refuse}
 use Rattle.token_readers.specs.Reads.{Begins, sees}
 use Rattle.token_readers.proofs.Sets.{apart, within, sees-append, sees_apart, unseen_within, sees_same}
 use Rattle.token_readers.proofs.Rules.{Rule, Levels, Keeps, ReadsFront, Stops, Opens}
@@ -20,7 +20,7 @@ Leads L ks js = (front : List Token) (a : _) (rest : List Token) → L front a �
 
 -- ---- one token
 
-pub same_self : (k : Kind) → same_kind k k ≡ true
+pub same_self : (k : TokenKind) → same_kind k k ≡ true
 unfolding same_kind
 same_self k = eq-eqb (number_of k) (number_of k) refl
 
@@ -75,7 +75,7 @@ complete_one : (ks : Kinds) (front : List Token) (a : Token) (rest : List Token)
 unfolding take
 complete_one ks front a rest h = ap (λ z. take ks (z ++ rest)) h.0 ∙ ap (λ b. take_if b a rest) h.1
 
-pub begin_of : (ks : Kinds) (k : Kind) → ks k ≡ true → Begins (lang.of ks) []
+pub begin_of : (ks : Kinds) (k : TokenKind) → ks k ≡ true → Begins (lang.of ks) []
 begin_of ks k e = let t : Token = record { kind = k; start = 0; end = 0 } in record { more = t ∷ []; value = t; derived = (refl, e) }
 
 stops_one : (ks : Kinds) (ts rest : List Token) → rest ≡ ts → Stops (lang.of ks) ts rest
@@ -124,10 +124,10 @@ of ks js D = record {
   deep = λ d ts rest h. absurd (not_deep ks ts rest h);
 }
 
-pub one : (k : Kind) (js : Kinds) (D : Levels) → Rule (lang.one k) (lang.one k) (take (only k)) (take (only k)) js D
+pub one : (k : TokenKind) (js : Kinds) (D : Levels) → Rule (lang.one k) (lang.one k) (take (only k)) (take (only k)) js D
 one k js D = of (only k) js D
 
-pub alive_one : (k : Kind) → Begins (lang.one k) []
+pub alive_one : (k : TokenKind) → Begins (lang.one k) []
 alive_one k = begin_of (only k) k (same_self k)
 
 pub alive_empty : {A : Type 0} (a : A) → Begins (lang.empty a) []
@@ -161,7 +161,7 @@ nothing a js D = record {
 
 -- ---- one of two
 
-pub choice : {A : Type 0} (b : Bool) (p q : Parser A) (ts : List Token) (o : Outcome A) → chosen b p q ts ≡ o → ((b ≡ true) × (p ts ≡ o)) ⊎ ((b ≡ false) × (q ts ≡ o))
+pub choice : {A : Type 0} (b : Bool) (p q : Parser A) (ts : List Token) (o : ParseResult A) → chosen b p q ts ≡ o → ((b ≡ true) × (p ts ≡ o)) ⊎ ((b ≡ false) × (q ts ≡ o))
 choice true p q ts o h = inl (refl, h)
 choice false p q ts o h = inr (refl, h)
 

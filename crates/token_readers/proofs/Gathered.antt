@@ -7,8 +7,8 @@ use Rattle.token_readers.specs.Kinds.{Kinds}
 use Rattle.std.proofs.Common.{Result, Err}
 use Rattle.token_readers.specs.declared.fault.Halt.{Halt}
 use Rattle.token_readers.specs.declared.fault.Halt.TheVariants as halt
-use Rattle.token_readers.specs.Gives.{Gives}
-use Rattle.token_readers.specs.Reading.{Parser, Outcome, Read, Stop, Why, Unexpected, TooDeep, and_then, pure, chosen, loop_from}
+use Rattle.token_readers.specs.ParsesTo.{ParsesTo}
+use Rattle.token_readers.specs.Reading.{Parser, ParseResult, Read, Stop, Why, Unexpected, TooDeep, and_then, pure, chosen, loop_from}
 
 -- what is read with n more turns, put together
 abbrev pub gathered : {A B : Type 0} → Kinds → Parser A → ℕ → (List A → B) → Parser B
@@ -27,7 +27,7 @@ unfolding loop_from
 unseen ks p zero finish ts h = refl
 unseen ks p (suc n) finish ts h = ap (λ o. and_then o (λ more. pure (finish more))) (skipped (sees ks ts) _ _ ts h)
 
-pub regroup : {A B : Type 0} (a : A) (finish : List A → B) (o : Outcome (List A)) → and_then (and_then o (λ more. pure (a ∷ more))) (λ more. pure (finish more)) ≡ and_then o (λ more. pure (finish (a ∷ more)))
+pub regroup : {A B : Type 0} (a : A) (finish : List A → B) (o : ParseResult (List A)) → and_then (and_then o (λ more. pure (a ∷ more))) (λ more. pure (finish more)) ≡ and_then o (λ more. pure (finish (a ∷ more)))
 regroup a finish (Read x rest) = refl
 regroup a finish (Stop w rest) = refl
 
@@ -56,17 +56,17 @@ all : {X : Type 0} (f : ℕ → X) (n m : ℕ) → m ≡ n → f n ≡ f (m - 0)
 all f n m e = let none : n ≡ m - 0 = omega arith in ap f none
 
 -- what a turn that stops gives
-pub seen_err : {A B : Type 0} (ks : Kinds) (p : Parser A) (n : ℕ) (finish : List A → B) (ts rest : List Token) (e : Halt) → sees ks ts ≡ true → Gives (p ts) (Err e) rest → Gives (gathered ks p (suc n) finish ts) (Err e) rest
+pub seen_err : {A B : Type 0} (ks : Kinds) (p : Parser A) (n : ℕ) (finish : List A → B) (ts rest : List Token) (e : Halt) → sees ks ts ≡ true → ParsesTo (p ts) (Err e) rest → ParsesTo (gathered ks p (suc n) finish ts) (Err e) rest
 seen_err ks p n finish ts rest halt.NoMemory h e = tt
 seen_err ks p n finish ts rest halt.Unexpected h e = seen_stop ks p n finish ts rest Unexpected h e
 seen_err ks p n finish ts rest halt.TooDeep h e = seen_stop ks p n finish ts rest TooDeep h e
 
-pub instead : {A : Type 0} (o o' : Outcome A) (r : Result A Halt) (rest : List Token) → o ≡ o' → Gives o' r rest → Gives o r rest
-instead o o' r rest e g = subst (λ z. Gives z r rest) (sym e) g
+pub instead : {A : Type 0} (o o' : ParseResult A) (r : Result A Halt) (rest : List Token) → o ≡ o' → ParsesTo o' r rest → ParsesTo o r rest
+instead o o' r rest e g = subst (λ z. ParsesTo z r rest) (sym e) g
 
 -- ---- one turn of the code's loop, at the place at of end turns. f s more is the result where s was read and more follows.
 
-module _ {S A B : Type 0} (ks : Kinds) (p : Parser A) (f : S → List A → B) (x : Outcome B) (end at : ℕ) (s : S) (ts : List Token) where
+module _ {S A B : Type 0} (ks : Kinds) (p : Parser A) (f : S → List A → B) (x : ParseResult B) (end at : ℕ) (s : S) (ts : List Token) where
   pub turned : (s' : S) (a : A) (mid : List Token) → x ≡ gathered ks p (end - at) (f s) ts → at < end → true ≡ sees ks ts → p ts ≡ Read a mid
       → ((more : List A) → f s (a ∷ more) ≡ f s' more) → x ≡ gathered ks p (end - (at + 1)) (f s') mid
   turned s' a mid e below seen r law =
@@ -81,7 +81,7 @@ module _ {S A B : Type 0} (ks : Kinds) (p : Parser A) (f : S → List A → B) (
   unfolding loop_from
   ran_out e done = no_more (λ n. gathered ks p n (f s) ts) end at done e
 
-  pub stopped : (fault : Halt) (rest : List Token) → x ≡ gathered ks p (end - at) (f s) ts → at < end → true ≡ sees ks ts → Gives (p ts) (Err fault) rest → Gives x (Err fault) rest
+  pub stopped : (fault : Halt) (rest : List Token) → x ≡ gathered ks p (end - at) (f s) ts → at < end → true ≡ sees ks ts → ParsesTo (p ts) (Err fault) rest → ParsesTo x (Err fault) rest
   stopped fault rest e below seen g =
       instead x (gathered ks p (suc (end - (at + 1))) (f s) ts) (Err fault) rest (next_turn end at below (λ n. gathered ks p n (f s) ts) e)
       (seen_err ks p (end - (at + 1)) (f s) ts rest fault (sym seen) g)
@@ -94,7 +94,7 @@ begun ks p f end s ts e = all (λ n. gathered ks p n (f s) ts) (length ts) end e
 abbrev pub filled : {A B : Type 0} → (List A → B) → List A → List A → B
 filled fin s more = fin (s ++ more)
 
-module _ {A B : Type 0} (ks : Kinds) (p : Parser A) (fin : List A → B) (x : Outcome B) (end at : ℕ) (s : List A) (ts : List Token) where
+module _ {A B : Type 0} (ks : Kinds) (p : Parser A) (fin : List A → B) (x : ParseResult B) (end at : ℕ) (s : List A) (ts : List Token) where
   pub pushed : (s' : List A) (a : A) (mid : List Token) → x ≡ gathered ks p (end - at) (filled fin s) ts → at < end → true ≡ sees ks ts → p ts ≡ Read a mid
       → s' ≡ s ++ a ∷ [] → x ≡ gathered ks p (end - (at + 1)) (filled fin s') mid
   pushed s' a mid e below seen r put =
@@ -113,7 +113,7 @@ pub filling : {A B : Type 0} (ks : Kinds) (p : Parser A) (fin : List A → B) (e
 filling ks p fin end s s' ts e same = begun ks p (filled fin) end s ts e ∙ ap (λ z. gathered ks p (end - 0) (filled fin z) ts) (sym same)
 
 -- a loop whose pieces are the result
-pub as_read : {A : Type 0} (o : Outcome A) → o ≡ and_then o (λ a. pure a)
+pub as_read : {A : Type 0} (o : ParseResult A) → o ≡ and_then o (λ a. pure a)
 as_read (Read a rest) = refl
 as_read (Stop w rest) = refl
 

@@ -25,6 +25,6 @@ pub mod LoopEnds
 pub mod NameRules
 pub mod UidLoop
 pub mod NameLoop
-pub mod StandsLemmas
+pub mod WellFormedLemmas
 pub mod NamesFirm
 pub mod NamesExact

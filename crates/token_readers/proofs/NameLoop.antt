@@ -2,17 +2,17 @@
 use Rattle.std.proofs.Common.{◌≡◌, ℕ, zero, suc, ◌+◌, ◌-◌, ◌<◌, ◌≤◌, Bool, true, false, List, [], ◌∷◌, ◌++◌, Err, refl, sym, ap, ◌∙◌, append_assoc, append-nil, arith, length}
 use mathlib.Core.Path.{fun_ext}
 use Rattle.policy_tokens.specs.declared.token.Token.{Token}
-use Rattle.policy_tokens.specs.declared.token.Kind.TheVariants as k
+use Rattle.policy_tokens.specs.declared.token.TokenKind.TheVariants as k
 use Rattle.token_readers.specs.declared.fault.Halt.{Halt}
 use Rattle.token_readers.specs.declared.fault.Halt.TheVariants as halt
 use Rattle.token_readers.specs.declared.tree.Name.{Name}
 use Rattle.token_readers.specs.declared.tree.Name.TheVariants as name
-use Rattle.token_readers.specs.Gives.{Gives}
+use Rattle.token_readers.specs.ParsesTo.{ParsesTo}
 use Rattle.token_readers.specs.Kinds.{only}
 use Rattle.token_readers.specs.Reads.{sees}
-use Rattle.token_readers.specs.Reading.{Parser, Outcome, Read, Stop, Why, Unexpected, TooDeep, and_then, pure, loop_from, ◌>>=◌}
+use Rattle.token_readers.specs.Reading.{Parser, ParseResult, Read, Stop, Why, Unexpected, TooDeep, and_then, pure, loop_from, ◌>>=◌}
 use Rattle.token_readers.specs.Parsing.{piece, is_text, ends, beginning, last_of}
-use Rattle.token_readers.specs.Parsing.{name_by, name_behind}
+use Rattle.token_readers.specs.Parsing.{name_by, rest_of_name}
 use Rattle.token_readers.proofs.Gathered.{next_turn, no_more}
 use Rattle.token_readers.proofs.UidLoop.{steps, step_seen, step_unseen, step_ended}
 
@@ -38,8 +38,8 @@ none_before : (b : Bool) (first : Token) (ts : List Token) → name_by b first t
 none_before true first ts = refl
 none_before false first ts = refl
 
-pub begun : (end : ℕ) (first : Token) (more ts : List Token) → end ≡ length ts → more ≡ [] → name_behind first ts ≡ taken (end - 0) first more ts
-unfolding name_behind
+pub begun : (end : ℕ) (first : Token) (more ts : List Token) → end ≡ length ts → more ≡ [] → rest_of_name first ts ≡ taken (end - 0) first more ts
+unfolding rest_of_name
 begun end first more ts e none =
     let all : length ts ≡ end - 0 = omega (arith, e) in
     ap (and_then (steps (length ts) false ts)) (fun_ext (λ rest. ap (λ z. pure z) (none_before (ends false rest) first rest)))
@@ -48,7 +48,7 @@ begun end first more ts e none =
 
 -- ---- one turn
 
-joined : (first t : Token) (more : List Token) (o : Outcome (List Token)) → and_then (and_then o (λ others. pure (t ∷ others))) (finish false first more)
+joined : (first t : Token) (more : List Token) (o : ParseResult (List Token)) → and_then (and_then o (λ others. pure (t ∷ others))) (finish false first more)
     ≡ and_then o (λ others. pure (name_on (ends (is_text t) others) first more (t ∷ others)))
 joined first t more (Read x rest) = refl
 joined first t more (Stop w rest) = refl
@@ -70,15 +70,15 @@ word_by : (b : Bool) (first t : Token) (more : List Token) (u : Token) (us : Lis
 word_by true first t more u us = ap (λ z. uid_named first z (last_of u us)) (sym (append_assoc more (t ∷ []) (beginning (u ∷ us))))
 word_by false first t more u us = ap (path_named first) (sym (append_assoc more (t ∷ []) (u ∷ us)))
 
-word_behind : (first t : Token) (more others : List Token) → name_on (ends false others) first more (t ∷ others) ≡ name_on (ends false others) first (more ++ t ∷ []) others
-word_behind first t more [] = ap (path_named first) (sym (append-nil (more ++ t ∷ [])))
-word_behind first t more (u ∷ us) = word_by (ends (is_text u) us) first t more u us
+rest_of_word : (first t : Token) (more others : List Token) → name_on (ends false others) first more (t ∷ others) ≡ name_on (ends false others) first (more ++ t ∷ []) others
+rest_of_word first t more [] = ap (path_named first) (sym (append-nil (more ++ t ∷ [])))
+rest_of_word first t more (u ∷ us) = word_by (ends (is_text u) us) first t more u us
 
 word_goes_on : (n : ℕ) (first t : Token) (more ts mid : List Token) → sees (only k.Colons) ts ≡ true → piece ts ≡ Read t mid → is_text t ≡ false → taken (suc n) first more ts ≡ taken n first (more ++ t ∷ []) mid
 word_goes_on n first t more ts mid seen e word =
     reads_one n first t more ts mid seen e
     ∙ ap (λ b. and_then (steps n b mid) (λ others. pure (name_on (ends b others) first more (t ∷ others)))) word
-    ∙ ap (and_then (steps n false mid)) (fun_ext (λ others. ap (λ z. pure z) (word_behind first t more others)))
+    ∙ ap (and_then (steps n false mid)) (fun_ext (λ others. ap (λ z. pure z) (rest_of_word first t more others)))
 
 stops_one : (n : ℕ) (first : Token) (more ts rest : List Token) (w : Why) → sees (only k.Colons) ts ≡ true → piece ts ≡ Stop w rest → taken (suc n) first more ts ≡ Stop w rest
 stops_one n first more ts rest w seen e =
@@ -91,7 +91,7 @@ none_comes (suc n) first more ts seen = ap (λ o. and_then o (finish false first
 
 -- ---- the code's loop, at the place at of end turns
 
-module _ (x : Outcome Name) (end at : ℕ) (first : Token) (more ts : List Token) where
+module _ (x : ParseResult Name) (end at : ℕ) (first : Token) (more ts : List Token) where
   pub turned : (more' : List Token) (t : Token) (mid : List Token) → x ≡ taken (end - at) first more ts → at < end → true ≡ sees (only k.Colons) ts → piece ts ≡ Read t mid → is_text t ≡ false → more' ≡ more ++ t ∷ []
       → x ≡ taken (end - (at + 1)) first more' mid
   turned more' t mid e below seen r word put =
@@ -102,12 +102,12 @@ module _ (x : Outcome Name) (end at : ℕ) (first : Token) (more ts : List Token
   pub ended : (t : Token) (mid : List Token) → x ≡ taken (end - at) first more ts → at < end → true ≡ sees (only k.Colons) ts → piece ts ≡ Read t mid → is_text t ≡ true → x ≡ Read (uid_named first more t) mid
   ended t mid e below seen r text = next_turn end at below (λ n. taken n first more ts) e ∙ text_ends (end - (at + 1)) first t more ts mid (sym seen) r text
 
-  stopped_by : (fault : Halt) (rest : List Token) → x ≡ taken (suc (end - (at + 1))) first more ts → true ≡ sees (only k.Colons) ts → Gives (piece ts) (Err fault) rest → Gives x (Err fault) rest
+  stopped_by : (fault : Halt) (rest : List Token) → x ≡ taken (suc (end - (at + 1))) first more ts → true ≡ sees (only k.Colons) ts → ParsesTo (piece ts) (Err fault) rest → ParsesTo x (Err fault) rest
   stopped_by halt.NoMemory rest e seen g = tt
   stopped_by halt.Unexpected rest e seen g = e ∙ stops_one (end - (at + 1)) first more ts rest Unexpected (sym seen) g
   stopped_by halt.TooDeep rest e seen g = e ∙ stops_one (end - (at + 1)) first more ts rest TooDeep (sym seen) g
 
-  pub stopped : (fault : Halt) (rest : List Token) → x ≡ taken (end - at) first more ts → at < end → true ≡ sees (only k.Colons) ts → Gives (piece ts) (Err fault) rest → Gives x (Err fault) rest
+  pub stopped : (fault : Halt) (rest : List Token) → x ≡ taken (end - at) first more ts → at < end → true ≡ sees (only k.Colons) ts → ParsesTo (piece ts) (Err fault) rest → ParsesTo x (Err fault) rest
   stopped fault rest e below seen g = stopped_by fault rest (next_turn end at below (λ n. taken n first more ts) e) seen g
 
   pub bare : x ≡ taken (end - at) first more ts → false ≡ sees (only k.Colons) ts → x ≡ Read (path_named first more) ts

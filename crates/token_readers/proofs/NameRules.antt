@@ -1,8 +1,8 @@
 -- Paths are read exactly, and so are uids, though a Path and what stands behind it begin alike.
 use Rattle.std.proofs.Common.{◌≡◌, Bool, true, false, List, [], ◌∷◌, ◌++◌, refl, sym, ap, subst, ◌∙◌, append_assoc, append-nil}
 use Rattle.policy_tokens.specs.declared.token.Token.{Token}
-use Rattle.policy_tokens.specs.declared.token.Kind.{Kind}
-use Rattle.policy_tokens.specs.declared.token.Kind.TheVariants as k
+use Rattle.policy_tokens.specs.declared.token.TokenKind.{TokenKind}
+use Rattle.policy_tokens.specs.declared.token.TokenKind.TheVariants as k
 use Rattle.token_readers.specs.declared.tree.PathTree.{PathTree}
 use Rattle.token_readers.specs.declared.tree.UidTree.{UidTree}
 use Rattle.token_readers.specs.Kinds.{Kinds, only, same_kind}
@@ -48,7 +48,7 @@ pub starts_path : Starts g.path identifiers
 starts_path = starts_both (lang.of identifiers) path_tail identifiers (starts_of identifiers)
 
 pub path_rule : (D : Levels) → Rule g.path g.path r.path r.path after_name D
-unfolding r.path r.path_behind same_kind
+unfolding r.path r.rest_of_path same_kind
 path_rule D =
     seq (of identifiers none D)
     (λ first. seq (each path_word path_word _ _ (only k.Colons) none after_name D (word_rule D) (starts_one k.Colons (λ _. lang.of identifiers)) refl refl refl)
@@ -159,8 +159,8 @@ module _ (D : Levels) where
   closed_rule true first ts = nothing (uid_of first ts) after_name D
   closed_rule false first ts = refused after_name D
 
-  pub behind_first_rule : (first : Token) → Rule (behind_first first) (behind_first first) (r.uid_behind first) (r.uid_behind first) after_name D
-  unfolding r.uid_behind
+  pub behind_first_rule : (first : Token) → Rule (behind_first first) (behind_first first) (r.rest_of_uid first) (r.rest_of_uid first) after_name D
+  unfolding r.rest_of_uid
   behind_first_rule first =
       both segments segments _ _ _ _ _ _ (only k.Colons) after_name D segments_rule (λ ts. closed_rule (ends false ts) first ts) (λ ts. leads_closed (ends false ts) first ts) (on first) (on first)
 
@@ -173,21 +173,21 @@ module _ (D : Levels) where
 -- ---- the factored form is the production
 
 -- a piece that is no String is a word
-word_of : (kind : Kind) → pieces kind ≡ true → same_kind kind k.Text ≡ false → identifiers kind ≡ true
+word_of : (kind : TokenKind) → pieces kind ≡ true → same_kind kind k.Text ≡ false → identifiers kind ≡ true
 unfolding same_kind
 word_of k.Text h e = absurd (cc)
 word_of _ h e = h
 
-piece_of_word : (kind : Kind) → identifiers kind ≡ true → pieces kind ≡ true
+piece_of_word : (kind : TokenKind) → identifiers kind ≡ true → pieces kind ≡ true
 piece_of_word k.Text h = refl
 piece_of_word _ h = h
 
-piece_of_text : (kind : Kind) → same_kind kind k.Text ≡ true → pieces kind ≡ true
+piece_of_text : (kind : TokenKind) → same_kind kind k.Text ≡ true → pieces kind ≡ true
 unfolding same_kind
 piece_of_text k.Text h = refl
 piece_of_text _ h = absurd (cc)
 
-pub no_text : (kind : Kind) → identifiers kind ≡ true → same_kind kind k.Text ≡ false
+pub no_text : (kind : TokenKind) → identifiers kind ≡ true → same_kind kind k.Text ≡ false
 unfolding same_kind
 no_text k.Text h = absurd (cc)
 no_text _ h = refl

@@ -1,15 +1,13 @@
 -- A Path and a Uid, at the front of a list and as a whole one. They nest nothing, so all levels are alike.
-use Rattle.std.proofs.Common.{◌≡◌, ◌-◌, ◌≤◌, ◌<◌, Result, Err, List, length}
+use Rattle.std.proofs.Common.{◌-◌, Result, List, length}
 use Rattle.policy_tokens.specs.declared.token.Token.{Token}
 use Rattle.token_readers.specs.declared.fault.Halt.{Halt}
-use Rattle.token_readers.specs.declared.fault.Halt.TheVariants as halt
 use Rattle.token_readers.specs.declared.tree.PathTree.{PathTree}
 use Rattle.token_readers.specs.declared.tree.UidTree.{UidTree}
 use Rattle.token_readers.specs.Grammar as g
 use Rattle.token_readers.specs.Parsing as r
-use Rattle.token_readers.specs.Gives.{Gives}
-use Rattle.token_readers.specs.Reading.{Read}
-use Rattle.token_readers.specs.Reads.{HasOneTree, HasOneAnswer, Reads, ReadsFront, refusal_of}
+use Rattle.token_readers.specs.ParsesTo.{ParsesTo}
+use Rattle.token_readers.specs.Reads.{HasOneTree, HasOneAnswer, Reads, ReadsFront, whole_of}
 use Rattle.token_readers.proofs.Rules.{Levels}
 use Rattle.token_readers.proofs.NameRules.{after_name, path_rule, alive_path, uid_rule, alive_uid}
 use Rattle.token_readers.proofs.NamesFirm.{firm_path, firm_uid}
@@ -22,13 +20,13 @@ level = record { Deeper = Unit {0}; Equal = Unit {0} }
 flat_path : Limited g.path g.path r.path
 flat_path = whole.flat g.path r.path after_name level (path_rule level) tt alive_path tt
 
-pub path_front : (ts rest : List Token) (x : Result PathTree Halt) → Gives (r.path ts) x rest → ReadsFront g.path ts x rest
+pub path_front : (ts rest : List Token) (x : Result PathTree Halt) → ParsesTo (r.path ts) x rest → ReadsFront g.path ts x rest
 path_front = whole.front_read g.path g.path r.path after_name level (path_rule level) tt alive_path flat_path (firm_path level)
 
 flat_uid : Limited g.uid g.uid r.uid
 flat_uid = whole.flat g.uid r.uid after_name level (uid_rule level) tt alive_uid tt
 
-pub uid_front : (ts rest : List Token) (x : Result UidTree Halt) → Gives (r.uid ts) x rest → ReadsFront g.uid ts x rest
+pub uid_front : (ts rest : List Token) (x : Result UidTree Halt) → ParsesTo (r.uid ts) x rest → ReadsFront g.uid ts x rest
 uid_front = whole.front_read g.uid g.uid r.uid after_name level (uid_rule level) tt alive_uid flat_uid (firm_uid level)
 
 -- ---- a whole list
@@ -39,13 +37,6 @@ one_uid = whole.one_tree g.uid r.uid after_name level (uid_rule level) tt alive_
 pub uid_answer : HasOneAnswer g.uid
 uid_answer = whole.one_answer g.uid g.uid r.uid after_name level (uid_rule level) tt alive_uid flat_uid
 
-pub uid_whole : (ts rest : List Token) (x : UidTree) → r.uid ts ≡ Read x rest → length rest ≤ 0 → g.uid ts x
-uid_whole = whole.whole_read g.uid r.uid after_name level (uid_rule level) tt alive_uid
-
-pub uid_part : (ts rest : List Token) (x : UidTree) → r.uid ts ≡ Read x rest → 0 < length rest
-    → Reads g.uid ts (Err (refusal_of halt.Unexpected (length ts - length rest) rest))
-uid_part = whole.part_read g.uid g.uid r.uid after_name level (uid_rule level) tt alive_uid flat_uid
-
-pub uid_halted : (ts rest : List Token) (h : Halt) → Gives (r.uid ts) (Err h) rest
-    → Reads g.uid ts (Err (refusal_of h (length ts - length rest) rest))
-uid_halted = whole.halted_read g.uid g.uid r.uid after_name level (uid_rule level) tt alive_uid flat_uid
+pub uid_answered : (ts rest : List Token) (read : Result UidTree Halt) → ParsesTo (r.uid ts) read rest
+    → Reads g.uid ts (whole_of read (length ts - length rest) rest)
+uid_answered = whole.answered_whole g.uid g.uid r.uid after_name level (uid_rule level) tt alive_uid flat_uid

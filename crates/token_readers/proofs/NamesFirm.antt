@@ -1,7 +1,7 @@
 -- A reader of names stops for a token at no place at which a name ends.
 use Rattle.std.proofs.Common.{Bool, true, false, List, refl}
 use Rattle.policy_tokens.specs.declared.token.Token.{Token}
-use Rattle.policy_tokens.specs.declared.token.Kind.TheVariants as k
+use Rattle.policy_tokens.specs.declared.token.TokenKind.TheVariants as k
 use Rattle.token_readers.specs.Kinds.{only, same_kind}
 use Rattle.token_readers.specs.Lang as lang
 use Rattle.token_readers.specs.Grammar as g
@@ -22,7 +22,7 @@ module _ (D : Levels) where
   fresh_word = fresh_opening (word_rule D) (opening_one k.Colons (λ _. lang.of identifiers) (λ _. begin_of identifiers k.Ident refl))
 
   pub firm_path : Firm g.path r.path
-  unfolding r.path r.path_behind same_kind
+  unfolding r.path r.rest_of_path same_kind
   firm_path =
       firm_seq (of identifiers none D)
       (λ first. seq (each path_word path_word _ _ (only k.Colons) none after_name D (word_rule D) (starts_one k.Colons (λ _. lang.of identifiers)) refl refl refl)
@@ -52,8 +52,8 @@ module _ (D : Levels) where
   firm_end true first ts = firm_nothing (uid_of first ts)
   firm_end false first ts = firm_never reading.refuse
 
-  firm_behind : (first : Token) → Firm (behind_first first) (r.uid_behind first)
-  unfolding r.uid_behind
+  firm_behind : (first : Token) → Firm (behind_first first) (r.rest_of_uid first)
+  unfolding r.rest_of_uid
   firm_behind first = firm_seq (segments_rule D) (λ ts. closed_rule D (ends false ts) first ts) (λ ts. leads_closed (ends false ts) first ts) firm_segments (λ ts. firm_end (ends false ts) first ts)
 
   firm_factored : Firm factored r.uid

@@ -1,7 +1,7 @@
 -- What an opening token begins, and what is put together at once.
 use Rattle.std.proofs.Common.{◌≡◌, true, false, Bool, [], ◌∷◌, refl, subst}
 use Rattle.policy_tokens.specs.declared.token.Token.{Token}
-use Rattle.policy_tokens.specs.declared.token.Kind.{Kind}
+use Rattle.policy_tokens.specs.declared.token.TokenKind.{TokenKind}
 use Rattle.token_readers.specs.Kinds.{Kinds, only}
 use Rattle.token_readers.specs.Lang.{Lang}
 use Rattle.token_readers.specs.Lang as lang
@@ -15,7 +15,7 @@ use Rattle.token_readers.proofs.Steps.{none, seq, free}
 abbrev pub Opening : {A : Type 0} → Lang A → Kinds → Type 0
 Opening L ks = (t : Token) → ks t.kind ≡ true → Begins L (t ∷ [])
 
-pub opening_one : {A : Type 0} (k : Kind) (M : Token → Lang A) → ((t : Token) → Begins (M t) []) → Opening (lang.◌>>=◌ (lang.one k) M) (only k)
+pub opening_one : {A : Type 0} (k : TokenKind) (M : Token → Lang A) → ((t : Token) → Begins (M t) []) → Opening (lang.◌>>=◌ (lang.one k) M) (only k)
 opening_one k M alive t h =
     let b = alive t in
     record { more = b.more; value = b.value; derived = record { front = t ∷ []; back = b.more; value = t; whole = refl; first = (refl, h); second = b.derived } }

@@ -5,7 +5,7 @@ use Rattle.policy_tokens.specs.declared.token.Token.{Token}
 use Rattle.token_readers.specs.Kinds.{Kinds}
 use Rattle.token_readers.specs.Lang.{Lang, Joined}
 use Rattle.token_readers.specs.Lang as lang
-use Rattle.token_readers.specs.Reading.{Parser, Outcome, Read, Stop, Why, Unexpected, TooDeep, and_then, ◌>>=◌}
+use Rattle.token_readers.specs.Reading.{Parser, ParseResult, Read, Stop, Why, Unexpected, TooDeep, and_then, ◌>>=◌}
 use Rattle.token_readers.specs.Reads.{Begins, sees}
 
 pub record ReadsFront {A : Type 0} (L : Lang A) (ts : List Token) (a : A) (rest : List Token) : Type 0 where
@@ -54,23 +54,23 @@ pub record Rule {A : Type 0} (L K : Lang A) (p q : Parser A) (ks : Kinds) (D : L
 
 -- ---- one after another
 
-pub record ReadBoth {A B : Type 0} (o : Outcome A) (f : A → Parser B) (b : B) (rest : List Token) : Type 0 where
+pub record ReadBoth {A B : Type 0} (o : ParseResult A) (f : A → Parser B) (b : B) (rest : List Token) : Type 0 where
   pub value : A
   pub mid : List Token
   pub first : o ≡ Read value mid
   pub second : f value mid ≡ Read b rest
 
-pub read_both : {A B : Type 0} (o : Outcome A) (f : A → Parser B) (b : B) (rest : List Token) → and_then o f ≡ Read b rest → ReadBoth o f b rest
+pub read_both : {A B : Type 0} (o : ParseResult A) (f : A → Parser B) (b : B) (rest : List Token) → and_then o f ≡ Read b rest → ReadBoth o f b rest
 read_both (Read a mid) f b rest h = record { value = a; mid = mid; first = refl; second = h }
 read_both (Stop w mid) f b rest h = absurd (cc)
 
-pub record StopsSecond {A B : Type 0} (o : Outcome A) (f : A → Parser B) (w : Why) (rest : List Token) : Type 0 where
+pub record StopsSecond {A B : Type 0} (o : ParseResult A) (f : A → Parser B) (w : Why) (rest : List Token) : Type 0 where
   pub value : A
   pub mid : List Token
   pub first : o ≡ Read value mid
   pub second : f value mid ≡ Stop w rest
 
-pub stop_either : {A B : Type 0} (o : Outcome A) (f : A → Parser B) (w : Why) (rest : List Token) → and_then o f ≡ Stop w rest → (o ≡ Stop w rest) ⊎ StopsSecond o f w rest
+pub stop_either : {A B : Type 0} (o : ParseResult A) (f : A → Parser B) (w : Why) (rest : List Token) → and_then o f ≡ Stop w rest → (o ≡ Stop w rest) ⊎ StopsSecond o f w rest
 stop_either (Read a mid) f w rest h = inr (record { value = a; mid = mid; first = refl; second = h })
 stop_either (Stop w' mid) f w rest h = inl (cc)
 

@@ -2,12 +2,12 @@
 use Rattle.std.proofs.Common.{◌≡◌, ℕ, zero, suc, Bool, true, false, not, ◌&&◌, ◌||◌, List, [], ◌∷◌, ◌++◌, Option, Some, None, refl, sym, ap, ◌∙◌}
 use Rattle.std.specs.List.{list_all}
 use Rattle.policy_tokens.specs.declared.token.Token.{Token}
-use Rattle.policy_tokens.specs.declared.token.Kind.{Kind}
-use Rattle.policy_tokens.specs.declared.token.Kind.TheVariants as k
+use Rattle.policy_tokens.specs.declared.token.TokenKind.{TokenKind}
+use Rattle.policy_tokens.specs.declared.token.TokenKind.TheVariants as k
 use Rattle.token_readers.specs.Reads.{sees}
 use Rattle.token_readers.specs.Kinds.{Kinds, number_of}
 
-abbrev pub all_kinds : List Kind
+abbrev pub all_kinds : List TokenKind
 all_kinds = k.Ident ∷ k.Number ∷ k.Text ∷ k.StarText ∷ k.True ∷ k.False ∷ k.If ∷ k.Then ∷ k.Else ∷ k.In ∷ k.Is ∷ k.Like ∷ k.Has ∷ k.Cedar ∷ k.Permit ∷ k.Forbid ∷ k.When ∷ k.Unless ∷ k.Principal ∷ k.Action ∷ k.Resource ∷ k.Context ∷ k.PrincipalSlot ∷ k.ResourceSlot ∷ k.At ∷ k.LParen ∷ k.RParen ∷ k.LBrace ∷ k.RBrace ∷ k.LBracket ∷ k.RBracket ∷ k.Comma ∷ k.Semicolon ∷ k.Colon ∷ k.Colons ∷ k.Dot ∷ k.Equal ∷ k.NotEqual ∷ k.Less ∷ k.LessEqual ∷ k.Greater ∷ k.GreaterEqual ∷ k.And ∷ k.Or ∷ k.Plus ∷ k.Minus ∷ k.Star ∷ k.Not ∷ []
 
 abbrev pub apart : Kinds → Kinds → Bool
@@ -16,12 +16,12 @@ apart ks js = list_all (λ k. not (ks k && js k)) all_kinds
 abbrev pub within : Kinds → Kinds → Bool
 within ks js = list_all (λ k. not (ks k) || js k) all_kinds
 
-abbrev nth : List Kind → ℕ → Option Kind
+abbrev nth : List TokenKind → ℕ → Option TokenKind
 nth [] n = None
 nth (k ∷ ks) zero = Some k
 nth (k ∷ ks) (suc n) = nth ks n
 
-there : (k : Kind) → nth all_kinds (number_of k) ≡ Some k
+there : (k : TokenKind) → nth all_kinds (number_of k) ≡ Some k
 there k.Ident = refl
 there _ = refl
 
@@ -29,7 +29,7 @@ both_true : (a b : Bool) → (a && b) ≡ true → (a ≡ true) × (b ≡ true)
 both_true true b h = (refl, h)
 both_true false b h = absurd (cc)
 
-at : (p : Kind → Bool) (ks : List Kind) (n : ℕ) (k : Kind) → list_all p ks ≡ true → nth ks n ≡ Some k → p k ≡ true
+at : (p : TokenKind → Bool) (ks : List TokenKind) (n : ℕ) (k : TokenKind) → list_all p ks ≡ true → nth ks n ≡ Some k → p k ≡ true
 at p [] n k h e = absurd (cc)
 at p (j ∷ ks) zero k h e = let here : j ≡ k = cc in ap p (sym here) ∙ (both_true (p j) (list_all p ks) h).0
 at p (j ∷ ks) (suc n) k h e = at p ks n k (both_true (p j) (list_all p ks) h).1 e
@@ -43,10 +43,10 @@ within_of : (a b : Bool) → (not a || b) ≡ true → a ≡ true → b ≡ true
 within_of true b h e = h
 within_of false b h e = absurd (cc)
 
-pub is_apart : (ks js : Kinds) → apart ks js ≡ true → (k : Kind) → ks k ≡ true → js k ≡ false
+pub is_apart : (ks js : Kinds) → apart ks js ≡ true → (k : TokenKind) → ks k ≡ true → js k ≡ false
 is_apart ks js h k e = apart_of (ks k) (js k) (at (λ k. not (ks k && js k)) all_kinds (number_of k) k h (there k)) e
 
-pub is_within : (ks js : Kinds) → within ks js ≡ true → (k : Kind) → ks k ≡ true → js k ≡ true
+pub is_within : (ks js : Kinds) → within ks js ≡ true → (k : TokenKind) → ks k ≡ true → js k ≡ true
 is_within ks js h k e = within_of (ks k) (js k) (at (λ k. not (ks k) || js k) all_kinds (number_of k) k h (there k)) e
 
 -- what begins with a token of the set, whatever follows
@@ -70,10 +70,10 @@ pub sees_same : (ks : Kinds) (front : List Token) (b : Token) (more others : Lis
 sees_same ks [] b more others = refl
 sees_same ks (t ∷ ts) b more others = refl
 
-one_at : (j k : Kind) → Some j ≡ Some k → j ≡ k
+one_at : (j k : TokenKind) → Some j ≡ Some k → j ≡ k
 one_at j k h = cc
 
-pub kind_of_number : (j k : Kind) → number_of j ≡ number_of k → j ≡ k
+pub kind_of_number : (j k : TokenKind) → number_of j ≡ number_of k → j ≡ k
 kind_of_number j k h = one_at j k (sym (there j) ∙ ap (nth all_kinds) h ∙ there k)
 
 pub wide_sees : (ks js : Kinds) (ts : List Token) → within ks js ≡ true → sees ks ts ≡ true → sees js ts ≡ true

@@ -1,7 +1,7 @@
 -- One step after another, with the arguments that the others show.
 use Rattle.std.proofs.Common.{◌≡◌, true, false, List, [], ◌∷◌, ◌++◌, None, refl}
 use Rattle.policy_tokens.specs.declared.token.Token.{Token}
-use Rattle.policy_tokens.specs.declared.token.Kind.{Kind}
+use Rattle.policy_tokens.specs.declared.token.TokenKind.{TokenKind}
 use Rattle.token_readers.specs.Kinds.{Kinds, only}
 use Rattle.token_readers.specs.Lang.{Lang}
 use Rattle.token_readers.specs.Lang as lang
@@ -29,7 +29,7 @@ pub free : {A : Type 0} (L : Lang A) (ks : Kinds) → Leads L none ks
 free L ks front a rest d h = unseen (front ++ rest)
 
 -- a token, and then a piece that it says nothing of
-pub behind : {B : Type 0} (k : Kind) (js : Kinds) (D : Levels) {M N : Lang B} {f g : Parser B} → Rule M N f g js D → Begins M []
+pub behind : {B : Type 0} (k : TokenKind) (js : Kinds) (D : Levels) {M N : Lang B} {f g : Parser B} → Rule M N f g js D → Begins M []
     → Rule (lang.◌>>◌ (lang.one k) M) (lang.◌>>◌ (lang.one k) N) (token k >> f) (token k >> g) js D
 behind k js D {M = M} m alive = seq (one k none D) (λ _. m) (λ _. free M js) (λ _. alive)
 
@@ -43,7 +43,7 @@ pub go : {A B : Type 0} {L : Lang A} {M : A → Lang B} → Begins L [] → ((a 
 go {L = L} {M = M} b m = alive_both L M b m
 
 -- a token, and then what has a form
-pub go_one : {B : Type 0} (k : Kind) {M : Token → Lang B} → ((t : Token) → Begins (M t) []) → Begins (lang.◌>>=◌ (lang.one k) M) []
+pub go_one : {B : Type 0} (k : TokenKind) {M : Token → Lang B} → ((t : Token) → Begins (M t) []) → Begins (lang.◌>>=◌ (lang.one k) M) []
 go_one k m = go (alive_one k) m
 
 pub alive_maybe : {A : Type 0} (L : Lang A) → Begins (lang.optional L) []
@@ -54,10 +54,10 @@ alive_maybe L = record { more = []; value = None; derived = refl }
 pub leads_first : {A B : Type 0} {L : Lang A} {M : A → Lang B} (is ks js : Kinds) → Starts L is → apart is ks ≡ true → Leads (lang.◌>>=◌ L M) ks js
 leads_first {L = L} {M = M} is ks js s e = leads_starts (lang.◌>>=◌ L M) is ks js (starts_both L M is s) e
 
-pub leads_one : {A : Type 0} {M : Token → Lang A} (k : Kind) (ks js : Kinds) → apart (only k) ks ≡ true → Leads (lang.◌>>=◌ (lang.one k) M) ks js
+pub leads_one : {A : Type 0} {M : Token → Lang A} (k : TokenKind) (ks js : Kinds) → apart (only k) ks ≡ true → Leads (lang.◌>>=◌ (lang.one k) M) ks js
 leads_one k ks js e = leads_first (only k) ks js (starts_of (only k)) e
 
-pub starts_one : {A : Type 0} (k : Kind) (M : Token → Lang A) → Starts (lang.◌>>=◌ (lang.one k) M) (only k)
+pub starts_one : {A : Type 0} (k : TokenKind) (M : Token → Lang A) → Starts (lang.◌>>=◌ (lang.one k) M) (only k)
 starts_one k M = starts_both (lang.one k) M (only k) (starts_of (only k))
 
 pub wide_starts : {A : Type 0} (L : Lang A) (ks js : Kinds) → within ks js ≡ true → Starts L ks → Starts L js

@@ -2,15 +2,15 @@
 use Rattle.std.proofs.Common.{◌≡◌, ℕ, zero, suc, ◌+◌, ◌-◌, ◌<◌, ◌≤◌, Bool, true, false, List, [], ◌∷◌, ◌++◌, Err, refl, sym, ap, ◌∙◌, append_assoc, append-nil, arith, length}
 use mathlib.Core.Path.{fun_ext}
 use Rattle.policy_tokens.specs.declared.token.Token.{Token}
-use Rattle.policy_tokens.specs.declared.token.Kind.TheVariants as k
+use Rattle.policy_tokens.specs.declared.token.TokenKind.TheVariants as k
 use Rattle.token_readers.specs.declared.fault.Halt.{Halt}
 use Rattle.token_readers.specs.declared.fault.Halt.TheVariants as halt
 use Rattle.token_readers.specs.declared.tree.UidTree.{UidTree}
-use Rattle.token_readers.specs.Gives.{Gives}
+use Rattle.token_readers.specs.ParsesTo.{ParsesTo}
 use Rattle.token_readers.specs.Kinds.{Kinds, only}
 use Rattle.token_readers.specs.Reads.{sees}
-use Rattle.token_readers.specs.Reading.{Parser, Outcome, Read, Stop, Why, Unexpected, TooDeep, and_then, pure, refuse, take, take_if, loop_from, ◌>>=◌}
-use Rattle.token_readers.specs.Parsing.{uid_behind, piece, pieces, is_text, ended_by, goes_on, ends, beginning, last_of, finished}
+use Rattle.token_readers.specs.Reading.{Parser, ParseResult, Read, Stop, Why, Unexpected, TooDeep, and_then, pure, refuse, take, take_if, loop_from, ◌>>=◌}
+use Rattle.token_readers.specs.Parsing.{rest_of_uid, piece, pieces, is_text, ended_by, goes_on, ends, beginning, last_of, finished}
 use Rattle.token_readers.proofs.Forms.{took, left}
 use Rattle.token_readers.proofs.Gathered.{next_turn, no_more}
 
@@ -33,8 +33,8 @@ none_before : (b : Bool) (first : Token) (ts : List Token) → finished b first 
 none_before true first ts = refl
 none_before false first ts = refl
 
-pub begun : (end : ℕ) (first : Token) (more ts : List Token) → end ≡ length ts → more ≡ [] → uid_behind first ts ≡ taken (end - 0) first more ts
-unfolding uid_behind
+pub begun : (end : ℕ) (first : Token) (more ts : List Token) → end ≡ length ts → more ≡ [] → rest_of_uid first ts ≡ taken (end - 0) first more ts
+unfolding rest_of_uid
 begun end first more ts e none =
     let all : length ts ≡ end - 0 = omega (arith, e) in
     ap (and_then (steps (length ts) false ts)) (fun_ext (λ rest. none_before (ends false rest) first rest))
@@ -64,10 +64,10 @@ pub step_unseen : (n : ℕ) (ts : List Token) → sees (only k.Colons) ts ≡ fa
 unfolding loop_from
 step_unseen n ts h = left (sees (only k.Colons) ts) (turn n false) (pure []) ts h
 
-abbrev token_stop : Why → List Token → Outcome Token
+abbrev token_stop : Why → List Token → ParseResult Token
 token_stop w ts = Stop w ts
 
-abbrev uid_stop : Why → List Token → Outcome UidTree
+abbrev uid_stop : Why → List Token → ParseResult UidTree
 uid_stop w ts = Stop w ts
 
 same_stop : (ts rest : List Token) (w v : Why) → token_stop w ts ≡ token_stop v rest → uid_stop w ts ≡ uid_stop v rest
@@ -89,7 +89,7 @@ reads_by true n first t more ts mid seen e =
     ap (λ o. and_then o (λ rest. finished_on (ends false rest) first more rest)) (step_seen n ts seen ∙ ap (λ o. and_then o (λ t. steps n (is_text t) >>= (λ more. pure (t ∷ more)))) e)
     ∙ joined (steps n (is_text t) mid)
   where
-    joined : (o : Outcome (List Token)) → and_then (and_then o (λ more. pure (t ∷ more))) (λ rest. finished_on (ends false rest) first more rest)
+    joined : (o : ParseResult (List Token)) → and_then (and_then o (λ more. pure (t ∷ more))) (λ rest. finished_on (ends false rest) first more rest)
         ≡ and_then o (λ rest. finished_on (ends (is_text t) rest) first more (t ∷ rest))
     joined (Read x rest) = refl
     joined (Stop w rest) = refl
@@ -113,19 +113,19 @@ word_by : (b : Bool) (first t : Token) (more : List Token) (u : Token) (us : Lis
 word_by true first t more u us = ap (λ z. pure (named first z (last_of u us))) (sym (append_assoc more (t ∷ []) (beginning (u ∷ us))))
 word_by false first t more u us = refl
 
-word_behind : (first t : Token) (more rest : List Token) → finished_on (ends false rest) first more (t ∷ rest) ≡ finished_on (ends false rest) first (more ++ t ∷ []) rest
-word_behind first t more [] = refl
-word_behind first t more (u ∷ us) = word_by (ends (is_text u) us) first t more u us
+rest_of_word : (first t : Token) (more rest : List Token) → finished_on (ends false rest) first more (t ∷ rest) ≡ finished_on (ends false rest) first (more ++ t ∷ []) rest
+rest_of_word first t more [] = refl
+rest_of_word first t more (u ∷ us) = word_by (ends (is_text u) us) first t more u us
 
 word_goes_on : (n : ℕ) (first t : Token) (more ts mid : List Token) → piece ts ≡ Read t mid → is_text t ≡ false → taken (suc n) first more ts ≡ taken n first (more ++ t ∷ []) mid
 word_goes_on n first t more ts mid e word =
     reads_by (sees (only k.Colons) ts) n first t more ts mid refl e
     ∙ ap (λ b. and_then (steps n b mid) (λ rest. finished_on (ends b rest) first more (t ∷ rest))) word
-    ∙ ap (and_then (steps n false mid)) (fun_ext (word_behind first t more))
+    ∙ ap (and_then (steps n false mid)) (fun_ext (rest_of_word first t more))
 
 -- ---- the code's loop, at the place at of end turns
 
-module _ (x : Outcome UidTree) (end at : ℕ) (first : Token) (more ts : List Token) where
+module _ (x : ParseResult UidTree) (end at : ℕ) (first : Token) (more ts : List Token) where
   pub turned : (more' : List Token) (t : Token) (mid : List Token) → x ≡ taken (end - at) first more ts → at < end → piece ts ≡ Read t mid → is_text t ≡ false → more' ≡ more ++ t ∷ []
       → x ≡ taken (end - (at + 1)) first more' mid
   turned more' t mid e below r word put =
@@ -136,12 +136,12 @@ module _ (x : Outcome UidTree) (end at : ℕ) (first : Token) (more ts : List To
   pub ended : (t : Token) (mid : List Token) → x ≡ taken (end - at) first more ts → at < end → piece ts ≡ Read t mid → is_text t ≡ true → x ≡ Read (named first more t) mid
   ended t mid e below r text = next_turn end at below (λ n. taken n first more ts) e ∙ text_ends (end - (at + 1)) first t more ts mid r text
 
-  stopped_by : (fault : Halt) (rest : List Token) → x ≡ taken (suc (end - (at + 1))) first more ts → Gives (piece ts) (Err fault) rest → Gives x (Err fault) rest
+  stopped_by : (fault : Halt) (rest : List Token) → x ≡ taken (suc (end - (at + 1))) first more ts → ParsesTo (piece ts) (Err fault) rest → ParsesTo x (Err fault) rest
   stopped_by halt.NoMemory rest e g = tt
   stopped_by halt.Unexpected rest e g = e ∙ stops_by (sees (only k.Colons) ts) (end - (at + 1)) first more ts rest Unexpected refl g
   stopped_by halt.TooDeep rest e g = e ∙ stops_by (sees (only k.Colons) ts) (end - (at + 1)) first more ts rest TooDeep refl g
 
-  pub stopped : (fault : Halt) (rest : List Token) → x ≡ taken (end - at) first more ts → at < end → Gives (piece ts) (Err fault) rest → Gives x (Err fault) rest
+  pub stopped : (fault : Halt) (rest : List Token) → x ≡ taken (end - at) first more ts → at < end → ParsesTo (piece ts) (Err fault) rest → ParsesTo x (Err fault) rest
   stopped fault rest e below g = stopped_by fault rest (next_turn end at below (λ n. taken n first more ts) e) g
 
   pub ran_out : x ≡ taken (end - at) first more ts → end ≤ at → x ≡ Stop Unexpected ts

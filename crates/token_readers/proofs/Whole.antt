@@ -1,5 +1,5 @@
 -- Whole lists of tokens: a language that is read exactly has one answer for each.
-use Rattle.std.proofs.Common.{◌≡◌, ◌⊎◌, inl, inr, ℕ, ◌-◌, ◌≤◌, ◌<◌, Bool, true, false, List, [], ◌∷◌, ◌++◌, Result, Ok, Err, refl, sym, ap, subst, ◌∙◌, append_assoc, append-nil, length-append, arith, length}
+use Rattle.std.proofs.Common.{◌≡◌, ◌⊎◌, inl, inr, ℕ, ◌-◌, ◌<◌, Bool, true, false, List, [], ◌∷◌, ◌++◌, Result, Ok, Err, refl, sym, ap, subst, ◌∙◌, append_assoc, append-nil, length-append, arith, length}
 use Rattle.std.proofs.lemmas.List.{append_cancel_right}
 use Rattle.policy_tokens.specs.declared.token.Token.{Token}
 use Rattle.token_readers.specs.declared.fault.Halt.{Halt}
@@ -8,9 +8,9 @@ use Rattle.token_readers.specs.declared.fault.SyntaxFault.{SyntaxFault}
 use Rattle.token_readers.specs.declared.fault.SyntaxFault.TheVariants as fault
 use Rattle.token_readers.specs.Kinds.{Kinds}
 use Rattle.token_readers.specs.Lang.{Lang}
-use Rattle.token_readers.specs.Reading.{Parser, Outcome, Read, Stop, Why, Unexpected, TooDeep}
-use Rattle.token_readers.specs.Gives.{Gives}
-use Rattle.token_readers.specs.Reads.{Begins, StopsBefore, BreaksAt, GoesOn, IsRefusedWithin, ComesToWithin, ReadsWithin, ReadsFrontWithin, AnsweredWithin, HasOneTree, HasOneAnswerWithin, is_slot, sees, refusal_by, refusal_at, refusal_of}
+use Rattle.token_readers.specs.Reading.{Parser, ParseResult, Read, Stop, Why, Unexpected, TooDeep}
+use Rattle.token_readers.specs.ParsesTo.{ParsesTo}
+use Rattle.token_readers.specs.Reads.{Begins, StopsBefore, BreaksAt, GoesOn, IsRefusedWithin, ComesToWithin, ReadsWithin, ReadsFrontWithin, AnsweredWithin, HasOneTree, HasOneAnswerWithin, is_slot, sees, refusal_by, refusal_at, refusal_of, whole_of}
 use Rattle.token_readers.proofs.Firm.{Firm}
 use Rattle.token_readers.proofs.Rules.{Rule, Levels, Keeps, Opens}
 
@@ -198,10 +198,6 @@ module _ {A : Type 0} (L : Lang A) (p : Parser A) (ks : Kinds) (D : Levels) (rul
         stops = stops_at w ts s.front rest s.whole e;
       }
 
-  pub whole_read : (ts rest : List Token) (x : A) → p ts ≡ Read x rest → length rest ≤ 0 → L ts x
-  whole_read ts [] x e none = derived_whole ts x e
-  whole_read ts (b ∷ more) x e none = absurd (omega (arith, none))
-
   pub one_tree : HasOneTree L
   one_tree ts x y d e = (read_of x y [] [] (sym (read_whole ts x d) ∙ read_whole ts y e)).0
 
@@ -249,19 +245,26 @@ module _ {A : Type 0} (L K : Lang A) (p : Parser A) (ks : Kinds) (D : Levels) (r
   broken_refuses : (ts : List Token) (e : SyntaxFault) → Broken ts e → IsRefusedWithin L K ts e
   broken_refuses ts e b = reason_refuses L K ts b.rest b.place e b.breaks b.reason
 
-  pub part_read : (ts rest : List Token) (x : A) → p ts ≡ Read x rest → 0 < length rest
+  part_read : (ts rest : List Token) (x : A) → p ts ≡ Read x rest → 0 < length rest
       → ReadsWithin L K ts (Err (refusal_of halt.Unexpected (length ts - length rest) rest))
   part_read ts [] x e some = absurd (omega (arith, some))
   part_read ts (b ∷ more) x e some =
       inr (broken_refuses ts (refusal_at (length ts - length (b ∷ more)) (b ∷ more)) (broken_past ts x b more e))
 
-  pub halted_read : (ts rest : List Token) (h : Halt) → Gives (p ts) (Err h) rest
+  halted_read : (ts rest : List Token) (h : Halt) → ParsesTo (p ts) (Err h) rest
       → ReadsWithin L K ts (Err (refusal_of h (length ts - length rest) rest))
   halted_read ts rest halt.NoMemory g = inl refl
   halted_read ts rest halt.Unexpected g =
       inr (broken_refuses ts (refusal_at (length ts - length rest) rest) (broken_bad ts rest g))
   halted_read ts rest halt.TooDeep g =
       inr (broken_refuses ts (fault.TooDeep (length ts - length rest)) (broken_deep ts rest g))
+
+  -- by what was read of the front
+  pub answered_whole : (ts rest : List Token) (read : Result A Halt) → ParsesTo (p ts) read rest
+      → ReadsWithin L K ts (whole_of read (length ts - length rest) rest)
+  answered_whole ts [] (Ok x) g = derived_whole L p ks D rule equal alive ts x g
+  answered_whole ts (b ∷ more) (Ok x) g = part_read ts (b ∷ more) x g (omega arith)
+  answered_whole ts rest (Err why) g = halted_read ts rest why g
 
   -- ---- the front of a list
 
@@ -270,7 +273,7 @@ module _ {A : Type 0} (L K : Lang A) (p : Parser A) (ks : Kinds) (D : Levels) (r
   no_tree firm ts [] place b e = b.stops
   no_tree firm ts (t ∷ more) place b e = λ x. firm.at b.front t more x (ap p (sym b.whole) ∙ e)
 
-  pub front_read : Firm L p → (ts rest : List Token) (r : Result A Halt) → Gives (p ts) r rest → ReadsFrontWithin L K ts r rest
+  pub front_read : Firm L p → (ts rest : List Token) (r : Result A Halt) → ParsesTo (p ts) r rest → ReadsFrontWithin L K ts r rest
   front_read firm ts rest (Ok x) g =
       let s = rule.sound ts x rest g in
       record { front = s.front; whole = s.whole; derived = s.derived; ends = past_by s.front rest x (ap p (sym s.whole) ∙ g) }
@@ -285,7 +288,7 @@ module _ {A : Type 0} (L K : Lang A) (p : Parser A) (ks : Kinds) (D : Levels) (r
   -- ---- what is too deep
 
   -- Where the wider language goes on at a break, reading stopped for its depth.
-  pub deep_stop : (ts rest : List Token) (place : ℕ) (b : BreaksAt L ts place rest) → GoesOn K b.front rest → (o : Outcome A) → p ts ≡ o
+  pub deep_stop : (ts rest : List Token) (place : ℕ) (b : BreaksAt L ts place rest) → GoesOn K b.front rest → (o : ParseResult A) → p ts ≡ o
       → p ts ≡ Stop TooDeep rest
   deep_stop ts rest place b on (Read x []) e = absurd (no_break L ts rest place x (derived_whole L p ks D rule equal alive ts x e) b)
   deep_stop ts rest place b on (Read x (c ∷ more)) e =
@@ -316,7 +319,7 @@ module _ {A : Type 0} (L K : Lang A) (p : Parser A) (ks : Kinds) (D : Levels) (r
   answered_by : (ts : List Token) (e : SyntaxFault) → Broken ts e → AnsweredWithin L K ts
   answered_by ts e b = record { answer = Err e; comes = broken_refuses ts e b; only = only_refusal ts e b }
 
-  answered : (ts : List Token) (o : Outcome A) → p ts ≡ o → AnsweredWithin L K ts
+  answered : (ts : List Token) (o : ParseResult A) → p ts ≡ o → AnsweredWithin L K ts
   answered ts (Read x []) e = record {
     answer = Ok x;
     comes = derived_whole L p ks D rule equal alive ts x e;

@@ -1,7 +1,7 @@
 -- The grammar of names, over tokens: which trees a list of tokens derives. One definition for each production.
 -- Source: Cedar reference guide 4.0, "Grammar specification for Cedar policy syntax". Rules of this product: `__cedar`
 -- is reserved too, and so is no Ident.
-use Rattle.policy_tokens.specs.declared.token.Kind.TheVariants as k
+use Rattle.policy_tokens.specs.declared.token.TokenKind.TheVariants as k
 use Rattle.policy_tokens.specs.Idents.{is_ident}
 use Rattle.token_readers.specs.declared.tree.PathTree.{PathTree}
 use Rattle.token_readers.specs.declared.tree.UidTree.{UidTree}

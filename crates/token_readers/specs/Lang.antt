@@ -1,6 +1,6 @@
 -- The forms of a production: which values a list of tokens derives.
 use Rattle.std.specs.Prelude.{◌≡◌, ◌⊎◌, ℕ, suc, Bool, true, false, List, [], ◌∷◌, ◌++◌, Option, Some, None}
-use Rattle.policy_tokens.specs.declared.token.Kind.{Kind}
+use Rattle.policy_tokens.specs.declared.token.TokenKind.{TokenKind}
 use Rattle.policy_tokens.specs.declared.token.Token.{Token}
 use Rattle.token_readers.specs.Kinds.{Kinds, only}
 
@@ -13,7 +13,7 @@ abbrev pub of : Kinds → Lang Token
 of ks ts t = (ts ≡ t ∷ []) × (ks t.kind ≡ true)
 
 -- a token of this kind
-abbrev pub one : Kind → Lang Token
+abbrev pub one : TokenKind → Lang Token
 one k = of (only k)
 
 -- no token

@@ -4,6 +4,6 @@ pub mod Grammar
 pub mod Reads
 pub mod Reading
 pub mod Parsing
-pub mod Gives
-pub mod Stands
+pub mod ParsesTo
+pub mod WellFormed
 pub mod Included

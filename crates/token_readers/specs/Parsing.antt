@@ -1,6 +1,6 @@
 -- How names are read, from the left, by the next token.
 use Rattle.std.specs.Prelude.{Bool, true, false, List, [], ◌∷◌}
-use Rattle.policy_tokens.specs.declared.token.Kind.TheVariants as k
+use Rattle.policy_tokens.specs.declared.token.TokenKind.TheVariants as k
 use Rattle.policy_tokens.specs.declared.token.Token.{Token}
 use Rattle.token_readers.specs.declared.tree.PathTree.{PathTree}
 use Rattle.token_readers.specs.declared.tree.UidTree.{UidTree}
@@ -13,11 +13,11 @@ use Rattle.token_readers.specs.Grammar.{identifiers}
 unfoldable pub path_word : Parser Token
 path_word = token k.Colons >> take identifiers
 
-unfoldable pub path_behind : Token → Parser PathTree
-path_behind first = many (only k.Colons) path_word >>= (λ more. pure (record { first = first; more = more }))
+unfoldable pub rest_of_path : Token → Parser PathTree
+rest_of_path first = many (only k.Colons) path_word >>= (λ more. pure (record { first = first; more = more }))
 
 unfoldable pub path : Parser PathTree
-path = take identifiers >>= path_behind
+path = take identifiers >>= rest_of_path
 
 -- A Path and the String behind it begin alike, so a Uid is read piece by piece, each behind its "::", up to a String.
 abbrev pub pieces : Kinds
@@ -60,11 +60,11 @@ abbrev pub finished : Bool → Token → List Token → Parser UidTree
 finished true first ts = pure (uid_of first ts)
 finished false first ts = refuse
 
-unfoldable pub uid_behind : Token → Parser UidTree
-uid_behind first = loop ended_by goes_on (λ ended. piece) false >>= (λ ts. finished (ends false ts) first ts)
+unfoldable pub rest_of_uid : Token → Parser UidTree
+rest_of_uid first = loop ended_by goes_on (λ ended. piece) false >>= (λ ts. finished (ends false ts) first ts)
 
 unfoldable pub uid : Parser UidTree
-uid = take identifiers >>= uid_behind
+uid = take identifiers >>= rest_of_uid
 
 -- A Path or a Uid: an identifier and pieces behind it, which make a Uid where the last one is a String.
 abbrev pub path_of : Token → List Token → PathTree
@@ -74,5 +74,5 @@ abbrev pub name_by : Bool → Token → List Token → Name
 name_by true first ts = name.Uid (uid_of first ts)
 name_by false first ts = name.Path (path_of first ts)
 
-unfoldable pub name_behind : Token → Parser Name
-name_behind first = loop ended_by goes_on (λ ended. piece) false >>= (λ ts. pure (name_by (ends false ts) first ts))
+unfoldable pub rest_of_name : Token → Parser Name
+rest_of_name first = loop ended_by goes_on (λ ended. piece) false >>= (λ ts. pure (name_by (ends false ts) first ts))

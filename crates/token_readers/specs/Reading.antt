@@ -1,6 +1,6 @@
 -- Reading tokens from the left, by the next one: the forms of production as functions.
 use Rattle.std.specs.Prelude.{ℕ, zero, suc, Bool, true, false, List, [], ◌∷◌, length, Option, Some, None}
-use Rattle.policy_tokens.specs.declared.token.Kind.{Kind}
+use Rattle.policy_tokens.specs.declared.token.TokenKind.{TokenKind}
 use Rattle.policy_tokens.specs.declared.token.Token.{Token}
 use Rattle.token_readers.specs.Kinds.{Kinds, only}
 use Rattle.token_readers.specs.Reads.{sees}
@@ -10,14 +10,14 @@ pub data Why : Type 0 where
   Unexpected TooDeep : Why
 
 -- a value and the tokens after it, or why reading stops, and the tokens from the one where it does
-pub data Outcome (A : Type 0) : Type 0 where
-  Read : A → List Token → Outcome A
-  Stop : Why → List Token → Outcome A
+pub data ParseResult (A : Type 0) : Type 0 where
+  Read : A → List Token → ParseResult A
+  Stop : Why → List Token → ParseResult A
 
 abbrev pub Parser : Type 0 → Type 0
-Parser A = List Token → Outcome A
+Parser A = List Token → ParseResult A
 
-abbrev pub and_then : {A B : Type 0} → Outcome A → (A → Parser B) → Outcome B
+abbrev pub and_then : {A B : Type 0} → ParseResult A → (A → Parser B) → ParseResult B
 and_then (Read a rest) f = f a rest
 and_then (Stop w rest) f = Stop w rest
 
@@ -42,7 +42,7 @@ abbrev pub chosen : {A : Type 0} → Bool → A → A → A
 chosen true x y = x
 chosen false x y = y
 
-abbrev pub take_if : Bool → Token → List Token → Outcome Token
+abbrev pub take_if : Bool → Token → List Token → ParseResult Token
 take_if true t ts = Read t ts
 take_if false t ts = Stop Unexpected (t ∷ ts)
 
@@ -51,7 +51,7 @@ unfoldable pub take : Kinds → Parser Token
 take ks [] = Stop Unexpected []
 take ks (t ∷ ts) = take_if (ks t.kind) t ts
 
-abbrev pub token : Kind → Parser Token
+abbrev pub token : TokenKind → Parser Token
 token k = take (only k)
 
 -- the first, where a token of the set comes next

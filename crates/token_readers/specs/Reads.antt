@@ -2,7 +2,7 @@
 use Rattle.std.specs.Prelude.{◌≡◌, ◌⊎◌, ℕ, suc, ◌-◌, Bool, true, false, List, [], ◌∷◌, ◌++◌, length}
 use Rattle.std.specs.Prelude.{Result, Ok, Err, Vec}
 use Rattle.std.specs.declared.alloc.Global.{Global}
-use Rattle.policy_tokens.specs.declared.token.Kind.TheVariants as k
+use Rattle.policy_tokens.specs.declared.token.TokenKind.TheVariants as k
 use Rattle.policy_tokens.specs.declared.token.Token.{Token}
 use Rattle.token_readers.specs.declared.fault.Halt.{Halt}
 use Rattle.token_readers.specs.declared.fault.Halt.TheVariants as halt
@@ -11,7 +11,8 @@ use Rattle.token_readers.specs.declared.fault.SyntaxFault.TheVariants as fault
 use Rattle.token_readers.specs.Kinds.{Kinds}
 use Rattle.token_readers.specs.Lang.{Lang, at_any}
 
--- The tokens begin what the language derives: some tokens behind them complete it.
+-- The tokens begin what the language derives: some tokens behind them complete it. So `permit ( principal` begins a
+-- policy, and so does no token at all; `permit permit` begins none, whatever follows.
 pub record Begins {A : Type 0} (L : Lang A) (front : List Token) : Type 0 where
   pub more : List Token
   pub value : A
@@ -23,7 +24,7 @@ StopsBefore L front [] = (x : _) → L front x → ⊥
 StopsBefore L front (token ∷ more) = Begins L (front ++ token ∷ []) → ⊥
 
 -- At this place the tokens first leave the language: those before it begin something, and with the one there they
--- don't.
+-- don't. Of `permit ( resource` that is place 2: `permit (` begins a policy, and `resource` can't stand behind it.
 pub record BreaksAt {A : Type 0} (L : Lang A) (ts : List Token) (place : ℕ) (rest : List Token) : Type 0 where
   pub front : List Token
   pub whole : ts ≡ front ++ rest
@@ -138,3 +139,9 @@ abbrev pub refusal_of : Halt → ℕ → List Token → SyntaxFault
 refusal_of halt.NoMemory place rest = fault.NoMemory
 refusal_of halt.Unexpected place rest = refusal_at place rest
 refusal_of halt.TooDeep place rest = fault.TooDeep place
+
+-- what is answered for a whole list, by what was read of its front and what is left behind that
+abbrev pub whole_of : {A : Type 0} → Result A Halt → ℕ → List Token → Result A SyntaxFault
+whole_of (Ok tree) place [] = Ok tree
+whole_of (Ok tree) place (token ∷ more) = Err (refusal_of halt.Unexpected place (token ∷ more))
+whole_of (Err why) place rest = Err (refusal_of why place rest)

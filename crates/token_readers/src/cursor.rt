@@ -1,7 +1,7 @@
 //! Tokens one after the other.
 
 ghost use Rattle.std.specs.Prelude.{◌≡◌, IfErr, length};
-ghost use Rattle.token_readers.specs.Gives.{Gives};
+ghost use Rattle.token_readers.specs.ParsesTo.{ParsesTo};
 ghost use Rattle.token_readers.specs.Kinds as spec;
 ghost use Rattle.token_readers.specs.Reading as reading;
 ghost use Rattle.token_readers.specs.Reads as reads;
@@ -9,9 +9,9 @@ ghost use Rattle.token_readers.specs.declared.fault.Halt.TheVariants as halt;
 
 use crate::fault::Halt;
 use crate::kind_sets::KindSet;
-use policy_tokens::{Kind, Token};
+use policy_tokens::{Token, TokenKind};
 
-fn same_kind(a: Kind, b: Kind) -> bool
+fn same_kind(a: TokenKind, b: TokenKind) -> bool
     ensures { result ≡ spec.same_kind a b }
 {
     a == b
@@ -32,7 +32,7 @@ impl<'a> Cursor<'a> {
     }
 
     /// Whether the next token is of this kind.
-    pub fn sees(&self, kind: Kind) -> bool
+    pub fn sees(&self, kind: TokenKind) -> bool
         ensures { result ≡ reads.sees (spec.only kind) self.now.rest.now }
     {
         match self.rest {
@@ -53,8 +53,8 @@ impl<'a> Cursor<'a> {
 
     /// The next token, which has to be of this kind; else none is taken.
     #[tactic(auto, unfolding(crate::specs::Reading::take))]
-    pub fn take(&mut self, kind: Kind) -> Result<Token, Halt>
-        ensures reads { Gives (reading.token kind self.old.rest.now) result self.new.rest.now }
+    pub fn take(&mut self, kind: TokenKind) -> Result<Token, Halt>
+        ensures reads { ParsesTo (reading.token kind self.old.rest.now) result self.new.rest.now }
         ensures only { IfErr result (λ why. why ≡ halt.Unexpected) }
     {
         match self.rest {
@@ -69,7 +69,7 @@ impl<'a> Cursor<'a> {
     /// The next token, which has to be of one of these kinds; else none is taken.
     #[tactic(auto, unfolding(crate::specs::Reading::take))]
     pub fn take_one_of<S: KindSet>(&mut self, set: S) -> Result<Token, Halt>
-        ensures reads { Gives (reading.take (S.included set) self.old.rest.now) result self.new.rest.now }
+        ensures reads { ParsesTo (reading.take (S.included set) self.old.rest.now) result self.new.rest.now }
         ensures only { IfErr result (λ why. why ≡ halt.Unexpected) }
     {
         match self.rest {

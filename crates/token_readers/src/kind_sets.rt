@@ -4,14 +4,14 @@ ghost use Rattle.std.specs.Prelude.{◌≡◌};
 ghost use Rattle.token_readers.specs.Included.{included as of_names};
 ghost use Rattle.token_readers.specs.Kinds.{Kinds};
 
-use policy_tokens::Kind;
+use policy_tokens::TokenKind;
 
 /// A set of kinds of tokens that readers ask for by name.
 pub trait KindSet: Copy {
     ghost included: { Self → Kinds };
 
     /// Whether tokens of this kind are in the set.
-    fn includes(self, kind: Kind) -> bool
+    fn includes(self, kind: TokenKind) -> bool
         ensures { result ≡ included self kind };
 }
 
@@ -29,14 +29,14 @@ pub enum NameSet {
 impl KindSet for NameSet {
     ghost included = { of_names };
 
-    fn includes(self, kind: Kind) -> bool {
+    fn includes(self, kind: TokenKind) -> bool {
         match self {
             NameSet::Identifiers => kind.is_ident(),
             NameSet::Pieces => match kind {
-                Kind::Text => true,
+                TokenKind::Text => true,
                 _ => kind.is_ident(),
             },
-            NameSet::Slots => matches!(kind, Kind::PrincipalSlot | Kind::ResourceSlot),
+            NameSet::Slots => matches!(kind, TokenKind::PrincipalSlot | TokenKind::ResourceSlot),
         }
     }
 }

@@ -16,6 +16,6 @@ mod tree;
 pub use cursor::Cursor;
 pub use fault::{Halt, SyntaxFault};
 pub use kind_sets::{KindSet, NameSet};
-pub use names::{name_behind, path, uid};
-pub use refused::refusal;
+pub use names::{path, rest_of_name, uid};
+pub use refused::read_to_end;
 pub use tree::{Name, PathTree, UidTree};

@@ -1,7 +1,7 @@
 //! Paths and uids.
 
 ghost use Rattle.std.specs.Prelude.{◌≡◌, IfErr};
-ghost use Rattle.token_readers.specs.Gives.{Gives};
+ghost use Rattle.token_readers.specs.ParsesTo.{ParsesTo};
 ghost use Rattle.token_readers.specs.Grammar as grammar;
 ghost use Rattle.token_readers.specs.Parsing as spec;
 ghost use Rattle.token_readers.specs.Reads.{ReadsFront};
@@ -12,24 +12,24 @@ use crate::fault::Halt;
 use crate::kind_sets::NameSet;
 use crate::tree::{Name, PathTree, UidTree};
 use plain::Items;
-use policy_tokens::{Kind, Token};
+use policy_tokens::{Token, TokenKind};
 use std::alloc::Global;
 
 #[tactic(auto, unfolding(crate::specs::Parsing::path_word))]
 fn path_word(tokens: &mut Cursor<'_>) -> Result<Token, Halt>
-    ensures reads { Gives (spec.path_word tokens.old.rest.now) result tokens.new.rest.now }
+    ensures reads { ParsesTo (spec.path_word tokens.old.rest.now) result tokens.new.rest.now }
     ensures only { IfErr result (λ why. why ≡ halt.Unexpected) }
 {
-    tokens.take(Kind::Colons)?;
+    tokens.take(TokenKind::Colons)?;
     tokens.take_one_of(NameSet::Identifiers)
 }
 
-fn path_behind(alloc: Global, tokens: &mut Cursor<'_>, first: Token) -> Result<PathTree, Halt>
-    ensures { Gives (spec.path_behind first tokens.old.rest.now) result tokens.new.rest.now }
+fn rest_of_path(alloc: Global, tokens: &mut Cursor<'_>, first: Token) -> Result<PathTree, Halt>
+    ensures { ParsesTo (spec.rest_of_path first tokens.old.rest.now) result tokens.new.rest.now }
 {
     let mut more = Items::new(alloc);
     for _turn in 0..tokens.left() {
-        if !tokens.sees(Kind::Colons) {
+        if !tokens.sees(TokenKind::Colons) {
             return Ok(PathTree { first, more });
         }
         let word = path_word(tokens)?;
@@ -43,28 +43,28 @@ fn path_behind(alloc: Global, tokens: &mut Cursor<'_>, first: Token) -> Result<P
 #[tactic(auto, unfolding(crate::specs::Parsing::path))]
 pub fn path(alloc: Global, tokens: &mut Cursor<'_>) -> Result<PathTree, Halt>
     ensures reads { ReadsFront grammar.path tokens.old.rest.now result tokens.new.rest.now }
-    ensures steps { Gives (spec.path tokens.old.rest.now) result tokens.new.rest.now }
+    ensures steps { ParsesTo (spec.path tokens.old.rest.now) result tokens.new.rest.now }
 {
     let first = tokens.take_one_of(NameSet::Identifiers)?;
-    path_behind(alloc, tokens, first)
+    rest_of_path(alloc, tokens, first)
 }
 
 #[tactic(auto, unfolding(crate::specs::Parsing::piece))]
 fn piece(tokens: &mut Cursor<'_>) -> Result<Token, Halt>
-    ensures reads { Gives (spec.piece tokens.old.rest.now) result tokens.new.rest.now }
+    ensures reads { ParsesTo (spec.piece tokens.old.rest.now) result tokens.new.rest.now }
     ensures only { IfErr result (λ why. why ≡ halt.Unexpected) }
 {
-    tokens.take(Kind::Colons)?;
+    tokens.take(TokenKind::Colons)?;
     tokens.take_one_of(NameSet::Pieces)
 }
 
-fn uid_behind(alloc: Global, tokens: &mut Cursor<'_>, first: Token) -> Result<UidTree, Halt>
-    ensures { Gives (spec.uid_behind first tokens.old.rest.now) result tokens.new.rest.now }
+fn rest_of_uid(alloc: Global, tokens: &mut Cursor<'_>, first: Token) -> Result<UidTree, Halt>
+    ensures { ParsesTo (spec.rest_of_uid first tokens.old.rest.now) result tokens.new.rest.now }
 {
     let mut more = Items::new(alloc);
     for _turn in 0..tokens.left() {
         let next = piece(tokens)?;
-        if next.kind == Kind::Text {
+        if next.kind == TokenKind::Text {
             let path = PathTree { first, more };
             return Ok(UidTree { path, id: next });
         }
@@ -78,23 +78,23 @@ fn uid_behind(alloc: Global, tokens: &mut Cursor<'_>, first: Token) -> Result<Ui
 #[tactic(auto, unfolding(crate::specs::Parsing::uid))]
 pub fn uid(alloc: Global, tokens: &mut Cursor<'_>) -> Result<UidTree, Halt>
     ensures reads { ReadsFront grammar.uid tokens.old.rest.now result tokens.new.rest.now }
-    ensures steps { Gives (spec.uid tokens.old.rest.now) result tokens.new.rest.now }
+    ensures steps { ParsesTo (spec.uid tokens.old.rest.now) result tokens.new.rest.now }
 {
     let first = tokens.take_one_of(NameSet::Identifiers)?;
-    uid_behind(alloc, tokens, first)
+    rest_of_uid(alloc, tokens, first)
 }
 
 /// What stands behind a first identifier makes a Path of it, or a Uid where a String comes.
-pub fn name_behind(alloc: Global, tokens: &mut Cursor<'_>, first: Token) -> Result<Name, Halt>
-    ensures { Gives (spec.name_behind first tokens.old.rest.now) result tokens.new.rest.now }
+pub fn rest_of_name(alloc: Global, tokens: &mut Cursor<'_>, first: Token) -> Result<Name, Halt>
+    ensures { ParsesTo (spec.rest_of_name first tokens.old.rest.now) result tokens.new.rest.now }
 {
     let mut more = Items::new(alloc);
     for _turn in 0..tokens.left() {
-        if !tokens.sees(Kind::Colons) {
+        if !tokens.sees(TokenKind::Colons) {
             return Ok(Name::Path(PathTree { first, more }));
         }
         let next = piece(tokens)?;
-        if next.kind == Kind::Text {
+        if next.kind == TokenKind::Text {
             let path = PathTree { first, more };
             return Ok(Name::Uid(UidTree { path, id: next }));
         }

@@ -23,7 +23,7 @@ use Rattle.typed_readings.proofs.Values.{same_bytes, both_true}
 use Rattle.serde_json.specs.Data.{Data}
 use Rattle.serde_json.specs.Data as json
 use Rattle.serde_json.specs.Find.{as_object}
-use Rattle.json_words.specs.Gives.{◌>>=◌, or_fault, demand}
+use Rattle.json_words.specs.ReadsAs.{◌>>=◌, or_fault, demand}
 use Rattle.values.specs.Values.{record_of, fields_of}
 use Rattle.values.specs.Fields.{Field}
 use Rattle.values.specs.Laws.{SetsHoldTheirMembers}

@@ -8,7 +8,7 @@ use Rattle.ancestor_closure.specs.Deciding.{Contains-here, Contains-there, Conta
 use Rattle.serde_json.specs.Data.{Data, Items, no_items, item, Members, no_members, member}
 use Rattle.serde_json.specs.Data as json
 use Rattle.serde_json.specs.Find.{as_bool, as_number, as_i64, as_str, get_member}
-use Rattle.json_words.specs.Gives.{◌>>=◌, or_fault, demand}
+use Rattle.json_words.specs.ReadsAs.{◌>>=◌, or_fault, demand}
 use Rattle.values.specs.Values.{PlainValue, boolean, long, text, entity, decimal, ipaddr, set, record_of, values_of, fields_of, pairs_of-fields_of}
 use Rattle.values.specs.Fields.{Field, find_field}
 use Rattle.values.specs.Uids.{text_cmp, text_cmp-IsAntisymmetric}

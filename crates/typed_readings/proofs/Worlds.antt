@@ -4,7 +4,7 @@ use Rattle.std.specs.Prelude.{Contains, ⊤, ◌⊎◌, ◌↔◌, IsTrue, IsFal
 use Rattle.serde_json.specs.Data.{Data}
 use Rattle.serde_json.specs.Find.{get}
 use Rattle.std.specs.Prelude.{codes}
-use Rattle.json_words.specs.Gives.{◌>>=◌, or_fault, demand}
+use Rattle.json_words.specs.ReadsAs.{◌>>=◌, or_fault, demand}
 use Rattle.values.specs.declared.entity_uid.EntityUid.{EntityUid}
 use Rattle.values.specs.declared.request.Request.{Request}
 use Rattle.values.specs.Values.{record_of, fields_of}

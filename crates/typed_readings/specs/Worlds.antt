@@ -10,8 +10,8 @@ use Rattle.values.specs.declared.request.Request.{Request}
 use Rattle.values.specs.Values.{boolean}
 use Rattle.policy_grammar.specs.declared.policy.Policy.{Policy}
 use Rattle.policy_grammar.specs.Whole.{expression_of}
-use Rattle.evaluator.specs.Outcomes.{Outcome}
-use Rattle.evaluator.specs.Evaluation.{Gives}
+use Rattle.evaluator.specs.Outcomes.{EvaluationResult}
+use Rattle.evaluator.specs.Evaluation.{EvaluatesTo}
 use Rattle.schema.specs.Schemas.{EnvironmentOf, StatedSchema, IsSchemaOf}
 use Rattle.entity_worlds.specs.declared.entity.Entity.{Entity}
 use Rattle.static_types.specs.passed_on.entities.{entity_in}
@@ -45,6 +45,6 @@ WhatIsReadConforms = (bytes : List ℕ) (s : StatedSchema) → IsSchemaOf bytes 
 abbrev pub WhatIsStoredGoesRight : Type 0
 WhatIsStoredGoesRight = (bytes : List ℕ) (s : StatedSchema) → IsSchemaOf bytes s → (entities : EntityMap)
     → AreRead s entities → (us : List EntityUid) → AreListed entities us → (d : Data) (q : Request)
-    → StatesRequest s d q → (policy : Policy) → Passes s policy → (r : Outcome)
-    → Gives (closed_world s entities) q (expression_of policy) r
+    → StatesRequest s d q → (policy : Policy) → Passes s policy → (r : EvaluationResult)
+    → EvaluatesTo (closed_world s entities) q (expression_of policy) r
     → Fits boolean_type r × (IsImpossible s policy → r ≢ Ok (boolean true))

@@ -1,7 +1,7 @@
 -- The laws over bytes.
 use Rattle.std.proofs.Common.{◌≡◌, ℕ, suc, List, Some, Ok, arith, ◌≤◌, ◌<◌, inr}
 use Rattle.serde_json.specs.Data.{Data, depth}
-use Rattle.json_words.specs.Gives.{or_fault}
+use Rattle.json_words.specs.ReadsAs.{or_fault}
 use Rattle.json_words.specs.Json.{json_of}
 use Rattle.json_words.proofs.EachLemmas.{bind_ok}
 use Rattle.values.specs.Values.{PlainValue}

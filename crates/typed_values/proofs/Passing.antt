@@ -14,7 +14,7 @@ use Rattle.values.specs.Uids.{text_cmp, text_cmp-IsTotalOrder}
 use Rattle.schema_types.specs.Cedar.{Cedar, CedarFields, field}
 use Rattle.schema_types.specs.CedarViews.{cedar_view, cedar_fields_view}
 use Rattle.schema_types.specs.declared.cedar.CedarType.{CedarType}
-use Rattle.json_words.specs.Gives.{◌>>=◌, or_fault}
+use Rattle.json_words.specs.ReadsAs.{◌>>=◌, or_fault}
 use Rattle.typed_values.specs.declared.fault.ValueFault.{ValueFault}
 use Rattle.typed_values.specs.declared.fault.ValueFault.TheVariants.{Undeclared}
 use Rattle.typed_values.specs.Parts.{declared_at}

@@ -8,7 +8,7 @@ use Rattle.std.specs.Ordering.{ordering_reverse}
 use Rattle.std.proofs.lemmas.List.{drop_more, drop_all, append-nil}
 use Rattle.serde_json.specs.View.{view, items_view, members_view}
 use Rattle.serde_json.specs.declared.value.Value.{Value}
-use Rattle.json_words.specs.Gives.{◌>>=◌, Fails}
+use Rattle.json_words.specs.ReadsAs.{◌>>=◌, Fails}
 use Rattle.values.specs.Values.{PlainValue}
 use Rattle.values.specs.Fields.{Field, put}
 use Rattle.values.specs.Uids.{text_cmp, text_cmp-IsTotalOrder}

@@ -1,7 +1,7 @@
 -- Values as texts.
 use Rattle.std.specs.Prelude.{ℕ, List, Result}
 use Rattle.serde_json.specs.Written.{compact_text}
-use Rattle.json_words.specs.Gives.{◌>>=◌, or_fault}
+use Rattle.json_words.specs.ReadsAs.{◌>>=◌, or_fault}
 use Rattle.json_words.specs.Json.{json_of}
 use Rattle.values.specs.Values.{PlainValue}
 use Rattle.schema_types.specs.Cedar.{Cedar}

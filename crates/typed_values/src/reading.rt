@@ -1,7 +1,7 @@
 //! Reading by a type.
 ghost use Rattle.std.specs.Prelude.{◌≡◌, option_map};
 ghost use Rattle.serde_json.specs.View.{view, items_view, members_view};
-ghost use Rattle.json_words.specs.Gives.{Gives, GivesAlways, or_fault};
+ghost use Rattle.json_words.specs.ReadsAs.{ReadsAs, AlwaysReadsAs, or_fault};
 ghost use Rattle.json_words.specs.Json.{text_at as text_in_json};
 ghost use Rattle.schema_types.specs.CedarViews.{cedar_view, cedar_fields_view};
 ghost use Rattle.typed_values.specs.declared.fault.ValueFault.TheVariants as ValueFault;
@@ -91,7 +91,7 @@ fn has_required(fields: &Fields, value: &Json) -> bool
 
 /// The text at a key, which must be there.
 fn read_text_at<'v>(value: &'v Json, key: &str) -> Result<&'v str, ValueFault>
-    ensures { Gives ValueFault.NoMemory (λ s. s.now) result
+    ensures { ReadsAs ValueFault.NoMemory (λ s. s.now) result
         (or_fault ValueFault.WrongType (text_in_json key.now (view value.now))) }
 {
     match text_at(value, key) {
@@ -103,7 +103,7 @@ fn read_text_at<'v>(value: &'v Json, key: &str) -> Result<&'v str, ValueFault>
 /// The argument of a call of this name.
 #[tactic(auto, unfolding(crate::specs::Typing::plain_call))]
 fn read_plain_call<'v>(value: &'v Json, name: &str) -> Result<&'v str, ValueFault>
-    ensures { Gives ValueFault.NoMemory (λ s. s.now) result (plain_call name.now (view value.now)) }
+    ensures { ReadsAs ValueFault.NoMemory (λ s. s.now) result (plain_call name.now (view value.now)) }
 {
     if !only_keys(value, &["fn", "arg"]) {
         return Err(ValueFault::WrongType);
@@ -119,7 +119,7 @@ fn read_plain_call<'v>(value: &'v Json, name: &str) -> Result<&'v str, ValueFaul
 /// The same, also under `__extn`.
 #[tactic(auto, unfolding(crate::specs::Typing::call_in))]
 fn read_call<'v>(value: &'v Json, name: &str) -> Result<&'v str, ValueFault>
-    ensures { Gives ValueFault.NoMemory (λ s. s.now) result (call_in name.now (view value.now)) }
+    ensures { ReadsAs ValueFault.NoMemory (λ s. s.now) result (call_in name.now (view value.now)) }
 {
     match value.get("__extn") {
         None => read_plain_call(value, name),
@@ -135,7 +135,7 @@ fn read_call<'v>(value: &'v Json, name: &str) -> Result<&'v str, ValueFault>
 /// The argument alone, or that of a call.
 #[tactic(auto, unfolding(crate::specs::Typing::argument_in))]
 fn read_argument<'v>(value: &'v Json, name: &str) -> Result<&'v str, ValueFault>
-    ensures { Gives ValueFault.NoMemory (λ s. s.now) result (argument_in name.now (view value.now)) }
+    ensures { ReadsAs ValueFault.NoMemory (λ s. s.now) result (argument_in name.now (view value.now)) }
 {
     match value.as_str() {
         Some(text) => Ok(text),
@@ -157,7 +157,7 @@ fn parse_network(text: &str) -> Option<IpNet>
 
 #[tactic(auto, unfolding(crate::specs::Typing::boolean_in))]
 fn read_boolean(value: &Json) -> Result<Value, ValueFault>
-    ensures { Gives ValueFault.NoMemory (λ v. v) result (boolean_in (view value.now)) }
+    ensures { ReadsAs ValueFault.NoMemory (λ v. v) result (boolean_in (view value.now)) }
 {
     match value.as_bool() {
         Some(b) => Ok(Value::boolean(b)),
@@ -167,14 +167,14 @@ fn read_boolean(value: &Json) -> Result<Value, ValueFault>
 
 /// A number of 64 bits, which is within what a Long can be.
 fn long_value(number: i64) -> Result<Value, ValueFault>
-    ensures { GivesAlways (λ v. v) result (long_of number) }
+    ensures { AlwaysReadsAs (λ v. v) result (long_of number) }
 {
     Ok(Value::long(number))
 }
 
 #[tactic(auto, unfolding(crate::specs::Typing::long_in))]
 fn read_long(value: &Json) -> Result<Value, ValueFault>
-    ensures { Gives ValueFault.NoMemory (λ v. v) result (long_in (view value.now)) }
+    ensures { ReadsAs ValueFault.NoMemory (λ v. v) result (long_in (view value.now)) }
 {
     match value {
         Json::Number(number) => match number.as_i64() {
@@ -187,7 +187,7 @@ fn read_long(value: &Json) -> Result<Value, ValueFault>
 
 #[tactic(auto, unfolding(crate::specs::Typing::text_in))]
 fn read_text(alloc: Global, value: &Json) -> Result<Value, ValueFault>
-    ensures { Gives ValueFault.NoMemory (λ v. v) result (text_in (view value.now)) }
+    ensures { ReadsAs ValueFault.NoMemory (λ v. v) result (text_in (view value.now)) }
 {
     match value.as_str() {
         Some(text) => Ok(Value::text(Text::from_str(alloc, text)?)),
@@ -198,7 +198,7 @@ fn read_text(alloc: Global, value: &Json) -> Result<Value, ValueFault>
 /// The entity that a value names, which is of this type.
 #[tactic(auto, unfolding(crate::specs::Typing::entity_in))]
 fn read_entity(alloc: Global, value: &Json, name: &TypeName) -> Result<Value, ValueFault>
-    ensures { Gives ValueFault.NoMemory (λ v. v) result (entity_in name.now (view value.now)) }
+    ensures { ReadsAs ValueFault.NoMemory (λ v. v) result (entity_in name.now (view value.now)) }
 {
     let Some(uid) = read_uid(alloc, value)? else {
         return Err(ValueFault::WrongType);
@@ -211,7 +211,7 @@ fn read_entity(alloc: Global, value: &Json, name: &TypeName) -> Result<Value, Va
 
 #[tactic(auto, unfolding(crate::specs::Typing::decimal_in))]
 fn read_decimal(value: &Json) -> Result<Value, ValueFault>
-    ensures { Gives ValueFault.NoMemory (λ v. v) result (decimal_in (view value.now)) }
+    ensures { ReadsAs ValueFault.NoMemory (λ v. v) result (decimal_in (view value.now)) }
 {
     let text = read_argument(value, "decimal")?;
     match parse_decimal(text) {
@@ -222,7 +222,7 @@ fn read_decimal(value: &Json) -> Result<Value, ValueFault>
 
 #[tactic(auto, unfolding(crate::specs::Typing::ipaddr_in))]
 fn read_network(value: &Json) -> Result<Value, ValueFault>
-    ensures { Gives ValueFault.NoMemory (λ v. v) result (ipaddr_in (view value.now)) }
+    ensures { ReadsAs ValueFault.NoMemory (λ v. v) result (ipaddr_in (view value.now)) }
 {
     let text = read_argument(value, "ip")?;
     match parse_network(text) {
@@ -233,7 +233,7 @@ fn read_network(value: &Json) -> Result<Value, ValueFault>
 
 /// A value that is neither a set nor a record.
 fn read_leaf(alloc: Global, value: &Json, ty: &CedarType) -> Result<Value, ValueFault>
-    ensures { Gives ValueFault.NoMemory (λ v. v) result (leaf (cedar_view ty.now) (view value.now)) }
+    ensures { ReadsAs ValueFault.NoMemory (λ v. v) result (leaf (cedar_view ty.now) (view value.now)) }
 {
     match ty {
         CedarType::Boolean => read_boolean(value),
@@ -262,7 +262,7 @@ fn inside(fault: ValueFault) -> ValueFault
 #[cycle(typed)]
 #[tactic(auto, unfolding(crate::specs::Typing::typed))]
 fn typed(alloc: Global, value: &Json, ty: &CedarType) -> Result<Value, ValueFault>
-    ensures { Gives ValueFault.NoMemory (λ v. v) result (typed_of (cedar_view ty.now) (view value.now)) }
+    ensures { ReadsAs ValueFault.NoMemory (λ v. v) result (typed_of (cedar_view ty.now) (view value.now)) }
 {
     match value {
         Json::Null => read_leaf(alloc, value, ty),
@@ -294,7 +294,7 @@ fn typed(alloc: Global, value: &Json, ty: &CedarType) -> Result<Value, ValueFaul
 
 #[cycle(typed)]
 fn typed_items(alloc: Global, items: &Vec<Json>, ty: &CedarType) -> Result<Vec<Value>, ValueFault>
-    ensures { Gives ValueFault.NoMemory (λ vs. vs.items) result
+    ensures { ReadsAs ValueFault.NoMemory (λ vs. vs.items) result
         (items_of_type (cedar_view ty.now) (items_view items.now.items)) }
 {
     let mut values = Vec::new(alloc);
@@ -311,7 +311,7 @@ fn typed_members(
     members: &Map<String, Json>,
     fields: &Fields,
 ) -> Result<Record, ValueFault>
-    ensures { Gives ValueFault.NoMemory (λ r. r) result
+    ensures { ReadsAs ValueFault.NoMemory (λ r. r) result
         (members_of_type (cedar_fields_view fields.now) (members_view members.now.entries)) }
 {
     let mut record = Record::new(alloc);
@@ -336,7 +336,7 @@ fn typed_members(
 /// decimal or address, an entity of another type, a field that the type does not have, or a required one that is
 /// missing.
 pub fn read_value(alloc: Global, value: &Json, ty: &CedarType) -> Result<Value, ValueFault>
-    ensures { Gives ValueFault.NoMemory (λ v. v) result (typed_of (cedar_view ty.now) (view value.now)) }
+    ensures { ReadsAs ValueFault.NoMemory (λ v. v) result (typed_of (cedar_view ty.now) (view value.now)) }
 {
     typed(alloc, value, ty)
 }
@@ -347,7 +347,7 @@ pub fn read_value(alloc: Global, value: &Json, ty: &CedarType) -> Result<Value, 
 /// `WrongType`; and then that a required field is `Missing`. No object, or a type that is no record, is `WrongType`.
 #[tactic(auto, unfolding(crate::specs::Typing::record_in))]
 pub fn read_record(alloc: Global, value: &Json, ty: &CedarType) -> Result<Record, ValueFault>
-    ensures { Gives ValueFault.NoMemory (λ r. r) result (record_in (cedar_view ty.now) (view value.now)) }
+    ensures { ReadsAs ValueFault.NoMemory (λ r. r) result (record_in (cedar_view ty.now) (view value.now)) }
 {
     let Some(fields) = fields(ty) else {
         return Err(ValueFault::WrongType);

@@ -2,7 +2,7 @@
 use Rattle.std.specs.Prelude.{◌≡◌, ◌≢◌, true, Ok, Err}
 use Rattle.std.proofs.Common.{subst}
 use Rattle.values.specs.Values.{PlainValue, boolean}
-use Rattle.evaluator.specs.Outcomes.{Outcome}
+use Rattle.evaluator.specs.Outcomes.{EvaluationResult}
 use Rattle.typing.specs.Types
 use Rattle.typing.specs.Types.{StaticType, IsBoolean}
 use Rattle.typing.specs.Membership
@@ -14,11 +14,11 @@ widen Types.is_true Membership.of_true = Membership.of_boolean
 widen Types.is_false Membership.of_false = Membership.of_boolean
 widen Types.is_either h = h
 
-pub boolean_fits : (t : StaticType) (r : Outcome) → IsBoolean t → Fits t r → Fits Types.boolean_type r
+pub boolean_fits : (t : StaticType) (r : EvaluationResult) → IsBoolean t → Fits t r → Fits Types.boolean_type r
 boolean_fits t (Ok v) i h = widen i h
 boolean_fits t (Err e) i h = h
 
-pub never_true : (t : StaticType) (r : Outcome) → Fits t r → t ≡ Types.false_type → r ≢ Ok (boolean true)
+pub never_true : (t : StaticType) (r : EvaluationResult) → Fits t r → t ≡ Types.false_type → r ≢ Ok (boolean true)
 never_true t r h e = λ f. not_false (subst (λ s. Fits s (Ok (boolean true))) e (subst (Fits t) f h))
   where
     not_false : Of (boolean true) Types.false_type → ⊥

@@ -25,11 +25,12 @@ use Rattle.expressions.specs.declared.expr.Expr.TheVariants as form
 use Rattle.expressions.specs.declared.expr.Expr.TheOpen.{Expr-F}
 use Rattle.evaluator.specs.declared.fault.EvalFault.{EvalFault}
 use Rattle.evaluator.specs.Outcomes
-use Rattle.evaluator.specs.Outcomes.{Outcome, IsTruthOf, boolean_in}
+use Rattle.evaluator.specs.Outcomes.{EvaluationResult, IsTruthOf, boolean_in}
+use Rattle.ancestor_closure.specs.Hierarchy.{IsIn}
 use Rattle.evaluator.specs.Operators
-use Rattle.evaluator.specs.Operators.{World, IsIn, BinaryGives, FieldGives, HasGives, UnaryCallGives}
+use Rattle.evaluator.specs.Operators.{World, BinaryGives, FieldGives, HasGives, UnaryCallGives}
 use Rattle.evaluator.specs.Evaluation as rule
-use Rattle.evaluator.specs.Evaluation.{Gives, TestFails, GivesEach, literal_value, variable_value, put_each}
+use Rattle.evaluator.specs.Evaluation.{EvaluatesTo, TestFails, EachEvaluatesTo, literal_value, variable_value, put_each}
 use Rattle.evaluator.specs.Laws.{HasOneOutcome}
 use Rattle.typing.specs.Types
 use Rattle.typing.specs.Types.{StaticType, FieldTypes, IsBoolean, common, common_of, truth_type}
@@ -55,13 +56,13 @@ use Rattle.typing.proofs.Inverting.{IfGives, AndGives, OrGives, OneGives, TwoGiv
 none_there : {A G : Type 0} {a : A} → Some a ≡ None → G
 none_there e = None-Some (sym e)
 
-never : {A : Type 0} {e : EvalFault} {v : PlainValue} → (let m : Outcome = Err e in m ≡ Ok v) → A
+never : {A : Type 0} {e : EvalFault} {v : PlainValue} → (let m : EvaluationResult = Err e in m ≡ Ok v) → A
 never h = absurd (cc)
 
-Ok-same : {v w : PlainValue} → (let m : Outcome = Ok v in m ≡ Ok w) → v ≡ w
+Ok-same : {v w : PlainValue} → (let m : EvaluationResult = Ok v in m ≡ Ok w) → v ≡ w
 Ok-same e = cc
 
-not_true : {A : Type 0} → (let m : Outcome = Ok (boolean false) in m ≡ Ok (boolean true)) → A
+not_true : {A : Type 0} → (let m : EvaluationResult = Ok (boolean false) in m ≡ Ok (boolean true)) → A
 not_true h = absurd (cc)
 
 no_test : {v : PlainValue} {t : StaticType} {G : Type 0} → IsBoolean t → Of v t → boolean_in v ≡ None → G
@@ -103,12 +104,12 @@ module _ (env : Environment) (W : World) (q : Request) (C : Conforms env W q) (o
   abbrev Present : Pairs → Type 0
   Present K = ArePresent W q K
 
-  abbrev Right : StaticType → Pairs → Outcome → Type 0
+  abbrev Right : StaticType → Pairs → EvaluationResult → Type 0
   Right t L r = GoesRight W q t L r
 
   -- whatever the expression gives goes right
   abbrev Goes : Expr → StaticType → Pairs → Type 0
-  Goes x t L = (r : Outcome) → Gives W q x r → Right t L r
+  Goes x t L = (r : EvaluationResult) → EvaluatesTo W q x r → Right t L r
 
   pub nothing : Present []
   nothing = record { each = λ p c. Contains-none p c }
@@ -133,10 +134,10 @@ module _ (env : Environment) (W : World) (q : Request) (C : Conforms env W q) (o
   or_right_learns (Learned.or_learns_both g) h m = both_right g m
 
   -- one outcome
-  same_outcome : {x : Expr} {r s : Outcome} → Gives W q x r → Gives W q x s → r ≡ s
+  same_outcome : {x : Expr} {r s : EvaluationResult} → EvaluatesTo W q x r → EvaluatesTo W q x s → r ≡ s
   same_outcome {x} {r} {s} g h = let o = one x in o.2 r g ∙ sym (o.2 s h)
 
-  learns_nothing : {t : StaticType} {r : Outcome} → Fits t r → Right t [] r
+  learns_nothing : {t : StaticType} {r : EvaluationResult} → Fits t r → Right t [] r
   learns_nothing h = record { fits = h; learned = λ e. nothing }
 
   harmless : {t : StaticType} {L : Pairs} {e : EvalFault} → IsHarmless e → Right t L (Err e)
@@ -152,13 +153,13 @@ module _ (env : Environment) (W : World) (q : Request) (C : Conforms env W q) (o
 
   -- ---- `&&`, `||` and `if`
 
-  and_false_goes : {a b : Expr} {L : Pairs} {r : Outcome} → Goes a Types.false_type L → AndGives W q a b r → Right Types.false_type [] r
+  and_false_goes : {a b : Expr} {L : Pairs} {r : EvaluationResult} → Goes a Types.false_type L → AndGives W q a b r → Right Types.false_type [] r
   and_false_goes f (gives.left_false g) = is_false Membership.of_false
   and_false_goes f (gives.both_give g h) = let i = (f _ g).fits in elim i [ ]
   and_false_goes f (gives.and_left g) = harmless (test_fails Types.is_false f g)
   and_false_goes f (gives.and_right g h) = let i = (f _ g).fits in elim i [ ]
 
-  and_goes : {a b : Expr} {s t : StaticType} {L M : Pairs} {r : Outcome} → Goes a s L → Rows.MayBeTrue s → (Present L → Goes b t M) → IsBoolean t
+  and_goes : {a b : Expr} {s t : StaticType} {L M : Pairs} {r : EvaluationResult} → Goes a s L → Rows.MayBeTrue s → (Present L → Goes b t M) → IsBoolean t
       → AndGives W q a b r → Right (Rows.and_type s t) (L ++ M) r
   and_goes f p k i (gives.left_false g) = is_false (and_false_fits p i (f _ g).fits)
   and_goes {L} {M} f p k i (gives.both_give g h) =
@@ -166,46 +167,46 @@ module _ (env : Environment) (W : World) (q : Request) (C : Conforms env W q) (o
   and_goes f p k i (gives.and_left g) = harmless (test_fails (may_be_boolean p) f g)
   and_goes f p k i (gives.and_right g h) = harmless (test_fails i (k ((f _ g).learned refl)) h)
 
-  or_true_goes : {a b : Expr} {L : Pairs} {r : Outcome} → Goes a Types.true_type L → OrGives W q a b r → Right Types.true_type [] r
+  or_true_goes : {a b : Expr} {L : Pairs} {r : EvaluationResult} → Goes a Types.true_type L → OrGives W q a b r → Right Types.true_type [] r
   or_true_goes f (gives.left_true g) = learns_nothing Membership.of_true
   or_true_goes f (gives.right_gives g h) = let i = (f _ g).fits in elim i [ ]
   or_true_goes f (gives.or_left g) = harmless (test_fails Types.is_true f g)
   or_true_goes f (gives.or_right g h) = let i = (f _ g).fits in elim i [ ]
 
-  or_false_goes : {a b : Expr} {t : StaticType} {L M : Pairs} {r : Outcome} → Goes a Types.false_type L → Goes b t M → IsBoolean t
+  or_false_goes : {a b : Expr} {t : StaticType} {L M : Pairs} {r : EvaluationResult} → Goes a Types.false_type L → Goes b t M → IsBoolean t
       → OrGives W q a b r → Right t M r
   or_false_goes f k i (gives.left_true g) = let j = (f _ g).fits in elim j [ ]
   or_false_goes f k i (gives.right_gives g h) = k _ h
   or_false_goes f k i (gives.or_left g) = harmless (test_fails Types.is_false f g)
   or_false_goes f k i (gives.or_right g h) = harmless (test_fails i k h)
 
-  right_true : {t : StaticType} {b : Bool} → Of (boolean b) t → (let m : Outcome = Ok (boolean b) in m ≡ Ok (boolean true)) → Of (boolean true) t
+  right_true : {t : StaticType} {b : Bool} → Of (boolean b) t → (let m : EvaluationResult = Ok (boolean b) in m ≡ Ok (boolean true)) → Of (boolean true) t
   right_true {t} h e = subst (λ v. Of v t) (Ok-same e) h
 
-  or_goes : {a b : Expr} {t : StaticType} {L M N : Pairs} {r : Outcome} → Goes a Types.boolean_type L → Goes b t M → IsBoolean t → OrLearns t L M N
+  or_goes : {a b : Expr} {t : StaticType} {L M N : Pairs} {r : EvaluationResult} → Goes a Types.boolean_type L → Goes b t M → IsBoolean t → OrLearns t L M N
       → OrGives W q a b r → Right (Rows.or_type t) N r
   or_goes f k i l (gives.left_true g) = record { fits = or_true_fits i; learned = λ e. or_left_learns l ((f _ g).learned refl) }
   or_goes f k i l (gives.right_gives g h) = let b = k _ h in record { fits = or_fits i b.fits; learned = λ e. or_right_learns l (right_true b.fits e) (b.learned e) }
   or_goes f k i l (gives.or_left g) = harmless (test_fails Types.is_either f g)
   or_goes f k i l (gives.or_right g h) = harmless (test_fails i k h)
 
-  if_true_goes : {a b c : Expr} {t : StaticType} {L M : Pairs} {r : Outcome} → Goes a Types.true_type L → (Present L → Goes b t M)
+  if_true_goes : {a b c : Expr} {t : StaticType} {L M : Pairs} {r : EvaluationResult} → Goes a Types.true_type L → (Present L → Goes b t M)
       → IfGives W q a b c r → Right t (L ++ M) r
   if_true_goes {L} {M} f k (gives.then_gives g h) = let l = (f _ g).learned refl in let b = k l _ h in record { fits = b.fits; learned = λ e. present_joined L M l (b.learned e) }
   if_true_goes f k (gives.else_gives g h) = let i = (f _ g).fits in elim i [ ]
   if_true_goes f k (gives.test_fails g) = harmless (test_fails Types.is_true f g)
 
-  if_false_goes : {a b c : Expr} {t : StaticType} {L M : Pairs} {r : Outcome} → Goes a Types.false_type L → Goes c t M
+  if_false_goes : {a b c : Expr} {t : StaticType} {L M : Pairs} {r : EvaluationResult} → Goes a Types.false_type L → Goes c t M
       → IfGives W q a b c r → Right t M r
   if_false_goes f k (gives.then_gives g h) = let i = (f _ g).fits in elim i [ ]
   if_false_goes f k (gives.else_gives g h) = k _ h
   if_false_goes f k (gives.test_fails g) = harmless (test_fails Types.is_false f g)
 
-  fits_more : {s t : StaticType} (r : Outcome) → Widens s t → Fits s r → Fits t r
+  fits_more : {s t : StaticType} (r : EvaluationResult) → Widens s t → Fits s r → Fits t r
   fits_more (Ok v) f h = f v h
   fits_more (Err e) f h = h
 
-  if_goes : {a b c : Expr} (s t u : StaticType) {L M N B : Pairs} {r : Outcome} → Goes a Types.boolean_type L → (Present L → Goes b s M) → Goes c t N
+  if_goes : {a b c : Expr} (s t u : StaticType) {L M N B : Pairs} {r : EvaluationResult} → Goes a Types.boolean_type L → (Present L → Goes b s M) → Goes c t N
       → common s t ≡ Some u → InBoth N (L ++ M) B → IfGives W q a b c r → Right u B r
   if_goes s t u {L} {M} {r} f k m e i (gives.then_gives g h) =
       let l = (f _ g).learned refl in
@@ -217,22 +218,22 @@ module _ (env : Environment) (W : World) (q : Request) (C : Conforms env W q) (o
 
   -- ---- operands
 
-  one_goes : {a : Expr} {R : PlainValue → Outcome → Type 0} (s : StaticType) (row : Row) (t : StaticType) {L : Pairs} {r : Outcome} → Goes a s L → row ≡ Ok t
-      → ((v : PlainValue) → Gives W q a (Ok v) → Of v s → (m : Outcome) → R v m → FitsRow row m) → OneGives W q a R r → Fits t r
+  one_goes : {a : Expr} {R : PlainValue → EvaluationResult → Type 0} (s : StaticType) (row : Row) (t : StaticType) {L : Pairs} {r : EvaluationResult} → Goes a s L → row ≡ Ok t
+      → ((v : PlainValue) → EvaluatesTo W q a (Ok v) → Of v s → (m : EvaluationResult) → R v m → FitsRow row m) → OneGives W q a R r → Fits t r
   one_goes s row t f e k (gives.one_value {v} {r} g u) = subst (λ x. FitsRow x r) e (k v g (f _ g).fits r u)
   one_goes s row t f e k (gives.one_fails g) = (f _ g).fits
 
-  two_goes : {a b : Expr} {R : PlainValue → PlainValue → Outcome → Type 0} (s t : StaticType) (row : Row) (u : StaticType) {L M : Pairs} {r : Outcome} → Goes a s L → Goes b t M
-      → row ≡ Ok u → ((v w : PlainValue) → Of v s → Of w t → (m : Outcome) → R v w m → FitsRow row m) → TwoGive W q a b R r → Fits u r
+  two_goes : {a b : Expr} {R : PlainValue → PlainValue → EvaluationResult → Type 0} (s t : StaticType) (row : Row) (u : StaticType) {L M : Pairs} {r : EvaluationResult} → Goes a s L → Goes b t M
+      → row ≡ Ok u → ((v w : PlainValue) → Of v s → Of w t → (m : EvaluationResult) → R v w m → FitsRow row m) → TwoGive W q a b R r → Fits u r
   two_goes s t row u f h e k (gives.two_values {v} {w} {r} g i j) = subst (λ x. FitsRow x r) e (k v w (f _ g).fits (h _ i).fits r j)
   two_goes s t row u f h e k (gives.left_fails g) = (f _ g).fits
   two_goes s t row u f h e k (gives.right_fails g i) = (h _ i).fits
 
   -- where a pair is known, the value has the field
-  value_has : {a : Expr} {v : PlainValue} {k : List ℕ} → Gives W q a (Ok v) → OneGives W q a (HasGives W k) (Ok (boolean true)) → HasGives W k v (Ok (boolean true))
+  value_has : {a : Expr} {v : PlainValue} {k : List ℕ} → EvaluatesTo W q a (Ok v) → OneGives W q a (HasGives W k) (Ok (boolean true)) → HasGives W k v (Ok (boolean true))
   value_has {k} g (gives.one_value h u) = subst (λ w. HasGives W k w (Ok (boolean true))) (Ok-same (same_outcome h g)) u
 
-  known_has : {K : Pairs} (a : Expr) (k : List ℕ) (b : Bool) {v : PlainValue} → Present K → Decides b (Contains K (a, k)) → Gives W q a (Ok v)
+  known_has : {K : Pairs} (a : Expr) (k : List ℕ) (b : Bool) {v : PlainValue} → Present K → Decides b (Contains K (a, k)) → EvaluatesTo W q a (Ok v)
       → b ≡ true → HasGives W k v (Ok (boolean true))
   known_has a k b h d g e = value_has g (layer W q (Expr-F.Has a k) (form.outs-Has a k) (h.each (a, k) (d.0 e)))
 
@@ -254,7 +255,7 @@ module _ (env : Environment) (W : World) (q : Request) (C : Conforms env W q) (o
   EachFit ts (Ok vs) = AllOf vs ts
   EachFit ts (Err e) = IsHarmless e
 
-  set_of_row : (o : Option StaticType) (r : Outcome) → ((u : StaticType) → o ≡ Some u → Fits (Types.set_type u) r) → FitsRow (Rows.set_of_common o) r
+  set_of_row : (o : Option StaticType) (r : EvaluationResult) → ((u : StaticType) → o ≡ Some u → Fits (Types.set_type u) r) → FitsRow (Rows.set_of_common o) r
   set_of_row None r f = tt
   set_of_row (Some u) r f = f u refl
 
@@ -263,7 +264,7 @@ module _ (env : Environment) (W : World) (q : Request) (C : Conforms env W q) (o
   set_row (t ∷ ts) [] s h i = absurd h
   set_row (t ∷ ts) (v ∷ vs) s h i = set_of_row (common_of t ts) _ (λ u e. set_of (v ∷ vs) s u i (common_of_has t ts u e v vs h.0 h.1))
 
-  set_goes : {xs : List Expr} (ts : List StaticType) (t : StaticType) {r : Outcome} → ((m : Result (List PlainValue) EvalFault) → GivesEach W q xs m → EachFit ts m)
+  set_goes : {xs : List Expr} (ts : List StaticType) (t : StaticType) {r : EvaluationResult} → ((m : Result (List PlainValue) EvalFault) → EachEvaluatesTo W q xs m → EachFit ts m)
       → Rows.set_literal_type ts ≡ Ok t → SetGives W q xs r → Fits t r
   unfolding EachFit
   set_goes ts t f e (gives.set_value {vs} {s} g i) = subst (λ x. FitsRow x (Ok (set (values_of s)))) e (set_row ts vs s (f _ g) i)
@@ -278,8 +279,8 @@ module _ (env : Environment) (W : World) (q : Request) (C : Conforms env W q) (o
   put_all_fit (x ∷ xs) (v ∷ vs) (t ∷ ts) h done us f = put_all_fit xs vs ts h.1 (put x.name v done) (Types.put_required x.name t us) (put_fits x.name v t done us h.0 f)
   put_all_fit xs vs ts h done us f = absurd h
 
-  record_goes : {xs : List (Named Expr)} (ts : List StaticType) {r : Outcome}
-      → ((m : Result (List PlainValue) EvalFault) → GivesEach W q (map (λ x. x.value) xs) m → EachFit ts m) → RecordGives W q xs r
+  record_goes : {xs : List (Named Expr)} (ts : List StaticType) {r : EvaluationResult}
+      → ((m : Result (List PlainValue) EvalFault) → EachEvaluatesTo W q (map (λ x. x.value) xs) m → EachFit ts m) → RecordGives W q xs r
       → Fits (Types.record_type (Types.put_each (map (λ x. x.name) xs) ts Types.no_field_types)) r
   unfolding EachFit
   record_goes {xs} ts f (gives.record_value {vs} g) = record_fits (put_each xs vs []) _ (put_all_fit xs vs ts (f _ g) [] Types.no_field_types (λ k. Membership.absent))
@@ -300,17 +301,17 @@ module _ (env : Environment) (W : World) (q : Request) (C : Conforms env W q) (o
   variable_of variable.Resource = Membership.of_entity C.resource
   variable_of variable.Context = C.context
 
-  value_goes : {t : StaticType} {v : PlainValue} {r : Outcome} → Of v t → r ≡ Ok v → Right t [] r
+  value_goes : {t : StaticType} {v : PlainValue} {r : EvaluationResult} → Of v t → r ≡ Ok v → Right t [] r
   value_goes {t} h e = learns_nothing (subst (Fits t) (sym e) h)
 
-  literal_gives : {x : Expr} {l : Literal} {r : Outcome} → IsLiteral env x l → Gives W q x r → r ≡ Ok (literal_value l)
+  literal_gives : {x : Expr} {l : Literal} {r : EvaluationResult} → IsLiteral env x l → EvaluatesTo W q x r → r ≡ Ok (literal_value l)
   literal_gives (Literals.stated {l}) g = layer W q (Expr-F.Literal l) (form.outs-Literal l) g
   literal_gives Literals.action g = layer W q (Expr-F.Variable variable.Action) (form.outs-Variable variable.Action) g ∙ ap (λ u. Ok (entity u)) C.action
 
-  literal_is : {x : Expr} {l : Literal} {v : PlainValue} → IsLiteral env x l → Gives W q x (Ok v) → v ≡ literal_value l
+  literal_is : {x : Expr} {l : Literal} {v : PlainValue} → IsLiteral env x l → EvaluatesTo W q x (Ok v) → v ≡ literal_value l
   literal_is h g = Ok-same (literal_gives h g)
 
-  literal_errs : {x : Expr} {l : Literal} {e : EvalFault} {G : Type 0} → IsLiteral env x l → Gives W q x (Err e) → G
+  literal_errs : {x : Expr} {l : Literal} {e : EvalFault} {G : Type 0} → IsLiteral env x l → EvaluatesTo W q x (Err e) → G
   literal_errs h g = never (literal_gives h g)
 
   one_literal : (l m : Literal) → literal_value l ≡ literal_value m → l ≡ m
@@ -323,13 +324,13 @@ module _ (env : Environment) (W : World) (q : Request) (C : Conforms env W q) (o
   decides_as : {P Q : Type 0} {r : Bool} → (P → Q) → (Q → P) → Decides r P → Decides r Q
   decides_as f g d = (λ e. f (d.0 e), λ h. d.1 (g h))
 
-  equal_tells : {v w : PlainValue} {r : Outcome} → BinaryGives W binary.Equal v w r → IsTruthOf (v ≡ w) r
+  equal_tells : {v w : PlainValue} {r : EvaluationResult} → BinaryGives W binary.Equal v w r → IsTruthOf (v ≡ w) r
   equal_tells (Operators.equal t) = t
   equal_tells (Operators.of_numbers n) = absurd n
   equal_tells (Operators.no_numbers i e) = absurd i
   equal_tells (Operators.no_sets i e) = absurd i
 
-  equal_goes : {a b : Expr} {l m : Literal} (b0 : Bool) {r : Outcome} → IsLiteral env a l → IsLiteral env b m → Decides b0 (l ≡ m)
+  equal_goes : {a b : Expr} {l m : Literal} (b0 : Bool) {r : EvaluationResult} → IsLiteral env a l → IsLiteral env b m → Decides b0 (l ≡ m)
       → TwoGive W q a b (BinaryGives W binary.Equal) r → Fits (truth_type b0) r
   equal_goes {l} {m} b0 f h d (gives.two_values {v} {w} g i j) =
       decided_fits b0
@@ -340,28 +341,28 @@ module _ (env : Environment) (W : World) (q : Request) (C : Conforms env W q) (o
 
   -- ---- actions
 
-  action_above : (a b : EntityUid) → IsTrue (env.is_action_type a.type_name) → IsIn W a b → IsActionIn env a b
+  action_above : (a b : EntityUid) → IsTrue (env.is_action_type a.type_name) → IsIn W.parents a b → IsActionIn env a b
   action_above a b i (inl e) = inl e
   action_above a b i (inr p) = inr ((C.actions a i b).1 p)
 
-  above_action : (a b : EntityUid) → IsTrue (env.is_action_type a.type_name) → IsActionIn env a b → IsIn W a b
+  above_action : (a b : EntityUid) → IsTrue (env.is_action_type a.type_name) → IsActionIn env a b → IsIn W.parents a b
   above_action a b i (inl e) = inl e
   above_action a b i (inr c) = inr ((C.actions a i b).0 c)
 
   abbrev InSome : EntityUid → List EntityUid → Type 0
-  InSome u us = (v : EntityUid) × Contains us v × IsIn W u v
+  InSome u us = (v : EntityUid) × Contains us v × IsIn W.parents u v
 
   abbrev ActionInSome : EntityUid → List EntityUid → Type 0
   ActionInSome u us = (v : EntityUid) × Contains us v × IsActionIn env u v
 
-  in_one_tells : {u v : EntityUid} {r : Outcome} → BinaryGives W binary.In (entity u) (entity v) r → IsTruthOf (IsIn W u v) r
+  in_one_tells : {u v : EntityUid} {r : EvaluationResult} → BinaryGives W binary.In (entity u) (entity v) r → IsTruthOf (IsIn W.parents u v) r
   in_one_tells (Operators.in_entity t) = t
   in_one_tells (Operators.in_other i j) = none_there i
   in_one_tells (Operators.other_in i) = none_there i
   in_one_tells (Operators.no_numbers i e) = absurd i
   in_one_tells (Operators.no_sets i e) = absurd i
 
-  in_one_goes : {u v : EntityUid} (b0 : Bool) {r : Outcome} → IsTrue (env.is_action_type u.type_name) → Decides b0 (ActionInSome u (v ∷ []))
+  in_one_goes : {u v : EntityUid} (b0 : Bool) {r : EvaluationResult} → IsTrue (env.is_action_type u.type_name) → Decides b0 (ActionInSome u (v ∷ []))
       → BinaryGives W binary.In (entity u) (entity v) r → Fits (truth_type b0) r
   in_one_goes {u} {v} b0 i d j =
       decided_fits b0
@@ -380,7 +381,7 @@ module _ (env : Environment) (W : World) (q : Request) (C : Conforms env W q) (o
   unmapped us v c = let h = Contains-unmapped entity us (entity v) c in subst (Contains us) (entity_same h.2) h.1
 
   -- the members of a set of entities
-  in_some_goes : {u : EntityUid} (vs : List EntityUid) (s : List PlainValue) (b0 : Bool) {r : Outcome} → IsTrue (env.is_action_type u.type_name)
+  in_some_goes : {u : EntityUid} (vs : List EntityUid) (s : List PlainValue) (b0 : Bool) {r : EvaluationResult} → IsTrue (env.is_action_type u.type_name)
       → IsSetOf (map entity vs) s → Decides b0 (ActionInSome u vs) → BinaryGives W binary.In (entity u) (set (values_of s)) r → Fits (truth_type b0) r
   in_some_goes {u} vs s b0 i is d (Operators.in_set us same t) =
       let listed : s ≡ map entity us = sym (list_of-values_of s) ∙ same in
@@ -405,17 +406,17 @@ module _ (env : Environment) (W : World) (q : Request) (C : Conforms env W q) (o
   in_some_goes vs s b0 i is d (Operators.no_numbers e f) = absurd e
   in_some_goes vs s b0 i is d (Operators.no_sets e f) = absurd e
 
-  entities_give : {xs : List Expr} {us : List EntityUid} {vs : List PlainValue} → AreEntityLiterals env xs us → GivesEach W q xs (Ok vs) → vs ≡ map entity us
+  entities_give : {xs : List Expr} {us : List EntityUid} {vs : List PlainValue} → AreEntityLiterals env xs us → EachEvaluatesTo W q xs (Ok vs) → vs ≡ map entity us
   entities_give Literals.no_literals rule.each_none = refl
   entities_give (Literals.literal_before {u} {us} h hs) (rule.each_more {v} {vs} g gs) =
       ap (λ w. w ∷ vs) (literal_is h g) ∙ ap (λ (ws : List PlainValue). entity u ∷ ws) (entities_give hs gs)
 
-  entities_err : {xs : List Expr} {us : List EntityUid} {e : EvalFault} {G : Type 0} → AreEntityLiterals env xs us → GivesEach W q xs (Err e) → G
+  entities_err : {xs : List Expr} {us : List EntityUid} {e : EvalFault} {G : Type 0} → AreEntityLiterals env xs us → EachEvaluatesTo W q xs (Err e) → G
   entities_err Literals.no_literals g = elim g [ ]
   entities_err (Literals.literal_before h hs) (rule.each_fails g) = literal_errs h g
   entities_err (Literals.literal_before h hs) (rule.each_fails_later g gs) = entities_err hs gs
 
-  in_set_goes : {u : EntityUid} {xs : List Expr} (vs : List EntityUid) {w : PlainValue} (b0 : Bool) {r m : Outcome} → IsTrue (env.is_action_type u.type_name)
+  in_set_goes : {u : EntityUid} {xs : List Expr} (vs : List EntityUid) {w : PlainValue} (b0 : Bool) {r m : EvaluationResult} → IsTrue (env.is_action_type u.type_name)
       → AreEntityLiterals env xs vs → Decides b0 (ActionInSome u vs) → SetGives W q xs m → m ≡ Ok w
       → BinaryGives W binary.In (entity u) w r → Fits (truth_type b0) r
   in_set_goes {u} vs {w} b0 {r} i hs d (gives.set_value {vs = ws} {s} g is) e j =
@@ -423,23 +424,23 @@ module _ (env : Environment) (W : World) (q : Request) (C : Conforms env W q) (o
       (subst (λ v. BinaryGives W binary.In (entity u) v r) (sym (Ok-same e)) j)
   in_set_goes vs b0 i hs d (gives.member_fails g) e j = never e
 
-  listed_goes : {b : Expr} {u : EntityUid} {vs : List EntityUid} {w : PlainValue} (b0 : Bool) {r : Outcome} → IsTrue (env.is_action_type u.type_name)
-      → ListsEntities env b vs → Decides b0 (ActionInSome u vs) → Gives W q b (Ok w) → BinaryGives W binary.In (entity u) w r → Fits (truth_type b0) r
+  listed_goes : {b : Expr} {u : EntityUid} {vs : List EntityUid} {w : PlainValue} (b0 : Bool) {r : EvaluationResult} → IsTrue (env.is_action_type u.type_name)
+      → ListsEntities env b vs → Decides b0 (ActionInSome u vs) → EvaluatesTo W q b (Ok w) → BinaryGives W binary.In (entity u) w r → Fits (truth_type b0) r
   listed_goes {u = a} {w} b0 {r} i (Literals.alone {u = v} h) d g j =
       in_one_goes b0 i d (subst (λ x. BinaryGives W binary.In (entity a) x r) (literal_is h g) j)
   listed_goes {vs} b0 i (Literals.in_set {x} {xs} hs) d g j =
       in_set_goes vs b0 i hs d (layer W q (Expr-F.Set (x ∷ xs)) (form.outs-Set (x ∷ xs)) g) refl j
 
-  set_errs : {xs : List Expr} {us : List EntityUid} {e : EvalFault} {m : Outcome} {G : Type 0} → AreEntityLiterals env xs us → SetGives W q xs m
+  set_errs : {xs : List Expr} {us : List EntityUid} {e : EvalFault} {m : EvaluationResult} {G : Type 0} → AreEntityLiterals env xs us → SetGives W q xs m
       → m ≡ Err e → G
   set_errs hs (gives.set_value g is) e = absurd (cc)
   set_errs hs (gives.member_fails g) e = entities_err hs g
 
-  listed_errs : {b : Expr} {vs : List EntityUid} {e : EvalFault} {G : Type 0} → ListsEntities env b vs → Gives W q b (Err e) → G
+  listed_errs : {b : Expr} {vs : List EntityUid} {e : EvalFault} {G : Type 0} → ListsEntities env b vs → EvaluatesTo W q b (Err e) → G
   listed_errs (Literals.alone h) g = literal_errs h g
   listed_errs (Literals.in_set {x} {xs} hs) g = set_errs hs (layer W q (Expr-F.Set (x ∷ xs)) (form.outs-Set (x ∷ xs)) g) refl
 
-  in_goes : {a b : Expr} {u : EntityUid} {vs : List EntityUid} (b0 : Bool) {r : Outcome} → IsLiteral env a (literal.Entity u)
+  in_goes : {a b : Expr} {u : EntityUid} {vs : List EntityUid} (b0 : Bool) {r : EvaluationResult} → IsLiteral env a (literal.Entity u)
       → IsTrue (env.is_action_type u.type_name) → ListsEntities env b vs → Decides b0 (ActionInSome u vs)
       → TwoGive W q a b (BinaryGives W binary.In) r → Fits (truth_type b0) r
   in_goes b0 h i l d (gives.two_values {w} {r} g k j) =
@@ -447,39 +448,39 @@ module _ (env : Environment) (W : World) (q : Request) (C : Conforms env W q) (o
   in_goes b0 h i l d (gives.left_fails g) = literal_errs h g
   in_goes b0 h i l d (gives.right_fails g k) = listed_errs l k
 
-  settled_goes : {op : Binary} {a b : Expr} {b0 : Bool} {r : Outcome} → Settled env op a b b0 → TwoGive W q a b (BinaryGives W op) r → Fits (truth_type b0) r
+  settled_goes : {op : Binary} {a b : Expr} {b0 : Bool} {r : EvaluationResult} → Settled env op a b b0 → TwoGive W q a b (BinaryGives W op) r → Fits (truth_type b0) r
   settled_goes {b0} (Literals.equal_literals h g d) k = equal_goes b0 h g d k
   settled_goes {b0} (Literals.action_in h i g d) k = in_goes b0 h i g d k
 
   -- ---- literals of extensions
 
-  text_value : {t : List ℕ} {v : PlainValue} → Gives W q (form.Literal (literal.Text t)) (Ok v) → text t ≡ v
+  text_value : {t : List ℕ} {v : PlainValue} → EvaluatesTo W q (form.Literal (literal.Text t)) (Ok v) → text t ≡ v
   text_value {t} g = sym (Ok-same (layer W q (Expr-F.Literal (literal.Text t)) (form.outs-Literal (literal.Text t)) g))
 
-  text_errs : {t : List ℕ} {e : EvalFault} {G : Type 0} → Gives W q (form.Literal (literal.Text t)) (Err e) → G
+  text_errs : {t : List ℕ} {e : EvalFault} {G : Type 0} → EvaluatesTo W q (form.Literal (literal.Text t)) (Err e) → G
   text_errs {t} g = never (layer W q (Expr-F.Literal (literal.Text t)) (form.outs-Literal (literal.Text t)) g)
 
-  decimal_read : {t : List ℕ} {z : ℤ} {v : PlainValue} {r : Outcome} → IsDecimalText t z → text t ≡ v → UnaryCallGives unary_call.Decimal v r
+  decimal_read : {t : List ℕ} {z : ℤ} {v : PlainValue} {r : EvaluationResult} → IsDecimalText t z → text t ≡ v → UnaryCallGives unary_call.Decimal v r
       → Fits Types.decimal_type r
   decimal_read {r} h e u = reads (subst (λ w. UnaryCallGives unary_call.Decimal w r) (sym e) u) h
     where
-      reads : {t : List ℕ} {z : ℤ} {r : Outcome} → UnaryCallGives unary_call.Decimal (text t) r → IsDecimalText t z → Fits Types.decimal_type r
+      reads : {t : List ℕ} {z : ℤ} {r : EvaluationResult} → UnaryCallGives unary_call.Decimal (text t) r → IsDecimalText t z → Fits Types.decimal_type r
       reads (Operators.reads_decimal g) h = Membership.of_decimal
       reads {z} (Operators.no_decimal n) h = absurd (n z h)
       reads (Operators.decimal_of_other f) h = none_there f
       reads (Operators.of_no_address i f) h = absurd i
 
-  address_read : {t : List ℕ} {n : Network} {v : PlainValue} {r : Outcome} → IsNetworkText t n → text t ≡ v → UnaryCallGives unary_call.Ip v r
+  address_read : {t : List ℕ} {n : Network} {v : PlainValue} {r : EvaluationResult} → IsNetworkText t n → text t ≡ v → UnaryCallGives unary_call.Ip v r
       → Fits Types.ipaddr_type r
   address_read {r} h e u = reads (subst (λ w. UnaryCallGives unary_call.Ip w r) (sym e) u) h
     where
-      reads : {t : List ℕ} {n : Network} {r : Outcome} → UnaryCallGives unary_call.Ip (text t) r → IsNetworkText t n → Fits Types.ipaddr_type r
+      reads : {t : List ℕ} {n : Network} {r : EvaluationResult} → UnaryCallGives unary_call.Ip (text t) r → IsNetworkText t n → Fits Types.ipaddr_type r
       reads (Operators.reads_address g) h = Membership.of_ipaddr
       reads {n} (Operators.no_address m) h = absurd (m n h)
       reads (Operators.address_of_other f) h = none_there f
       reads (Operators.of_no_address i f) h = absurd i
 
-  reading_goes : {called : UnaryCall} {x : Expr} {t : StaticType} {r : Outcome} → ReadsLiteral called x t → OneGives W q x (UnaryCallGives called) r → Fits t r
+  reading_goes : {called : UnaryCall} {x : Expr} {t : StaticType} {r : EvaluationResult} → ReadsLiteral called x t → OneGives W q x (UnaryCallGives called) r → Fits t r
   reading_goes (Literals.reads_decimal h) (gives.one_value g u) = decimal_read h (text_value g) u
   reading_goes (Literals.reads_decimal h) (gives.one_fails g) = text_errs g
   reading_goes (Literals.reads_address h) (gives.one_value g u) = address_read h (text_value g) u
@@ -517,7 +518,7 @@ module _ (env : Environment) (W : World) (q : Request) (C : Conforms env W q) (o
     goes_right k (Typing.types_has a n {is_known} {s} {t} h d e) r g = record {
       fits = one_goes s (Rows.has_type env is_known n s) t (goes_right k h) e (λ v i f m u. has_fits env W q C is_known n f (known_has a n is_known k d i) u)
           (layer W q (Expr-F.Has a n) (form.outs-Has a n) g);
-      learned = λ i. pair_learned t a n (subst (λ m. Gives W q (form.Has a n) m) i g);
+      learned = λ i. pair_learned t a n (subst (λ m. EvaluatesTo W q (form.Has a n) m) i g);
     }
     goes_right k (Typing.types_set xs {ts} {t} h e) r g = learns_nothing (set_goes ts t (each_goes_right k h) e (layer W q (Expr-F.Set xs) (form.outs-Set xs) g))
     goes_right k (Typing.types_record xs {ts} h) r g = learns_nothing (record_goes ts (each_goes_right k h) (layer W q (Expr-F.Record xs) (form.outs-Record xs) g))
@@ -530,7 +531,7 @@ module _ (env : Environment) (W : World) (q : Request) (C : Conforms env W q) (o
         (layer W q (Expr-F.BinaryCall called a b) (form.outs-BinaryCall called a b) g))
 
     each_goes_right : {K : Pairs} {xs : List Expr} {ts : List StaticType} → Present K → TypesEach env K xs ts
-        → (m : Result (List PlainValue) EvalFault) → GivesEach W q xs m → EachFit ts m
+        → (m : Result (List PlainValue) EvalFault) → EachEvaluatesTo W q xs m → EachFit ts m
     each_goes_right k Typing.types_none _ rule.each_none = tt
     each_goes_right k (Typing.types_more h hs) _ (rule.each_more g gs) = ((goes_right k h _ g).fits, each_goes_right k hs _ gs)
     each_goes_right k (Typing.types_more h hs) _ (rule.each_fails g) = (goes_right k h _ g).fits

@@ -12,9 +12,9 @@ use Rattle.ancestor_closure.specs.Hierarchy.{Above, IsAllAbove}
 use Rattle.expressions.specs.declared.expr.Expr.TheVariants as form
 use Rattle.evaluator.specs.declared.fault.EvalFault.{EvalFault}
 use Rattle.evaluator.specs.declared.fault.EvalFault.TheVariants.{EntityDoesNotExist, ArithBoundsError}
-use Rattle.evaluator.specs.Outcomes.{Outcome}
+use Rattle.evaluator.specs.Outcomes.{EvaluationResult}
 use Rattle.evaluator.specs.Operators.{World}
-use Rattle.evaluator.specs.Evaluation.{Gives}
+use Rattle.evaluator.specs.Evaluation.{EvaluatesTo}
 use Rattle.typing.specs.Types.{StaticType, record_type}
 use Rattle.typing.specs.Membership.{Of}
 use Rattle.typing.specs.Environment.{Environment}
@@ -41,18 +41,18 @@ pub data IsHarmless : EvalFault → Type 0 where
   number_out_of_bounds : IsHarmless ArithBoundsError
 
 -- a value of the type, or one of these errors
-abbrev pub Fits : StaticType → Outcome → Type 0
+abbrev pub Fits : StaticType → EvaluationResult → Type 0
 Fits t (Ok v) = Of v t
 Fits t (Err e) = IsHarmless e
 
 -- the expression has the field
 abbrev pub IsPresent : World → Request → Pair → Type 0
-IsPresent W q p = Gives W q (form.Has p.0 p.1) (Ok (boolean true))
+IsPresent W q p = EvaluatesTo W q (form.Has p.0 p.1) (Ok (boolean true))
 
 pub record ArePresent (W : World) (q : Request) (K : Pairs) : Type 0 where
   pub each : (p : Pair) → Contains K p → IsPresent W q p
 
 -- what an expression of type t gives that learns the pairs of L
-pub record GoesRight (W : World) (q : Request) (t : StaticType) (L : Pairs) (r : Outcome) : Type 0 where
+pub record GoesRight (W : World) (q : Request) (t : StaticType) (L : Pairs) (r : EvaluationResult) : Type 0 where
   pub fits : Fits t r
   pub learned : r ≡ Ok (boolean true) → ArePresent W q L

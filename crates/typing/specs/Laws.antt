@@ -7,9 +7,9 @@ use Rattle.ancestor_closure.specs.Hierarchy.{Parents, Above}
 use Rattle.ancestor_closure.specs.Decided.{Decides, HaveAllParents}
 use Rattle.expressions.specs.declared.expr.Expr.{Expr}
 use Rattle.expressions.specs.declared.expr.Expr.TheVariants as form
-use Rattle.evaluator.specs.Outcomes.{Outcome}
+use Rattle.evaluator.specs.Outcomes.{EvaluationResult}
 use Rattle.evaluator.specs.Operators.{World}
-use Rattle.evaluator.specs.Evaluation.{Gives}
+use Rattle.evaluator.specs.Evaluation.{EvaluatesTo}
 use Rattle.typing.specs.Types.{StaticType, false_type, boolean_type, IsBoolean}
 use Rattle.typing.specs.Environment.{Environment, TypeFault, attribute_may_be_missing}
 use Rattle.typing.specs.Learned.{Pair, Pairs}
@@ -48,7 +48,7 @@ TypesAreOrdered = (env : Environment) → HasOrderedTypes env → (K L : Pairs) 
 -- value of t or one of two errors, and where it is true each pair that is learned is present.
 abbrev pub GoRightIn : World → Type 0
 GoRightIn W = (env : Environment) (q : Request) → Conforms env W q → (K L : Pairs) (x : Expr) (t : StaticType)
-    → ArePresent W q K → Types env K x t L → (r : Outcome) → Gives W q x r → GoesRight W q t L r
+    → ArePresent W q K → Types env K x t L → (r : EvaluationResult) → EvaluatesTo W q x r → GoesRight W q t L r
 
 -- So it is where a test decides who is above whom,
 abbrev pub TypedGoesRight : Type 0
@@ -64,7 +64,7 @@ TypedGoesRightInFiniteHierarchies = (W : World) (stored : List EntityUid) → Ha
 abbrev pub PoliciesGoRight : Type 0
 PoliciesGoRight = (W : World) (above : EntityUid → EntityUid → Bool) → Decides W.parents above → (env : Environment)
     (q : Request) → Conforms env W q → (x : Expr) (t : StaticType) (L : Pairs) → IsBoolean t → Types env [] x t L
-    → (r : Outcome) → Gives W q x r → Fits boolean_type r × (t ≡ false_type → r ≢ Ok (boolean true))
+    → (r : EvaluationResult) → EvaluatesTo W q x r → Fits boolean_type r × (t ≡ false_type → r ≢ Ok (boolean true))
 
 -- A request and entities that conform, where two entities have parents.
 abbrev pub SomethingConforms : Type 0

@@ -9,7 +9,7 @@ use Rattle.policy_grammar.specs.Whole.{expression_of}
 use Rattle.schema.specs.Schemas.{StatedSchema}
 use Rattle.evaluator.specs.Operators.{World}
 use Rattle.evaluator.specs.Outcomes as evaluation
-use Rattle.evaluator.specs.Evaluation.{Gives}
+use Rattle.evaluator.specs.Evaluation.{EvaluatesTo}
 use Rattle.typing.specs.Types.{boolean_type}
 use Rattle.typing.specs.Environment.{Environment}
 use Rattle.typing.specs.Conforming.{Conforms, Fits}
@@ -19,18 +19,18 @@ use Rattle.validator.specs.Unknown.{IsKnown}
 use Rattle.validator.specs.Passing.{environments_of, Passes, IsImpossible, IsVerdict, IsRefused}
 
 -- it passes, possible or impossible, or it is refused
-pub data Outcome : Type 0 where
-  passes : Bool → Outcome
-  refused : CheckFault → Outcome
+pub data CheckResult : Type 0 where
+  passes : Bool → CheckResult
+  refused : CheckFault → CheckResult
 
-abbrev pub ComesTo : StatedSchema → Policy → Outcome → Type 0
+abbrev pub ComesTo : StatedSchema → Policy → CheckResult → Type 0
 ComesTo s policy (passes impossible) = IsVerdict s policy impossible
 ComesTo s policy (refused f) = IsRefused s policy f
 
 -- exactly one of these, whatever schema and policy
 abbrev pub PoliciesHaveOneOutcome : Type 0
 PoliciesHaveOneOutcome = (s : StatedSchema) (policy : Policy)
-    → (o : Outcome) × ComesTo s policy o × ((p : Outcome) → ComesTo s policy p → p ≡ o)
+    → (o : CheckResult) × ComesTo s policy o × ((p : CheckResult) → ComesTo s policy p → p ≡ o)
 
 -- what passes is not refused
 abbrev pub PassingIsNotRefused : Type 0
@@ -48,5 +48,5 @@ abbrev pub PassingPoliciesGoRight : Type 0
 PassingPoliciesGoRight = (s : StatedSchema) (policy : Policy) → Passes s policy
     → (W : World) (above : EntityUid → EntityUid → Bool) → hierarchy.Decides W.parents above
     → (env : Environment) → Contains (environments_of s) env → (q : Request) → Conforms env W q
-    → (r : evaluation.Outcome) → Gives W q (expression_of policy) r
+    → (r : evaluation.EvaluationResult) → EvaluatesTo W q (expression_of policy) r
     → Fits boolean_type r × (IsImpossible s policy → r ≢ Ok (boolean true))

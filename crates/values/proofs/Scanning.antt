@@ -5,8 +5,8 @@ use Rattle.std.specs.Cmp.Lexicographic.{pointwise}
 use Rattle.std.proofs.lemmas.Bool.{cases_Bool, eqb-true}
 use Rattle.std.proofs.lemmas.Slice.Eq.{bytes_eq-Decides}
 use Rattle.std.proofs.lemmas.List.{take-append-drop, append_assoc, append-nil}
-use Rattle.plain.specs.Words.{is_letter, is_digit, is_word_byte, AllAre, IsWord, IsIdent, joined_path, IsPath}
-use Rattle.values.specs.inner.Scan.{run}
+use Rattle.plain.specs.Words.{is_letter, is_digit, is_word_byte, AllAre, IsWord, IsIdent, joined_path, IsPath, run}
+use Rattle.plain.proofs.Runs.{run_all}
 
 letter_word : (c : ℕ) → is_letter c ≡ true → is_word_byte c ≡ true
 unfolding is_word_byte
@@ -62,13 +62,6 @@ path_one w i = (w, [], (i, tt), refl)
 path_more : (w more : List ℕ) → IsIdent w → IsPath more → IsPath (w ++ 58 ∷ 58 ∷ more)
 path_more w more i (first, rest, r, e) =
     (w, first ∷ rest, (i, r), ap (λ x. w ++ 58 ∷ 58 ∷ x) e ∙ sym (append_assoc w (codes "::") (joined_path first rest)))
-
-run_all : (p : ℕ → Bool) (cs : List ℕ) → AllAre p (take (run p cs) cs)
-run_all p [] = tt
-run_all p (c ∷ cs) = elim (cases_Bool (p c)) [
-  | inl y ↦ rw y (y, run_all p cs)
-  | inr n ↦ rw n tt
-]
 
 run_ends : (cs : List ℕ) → EndsWord (drop (run is_word_byte cs) cs)
 unfolding EndsWord

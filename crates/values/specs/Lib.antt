@@ -10,4 +10,3 @@ pub mod ValueOrder
 pub mod ValueView
 pub mod Values
 pub mod WellFormed
-pub mod inner

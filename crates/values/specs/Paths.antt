@@ -1,6 +1,7 @@
 -- The Path that a list of words makes, and whether a text is a Path, as a test that computes.
 -- Source: Cedar reference guide 4.0, "Grammar specification for Cedar policy syntax", Path = Ident { "::" Ident },
 -- without blanks or comments.
+use Prim.Native.Char.{code}
 use Rattle.std.specs.Prelude.{◌↔◌, IsTrue, false, ℕ, List, [], ◌∷◌, ◌++◌, Bool, not, ◌==◌, ◌&&◌, if◌then◌else◌}
 use Rattle.std.specs.List.{list_any, list_all}
 use Rattle.std.specs.Str.{bytes_eq}
@@ -23,7 +24,8 @@ is_ident word = is_word word && not (list_any (bytes_eq word) reserved_words)
 unfoldable pub pieces : List ℕ → List ℕ → List (List ℕ)
 pieces word [] = word ∷ []
 pieces word (c ∷ []) = (word ++ c ∷ []) ∷ []
-pieces word (c ∷ d ∷ rest) = if c == 58 && d == 58 then word ∷ pieces [] rest else pieces (word ++ c ∷ []) (d ∷ rest)
+pieces word (c ∷ d ∷ rest) =
+    if c == code ":" && d == code ":" then word ∷ pieces [] rest else pieces (word ++ c ∷ []) (d ∷ rest)
 
 -- each piece is an identifier
 unfoldable pub is_path : List ℕ → Bool

@@ -1,36 +1,8 @@
 //! Whether a text is a Path of the policy language.
-ghost use Rattle.std.specs.Prelude.{◌≡◌, ◌≤◌, ◌↔◌, IsTrue, length};
-ghost use Rattle.plain.specs.Words.{is_letter, is_digit, is_word_byte, AllAre, IsReserved, IsIdent, IsPath};
-ghost use Rattle.values.specs.inner.Scan.{run};
+ghost use Rattle.std.specs.Prelude.{◌↔◌, IsTrue};
+ghost use Rattle.plain.specs.Words.{is_word_byte, AllAre, IsReserved, IsIdent, IsPath};
 
-#[tactic(auto, unfolding(plain::specs::Words::is_letter))]
-fn letter(byte: u8) -> bool
-    ensures { result ≡ is_letter byte }
-{
-    matches!(byte, b'_' | b'a'..=b'z' | b'A'..=b'Z')
-}
-
-#[tactic(auto, unfolding(plain::specs::Words::is_word_byte, plain::specs::Words::is_digit))]
-fn word_byte(byte: u8) -> bool
-    ensures { result ≡ is_word_byte byte }
-{
-    letter(byte) || byte.is_ascii_digit()
-}
-
-/// How many bytes of a word come first.
-fn word_len(text: &[u8]) -> usize
-    ensures is { result ≡ run is_word_byte text.now }
-    ensures within { result ≤ length text.now }
-{
-    let mut len = 0;
-    for byte in text {
-        if !word_byte(*byte) {
-            return len;
-        }
-        len += 1;
-    }
-    len
-}
+use plain::words::{letter, word_len};
 
 /// The words that are no identifier.
 const RESERVED: [&[u8]; 10] = [

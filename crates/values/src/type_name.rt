@@ -121,7 +121,8 @@ impl Eq for TypeName {
 impl PartialOrd for TypeName {
     ghost partial_cmp = { λ s t. Some (slice_cmp nat_cmp s t) };
 
-    ghost laws = { partial_order_from_agreeing_total (slice_cmp nat_cmp) nat_list_cmp_total (λ s t. refl) (λ s t. refl) };
+    ghost laws = { partial_order_from_agreeing_total (slice_cmp nat_cmp) nat_list_cmp_total (λ s t. refl)
+        (λ s t. refl) };
 
     fn partial_cmp(&self, other: &TypeName) -> Option<Ordering> {
         Some(self.cmp(other))

@@ -3,14 +3,14 @@ use Rattle.std.specs.Prelude.{◌≡◌, ℕ, List, [], ◌∷◌, if◌then◌e
 use Rattle.values.specs.declared.entity_uid.EntityUid.{EntityUid}
 use Rattle.values.specs.declared.request.Request.{Request}
 use Rattle.ancestor_closure.specs.Decided.{is_same}
-use Rattle.json_words.specs.Gives.{Fails}
+use Rattle.json_words.specs.ReadsAs.{Fails}
 use Rattle.evaluator.specs.Operators.{World}
 use Rattle.entity_worlds.specs.declared.data.EntityData.{EntityData}
 use Rattle.entity_worlds.specs.Entities.{EntityMap}
 use Rattle.entity_worlds.specs.Entities.{world_in as entities_world}
 use Rattle.entity_worlds.specs.Keeping.{Entries, kept_in}
 use Rattle.authoriser.specs.declared.answer.Answer.{Answer}
-use Rattle.authoriser.specs.Answers.{Named, IsAnswer}
+use Rattle.authoriser.specs.Answers.{NamedPolicy, IsAnswer}
 use Rattle.decision_texts.specs.declared.refusal.Refusal.{Refusal}
 use Rattle.decision_texts.specs.declared.bare.BareEntity.{BareEntity}
 use Rattle.decision_texts.specs.Refusals.{no_memory}
@@ -46,13 +46,13 @@ GivesStore (Ok store) read = Keeps read store
 GivesStore (Err refusal) read = Fails no_memory refusal read
 
 -- the answer to the request over these policies, tried in the order of their names, where entities are as in W
-pub record IsAnswerIn (policies : List Named) (W : World) (asked : Request) (answer : Answer) : Type 0 where
-  pub ordered : List Named
+pub record IsAnswerIn (policies : List NamedPolicy) (W : World) (asked : Request) (answer : Answer) : Type 0 where
+  pub ordered : List NamedPolicy
   pub order : IsInOrder policies ordered
   pub is : IsAnswer W asked ordered answer
 
 -- the line of that answer
-pub record IsLineIn (policies : List Named) (W : World) (asked : Request) (line : List ℕ) : Type 0 where
+pub record IsLineIn (policies : List NamedPolicy) (W : World) (asked : Request) (line : List ℕ) : Type 0 where
   pub answer : Answer
   pub answers : IsAnswerIn policies W asked answer
   pub line_is : line ≡ answer_line answer

@@ -3,7 +3,7 @@ use Rattle.std.specs.Prelude.{ℕ, ◌≤◌, min, Option, Some, None}
 use Rattle.desugaring.specs.declared.fault.DesugarFault.{DesugarFault}
 use Rattle.desugaring.specs.declared.fault.DesugarFault.TheVariants.{RepeatedKey}
 use Rattle.desugaring.specs.declared.repeats.Key.{Key}
-use Rattle.desugaring.specs.Repeats.{Mark}
+use Rattle.desugaring.specs.Repeats.{NameAt}
 
 -- nowhere
 abbrev pub Nowhere : (ℕ → Type 0) → Type 0
@@ -31,5 +31,5 @@ repeat_fault None = None
 repeat_fault (Some at) = Some (RepeatedKey at)
 
 -- a key that code holds
-abbrev pub held : Key → Mark
+abbrev pub held : Key → NameAt
 held key = record { name = key.name; at = key.at }

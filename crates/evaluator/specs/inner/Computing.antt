@@ -42,7 +42,7 @@ use Rattle.evaluator.specs.declared.fault.EvalFault.TheVariants.{ArithBoundsErro
 use Rattle.extensions.specs.Decided.{Decided, told}
 use Rattle.extensions.specs.TextsDecided.{decimal_text_decided, network_text_decided, in_either_decided}
 use Rattle.extensions.specs.TextsDecided.{within_decided}
-use Rattle.evaluator.specs.Outcomes.{Outcome, boolean_in, long_in, text_in, entity_in, members_in, decimal_in}
+use Rattle.evaluator.specs.Outcomes.{EvaluationResult, boolean_in, long_in, text_in, entity_in, members_in, decimal_in}
 use Rattle.evaluator.specs.Outcomes.{network_in}
 use Rattle.evaluator.specs.Evaluation.{literal_value, variable_value}
 
@@ -68,22 +68,22 @@ demanded (Some a) = Ok a
 abbrev pub two_demanded : {A B : Type 0} → Option A → Option B → Result (A × B) EvalFault
 two_demanded a b = and_then (demanded a) (λ x. and_then (demanded b) (λ y. Ok (x, y)))
 
-abbrev pub truth : Bool → Outcome
+abbrev pub truth : Bool → EvaluationResult
 truth b = Ok (boolean b)
 
 -- whether signed 64 bits hold a number
 abbrev pub is_bounded : ℤ → Bool
 is_bounded z = int_le (neg_ℤ (pos 9223372036854775808)) z && int_lt z (pos 9223372036854775808)
 
-abbrev pub bounded : ℤ → Outcome
+abbrev pub bounded : ℤ → EvaluationResult
 bounded z = if is_bounded z then Ok (long z) else Err ArithBoundsError
 
 -- what checked arithmetic comes to
-abbrev pub number_or_fault : Option ℤ → Outcome
+abbrev pub number_or_fault : Option ℤ → EvaluationResult
 number_or_fault None = Err ArithBoundsError
 number_or_fault (Some z) = Ok (long z)
 
-abbrev pub apply_unary : Unary → PlainValue → Outcome
+abbrev pub apply_unary : Unary → PlainValue → EvaluationResult
 apply_unary Not v = and_then (demanded (boolean_in v)) (λ b. truth (not b))
 apply_unary Negate v = and_then (demanded (long_in v)) (λ z. bounded (neg_ℤ z))
 apply_unary (Like pattern) v = and_then (demanded (text_in v)) (λ t. truth (is_match pattern t))
@@ -99,18 +99,18 @@ in_members E a [] = Ok false
 in_members E a (v ∷ vs) =
     and_then (demanded (entity_in v)) (λ b. and_then (in_members E a vs) (λ rest. Ok (is_in E a b || rest)))
 
-abbrev pub in_value : Entities → EntityUid → PlainValue → Outcome
+abbrev pub in_value : Entities → EntityUid → PlainValue → EvaluationResult
 in_value E a (entity b) = truth (is_in E a b)
 in_value E a (set vs) = and_then (in_members E a (list_of vs)) truth
 in_value E a v = Err TypeError
 
-abbrev pub numbers : (ℤ → ℤ → Outcome) → PlainValue → PlainValue → Outcome
+abbrev pub numbers : (ℤ → ℤ → EvaluationResult) → PlainValue → PlainValue → EvaluationResult
 numbers f v w = and_then (two_demanded (long_in v) (long_in w)) (λ p. f p.0 p.1)
 
-abbrev pub sets : (List PlainValue → List PlainValue → Bool) → PlainValue → PlainValue → Outcome
+abbrev pub sets : (List PlainValue → List PlainValue → Bool) → PlainValue → PlainValue → EvaluationResult
 sets f v w = and_then (demanded (members_in v)) (λ x. and_then (demanded (members_in w)) (λ y. truth (f x y)))
 
-abbrev pub apply_binary : Entities → Binary → PlainValue → PlainValue → Outcome
+abbrev pub apply_binary : Entities → Binary → PlainValue → PlainValue → EvaluationResult
 apply_binary E Equal v w = truth (is_eq (value_cmp v w))
 apply_binary E In v w = and_then (demanded (entity_in v)) (λ a. in_value E a w)
 apply_binary E Less v w = numbers (λ x y. truth (int_lt x y)) v w
@@ -122,15 +122,15 @@ apply_binary E Contains v w = and_then (demanded (members_in v)) (λ x. truth (h
 apply_binary E ContainsAll v w = sets (λ x y. list_all (has_member x) y) v w
 apply_binary E ContainsAny v w = sets (λ x y. list_any (has_member x) y) v w
 
-abbrev pub found_or : EvalFault → Option PlainValue → Outcome
+abbrev pub found_or : EvalFault → Option PlainValue → EvaluationResult
 found_or e None = Err e
 found_or e (Some v) = Ok v
 
-abbrev pub attribute : Option (List Field) → List ℕ → Outcome
+abbrev pub attribute : Option (List Field) → List ℕ → EvaluationResult
 attribute None name = Err EntityDoesNotExist
 attribute (Some fs) name = found_or AttrDoesNotExist (find_field name fs)
 
-abbrev pub field_of : Entities → List ℕ → PlainValue → Outcome
+abbrev pub field_of : Entities → List ℕ → PlainValue → EvaluationResult
 field_of E name (record_of fs) = found_or AttrDoesNotExist (find_field name (pairs_of fs))
 field_of E name (entity u) = attribute (E.stored u) name
 field_of E name v = Err TypeError
@@ -139,17 +139,17 @@ abbrev pub has_attribute : Option (List Field) → List ℕ → Bool
 has_attribute None name = false
 has_attribute (Some fs) name = is_some (find_field name fs)
 
-abbrev pub has_field : Entities → List ℕ → PlainValue → Outcome
+abbrev pub has_field : Entities → List ℕ → PlainValue → EvaluationResult
 has_field E name (record_of fs) = truth (is_some (find_field name (pairs_of fs)))
 has_field E name (entity u) = truth (has_attribute (E.stored u) name)
 has_field E name v = Err TypeError
 
 -- what a text is read as
-abbrev pub decimal_read : {t : List ℕ} → Decided ((z : ℤ) × IsDecimalText t z) → Outcome
+abbrev pub decimal_read : {t : List ℕ} → Decided ((z : ℤ) × IsDecimalText t z) → EvaluationResult
 decimal_read (inl h) = Ok (decimal h.0)
 decimal_read (inr n) = Err ExtensionError
 
-abbrev pub network_read : {t : List ℕ} → Decided ((n : Network) × IsNetworkText t n) → Outcome
+abbrev pub network_read : {t : List ℕ} → Decided ((n : Network) × IsNetworkText t n) → EvaluationResult
 network_read (inl h) = Ok (ipaddr h.0)
 network_read (inr n) = Err ExtensionError
 
@@ -158,10 +158,10 @@ is_v4 V4 = true
 is_v4 V6 = false
 
 -- the tests of an address
-abbrev pub tested : (Network → Bool) → PlainValue → Outcome
+abbrev pub tested : (Network → Bool) → PlainValue → EvaluationResult
 tested f v = and_then (demanded (network_in v)) (λ n. truth (f n))
 
-abbrev pub apply_unary_call : UnaryCall → PlainValue → Outcome
+abbrev pub apply_unary_call : UnaryCall → PlainValue → EvaluationResult
 apply_unary_call Decimal v = and_then (demanded (text_in v)) (λ t. decimal_read (decimal_text_decided t))
 apply_unary_call Ip v = and_then (demanded (text_in v)) (λ t. network_read (network_text_decided t))
 apply_unary_call IsIpv4 v = tested (λ n. is_v4 n.version) v
@@ -169,13 +169,13 @@ apply_unary_call IsIpv6 v = tested (λ n. not (is_v4 n.version)) v
 apply_unary_call IsLoopback v = tested (λ n. told (in_either_decided n loopback_v4 loopback_v6)) v
 apply_unary_call IsMulticast v = tested (λ n. told (in_either_decided n multicast_v4 multicast_v6)) v
 
-abbrev pub decimals : (ℤ → ℤ → Bool) → PlainValue → PlainValue → Outcome
+abbrev pub decimals : (ℤ → ℤ → Bool) → PlainValue → PlainValue → EvaluationResult
 decimals f v w = and_then (two_demanded (decimal_in v) (decimal_in w)) (λ p. truth (f p.0 p.1))
 
-abbrev pub networks : (Network → Network → Bool) → PlainValue → PlainValue → Outcome
+abbrev pub networks : (Network → Network → Bool) → PlainValue → PlainValue → EvaluationResult
 networks f v w = and_then (demanded (network_in v)) (λ x. and_then (demanded (network_in w)) (λ y. truth (f x y)))
 
-abbrev pub apply_binary_call : BinaryCall → PlainValue → PlainValue → Outcome
+abbrev pub apply_binary_call : BinaryCall → PlainValue → PlainValue → EvaluationResult
 apply_binary_call LessThan v w = decimals (λ x y. int_lt x y) v w
 apply_binary_call LessThanOrEqual v w = decimals (λ x y. int_le x y) v w
 apply_binary_call GreaterThan v w = decimals (λ x y. int_lt y x) v w
@@ -183,32 +183,32 @@ apply_binary_call GreaterThanOrEqual v w = decimals (λ x y. int_le y x) v w
 apply_binary_call IsInRange v w = networks (λ m n. told (within_decided m n)) v w
 
 -- each in order, up to the first error
-abbrev pub each : List Outcome → Result (List PlainValue) EvalFault
+abbrev pub each : List EvaluationResult → Result (List PlainValue) EvalFault
 each [] = Ok []
 each (r ∷ rs) = and_then r (λ v. and_then (each rs) (λ vs. Ok (v ∷ vs)))
 
 -- the fields that are done already, with each further one, up to the first error
-abbrev pub each_field : List (Named Outcome) → List Field → Result (List Field) EvalFault
+abbrev pub each_field : List (Named EvaluationResult) → List Field → Result (List Field) EvalFault
 each_field [] done = Ok done
 each_field (f ∷ fs) done = and_then f.value (λ v. each_field fs (put f.name v done))
 
-abbrev pub as_test : Outcome → Result Bool EvalFault
+abbrev pub as_test : EvaluationResult → Result Bool EvalFault
 as_test r = and_then r (λ v. demanded (boolean_in v))
 
 -- what one branch gives, by the test
-abbrev pub choice : Outcome → Outcome → Outcome → Outcome
+abbrev pub choice : EvaluationResult → EvaluationResult → EvaluationResult → EvaluationResult
 choice a b c = and_then (as_test a) (λ t. if t then b else c)
 
 -- whether both hold, the second being asked only where the first holds
-abbrev pub both : Outcome → Outcome → Outcome
+abbrev pub both : EvaluationResult → EvaluationResult → EvaluationResult
 both a b = and_then (as_test a) (λ t. if t then and_then (as_test b) truth else truth false)
 
 -- whether one holds, the second being asked only where the first does not
-abbrev pub either : Outcome → Outcome → Outcome
+abbrev pub either : EvaluationResult → EvaluationResult → EvaluationResult
 either a b = and_then (as_test a) (λ t. if t then truth true else and_then (as_test b) truth)
 
 -- what a form gives, whose parts give these
-abbrev pub meaning_step : Request → Entities → Expr-F Outcome → Outcome
+abbrev pub meaning_step : Request → Entities → Expr-F EvaluationResult → EvaluationResult
 meaning_step q E (Expr-F.Literal l) = Ok (literal_value l)
 meaning_step q E (Expr-F.Variable x) = Ok (variable_value x q)
 meaning_step q E (Expr-F.If a b c) = choice a b c
@@ -224,11 +224,11 @@ meaning_step q E (Expr-F.UnaryCall called a) = and_then a (apply_unary_call call
 meaning_step q E (Expr-F.BinaryCall called a b) = and_then a (λ v. and_then b (apply_binary_call called v))
 
 -- what an expression gives
-abbrev pub meaning : Request → Entities → Expr → Outcome
-meaning q E = fold-Expr Outcome (meaning_step q E)
+abbrev pub meaning : Request → Entities → Expr → EvaluationResult
+meaning q E = fold-Expr EvaluationResult (meaning_step q E)
 
 -- the same of a field's value
-abbrev pub named_meaning : Request → Entities → Named Expr → Named Outcome
+abbrev pub named_meaning : Request → Entities → Named Expr → Named EvaluationResult
 named_meaning q E f = record { name = f.name; value = meaning q E f.value }
 
 -- an answer is the outcome m, but where memory was refused

@@ -4,15 +4,15 @@ use Rattle.values.specs.declared.entity_uid.EntityUid.{EntityUid}
 use Rattle.values.specs.declared.request.Request.{Request}
 use Rattle.ancestor_closure.specs.Decided.{Decides}
 use Rattle.expressions.specs.declared.expr.Expr.{Expr}
-use Rattle.evaluator.specs.Outcomes.{Outcome}
+use Rattle.evaluator.specs.Outcomes.{EvaluationResult}
 use Rattle.evaluator.specs.Operators.{World}
-use Rattle.evaluator.specs.Evaluation.{Gives}
+use Rattle.evaluator.specs.Evaluation.{EvaluatesTo}
 use Rattle.evaluator.specs.inner.Computing.{entities_of, meaning}
 
 -- the expression gives m, and nothing else
-pub record GivesOnly (W : World) (q : Request) (x : Expr) (m : Outcome) : Type 0 where
-  pub given : Gives W q x m
-  pub only : (r : Outcome) → Gives W q x r → r ≡ m
+pub record GivesOnly (W : World) (q : Request) (x : Expr) (m : EvaluationResult) : Type 0 where
+  pub given : EvaluatesTo W q x m
+  pub only : (r : EvaluationResult) → EvaluatesTo W q x r → r ≡ m
 
 -- where a test decides who is above whom, each expression gives what it computes
 abbrev pub MeaningsAreGiven : Type 0

@@ -5,11 +5,11 @@ use denote.Ref.{MutBor}
 use Rattle.token_readers.specs.declared.cursor.Cursor.{Cursor}
 use Rattle.expression_trees.specs.declared.tree.ExprTree.{ExprTree}
 use Rattle.token_readers.specs.declared.fault.Halt.{Halt}
-use Rattle.token_readers.specs.Gives.{Gives}
+use Rattle.token_readers.specs.ParsesTo.{ParsesTo}
 use Rattle.expression_syntax.specs.ExpressionReading.{expr}
 
 pub record Nests (levels : ℕ) (pre : Global → MutBor Cursor → ℕ → Type 0)
     (post : Global → MutBor Cursor → ℕ → Result ExprTree Halt → MutBor Cursor → Type 0) : Type 0 where
   pub callable : (alloc : Global) (old : MutBor Cursor) → pre alloc old levels
   pub reads : (alloc : Global) (old new : MutBor Cursor) (r : Result ExprTree Halt) → post alloc old levels r new
-      → Gives (expr levels old.now.rest.now) r new.now.rest.now
+      → ParsesTo (expr levels old.now.rest.now) r new.now.rest.now

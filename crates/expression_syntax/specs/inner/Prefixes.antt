@@ -1,12 +1,12 @@
 -- What stands before a Member, and what it makes.
-use Rattle.policy_tokens.specs.declared.token.Kind.{Kind}
-use Rattle.policy_tokens.specs.declared.token.Kind.TheVariants as k
+use Rattle.policy_tokens.specs.declared.token.TokenKind.{TokenKind}
+use Rattle.policy_tokens.specs.declared.token.TokenKind.TheVariants as k
 use Rattle.expression_syntax.specs.declared.operators.Prefix.{Prefix}
 use Rattle.expression_syntax.specs.declared.operators.Prefix.TheVariants.{Not, Minus}
 use Rattle.expression_trees.specs.declared.tree.ExprTree.{ExprTree}
 use Rattle.expression_trees.specs.declared.tree.ExprTree.TheVariants as tree
 
-abbrev pub kind_of : Prefix → Kind
+abbrev pub kind_of : Prefix → TokenKind
 kind_of Not = k.Not
 kind_of Minus = k.Minus
 

@@ -2,20 +2,20 @@
 use Rattle.std.specs.Prelude.{List, map, String, string_bytes, ◌∷◌, ℕ, Bool, true, false, Result, Ok, Err}
 use Rattle.std.specs.Global.{Global}
 use Rattle.policy_grammar.specs.declared.policy.Policy.{Policy}
-use Rattle.authoriser.specs.Answers.{Named}
+use Rattle.authoriser.specs.Answers.{NamedPolicy}
 use Rattle.validator.specs.declared.checking.Verdict.{Verdict}
 use Rattle.validator.specs.declared.fault.CheckFault.{CheckFault}
-use Rattle.validator.specs.Outcomes.{Outcome, passes, refused}
+use Rattle.validator.specs.Outcomes.{CheckResult, passes, refused}
 use Rattle.policy_checks.specs.Checks.{line_end}
 
-abbrev pub own_name : String Global × Policy → Named
+abbrev pub own_name : String Global × Policy → NamedPolicy
 own_name p = record { id = string_bytes p.0; policy = p.1 }
 
-abbrev pub named_in : List (String Global × Policy) → List Named
+abbrev pub named_in : List (String Global × Policy) → List NamedPolicy
 named_in = map own_name
 
 -- what the validator answered, as an outcome
-abbrev pub outcome_of : Result Verdict CheckFault → Outcome
+abbrev pub outcome_of : Result Verdict CheckFault → CheckResult
 outcome_of (Ok verdict) = passes verdict.impossible
 outcome_of (Err fault) = refused fault
 

@@ -1,7 +1,7 @@
 -- How the grammar is read, from the left, by the next token.
 use Rattle.std.specs.Prelude.{ℕ, true, List, [], ◌∷◌, Option, None}
-use Rattle.policy_tokens.specs.declared.token.Kind.{Kind}
-use Rattle.policy_tokens.specs.declared.token.Kind.TheVariants as k
+use Rattle.policy_tokens.specs.declared.token.TokenKind.{TokenKind}
+use Rattle.policy_tokens.specs.declared.token.TokenKind.TheVariants as k
 use Rattle.policy_tokens.specs.declared.token.Token.{Token}
 use Rattle.token_readers.specs.declared.tree.UidTree.{UidTree}
 use Rattle.policy_syntax.specs.declared.tree.Annotation.{Annotation}
@@ -15,8 +15,8 @@ use Rattle.policy_syntax.specs.declared.tree.PolicyTree.{PolicyTree}
 use Rattle.token_readers.specs.Kinds.{Kinds, only}
 use Rattle.token_readers.specs.Reading.{Parser, take, token, pure, ◌>>=◌, ◌>>◌, either, optional, many}
 pub use Rattle.token_readers.specs.Parsing.{path, uid}
-use Rattle.expression_syntax.specs.ExpressionReading.{expr}
-use Rattle.policy_syntax.specs.Grammar.{identifiers, words, effects, is_in, condition_words}
+use Rattle.expression_syntax.specs.ExpressionReading.{expr, symbol}
+use Rattle.policy_syntax.specs.Grammar.{identifiers, words, effects, is_in, condition_word_of, condition_words}
 
 -- ---- annotations
 
@@ -64,17 +64,17 @@ entity_constraint =
     (either (only k.In) (in_uid >>= (λ entity. pure (part.In entity)))
     (either (only k.Is) type_test (pure part.Any)))
 
-unfoldable pub entity_part : Kind → Parser PartTree
+unfoldable pub entity_part : TokenKind → Parser PartTree
 entity_part variable = token variable >> entity_constraint
 
 unfoldable pub comma_uid : Parser UidTree
 comma_uid = token k.Comma >> uid
 
-unfoldable pub uids_behind : UidTree → Parser (List UidTree)
-uids_behind first = many (only k.Comma) comma_uid >>= (λ more. pure (first ∷ more))
+unfoldable pub rest_of_uids : UidTree → Parser (List UidTree)
+rest_of_uids first = many (only k.Comma) comma_uid >>= (λ more. pure (first ∷ more))
 
 unfoldable pub uids : Parser (List UidTree)
-uids = either identifiers (uid >>= uids_behind) (pure [])
+uids = either identifiers (uid >>= rest_of_uids) (pure [])
 
 unfoldable pub uid_list : Parser ActionTree
 uid_list = do
@@ -116,7 +116,7 @@ policy_firsts kind = effects kind
 module _ (levels : ℕ) where
   unfoldable pub condition : Parser Condition
   condition = do
-    word ← take condition_words
+    word ← symbol condition_word_of
     token k.LBrace
     x ← expr levels
     token k.RBrace

@@ -5,8 +5,8 @@ use Rattle.std.specs.Prelude.{length, drop, Option, Some, None, encode_utf8}
 use Rattle.std.specs.Char.{is_whitespace}
 use Rattle.std.specs.List.{list_any}
 use Rattle.std.specs.Str.{IsCharBoundary}
-use Rattle.policy_tokens.specs.declared.token.Kind.{Kind}
-use Rattle.policy_tokens.specs.declared.token.Kind.TheVariants.{StarText}
+use Rattle.policy_tokens.specs.declared.token.TokenKind.{TokenKind}
+use Rattle.policy_tokens.specs.declared.token.TokenKind.TheVariants.{StarText}
 use Rattle.policy_tokens.specs.declared.token.Found.{Found}
 use Rattle.policy_tokens.specs.declared.piece.Piece.{Piece}
 use Rattle.policy_tokens.specs.declared.piece.Piece.TheVariants.{Byte, Char, Star}
@@ -14,11 +14,6 @@ use Rattle.policy_tokens.specs.declared.piece.Escape.{Escape}
 use Rattle.policy_tokens.specs.Lexing.{backslash, listed, singles, pairs, IsEscape, IsBody, IsLongest, NoToken, IsGap}
 use Rattle.policy_tokens.specs.Lexing.{NoGap}
 use Rattle.policy_tokens.specs.Strings.{bytes_of, is_wildcard}
-
--- how many of the first pass the test
-abbrev pub run : (ℕ → Bool) → List ℕ → ℕ
-run p [] = 0
-run p (c ∷ cs) = if p c then suc (run p cs) else 0
 
 -- ## Tokens at the front of a text
 
@@ -36,7 +31,7 @@ TellsToken text None = NoToken text
 TellsToken text (Some found) = IsFirst found text
 
 -- a token of so many bytes
-abbrev pub sized : ℕ → Option Kind → Option Found
+abbrev pub sized : ℕ → Option TokenKind → Option Found
 sized n None = None
 sized n (Some k) = Some (record { kind = k; len = n })
 
@@ -90,7 +85,7 @@ TellsEscape text None = NoEscape text
 TellsEscape text (Some found) = IsFirstEscape found text
 
 -- the kind of a string that goes on with this piece
-abbrev pub kind_with : Kind → Piece → Kind
+abbrev pub kind_with : TokenKind → Piece → TokenKind
 kind_with k (Byte b) = k
 kind_with k (Char c) = k
 kind_with k Star = StarText

@@ -2,10 +2,10 @@
 use Rattle.std.specs.Prelude.{◌≡◌, ℕ, List, Result, Ok, Err}
 use Rattle.values.specs.declared.entity_uid.EntityUid.{EntityUid}
 use Rattle.values.specs.declared.request.Request.{Request}
-use Rattle.json_words.specs.Gives.{Fails}
+use Rattle.json_words.specs.ReadsAs.{Fails}
 use Rattle.evaluator.specs.Operators.{World}
 use Rattle.authoriser.specs.declared.answer.Answer.{Answer}
-use Rattle.authoriser.specs.Answers.{Named}
+use Rattle.authoriser.specs.Answers.{NamedPolicy}
 use Rattle.schema.specs.Schemas.{StatedSchema}
 use Rattle.entity_worlds.specs.declared.entity.Entity.{Entity}
 use Rattle.entity_worlds.specs.Entities.{with_actions, world_in}
@@ -36,13 +36,13 @@ GivesStore (Ok store) read = Keeps read store
 GivesStore (Err refusal) read = Fails no_memory refusal read
 
 -- the line of the answer to a request over these policies, where entities are as in W
-pub record IsLineIn (policies : List Named) (W : World) (asked : Request) (line : List ℕ) : Type 0 where
+pub record IsLineIn (policies : List NamedPolicy) (W : World) (asked : Request) (line : List ℕ) : Type 0 where
   pub answer : Answer
   pub answers : IsAnswerTo policies W asked answer
   pub line_is : line ≡ answer_line answer
 
 -- the same, of the request that a text states under a schema
-pub record IsLineTo (s : StatedSchema) (policies : List Named) (W : World) (request line : List ℕ) : Type 0 where
+pub record IsLineTo (s : StatedSchema) (policies : List NamedPolicy) (W : World) (request line : List ℕ) : Type 0 where
   pub asked : Request
   pub question : IsRequestText s request asked
   pub told : IsLineIn policies W asked line

@@ -5,7 +5,7 @@ use Rattle.site_commands.specs.declared.device.FileFault.TheVariants.{Missing}
 use Rattle.site_commands.specs.Events.{Event, read}
 use Rattle.pulled_states.specs.declared.fault.PullFault.{PullFault}
 use Rattle.pulled_states.specs.declared.fault.PullFault.TheVariants as pull
-use Rattle.site_commands.specs.Reports.{IsFailureTold, IsFileTold, IsMemoryTold, IsRefusalTold}
+use Rattle.site_commands.specs.Reports.{IsFailureReported, IsFileReported, IsMemoryReported, IsRefusalReported}
 use Rattle.site_commands.specs.Courses.{Course, Reads, ReadsIfThere, Connects}
 use Rattle.site_commands.specs.Runs.{IsJudged, AreMerged}
 use Rattle.site_commands.specs.Pulling.{IsPulledOver}
@@ -13,12 +13,12 @@ use Rattle.site_commands.specs.Pulling.{IsPulledOver}
 -- a file was not read, which is told
 abbrev pub IsUnread : List ℕ → Course
 IsUnread name events end = (fault : FileFault) × (rest : List Event) × (events ≡ read name (Err fault) ∷ rest)
-    × IsFileTold name fault rest end
+    × IsFileReported name fault rest end
 
 -- it is there, and was not read
 abbrev pub IsUnreadThere : List ℕ → Course
 IsUnreadThere name events end = (fault : FileFault) × (rest : List Event) × (fault ≡ Missing → ⊥)
-    × (events ≡ read name (Err fault) ∷ rest) × IsFileTold name fault rest end
+    × (events ≡ read name (Err fault) ∷ rest) × IsFileReported name fault rest end
 
 -- what came of a file that need not be there
 abbrev pub found_as : Option (List ℕ) → Result (List ℕ) FileFault
@@ -44,6 +44,7 @@ IsPullUnder address name schema =
     ReadsIfThere name (λ state. Connects address (IsPulledOver schema state address name))
 
 -- why nothing was pulled is told
-abbrev pub IsPullFaultTold : List ℕ → PullFault → Course
-IsPullFaultTold address (pull.Network fault) events end = IsFailureTold address events end
-IsPullFaultTold address (pull.Refused refusal) events end = IsRefusalTold refusal events end ⊎ IsMemoryTold events end
+abbrev pub IsPullFaultReported : List ℕ → PullFault → Course
+IsPullFaultReported address (pull.Network fault) events end = IsFailureReported address events end
+IsPullFaultReported address (pull.Refused refusal) events end = IsRefusalReported refusal events end
+    ⊎ IsMemoryReported events end

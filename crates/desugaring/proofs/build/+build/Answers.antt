@@ -14,7 +14,7 @@ use Rattle.desugaring.specs.Core.{core_of, negated, field, in_entry, in_term, in
 use Rattle.desugaring.specs.declared.leaves.Chain.{Chain}
 use Rattle.desugaring.specs.declared.leaves.Chain.TheVariants as chain
 use Rattle.policy_tokens.specs.Lexing.{spelling_of}
-use Rattle.desugaring.specs.inner.Standing.{Stands, AllStand, EntryStands, TermStands, AccessStands}
+use Rattle.desugaring.specs.inner.WellFormed.{WellFormed, AllWellFormed, WellFormedEntry, WellFormedTerm, WellFormedAccess}
 use Rattle.desugaring.specs.inner.Giving.{Gave}
 use Rattle.desugaring.proofs.Lists.{all-at, stepped, taken}
 use Rattle.desugaring.proofs.Gaving.{one, two, still}
@@ -54,49 +54,49 @@ build_accesses-loop-access-preserved t c =
     (stepped (reached c.args.text.now) (λ e x. accessed c.args.text.now e (in_access (core_of c.args.text.now) x)) (λ e x xs. refl) c.args.accesses.now c.loop-access.access-index c.access-item.result c.loop-access.left c.in_ok-left-2.left c.access-item.is c.loop-access-test.true c.in_ok-left-2.ensures) c.loop-access.invariant
 
 pub build_tree-build_all-requires : goal.build_tree-build_all-requires
-build_tree-build_all-requires t c = (search (rules, the_lemmas), subst (AllStand c.args.text.now) (sym c.as_slice.ensures) (of-Call c.args.text.now c.args.tree.now c.in-Call.path c.in-Call.arguments c.in-Call.is c.requires.1.1).1)
+build_tree-build_all-requires t c = (search (rules, the_lemmas), subst (AllWellFormed c.args.text.now) (sym c.as_slice.ensures) (of-Call c.args.text.now c.args.tree.now c.in-Call.path c.in-Call.arguments c.in-Call.is c.requires.1.1).1)
 
 pub build_tree-function_at-requires : goal.build_tree-function_at-requires
 build_tree-function_at-requires t c = (of-Call c.args.text.now c.args.tree.now c.in-Call.path c.in-Call.arguments c.in-Call.is c.requires.1.1).0
 
 pub build_tree-build_all-requires-in-Set : goal.build_tree-build_all-requires-in-Set
-build_tree-build_all-requires-in-Set t c = (search (rules, the_lemmas), subst (AllStand c.args.text.now) (sym c.as_slice-in-Set.ensures) (of-Set c.args.text.now c.args.tree.now c.in-Set.members c.in-Set.is c.requires.1.1))
+build_tree-build_all-requires-in-Set t c = (search (rules, the_lemmas), subst (AllWellFormed c.args.text.now) (sym c.as_slice-in-Set.ensures) (of-Set c.args.text.now c.args.tree.now c.in-Set.members c.in-Set.is c.requires.1.1))
 
 pub build_tree-build_entries-requires : goal.build_tree-build_entries-requires
-build_tree-build_entries-requires t c = (search (rules, the_lemmas), subst (AllByRecursion (EntryStands c.args.text.now)) (sym c.as_slice-in-Record.ensures) (of-Record c.args.text.now c.args.tree.now c.in-Record.entries c.in-Record.is c.requires.1.1))
+build_tree-build_entries-requires t c = (search (rules, the_lemmas), subst (AllByRecursion (WellFormedEntry c.args.text.now)) (sym c.as_slice-in-Record.ensures) (of-Record c.args.text.now c.args.tree.now c.in-Record.entries c.in-Record.is c.requires.1.1))
 
 pub build_tree-build_tree-first-requires : goal.build_tree-build_tree-first-requires
-build_tree-build_tree-first-requires t c = (search (rules, the_lemmas), subst (Stands c.args.text.now) (sym c.get-in-Member.ensures) (of-Member c.args.text.now c.args.tree.now c.in-Member.inner c.in-Member.accesses c.in-Member.is c.requires.1.1).0)
+build_tree-build_tree-first-requires t c = (search (rules, the_lemmas), subst (WellFormed c.args.text.now) (sym c.get-in-Member.ensures) (of-Member c.args.text.now c.args.tree.now c.in-Member.inner c.in-Member.accesses c.in-Member.is c.requires.1.1).0)
 
 pub build_tree-build_accesses-requires : goal.build_tree-build_accesses-requires
-build_tree-build_accesses-requires t c = (search (rules, the_lemmas), subst (AllByRecursion (AccessStands c.args.text.now)) (sym c.as_slice-in-Member.ensures) (of-Member c.args.text.now c.args.tree.now c.in-Member.inner c.in-Member.accesses c.in-Member.is c.requires.1.1).1)
+build_tree-build_accesses-requires t c = (search (rules, the_lemmas), subst (AllByRecursion (WellFormedAccess c.args.text.now)) (sym c.as_slice-in-Member.ensures) (of-Member c.args.text.now c.args.tree.now c.in-Member.inner c.in-Member.accesses c.in-Member.is c.requires.1.1).1)
 
 pub build_tree-build_tree-first-requires-in-Product : goal.build_tree-build_tree-first-requires-in-Product
-build_tree-build_tree-first-requires-in-Product t c = (search (rules, the_lemmas), subst (Stands c.args.text.now) (sym c.get-in-Product.ensures) (of-Product c.args.text.now c.args.tree.now c.in-Product.inner c.in-Product.more c.in-Product.is c.requires.1.1).0)
+build_tree-build_tree-first-requires-in-Product t c = (search (rules, the_lemmas), subst (WellFormed c.args.text.now) (sym c.get-in-Product.ensures) (of-Product c.args.text.now c.args.tree.now c.in-Product.inner c.in-Product.more c.in-Product.is c.requires.1.1).0)
 
 pub build_tree-build_chain-requires : goal.build_tree-build_chain-requires
-build_tree-build_chain-requires t c = (search (rules, the_lemmas), subst (AllStand c.args.text.now) (sym c.as_slice-in-Product.ensures) (of-Product c.args.text.now c.args.tree.now c.in-Product.inner c.in-Product.more c.in-Product.is c.requires.1.1).1)
+build_tree-build_chain-requires t c = (search (rules, the_lemmas), subst (AllWellFormed c.args.text.now) (sym c.as_slice-in-Product.ensures) (of-Product c.args.text.now c.args.tree.now c.in-Product.inner c.in-Product.more c.in-Product.is c.requires.1.1).1)
 
 pub build_tree-build_tree-first-requires-in-Sum : goal.build_tree-build_tree-first-requires-in-Sum
-build_tree-build_tree-first-requires-in-Sum t c = (search (rules, the_lemmas), subst (Stands c.args.text.now) (sym c.get-in-Sum.ensures) (of-Sum c.args.text.now c.args.tree.now c.in-Sum.inner c.in-Sum.terms c.in-Sum.is c.requires.1.1).0)
+build_tree-build_tree-first-requires-in-Sum t c = (search (rules, the_lemmas), subst (WellFormed c.args.text.now) (sym c.get-in-Sum.ensures) (of-Sum c.args.text.now c.args.tree.now c.in-Sum.inner c.in-Sum.terms c.in-Sum.is c.requires.1.1).0)
 
 pub build_tree-build_terms-requires : goal.build_tree-build_terms-requires
-build_tree-build_terms-requires t c = (search (rules, the_lemmas), subst (AllByRecursion (TermStands c.args.text.now)) (sym c.as_slice-in-Sum.ensures) (of-Sum c.args.text.now c.args.tree.now c.in-Sum.inner c.in-Sum.terms c.in-Sum.is c.requires.1.1).1)
+build_tree-build_terms-requires t c = (search (rules, the_lemmas), subst (AllByRecursion (WellFormedTerm c.args.text.now)) (sym c.as_slice-in-Sum.ensures) (of-Sum c.args.text.now c.args.tree.now c.in-Sum.inner c.in-Sum.terms c.in-Sum.is c.requires.1.1).1)
 
 pub build_tree-build_tree-requires-in-Compare : goal.build_tree-build_tree-requires-in-Compare
-build_tree-build_tree-requires-in-Compare t c = (search (rules, the_lemmas), subst (Stands c.args.text.now) (sym c.get-in-Compare.ensures) (of-Compare c.args.text.now c.args.tree.now c.in-Compare.left c.in-Compare.operator c.in-Compare.right c.in-Compare.is c.requires.1.1).0)
+build_tree-build_tree-requires-in-Compare t c = (search (rules, the_lemmas), subst (WellFormed c.args.text.now) (sym c.get-in-Compare.ensures) (of-Compare c.args.text.now c.args.tree.now c.in-Compare.left c.in-Compare.operator c.in-Compare.right c.in-Compare.is c.requires.1.1).0)
 
 pub build_tree-build_tree-requires-in-Compare-2 : goal.build_tree-build_tree-requires-in-Compare-2
-build_tree-build_tree-requires-in-Compare-2 t c = (search (rules, the_lemmas), subst (Stands c.args.text.now) (sym c.get-in-Compare-2.ensures) (of-Compare c.args.text.now c.args.tree.now c.in-Compare.left c.in-Compare.operator c.in-Compare.right c.in-Compare.is c.requires.1.1).1)
+build_tree-build_tree-requires-in-Compare-2 t c = (search (rules, the_lemmas), subst (WellFormed c.args.text.now) (sym c.get-in-Compare-2.ensures) (of-Compare c.args.text.now c.args.tree.now c.in-Compare.left c.in-Compare.operator c.in-Compare.right c.in-Compare.is c.requires.1.1).1)
 
 pub build_tree-build_tree-requires-in-Has : goal.build_tree-build_tree-requires-in-Has
-build_tree-build_tree-requires-in-Has t c = (search (rules, the_lemmas), subst (Stands c.args.text.now) (sym c.get-in-Has.ensures) (of-Has c.args.text.now c.args.tree.now c.in-Has.inner c.in-Has.key c.in-Has.is c.requires.1.1).0)
+build_tree-build_tree-requires-in-Has t c = (search (rules, the_lemmas), subst (WellFormed c.args.text.now) (sym c.get-in-Has.ensures) (of-Has c.args.text.now c.args.tree.now c.in-Has.inner c.in-Has.key c.in-Has.is c.requires.1.1).0)
 
 pub build_tree-build_tree-requires-in-Like : goal.build_tree-build_tree-requires-in-Like
-build_tree-build_tree-requires-in-Like t c = (search (rules, the_lemmas), subst (Stands c.args.text.now) (sym c.get-in-Like.ensures) (of-Like c.args.text.now c.args.tree.now c.in-Like.inner c.in-Like.token c.in-Like.is c.requires.1.1).0)
+build_tree-build_tree-requires-in-Like t c = (search (rules, the_lemmas), subst (WellFormed c.args.text.now) (sym c.get-in-Like.ensures) (of-Like c.args.text.now c.args.tree.now c.in-Like.inner c.in-Like.token c.in-Like.is c.requires.1.1).0)
 
 pub build_tree-build_tree-requires-in-Is : goal.build_tree-build_tree-requires-in-Is
-build_tree-build_tree-requires-in-Is t c = (search (rules, the_lemmas), subst (Stands c.args.text.now) (sym c.get-in-Is.ensures) (of-Is c.args.text.now c.args.tree.now c.in-Is.inner c.in-Is.path c.in-Is.is c.requires.1.1).0)
+build_tree-build_tree-requires-in-Is t c = (search (rules, the_lemmas), subst (WellFormed c.args.text.now) (sym c.get-in-Is.ensures) (of-Is c.args.text.now c.args.tree.now c.in-Is.inner c.in-Is.path c.in-Is.is c.requires.1.1).0)
 
 pub build_tree-uid_literal-requires : goal.build_tree-uid_literal-requires
 build_tree-uid_literal-requires t c = (of-Uid c.args.text.now c.args.tree.now c.in-Uid.uid c.in-Uid.is c.requires.1.1)
@@ -111,40 +111,40 @@ pub build_tree-is-requires : goal.build_tree-is-requires
 build_tree-is-requires t c = (of-Is c.args.text.now c.args.tree.now c.in-Is.inner c.in-Is.path c.in-Is.is c.requires.1.1).1
 
 pub build_tree-build_tree-operand-requires : goal.build_tree-build_tree-operand-requires
-build_tree-build_tree-operand-requires t c = (search (rules, the_lemmas), subst (Stands c.args.text.now) (sym c.get-in-IsIn.ensures) (of-IsIn c.args.text.now c.args.tree.now c.in-IsIn.inner c.in-IsIn.path c.in-IsIn.outer c.in-IsIn.is c.requires.1.1).0)
+build_tree-build_tree-operand-requires t c = (search (rules, the_lemmas), subst (WellFormed c.args.text.now) (sym c.get-in-IsIn.ensures) (of-IsIn c.args.text.now c.args.tree.now c.in-IsIn.inner c.in-IsIn.path c.in-IsIn.outer c.in-IsIn.is c.requires.1.1).0)
 
 pub build_tree-build_tree-ancestor-requires : goal.build_tree-build_tree-ancestor-requires
-build_tree-build_tree-ancestor-requires t c = (search (rules, the_lemmas), subst (Stands c.args.text.now) (sym c.get-in-IsIn-2.ensures) (of-IsIn c.args.text.now c.args.tree.now c.in-IsIn.inner c.in-IsIn.path c.in-IsIn.outer c.in-IsIn.is c.requires.1.1).1.1)
+build_tree-build_tree-ancestor-requires t c = (search (rules, the_lemmas), subst (WellFormed c.args.text.now) (sym c.get-in-IsIn-2.ensures) (of-IsIn c.args.text.now c.args.tree.now c.in-IsIn.inner c.in-IsIn.path c.in-IsIn.outer c.in-IsIn.is c.requires.1.1).1.1)
 
 pub build_tree-is_in-requires : goal.build_tree-is_in-requires
 build_tree-is_in-requires t c = (of-IsIn c.args.text.now c.args.tree.now c.in-IsIn.inner c.in-IsIn.path c.in-IsIn.outer c.in-IsIn.is c.requires.1.1).1.0
 
 pub build_tree-build_tree-first-requires-in-And : goal.build_tree-build_tree-first-requires-in-And
-build_tree-build_tree-first-requires-in-And t c = (search (rules, the_lemmas), subst (Stands c.args.text.now) (sym c.get-in-And.ensures) (of-And c.args.text.now c.args.tree.now c.in-And.inner c.in-And.more c.in-And.is c.requires.1.1).0)
+build_tree-build_tree-first-requires-in-And t c = (search (rules, the_lemmas), subst (WellFormed c.args.text.now) (sym c.get-in-And.ensures) (of-And c.args.text.now c.args.tree.now c.in-And.inner c.in-And.more c.in-And.is c.requires.1.1).0)
 
 pub build_tree-build_chain-requires-in-And : goal.build_tree-build_chain-requires-in-And
-build_tree-build_chain-requires-in-And t c = (search (rules, the_lemmas), subst (AllStand c.args.text.now) (sym c.as_slice-in-And.ensures) (of-And c.args.text.now c.args.tree.now c.in-And.inner c.in-And.more c.in-And.is c.requires.1.1).1)
+build_tree-build_chain-requires-in-And t c = (search (rules, the_lemmas), subst (AllWellFormed c.args.text.now) (sym c.as_slice-in-And.ensures) (of-And c.args.text.now c.args.tree.now c.in-And.inner c.in-And.more c.in-And.is c.requires.1.1).1)
 
 pub build_tree-build_tree-first-requires-in-Or : goal.build_tree-build_tree-first-requires-in-Or
-build_tree-build_tree-first-requires-in-Or t c = (search (rules, the_lemmas), subst (Stands c.args.text.now) (sym c.get-in-Or.ensures) (of-Or c.args.text.now c.args.tree.now c.in-Or.inner c.in-Or.more c.in-Or.is c.requires.1.1).0)
+build_tree-build_tree-first-requires-in-Or t c = (search (rules, the_lemmas), subst (WellFormed c.args.text.now) (sym c.get-in-Or.ensures) (of-Or c.args.text.now c.args.tree.now c.in-Or.inner c.in-Or.more c.in-Or.is c.requires.1.1).0)
 
 pub build_tree-build_chain-requires-in-Or : goal.build_tree-build_chain-requires-in-Or
-build_tree-build_chain-requires-in-Or t c = (search (rules, the_lemmas), subst (AllStand c.args.text.now) (sym c.as_slice-in-Or.ensures) (of-Or c.args.text.now c.args.tree.now c.in-Or.inner c.in-Or.more c.in-Or.is c.requires.1.1).1)
+build_tree-build_chain-requires-in-Or t c = (search (rules, the_lemmas), subst (AllWellFormed c.args.text.now) (sym c.as_slice-in-Or.ensures) (of-Or c.args.text.now c.args.tree.now c.in-Or.inner c.in-Or.more c.in-Or.is c.requires.1.1).1)
 
 pub build_tree-build_tree-first-requires-in-If : goal.build_tree-build_tree-first-requires-in-If
-build_tree-build_tree-first-requires-in-If t c = (search (rules, the_lemmas), subst (Stands c.args.text.now) (sym c.get-in-If.ensures) (of-If c.args.text.now c.args.tree.now c.in-If.test c.in-If.consequent c.in-If.alternative c.in-If.is c.requires.1.1).0)
+build_tree-build_tree-first-requires-in-If t c = (search (rules, the_lemmas), subst (WellFormed c.args.text.now) (sym c.get-in-If.ensures) (of-If c.args.text.now c.args.tree.now c.in-If.test c.in-If.consequent c.in-If.alternative c.in-If.is c.requires.1.1).0)
 
 pub build_tree-build_tree-second-requires : goal.build_tree-build_tree-second-requires
-build_tree-build_tree-second-requires t c = (search (rules, the_lemmas), subst (Stands c.args.text.now) (sym c.get-in-If-2.ensures) (of-If c.args.text.now c.args.tree.now c.in-If.test c.in-If.consequent c.in-If.alternative c.in-If.is c.requires.1.1).1.0)
+build_tree-build_tree-second-requires t c = (search (rules, the_lemmas), subst (WellFormed c.args.text.now) (sym c.get-in-If-2.ensures) (of-If c.args.text.now c.args.tree.now c.in-If.test c.in-If.consequent c.in-If.alternative c.in-If.is c.requires.1.1).1.0)
 
 pub build_tree-build_tree-third-requires : goal.build_tree-build_tree-third-requires
-build_tree-build_tree-third-requires t c = (search (rules, the_lemmas), subst (Stands c.args.text.now) (sym c.get-in-If-3.ensures) (of-If c.args.text.now c.args.tree.now c.in-If.test c.in-If.consequent c.in-If.alternative c.in-If.is c.requires.1.1).1.1)
+build_tree-build_tree-third-requires t c = (search (rules, the_lemmas), subst (WellFormed c.args.text.now) (sym c.get-in-If-3.ensures) (of-If c.args.text.now c.args.tree.now c.in-If.test c.in-If.consequent c.in-If.alternative c.in-If.is c.requires.1.1).1.1)
 
 pub build_access-build_all-requires : goal.build_access-build_all-requires
-build_access-build_all-requires t c = (search (rules, the_lemmas), subst (AllStand c.args.text.now) (sym c.as_slice.ensures) (subst (AccessStands c.args.text.now) c.in-Method.is c.requires.1.1).1)
+build_access-build_all-requires t c = (search (rules, the_lemmas), subst (AllWellFormed c.args.text.now) (sym c.as_slice.ensures) (subst (WellFormedAccess c.args.text.now) c.in-Method.is c.requires.1.1).1)
 
 pub build_accesses-build_access-requires : goal.build_accesses-build_access-requires
-build_accesses-build_access-requires t c = (search (rules, the_lemmas), subst (AccessStands c.args.text.now) (sym c.access-item.is) (all-at (AccessStands c.args.text.now) c.args.accesses.now c.loop-access.access-index c.access-item.result c.requires.1.1 c.loop-access-test.true))
+build_accesses-build_access-requires t c = (search (rules, the_lemmas), subst (WellFormedAccess c.args.text.now) (sym c.access-item.is) (all-at (WellFormedAccess c.args.text.now) c.args.accesses.now c.loop-access.access-index c.access-item.result c.requires.1.1 c.loop-access-test.true))
 
 pub build_tree-returns-in-Boolean : goal.build_tree-returns-in-Boolean
 build_tree-returns-in-Boolean t c = c.boolean_literal.ensures ∙ (sym (core-Boolean c.args.text.now c.in-Boolean.value) ∙ ap (core_of c.args.text.now) (sym c.in-Boolean.is))

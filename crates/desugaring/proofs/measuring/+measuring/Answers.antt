@@ -5,7 +5,7 @@ use Rattle.desugaring.specs.Refused.{least}
 use Rattle.desugaring.specs.Repeats.{repeat_faults}
 use Rattle.desugaring.specs.Faults.{key_of, function_faults}
 use Rattle.desugaring.specs.inner.Giving.{Gave}
-use Rattle.desugaring.specs.inner.Standing.{Stands, AllStand, EntryStands, TermStands, AccessStands}
+use Rattle.desugaring.specs.inner.WellFormed.{WellFormed, AllWellFormed, WellFormedEntry, WellFormedTerm, WellFormedAccess}
 use Rattle.desugaring.specs.Measured.{measured, measured_negated}
 use Rattle.desugaring.specs.Sums.{nothing, above, beside, paired, called, with_fault, measured_all, measured_chain, measured_term, measured_entry, measured_access, measured_compared}
 use Rattle.desugaring.proofs.Lists.{all-at, stepped}
@@ -15,85 +15,85 @@ use Rattle.desugaring.proofs.MeasureLemmas.{measured-Boolean, measured-Number, m
 use Rattle.desugaring.proofs.measuring.+measuring.Goals as goal
 
 pub measure_tree-measure_all-requires : goal.measure_tree-measure_all-requires
-measure_tree-measure_all-requires t c = (search (rules, the_lemmas), subst (AllStand c.args.text.now) (sym c.as_slice.ensures) (of-Call c.args.text.now c.args.tree.now c.in-Call.path c.in-Call.arguments c.in-Call.is c.requires.1.1).1)
+measure_tree-measure_all-requires t c = (search (rules, the_lemmas), subst (AllWellFormed c.args.text.now) (sym c.as_slice.ensures) (of-Call c.args.text.now c.args.tree.now c.in-Call.path c.in-Call.arguments c.in-Call.is c.requires.1.1).1)
 
 pub measure_tree-function_fault-requires : goal.measure_tree-function_fault-requires
 measure_tree-function_fault-requires t c = (of-Call c.args.text.now c.args.tree.now c.in-Call.path c.in-Call.arguments c.in-Call.is c.requires.1.1).0
 
 pub measure_tree-measure_all-requires-in-Set : goal.measure_tree-measure_all-requires-in-Set
-measure_tree-measure_all-requires-in-Set t c = (search (rules, the_lemmas), subst (AllStand c.args.text.now) (sym c.as_slice-in-Set.ensures) (of-Set c.args.text.now c.args.tree.now c.in-Set.members c.in-Set.is c.requires.1.1))
+measure_tree-measure_all-requires-in-Set t c = (search (rules, the_lemmas), subst (AllWellFormed c.args.text.now) (sym c.as_slice-in-Set.ensures) (of-Set c.args.text.now c.args.tree.now c.in-Set.members c.in-Set.is c.requires.1.1))
 
 pub measure_tree-repeated_key-requires : goal.measure_tree-repeated_key-requires
-measure_tree-repeated_key-requires t c = subst (AllByRecursion (EntryStands c.args.text.now)) (sym c.as_slice-in-Record.ensures) (of-Record c.args.text.now c.args.tree.now c.in-Record.entries c.in-Record.is c.requires.1.1)
+measure_tree-repeated_key-requires t c = subst (AllByRecursion (WellFormedEntry c.args.text.now)) (sym c.as_slice-in-Record.ensures) (of-Record c.args.text.now c.args.tree.now c.in-Record.entries c.in-Record.is c.requires.1.1)
 
 pub measure_tree-measure_entries-requires : goal.measure_tree-measure_entries-requires
-measure_tree-measure_entries-requires t c = (search (rules, the_lemmas), subst (AllByRecursion (EntryStands c.args.text.now)) (sym c.as_slice-in-Record-2.ensures) (of-Record c.args.text.now c.args.tree.now c.in-Record.entries c.in-Record.is c.requires.1.1))
+measure_tree-measure_entries-requires t c = (search (rules, the_lemmas), subst (AllByRecursion (WellFormedEntry c.args.text.now)) (sym c.as_slice-in-Record-2.ensures) (of-Record c.args.text.now c.args.tree.now c.in-Record.entries c.in-Record.is c.requires.1.1))
 
 pub measure_tree-measure_tree-first-requires : goal.measure_tree-measure_tree-first-requires
-measure_tree-measure_tree-first-requires t c = (search (rules, the_lemmas), subst (Stands c.args.text.now) (sym c.get-in-Member.ensures) (of-Member c.args.text.now c.args.tree.now c.in-Member.inner c.in-Member.accesses c.in-Member.is c.requires.1.1).0)
+measure_tree-measure_tree-first-requires t c = (search (rules, the_lemmas), subst (WellFormed c.args.text.now) (sym c.get-in-Member.ensures) (of-Member c.args.text.now c.args.tree.now c.in-Member.inner c.in-Member.accesses c.in-Member.is c.requires.1.1).0)
 
 pub measure_tree-measure_accesses-requires : goal.measure_tree-measure_accesses-requires
-measure_tree-measure_accesses-requires t c = (search (rules, the_lemmas), subst (AllByRecursion (AccessStands c.args.text.now)) (sym c.as_slice-in-Member.ensures) (of-Member c.args.text.now c.args.tree.now c.in-Member.inner c.in-Member.accesses c.in-Member.is c.requires.1.1).1)
+measure_tree-measure_accesses-requires t c = (search (rules, the_lemmas), subst (AllByRecursion (WellFormedAccess c.args.text.now)) (sym c.as_slice-in-Member.ensures) (of-Member c.args.text.now c.args.tree.now c.in-Member.inner c.in-Member.accesses c.in-Member.is c.requires.1.1).1)
 
 pub measure_tree-measure_tree-first-requires-in-Product : goal.measure_tree-measure_tree-first-requires-in-Product
-measure_tree-measure_tree-first-requires-in-Product t c = (search (rules, the_lemmas), subst (Stands c.args.text.now) (sym c.get-in-Product.ensures) (of-Product c.args.text.now c.args.tree.now c.in-Product.inner c.in-Product.more c.in-Product.is c.requires.1.1).0)
+measure_tree-measure_tree-first-requires-in-Product t c = (search (rules, the_lemmas), subst (WellFormed c.args.text.now) (sym c.get-in-Product.ensures) (of-Product c.args.text.now c.args.tree.now c.in-Product.inner c.in-Product.more c.in-Product.is c.requires.1.1).0)
 
 pub measure_tree-measure_chain-requires : goal.measure_tree-measure_chain-requires
-measure_tree-measure_chain-requires t c = (search (rules, the_lemmas), subst (AllStand c.args.text.now) (sym c.as_slice-in-Product.ensures) (of-Product c.args.text.now c.args.tree.now c.in-Product.inner c.in-Product.more c.in-Product.is c.requires.1.1).1)
+measure_tree-measure_chain-requires t c = (search (rules, the_lemmas), subst (AllWellFormed c.args.text.now) (sym c.as_slice-in-Product.ensures) (of-Product c.args.text.now c.args.tree.now c.in-Product.inner c.in-Product.more c.in-Product.is c.requires.1.1).1)
 
 pub measure_tree-measure_tree-first-requires-in-Sum : goal.measure_tree-measure_tree-first-requires-in-Sum
-measure_tree-measure_tree-first-requires-in-Sum t c = (search (rules, the_lemmas), subst (Stands c.args.text.now) (sym c.get-in-Sum.ensures) (of-Sum c.args.text.now c.args.tree.now c.in-Sum.inner c.in-Sum.terms c.in-Sum.is c.requires.1.1).0)
+measure_tree-measure_tree-first-requires-in-Sum t c = (search (rules, the_lemmas), subst (WellFormed c.args.text.now) (sym c.get-in-Sum.ensures) (of-Sum c.args.text.now c.args.tree.now c.in-Sum.inner c.in-Sum.terms c.in-Sum.is c.requires.1.1).0)
 
 pub measure_tree-measure_terms-requires : goal.measure_tree-measure_terms-requires
-measure_tree-measure_terms-requires t c = (search (rules, the_lemmas), subst (AllByRecursion (TermStands c.args.text.now)) (sym c.as_slice-in-Sum.ensures) (of-Sum c.args.text.now c.args.tree.now c.in-Sum.inner c.in-Sum.terms c.in-Sum.is c.requires.1.1).1)
+measure_tree-measure_terms-requires t c = (search (rules, the_lemmas), subst (AllByRecursion (WellFormedTerm c.args.text.now)) (sym c.as_slice-in-Sum.ensures) (of-Sum c.args.text.now c.args.tree.now c.in-Sum.inner c.in-Sum.terms c.in-Sum.is c.requires.1.1).1)
 
 pub measure_tree-measure_tree-requires-in-Compare : goal.measure_tree-measure_tree-requires-in-Compare
-measure_tree-measure_tree-requires-in-Compare t c = (search (rules, the_lemmas), subst (Stands c.args.text.now) (sym c.get-in-Compare.ensures) (of-Compare c.args.text.now c.args.tree.now c.in-Compare.left c.in-Compare.operator c.in-Compare.right c.in-Compare.is c.requires.1.1).0)
+measure_tree-measure_tree-requires-in-Compare t c = (search (rules, the_lemmas), subst (WellFormed c.args.text.now) (sym c.get-in-Compare.ensures) (of-Compare c.args.text.now c.args.tree.now c.in-Compare.left c.in-Compare.operator c.in-Compare.right c.in-Compare.is c.requires.1.1).0)
 
 pub measure_tree-measure_tree-requires-in-Compare-2 : goal.measure_tree-measure_tree-requires-in-Compare-2
-measure_tree-measure_tree-requires-in-Compare-2 t c = (search (rules, the_lemmas), subst (Stands c.args.text.now) (sym c.get-in-Compare-2.ensures) (of-Compare c.args.text.now c.args.tree.now c.in-Compare.left c.in-Compare.operator c.in-Compare.right c.in-Compare.is c.requires.1.1).1)
+measure_tree-measure_tree-requires-in-Compare-2 t c = (search (rules, the_lemmas), subst (WellFormed c.args.text.now) (sym c.get-in-Compare-2.ensures) (of-Compare c.args.text.now c.args.tree.now c.in-Compare.left c.in-Compare.operator c.in-Compare.right c.in-Compare.is c.requires.1.1).1)
 
 pub measure_tree-measure_tree-requires-in-Has : goal.measure_tree-measure_tree-requires-in-Has
-measure_tree-measure_tree-requires-in-Has t c = (search (rules, the_lemmas), subst (Stands c.args.text.now) (sym c.get-in-Has.ensures) (of-Has c.args.text.now c.args.tree.now c.in-Has.inner c.in-Has.field-1 c.in-Has.is c.requires.1.1).0)
+measure_tree-measure_tree-requires-in-Has t c = (search (rules, the_lemmas), subst (WellFormed c.args.text.now) (sym c.get-in-Has.ensures) (of-Has c.args.text.now c.args.tree.now c.in-Has.inner c.in-Has.field-1 c.in-Has.is c.requires.1.1).0)
 
 pub measure_tree-measure_tree-requires-in-Like : goal.measure_tree-measure_tree-requires-in-Like
-measure_tree-measure_tree-requires-in-Like t c = (search (rules, the_lemmas), subst (Stands c.args.text.now) (sym c.get-in-Like.ensures) (of-Like c.args.text.now c.args.tree.now c.in-Like.inner c.in-Like.field-1 c.in-Like.is c.requires.1.1).0)
+measure_tree-measure_tree-requires-in-Like t c = (search (rules, the_lemmas), subst (WellFormed c.args.text.now) (sym c.get-in-Like.ensures) (of-Like c.args.text.now c.args.tree.now c.in-Like.inner c.in-Like.field-1 c.in-Like.is c.requires.1.1).0)
 
 pub measure_tree-measure_tree-requires-in-Is : goal.measure_tree-measure_tree-requires-in-Is
-measure_tree-measure_tree-requires-in-Is t c = (search (rules, the_lemmas), subst (Stands c.args.text.now) (sym c.get-in-Is.ensures) (of-Is c.args.text.now c.args.tree.now c.in-Is.inner c.in-Is.field-1 c.in-Is.is c.requires.1.1).0)
+measure_tree-measure_tree-requires-in-Is t c = (search (rules, the_lemmas), subst (WellFormed c.args.text.now) (sym c.get-in-Is.ensures) (of-Is c.args.text.now c.args.tree.now c.in-Is.inner c.in-Is.field-1 c.in-Is.is c.requires.1.1).0)
 
 pub measure_tree-measure_tree-requires-in-IsIn : goal.measure_tree-measure_tree-requires-in-IsIn
-measure_tree-measure_tree-requires-in-IsIn t c = (search (rules, the_lemmas), subst (Stands c.args.text.now) (sym c.get-in-IsIn.ensures) (of-IsIn c.args.text.now c.args.tree.now c.in-IsIn.inner c.in-IsIn.field-1 c.in-IsIn.outer c.in-IsIn.is c.requires.1.1).0)
+measure_tree-measure_tree-requires-in-IsIn t c = (search (rules, the_lemmas), subst (WellFormed c.args.text.now) (sym c.get-in-IsIn.ensures) (of-IsIn c.args.text.now c.args.tree.now c.in-IsIn.inner c.in-IsIn.field-1 c.in-IsIn.outer c.in-IsIn.is c.requires.1.1).0)
 
 pub measure_tree-measure_tree-requires-in-IsIn-2 : goal.measure_tree-measure_tree-requires-in-IsIn-2
-measure_tree-measure_tree-requires-in-IsIn-2 t c = (search (rules, the_lemmas), subst (Stands c.args.text.now) (sym c.get-in-IsIn-2.ensures) (of-IsIn c.args.text.now c.args.tree.now c.in-IsIn.inner c.in-IsIn.field-1 c.in-IsIn.outer c.in-IsIn.is c.requires.1.1).1.1)
+measure_tree-measure_tree-requires-in-IsIn-2 t c = (search (rules, the_lemmas), subst (WellFormed c.args.text.now) (sym c.get-in-IsIn-2.ensures) (of-IsIn c.args.text.now c.args.tree.now c.in-IsIn.inner c.in-IsIn.field-1 c.in-IsIn.outer c.in-IsIn.is c.requires.1.1).1.1)
 
 pub measure_tree-measure_tree-first-requires-in-And : goal.measure_tree-measure_tree-first-requires-in-And
-measure_tree-measure_tree-first-requires-in-And t c = (search (rules, the_lemmas), subst (Stands c.args.text.now) (sym c.get-in-And.ensures) (of-And c.args.text.now c.args.tree.now c.in-And.inner c.in-And.more c.in-And.is c.requires.1.1).0)
+measure_tree-measure_tree-first-requires-in-And t c = (search (rules, the_lemmas), subst (WellFormed c.args.text.now) (sym c.get-in-And.ensures) (of-And c.args.text.now c.args.tree.now c.in-And.inner c.in-And.more c.in-And.is c.requires.1.1).0)
 
 pub measure_tree-measure_chain-requires-in-And : goal.measure_tree-measure_chain-requires-in-And
-measure_tree-measure_chain-requires-in-And t c = (search (rules, the_lemmas), subst (AllStand c.args.text.now) (sym c.as_slice-in-And.ensures) (of-And c.args.text.now c.args.tree.now c.in-And.inner c.in-And.more c.in-And.is c.requires.1.1).1)
+measure_tree-measure_chain-requires-in-And t c = (search (rules, the_lemmas), subst (AllWellFormed c.args.text.now) (sym c.as_slice-in-And.ensures) (of-And c.args.text.now c.args.tree.now c.in-And.inner c.in-And.more c.in-And.is c.requires.1.1).1)
 
 pub measure_tree-measure_tree-first-requires-in-Or : goal.measure_tree-measure_tree-first-requires-in-Or
-measure_tree-measure_tree-first-requires-in-Or t c = (search (rules, the_lemmas), subst (Stands c.args.text.now) (sym c.get-in-Or.ensures) (of-Or c.args.text.now c.args.tree.now c.in-Or.inner c.in-Or.more c.in-Or.is c.requires.1.1).0)
+measure_tree-measure_tree-first-requires-in-Or t c = (search (rules, the_lemmas), subst (WellFormed c.args.text.now) (sym c.get-in-Or.ensures) (of-Or c.args.text.now c.args.tree.now c.in-Or.inner c.in-Or.more c.in-Or.is c.requires.1.1).0)
 
 pub measure_tree-measure_chain-requires-in-Or : goal.measure_tree-measure_chain-requires-in-Or
-measure_tree-measure_chain-requires-in-Or t c = (search (rules, the_lemmas), subst (AllStand c.args.text.now) (sym c.as_slice-in-Or.ensures) (of-Or c.args.text.now c.args.tree.now c.in-Or.inner c.in-Or.more c.in-Or.is c.requires.1.1).1)
+measure_tree-measure_chain-requires-in-Or t c = (search (rules, the_lemmas), subst (AllWellFormed c.args.text.now) (sym c.as_slice-in-Or.ensures) (of-Or c.args.text.now c.args.tree.now c.in-Or.inner c.in-Or.more c.in-Or.is c.requires.1.1).1)
 
 pub measure_tree-measure_tree-first-requires-in-If : goal.measure_tree-measure_tree-first-requires-in-If
-measure_tree-measure_tree-first-requires-in-If t c = (search (rules, the_lemmas), subst (Stands c.args.text.now) (sym c.get-in-If.ensures) (of-If c.args.text.now c.args.tree.now c.in-If.test c.in-If.consequent c.in-If.alternative c.in-If.is c.requires.1.1).0)
+measure_tree-measure_tree-first-requires-in-If t c = (search (rules, the_lemmas), subst (WellFormed c.args.text.now) (sym c.get-in-If.ensures) (of-If c.args.text.now c.args.tree.now c.in-If.test c.in-If.consequent c.in-If.alternative c.in-If.is c.requires.1.1).0)
 
 pub measure_tree-measure_tree-second-requires : goal.measure_tree-measure_tree-second-requires
-measure_tree-measure_tree-second-requires t c = (search (rules, the_lemmas), subst (Stands c.args.text.now) (sym c.get-in-If-2.ensures) (of-If c.args.text.now c.args.tree.now c.in-If.test c.in-If.consequent c.in-If.alternative c.in-If.is c.requires.1.1).1.0)
+measure_tree-measure_tree-second-requires t c = (search (rules, the_lemmas), subst (WellFormed c.args.text.now) (sym c.get-in-If-2.ensures) (of-If c.args.text.now c.args.tree.now c.in-If.test c.in-If.consequent c.in-If.alternative c.in-If.is c.requires.1.1).1.0)
 
 pub measure_tree-measure_tree-third-requires : goal.measure_tree-measure_tree-third-requires
-measure_tree-measure_tree-third-requires t c = (search (rules, the_lemmas), subst (Stands c.args.text.now) (sym c.get-in-If-3.ensures) (of-If c.args.text.now c.args.tree.now c.in-If.test c.in-If.consequent c.in-If.alternative c.in-If.is c.requires.1.1).1.1)
+measure_tree-measure_tree-third-requires t c = (search (rules, the_lemmas), subst (WellFormed c.args.text.now) (sym c.get-in-If-3.ensures) (of-If c.args.text.now c.args.tree.now c.in-If.test c.in-If.consequent c.in-If.alternative c.in-If.is c.requires.1.1).1.1)
 
 pub measure_access-measure_all-requires : goal.measure_access-measure_all-requires
-measure_access-measure_all-requires t c = (search (rules, the_lemmas), subst (AllStand c.args.text.now) (sym c.as_slice.ensures) (subst (AccessStands c.args.text.now) c.in-Method.is c.requires.1.1).1)
+measure_access-measure_all-requires t c = (search (rules, the_lemmas), subst (AllWellFormed c.args.text.now) (sym c.as_slice.ensures) (subst (WellFormedAccess c.args.text.now) c.in-Method.is c.requires.1.1).1)
 
 pub measure_accesses-measure_access-requires : goal.measure_accesses-measure_access-requires
-measure_accesses-measure_access-requires t c = (search (rules, the_lemmas), subst (AccessStands c.args.text.now) (sym c.access-item.is) (all-at (AccessStands c.args.text.now) c.args.accesses.now c.loop-access.access-index c.access-item.result c.requires.1.1 c.loop-access-test.true))
+measure_accesses-measure_access-requires t c = (search (rules, the_lemmas), subst (WellFormedAccess c.args.text.now) (sym c.access-item.is) (all-at (WellFormedAccess c.args.text.now) c.args.accesses.now c.loop-access.access-index c.access-item.result c.requires.1.1 c.loop-access-test.true))
 
 pub measure_chain-loop-tree-preserved : goal.measure_chain-loop-tree-preserved
 measure_chain-loop-tree-preserved t c =

@@ -1,7 +1,7 @@
 use Rattle.std.proofs.Common.{◌++◌, ◌∷◌, [], sym, subst, take, get_or, ◌∙◌, refl}
 use Rattle.std.proofs.lemmas.List.{take_all}
 use Rattle.desugaring.specs.Repeats.{shown}
-use Rattle.desugaring.specs.Repeats.{Mark, StandsAgain}
+use Rattle.desugaring.specs.Repeats.{NameAt, StandsAgain}
 use Rattle.desugaring.specs.inner.Searching.{TellsLeast}
 use Rattle.desugaring.proofs.Repeating.{Seen, seen-none, seen-new, seen-again, shown-more, was_new, was_old}
 use Rattle.desugaring.proofs.repeats.least_place.Goals as goal
@@ -15,7 +15,7 @@ loop-mark-preserved c =
     let mark = get_or c.args.marks.now c.loop-mark.mark-index (record { name = record { ref_ptr = (0, 0); now = [] }; at = 0 }) in
     let more = shown-more c.args.marks.now c.loop-mark.mark-index (record { name = record { ref_ptr = (0, 0); now = [] }; at = 0 }) c.loop-mark-test.true in
     let passed = shown (take c.loop-mark.mark-index c.args.marks.now) in
-    let m : Mark = record { name = mark.name.now; at = mark.at } in
+    let m : NameAt = record { name = mark.name.now; at = mark.at } in
     let updates = c.in_ok-insert.ensures.updates in
     let added = c.in_ok-insert.ensures.added in
     subst (λ ms. Seen ms c.insert.new.self c.if-not-branch.least) (sym more) (elim c.if-not-branch.branch [

@@ -1,4 +1,4 @@
-use Rattle.desugaring.proofs.Standing.{stands_in}
+use Rattle.desugaring.proofs.WellFormedLemmas.{stands_in}
 use Rattle.desugaring.proofs.whole.build_expr.Goals as goal
 
 pub build_tree-requires : goal.build_tree-requires

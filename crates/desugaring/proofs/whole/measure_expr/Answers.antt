@@ -1,4 +1,4 @@
-use Rattle.desugaring.proofs.Standing.{stands_in}
+use Rattle.desugaring.proofs.WellFormedLemmas.{stands_in}
 use Rattle.desugaring.proofs.whole.measure_expr.Goals as goal
 
 pub measure_tree-requires : goal.measure_tree-requires

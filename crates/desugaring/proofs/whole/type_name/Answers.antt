@@ -1,4 +1,4 @@
-use Rattle.desugaring.proofs.Standing.{path_in}
+use Rattle.desugaring.proofs.WellFormedLemmas.{path_in}
 use Rattle.desugaring.proofs.whole.type_name.Goals as goal
 
 pub path_type-requires : goal.path_type-requires

@@ -4,7 +4,8 @@ use Rattle.std.proofs.lemmas.List.Sorted.{Contains-permutation, IsPermutation-sy
 use Rattle.std.proofs.Common.{◌∙◌}
 use Rattle.values.specs.Names.{uid_cmp-IsTotalOrder}
 use Rattle.entity_worlds.specs.UidSets.{uid_set}
-use Rattle.entities.proofs.UidSetLemmas.{sorted_set, same_members, same_is_equivalence, ties}
+use Rattle.entity_worlds.proofs.UidLemmas.{sorted_set, ties, is_equivalence}
+use Rattle.entities.proofs.UidSetLemmas.{same_members}
 use Rattle.entities.proofs.uid_set.in_order.Goals as goal
 
 pub returns : goal.returns
@@ -18,5 +19,5 @@ returns c =
     (sorted_set us)
     (λ u. (
       (λ h. (same_members us u).0 (Contains-permutation _ _ u (IsPermutation-sym _ _ moved) (Contains-from_dedup _ _ u (rw is at h)))),
-      (λ h. rw is (Contains-dedup (same_is_equivalence _ same) (λ x y. (same x y).0) _ u (Contains-permutation _ _ u moved ((same_members us u).1 h)))),
+      (λ h. rw is (Contains-dedup (is_equivalence _ same) (λ x y. (same x y).0) _ u (Contains-permutation _ _ u moved ((same_members us u).1 h)))),
     ))

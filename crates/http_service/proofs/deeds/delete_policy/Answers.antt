@@ -6,4 +6,4 @@ use Rattle.http_service.proofs.deeds.delete_policy.Goals as goal
 pub returns-clause-reply : goal.returns-clause-reply
 returns-clause-reply c =
     handed c.args.site.now c.delete_policy-outcome.new.self (input.DeletePolicy c.args.id.now) (reply.Stamped c.delete_policy-outcome.result) _ _ _
-    c.delete_policy-outcome.ensures.deletes c.delete_policy-outcome.ensures.same c.tell_stamp.ensures.status c.tell_stamp.ensures.body
+    c.delete_policy-outcome.ensures.deletes c.delete_policy-outcome.ensures.same c.report_stamp.ensures.status c.report_stamp.ensures.body

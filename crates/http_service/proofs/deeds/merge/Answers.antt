@@ -6,4 +6,4 @@ use Rattle.http_service.proofs.deeds.merge.Goals as goal
 pub returns-clause-reply : goal.returns-clause-reply
 returns-clause-reply c =
     handed c.args.site.now c.take_bytes-outcome.new.site (input.Take c.args.body.now) (reply.Taken c.take_bytes-outcome.result) _ _ _
-    c.take_bytes-outcome.ensures.takes c.take_bytes-outcome.ensures.same c.tell_taken.ensures.status c.tell_taken.ensures.body
+    c.take_bytes-outcome.ensures.takes c.take_bytes-outcome.ensures.same c.report_taken.ensures.status c.report_taken.ensures.body

@@ -6,4 +6,4 @@ use Rattle.http_service.proofs.deeds.put_entity.Goals as goal
 pub returns-clause-reply : goal.returns-clause-reply
 returns-clause-reply c =
     handed c.args.site.now c.put_entity_bytes-outcome.new.site (input.PutEntity c.args.body.now) (reply.Stamped c.put_entity_bytes-outcome.result) _ _ _
-    c.put_entity_bytes-outcome.ensures.puts c.put_entity_bytes-outcome.ensures.same c.tell_stamp.ensures.status c.tell_stamp.ensures.body
+    c.put_entity_bytes-outcome.ensures.puts c.put_entity_bytes-outcome.ensures.same c.report_stamp.ensures.status c.report_stamp.ensures.body

@@ -8,4 +8,4 @@ use Rattle.http_service.proofs.deeds.summary.Goals as goal
 pub returns-clause-reply : goal.returns-clause-reply
 returns-clause-reply c =
     asked_of c.args.site.now input.Summary (reply.Written c.summary_bytes-outcome.result) (reply.Written (Err fault.NoMemory))
-    _ _ _ (c.summary_bytes-outcome.ensures, refl) (tt, refl) refl c.tell_message.ensures.reply
+    _ _ _ (c.summary_bytes-outcome.ensures, refl) (tt, refl) refl c.report_message.ensures.reply

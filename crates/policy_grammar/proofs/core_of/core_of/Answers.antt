@@ -1,5 +1,5 @@
 use Rattle.std.proofs.Common.{sym, subst}
-use Rattle.policy_grammar.specs.inner.Standing.{AreSound}
+use Rattle.policy_grammar.specs.inner.Parts.{AreSound}
 use Rattle.policy_grammar.proofs.Joining.{sound-each}
 use Rattle.policy_grammar.proofs.core_of.core_of.Goals as goal
 

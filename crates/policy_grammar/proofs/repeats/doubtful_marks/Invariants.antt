@@ -1,6 +1,6 @@
 use Rattle.std.proofs.Common.{◌≡◌, ◌++◌, drop}
 use Rattle.desugaring.specs.Repeats.{shown}
-use Rattle.policy_grammar.specs.inner.Standing.{doubtful_marks}
+use Rattle.policy_grammar.specs.inner.Parts.{doubtful_marks}
 use Rattle.policy_grammar.proofs.repeats.doubtful_marks.Given as goal
 
 -- the marks up to here, and those behind

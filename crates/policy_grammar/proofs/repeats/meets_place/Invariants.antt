@@ -1,5 +1,5 @@
 use Rattle.std.proofs.Common.{◌≡◌, drop}
-use Rattle.policy_grammar.specs.inner.Standing.{meets_place}
+use Rattle.policy_grammar.specs.inner.Parts.{meets_place}
 use Rattle.policy_grammar.proofs.repeats.meets_place.Given as goal
 
 -- none up to here

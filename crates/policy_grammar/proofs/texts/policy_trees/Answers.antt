@@ -6,7 +6,7 @@ use Rattle.token_readers.specs.Reads.{IsRefusedWithin}
 use Rattle.policy_syntax.specs.Grammar as grammar
 use Rattle.policy_grammar.specs.Limits.{most_file_bytes}
 use Rattle.policy_grammar.specs.PolicyText.{IsUnread, OrNoMemory}
-use Rattle.policy_grammar.specs.inner.Standing.{refusal_of}
+use Rattle.policy_grammar.specs.inner.Parts.{refusal_of}
 use Rattle.policy_grammar.proofs.Refusing.{unread}
 use Rattle.policy_grammar.proofs.texts.policy_trees.Goals as goal
 

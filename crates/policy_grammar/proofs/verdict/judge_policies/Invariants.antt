@@ -1,5 +1,5 @@
 use Rattle.std.proofs.Common.{take}
-use Rattle.policy_grammar.specs.inner.Standing.{TellsFile}
+use Rattle.policy_grammar.specs.inner.Parts.{TellsFile}
 use Rattle.policy_grammar.proofs.verdict.judge_policies.Given as goal
 
 -- of the policies up to here

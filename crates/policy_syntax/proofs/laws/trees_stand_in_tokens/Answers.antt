@@ -1,5 +1,5 @@
 use Rattle.expression_syntax.specs.Expressions.{nesting_limit}
-use Rattle.policy_syntax.proofs.StandsLemmas.{policy_stands, policies_stand, uid_stands}
+use Rattle.policy_syntax.proofs.WellFormedLemmas.{policy_stands, policies_stand, uid_stands}
 use Rattle.policy_syntax.proofs.laws.trees_stand_in_tokens.Goals as goal
 
 pub returns : goal.returns

@@ -2,7 +2,7 @@ use Rattle.std.proofs.Common.{[], ◌∙◌}
 use Rattle.std.proofs.lemmas.Result.{err_from_is_err_and}
 use Rattle.token_readers.specs.Kinds.{only}
 use Rattle.policy_syntax.specs.inner.Parsing as spec
-use Rattle.policy_tokens.specs.declared.token.Kind.TheVariants as k
+use Rattle.policy_tokens.specs.declared.token.TokenKind.TheVariants as k
 use Rattle.token_readers.proofs.Gathered.{filled, filling, as_read, pushed, filled_up, filled_out, stopped}
 use Rattle.token_readers.proofs.LoopEnds.{itself}
 use Rattle.policy_syntax.proofs.policy.annotations.Goals as goal

@@ -1,7 +1,7 @@
 use Rattle.std.proofs.Common.{◌≡◌, ◌-◌}
 use Rattle.token_readers.specs.Kinds.{only}
 use Rattle.policy_syntax.specs.inner.Parsing as spec
-use Rattle.policy_tokens.specs.declared.token.Kind.TheVariants as k
+use Rattle.policy_tokens.specs.declared.token.TokenKind.TheVariants as k
 use Rattle.token_readers.proofs.Gathered.{gathered, filled}
 use Rattle.token_readers.proofs.LoopEnds.{itself}
 use Rattle.policy_syntax.proofs.policy.annotations.Given as goal

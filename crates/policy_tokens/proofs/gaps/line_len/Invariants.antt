@@ -1,6 +1,6 @@
 use Rattle.std.proofs.Common.{◌≡◌, ◌+◌, drop}
 use Rattle.policy_tokens.specs.Lexing.{in_line}
-use Rattle.policy_tokens.specs.inner.Reading.{run}
+use Rattle.plain.specs.Words.{run}
 use Rattle.policy_tokens.proofs.gaps.line_len.Given as goal
 
 abbrev pub invariant-loop-byte : goal.invariant-loop-byte

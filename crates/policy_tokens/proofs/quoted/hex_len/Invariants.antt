@@ -1,6 +1,6 @@
 use Rattle.std.proofs.Common.{◌≡◌, ◌+◌, drop}
 use Rattle.policy_tokens.specs.Lexing.{is_hex}
-use Rattle.policy_tokens.specs.inner.Reading.{run}
+use Rattle.plain.specs.Words.{run}
 use Rattle.policy_tokens.proofs.quoted.hex_len.Given as goal
 
 abbrev pub invariant-loop-byte : goal.invariant-loop-byte

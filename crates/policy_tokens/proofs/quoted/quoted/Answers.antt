@@ -1,7 +1,7 @@
 use Rattle.std.proofs.Common.{◌∷◌, ◌+◌, List, ℕ, length, drop, arith, ap, subst, sym, ◌∙◌}
 use Rattle.std.proofs.lemmas.List.{take_rest}
 use Rattle.policy_tokens.specs.inner.Reading.{NoEscape, IsFirstEscape}
-use Rattle.policy_tokens.specs.declared.token.Kind.{Kind}
+use Rattle.policy_tokens.specs.declared.token.TokenKind.{TokenKind}
 use Rattle.policy_tokens.proofs.Bodies.{Passed, passed_quote}
 use Rattle.policy_tokens.proofs.BodyTells.{found_at, bad_at, ended_at, byte_at, escape_at, escape_within}
 use Rattle.policy_tokens.proofs.quoted.quoted.Goals as goal
@@ -24,7 +24,7 @@ loop-at-preserved-then-byte-eq92 c =
     let found = subst (IsFirstEscape c.in-Some.escape) (take_rest c.args.text.now c.loop-at.at) c.in-Some.ensures in
     record {
       within = escape_within _ _ _ c.loop-at.invariant.within found;
-      passed = subst (λ (k : Kind). Passed (c.loop-at.at + c.in-Some.escape.len) c.args.text.now (drop (c.loop-at.at + c.in-Some.escape.len) c.args.text.now) k) (sym c.kind_with-kind.ensures)
+      passed = subst (λ (k : TokenKind). Passed (c.loop-at.at + c.in-Some.escape.len) c.args.text.now (drop (c.loop-at.at + c.in-Some.escape.len) c.args.text.now) k) (sym c.kind_with-kind.ensures)
           (escape_at _ _ _ _ found c.loop-at.invariant.passed);
     }
 

@@ -1,5 +1,6 @@
 use Rattle.std.proofs.Common.{◌≡◌, ◌+◌, drop}
-use Rattle.policy_tokens.specs.inner.Reading.{run, is_plain}
+use Rattle.plain.specs.Words.{run}
+use Rattle.policy_tokens.specs.inner.Reading.{is_plain}
 use Rattle.policy_tokens.proofs.strings.plain_len.Given as goal
 
 abbrev pub invariant-loop-byte : goal.invariant-loop-byte

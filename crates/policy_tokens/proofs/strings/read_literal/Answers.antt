@@ -1,7 +1,8 @@
 use Rattle.std.proofs.Common.{◌≡◌, ◌-◌, Bool, List, ℕ, arith, sym, ◌∙◌, ap, subst, drop, take, length, get_or}
 use Rattle.std.proofs.Math.Nat.{add-sub_cancel_left}
 use Rattle.std.proofs.lemmas.List.{take_rest}
-use Rattle.policy_tokens.specs.inner.Reading.{run, NoEscape, IsFirstEscape, is_plain, IsRead}
+use Rattle.plain.specs.Words.{run}
+use Rattle.policy_tokens.specs.inner.Reading.{NoEscape, IsFirstEscape, is_plain, IsRead}
 use Rattle.policy_tokens.proofs.Literals.{start_read, no_stop, escape_more, step_inside, plain_cut_at, plain_more, read_all, read_up}
 use Rattle.policy_tokens.proofs.strings.read_literal.Goals as goal
 use Rattle.policy_tokens.proofs.strings.read_literal.Goals.{else-loop-at-test, then-loop-at-test+else-byte-eq92+then-len-eq0}

@@ -13,7 +13,7 @@ pub loop-entity_type-init : goal.loop-entity_type-init
 loop-entity_type-init c = record {
   keeps = c.no_lines-lines.ensures.keeps (searched.parents-value.it c.args.edges.now);
   added = λ last h.
-      adds_first (λ e n s. ⊤) ShapeMust (λ e. ⊤) (map found_entity_type_view c.args.entity_types.now) (get text_cmp c.no_lines-lines.result.standings) last c.no_lines-lines.ensures.empty h;
+      adds_first (λ e n s. ⊤) ShapeMust (λ e. ⊤) (map found_entity_type_view c.args.entity_types.now) (get text_cmp c.no_lines-lines.result.line_places) last c.no_lines-lines.ensures.empty h;
 }
 
 pub loop-entity_type-preserved : goal.loop-entity_type-preserved
@@ -21,12 +21,12 @@ loop-entity_type-preserved c = record {
   keeps = c.in_ok-add_type.ensures.keeps c.loop-entity_type.invariant.keeps;
   added = λ last rest. c.loop-entity_type.invariant.added last
       (each_step (λ e n s. ⊤) ShapeMust (λ e. ⊤) found_entity_type_view c.args.entity_types.now c.loop-entity_type.entity_type-index c.entity_type-item.result
-      (get text_cmp c.loop-entity_type.lines.standings) (get text_cmp c.add_type.new.lines.standings) last c.loop-entity_type-test.true c.entity_type-item.is
+      (get text_cmp c.loop-entity_type.lines.line_places) (get text_cmp c.add_type.new.lines.line_places) last c.loop-entity_type-test.true c.entity_type-item.is
       (names_added (searched.parents-value.it c.args.edges.now) (found_entity_type_view c.entity_type-item.result) c.loop-entity_type.lines c.add_type.new.lines c.in_ok-add_type.ensures) rest);
 }
 
 pub returns : goal.returns
 returns c = are_lines (searched.parents-value.it c.args.edges.now) (map found_entity_type_view c.args.entity_types.now) c.loop-entity_type.lines c.loop-entity_type.invariant.keeps
-    (c.loop-entity_type.invariant.added (get text_cmp c.loop-entity_type.lines.standings)
+    (c.loop-entity_type.invariant.added (get text_cmp c.loop-entity_type.lines.line_places)
     (each_end (λ e n s. ⊤) ShapeMust (λ e. ⊤) found_entity_type_view c.args.entity_types.now c.loop-entity_type.entity_type-index
-    (get text_cmp c.loop-entity_type.lines.standings) c.loop-entity_type-test.false))
+    (get text_cmp c.loop-entity_type.lines.line_places) c.loop-entity_type-test.false))

@@ -8,6 +8,6 @@ use Rattle.site_commands.proofs.commands.check.Goals as goal
 pub returns-in-Err : goal.returns-in-Err
 returns-in-Err g c =
     runs_as g.H.Host.does _ _ _ _ (λ events told.
-    inr (refused_for (IsRefused c.args.schema.now c.args.policies.now) c.in-Err.refusal (exit_status c.tell_refusal.result) c.in-Err.ensures.refused
+    inr (refused_for (IsRefused c.args.schema.now c.args.policies.now) c.in-Err.refusal (exit_status c.report_refusal.result) c.in-Err.ensures.refused
     events told))
-    c.tell_refusal.ensures
+    c.report_refusal.ensures

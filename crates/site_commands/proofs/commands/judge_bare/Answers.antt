@@ -8,5 +8,5 @@ pub returns-in-Err : goal.returns-in-Err
 returns-in-Err g c =
     runs_as g.H.Host.does _ _ _ _ (
     line_refused (IsRefused c.args.policies.now c.args.entities.now c.args.request.now) (IsDecided c.args.policies.now c.args.entities.now c.args.request.now) c.in-Err.refusal
-    (exit_status c.tell_refusal.result) c.in-Err.ensures.refused)
-    c.tell_refusal.ensures
+    (exit_status c.report_refusal.result) c.in-Err.ensures.refused)
+    c.report_refusal.ensures

@@ -13,4 +13,4 @@ returns-in-Ok g c =
 pub returns-in-Err : goal.returns-in-Err
 returns-in-Err g c =
     listens_none g.H.Host.does _ _ _ c.args.address.now (Announces (codes "listening " ++ c.args.address.now) (AreAllServed c.args.most c.args.site))
-    (exit_status c.tell_failure.result) c.in-Err.ensures c.tell_failure.ensures
+    (exit_status c.report_failure.result) c.in-Err.ensures c.report_failure.ensures

@@ -13,6 +13,6 @@ returns-in-Ok g c =
 pub returns-in-Err : goal.returns-in-Err
 returns-in-Err g c =
     runs_as g.H.Host.does _ _ _ _ (λ events told.
-    inr (refused_for (IsNotBegun c.args.schema.now (option_map (λ s. s.now) c.args.state)) c.in-Err.refusal (exit_status c.tell_refusal.result)
+    inr (refused_for (IsNotBegun c.args.schema.now (option_map (λ s. s.now) c.args.state)) c.in-Err.refusal (exit_status c.report_refusal.result)
     c.in-Err.ensures.refused events told))
-    c.tell_refusal.ensures
+    c.report_refusal.ensures

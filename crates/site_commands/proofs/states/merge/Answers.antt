@@ -7,11 +7,11 @@ use Rattle.site_commands.proofs.states.merge.Goals as goal
 
 pub returns-in-Ok : goal.returns-in-Ok
 returns-in-Ok g c =
-    runs_as g.H.Host.does _ _ _ _ (λ events told. inl (c.in-Ok.line.items, c.in-Ok.ensures.merged.0, told)) (rw (c.deref.ensures.value) at c.tell_answer.ensures)
+    runs_as g.H.Host.does _ _ _ _ (λ events told. inl (c.in-Ok.line.items, c.in-Ok.ensures.merged.0, told)) (rw (c.deref.ensures.value) at c.report_answer.ensures)
 
 pub returns-in-Err : goal.returns-in-Err
 returns-in-Err g c =
     runs_as g.H.Host.does _ _ _ _ (
     line_refused (AreRefused c.args.schema.now c.args.first.now c.args.second.now) (IsMerged c.args.schema.now c.args.first.now c.args.second.now) c.in-Err.refusal
-    (exit_status c.tell_refusal.result) c.in-Err.ensures.refused)
-    c.tell_refusal.ensures
+    (exit_status c.report_refusal.result) c.in-Err.ensures.refused)
+    c.report_refusal.ensures

@@ -19,4 +19,4 @@ returns-in-Err g c =
     faulted c.args.schema.now state c.args.address.now c.args.name.now c.in-Err.fault
     (λ r is other. refused_as c.args.schema.now state c.args.address.now c.args.name.now _ _ _ r (c.in-Err.ensures.refused r (ap Err is) other))
     (λ f is. let n = c.in-Err.ensures.network f (ap Err is) in (n.0, n.1, n.2))
-    events (exit_status c.tell_pull_fault.result) told) c.tell_pull_fault.ensures
+    events (exit_status c.report_pull_fault.result) told) c.report_pull_fault.ensures

@@ -13,5 +13,5 @@ returns-in-Ok g c =
 pub returns-in-Err : goal.returns-in-Err
 returns-in-Err g c =
     connects_none g.H.Host.does _ _ _ c.args.address.now
-    (IsPulledOver c.args.schema.now (option_map (λ s. s.now) c.args.state) c.args.address.now c.args.name.now) (exit_status c.tell_failure.result)
-    c.in-Err.ensures c.tell_failure.ensures
+    (IsPulledOver c.args.schema.now (option_map (λ s. s.now) c.args.state) c.args.address.now c.args.name.now) (exit_status c.report_failure.result)
+    c.in-Err.ensures c.report_failure.ensures

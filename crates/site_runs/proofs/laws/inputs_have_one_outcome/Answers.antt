@@ -1,5 +1,5 @@
 use Rattle.std.proofs.Common.{subst}
-use Rattle.schema.specs.Kept.{Kept}
+use Rattle.schema.specs.SchemaEntries.{SchemaEntries}
 use Rattle.schema.specs.Views.{schema_view}
 use Rattle.site_runs.proofs.RunLemmas.{texts_of}
 use Rattle.site_runs.proofs.OneOutcome.{MessagesAreOne, LawsOfOne, one_step}
@@ -11,7 +11,7 @@ returns-clause-one c = λ n s i r q t u h k.
     let schema = c.args.schema.now in
     let w = schema_view schema in
     let stated = c.is_stated.ensures in
-    let messages : MessagesAreOne w = subst (λ (x : Kept). MessagesAreOne (schema_view x)) c.under-texts.ensures (record {
+    let messages : MessagesAreOne w = subst (λ (x : SchemaEntries). MessagesAreOne (schema_view x)) c.under-texts.ensures (record {
       updates = c.messages_have_one_outcome.ensures.updates (schema_view c.under-texts.result.schema.now).label;
       fault = c.messages_have_one_outcome.ensures.fault (schema_view c.under-texts.result.schema.now).label;
       apart = c.messages_have_one_outcome.ensures.apart (schema_view c.under-texts.result.schema.now).label;
@@ -52,7 +52,7 @@ returns-clause-some c = λ n s i held.
       bytes = stated.0;
       is_schema = stated.1;
       paths = c.paths_are_decided.ensures;
-      messages = λ bytes. subst (λ (x : Kept). ReadsOrRefuses (schema_view x) bytes) c.under-texts.ensures
+      messages = λ bytes. subst (λ (x : SchemaEntries). ReadsOrRefuses (schema_view x) bytes) c.under-texts.ensures
           (c.messages_have_one_outcome.ensures.some
           (λ id text. (c.stored_texts_have_one_reading.ensures.policies told text).1)
           (λ uid text. (c.stored_texts_have_one_reading.ensures.entities told uid text).1) told.label bytes);

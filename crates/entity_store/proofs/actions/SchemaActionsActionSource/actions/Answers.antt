@@ -1,7 +1,7 @@
 use Rattle.std.proofs.Common.{subst, sym, List}
 use Rattle.std.specs.Prelude.{Contains, IsSome, ◌↔◌}
 use Rattle.values.specs.declared.entity_uid.EntityUid.{EntityUid}
-use Rattle.schema.specs.Kept.{Kept}
+use Rattle.schema.specs.SchemaEntries.{SchemaEntries}
 use Rattle.schema.specs.Views.{schema_view}
 use Rattle.entity_worlds.specs.Entities.{AreActions}
 use Rattle.entity_store.specs.Entities.{actions_under}
@@ -12,5 +12,5 @@ returns-clause-all c =
     let kept = c.self.inside.schema.now in
     let stated = c.is_stated.ensures in
     let well = c.stated_schemas_are_well_formed.ensures stated.0 (schema_view kept) stated.1 in
-    subst (λ (k : Kept). AreActions (actions_under k) c.actions.result.now) c.self.view_is
+    subst (λ (k : SchemaEntries). AreActions (actions_under k) c.actions.result.now) c.self.view_is
     (λ u. subst (λ (us : List EntityUid). Contains us u ↔ IsSome (actions_under kept u)) (sym c.actions.ensures) (well.actions u))

@@ -1,6 +1,6 @@
 use Rattle.std.proofs.Common.{◌≡◌, ◌-◌}
 use Rattle.token_readers.specs.Kinds.{only}
-use Rattle.policy_tokens.specs.declared.token.Kind.TheVariants as k
+use Rattle.policy_tokens.specs.declared.token.TokenKind.TheVariants as k
 use Rattle.expression_syntax.specs.Expressions.{is_positive}
 use Rattle.expression_syntax.specs.ExpressionReading as spec
 use Rattle.token_readers.proofs.Gathered.{gathered, filled}

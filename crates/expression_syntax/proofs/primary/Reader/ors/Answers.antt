@@ -1,7 +1,7 @@
 use Rattle.std.proofs.Common.{[], ◌∙◌}
 use Rattle.std.proofs.lemmas.Result.{err_from_is_err_and}
 use Rattle.token_readers.specs.Kinds.{only}
-use Rattle.policy_tokens.specs.declared.token.Kind.TheVariants as k
+use Rattle.policy_tokens.specs.declared.token.TokenKind.TheVariants as k
 use Rattle.expression_syntax.specs.Expressions.{is_positive}
 use Rattle.expression_syntax.specs.ExpressionReading as spec
 use Rattle.token_readers.proofs.Gathered.{filled, filling, as_read, pushed, filled_up, filled_out, stopped}

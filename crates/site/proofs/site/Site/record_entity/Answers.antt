@@ -1,5 +1,5 @@
 use Rattle.std.proofs.Common.{sym, ap, subst}
-use Rattle.schema.specs.Kept.{Kept}
+use Rattle.schema.specs.SchemaEntries.{SchemaEntries}
 use Rattle.schema.specs.Views.{schema_view}
 use Rattle.values.specs.Names.{uid_cmp}
 use Rattle.entity_worlds.specs.declared.entity.Entity.{Entity}
@@ -25,7 +25,7 @@ invariant_of-self c =
     c.take_entity-taken.new.self (name, plain_entry entry) c.take_entity-taken.result c.take_entity-taken.ensures.kept
     c.take_entity-taken.ensures.ok c.take_entity-taken.ensures.err c.self.invariant
     (c.readings_stay.ensures.entity schema k c.args.uid entry c.self.invariant.held
-    (subst (λ (x : Kept). IsBodyRead (IsEntityUnder (schema_view x) c.args.uid) c.args.body)
+    (subst (λ (x : SchemaEntries). IsBodyRead (IsEntityUnder (schema_view x) c.args.uid) c.args.body)
     (sym (ap (λ v. v.schema) c.self.view_is)) c.requires.read))
     c.ranges_stay.ensures.joined
     (subst (λ (x : Stamp). IsStamped (name, x)) (sym next.1) (c.ranges_stay.ensures.issued (shown_store k)

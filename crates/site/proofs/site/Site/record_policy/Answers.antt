@@ -1,6 +1,6 @@
 use Rattle.std.proofs.Common.{sym, ap, subst, string_bytes}
 use Rattle.std.specs.String.{string_cmp}
-use Rattle.schema.specs.Kept.{Kept}
+use Rattle.schema.specs.SchemaEntries.{SchemaEntries}
 use Rattle.schema.specs.Views.{schema_view}
 use Rattle.policy_grammar.specs.declared.policy.Policy.{Policy}
 use Rattle.stamped_store.specs.declared.entry.Entry.{Entry}
@@ -25,7 +25,7 @@ invariant_of-self c =
     c.take_policy-taken.new.self (name, plain_entry entry) c.take_policy-taken.result c.take_policy-taken.ensures.kept
     c.take_policy-taken.ensures.ok c.take_policy-taken.ensures.err c.self.invariant
     (c.readings_stay.ensures.policy schema k c.args.id entry c.self.invariant.held
-    (subst (λ (x : Kept). IsBodyRead (IsPolicyUnder (schema_view x) (string_bytes c.args.id)) c.args.body)
+    (subst (λ (x : SchemaEntries). IsBodyRead (IsPolicyUnder (schema_view x) (string_bytes c.args.id)) c.args.body)
     (sym (ap (λ v. v.schema) c.self.view_is)) c.requires.read))
     c.ranges_stay.ensures.joined
     (subst (λ (x : Stamp). IsStamped (name, x)) (sym next.1) (c.ranges_stay.ensures.issued (shown_store k)

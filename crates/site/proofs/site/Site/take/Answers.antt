@@ -3,7 +3,7 @@ use Rattle.std.proofs.lemmas.List.{map-append}
 use Rattle.std.specs.List.{AllByRecursion}
 use Rattle.policy_grammar.specs.declared.policy.Policy.{Policy}
 use Rattle.entity_worlds.specs.declared.entity.Entity.{Entity}
-use Rattle.schema.specs.Kept.{Kept}
+use Rattle.schema.specs.SchemaEntries.{SchemaEntries}
 use Rattle.schema.specs.Views.{schema_view}
 use Rattle.stamped_store.specs.Store.{store_of, updates}
 use Rattle.state_messages.specs.declared.update.Update.{Update}
@@ -29,7 +29,7 @@ loop-update-init c =
 pub take_one-requires : goal.take_one-requires
 take_one-requires c =
     let i = c.loop-update.invariant in
-    subst (λ (k : Kept). IsValid (schema_view k) c.in-Some.update) (sym i.same.0)
+    subst (λ (k : SchemaEntries). IsValid (schema_view k) c.in-Some.update) (sym i.same.0)
     (subst (λ (us : List (Update Policy Entity)). AllByRecursion (IsValid (schema_of c.args.self.now)) us) c.in-Some.ensures.steps.0 i.valid).0
 
 pub loop-update-preserved : goal.loop-update-preserved

@@ -1,5 +1,5 @@
 use Rattle.std.proofs.Common.{sym, ap, subst}
-use Rattle.schema.specs.Kept.{Kept}
+use Rattle.schema.specs.SchemaEntries.{SchemaEntries}
 use Rattle.schema.specs.Views.{schema_view}
 use Rattle.values.specs.Names.{uid_cmp}
 use Rattle.stamped_store.specs.EntryOrder.{greater, plain_entry}
@@ -19,6 +19,6 @@ invariant_of-self c =
     c.take_entity-taken.new.self (entity_name c.args.uid, plain_entry entry) c.take_entity-taken.result c.take_entity-taken.ensures.kept
     c.take_entity-taken.ensures.ok c.take_entity-taken.ensures.err c.self.invariant
     (c.readings_stay.ensures.entity schema k c.args.uid entry c.self.invariant.held
-    (subst (λ (x : Kept). IsEntryRead (IsEntityUnder (schema_view x) c.args.uid) entry)
+    (subst (λ (x : SchemaEntries). IsEntryRead (IsEntityUnder (schema_view x) c.args.uid) entry)
     (sym (ap (λ v. v.schema) c.self.view_is)) c.requires.read))
     c.ranges_stay.ensures.joined c.requires.in_range

@@ -1,6 +1,6 @@
 use Rattle.std.proofs.Common.{sym, ap, subst, string_bytes}
 use Rattle.std.specs.String.{string_cmp}
-use Rattle.schema.specs.Kept.{Kept}
+use Rattle.schema.specs.SchemaEntries.{SchemaEntries}
 use Rattle.schema.specs.Views.{schema_view}
 use Rattle.stamped_store.specs.EntryOrder.{greater, plain_entry}
 use Rattle.stamped_store.specs.Reading.{IsEntryRead}
@@ -19,6 +19,6 @@ invariant_of-self c =
     c.take_policy-taken.new.self (policy_name (string_bytes c.args.id), plain_entry entry) c.take_policy-taken.result c.take_policy-taken.ensures.kept
     c.take_policy-taken.ensures.ok c.take_policy-taken.ensures.err c.self.invariant
     (c.readings_stay.ensures.policy schema k c.args.id entry c.self.invariant.held
-    (subst (λ (x : Kept). IsEntryRead (IsPolicyUnder (schema_view x) (string_bytes c.args.id)) entry)
+    (subst (λ (x : SchemaEntries). IsEntryRead (IsPolicyUnder (schema_view x) (string_bytes c.args.id)) entry)
     (sym (ap (λ v. v.schema) c.self.view_is)) c.requires.read))
     c.ranges_stay.ensures.joined c.requires.in_range

@@ -1,0 +1,67 @@
+//! The bytes that words and numbers of the policy language are made of, and how many of them come first.
+ghost use Rattle.std.specs.Prelude.{◌≡◌, ◌≤◌, length};
+ghost use Rattle.plain.specs.Words.{is_letter, is_digit, is_word_byte, run};
+
+/// Whether a byte is `_` or an ASCII letter.
+#[tactic(auto, unfolding(crate::specs::Words::is_letter))]
+pub fn letter(byte: u8) -> bool
+    ensures { result ≡ is_letter byte }
+{
+    matches!(byte, b'_' | b'a'..=b'z' | b'A'..=b'Z')
+}
+
+/// Whether a byte is an ASCII digit.
+#[tactic(auto, unfolding(crate::specs::Words::is_digit))]
+pub fn digit(byte: u8) -> bool
+    ensures { result ≡ is_digit byte }
+{
+    matches!(byte, b'0'..=b'9')
+}
+
+// Each byte of a word stands at its own place, and a colon at every other place.
+static WORD_BYTES: [u8; 256] = *b"\
+    ::::::::::::::::::::::::::::::::\
+    ::::::::::::::::0123456789::::::\
+    :ABCDEFGHIJKLMNOPQRSTUVWXYZ::::_\
+    :abcdefghijklmnopqrstuvwxyz:::::\
+    ::::::::::::::::::::::::::::::::\
+    ::::::::::::::::::::::::::::::::\
+    ::::::::::::::::::::::::::::::::\
+    ::::::::::::::::::::::::::::::::";
+
+/// Whether a word goes on over this byte: one look into a table, since most bytes of a text are asked so.
+fn word_byte(byte: u8) -> bool
+    ensures { result ≡ is_word_byte byte }
+{
+    WORD_BYTES[byte as usize] != b':'
+}
+
+/// How many bytes of a word come first.
+pub fn word_len(text: &[u8]) -> usize
+    ensures is { result ≡ run is_word_byte text.now }
+    ensures within { result ≤ length text.now }
+{
+    let mut len = 0;
+    for byte in text {
+        if !word_byte(*byte) {
+            return len;
+        }
+        len += 1;
+    }
+    len
+}
+
+/// How many digits come first.
+pub fn digits_len(text: &[u8]) -> usize
+    ensures is { result ≡ run is_digit text.now }
+    ensures within { result ≤ length text.now }
+{
+    let mut len = 0;
+    for byte in text {
+        if !digit(*byte) {
+            return len;
+        }
+        len += 1;
+    }
+    len
+}

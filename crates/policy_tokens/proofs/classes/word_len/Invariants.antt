@@ -1,7 +1,0 @@
-use Rattle.std.proofs.Common.{◌≡◌, ◌+◌, drop}
-use Rattle.plain.specs.Words.{is_word_byte}
-use Rattle.policy_tokens.specs.inner.Reading.{run}
-use Rattle.policy_tokens.proofs.classes.word_len.Given as goal
-
-abbrev pub invariant-loop-byte : goal.invariant-loop-byte
-invariant-loop-byte l = (l.len ≡ l.byte-index) × (l.byte-index + run is_word_byte (drop l.byte-index l.text) ≡ run is_word_byte l.text)
