@@ -17,6 +17,9 @@ TOP = os.path.dirname(os.path.dirname(os.path.abspath(__file__)))
 START = ("site_commands", ["Runs", "IsRun"])
 HEAD = re.compile(r"^(?:(?:abbrev|unfoldable|opaque|pub|data|record|mutual|infixl|infixr|infix)\s+)*(?:\d+\s+)?([^\s:(){},=]+)")
 WORD = re.compile(r"[^\s(){}\[\],;.]+")
+# What has such a type is believed by its type alone: a decision, or functions with the laws that settle them. Above its module nothing
+# else of it is known, since it is neither an `abbrev` nor `unfoldable`.
+BY_TYPE = re.compile(r"^pub \S+ :(?:.*→)? (?:Decided|StringMeaning)\b[^→]*$", re.S)
 
 
 def opened(lines):
@@ -35,7 +38,7 @@ class Module:
     """A file of specs/: what it imports, and its definitions."""
 
     def __init__(self, path):
-        self.path, self.imports, self.items = path, {}, {}
+        self.path, self.imports, self.items, self.by_type = path, {}, {}, set()
         with open(path, encoding="utf-8") as file:
             text = file.read()
         lines = opened(text.split("\n"))
@@ -81,7 +84,11 @@ class Module:
         # a record's fields and a type's constructors
         names |= set(re.findall(r"(?m)^  (?:pub )?(\S+) :", text)) if re.match(r"(pub )?(data|record)", lines[at]) else set()
         for name in names:
+            if name in self.by_type:
+                continue
             owner = self.items.setdefault(name, [set(), ""])
+            if BY_TYPE.match(text):
+                self.by_type.add(name)
             owner[0].update([*comment, *range(at, end)])
             owner[1] += text + "\n"
 
@@ -90,7 +97,7 @@ class Walk:
     """What is reached from some names."""
 
     def __init__(self):
-        self.modules, self.reached, self.types, self.order = {}, {}, {}, []
+        self.modules, self.reached, self.types, self.order, self.seen = {}, {}, {}, [], set()
 
     def module(self, crate, name):
         path = f"{TOP}/crates/{crate}/specs/{name.replace('.', '/')}.antt"
@@ -124,11 +131,14 @@ class Walk:
                 to = found.imports[name]
                 self.visit(to[0], to[1], to[2] or name)
             return
-        known = self.reached.setdefault(found.path, {})
-        if name in known:
+        if (found.path, name) in self.seen:
             return
+        self.seen.add((found.path, name))
         lines, text = found.items[name]
-        known[name] = lines
+        # of what stands in specs/inner/ whoever cites it has its type to read, and no file more
+        is_sealed = name in found.by_type and "/specs/inner/" in found.path
+        if not is_sealed:
+            self.reached.setdefault(found.path, {})[name] = lines
         code = re.sub(r"(?m)--.*$", "", text)
         for word in sorted(set(WORD.findall(code)) | set(re.findall(r"◌[^\s]*◌", code)), key=lambda it: (code.find(it), it)):
             if word in found.items and word != name:
@@ -142,7 +152,7 @@ class Walk:
         for shown, to in found.imports.items():
             if "◌" in shown and all(part in code for part in shown.split("◌") if part):
                 self.visit(to[0], to[1], to[2] or shown)
-        if found.path not in self.order:
+        if found.path not in self.order and not is_sealed:
             self.order.append(found.path)
 
 

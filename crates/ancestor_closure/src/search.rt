@@ -1,5 +1,5 @@
 //! The search for what lies above an entity, in any graph.
-ghost use Rattle.std.specs.Prelude.{◌≡◌, ◌^◌, ◌<◌, Contains, IsTrue, ◌↔◌, IfOk, OnOk};
+ghost use Rattle.std.specs.Prelude.{◌^◌, ◌<◌, Contains, IsTrue, ◌↔◌, IfOk, OnOk};
 ghost use Rattle.std.specs.BTreeSet.{btree_set_len};
 ghost use Rattle.ancestor_closure.specs.Hierarchy.{Above, IsAllAbove, IsAscending, names, with_parents};
 ghost use Rattle.ancestor_closure.specs.Search.{Adds};

@@ -27,7 +27,7 @@ use Rattle.authoriser.specs.declared.outcome.Outcome.{Outcome}
 use Rattle.authoriser.specs.declared.outcome.Outcome.TheVariants.{Satisfied, NotSatisfied, Errs}
 use Rattle.authoriser.specs.declared.outcome.PolicyError.{PolicyError}
 use Rattle.authoriser.specs.declared.outcome.PolicyError.TheVariants.{EntityDoesNotExist, AttrDoesNotExist, TypeError, ArithBoundsError, ExtensionError}
-use Rattle.authoriser.specs.Answers.{NamedPolicy, PolicyOutcome, IsPolicyOutcome, fault_of, ComesTo, ArePolicyOutcomes, answer_by, IsAnswer}
+use Rattle.authoriser.specs.Answers.{NamedPolicy, PolicyOutcome, IsPolicyOutcome, fault_of, PolicyEvaluatesTo, ArePolicyOutcomes, answer_by, IsAnswer}
 use Rattle.authoriser.specs.Laws.{OneAnswerAtMost, OneAnswerInFiniteHierarchies}
 use Rattle.plain.proofs.Members.{Contains-here, Contains-there, Contains-cases, Contains-none}
 use Rattle.authoriser.proofs.Lawful.{Determined}
@@ -87,13 +87,13 @@ module _ (W : World) (q : Request) (given : Determined W q) (memory : (x : Expr)
         | inr error ↦ inr (error.0, rule.and_right_fails a b g error.1)
       ]
 
-  pub comes_to : (p : Policy) → (o : Outcome) × ComesTo W q p o
+  pub comes_to : (p : Policy) → (o : Outcome) × PolicyEvaluatesTo W q p o
   comes_to p = elim (both_come (entity_part Principal p.scope.principal) (core.And (action_part p.scope.action) (core.And (entity_part Resource p.scope.resource) p.condition))) [
     | inl h ↦ at h.0 h.1
     | inr h ↦ (Errs h.0, h.1)
   ]
     where
-      at : (t : Bool) → EvaluatesTo W q (expression_of p) (Ok (boolean t)) → (o : Outcome) × ComesTo W q p o
+      at : (t : Bool) → EvaluatesTo W q (expression_of p) (Ok (boolean t)) → (o : Outcome) × PolicyEvaluatesTo W q p o
       at true g = (Satisfied, g)
       at false g = (NotSatisfied, g)
 

@@ -30,8 +30,8 @@ use Rattle.authoriser.specs.declared.placed.WithAncestors.{WithAncestors}
 use Rattle.authoriser.specs.declared.placed.RequestAncestors.{RequestAncestors}
 use Rattle.authoriser.specs.declared.tally.Tally.{Tally}
 use Rattle.authoriser.specs.Scopes.{IsEntityScopeTrue, IsActionScopeTrue, IsScopeTrue}
-use Rattle.authoriser.specs.Answers.{NamedPolicy, PolicyOutcome, IsPolicyOutcome, ArePolicyOutcomes, fault_of, ComesTo, decided, answer_by, IsAnswer}
-use Rattle.authoriser.specs.Views.{named, IsWithin, HasItsAncestors, HasRequestAncestors, AllHaveTheirAncestors, AreAscending, IsTrueOf, ConditionComesTo, outcome_by, ids, faults, Counts}
+use Rattle.authoriser.specs.Answers.{NamedPolicy, PolicyOutcome, IsPolicyOutcome, ArePolicyOutcomes, fault_of, PolicyEvaluatesTo, decided, answer_by, IsAnswer}
+use Rattle.authoriser.specs.Views.{named, IsWithin, HasItsAncestors, HasRequestAncestors, AllHaveTheirAncestors, AreAscending, IsTrueOf, ConditionEvaluatesTo, outcome_by, ids, faults, Counts}
 use Rattle.plain.proofs.Members.{Contains-none}
 use Rattle.authoriser.specs.Parts.{TrueScopesLeaveToConditions, OtherScopesGiveFalse}
 
@@ -80,7 +80,7 @@ scope_back parents q s scope request_ancestors h =
     (entity_back request_ancestors.principal scope.principal h.0, action_back request_ancestors.action scope.action h.1, entity_back request_ancestors.resource scope.resource h.2)
 
 -- ---- conditions
-pub value_comes_to : (W : World) (q : Request) (x : Expr) (v : PlainValue) → EvaluatesTo W q x (Ok v) → ConditionComesTo W q x (outcome_by v)
+pub value_comes_to : (W : World) (q : Request) (x : Expr) (v : PlainValue) → EvaluatesTo W q x (Ok v) → ConditionEvaluatesTo W q x (outcome_by v)
 value_comes_to W q x (boolean true) g = g
 value_comes_to W q x (boolean false) g = g
 value_comes_to W q x (long z) g = no_boolean g refl
@@ -98,17 +98,17 @@ no_refused_memory TypeError e = absurd (cc)
 no_refused_memory ArithBoundsError e = absurd (cc)
 no_refused_memory ExtensionError e = absurd (cc)
 
-pub fault_comes_to : (W : World) (q : Request) (x : Expr) (f : EvalFault) (error : PolicyError) → f ≡ fault_of error → (f ≢ fault.NoMemory → EvaluatesTo W q x (Err f)) → ConditionComesTo W q x (Errs error)
+pub fault_comes_to : (W : World) (q : Request) (x : Expr) (f : EvalFault) (error : PolicyError) → f ≡ fault_of error → (f ≢ fault.NoMemory → EvaluatesTo W q x (Err f)) → ConditionEvaluatesTo W q x (Errs error)
 fault_comes_to W q x f error is g =
     test_errs (subst (λ e. EvaluatesTo W q x (Err e)) is (g (λ refused. no_refused_memory error (sym is ∙ refused))))
 
 -- ---- policies
-pub true_scope : TrueScopesLeaveToConditions → (W : World) (q : Request) (s : RequestAncestors) (p : Policy) (o : Outcome) → HasRequestAncestors W.parents q s → IsTrueOf p.scope s → ConditionComesTo W q p.condition o → ComesTo W q p o
+pub true_scope : TrueScopesLeaveToConditions → (W : World) (q : Request) (s : RequestAncestors) (p : Policy) (o : Outcome) → HasRequestAncestors W.parents q s → IsTrueOf p.scope s → ConditionEvaluatesTo W q p.condition o → PolicyEvaluatesTo W q p o
 true_scope leaves W q s p Satisfied request_ancestors h c = (leaves W q p (scope_there W.parents q s p.scope request_ancestors h)).gives true c
 true_scope leaves W q s p NotSatisfied request_ancestors h c = (leaves W q p (scope_there W.parents q s p.scope request_ancestors h)).gives false c
 true_scope leaves W q s p (Errs error) request_ancestors h c = (leaves W q p (scope_there W.parents q s p.scope request_ancestors h)).errs (fault_of error) c
 
-pub other_scope : OtherScopesGiveFalse → (W : World) (above : EntityUid → EntityUid → Bool) → Decides W.parents above → (q : Request) (s : RequestAncestors) (p : Policy) → HasRequestAncestors W.parents q s → (IsTrueOf p.scope s → ⊥) → ComesTo W q p NotSatisfied
+pub other_scope : OtherScopesGiveFalse → (W : World) (above : EntityUid → EntityUid → Bool) → Decides W.parents above → (q : Request) (s : RequestAncestors) (p : Policy) → HasRequestAncestors W.parents q s → (IsTrueOf p.scope s → ⊥) → PolicyEvaluatesTo W q p NotSatisfied
 other_scope idle W above D q s p request_ancestors n = idle W above D q p (λ h. n (scope_back W.parents q s p.scope request_ancestors h))
 
 placed_itself : {parents : Parents} {uid : EntityUid} {p : WithAncestors} → HasItsAncestors parents uid p → HasItsAncestors parents p.uid.now p
@@ -136,7 +136,7 @@ named_push [] p = refl
 named_push (n ∷ ps) p = ap (λ r. one_named n ∷ r) (named_push ps p)
 
 pub next_policy : (W : World) (q : Request) (ps : List (Bor (List ℕ) × Bor Policy)) (i : ℕ) (p : Bor (List ℕ) × Bor Policy) (old new : Tally) (o : Outcome) →
-    i < length ps → p ≡ slice_index_or ps i p → ComesTo W q p.1.now o →
+    i < length ps → p ≡ slice_index_or ps i p → PolicyEvaluatesTo W q p.1.now o →
     ((js : List PolicyOutcome) → Counts old js → Counts new (js ++ record { id = p.0.now; effect = p.1.now.effect; outcome = o } ∷ [])) →
     ((js : List PolicyOutcome) × ArePolicyOutcomes W q (named (take i ps)) js × Counts old js) →
     (js : List PolicyOutcome) × ArePolicyOutcomes W q (named (take (i + 1) ps)) js × Counts new js

@@ -27,7 +27,7 @@ use Rattle.authoriser.specs.declared.outcome.Outcome.{Outcome}
 use Rattle.authoriser.specs.declared.outcome.Outcome.TheVariants.{Satisfied, NotSatisfied, Errs}
 use Rattle.authoriser.specs.declared.outcome.PolicyError.{PolicyError}
 use Rattle.authoriser.specs.declared.outcome.PolicyError.TheVariants.{EntityDoesNotExist, AttrDoesNotExist, TypeError, ArithBoundsError, ExtensionError}
-use Rattle.authoriser.specs.Answers.{NamedPolicy, PolicyOutcome, IsPolicyOutcome, fault_of, ComesTo, ArePolicyOutcomes, if_satisfied, satisfied, if_erring, erring, decided, answer_by, IsCycleDenial, IsPolicyAnswer}
+use Rattle.authoriser.specs.Answers.{NamedPolicy, PolicyOutcome, IsPolicyOutcome, fault_of, PolicyEvaluatesTo, ArePolicyOutcomes, if_satisfied, satisfied, if_erring, erring, decided, answer_by, IsCycleDenial, IsPolicyAnswer}
 use Rattle.authoriser.specs.Laws.{HasOneAnswerAtMost, OneAnswerAtMost, HaveSameMembers, AreAlike, AreIdsAscending, ListsAscend}
 use Rattle.plain.proofs.Members.{Contains-here, Contains-there, Contains-cases, Contains-none}
 use Rattle.plain.proofs.Ascending.{one_list}
@@ -52,7 +52,7 @@ module _ (W : World) (q : Request) (p : Policy) (given : HasOneOutcome W q (expr
   outcome_given NotSatisfied = Ok (boolean false)
   outcome_given (Errs e) = Err (fault_of e)
 
-  gives_it : (r : Outcome) → ComesTo W q p r → EvaluatesTo W q (expression_of p) (outcome_given r)
+  gives_it : (r : Outcome) → PolicyEvaluatesTo W q p r → EvaluatesTo W q (expression_of p) (outcome_given r)
   gives_it Satisfied h = h
   gives_it NotSatisfied h = h
   gives_it (Errs e) h = h
@@ -68,7 +68,7 @@ module _ (W : World) (q : Request) (p : Policy) (given : HasOneOutcome W q (expr
   same_given (Errs d) NotSatisfied e = absurd (cc)
   same_given (Errs d) (Errs f) e = let same : fault_of d ≡ fault_of f = cc in ap Errs (errors_apart d f same)
 
-  pub one_outcome : (r s : Outcome) → ComesTo W q p r → ComesTo W q p s → r ≡ s
+  pub one_outcome : (r s : Outcome) → PolicyEvaluatesTo W q p r → PolicyEvaluatesTo W q p s → r ≡ s
   one_outcome r s h k = same_given r s (given.2 (outcome_given r) (gives_it r h) ∙ sym (given.2 (outcome_given s) (gives_it s k)))
 
 -- each expression gives one outcome

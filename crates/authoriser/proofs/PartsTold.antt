@@ -31,7 +31,7 @@ use Rattle.evaluator.specs.Outcomes.{IsTruthOf, holds, fails, entity_in}
 use Rattle.evaluator.specs.Operators as op
 use Rattle.evaluator.specs.Operators.{World}
 use Rattle.evaluator.specs.Evaluation as rule
-use Rattle.evaluator.specs.Evaluation.{EvaluatesTo, TestFails, EachEvaluatesTo, variable_value}
+use Rattle.evaluator.specs.Evaluation.{EvaluatesTo, EachEvaluatesTo, variable_value}
 use Rattle.ancestor_closure.specs.Hierarchy.{IsIn}
 use Rattle.authoriser.specs.Scopes.{IsEntityScopeTrue, IsActionScopeTrue, IsScopeTrue}
 use Rattle.authoriser.specs.Parts.{PartsTell, ConditionDecides, ScopesDoNotErr, TrueScopesLeaveToConditions, OtherScopesGiveFalse}

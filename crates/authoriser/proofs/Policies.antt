@@ -11,7 +11,7 @@ use Rattle.evaluator.specs.Laws.{HaveOneOutcome, NothingWantsMemory}
 use Rattle.authoriser.specs.declared.answer.Answer.{Answer}
 use Rattle.authoriser.specs.declared.outcome.Outcome.{Outcome}
 use Rattle.authoriser.specs.declared.outcome.Outcome.TheVariants.{Satisfied, NotSatisfied, Errs}
-use Rattle.authoriser.specs.Answers.{NamedPolicy, PolicyOutcome, IsPolicyOutcome, ComesTo, ArePolicyOutcomes, if_satisfied, satisfied, erring, answer_by, IsAnswer, IsPolicyAnswer}
+use Rattle.authoriser.specs.Answers.{NamedPolicy, PolicyOutcome, IsPolicyOutcome, PolicyEvaluatesTo, ArePolicyOutcomes, if_satisfied, satisfied, erring, answer_by, IsAnswer, IsPolicyAnswer}
 use Rattle.authoriser.specs.Laws.{IsSatisfied, DefaultDeny, IsIdle, IdleChangesNothing, LeavingOutChangesNothing, AreAlike, OrderDoesNotMatter}
 use Rattle.plain.proofs.Members.{Contains-here, Contains-there, Contains-cases, Contains-none}
 use Rattle.authoriser.proofs.Lawful.{Determined, one_outcome, one_judgement, one_denial, not_both, denied, idle_left_out, picked, put_back, alike_judged}
@@ -80,7 +80,7 @@ module _ (W : World) (q : Request) where
       let told = counted wanted one.0 id one.2 in
       let of = judged_from ps js h one.0 one.1 in
       let is = of.2 in
-      (of.0, of.1, sym is.id ∙ told.2, (sym is.effect ∙ told.0, subst (ComesTo W q of.0.policy) told.1 is.outcome))
+      (of.0, of.1, sym is.id ∙ told.2, (sym is.effect ∙ told.0, subst (PolicyEvaluatesTo W q of.0.policy) told.1 is.outcome))
 
   module _ (given : Determined W q) where
     -- and each satisfied policy is counted
@@ -118,7 +118,7 @@ module _ (W : World) (q : Request) where
   first_judged p back [] h = absurd h
   first_judged p back (j ∷ more) h = (j, more, refl, h.0, h.1)
 
-  idle_judged : (p : NamedPolicy) (o : Outcome) → IsIdle W q p → ComesTo W q p.policy o → o ≡ NotSatisfied
+  idle_judged : (p : NamedPolicy) (o : Outcome) → IsIdle W q p → PolicyEvaluatesTo W q p.policy o → o ≡ NotSatisfied
   idle_judged p Satisfied idle c = absurd (idle.satisfied c)
   idle_judged p NotSatisfied idle c = refl
   idle_judged p (Errs error) idle c = absurd (idle.erring error c)
@@ -138,7 +138,7 @@ module _ (W : World) (q : Request) where
       }
 
   -- and so it is with one
-  idle_in : (front back : List NamedPolicy) (p : NamedPolicy) (a : Answer) → ComesTo W q p.policy NotSatisfied → IsPolicyAnswer W q (front ++ back) a → IsPolicyAnswer W q (front ++ p ∷ back) a
+  idle_in : (front back : List NamedPolicy) (p : NamedPolicy) (a : Answer) → PolicyEvaluatesTo W q p.policy NotSatisfied → IsPolicyAnswer W q (front ++ back) a → IsPolicyAnswer W q (front ++ p ∷ back) a
   idle_in front back p a comes r =
       let cut = front_judged front back r.judged r.outcomes in
       let j : PolicyOutcome = record { id = p.id; effect = p.policy.effect; outcome = NotSatisfied } in
@@ -169,7 +169,7 @@ idle_changes_nothing law memory W above D q front back p a idle = (out, into)
     into (inl d) = inl d
     into (inr r) =
         let one = comes_to W q (law W above D q) (memory W q) p.policy in
-        inr (idle_in W q front back p a (subst (ComesTo W q p.policy) (idle_judged W q p one.0 idle one.1) one.1) r)
+        inr (idle_in W q front back p a (subst (PolicyEvaluatesTo W q p.policy) (idle_judged W q p one.0 idle one.1) one.1) r)
 
 pub leaving_out_changes_nothing : IdleChangesNothing → LeavingOutChangesNothing
 leaving_out_changes_nothing law W above D q ps kept a = from [] ps

@@ -13,7 +13,7 @@ use Rattle.authoriser.specs.declared.answer.Decision.TheVariants.{Allow}
 use Rattle.authoriser.specs.declared.outcome.Outcome.{Outcome}
 use Rattle.authoriser.specs.declared.outcome.Outcome.TheVariants.{Satisfied, NotSatisfied, Errs}
 use Rattle.authoriser.specs.declared.outcome.PolicyError.{PolicyError}
-use Rattle.authoriser.specs.Answers.{NamedPolicy, PolicyOutcome, IsPolicyOutcome, ComesTo, ArePolicyOutcomes, if_satisfied, satisfied, if_erring, erring, decided, IsCycleDenial}
+use Rattle.authoriser.specs.Answers.{NamedPolicy, PolicyOutcome, IsPolicyOutcome, PolicyEvaluatesTo, ArePolicyOutcomes, if_satisfied, satisfied, if_erring, erring, decided, IsCycleDenial}
 use Rattle.authoriser.specs.Laws.{IsSatisfied, AreIdsOf, no_id, its_id, not_its_id, AreErrorsOf, no_error, its_error, not_its_error, IsAcyclic, ForbidDecides, PermitsDecide, ErrorsAreTold}
 use Rattle.plain.proofs.Members.{Contains-none}
 use Rattle.authoriser.proofs.Lawful.{Determined, one_outcome, some_member, forbidden}
@@ -51,7 +51,7 @@ erring_or_not j = at j.outcome
     at (Errs error) = inl (error, refl, refl)
 
 module _ (W : World) (q : Request) (given : Determined W q) where
-  comes_once : (p : NamedPolicy) (j : PolicyOutcome) → IsPolicyOutcome W q p j → (o : Outcome) → ComesTo W q p.policy o → j.outcome ≡ o
+  comes_once : (p : NamedPolicy) (j : PolicyOutcome) → IsPolicyOutcome W q p j → (o : Outcome) → PolicyEvaluatesTo W q p.policy o → j.outcome ≡ o
   comes_once p j is o c = one_outcome W q p.policy (given (expression_of p.policy)) j.outcome o is.outcome c
 
   -- ---- the satisfied policies of an effect
@@ -61,7 +61,7 @@ module _ (W : World) (q : Request) (given : Determined W q) where
   one_id wanted p ps j ids is rest = elim (counted_or_not wanted j) [
     | inl h ↦ subst (λ xs. AreIdsOf (IsSatisfied W q wanted) (p ∷ ps) (xs ++ ids)) (sym h.1)
         (subst (λ id. AreIdsOf (IsSatisfied W q wanted) (p ∷ ps) (id ∷ ids)) (sym is.id)
-        (its_id (sym is.effect ∙ h.0.0, subst (ComesTo W q p.policy) h.0.1 is.outcome) rest))
+        (its_id (sym is.effect ∙ h.0.0, subst (PolicyEvaluatesTo W q p.policy) h.0.1 is.outcome) rest))
     | inr h ↦ subst (λ xs. AreIdsOf (IsSatisfied W q wanted) (p ∷ ps) (xs ++ ids)) (sym h.1)
         (not_its_id (λ s. h.0 (is.effect ∙ s.0, comes_once p j is Satisfied s.1)) rest)
   ]
@@ -78,7 +78,7 @@ module _ (W : World) (q : Request) (given : Determined W q) where
   one_error p ps j errors is rest = elim (erring_or_not j) [
     | inl h ↦ subst (λ xs. AreErrorsOf W q (p ∷ ps) (xs ++ errors)) (sym h.2)
         (subst (λ id. AreErrorsOf W q (p ∷ ps) (record { policy = id; error = h.0 } ∷ errors)) (sym is.id)
-        (its_error (subst (ComesTo W q p.policy) h.1 is.outcome) rest))
+        (its_error (subst (PolicyEvaluatesTo W q p.policy) h.1 is.outcome) rest))
     | inr h ↦ subst (λ xs. AreErrorsOf W q (p ∷ ps) (xs ++ errors)) (sym h.1)
         (not_its_error (λ error c. h.0 error (comes_once p j is (Errs error) c)) rest)
   ]

@@ -39,10 +39,10 @@ fault_of ArithBoundsError = fault.ArithBoundsError
 fault_of ExtensionError = fault.ExtensionError
 
 -- what a policy comes to: what its whole expression gives
-abbrev pub ComesTo : World → Request → Policy → Outcome → Type 0
-ComesTo W q policy Satisfied = EvaluatesTo W q (expression_of policy) (Ok (boolean true))
-ComesTo W q policy NotSatisfied = EvaluatesTo W q (expression_of policy) (Ok (boolean false))
-ComesTo W q policy (Errs error) = EvaluatesTo W q (expression_of policy) (Err (fault_of error))
+abbrev pub PolicyEvaluatesTo : World → Request → Policy → Outcome → Type 0
+PolicyEvaluatesTo W q policy Satisfied = EvaluatesTo W q (expression_of policy) (Ok (boolean true))
+PolicyEvaluatesTo W q policy NotSatisfied = EvaluatesTo W q (expression_of policy) (Ok (boolean false))
+PolicyEvaluatesTo W q policy (Errs error) = EvaluatesTo W q (expression_of policy) (Err (fault_of error))
 
 -- a policy's id and effect, and what it comes to
 pub record PolicyOutcome : Type 0 where
@@ -53,7 +53,7 @@ pub record PolicyOutcome : Type 0 where
 pub record IsPolicyOutcome (W : World) (q : Request) (p : NamedPolicy) (j : PolicyOutcome) : Type 0 where
   pub id : j.id ≡ p.id
   pub effect : j.effect ≡ p.policy.effect
-  pub outcome : ComesTo W q p.policy j.outcome
+  pub outcome : PolicyEvaluatesTo W q p.policy j.outcome
 
 -- each policy in its order
 abbrev pub ArePolicyOutcomes : World → Request → List NamedPolicy → List PolicyOutcome → Type 0

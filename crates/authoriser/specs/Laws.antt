@@ -15,7 +15,7 @@ use Rattle.authoriser.specs.declared.answer.Decision.TheVariants.{Allow, Deny}
 use Rattle.authoriser.specs.declared.answer.ErringPolicy.{ErringPolicy}
 use Rattle.authoriser.specs.declared.outcome.Outcome.TheVariants.{Satisfied, Errs}
 use Rattle.authoriser.specs.declared.outcome.PolicyError.{PolicyError}
-use Rattle.authoriser.specs.Answers.{NamedPolicy, ComesTo, IsAnswer}
+use Rattle.authoriser.specs.Answers.{NamedPolicy, PolicyEvaluatesTo, IsAnswer}
 
 -- ---- one answer
 
@@ -41,7 +41,7 @@ OneAnswerInFiniteHierarchies = (W : World) (stored : List EntityUid) → HaveAll
 
 -- the policy has this effect and is satisfied
 abbrev pub IsSatisfied : World → Request → Effect → NamedPolicy → Type 0
-IsSatisfied W q effect p = (p.policy.effect ≡ effect) × ComesTo W q p.policy Satisfied
+IsSatisfied W q effect p = (p.policy.effect ≡ effect) × PolicyEvaluatesTo W q p.policy Satisfied
 
 -- without a satisfied permit it is denied
 abbrev pub DefaultDeny : Type 0
@@ -60,10 +60,10 @@ pub data AreIdsOf (P : NamedPolicy → Type 0) : List NamedPolicy → List (List
 pub data AreErrorsOf (W : World) (q : Request) : List NamedPolicy → List ErringPolicy → Type 0 where
   no_error : AreErrorsOf W q [] []
   its_error : {p : NamedPolicy} {ps : List NamedPolicy} {errors : List ErringPolicy} {error : PolicyError}
-      → ComesTo W q p.policy (Errs error) → AreErrorsOf W q ps errors
+      → PolicyEvaluatesTo W q p.policy (Errs error) → AreErrorsOf W q ps errors
       → AreErrorsOf W q (p ∷ ps) (record { policy = p.id; error = error } ∷ errors)
   not_its_error : {p : NamedPolicy} {ps : List NamedPolicy} {errors : List ErringPolicy}
-      → ((error : PolicyError) → ¬ ComesTo W q p.policy (Errs error)) → AreErrorsOf W q ps errors
+      → ((error : PolicyError) → ¬ PolicyEvaluatesTo W q p.policy (Errs error)) → AreErrorsOf W q ps errors
       → AreErrorsOf W q (p ∷ ps) errors
 
 -- no entity is on a cycle
@@ -95,8 +95,8 @@ ErrorsAreTold = (W : World) (above : EntityUid → EntityUid → Bool) → Decid
 
 -- the policy is neither satisfied nor erring
 pub record IsIdle (W : World) (q : Request) (p : NamedPolicy) : Type 0 where
-  pub satisfied : ¬ ComesTo W q p.policy Satisfied
-  pub erring : (error : PolicyError) → ¬ ComesTo W q p.policy (Errs error)
+  pub satisfied : ¬ PolicyEvaluatesTo W q p.policy Satisfied
+  pub erring : (error : PolicyError) → ¬ PolicyEvaluatesTo W q p.policy (Errs error)
 
 -- leaving out a policy that is neither satisfied nor erring changes no answer, wherever it stands,
 abbrev pub IdleChangesNothing : Type 0

@@ -61,10 +61,10 @@ IsTrueOf scope s =
     × IsEntityScopeTrue (IsWithin s.resource) scope.resource s.resource.uid.now
 
 -- what a condition as a test comes to
-abbrev pub ConditionComesTo : World → Request → Expr → Outcome → Type 0
-ConditionComesTo W q x Satisfied = EvaluatesTo W q x (Ok (boolean true))
-ConditionComesTo W q x NotSatisfied = EvaluatesTo W q x (Ok (boolean false))
-ConditionComesTo W q x (Errs error) = TestFails W q x (fault_of error)
+abbrev pub ConditionEvaluatesTo : World → Request → Expr → Outcome → Type 0
+ConditionEvaluatesTo W q x Satisfied = EvaluatesTo W q x (Ok (boolean true))
+ConditionEvaluatesTo W q x NotSatisfied = EvaluatesTo W q x (Ok (boolean false))
+ConditionEvaluatesTo W q x (Errs error) = TestFails W q x (fault_of error)
 
 -- a condition has to give a boolean
 abbrev pub outcome_by_truth : Option Bool → Outcome

@@ -2,8 +2,8 @@
 ghost use Rattle.std.specs.Prelude.{◌≡◌, IfOk, MatchResult};
 ghost use Rattle.evaluator.specs.declared.fault.EvalFault.TheVariants as evaluating;
 ghost use Rattle.evaluator.specs.Operators.{world_of};
-ghost use Rattle.authoriser.specs.Answers.{fault_of, ComesTo};
-ghost use Rattle.authoriser.specs.Views.{HasRequestAncestors, ConditionComesTo, outcome_by};
+ghost use Rattle.authoriser.specs.Answers.{fault_of, PolicyEvaluatesTo};
+ghost use Rattle.authoriser.specs.Views.{HasRequestAncestors, ConditionEvaluatesTo, outcome_by};
 
 use crate::laws::scopes_do_not_err;
 use crate::outcome::{Outcome, PolicyError};
@@ -48,7 +48,7 @@ fn outcome_of_condition<L: Lookup>(
     request: &Request,
     store: &L,
 ) -> Result<Outcome, NoMemory>
-    ensures { IfOk result (ConditionComesTo (world_of (L.stored store.now) (L.parents store.now)) request.now
+    ensures { IfOk result (ConditionEvaluatesTo (world_of (L.stored store.now) (L.parents store.now)) request.now
         condition.now) }
 {
     match evaluate(alloc, condition, request, store) {
@@ -67,7 +67,7 @@ pub(crate) fn outcome_of<L: Lookup>(
     store: &L,
 ) -> Result<Outcome, NoMemory>
     requires { HasRequestAncestors (L.parents store.now) request.now request_ancestors.now }
-    ensures { IfOk result (ComesTo (world_of (L.stored store.now) (L.parents store.now)) request.now policy.now) }
+    ensures { IfOk result (PolicyEvaluatesTo (world_of (L.stored store.now) (L.parents store.now)) request.now policy.now) }
 {
     scopes_do_not_err();
     if is_scope_true(&policy.scope, request_ancestors) {

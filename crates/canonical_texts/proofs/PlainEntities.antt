@@ -27,7 +27,7 @@ use Rattle.entity_worlds.specs.UidSets.{put_uid, uid_set}
 use Rattle.entities.specs.declared.fault.EntityFault.TheVariants.{BadShape, TagsLeftOut}
 use Rattle.entities.specs.declared.stated.StatedEntity.{StatedEntity}
 use Rattle.entities.specs.Faults.{told}
-use Rattle.entities.specs.Stated.{uid_of, uids_of, parents_of, has_objects, is_absent_or_empty, or_empty, stated_in}
+use Rattle.entities.specs.Stated.{stated_uid, uids_of, parents_of, has_objects, is_absent_or_empty, or_empty, stated_in}
 use Rattle.entities.specs.Entities.{shape_of, attributes_in, parents_fit, parents_in, entity_in}
 use Rattle.entities.specs.Canonical.{canonical_json}
 use Rattle.canonical_texts.specs.Texts.{HaveUtf8}
@@ -47,16 +47,16 @@ HasPlainName u = IsPlain (uid_json u)
 abbrev HavePlainNames : List EntityUid → Type 0
 HavePlainNames us = ArePlain (items_of (map uid_json us))
 
-name_plain : (d : Data) (u : EntityUid) → IsClean d → uid_of d ≡ Ok u → HasPlainName u
+name_plain : (d : Data) (u : EntityUid) → IsClean d → stated_uid d ≡ Ok u → HasPlainName u
 name_plain d u h e = uid_is_plain u (uid_is_utf8 d u h (some_of BadShape (uid_in d) u e))
 
 names_plain : (ds : Items) (k : ℕ) (us : List EntityUid) → HaveUtf8 ds → ItemsAscend ds
-    → each (λ i d. uid_of d) k (list_of ds) ≡ Ok us → HavePlainNames us
+    → each (λ i d. stated_uid d) k (list_of ds) ≡ Ok us → HavePlainNames us
 unfolding each
 names_plain no_items k us u a e = carried HavePlainNames [] us e tt
 names_plain (item d ds) k us u a e =
-    let x = bind_ok (uid_of d) (λ v. each (λ i x. uid_of x) (suc k) (list_of ds) >>= λ vs. Ok (v ∷ vs)) us e in
-    let y = bind_ok (each (λ i x. uid_of x) (suc k) (list_of ds)) (λ vs. Ok (x.0 ∷ vs)) us x.2 in
+    let x = bind_ok (stated_uid d) (λ v. each (λ i x. stated_uid x) (suc k) (list_of ds) >>= λ vs. Ok (v ∷ vs)) us e in
+    let y = bind_ok (each (λ i x. stated_uid x) (suc k) (list_of ds)) (λ vs. Ok (x.0 ∷ vs)) us x.2 in
     carried HavePlainNames (x.0 ∷ y.0) us y.2
     (name_plain d x.0 (record { utf8 = u.0; ascend = a.0 }) x.1, names_plain ds (suc k) y.0 u.1 a.1 y.1)
 
@@ -102,9 +102,9 @@ unfolding stated_in
 stated_plain d stated h e =
     let parents = parents_of (get (codes "parents") d) in
     let a = bind_ok (or_fault BadShape (get (codes "uid") d))
-    (λ name. uid_of name >>= λ uid. demand BadShape (has_objects d) >>= λ objects. parents >>= λ ps.
+    (λ name. stated_uid name >>= λ uid. demand BadShape (has_objects d) >>= λ objects. parents >>= λ ps.
     Ok (record { uid = uid; parents = ps })) stated e in
-    let b = bind_ok (uid_of a.0)
+    let b = bind_ok (stated_uid a.0)
     (λ uid. demand BadShape (has_objects d) >>= λ objects. parents >>= λ ps. Ok (record { uid = uid; parents = ps }))
     stated a.2 in
     let c = bind_ok (demand BadShape (has_objects d))

@@ -26,7 +26,7 @@ use Rattle.uid_json.specs.Uids.{uid_in}
 use Rattle.typed_values.specs.declared.fault.ValueFault.{ValueFault}
 use Rattle.typed_values.specs.declared.fault.ValueFault.TheVariants.{WrongType, Undeclared, Missing}
 use Rattle.typed_values.specs.Parts.{element_of, fields_in, declared_at}
-use Rattle.typed_values.specs.Parsed.{decimal_of, network_of}
+use Rattle.extensions.specs.TextsDecided.{decimal_of, network_of}
 use Rattle.typed_values.specs.Typing.{argument_in, boolean_in, is_long, long_of, long_in, text_in, entity_in}
 use Rattle.typed_values.specs.Typing.{decimal_in, ipaddr_in, leaf, all_there, with_or, inside, typed, typed_items}
 use Rattle.typed_values.specs.Typing.{typed_members, record_in}

@@ -1,6 +1,5 @@
 //! Why words are no command.
-ghost use Rattle.std.specs.Prelude.{◌≡◌, ◌==◌};
-ghost use Rattle.clap.specs.Words.{kind_of};
+ghost use Rattle.std.specs.Prelude.{◌≡◌};
 ghost use Rattle.command_lines.specs.Faults.{is_help, is_memory};
 ghost use Rattle.command_lines.specs.inner.Sorting.{sorted};
 

@@ -1,5 +1,5 @@
 //! What was given for each option.
-ghost use Rattle.std.specs.Prelude.{◌≡◌, ◌≤◌, Some, None, MatchOption, option_map, codes};
+ghost use Rattle.std.specs.Prelude.{◌≡◌, Some, None, MatchOption, option_map, codes};
 ghost use Rattle.clap.specs.Words.{first_of, found_of, rows_of};
 ghost use Rattle.command_lines.specs.Lines.{IsNumberIn, IsGivenNumber, MayBeGivenNumber};
 ghost use Rattle.command_lines.specs.inner.Lacking.{IsNone};

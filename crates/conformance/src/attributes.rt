@@ -11,7 +11,7 @@ use policy_grammar::{Policy, parse_policies, parse_policy};
 use std::alloc::{AllocError, Global};
 use values::{EntityUid, Record, Request, TypeName, Value};
 
-type Entities<'a> = World<'a, EntityStore, NoActions>;
+type BareWorld<'a> = World<'a, EntityStore, NoActions>;
 
 fn uid(alloc: Global, type_name: &str, id: &str) -> Result<EntityUid, NoMemory> {
     let Some(type_name) = TypeName::parse(alloc, type_name)? else {
@@ -246,7 +246,7 @@ fn answer_by(
     alloc: Global,
     policies: &[(String, Policy)],
     request: &Request,
-    entities: &Entities<'_>,
+    entities: &BareWorld<'_>,
 ) -> Result<Answer, NoMemory> {
     let policies = referred(alloc, policies)?;
     decide(alloc, &policies, request, entities)
@@ -256,7 +256,7 @@ fn line_by(
     alloc: Global,
     policies: &[(String, Policy)],
     request: &Request,
-    entities: &Entities<'_>,
+    entities: &BareWorld<'_>,
 ) -> Result<String, NoMemory> {
     let answer = answer_by(alloc, policies, request, entities)?;
     line_of(alloc, &answer)
@@ -266,7 +266,7 @@ fn answered(
     alloc: Global,
     policies: &str,
     request: &Request,
-    entities: &Entities<'_>,
+    entities: &BareWorld<'_>,
 ) -> Result<String, NoMemory> {
     let read = parse_policies(alloc, policies);
     let line = match &read {

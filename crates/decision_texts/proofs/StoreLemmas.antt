@@ -13,7 +13,7 @@ use Rattle.ancestor_closure.specs.Decided.{is_same, HaveAllParents}
 use Rattle.evaluator.specs.Operators.{world_of}
 use Rattle.entity_worlds.specs.declared.entity.Entity.{Entity}
 use Rattle.entity_worlds.specs.declared.data.EntityData.{EntityData}
-use Rattle.entity_worlds.specs.Entities.{EntityMap, attributes_of, parents_of}
+use Rattle.entity_worlds.specs.Entities.{attributes_of, parents_of}
 use Rattle.entity_worlds.specs.Keeping.{Entries, kept_in, Puts}
 use Rattle.entity_worlds.specs.Keeping.{data_of as data_in}
 use Rattle.decision_texts.specs.declared.bare.BareEntity.{BareEntity}

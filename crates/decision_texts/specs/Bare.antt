@@ -22,8 +22,8 @@ use Rattle.decision_texts.specs.declared.bare.BareEntity.{BareEntity}
 use Rattle.decision_texts.specs.Refusals.{bad_shape}
 
 -- the uid that a value is
-abbrev pub uid_of : Data → Result EntityUid ShapeFault
-uid_of d = or_fault BadShape (uid_in d)
+abbrev pub stated_uid : Data → Result EntityUid ShapeFault
+stated_uid d = or_fault BadShape (uid_in d)
 
 -- an object with no members, or nothing
 abbrev pub is_absent_or_empty : Option Data → Bool
@@ -31,7 +31,7 @@ is_absent_or_empty None = true
 is_absent_or_empty (Some d) = has_only [] d
 
 unfoldable pub uids_of : Items → Result (List EntityUid) ShapeFault
-uids_of ds = each (λ i d. uid_of d) 0 (list_of ds)
+uids_of ds = each (λ i d. stated_uid d) 0 (list_of ds)
 
 abbrev pub parents_of : Option Data → Result (List EntityUid) ShapeFault
 parents_of None = Ok []
@@ -47,7 +47,7 @@ is_bare d = is_absent_or_empty (get (codes "attrs") d) && is_absent_or_empty (ge
 unfoldable pub entity_of : Data → Result BareEntity ShapeFault
 entity_of d = do
   name ← or_fault BadShape (get (codes "uid") d)
-  uid ← uid_of name
+  uid ← stated_uid name
   bare ← demand BadShape (is_bare d)
   parents ← parents_of (get (codes "parents") d)
   Ok (record { uid = uid; parents = parents })

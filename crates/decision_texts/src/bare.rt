@@ -3,7 +3,7 @@ ghost use Rattle.std.specs.Prelude.{◌≡◌, option_map};
 ghost use Rattle.serde_json.specs.View.{view, items_view};
 ghost use Rattle.json_words.specs.ReadsAs.{ReadsAs};
 ghost use Rattle.decision_texts.specs.declared.bare.ShapeFault.TheVariants as ShapeFault;
-ghost use Rattle.decision_texts.specs.Bare.{uid_of, is_absent_or_empty, is_bare, uids_of, parents_of, entity_of};
+ghost use Rattle.decision_texts.specs.Bare.{stated_uid, is_absent_or_empty, is_bare, uids_of, parents_of, entity_of};
 
 use json_words::only_keys;
 use plain::{Items, NoMemory};
@@ -49,7 +49,7 @@ pub struct BareEntity {
 
 /// A uid, also under `__entity`.
 pub(crate) fn read_uid(alloc: Global, value: &Value) -> Result<EntityUid, ShapeFault>
-    ensures { ReadsAs ShapeFault.NoMemory (λ u. u) result (uid_of (view value.now)) }
+    ensures { ReadsAs ShapeFault.NoMemory (λ u. u) result (stated_uid (view value.now)) }
 {
     match uid_json::read_uid(alloc, value)? {
         Some(uid) => Ok(uid),

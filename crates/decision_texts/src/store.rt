@@ -1,7 +1,5 @@
 //! The entities of a file, as they are kept.
-ghost use Rattle.std.specs.Prelude.{◌≡◌, [], IfOk, OnOk, IsTrue, is_some, not};
-ghost use Rattle.entity_worlds.specs.Keeping.{kept_in};
-ghost use Rattle.decision_texts.specs.inner.Stores.{data_of};
+ghost use Rattle.std.specs.Prelude.{◌≡◌, []};
 
 use crate::bare::BareEntity;
 use entity_worlds::Entity;

@@ -1,7 +1,6 @@
 pub mod Digits
 pub mod Lists
 pub mod Idents
-pub mod Decoding
 pub mod Least
 pub mod Repeating
 pub mod Cores

@@ -28,7 +28,7 @@ use Rattle.desugaring.specs.Strings.{pattern_of}
 use Rattle.desugaring.specs.Meaning.{path_name, name_of, sign_of}
 use Rattle.desugaring.specs.Names.{method_of, method_takes}
 use Rattle.desugaring.specs.Core as spec
-use Rattle.desugaring.specs.Core.{core_of, negated, accessed, added, field, in_term, in_entry, in_access, function}
+use Rattle.desugaring.specs.Core.{core_of, accessed, added, field, in_term, in_entry, in_access, function}
 use Rattle.desugaring.specs.Repeats.{repeat_faults}
 use Rattle.desugaring.specs.Refused.{earlier_of, least}
 use Rattle.desugaring.specs.Faults.{faults_of, range, call_faults, function_faults, access_faults, key_of}

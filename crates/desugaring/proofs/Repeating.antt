@@ -13,7 +13,7 @@ use Rattle.std.proofs.lemmas.Map.Views.{Contains-from_any, list_any-from_Contain
 use Rattle.std.proofs.lemmas.Slice.Eq.{bytes_eq-Decides}
 use denote.Ref.{Bor}
 use Rattle.desugaring.specs.declared.repeats.NameAt as code
-use Rattle.desugaring.specs.Repeats.{NameAt, StandsAgain, shown}
+use Rattle.desugaring.specs.Repeats.{NameAt, StandsAgain, abstract_names}
 use Rattle.desugaring.specs.inner.Searching.{TellsLeast, lesser_of}
 
 -- the names of marks
@@ -161,8 +161,8 @@ seen-again ms m k seen more least was same old updates = record {
 
 -- one mark more of those that code holds
 pub shown-more : (ms : List code.NameAt) (i : ℕ) (d : code.NameAt) → i < length ms →
-    shown (take (i + 1) ms) ≡ shown (take i ms) ++ record { name = (get_or ms i d).name.now; at = (get_or ms i d).at } ∷ []
-shown-more ms i d below = ap shown (take_more ms i d below) ∙ map-append _ (take i ms) _
+    abstract_names (take (i + 1) ms) ≡ abstract_names (take i ms) ++ record { name = (get_or ms i d).name.now; at = (get_or ms i d).at } ∷ []
+shown-more ms i d below = ap abstract_names (take_more ms i d below) ∙ map-append _ (take i ms) _
 
 pub was_new : (b c : Bool) → c ≡ true → c ≡ not b → b ≡ false
 was_new true c yes' e = absurd (cc)
@@ -181,9 +181,9 @@ same_mark : (m n : NameAt) → m.name ≡ n.name → m.at ≡ n.at → m ≡ n
 same_mark m n names places = ap (λ (x : List ℕ). mark x m.at) names ∙ ap (mark n.name) places
 
 -- one mark more, of one item more
-pub shown-step : {A : Type 0} (f : A → NameAt) (xs : List A) (i : ℕ) (d : A) (old new : List code.NameAt) (m : code.NameAt) → shown old ≡ map f (take i xs) → i < length xs →
-    new ≡ old ++ m ∷ [] → m.name.now ≡ (f (get_or xs i d)).name → m.at ≡ (f (get_or xs i d)).at → shown new ≡ map f (take (i + 1) xs)
+pub shown-step : {A : Type 0} (f : A → NameAt) (xs : List A) (i : ℕ) (d : A) (old new : List code.NameAt) (m : code.NameAt) → abstract_names old ≡ map f (take i xs) → i < length xs →
+    new ≡ old ++ m ∷ [] → m.name.now ≡ (f (get_or xs i d)).name → m.at ≡ (f (get_or xs i d)).at → abstract_names new ≡ map f (take (i + 1) xs)
 shown-step f xs i d old new m was below pushed name at =
-    ap shown pushed ∙ map-append (λ x. mark x.name.now x.at) old (m ∷ []) ∙ ap (λ ms. ms ++ mark m.name.now m.at ∷ []) was
+    ap abstract_names pushed ∙ map-append (λ x. mark x.name.now x.at) old (m ∷ []) ∙ ap (λ ms. ms ++ mark m.name.now m.at ∷ []) was
     ∙ ap (λ n. map f (take i xs) ++ n ∷ []) (same_mark (mark m.name.now m.at) (f (get_or xs i d)) name at)
     ∙ sym (ap (map f) (take_more xs i d below) ∙ map-append f (take i xs) (get_or xs i d ∷ []))

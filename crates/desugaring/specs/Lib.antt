@@ -6,6 +6,7 @@ pub mod Names
 pub mod Numbers
 pub mod Repeats
 pub mod BuiltFrom
+pub mod StringMeaning
 pub mod Strings
 pub mod Sums
 pub mod Refused

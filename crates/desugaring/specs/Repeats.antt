@@ -35,8 +35,8 @@ abbrev pub repeat_faults : List NameAt → List DesugarFault
 repeat_faults marks = map RepeatedKey (repeats marks)
 
 -- the names that code holds, each with its place
-abbrev pub shown : List code.NameAt → List NameAt
-shown = map (λ m. record { name = m.name.now; at = m.at })
+abbrev pub abstract_names : List code.NameAt → List NameAt
+abstract_names = map (λ m. record { name = m.name.now; at = m.at })
 
 -- ## Laws
 

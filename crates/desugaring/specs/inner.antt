@@ -1,3 +1,4 @@
 pub mod Giving
 pub mod Searching
 pub mod WellFormed
+pub mod StringReading

@@ -1,13 +1,13 @@
 //! Whether a tree has a core expression, and how large that is: told without building it. Memory is taken for the
 //! keys of records alone.
-ghost use Rattle.std.specs.Prelude.{◌≡◌, IfOk, true};
+ghost use Rattle.std.specs.Prelude.{◌≡◌, IfOk};
 ghost use Rattle.std.specs.List.{AllByRecursion, fold};
 ghost use Rattle.policy_tokens.specs.declared.token.TokenKind.TheVariants as k;
 ghost use Rattle.policy_tokens.specs.Lexing.{spelling_of};
 ghost use Rattle.token_readers.specs.Kinds.{only};
 ghost use Rattle.token_readers.specs.Grammar.{identifiers};
 ghost use Rattle.desugaring.specs.Core.{function};
-ghost use Rattle.desugaring.specs.Names.{function_takes, method_takes, method_of};
+ghost use Rattle.desugaring.specs.Names.{method_takes, method_of};
 ghost use Rattle.desugaring.specs.Numbers as number;
 ghost use Rattle.desugaring.specs.Refused.{least};
 ghost use Rattle.desugaring.specs.Faults.{range, call_faults, function_faults};

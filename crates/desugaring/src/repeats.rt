@@ -3,7 +3,7 @@ ghost use Rattle.std.specs.Prelude.{◌≡◌, IfOk, map};
 ghost use Rattle.std.specs.List.{AllByRecursion};
 ghost use Rattle.desugaring.specs.inner.WellFormed.{WellFormedEntry};
 ghost use Rattle.desugaring.specs.Refused.{least};
-ghost use Rattle.desugaring.specs.Repeats.{NameAt, StandsAgain, repeat_faults, shown};
+ghost use Rattle.desugaring.specs.Repeats.{NameAt, StandsAgain, repeat_faults, abstract_names};
 ghost use Rattle.desugaring.specs.Faults.{key_of};
 ghost use Rattle.desugaring.specs.inner.Searching.{TellsLeast, lesser_of, repeat_fault, held};
 
@@ -41,7 +41,7 @@ fn lesser(a: Option<usize>, b: Option<usize>) -> Option<usize>
 
 /// The least place at which a name stands again.
 fn least_place(alloc: Global, marks: &[NameAt<'_>]) -> Result<Option<usize>, NoMemory>
-    ensures { IfOk result (TellsLeast (StandsAgain (shown marks.now))) }
+    ensures { IfOk result (TellsLeast (StandsAgain (abstract_names marks.now))) }
 {
     let mut seen = BTreeSet::new(alloc);
     let mut least = None;
@@ -70,7 +70,7 @@ pub fn first_duplicate(
     alloc: Global,
     marks: &[NameAt<'_>],
 ) -> Result<Option<DesugarFault>, NoMemory>
-    ensures { IfOk result (λ fault. fault ≡ least (repeat_faults (shown marks.now))) }
+    ensures { IfOk result (λ fault. fault ≡ least (repeat_faults (abstract_names marks.now))) }
 {
     let place = least_place(alloc, marks)?;
     Ok(fault_at(place))
@@ -94,7 +94,7 @@ fn keys_of(alloc: Global, text: &str, entries: &[Entry<ExprTree>]) -> Result<Vec
 
 /// The same, lent.
 fn marks_of<'a>(alloc: Global, keys: &'a [Key]) -> Result<Vec<NameAt<'a>>, NoMemory>
-    ensures { IfOk result (λ marks. shown marks.items ≡ map held keys.entry.now) }
+    ensures { IfOk result (λ marks. abstract_names marks.items ≡ map held keys.entry.now) }
 {
     let mut marks = Vec::with_capacity(alloc, keys.len())?;
     for key in keys {

@@ -1,5 +1,5 @@
 //! What the tokens of a tree stand for.
-ghost use Rattle.std.specs.Prelude.{◌≡◌, ◌∷◌, IfOk, length, map};
+ghost use Rattle.std.specs.Prelude.{◌≡◌, ◌∷◌, IfOk, map};
 ghost use Rattle.plain.specs.Words.{AreIdents};
 ghost use Rattle.policy_tokens.specs.Lexing.{spelling_of};
 ghost use Rattle.policy_tokens.specs.declared.token.TokenKind.TheVariants as k;

@@ -28,7 +28,7 @@ use Rattle.entities.specs.declared.fault.EntityFault.TheVariants.{BadShape, Acti
 use Rattle.entities.specs.declared.stated.StatedEntity.{StatedEntity}
 use Rattle.entity_worlds.specs.declared.entity.Entity.{Entity}
 use Rattle.entities.specs.Faults.{told}
-use Rattle.entities.specs.Stated.{uid_of, uids_of, parents_of, has_objects, is_absent_or_empty, or_empty, stated_in}
+use Rattle.entities.specs.Stated.{stated_uid, uids_of, parents_of, has_objects, is_absent_or_empty, or_empty, stated_in}
 use Rattle.entities.specs.Entities.{is_action_type, shape_of, attributes_in, parent_fits, parents_fit, parents_in, entity_in}
 use Rattle.entity_worlds.specs.UidSets.{uid_set}
 use Rattle.entities.specs.Canonical.{canonical_json}
@@ -66,13 +66,13 @@ path_of d u (Some inner) is = is.is.path
 
 -- a name is read back
 abbrev NameReadsBack : EntityUid → Type 0
-NameReadsBack u = uid_of (uid_json u) ≡ Ok u
+NameReadsBack u = stated_uid (uid_json u) ≡ Ok u
 
 name_found : Below → (d : Data) (o : Option EntityUid) (u : EntityUid) → IsRead (IsUid d) o → IsUid d u → o ≡ Some u
 name_found below d None u read is = absurd (read u is)
 name_found below d (Some v) u read is = ap Some (below.one d v u read is)
 
-name_back : Below → (d : Data) (u : EntityUid) → uid_of d ≡ Ok u → NameReadsBack u
+name_back : Below → (d : Data) (u : EntityUid) → stated_uid d ≡ Ok u → NameReadsBack u
 name_back below d u e =
     let here : uid_in d ≡ Some u = some_of BadShape (uid_in d) u e in
     let is : IsUid d u = subst (IsRead (IsUid d)) here (below.found d) in
@@ -80,20 +80,20 @@ name_back below d u e =
     ap (λ (o : Option EntityUid). or_fault BadShape o)
     (name_found below (uid_json u) (uid_in (uid_json u)) u (below.found (uid_json u)) (below.written u path).plain)
 
-names_back : Below → (ds : List Data) (k : ℕ) (us : List EntityUid) → each (λ i d. uid_of d) k ds ≡ Ok us → AllByRecursion NameReadsBack us
+names_back : Below → (ds : List Data) (k : ℕ) (us : List EntityUid) → each (λ i d. stated_uid d) k ds ≡ Ok us → AllByRecursion NameReadsBack us
 unfolding each
 names_back below [] k us e = subst (AllByRecursion NameReadsBack) (ok_is [] us e) tt
 names_back below (d ∷ ds) k us e =
-    let a = bind_ok (uid_of d) (λ u. each (λ i x. uid_of x) (suc k) ds >>= λ vs. Ok (u ∷ vs)) us e in
-    let b = bind_ok (each (λ i x. uid_of x) (suc k) ds) (λ vs. Ok (a.0 ∷ vs)) us a.2 in
+    let a = bind_ok (stated_uid d) (λ u. each (λ i x. stated_uid x) (suc k) ds >>= λ vs. Ok (u ∷ vs)) us e in
+    let b = bind_ok (each (λ i x. stated_uid x) (suc k) ds) (λ vs. Ok (a.0 ∷ vs)) us a.2 in
     subst (AllByRecursion NameReadsBack) (ok_is (a.0 ∷ b.0) us b.2) (name_back below d a.0 a.1, names_back below ds (suc k) b.0 b.1)
 
-name_step : (d : Data) (ds : List Data) (k : ℕ) (u : EntityUid) (us : List EntityUid) → uid_of d ≡ Ok u → each (λ i x. uid_of x) (suc k) ds ≡ Ok us
-    → each (λ i x. uid_of x) k (d ∷ ds) ≡ Ok (u ∷ us)
+name_step : (d : Data) (ds : List Data) (k : ℕ) (u : EntityUid) (us : List EntityUid) → stated_uid d ≡ Ok u → each (λ i x. stated_uid x) (suc k) ds ≡ Ok us
+    → each (λ i x. stated_uid x) k (d ∷ ds) ≡ Ok (u ∷ us)
 unfolding each
 name_step d ds k u us one more = rw (one, more) refl
 
-each_back : (us : List EntityUid) (k : ℕ) → AllByRecursion NameReadsBack us → each (λ i d. uid_of d) k (map uid_json us) ≡ Ok us
+each_back : (us : List EntityUid) (k : ℕ) → AllByRecursion NameReadsBack us → each (λ i d. stated_uid d) k (map uid_json us) ≡ Ok us
 unfolding each
 each_back [] k all = refl
 each_back (u ∷ us) k all = name_step (uid_json u) (map uid_json us) k u us all.0 (each_back us (suc k) all.1)
@@ -104,7 +104,7 @@ list_again (d ∷ ds) = ap (λ (l : List Data). d ∷ l) (list_again ds)
 
 uids_back : (us : List EntityUid) → AllByRecursion NameReadsBack us → uids_of (items_of (map uid_json us)) ≡ Ok us
 unfolding uids_of
-uids_back us all = ap (λ (l : List Data). each (λ i d. uid_of d) 0 l) (list_again (map uid_json us)) ∙ each_back us 0 all
+uids_back us all = ap (λ (l : List Data). each (λ i d. stated_uid d) 0 l) (list_again (map uid_json us)) ∙ each_back us 0 all
 
 parents_back : Below → (found : Option Data) (us : List EntityUid) → parents_of found ≡ Ok us → AllByRecursion NameReadsBack us
 unfolding uids_of
@@ -124,8 +124,8 @@ form_of : Below → (d : Data) (stated : StatedEntity) → stated_in d ≡ Ok st
 unfolding stated_in
 form_of below d stated e =
     let a = bind_ok (or_fault BadShape (get (codes "uid") d))
-    (λ name. uid_of name >>= λ uid. demand BadShape (has_objects d) >>= λ objects. parents_of (get (codes "parents") d) >>= λ parents. Ok (record { uid = uid; parents = parents })) stated e in
-    let b = bind_ok (uid_of a.0) (λ uid. demand BadShape (has_objects d) >>= λ objects. parents_of (get (codes "parents") d) >>= λ parents. Ok (record { uid = uid; parents = parents })) stated a.2 in
+    (λ name. stated_uid name >>= λ uid. demand BadShape (has_objects d) >>= λ objects. parents_of (get (codes "parents") d) >>= λ parents. Ok (record { uid = uid; parents = parents })) stated e in
+    let b = bind_ok (stated_uid a.0) (λ uid. demand BadShape (has_objects d) >>= λ objects. parents_of (get (codes "parents") d) >>= λ parents. Ok (record { uid = uid; parents = parents })) stated a.2 in
     let c = bind_ok (demand BadShape (has_objects d)) (λ objects. parents_of (get (codes "parents") d) >>= λ parents. Ok (record { uid = b.0; parents = parents })) stated b.2 in
     let p = bind_ok (parents_of (get (codes "parents") d)) (λ parents. Ok (record { uid = b.0; parents = parents })) stated c.2 in
     subst (Form d) (ok_is (record { uid = b.0; parents = p.0 }) stated p.2) (record { name = name_back below a.0 b.0 b.1; parents = parents_back below (get (codes "parents") d) p.0 p.1 })

@@ -29,11 +29,11 @@ abbrev pub or_empty : Option Data → Data
 or_empty None = object no_members
 or_empty (Some d) = d
 
-abbrev pub uid_of : Data → Result EntityUid EntityFault
-uid_of d = or_fault BadShape (uid_in d)
+abbrev pub stated_uid : Data → Result EntityUid EntityFault
+stated_uid d = or_fault BadShape (uid_in d)
 
 unfoldable pub uids_of : Items → Result (List EntityUid) EntityFault
-uids_of ds = each (λ i d. uid_of d) 0 (list_of ds)
+uids_of ds = each (λ i d. stated_uid d) 0 (list_of ds)
 
 abbrev pub parents_of : Option Data → Result (List EntityUid) EntityFault
 parents_of None = Ok []
@@ -49,7 +49,7 @@ has_objects d = is_absent_or_object (get (codes "attrs") d) && is_absent_or_obje
 unfoldable pub stated_in : Data → Result StatedEntity EntityFault
 stated_in d = do
   name ← or_fault BadShape (get (codes "uid") d)
-  uid ← uid_of name
+  uid ← stated_uid name
   objects ← demand BadShape (has_objects d)
   parents ← parents_of (get (codes "parents") d)
   Ok (record { uid = uid; parents = parents })

@@ -3,7 +3,7 @@ ghost use Rattle.std.specs.Prelude.{◌≡◌, option_map};
 ghost use Rattle.serde_json.specs.View.{view, items_view};
 ghost use Rattle.json_words.specs.ReadsAs.{ReadsAs};
 ghost use Rattle.entities.specs.declared.fault.EntityFault.TheVariants as EntityFault;
-ghost use Rattle.entities.specs.Stated.{uid_of, uids_of, parents_of, is_absent_or_object, is_absent_or_empty};
+ghost use Rattle.entities.specs.Stated.{stated_uid, uids_of, parents_of, is_absent_or_object, is_absent_or_empty};
 ghost use Rattle.entities.specs.Stated.{has_objects, stated_in};
 
 use crate::fault::EntityFault;
@@ -22,7 +22,7 @@ pub struct StatedEntity {
 }
 
 fn read_uid(alloc: Global, value: &Value) -> Result<EntityUid, EntityFault>
-    ensures { ReadsAs EntityFault.NoMemory (λ u. u) result (uid_of (view value.now)) }
+    ensures { ReadsAs EntityFault.NoMemory (λ u. u) result (stated_uid (view value.now)) }
 {
     match uid_json::read_uid(alloc, value)? {
         Some(uid) => Ok(uid),

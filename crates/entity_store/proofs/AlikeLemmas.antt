@@ -19,7 +19,7 @@ use Rattle.policy_grammar.specs.declared.policy.Policy.{Policy}
 use Rattle.authoriser.specs.declared.outcome.Outcome.{Outcome as Verdict}
 use Rattle.authoriser.specs.declared.outcome.Outcome.TheVariants.{Satisfied, NotSatisfied, Errs}
 use Rattle.authoriser.specs.declared.answer.Answer.{Answer}
-use Rattle.authoriser.specs.Answers.{NamedPolicy, PolicyOutcome, ComesTo, ArePolicyOutcomes, IsCycleDenial, IsAnswer}
+use Rattle.authoriser.specs.Answers.{NamedPolicy, PolicyOutcome, PolicyEvaluatesTo, ArePolicyOutcomes, IsCycleDenial, IsAnswer}
 use Rattle.entity_store.specs.Alike.{LeadAlike, GiveAlike, AnswerAlike}
 
 told : {P Q : Type 0} (r : EvaluationResult) → (P → Q) → (Q → P) → IsTruthOf P r → IsTruthOf Q r
@@ -110,7 +110,7 @@ module _ (stored : EntityUid → Option (List Field)) (P Q : Parents) (alike : L
       gives_each _ _ (rule.each_fails {x} {xs} {e} g) = rule.each_fails (gives x _ g)
       gives_each _ _ (rule.each_fails_later {x} {xs} {v} {e} g h) = rule.each_fails_later (gives x _ g) (gives_each xs _ h)
 
-    comes_to : (p : Policy) (o : Verdict) → ComesTo W q p o → ComesTo V q p o
+    comes_to : (p : Policy) (o : Verdict) → PolicyEvaluatesTo W q p o → PolicyEvaluatesTo V q p o
     comes_to p Satisfied h = gives (expression_of p) _ h
     comes_to p NotSatisfied h = gives (expression_of p) _ h
     comes_to p (Errs e) h = gives (expression_of p) _ h

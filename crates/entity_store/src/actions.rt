@@ -1,7 +1,5 @@
 //! The actions of a schema.
-ghost use Rattle.std.specs.Prelude.{◌≡◌, option_map};
-ghost use Rattle.ancestor_closure.specs.Hierarchy.{IsAscending};
-ghost use Rattle.entity_worlds.specs.Entities.{AreActions};
+ghost use Rattle.std.specs.Prelude.{◌≡◌};
 ghost use Rattle.entity_store.specs.Entities.{actions_under, action_uids, actions_are_listed};
 
 use entity_worlds::ActionSource;

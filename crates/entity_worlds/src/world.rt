@@ -1,6 +1,5 @@
 //! The entities that requests are decided over.
-ghost use Rattle.std.specs.Prelude.{◌≡◌, ◌⊎◌, ◌↔◌, Contains, IfOk, List, Option, Some, None, option_map};
-ghost use Rattle.ancestor_closure.specs.Hierarchy.{IsAscending, names};
+ghost use Rattle.std.specs.Prelude.{◌≡◌, Option, Some, None, option_map};
 ghost use Rattle.ancestor_closure.specs.Decided.{reaches};
 ghost use Rattle.entity_worlds.specs.Entities.{with_actions, uids_with, attributes_of, parents_of};
 ghost use Rattle.entity_worlds.specs.Listing.{all_listed, all_decided};

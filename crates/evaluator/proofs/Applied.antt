@@ -32,7 +32,7 @@ use Rattle.evaluator.specs.Outcomes.{EvaluationResult, IsTruthOf, boolean_in, lo
 use Rattle.ancestor_closure.specs.Hierarchy.{IsIn}
 use Rattle.evaluator.specs.Operators as rule
 use Rattle.evaluator.specs.Operators.{World, UnaryGives, BinaryGives, FieldGives, HasGives, UnaryCallGives, BinaryCallGives, NumbersGive, TakesNumbers, TakesSets, IsTested, TakesAddress, AreCompared, TakesDecimals}
-use Rattle.evaluator.specs.inner.Computing.{Entities, entities_of, and_then, demanded, two_demanded, truth, bounded, apply_unary, is_in, in_members, in_value, numbers, sets, apply_binary, found_or, attribute, field_of, has_attribute, has_field, decimal_read, network_read, is_v4, tested, apply_unary_call, decimals, networks, apply_binary_call}
+use Rattle.evaluator.specs.inner.Computing.{DecidedWorld, decided_world, and_then, demanded, two_demanded, truth, bounded, apply_unary, is_in, in_members, in_value, numbers, sets, apply_binary, found_or, attribute, field_of, has_attribute, has_field, decimal_read, network_read, is_v4, tested, apply_unary_call, decimals, networks, apply_binary_call}
 use Rattle.evaluator.proofs.ByKind.{boolean_cases, long_cases, text_cases, entity_cases, members_cases, decimal_cases, network_cases}
 use Rattle.evaluator.proofs.Telling.{told_iff, tells_test, test_is, int_lt_iff, int_le_iff, comes_bounded, bounded_is, value_eq_iff, v4_iff, v6_iff, any_iff, all_iff, is_in_iff}
 
@@ -227,8 +227,8 @@ fault_anyway None = refl
 fault_anyway (Some a) = refl
 
 module _ (W : World) (above : EntityUid → EntityUid → Bool) (D : Decides W.parents above) where
-  abbrev pub E : Entities
-  E = entities_of W.stored above
+  abbrev pub E : DecidedWorld
+  E = decided_world W.stored above
 
   members_are : (a : EntityUid) (us : List EntityUid) → in_members E a (map entity us) ≡ Ok (list_any (is_in E a) us)
   members_are a [] = refl

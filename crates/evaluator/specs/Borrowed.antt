@@ -4,8 +4,8 @@ use Rattle.values.specs.Values.{fields_of}
 use Rattle.evaluator.specs.declared.kinds.BorrowedKind.{BorrowedKind}
 use Rattle.evaluator.specs.declared.kinds.BorrowedKind.TheVariants.{Boolean, Long, Text, Entity, Set, Record, Decimal}
 use Rattle.evaluator.specs.declared.kinds.BorrowedKind.TheVariants.{IpAddr}
-use Rattle.evaluator.specs.declared.given.Origin.{Origin}
-use Rattle.evaluator.specs.declared.given.Origin.TheVariants.{Borrowed, Computed}
+use Rattle.evaluator.specs.declared.given.Ownership.{Ownership}
+use Rattle.evaluator.specs.declared.given.Ownership.TheVariants.{Borrowed, Owned}
 
 abbrev pub of_borrowed : BorrowedKind → PlainValue
 of_borrowed (Boolean b) = boolean b
@@ -17,6 +17,6 @@ of_borrowed (Record fs) = record_of (fields_of fs.now)
 of_borrowed (Decimal d) = decimal d
 of_borrowed (IpAddr n) = ipaddr n
 
-abbrev pub of_origin : Origin → PlainValue
-of_origin (Borrowed kind) = of_borrowed kind
-of_origin (Computed v) = v
+abbrev pub of_ownership : Ownership → PlainValue
+of_ownership (Borrowed kind) = of_borrowed kind
+of_ownership (Owned v) = v

@@ -4,7 +4,7 @@ ghost use Rattle.values.specs.Values.{set, record_of, values_of, fields_of};
 ghost use Rattle.values.specs.Sets.{set_list};
 ghost use Rattle.evaluator.specs.Operators.{world_of};
 ghost use Rattle.evaluator.specs.Evaluation.{AnswersWhatIsGiven, AnswersAllThatIsGiven};
-ghost use Rattle.evaluator.specs.inner.Computing.{entities_of, Answers, meaning, named_meaning, each, each_field};
+ghost use Rattle.evaluator.specs.inner.Computing.{decided_world, Answers, meaning, named_meaning, each, each_field};
 ghost use Rattle.evaluator.specs.inner.Computing.{and_then, as_test, truth, apply_unary, apply_binary};
 ghost use Rattle.evaluator.specs.inner.Computing.{apply_unary_call, apply_binary_call, field_of, has_field};
 
@@ -54,7 +54,7 @@ fn outcome_of<'a, L: Lookup>(
     request: &'a Request,
     store: &'a L,
 ) -> Result<BorrowedOrOwned<'a>, EvalFault>
-    ensures { Answers result (meaning request.now (entities_of (L.stored store.now) (L.above store.now)) expr.now) }
+    ensures { Answers result (meaning request.now (decided_world (L.stored store.now) (L.above store.now)) expr.now) }
 {
     match expr {
         Expr::Literal(literal) => Ok(literal_of(literal)),
@@ -101,7 +101,7 @@ fn test_of<'a, L: Lookup>(
     store: &'a L,
 ) -> Result<bool, EvalFault>
     ensures { Answers result (as_test
-        (meaning request.now (entities_of (L.stored store.now) (L.above store.now)) test.now)) }
+        (meaning request.now (decided_world (L.stored store.now) (L.above store.now)) test.now)) }
 {
     let given = outcome_of(alloc, test.get(), request, store)?;
     boolean_of(&given)
@@ -118,7 +118,7 @@ fn second_conjunct<'a, L: Lookup>(
     store: &'a L,
 ) -> Result<BorrowedOrOwned<'a>, EvalFault>
     ensures { Answers result (if left
-        then and_then (as_test (meaning request.now (entities_of (L.stored store.now) (L.above store.now)) right.now))
+        then and_then (as_test (meaning request.now (decided_world (L.stored store.now) (L.above store.now)) right.now))
         truth else truth false) }
 {
     let holds = left && test_of(alloc, right, request, store)?;
@@ -136,7 +136,7 @@ fn second_disjunct<'a, L: Lookup>(
     store: &'a L,
 ) -> Result<BorrowedOrOwned<'a>, EvalFault>
     ensures { Answers result (if left then truth true
-        else and_then (as_test (meaning request.now (entities_of (L.stored store.now) (L.above store.now)) right.now))
+        else and_then (as_test (meaning request.now (decided_world (L.stored store.now) (L.above store.now)) right.now))
         truth) }
 {
     let holds = left || test_of(alloc, right, request, store)?;
@@ -154,7 +154,7 @@ fn one_operand<'a, L: Lookup>(
     store: &'a L,
 ) -> Result<BorrowedOrOwned<'a>, EvalFault>
     ensures { Answers result (and_then
-        (meaning request.now (entities_of (L.stored store.now) (L.above store.now)) operand.now)
+        (meaning request.now (decided_world (L.stored store.now) (L.above store.now)) operand.now)
         (apply_unary operator.now)) }
 {
     let given = outcome_of(alloc, operand.get(), request, store)?;
@@ -172,8 +172,8 @@ fn second_operand<'a, L: Lookup>(
     request: &'a Request,
     store: &'a L,
 ) -> Result<BorrowedOrOwned<'a>, EvalFault>
-    ensures { let entities = entities_of (L.stored store.now) (L.above store.now) in
-        Answers result (and_then (meaning request.now entities right.now) (apply_binary entities operator left.now)) }
+    ensures { let world = decided_world (L.stored store.now) (L.above store.now) in
+        Answers result (and_then (meaning request.now world right.now) (apply_binary world operator left.now)) }
 {
     let right = outcome_of(alloc, right.get(), request, store)?;
     Ok(BorrowedOrOwned::computed(binary(store, operator, left, &right)?))
@@ -190,7 +190,7 @@ fn one_called<'a, L: Lookup>(
     store: &'a L,
 ) -> Result<BorrowedOrOwned<'a>, EvalFault>
     ensures { Answers result (and_then
-        (meaning request.now (entities_of (L.stored store.now) (L.above store.now)) operand.now)
+        (meaning request.now (decided_world (L.stored store.now) (L.above store.now)) operand.now)
         (apply_unary_call called)) }
 {
     let given = outcome_of(alloc, operand.get(), request, store)?;
@@ -209,7 +209,7 @@ fn second_called<'a, L: Lookup>(
     store: &'a L,
 ) -> Result<BorrowedOrOwned<'a>, EvalFault>
     ensures { Answers result (and_then
-        (meaning request.now (entities_of (L.stored store.now) (L.above store.now)) right.now)
+        (meaning request.now (decided_world (L.stored store.now) (L.above store.now)) right.now)
         (apply_binary_call called left.now)) }
 {
     let right = outcome_of(alloc, right.get(), request, store)?;
@@ -227,8 +227,8 @@ fn field_of<'a, L: Lookup>(
     store: &'a L,
 ) -> Result<BorrowedOrOwned<'a>, EvalFault>
     ensures { Answers result (and_then
-        (meaning request.now (entities_of (L.stored store.now) (L.above store.now)) owner.now)
-        (field_of (entities_of (L.stored store.now) (L.above store.now)) name.now)) }
+        (meaning request.now (decided_world (L.stored store.now) (L.above store.now)) owner.now)
+        (field_of (decided_world (L.stored store.now) (L.above store.now)) name.now)) }
 {
     let given = outcome_of(alloc, owner.get(), request, store)?;
     field(alloc, store, &given, name.as_str())
@@ -245,8 +245,8 @@ fn has_of<'a, L: Lookup>(
     store: &'a L,
 ) -> Result<BorrowedOrOwned<'a>, EvalFault>
     ensures { Answers result (and_then
-        (meaning request.now (entities_of (L.stored store.now) (L.above store.now)) owner.now)
-        (has_field (entities_of (L.stored store.now) (L.above store.now)) name.now)) }
+        (meaning request.now (decided_world (L.stored store.now) (L.above store.now)) owner.now)
+        (has_field (decided_world (L.stored store.now) (L.above store.now)) name.now)) }
 {
     let given = outcome_of(alloc, owner.get(), request, store)?;
     Ok(BorrowedOrOwned::computed(has(store, &given, name.as_str())?))
@@ -262,7 +262,7 @@ fn set_of<'a, L: Lookup>(
     store: &'a L,
 ) -> Result<BorrowedOrOwned<'a>, EvalFault>
     ensures { Answers result (and_then
-        (each (map (meaning request.now (entities_of (L.stored store.now) (L.above store.now))) members.now))
+        (each (map (meaning request.now (decided_world (L.stored store.now) (L.above store.now))) members.now))
         (λ vs. Ok (set (values_of (set_list vs))))) }
 {
     let members = evaluate_each(alloc, members, request, store)?;
@@ -279,7 +279,8 @@ fn record_of<'a, L: Lookup>(
     store: &'a L,
 ) -> Result<BorrowedOrOwned<'a>, EvalFault>
     ensures { Answers result (and_then
-        (each_field (map (named_meaning request.now (entities_of (L.stored store.now) (L.above store.now))) fields.now)
+        (each_field
+        (map (named_meaning request.now (decided_world (L.stored store.now) (L.above store.now))) fields.now)
         []) (λ done. Ok (record_of (fields_of done)))) }
 {
     let fields = evaluate_fields(alloc, fields, request, store)?;
@@ -295,8 +296,8 @@ fn evaluate_each<'a, L: Lookup>(
     request: &'a Request,
     store: &'a L,
 ) -> Result<Vec<Value>, EvalFault>
-    ensures { let m = each (map (meaning request.now (entities_of (L.stored store.now) (L.above store.now))) exprs.now)
-        in
+    ensures { let world = decided_world (L.stored store.now) (L.above store.now) in
+        let m = each (map (meaning request.now world) exprs.now) in
         MatchResult result (λ vs. m ≡ Ok vs.items) (λ e. e ≢ EvalFault.NoMemory → m ≡ Err e) }
 {
     let mut values = Vec::with_capacity(alloc, exprs.len())?;
@@ -317,7 +318,7 @@ fn evaluate_fields<'a, L: Lookup>(
     store: &'a L,
 ) -> Result<Record, EvalFault>
     ensures { Answers result (each_field
-        (map (named_meaning request.now (entities_of (L.stored store.now) (L.above store.now))) fields.now) []) }
+        (map (named_meaning request.now (decided_world (L.stored store.now) (L.above store.now))) fields.now) []) }
 {
     let mut record = Record::new(alloc);
     for field in fields.as_slice() {

@@ -1,10 +1,10 @@
 //! The fields of records and the attributes of entities.
 ghost use Rattle.std.specs.Prelude.{◌≡◌, option_map};
 ghost use Rattle.evaluator.specs.Borrowed.{of_borrowed};
-ghost use Rattle.evaluator.specs.inner.Computing.{entities_of, Answers, found_or, attribute, field_of, has_field};
+ghost use Rattle.evaluator.specs.inner.Computing.{decided_world, Answers, found_or, attribute, field_of, has_field};
 
 use crate::fault::EvalFault;
-use crate::given::{BorrowedOrOwned, Origin};
+use crate::given::{BorrowedOrOwned, Ownership};
 use crate::kinds::{BorrowedKind, same_kind};
 use crate::lookup::Lookup;
 use std::alloc::Global;
@@ -51,7 +51,7 @@ fn field_of_borrowed<'a, L: Lookup>(
     owner: BorrowedKind<'a>,
     name: &str,
 ) -> Result<BorrowedOrOwned<'a>, EvalFault>
-    ensures { result ≡ field_of (entities_of (L.stored store.now) (L.above store.now)) name.now
+    ensures { result ≡ field_of (decided_world (L.stored store.now) (L.above store.now)) name.now
         (of_borrowed owner.entry) }
 {
     match owner {
@@ -69,7 +69,7 @@ fn field_of_computed<'a, L: Lookup>(
     owner: &Value,
     name: &str,
 ) -> Result<BorrowedOrOwned<'a>, EvalFault>
-    ensures { Answers result (field_of (entities_of (L.stored store.now) (L.above store.now)) name.now owner.now) }
+    ensures { Answers result (field_of (decided_world (L.stored store.now) (L.above store.now)) name.now owner.now) }
 {
     match owner.kind() {
         Kind::Record(fields) => copy_found(alloc, fields.field(name)),
@@ -85,11 +85,11 @@ pub(crate) fn field<'a, L: Lookup>(
     owner: &BorrowedOrOwned<'a>,
     name: &str,
 ) -> Result<BorrowedOrOwned<'a>, EvalFault>
-    ensures { Answers result (field_of (entities_of (L.stored store.now) (L.above store.now)) name.now owner.now) }
+    ensures { Answers result (field_of (decided_world (L.stored store.now) (L.above store.now)) name.now owner.now) }
 {
-    match &owner.origin {
-        Origin::Borrowed(kind) => field_of_borrowed(store, same_kind(kind), name),
-        Origin::Computed(value) => field_of_computed(alloc, store, value, name),
+    match &owner.ownership {
+        Ownership::Borrowed(kind) => field_of_borrowed(store, same_kind(kind), name),
+        Ownership::Owned(value) => field_of_computed(alloc, store, value, name),
     }
 }
 
@@ -100,7 +100,7 @@ pub(crate) fn has<L: Lookup>(
     owner: &BorrowedOrOwned<'_>,
     name: &str,
 ) -> Result<Value, EvalFault>
-    ensures { result ≡ has_field (entities_of (L.stored store.now) (L.above store.now)) name.now owner.now }
+    ensures { result ≡ has_field (decided_world (L.stored store.now) (L.above store.now)) name.now owner.now }
 {
     match owner.kind() {
         BorrowedKind::Record(fields) => Ok(Value::boolean(fields.field(name).is_some())),

@@ -15,14 +15,14 @@ use values::Value;
 /// Contracts see the value.
 #[derive(Drop)]
 pub struct BorrowedOrOwned<'a> {
-    pub(crate) origin: Origin<'a>,
+    pub(crate) ownership: Ownership<'a>,
 }
 
 /// Where a value comes from.
 #[derive(Drop)]
-pub(crate) enum Origin<'a> {
+pub(crate) enum Ownership<'a> {
     Borrowed(BorrowedKind<'a>),
-    Computed(Value),
+    Owned(Value),
 }
 
 impl<'a> Model for BorrowedOrOwned<'a> {
@@ -33,9 +33,9 @@ impl<'a> Model for BorrowedOrOwned<'a> {
 
     ghost coded = { value_code };
 
-    ghost use Rattle.evaluator.specs.Borrowed.{of_origin};
+    ghost use Rattle.evaluator.specs.Borrowed.{of_ownership};
 
-    ghost view = { λ a. of_origin a.origin };
+    ghost view = { λ a. of_ownership a.ownership };
 }
 
 impl<'a> BorrowedOrOwned<'a> {
@@ -44,7 +44,7 @@ impl<'a> BorrowedOrOwned<'a> {
         ensures { result ≡ value.now }
     {
         BorrowedOrOwned {
-            origin: Origin::Borrowed(borrowed_kind(value)),
+            ownership: Ownership::Borrowed(borrowed_kind(value)),
         }
     }
 
@@ -53,7 +53,7 @@ impl<'a> BorrowedOrOwned<'a> {
         ensures { result ≡ value }
     {
         BorrowedOrOwned {
-            origin: Origin::Computed(value),
+            ownership: Ownership::Owned(value),
         }
     }
 
@@ -61,9 +61,9 @@ impl<'a> BorrowedOrOwned<'a> {
     pub(crate) fn kind(&self) -> BorrowedKind<'_>
         ensures { of_borrowed result ≡ self.now }
     {
-        match &self.origin {
-            Origin::Borrowed(kind) => same_kind(kind),
-            Origin::Computed(value) => borrowed_kind(value),
+        match &self.ownership {
+            Ownership::Borrowed(kind) => same_kind(kind),
+            Ownership::Owned(value) => borrowed_kind(value),
         }
     }
 
@@ -100,10 +100,10 @@ impl<'a> BorrowedOrOwned<'a> {
     pub fn into_value(self, alloc: Global) -> Result<Value, NoMemory>
         ensures { IfOk result (λ v. v ≡ self.entry) }
     {
-        let BorrowedOrOwned { origin } = self;
-        match origin {
-            Origin::Borrowed(kind) => copied(alloc, kind),
-            Origin::Computed(value) => Ok(value),
+        let BorrowedOrOwned { ownership } = self;
+        match ownership {
+            Ownership::Borrowed(kind) => copied(alloc, kind),
+            Ownership::Owned(value) => Ok(value),
         }
     }
 }

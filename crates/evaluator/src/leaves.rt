@@ -3,7 +3,7 @@ ghost use Rattle.std.specs.Prelude.{◌≡◌};
 ghost use Rattle.evaluator.specs.Borrowed.{of_borrowed};
 ghost use Rattle.evaluator.specs.Evaluation.{literal_value, variable_value};
 
-use crate::given::{BorrowedOrOwned, Origin};
+use crate::given::{BorrowedOrOwned, Ownership};
 use crate::kinds::BorrowedKind;
 use expressions::{Literal, Variable};
 use values::Request;
@@ -25,7 +25,7 @@ pub(crate) fn literal_of(literal: &Literal) -> BorrowedOrOwned<'_>
     ensures { result ≡ literal_value literal.now }
 {
     BorrowedOrOwned {
-        origin: Origin::Borrowed(literal_kind(literal)),
+        ownership: Ownership::Borrowed(literal_kind(literal)),
     }
 }
 
@@ -46,6 +46,6 @@ pub(crate) fn variable_of(variable: Variable, request: &Request) -> BorrowedOrOw
     ensures { result ≡ variable_value variable request.now }
 {
     BorrowedOrOwned {
-        origin: Origin::Borrowed(variable_kind(variable, request)),
+        ownership: Ownership::Borrowed(variable_kind(variable, request)),
     }
 }

@@ -6,7 +6,7 @@ ghost use Rattle.values.specs.ValueOrder.{value_cmp};
 ghost use Rattle.values.specs.Sets.{has_member};
 ghost use Rattle.ancestor_closure.specs.Hierarchy.{IsAscending, names};
 ghost use Rattle.evaluator.specs.Outcomes.{entity_in};
-ghost use Rattle.evaluator.specs.inner.Computing.{entities_of, demanded, Answers, number_or_fault, apply_unary};
+ghost use Rattle.evaluator.specs.inner.Computing.{decided_world, demanded, Answers, number_or_fault, apply_unary};
 ghost use Rattle.evaluator.specs.inner.Computing.{apply_binary, is_in, in_members, in_value, and_then, truth, bounded};
 ghost use Rattle.evaluator.specs.inner.Computing.{sets};
 
@@ -83,7 +83,7 @@ fn product(numbers: Result<(i64, i64), EvalFault>) -> Result<Value, EvalFault>
 
 /// Whether `a` is `b` or below it.
 fn is_in<L: Lookup>(store: &L, a: &EntityUid, b: &EntityUid) -> Result<bool, NoMemory>
-    ensures { IfOk result (λ r. r ≡ is_in (entities_of (L.stored store.now) (L.above store.now)) a.now b.now) }
+    ensures { IfOk result (λ r. r ≡ is_in (decided_world (L.stored store.now) (L.above store.now)) a.now b.now) }
 {
     if a.cmp(b).is_eq() {
         return Ok(true);
@@ -112,7 +112,7 @@ fn is_within(a: &EntityUid, ancestors: &[&EntityUid], b: &EntityUid) -> bool
 
 /// Whether `a` is in some member, all of which have to be entities. The ancestors of `a` are asked for once.
 fn in_members<L: Lookup>(store: &L, a: &EntityUid, members: &[Value]) -> Result<bool, EvalFault>
-    ensures { Answers result (in_members (entities_of (L.stored store.now) (L.above store.now)) a.now members.now) }
+    ensures { Answers result (in_members (decided_world (L.stored store.now) (L.above store.now)) a.now members.now) }
 {
     let ancestors = store.ancestors(a)?;
     let mut found = false;
@@ -132,7 +132,7 @@ fn in_value<L: Lookup>(
     a: &EntityUid,
     b: &BorrowedOrOwned<'_>,
 ) -> Result<Value, EvalFault>
-    ensures { Answers result (in_value (entities_of (L.stored store.now) (L.above store.now)) a.now b.now) }
+    ensures { Answers result (in_value (decided_world (L.stored store.now) (L.above store.now)) a.now b.now) }
 {
     match b.kind() {
         BorrowedKind::Entity(uid) => Ok(Value::boolean(is_in(store, a, uid)?)),
@@ -181,7 +181,7 @@ pub(crate) fn binary<L: Lookup>(
     b: &BorrowedOrOwned<'_>,
 ) -> Result<Value, EvalFault>
     ensures { Answers result
-        (apply_binary (entities_of (L.stored store.now) (L.above store.now)) operator a.now b.now) }
+        (apply_binary (decided_world (L.stored store.now) (L.above store.now)) operator a.now b.now) }
 {
     match operator {
         Binary::Equal => Ok(Value::boolean(a.compare(b).is_eq())),

@@ -18,7 +18,7 @@ use Rattle.token_readers.specs.Lang.{Lang}
 use Rattle.token_readers.specs.Lang as lang
 use Rattle.token_readers.specs.Grammar.{identifiers, path, uid}
 use Rattle.expression_syntax.specs.Expressions as g
-use Rattle.expression_syntax.specs.Expressions.{known, boolean_of, variable_of, sign_of, comparison_of, booleans, keys, patterns, signs, comparisons, joined, accessed, is_in}
+use Rattle.expression_syntax.specs.Expressions.{known, boolean_of, variable_of, sign_of, comparison_of, booleans, keys, signs, comparisons, joined, accessed, is_in}
 use Rattle.expression_syntax.specs.ExpressionReading.{openers, access_firsts, firsts}
 use Rattle.token_readers.specs.Reads.{Begins}
 use Rattle.token_readers.proofs.Forms.{Starts, starts_of, starts_both, starts_or, alive_empty, alive_left, alive_right, begin_of}

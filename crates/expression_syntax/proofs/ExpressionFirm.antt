@@ -21,7 +21,7 @@ use Rattle.expression_syntax.specs.Expressions.{boolean_of, sign_of, comparison_
 use Rattle.token_readers.specs.Reading.{Parser, ◌>>=◌, ◌>>◌, pure, token, optional}
 use Rattle.expression_syntax.specs.ExpressionReading as r
 use Rattle.expression_syntax.specs.ExpressionReading.{openers, access_firsts, path_of, name_by, variable_at}
-use Rattle.token_readers.specs.Parsing.{ends, uid_of}
+use Rattle.token_readers.specs.Parsing.{ends, uid_tree}
 use Rattle.token_readers.proofs.Sets.{apart, within}
 use Rattle.token_readers.proofs.Rules.{Rule, Levels}
 use Rattle.token_readers.proofs.Forms.{Starts, Leads, of, one, nothing, leads_starts, leads_empty, leads_or, leads_both, leads_many, leads_maybe, alive_empty, alive_left, alive_right, begin_of}
@@ -97,7 +97,7 @@ module _ (o : Bool) (E : Lang ExprTree) (p : Parser ExprTree) (D : Levels) (i : 
       (λ h. inl (fresh_opening (rules.call_rule o o E E p p D i (path_of first ts) h) (a.opening_call o E (path_of first ts))))
 
   firm_behind : (b : Bool) (first : Token) (ts : List Token) → Firm (behind_by b o E first ts) (r.named_as o p (name_by b first ts))
-  firm_behind true first ts = firm_nothing (tree.Uid (uid_of first ts))
+  firm_behind true first ts = firm_nothing (tree.Uid (uid_tree first ts))
   firm_behind false first ts = firm_call_or_variable first ts
 
   firm_behind_first : (first : Token) → Firm (lang.◌>>=◌ segments (behind_pieces o E first)) (r.rest_of_named o p first)

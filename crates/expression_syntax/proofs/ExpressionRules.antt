@@ -16,11 +16,11 @@ use Rattle.token_readers.specs.Lang as lang
 use Rattle.token_readers.specs.Grammar.{identifiers}
 use Rattle.expression_syntax.specs.Expressions as g
 use Rattle.expression_syntax.specs.Expressions.{boolean_of, sign_of, comparison_of, booleans, keys, patterns, signs, comparisons, joined, accessed, is_in, is_positive}
-use Rattle.token_readers.specs.Reading.{Parser, ParseResult, Read, Stop, Why, Unexpected, TooDeep, and_then, ◌>>=◌, ◌>>◌, pure, either, take, token, many}
+use Rattle.token_readers.specs.Reading.{Parser, ParseResult, Read, Stop, Why, Unexpected, TooDeep, and_then, ◌>>=◌, ◌>>◌, pure, many}
 use Rattle.token_readers.specs.Reading as reading
 use Rattle.expression_syntax.specs.ExpressionReading as r
 use Rattle.expression_syntax.specs.ExpressionReading.{openers, access_firsts, firsts, path_of, name_by, variable_at}
-use Rattle.token_readers.specs.Parsing.{piece, ended_by, goes_on, ends, uid_of}
+use Rattle.token_readers.specs.Parsing.{piece, ended_by, goes_on, ends, uid_tree}
 use Rattle.token_readers.specs.Reads.{Begins}
 use Rattle.token_readers.proofs.Sets.{apart, within}
 use Rattle.token_readers.proofs.Rules.{Rule, Levels, Keeps, both}
@@ -180,12 +180,12 @@ module _ (o o' : Bool) (E F : Lang ExprTree) (p q : Parser ExprTree) (D : Levels
       i.alike
 
   pub behind_rule : (b : Bool) (first : Token) (ts : List Token) → Rule (behind_by b o E first ts) (behind_by b o' F first ts) (r.named_as o p (name_by b first ts)) (r.named_as o' q (name_by b first ts)) after_named D
-  behind_rule true first ts = nothing (tree.Uid (uid_of first ts)) after_named D
+  behind_rule true first ts = nothing (tree.Uid (uid_tree first ts)) after_named D
   behind_rule false first ts = call_or_variable_rule first ts
 
   pub leads_behind : (b : Bool) (first : Token) (ts : List Token) → Leads (behind_by b o E first ts) (only k.Colons) after_named
   unfolding same_kind
-  leads_behind true first ts = leads_empty (tree.Uid (uid_of first ts)) (only k.Colons) after_named refl
+  leads_behind true first ts = leads_empty (tree.Uid (uid_tree first ts)) (only k.Colons) after_named refl
   leads_behind false first ts =
       leads_or (lang.gate o (rest_of_call o E (path_of first ts))) (variable_by (variable_at first ts)) (only k.Colons) after_named
       (leads_starts (lang.gate o (rest_of_call o E (path_of first ts))) (only k.LParen) (only k.Colons) after_named (starts_gate o (rest_of_call o E (path_of first ts)) (only k.LParen) (a.starts_call o E (path_of first ts))) refl)

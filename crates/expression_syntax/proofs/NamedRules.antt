@@ -7,13 +7,13 @@ use Rattle.expression_trees.specs.declared.tree.ExprTree.{ExprTree}
 use Rattle.expression_trees.specs.declared.tree.ExprTree.TheVariants as tree
 use Rattle.expression_trees.specs.declared.tree.Variable.{Variable}
 use Rattle.token_readers.specs.Kinds.{only, same_kind}
-use Rattle.token_readers.specs.Lang.{Lang, Joined}
+use Rattle.token_readers.specs.Lang.{Lang}
 use Rattle.token_readers.specs.Lang as lang
 use Rattle.token_readers.specs.Grammar.{identifiers, path, uid}
 use Rattle.expression_syntax.specs.Expressions as g
 use Rattle.expression_syntax.specs.Expressions.{known, variable_of}
 use Rattle.token_readers.specs.Reads.{Begins}
-use Rattle.token_readers.specs.Parsing.{pieces, is_text, ended_by, ends, uid_of}
+use Rattle.token_readers.specs.Parsing.{pieces, is_text, ended_by, ends, uid_tree}
 use Rattle.expression_syntax.specs.ExpressionReading.{path_of, variable_at}
 use Rattle.token_readers.proofs.Sets.{is_within}
 use Rattle.token_readers.proofs.Forms.{same_self, Leads, leads_empty}
@@ -32,7 +32,7 @@ variable_by (Some variable) = lang.empty (tree.Variable variable)
 variable_by None = lang.never
 
 abbrev pub behind_by : Bool → Bool → Lang ExprTree → Token → List Token → Lang ExprTree
-behind_by true o E first ts = lang.empty (tree.Uid (uid_of first ts))
+behind_by true o E first ts = lang.empty (tree.Uid (uid_tree first ts))
 behind_by false o E first ts = lang.◌or◌ (lang.gate o (rest_of_call o E (path_of first ts))) (variable_by (variable_at first ts))
 
 abbrev pub behind_pieces : Bool → Lang ExprTree → Token → List Token → Lang ExprTree
@@ -46,14 +46,14 @@ on_by : (b o : Bool) (E : Lang ExprTree) (first : Token) (front ts : List Token)
 on_by true o E first front ts e d =
     record {
       more = [];
-      value = tree.Uid (uid_of first ts);
+      value = tree.Uid (uid_tree first ts);
       derived = record {
         front = front;
         back = [];
         value = ts;
         whole = refl;
         first = d;
-        second = subst (λ b. behind_by b o E first ts [] (tree.Uid (uid_of first ts))) (sym e) (refl, refl);
+        second = subst (λ b. behind_by b o E first ts [] (tree.Uid (uid_tree first ts))) (sym e) (refl, refl);
       };
     }
 on_by false o E first front ts e d =
@@ -64,14 +64,14 @@ on_by false o E first front ts e d =
     let all = ts ++ text ∷ [] in
     record {
       more = colons ∷ text ∷ [];
-      value = tree.Uid (uid_of first all);
+      value = tree.Uid (uid_tree first all);
       derived = record {
         front = front ++ colons ∷ text ∷ [];
         back = [];
         value = all;
         whole = sym (append-nil (front ++ colons ∷ text ∷ []));
         first = snoc false front (colons ∷ text ∷ []) text ts d e piece;
-        second = subst (λ b. behind_by b o E first all [] (tree.Uid (uid_of first all))) (sym (ends-snoc false ts text ∙ same_self k.Text)) (refl, refl);
+        second = subst (λ b. behind_by b o E first all [] (tree.Uid (uid_tree first all))) (sym (ends-snoc false ts text ∙ same_self k.Text)) (refl, refl);
       };
     }
 
@@ -117,19 +117,19 @@ record Behind (ts : List Token) (first : Token) (pieces : List Token) (words bac
   one : lang.of identifiers head first
 
 as_uid : (ts words back : List Token) (first : Token) (xs : List Token) (x : ExprTree) → Behind ts first xs words back → segments words xs → ends false xs ≡ true
-    → lang.empty (tree.Uid (uid_of first xs)) back x → lang.◌giving◌ uid tree.Uid ts x
+    → lang.empty (tree.Uid (uid_tree first xs)) back x → lang.◌giving◌ uid tree.Uid ts x
 as_uid ts words back first xs x b s e d = record {
   front = ts;
   back = [];
-  value = uid_of first xs;
+  value = uid_tree first xs;
   whole = sym (append-nil ts);
-  first = to_uid ts (uid_of first xs) (record {
+  first = to_uid ts (uid_tree first xs) (record {
     front = b.head;
     back = words ++ back;
     value = first;
     whole = b.whole;
     first = b.one;
-    second = record { front = words; back = back; value = xs; whole = refl; first = s; second = subst (λ z. closed z first xs back (uid_of first xs)) (sym e) (d.0, refl) };
+    second = record { front = words; back = back; value = xs; whole = refl; first = s; second = subst (λ z. closed z first xs back (uid_tree first xs)) (sym e) (d.0, refl) };
   });
   second = (refl, d.1);
 }

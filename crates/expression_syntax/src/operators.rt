@@ -16,7 +16,7 @@ use expression_trees::{Access, Comparison, ExprTree, KeyTree, Sign, Term};
 use plain::{Boxed, Items};
 use policy_tokens::{Token, TokenKind};
 use std::alloc::{AllocError, Global};
-use token_readers::{Cursor, Halt, NameSet, PathTree, path};
+use token_readers::{Cursor, Halt, NameSet, PathTree, path, read_many};
 
 fn member_of(
     alloc: Global,
@@ -206,20 +206,15 @@ impl<F: Fn(Global, &mut Cursor<'_>, usize) -> Result<ExprTree, Halt>> Reader<F> 
         indexed(tokens)
     }
 
+    #[tactic(auto, unfolding(crate::specs::ExpressionReading::accesses))]
     fn accesses(&self, tokens: &mut Cursor<'_>) -> Result<Items<Access<Items<ExprTree>>>, Halt>
         requires { Nests self.now.levels (F.pre self.now.expr) (F.post self.now.expr) }
         ensures { ParsesTo (spec.accesses (is_positive self.now.levels) (spec.expr self.now.levels) tokens.old.rest.now)
             result tokens.new.rest.now }
     {
-        let mut found = Items::new(self.alloc);
-        for _turn in 0..tokens.left() {
-            if !tokens.sees_one_of(TokenSet::AccessStarts) {
-                return Ok(found);
-            }
-            let next = self.accessing(tokens)?;
-            found.push(next)?;
-        }
-        Ok(found)
+        read_many(self.alloc, tokens, TokenSet::AccessStarts, |tokens| {
+            self.accessing(tokens)
+        })
     }
 
     /// Primary { "." Ident [ "(" Arguments ")" ] | "[" String "]" }
@@ -277,20 +272,15 @@ impl<F: Fn(Global, &mut Cursor<'_>, usize) -> Result<ExprTree, Halt>> Reader<F> 
         self.unary(tokens)
     }
 
+    #[tactic(auto, unfolding(crate::specs::ExpressionReading::factors))]
     fn factors(&self, tokens: &mut Cursor<'_>) -> Result<Items<ExprTree>, Halt>
         requires { Nests self.now.levels (F.pre self.now.expr) (F.post self.now.expr) }
         ensures { ParsesTo (spec.factors (is_positive self.now.levels) (spec.expr self.now.levels) tokens.old.rest.now)
             result tokens.new.rest.now }
     {
-        let mut found = Items::new(self.alloc);
-        for _turn in 0..tokens.left() {
-            if !tokens.sees(TokenKind::Star) {
-                return Ok(found);
-            }
-            let next = self.factor(tokens)?;
-            found.push(next)?;
-        }
-        Ok(found)
+        read_many(self.alloc, tokens, TokenKind::Star, |tokens| {
+            self.factor(tokens)
+        })
     }
 
     /// Unary { "*" Unary }
@@ -317,20 +307,15 @@ impl<F: Fn(Global, &mut Cursor<'_>, usize) -> Result<ExprTree, Halt>> Reader<F> 
         Ok(Term { sign, operand })
     }
 
+    #[tactic(auto, unfolding(crate::specs::ExpressionReading::terms))]
     fn terms(&self, tokens: &mut Cursor<'_>) -> Result<Items<Term<ExprTree>>, Halt>
         requires { Nests self.now.levels (F.pre self.now.expr) (F.post self.now.expr) }
         ensures { ParsesTo (spec.terms (is_positive self.now.levels) (spec.expr self.now.levels) tokens.old.rest.now)
             result tokens.new.rest.now }
     {
-        let mut found = Items::new(self.alloc);
-        for _turn in 0..tokens.left() {
-            if !tokens.sees_one_of(TokenSet::Signs) {
-                return Ok(found);
-            }
-            let next = self.term(tokens)?;
-            found.push(next)?;
-        }
-        Ok(found)
+        read_many(self.alloc, tokens, TokenSet::Signs, |tokens| {
+            self.term(tokens)
+        })
     }
 
     /// Product { ("+" | "-") Product }
@@ -473,20 +458,15 @@ impl<F: Fn(Global, &mut Cursor<'_>, usize) -> Result<ExprTree, Halt>> Reader<F> 
         self.relation(tokens)
     }
 
+    #[tactic(auto, unfolding(crate::specs::ExpressionReading::ands))]
     fn ands(&self, tokens: &mut Cursor<'_>) -> Result<Items<ExprTree>, Halt>
         requires { Nests self.now.levels (F.pre self.now.expr) (F.post self.now.expr) }
         ensures { ParsesTo (spec.ands (is_positive self.now.levels) (spec.expr self.now.levels) tokens.old.rest.now)
             result tokens.new.rest.now }
     {
-        let mut found = Items::new(self.alloc);
-        for _turn in 0..tokens.left() {
-            if !tokens.sees(TokenKind::And) {
-                return Ok(found);
-            }
-            let next = self.next_and(tokens)?;
-            found.push(next)?;
-        }
-        Ok(found)
+        read_many(self.alloc, tokens, TokenKind::And, |tokens| {
+            self.next_and(tokens)
+        })
     }
 
     /// Relation { "&&" Relation }
@@ -512,20 +492,15 @@ impl<F: Fn(Global, &mut Cursor<'_>, usize) -> Result<ExprTree, Halt>> Reader<F> 
         self.conjunction(tokens)
     }
 
+    #[tactic(auto, unfolding(crate::specs::ExpressionReading::ors))]
     fn ors(&self, tokens: &mut Cursor<'_>) -> Result<Items<ExprTree>, Halt>
         requires { Nests self.now.levels (F.pre self.now.expr) (F.post self.now.expr) }
         ensures { ParsesTo (spec.ors (is_positive self.now.levels) (spec.expr self.now.levels) tokens.old.rest.now)
             result tokens.new.rest.now }
     {
-        let mut found = Items::new(self.alloc);
-        for _turn in 0..tokens.left() {
-            if !tokens.sees(TokenKind::Or) {
-                return Ok(found);
-            }
-            let next = self.next_or(tokens)?;
-            found.push(next)?;
-        }
-        Ok(found)
+        read_many(self.alloc, tokens, TokenKind::Or, |tokens| {
+            self.next_or(tokens)
+        })
     }
 
     /// And { "||" And }

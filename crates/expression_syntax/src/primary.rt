@@ -14,7 +14,7 @@ use expression_trees::{Access, Entry, ExprTree, KeyTree, Variable};
 use plain::{Boxed, Items};
 use policy_tokens::{Token, TokenKind};
 use std::alloc::Global;
-use token_readers::{Cursor, Halt, Name, NameSet, PathTree, rest_of_name};
+use token_readers::{Cursor, Halt, Name, NameSet, PathTree, read_more, rest_of_name};
 
 /// "true" | "false" | Number | String
 #[tactic(auto, unfolding(crate::specs::ExpressionReading::literal))]
@@ -122,16 +122,9 @@ impl<F: Fn(Global, &mut Cursor<'_>, usize) -> Result<ExprTree, Halt>> Reader<F> 
             first tokens.old.rest.now)
             result tokens.new.rest.now }
     {
-        let mut found = Items::new(self.alloc);
-        found.push(first)?;
-        for _turn in 0..tokens.left() {
-            if !tokens.sees(TokenKind::Comma) {
-                return Ok(found);
-            }
-            let next = self.next_argument(tokens)?;
-            found.push(next)?;
-        }
-        Ok(found)
+        read_more(self.alloc, tokens, first, TokenKind::Comma, |tokens| {
+            self.next_argument(tokens)
+        })
     }
 
     /// [ Expr { "," Expr } ]
@@ -196,16 +189,9 @@ impl<F: Fn(Global, &mut Cursor<'_>, usize) -> Result<ExprTree, Halt>> Reader<F> 
             first tokens.old.rest.now)
             result tokens.new.rest.now }
     {
-        let mut found = Items::new(self.alloc);
-        found.push(first)?;
-        for _turn in 0..tokens.left() {
-            if !tokens.sees(TokenKind::Comma) {
-                return Ok(found);
-            }
-            let next = self.next_entry(tokens)?;
-            found.push(next)?;
-        }
-        Ok(found)
+        read_more(self.alloc, tokens, first, TokenKind::Comma, |tokens| {
+            self.next_entry(tokens)
+        })
     }
 
     /// [ Key ":" Expr { "," Key ":" Expr } ]

@@ -1,7 +1,5 @@
 pub mod AddressText
 pub mod Decided
-pub mod Deciding
-pub mod DecidingTexts
 pub mod DecimalText
 pub mod Network
 pub mod NetworkText

@@ -5,7 +5,7 @@ use Rattle.extensions.specs.Decided.{Decided, found}
 use Rattle.extensions.specs.DecimalText.{IsDecimalText}
 use Rattle.extensions.specs.Network.{Network, IsWithin}
 use Rattle.extensions.specs.NetworkText.{IsNetworkText}
-use Rattle.extensions.specs.DecidingTexts as deciding
+use Rattle.extensions.specs.inner.DecidingTexts as deciding
 
 pub decimal_text_decided : (text : List ℕ) → Decided ((z : ℤ) × IsDecimalText text z)
 decimal_text_decided text = deciding.decimal_text_decided text

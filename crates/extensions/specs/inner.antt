@@ -1,1 +1,3 @@
+pub mod Deciding
+pub mod DecidingTexts
 pub mod Places

@@ -1,5 +1,5 @@
 //! IP addresses with a prefix.
-ghost use Rattle.std.specs.Prelude.{◌≡◌, ℕ, ◌+◌, ◌-◌, ◌*◌, ◌/◌, ◌^◌, ◌<◌, ◌≤◌, ◌↔◌, ◌++◌, ◌⊎◌, List, length};
+ghost use Rattle.std.specs.Prelude.{◌≡◌, ℕ, ◌+◌, ◌-◌, ◌/◌, ◌^◌, ◌<◌, ◌≤◌, ◌↔◌, ◌++◌, ◌⊎◌, List, length};
 ghost use Rattle.std.specs.Prelude.{slice_index, IsTrue, IsNone, IfSome, OnOk, OnErr, string_bytes, string_len};
 ghost use Rattle.std.specs.Prelude.{string_capacity, Some, refl};
 ghost use Rattle.std.specs.Fmt.{decimal};

@@ -7,7 +7,7 @@ ghost use Rattle.uid_json.specs.Uids.{uid_in};
 ghost use Rattle.http_streams.specs.declared.TheConstants.{REPLY_ROOM};
 ghost use Rattle.service_routes.specs.Routes.{route_stated};
 ghost use Rattle.site_runs.specs.declared.input.Input.TheVariants as input;
-ghost use Rattle.http_service.specs.Asked.{asked, hands, upon, put_asked, removal_asked, not_text};
+ghost use Rattle.http_service.specs.Asked.{asked, hands, put_asked, removal_asked, not_text};
 ghost use Rattle.http_service.specs.inner.Dealing.{Deals};
 
 use http_texts::status::Status;

@@ -13,7 +13,7 @@ use Rattle.sync_messages.specs.Summaries.{IsStamped}
 use Rattle.state_messages.specs.Messages.{state_text, updates_stated}
 use Rattle.state_messages.specs.Bodies.{OrNoMemory}
 use Rattle.state_messages.specs.declared.update.Update.{Update as SentUpdate}
-use Rattle.state_messages.specs.Updates.{IsMessage, IsRefused, IsValid, AreInRange, AreValid, stamped, shown_updates}
+use Rattle.state_messages.specs.Updates.{IsMessage, IsRefused, IsValid, AreInRange, AreValid, stamped, abstract_updates}
 use Rattle.stored_texts.specs.declared.texts.SchemaTexts.{SchemaTexts}
 use Rattle.stored_texts.specs.Texts.{ReadsPolicy, RefusesPolicy, ReadsEntity, RefusesEntity}
 use Rattle.decision_texts.specs.Refusals.{no_memory}
@@ -64,16 +64,16 @@ none_sendable s = record {
 }
 
 pub joined_sendable : (s : StatedSchema) (m t : Store) (bytes : List ℕ) (k : ℕ) → IsSendable s m → (j : Joins s m bytes t k)
-    → AreValid (λ id. ReadsPolicy s) (ReadsEntity s) (shown_updates j.came) → IsSendable s t
+    → AreValid (λ id. ReadsPolicy s) (ReadsEntity s) (abstract_updates j.came) → IsSendable s t
 joined_sendable s m t bytes k h j valid = record {
   in_range =
       subst (λ (x : Store). AreInRange (updates x)) (sym j.store_is)
-      (store_all (λ u. IsStamped (stamped u)) (updates m ++ shown_updates j.came)
-      (append_all (λ u. IsStamped (stamped u)) (updates m) (shown_updates j.came) h.in_range j.message.in_range));
+      (store_all (λ u. IsStamped (stamped u)) (updates m ++ abstract_updates j.came)
+      (append_all (λ u. IsStamped (stamped u)) (updates m) (abstract_updates j.came) h.in_range j.message.in_range));
   valid =
       subst (λ (x : Store). AreValid (λ id. ReadsPolicy s) (ReadsEntity s) (updates x)) (sym j.store_is)
-      (store_all (IsValid (λ id. ReadsPolicy s) (ReadsEntity s)) (updates m ++ shown_updates j.came)
-      (append_all (IsValid (λ id. ReadsPolicy s) (ReadsEntity s)) (updates m) (shown_updates j.came) h.valid valid));
+      (store_all (IsValid (λ id. ReadsPolicy s) (ReadsEntity s)) (updates m ++ abstract_updates j.came)
+      (append_all (IsValid (λ id. ReadsPolicy s) (ReadsEntity s)) (updates m) (abstract_updates j.came) h.valid valid));
 }
 
 -- what is written of a store whose updates are sendable is read back
@@ -81,7 +81,7 @@ pub read_back : (k : SchemaEntries) (label bytes : List ℕ) (m : Store) → lab
     → ((l b : List ℕ) (us : List Update) → updates_stated l b ≡ Ok us → AreInRange us
     → AreValid (λ id. ReadsPolicy (schema_view k)) (ReadsEntity (schema_view k)) us
     → (all : List (SentUpdate Policy Entity)) × IsMessage (λ id. ReadsPolicy (schema_view k)) (ReadsEntity (schema_view k)) l b all
-    × (shown_updates all ≡ us))
+    × (abstract_updates all ≡ us))
     → (AreInRange (updates m) → updates_stated label bytes ≡ Ok (updates m)) → IsSendable (schema_view k) m
     → IsReadBack (schema_view k) m bytes
 read_back k label bytes m named law back h =
@@ -94,8 +94,8 @@ pub merged_under : ((us vs : List Update) → store_of (updates (store_of us) ++
     → Joins s x g t j → (IsSendable s x → IsSendable s t) → text ≡ state_text s.label t
     → (IsSendable s t → IsReadBack s t text) → IsMergedUnder s f g text
 merged_under grouped s e x t f g text i j none first first_sends second second_sends is back =
-    let us = shown_updates first.came in
-    let vs = shown_updates second.came in
+    let us = abstract_updates first.came in
+    let vs = abstract_updates second.came in
     let held : x ≡ store_of us = first.store_is ∙ ap (λ l. store_of (l ++ us)) (ap updates none ∙ none_of_empty) in
     record {
       store = t;

@@ -10,7 +10,7 @@ use Rattle.stamped_store.specs.Store.{store_of}
 use Rattle.sync_messages.specs.declared.fault.MessageFault.{MessageFault}
 use Rattle.state_messages.specs.Messages.{state_text}
 use Rattle.state_messages.specs.declared.update.Update.{Update as SentUpdate}
-use Rattle.state_messages.specs.Updates.{IsRefused, shown_updates}
+use Rattle.state_messages.specs.Updates.{IsRefused, abstract_updates}
 use Rattle.stored_texts.specs.Texts.{ReadsPolicy, RefusesPolicy, ReadsEntity, RefusesEntity}
 use Rattle.decision_texts.specs.declared.refusal.Refusal.{Refusal}
 use Rattle.policy_checks.specs.Refusals.{schema_refusal}
@@ -74,7 +74,7 @@ module _ (one : schemas.OneSchema) (not_both : schemas.NotBoth) (one_refusal : s
     by_second : (us : List (SentUpdate Policy Entity)) → IsMessageOf s f us → ((vs : List (SentUpdate Policy Entity)) × IsMessageOf s g vs)
         ⊎ ((e : MessageFault) × IsFaultOf s g e) → SomeCome
     by_second us first (inl h) =
-        let m = store_of (shown_updates us ++ shown_updates h.0) in (
+        let m = store_of (abstract_updates us ++ abstract_updates h.0) in (
           merged (state_text s.label m),
           record {
             stated = s;

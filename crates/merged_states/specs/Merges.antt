@@ -7,7 +7,7 @@ use Rattle.entity_worlds.specs.declared.entity.Entity.{Entity}
 use Rattle.stamped_store.specs.Store.{Store, store_of}
 use Rattle.state_messages.specs.declared.update.Update.{Update as SentUpdate}
 use Rattle.state_messages.specs.Messages.{state_text}
-use Rattle.state_messages.specs.Updates.{shown_updates}
+use Rattle.state_messages.specs.Updates.{abstract_updates}
 use Rattle.decision_texts.specs.declared.refusal.Refusal.{Refusal}
 use Rattle.policy_checks.specs.Checks.{IsSchemaRefused}
 use Rattle.merged_states.specs.Messages.{IsMessageOf, IsMessageRefused, IsReadBack}
@@ -20,7 +20,7 @@ pub record IsStoreOfBoth (s : StatedSchema) (f g : List ℕ) (m : Store) : Type 
   pub second : List (SentUpdate Policy Entity)
   pub first_read : IsMessageOf s f first
   pub second_read : IsMessageOf s g second
-  pub store_is : m ≡ store_of (shown_updates first ++ shown_updates second)
+  pub store_is : m ≡ store_of (abstract_updates first ++ abstract_updates second)
 
 -- the first is a message, the second is none
 pub record IsSecondRefused (s : StatedSchema) (f g : List ℕ) (refusal : Refusal) : Type 0 where

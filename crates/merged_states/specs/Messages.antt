@@ -10,8 +10,7 @@ use Rattle.stamped_store.specs.Store.{Store, updates, store_of}
 use Rattle.sync_messages.specs.declared.fault.MessageFault.{MessageFault}
 use Rattle.sync_messages.specs.Faults.{code_of, place_of, within_of}
 use Rattle.state_messages.specs.declared.update.Update.{Update as SentUpdate}
-use Rattle.state_messages.specs.Messages.{state_text}
-use Rattle.state_messages.specs.Updates.{IsMessage, IsRefused, AreInRange, AreValid, shown_updates}
+use Rattle.state_messages.specs.Updates.{IsMessage, IsRefused, AreInRange, AreValid, abstract_updates}
 use Rattle.stored_texts.specs.Texts.{ReadsPolicy, RefusesPolicy, ReadsEntity, RefusesEntity}
 use Rattle.decision_texts.specs.declared.refusal.Refusal.{Refusal}
 
@@ -38,7 +37,7 @@ pub record IsMessageRefused (s : StatedSchema) (bytes : List ℕ) (refusal : Ref
 pub record Joins (s : StatedSchema) (m : Store) (bytes : List ℕ) (t : Store) (count : ℕ) : Type 0 where
   pub came : List (SentUpdate Policy Entity)
   pub message : IsMessageOf s bytes came
-  pub store_is : t ≡ store_of (updates m ++ shown_updates came)
+  pub store_is : t ≡ store_of (updates m ++ abstract_updates came)
   pub count_is : count ≡ length came
 
 -- each update of the store might stand in a message of the schema
@@ -50,4 +49,4 @@ pub record IsSendable (s : StatedSchema) (m : Store) : Type 0 where
 pub record IsReadBack (s : StatedSchema) (m : Store) (bytes : List ℕ) : Type 0 where
   pub read : List (SentUpdate Policy Entity)
   pub message : IsMessageOf s bytes read
-  pub same : shown_updates read ≡ updates m
+  pub same : abstract_updates read ≡ updates m

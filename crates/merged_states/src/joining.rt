@@ -1,11 +1,10 @@
 //! A message's updates, joined into a store.
 ghost use Rattle.std.specs.Prelude.{◌≡◌, ◌++◌, ◌∷◌, [], length, IfOk, IfErr, OnOk};
 ghost use Rattle.schema.specs.Views.{schema_view};
-ghost use Rattle.stamped_store.specs.EntryOrder.{plain_entry};
-ghost use Rattle.stamped_store.specs.Store.{shown_store, store_of, updates};
+ghost use Rattle.stamped_store.specs.Store.{abstract_store, store_of, updates};
 ghost use Rattle.decision_texts.specs.Refusals.{no_memory};
 ghost use Rattle.state_messages.specs.Messages.{state_text};
-ghost use Rattle.state_messages.specs.Updates.{shown_update, shown_updates};
+ghost use Rattle.state_messages.specs.Updates.{abstract_update, abstract_updates};
 ghost use Rattle.merged_states.specs.Messages.{IsMessageOf, IsMessageRefused, IsSendable, IsReadBack, Joins};
 ghost use Rattle.merged_states.specs.Messages.{message_refusal};
 
@@ -54,8 +53,8 @@ fn take_one(
     store: &mut PolicyStore<Policy, Entity>,
     update: Update<Policy, Entity>,
 ) -> Result<(), NoMemory>
-    ensures { OnOk result (shown_store store.new
-        ≡ store_of (updates (shown_store store.old) ++ shown_update update ∷ [])) }
+    ensures { OnOk result (abstract_store store.new
+        ≡ store_of (updates (abstract_store store.old) ++ abstract_update update ∷ [])) }
 {
     match update {
         Update::Policy { id, entry } => match store.take_policy(id.into_string(), entry) {
@@ -74,8 +73,8 @@ fn take_all(
     store: &mut PolicyStore<Policy, Entity>,
     came: Vec<Update<Policy, Entity>>,
 ) -> Result<usize, NoMemory>
-    ensures store { OnOk result (shown_store store.new
-        ≡ store_of (updates (shown_store store.old) ++ shown_updates came.items)) }
+    ensures store { OnOk result (abstract_store store.new
+        ≡ store_of (updates (abstract_store store.old) ++ abstract_updates came.items)) }
     ensures count { IfOk result (λ n. n ≡ length came.items) }
 {
     updates_have_one_store();
@@ -106,10 +105,10 @@ pub fn join_message(
     store: PolicyStore<Policy, Entity>,
     bytes: &[u8],
 ) -> Result<Joined, Refusal>
-    ensures joined { IfOk result (λ j. Joins (schema_view schema.now) (shown_store store) bytes.now
-        (shown_store j.store) j.taken) }
-    ensures sendable { IfOk result (λ j. IsSendable (schema_view schema.now) (shown_store store)
-        → IsSendable (schema_view schema.now) (shown_store j.store)) }
+    ensures joined { IfOk result (λ j. Joins (schema_view schema.now) (abstract_store store) bytes.now
+        (abstract_store j.store) j.taken) }
+    ensures sendable { IfOk result (λ j. IsSendable (schema_view schema.now) (abstract_store store)
+        → IsSendable (schema_view schema.now) (abstract_store j.store)) }
     ensures refused { IfErr result
         (λ r. (r ≡ no_memory → ⊥) → IsMessageRefused (schema_view schema.now) bytes.now r) }
 {
@@ -127,9 +126,9 @@ pub fn state_of(
     schema: &Schema,
     store: &PolicyStore<Policy, Entity>,
 ) -> Result<Vec<u8>, NoMemory>
-    ensures text { IfOk result (λ b. b.items ≡ state_text (schema_view schema.now).label (shown_store store.now)) }
-    ensures reads_back { IfOk result (λ b. IsSendable (schema_view schema.now) (shown_store store.now)
-        → IsReadBack (schema_view schema.now) (shown_store store.now) b.items) }
+    ensures text { IfOk result (λ b. b.items ≡ state_text (schema_view schema.now).label (abstract_store store.now)) }
+    ensures reads_back { IfOk result (λ b. IsSendable (schema_view schema.now) (abstract_store store.now)
+        → IsReadBack (schema_view schema.now) (abstract_store store.now) b.items) }
 {
     valid_messages_are_read::<Policy, Entity, SchemaTexts<'static>>();
     write_state(alloc, schema.label(), store)

@@ -9,12 +9,12 @@ use Rattle.schema_types.specs.Names.{full_name, is_qualified}
 abbrev pub action_type : Option (List ℕ) → List ℕ
 action_type own = full_name own (codes "Action")
 
-abbrev pub uid_of : List ℕ → List ℕ → EntityUid
-uid_of type_name id = record { type_name = type_name; id = id }
+abbrev pub action_uid : List ℕ → List ℕ → EntityUid
+action_uid type_name id = record { type_name = type_name; id = id }
 
 -- the action of this type and id, where it is declared
 abbrev pub declared_action : (EntityUid → Bool) → List ℕ → List ℕ → Option EntityUid
-declared_action is_action t id = if is_action (uid_of t id) then Some (uid_of t id) else None
+declared_action is_action t id = if is_action (action_uid t id) then Some (action_uid t id) else None
 
 abbrev pub first_of : {A : Type 0} → Option A → Option A → Option A
 first_of (Some x) later = Some x

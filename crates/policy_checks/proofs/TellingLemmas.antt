@@ -7,7 +7,7 @@ use Rattle.policy_grammar.specs.declared.policy.Policy.{Policy}
 use Rattle.schema.specs.Schemas.{StatedSchema, IsSchemaOf}
 use Rattle.authoriser.specs.Answers.{NamedPolicy}
 use Rattle.decision_texts.specs.Decisions.{named_policies, ArePoliciesOf}
-use Rattle.validator.specs.Outcomes.{CheckResult, ComesTo}
+use Rattle.validator.specs.Outcomes.{CheckResult, IsCheckResult}
 use Rattle.policy_checks.specs.Lines.{verdict_line, is_refusal}
 use Rattle.policy_checks.specs.Checks.{line_end, PolicyReport, IsReportOf, AreReportsOf, AreReportsOnFile, IsChecked}
 use Rattle.policy_checks.specs.inner.Named.{own_name, named_in, set_apart}
@@ -72,7 +72,7 @@ pub none_told : (s : StatedSchema) → AreReportsOf s [] [] false
 none_told s = record { told = []; each = tt; text_is = refl; some_refused_is = refl }
 
 -- one policy more
-told-more : (s : StatedSchema) (ps : List NamedPolicy) (p : NamedPolicy) (text : List ℕ) (refused : Bool) (o : CheckResult) → AreReportsOf s ps text refused → ComesTo s p.policy o
+told-more : (s : StatedSchema) (ps : List NamedPolicy) (p : NamedPolicy) (text : List ℕ) (refused : Bool) (o : CheckResult) → AreReportsOf s ps text refused → IsCheckResult s p.policy o
     → AreReportsOf s (ps ++ p ∷ []) (text ++ set_apart (is_none ps) (verdict_line p.id o)) (refused || is_refusal o)
 told-more s ps p text refused o was comes =
     let t : PolicyReport = record { id = p.id; outcome = o } in
@@ -108,7 +108,7 @@ none_in (p ∷ ps) = refl
 
 -- the loop's step
 pub told-step : (s : StatedSchema) (ps : List (String Global × Policy)) (i : ℕ) (p : String Global × Policy) (text new : List ℕ) (refused flag : Bool) (o : CheckResult)
-    → AreReportsOf s (named_in (take i ps)) text refused → i < length ps → p ≡ get_or ps i p → ComesTo s p.1 o
+    → AreReportsOf s (named_in (take i ps)) text refused → i < length ps → p ≡ get_or ps i p → IsCheckResult s p.1 o
     → new ≡ text ++ set_apart (i == 0) (verdict_line (string_bytes p.0) o) → flag ≡ (refused || is_refusal o)
     → AreReportsOf s (named_in (take (i + 1) ps)) new flag
 told-step s ps i p text new refused flag o was below here comes is flag_is =

@@ -9,7 +9,7 @@ use Rattle.schema_types.specs.declared.fault.SchemaFault.{SchemaFault}
 use Rattle.schema.specs.Schemas.{StatedSchema, IsSchemaOf, RefusedFor}
 use Rattle.decision_texts.specs.declared.refusal.Refusal.{Refusal}
 use Rattle.decision_texts.specs.Decisions.{ArePoliciesOf, ArePoliciesRefused, named_policies}
-use Rattle.validator.specs.Outcomes.{CheckResult, ComesTo}
+use Rattle.validator.specs.Outcomes.{CheckResult, IsCheckResult}
 use Rattle.policy_checks.specs.Refusals.{schema_refusal}
 use Rattle.policy_checks.specs.Lines.{verdict_line, is_refusal}
 
@@ -25,7 +25,7 @@ pub record PolicyReport : Type 0 where
   pub outcome : CheckResult
 
 abbrev pub IsReportOf : StatedSchema → NamedPolicy → PolicyReport → Type 0
-IsReportOf s policy told = (told.id ≡ policy.id) × ComesTo s policy.policy told.outcome
+IsReportOf s policy told = (told.id ≡ policy.id) × IsCheckResult s policy.policy told.outcome
 
 -- Each policy comes to its outcome; the text has a line for each, in their order, with a line end between each two; and
 -- it is told whether some policy is refused.

@@ -3,7 +3,7 @@ ghost use Rattle.std.specs.Prelude.{◌≡◌, ◌||◌, IfOk, IfErr};
 ghost use Rattle.schema.specs.Views.{schema_view};
 ghost use Rattle.decision_texts.specs.Refusals.{no_memory};
 ghost use Rattle.decision_texts.specs.Decisions.{ArePoliciesRefused};
-ghost use Rattle.validator.specs.Outcomes.{ComesTo};
+ghost use Rattle.validator.specs.Outcomes.{IsCheckResult};
 ghost use Rattle.policy_checks.specs.Lines.{is_refusal};
 ghost use Rattle.policy_checks.specs.Checks.{AreReportsOf, AreReportsOnFile, IsChecked, IsRefused};
 ghost use Rattle.policy_checks.specs.inner.Named.{named_in, outcome_of};
@@ -23,7 +23,7 @@ fn verdict_of(
     schema: &Schema,
     policy: &Policy,
 ) -> Result<Result<Verdict, CheckFault>, NoMemory>
-    ensures { IfOk result (λ verdict. ComesTo (schema_view schema.now) policy.now (outcome_of verdict)) }
+    ensures { IfOk result (λ verdict. IsCheckResult (schema_view schema.now) policy.now (outcome_of verdict)) }
 {
     match check(alloc, schema, policy) {
         Ok(verdict) => Ok(Ok(verdict)),

@@ -13,7 +13,7 @@ use Rattle.token_readers.specs.declared.fault.SyntaxFault.TheVariants as syntax
 use Rattle.token_readers.specs.declared.tree.UidTree.{UidTree}
 use Rattle.token_readers.specs.Kinds.{only}
 use Rattle.token_readers.specs.Lang.{Lang, at_any}
-use Rattle.token_readers.specs.Reads.{IsRefusedWithin, ComesToWithin, HasOneAnswer, HasOneAnswerWithin}
+use Rattle.token_readers.specs.Reads.{IsRefusedWithin, IsAnswerWithin, HasOneAnswer, HasOneAnswerWithin}
 use Rattle.policy_syntax.specs.passed_on.expression_syntax.{nesting_limit}
 use Rattle.policy_syntax.specs.Grammar as grammar
 use Rattle.policy_syntax.specs.Grammar.{effects}
@@ -24,6 +24,7 @@ use Rattle.policy_syntax.specs.declared.tree.PartTree.TheVariants as part
 use Rattle.policy_syntax.specs.declared.tree.ActionTree.{ActionTree}
 use Rattle.policy_syntax.specs.declared.tree.ActionTree.TheVariants as action
 use Rattle.policy_syntax.specs.declared.tree.PolicyTree.{PolicyTree}
+use Rattle.desugaring.specs.Meaning as meaning
 use Rattle.desugaring.specs.Meaning.{path_name}
 use Rattle.desugaring.specs.declared.fault.DesugarFault.{DesugarFault}
 use Rattle.desugaring.specs.Refused.{least, NoneOfNone}
@@ -98,7 +99,7 @@ module _ {A : Type 0} (L K : Lang A) (most : ℕ) (text : List ℕ) where
   unread tokens short lexed (syntax.TooDeep place) refused =
       (fault.TooDeep (byte_of text (slice_get tokens place)), record { short = short; tokens = tokens; lexed = lexed; place = place; refused = refused; byte = refl })
 
-  answered : (tokens : List Token) → length text ≤ most → IsLexed text tokens → (answer : Result A SyntaxFault) → ComesToWithin L K tokens answer → ReadOrUnread
+  answered : (tokens : List Token) → length text ≤ most → IsLexed text tokens → (answer : Result A SyntaxFault) → IsAnswerWithin L K tokens answer → ReadOrUnread
   answered tokens short lexed (Ok x) derived = inl (x, record { short = short; tokens = tokens; lexed = lexed; derived = derived })
   answered tokens short lexed (Err e) refused = inr (unread tokens short lexed e refused)
 
@@ -139,9 +140,7 @@ module _ (laws : Laws) (text : List ℕ) (ts : List Token) (lexed : IsLexed text
   string_of t stands = laws.values (spelling_of text t) (subst (λ kind. IsToken kind (spelling_of text t)) (text-kind t.kind stands.1) (spelled t stands.0))
 
   uid_of : (tree : UidTree) → WellFormedUid ts tree → (uid : EntityUid) × IsUidOf text tree uid
-  uid_of tree stands =
-      let id = string_of tree.id stands.1 in
-      (record { type_name = path_name text tree.path; id = id.0 }, record { type_name = refl; id = id.1 })
+  uid_of tree stands = (meaning.uid_of text tree, refl)
 
   uids_of : (trees : List UidTree) → AllByRecursion (WellFormedUid ts) trees → (uids : List EntityUid) × AreUidsOf text trees uids
   uids_of [] stand = ([], tt)

@@ -32,45 +32,41 @@ all_zip-same R same (x ∷ xs) (y ∷ ys) [] all these = absurd these
 all_zip-same R same (x ∷ xs) (y ∷ ys) (z ∷ zs) all these =
     ap (λ w. w ∷ ys) (same x y z all.0 these.0) ∙ ap (λ ws. z ∷ ws) (all_zip-same R same xs ys zs all.1 these.1)
 
-abbrev uid : List ℕ → List ℕ → EntityUid
-uid name id = record { type_name = name; id = id }
+pub uid-same : (text : List ℕ) (tree : UidTree) (u v : EntityUid) → IsUidOf text tree u → IsUidOf text tree v → u ≡ v
+uid-same text tree u v a b = a ∙ sym b
 
-pub uid-same : OneValue → (text : List ℕ) (tree : UidTree) (u v : EntityUid) → IsUidOf text tree u → IsUidOf text tree v → u ≡ v
-uid-same values text tree u v a b =
-    ap (λ name. uid name u.id) (a.type_name ∙ sym b.type_name) ∙ ap (uid v.type_name) (values u.id v.id (spelling_of text tree.id) a.id b.id)
+part-same : (text : List ℕ) (tree : PartTree) (s t : EntityScope) → IsEntityScopeOf text tree s → IsEntityScopeOf text tree t → s ≡ t
+part-same text part.Any entity.Any entity.Any a b = refl
+part-same text part.Any entity.Any _ a b = absurd b
+part-same text part.Any _ _ a b = absurd a
+part-same text (part.Equal tree) (entity.Equal u) (entity.Equal v) a b = ap entity.Equal (uid-same text tree u v a b)
+part-same text (part.Equal tree) (entity.Equal u) _ a b = absurd b
+part-same text (part.Equal tree) _ _ a b = absurd a
+part-same text (part.In tree) (entity.In u) (entity.In v) a b = ap entity.In (uid-same text tree u v a b)
+part-same text (part.In tree) (entity.In u) _ a b = absurd b
+part-same text (part.In tree) _ _ a b = absurd a
+part-same text (part.Is path) (entity.Is n) (entity.Is m) a b = ap entity.Is (a ∙ sym b)
+part-same text (part.Is path) (entity.Is n) _ a b = absurd b
+part-same text (part.Is path) _ _ a b = absurd a
+part-same text (part.IsIn path tree) (entity.IsIn n u) (entity.IsIn m v) a b =
+    ap (λ x. entity.IsIn x u) (a.0 ∙ sym b.0) ∙ ap (entity.IsIn m) (uid-same text tree u v a.1 b.1)
+part-same text (part.IsIn path tree) (entity.IsIn n u) _ a b = absurd b
+part-same text (part.IsIn path tree) _ _ a b = absurd a
 
-part-same : OneValue → (text : List ℕ) (tree : PartTree) (s t : EntityScope) → IsEntityScopeOf text tree s → IsEntityScopeOf text tree t → s ≡ t
-part-same values text part.Any entity.Any entity.Any a b = refl
-part-same values text part.Any entity.Any _ a b = absurd b
-part-same values text part.Any _ _ a b = absurd a
-part-same values text (part.Equal tree) (entity.Equal u) (entity.Equal v) a b = ap entity.Equal (uid-same values text tree u v a b)
-part-same values text (part.Equal tree) (entity.Equal u) _ a b = absurd b
-part-same values text (part.Equal tree) _ _ a b = absurd a
-part-same values text (part.In tree) (entity.In u) (entity.In v) a b = ap entity.In (uid-same values text tree u v a b)
-part-same values text (part.In tree) (entity.In u) _ a b = absurd b
-part-same values text (part.In tree) _ _ a b = absurd a
-part-same values text (part.Is path) (entity.Is n) (entity.Is m) a b = ap entity.Is (a ∙ sym b)
-part-same values text (part.Is path) (entity.Is n) _ a b = absurd b
-part-same values text (part.Is path) _ _ a b = absurd a
-part-same values text (part.IsIn path tree) (entity.IsIn n u) (entity.IsIn m v) a b =
-    ap (λ x. entity.IsIn x u) (a.0 ∙ sym b.0) ∙ ap (entity.IsIn m) (uid-same values text tree u v a.1 b.1)
-part-same values text (part.IsIn path tree) (entity.IsIn n u) _ a b = absurd b
-part-same values text (part.IsIn path tree) _ _ a b = absurd a
-
-action-same : OneValue → (text : List ℕ) (tree : ActionTree) (s t : ActionScope) → IsActionScopeOf text tree s → IsActionScopeOf text tree t → s ≡ t
-action-same values text action.Any actions.Any actions.Any a b = refl
-action-same values text action.Any actions.Any _ a b = absurd b
-action-same values text action.Any _ _ a b = absurd a
-action-same values text (action.Equal tree) (actions.Equal u) (actions.Equal v) a b = ap actions.Equal (uid-same values text tree u v a b)
-action-same values text (action.Equal tree) (actions.Equal u) _ a b = absurd b
-action-same values text (action.Equal tree) _ _ a b = absurd a
-action-same values text (action.In tree) (actions.In u) (actions.In v) a b = ap actions.In (uid-same values text tree u v a b)
-action-same values text (action.In tree) (actions.In u) _ a b = absurd b
-action-same values text (action.In tree) _ _ a b = absurd a
-action-same values text (action.InList trees) (actions.InList us) (actions.InList vs) a b =
-    ap actions.InList (all_zip-same (IsUidOf text) (uid-same values text) trees us vs a b)
-action-same values text (action.InList trees) (actions.InList us) _ a b = absurd b
-action-same values text (action.InList trees) _ _ a b = absurd a
+action-same : (text : List ℕ) (tree : ActionTree) (s t : ActionScope) → IsActionScopeOf text tree s → IsActionScopeOf text tree t → s ≡ t
+action-same text action.Any actions.Any actions.Any a b = refl
+action-same text action.Any actions.Any _ a b = absurd b
+action-same text action.Any _ _ a b = absurd a
+action-same text (action.Equal tree) (actions.Equal u) (actions.Equal v) a b = ap actions.Equal (uid-same text tree u v a b)
+action-same text (action.Equal tree) (actions.Equal u) _ a b = absurd b
+action-same text (action.Equal tree) _ _ a b = absurd a
+action-same text (action.In tree) (actions.In u) (actions.In v) a b = ap actions.In (uid-same text tree u v a b)
+action-same text (action.In tree) (actions.In u) _ a b = absurd b
+action-same text (action.In tree) _ _ a b = absurd a
+action-same text (action.InList trees) (actions.InList us) (actions.InList vs) a b =
+    ap actions.InList (all_zip-same (IsUidOf text) (uid-same text) trees us vs a b)
+action-same text (action.InList trees) (actions.InList us) _ a b = absurd b
+action-same text (action.InList trees) _ _ a b = absurd a
 
 effect-same : (e f : Effect) → effect_word e ≡ effect_word f → e ≡ f
 effect-same Permit Permit same = refl
@@ -84,13 +80,13 @@ scope principal action resource = record { principal = principal; action = actio
 abbrev policy : Effect → Scope → Expr → Policy
 policy effect scope condition = record { effect = effect; scope = scope; condition = condition }
 
-pub core-same : OneValue → (text : List ℕ) (tree : PolicyTree) (p q : Policy) → IsCoreOf text tree p → IsCoreOf text tree q → p ≡ q
-core-same values text tree p q a b =
+pub core-same : (text : List ℕ) (tree : PolicyTree) (p q : Policy) → IsCoreOf text tree p → IsCoreOf text tree q → p ≡ q
+core-same text tree p q a b =
     ap (λ e. policy e p.scope p.condition) (effect-same p.effect q.effect (sym a.effect ∙ b.effect))
     ∙ ap (λ s. policy q.effect s p.condition)
-    (ap (λ s. scope s p.scope.action p.scope.resource) (part-same values text tree.principal p.scope.principal q.scope.principal a.principal b.principal)
-    ∙ ap (λ s. scope q.scope.principal s p.scope.resource) (action-same values text tree.action p.scope.action q.scope.action a.action b.action)
-    ∙ ap (scope q.scope.principal q.scope.action) (part-same values text tree.resource p.scope.resource q.scope.resource a.resource b.resource))
+    (ap (λ s. scope s p.scope.action p.scope.resource) (part-same text tree.principal p.scope.principal q.scope.principal a.principal b.principal)
+    ∙ ap (λ s. scope q.scope.principal s p.scope.resource) (action-same text tree.action p.scope.action q.scope.action a.action b.action)
+    ∙ ap (scope q.scope.principal q.scope.action) (part-same text tree.resource p.scope.resource q.scope.resource a.resource b.resource))
     ∙ ap (policy q.effect q.scope) (a.condition ∙ sym b.condition)
 
 value-same : OneValue → (text : List ℕ) (o : Option Token) (v w : List ℕ) → IsValueOf text o v → IsValueOf text o w → v ≡ w
@@ -106,5 +102,5 @@ names-same values text trees ns ms =
     all_zip-same (λ (placed : ℕ × PolicyTree). IsNameOf text placed.0 placed.1)
     (λ placed n m a b. name_by-same values text placed.0 (find (is_id text) placed.1.annotations) n m a b) (enumerate_from 0 trees) ns ms
 
-pub cores-same : OneValue → (text : List ℕ) (trees : List PolicyTree) (ps qs : List Policy) → AreCoresOf text trees ps → AreCoresOf text trees qs → ps ≡ qs
-cores-same values text trees ps qs = all_zip-same (IsCoreOf text) (core-same values text) trees ps qs
+pub cores-same : (text : List ℕ) (trees : List PolicyTree) (ps qs : List Policy) → AreCoresOf text trees ps → AreCoresOf text trees qs → ps ≡ qs
+cores-same text trees ps qs = all_zip-same (IsCoreOf text) (core-same text) trees ps qs

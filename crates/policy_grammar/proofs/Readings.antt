@@ -134,7 +134,7 @@ IsAnswered {A} Stands Refused = (text : List ℕ) → ((x : A) × Stands text x)
 
 pub uid_reading : Laws → HasOneTree grammar.uid → HasOneAnswer grammar.uid → IsAnswered IsUidText IsUidRefused → HasOneReading IsUidText IsUidRefused
 uid_reading laws trees answers each = record {
-  one_value = λ text u v a b. uid-same laws.values text b.tree u v
+  one_value = λ text u v a b. uid-same text b.tree u v
       (subst (λ t. IsUidOf text t u) (derives-same grammar.uid grammar.uid most_policy_bytes text laws trees answers a.tree b.tree a.derives b.derives) a.is) b.is;
   not_both = λ text u why a refused. read-unread grammar.uid grammar.uid most_policy_bytes text laws trees answers a.tree why a.derives refused;
   one_refusal = λ text why other a b. unread-same grammar.uid grammar.uid most_policy_bytes text laws trees answers why other
@@ -195,7 +195,7 @@ policy_refusal laws trees answers text why other (inr a) (inr b) =
 pub policy_reading : Laws → HasOneTree (grammar.policy nesting_limit) → HasOneAnswerWithin (grammar.policy nesting_limit) (at_any grammar.policy) → IsAnswered IsPolicyText IsPolicyRefused
     → HasOneReading IsPolicyText IsPolicyRefused
 policy_reading laws trees answers each = record {
-  one_value = λ text p q a b. core-same laws.values text b.tree p q
+  one_value = λ text p q a b. core-same text b.tree p q
       (subst (λ t. IsPolicyOf text t p) (derives-same (grammar.policy nesting_limit) (at_any grammar.policy) most_policy_bytes text laws trees answers a.tree b.tree a.derives b.derives) a.is).core b.is.core;
   not_both = policy_both laws trees answers;
   one_refusal = policy_refusal laws trees answers;
@@ -266,7 +266,7 @@ file_value : Laws → HasOneTree (grammar.policies nesting_limit) → HasOneAnsw
 file_value laws trees answers text f g a b =
     let same = derives-same (grammar.policies nesting_limit) (at_any grammar.policies) most_file_bytes text laws trees answers a.trees b.trees a.derives b.derives in
     let are = subst (λ ts. ArePoliciesOf text ts f.0 f.1) same a.are in
-    ap (λ (ns : List (List ℕ)). both ns f.1) (names-same laws.values text b.trees f.0 g.0 are.named b.are.named) ∙ ap (both g.0) (cores-same laws.values text b.trees f.1 g.1 are.cores b.are.cores)
+    ap (λ (ns : List (List ℕ)). both ns f.1) (names-same laws.values text b.trees f.0 g.0 are.named b.are.named) ∙ ap (both g.0) (cores-same text b.trees f.1 g.1 are.cores b.are.cores)
 
 pub file_reading : Laws → HasOneTree (grammar.policies nesting_limit) → HasOneAnswerWithin (grammar.policies nesting_limit) (at_any grammar.policies) → IsAnswered IsFileOf IsFileRefused
     → HasOneReading IsFileOf IsFileRefused

@@ -13,7 +13,7 @@ use Rattle.policy_tokens.specs.declared.token.Token.{Token}
 use Rattle.policy_tokens.specs.Lexing.{spelling_of}
 use Rattle.policy_tokens.specs.Strings.{IsStringOf}
 use Rattle.token_readers.specs.declared.tree.UidTree.{UidTree}
-use Rattle.desugaring.specs.Meaning.{path_name}
+use Rattle.desugaring.specs.Meaning.{path_name, uid_of}
 use Rattle.policy_syntax.specs.declared.tree.Annotation.{Annotation}
 use Rattle.policy_syntax.specs.declared.tree.PartTree.{PartTree}
 use Rattle.policy_syntax.specs.declared.tree.PartTree.TheVariants as part
@@ -29,10 +29,9 @@ use Rattle.policy_grammar.specs.declared.policy.ActionScope.TheVariants as actio
 use Rattle.policy_grammar.specs.declared.policy.Policy.{Policy}
 use Rattle.policy_grammar.specs.Conditions.{conditions_of}
 
--- A uid is its type's name and its string's value.
-pub record IsUidOf (text : List ℕ) (tree : UidTree) (uid : EntityUid) : Type 0 where
-  pub type_name : uid.type_name ≡ path_name text tree.path
-  pub id : IsStringOf uid.id (spelling_of text tree.id)
+-- the uid that a tree of one stands for
+abbrev pub IsUidOf : List ℕ → UidTree → EntityUid → Type 0
+IsUidOf text tree uid = uid ≡ uid_of text tree
 
 abbrev pub AreUidsOf : List ℕ → List UidTree → List EntityUid → Type 0
 AreUidsOf text = AllZip (IsUidOf text)

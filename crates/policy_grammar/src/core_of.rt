@@ -13,7 +13,7 @@ ghost use Rattle.desugaring.specs.BuiltFrom.{IsBuiltFrom};
 use crate::conditions::build_conditions;
 use crate::held::beside;
 use crate::policy::{ActionScope, Effect, EntityScope, Policy, Scope};
-use desugaring::type_name;
+use desugaring::{strings_are_read, type_name};
 use plain::{Items, NoMemory};
 use policy_syntax::{ActionTree, PartTree, PathTree, PolicyTree, UidTree};
 use policy_tokens::{TokenKind, decode_string};
@@ -31,6 +31,7 @@ pub(crate) fn uid_of(alloc: Global, text: &str, tree: &UidTree) -> Result<Entity
     requires { IsBuiltFrom text.now (λ tokens. WellFormedUid tokens tree.now) }
     ensures { IfOk result (IsUidOf text.now tree.now) }
 {
+    strings_are_read();
     let type_name = type_name_of(alloc, text, &tree.path)?;
     let id = decode_string(alloc, text, tree.id)?;
     Ok(EntityUid { type_name, id })

@@ -4,7 +4,7 @@ ghost use Rattle.std.specs.List.{AllByRecursion};
 ghost use Rattle.policy_syntax.specs.WellFormed.{WellFormedPolicy};
 ghost use Rattle.policy_grammar.specs.CoreOf.{AreNamesOf};
 ghost use Rattle.desugaring.specs.Refused.{least};
-ghost use Rattle.desugaring.specs.Repeats.{repeat_faults, shown};
+ghost use Rattle.desugaring.specs.Repeats.{repeat_faults, abstract_names};
 ghost use Rattle.desugaring.specs.BuiltFrom.{IsBuiltFrom};
 ghost use Rattle.policy_grammar.specs.Repeats.{annotation_marks, policy_marks, start_of};
 ghost use Rattle.policy_grammar.specs.inner.Parts.{has_id, looks_placed, meets_place, doubtful_marks};
@@ -23,7 +23,7 @@ fn marks_of_annotations<'a>(
     tree: &PolicyTree,
 ) -> Result<Vec<NameAt<'a>>, NoMemory>
     requires { IsBuiltFrom text.now (λ tokens. WellFormedPolicy tokens tree.now) }
-    ensures { IfOk result (λ marks. shown marks.items ≡ annotation_marks text.entry.now tree.now) }
+    ensures { IfOk result (λ marks. abstract_names marks.items ≡ annotation_marks text.entry.now tree.now) }
 {
     let mut marks = Vec::new(alloc);
     for annotation in tree.annotations.as_slice() {
@@ -98,7 +98,8 @@ fn doubtful_marks<'a>(
 ) -> Result<Vec<NameAt<'a>>, NoMemory>
     requires same { length names.now ≡ length trees.now }
     requires stands { IsBuiltFrom text.now (λ tokens. AllByRecursion (WellFormedPolicy tokens) trees.now) }
-    ensures { IfOk result (λ marks. shown marks.items ≡ doubtful_marks text.now wide names.entry.now trees.now) }
+    ensures { IfOk result
+        (λ marks. abstract_names marks.items ≡ doubtful_marks text.now wide names.entry.now trees.now) }
 {
     let mut marks = Vec::new(alloc);
     for (i, tree) in trees.iter().enumerate() {

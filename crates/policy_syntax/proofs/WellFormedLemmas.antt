@@ -16,7 +16,7 @@ use Rattle.token_readers.specs.Lang.{Lang}
 use Rattle.token_readers.specs.declared.fault.SyntaxFault.{SyntaxFault}
 use Rattle.token_readers.specs.Reads.{Reads, ReadsWithin}
 use Rattle.policy_syntax.specs.Grammar as g
-use Rattle.policy_syntax.specs.Grammar.{identifiers, words, effects, condition_word_of, is_in}
+use Rattle.policy_syntax.specs.Grammar.{words, effects, condition_word_of, is_in}
 use Rattle.policy_syntax.specs.WellFormed.{WellFormedPath, WellFormedUid, WellFormedValue, WellFormedAnnotation, WellFormedPart, WellFormedAction, WellFormedCondition, WellFormedPolicy}
 use Rattle.token_readers.proofs.WellFormedLemmas.{Makes, token_in, nothing_in, both_in, past_in, giving_in, or_in, maybe_in, many_in, path_in, uid_in}
 use Rattle.expression_syntax.proofs.Published.{expr_in, symbol_in}

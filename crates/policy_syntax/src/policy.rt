@@ -13,7 +13,7 @@ use expression_syntax::{NESTING_LIMIT, beside, expr, take_symbol};
 use plain::Items;
 use policy_tokens::{Token, TokenKind};
 use std::alloc::Global;
-use token_readers::{Cursor, Halt};
+use token_readers::{Cursor, Halt, read_many};
 
 #[tactic(auto, unfolding(crate::specs::inner::Parsing::maybe_text))]
 fn maybe_text(tokens: &mut Cursor<'_>) -> Result<Option<Token>, Halt>
@@ -62,18 +62,11 @@ fn annotation(tokens: &mut Cursor<'_>) -> Result<Annotation, Halt>
     Ok(Annotation { at, key, value })
 }
 
+#[tactic(auto, unfolding(crate::specs::inner::Parsing::annotations))]
 fn annotations(alloc: Global, tokens: &mut Cursor<'_>) -> Result<Items<Annotation>, Halt>
     ensures { ParsesTo (spec.annotations tokens.old.rest.now) result tokens.new.rest.now }
 {
-    let mut found = Items::new(alloc);
-    for _turn in 0..tokens.left() {
-        if !tokens.sees(TokenKind::At) {
-            return Ok(found);
-        }
-        let next = annotation(tokens)?;
-        found.push(next)?;
-    }
-    Ok(found)
+    read_many(alloc, tokens, TokenKind::At, annotation)
 }
 
 /// ("when" | "unless") "{" Expr "}"
@@ -88,18 +81,13 @@ fn condition(alloc: Global, tokens: &mut Cursor<'_>) -> Result<Condition, Halt>
     Ok(Condition { word, expression })
 }
 
+#[tactic(auto, unfolding(crate::specs::inner::Parsing::conditions))]
 fn conditions(alloc: Global, tokens: &mut Cursor<'_>) -> Result<Items<Condition>, Halt>
     ensures { ParsesTo (spec.conditions nesting_limit tokens.old.rest.now) result tokens.new.rest.now }
 {
-    let mut found = Items::new(alloc);
-    for _turn in 0..tokens.left() {
-        if !tokens.sees_one_of(PolicySet::ConditionWords) {
-            return Ok(found);
-        }
-        let next = condition(alloc, tokens)?;
-        found.push(next)?;
-    }
-    Ok(found)
+    read_many(alloc, tokens, PolicySet::ConditionWords, |tokens| {
+        condition(alloc, tokens)
+    })
 }
 
 /// What stands behind a policy's scope.
@@ -144,16 +132,11 @@ pub(crate) fn policy(alloc: Global, tokens: &mut Cursor<'_>) -> Result<PolicyTre
 }
 
 /// A file: any number of policies.
+#[tactic(auto, unfolding(crate::specs::inner::Parsing::policies))]
 pub(crate) fn policies(alloc: Global, tokens: &mut Cursor<'_>) -> Result<Items<PolicyTree>, Halt>
     ensures { ParsesTo (spec.policies nesting_limit tokens.old.rest.now) result tokens.new.rest.now }
 {
-    let mut found = Items::new(alloc);
-    for _turn in 0..tokens.left() {
-        if !tokens.sees_one_of(PolicySet::PolicyStarts) {
-            return Ok(found);
-        }
-        let next = policy(alloc, tokens)?;
-        found.push(next)?;
-    }
-    Ok(found)
+    read_many(alloc, tokens, PolicySet::PolicyStarts, |tokens| {
+        policy(alloc, tokens)
+    })
 }

@@ -8,7 +8,7 @@ use expression_syntax::beside;
 use plain::Items;
 use policy_tokens::TokenKind;
 use std::alloc::Global;
-use token_readers::{Cursor, Halt, NameSet, UidTree, path, uid};
+use token_readers::{Cursor, Halt, NameSet, UidTree, path, read_more, uid};
 
 /// "==" Uid
 #[tactic(auto, unfolding(crate::specs::inner::Parsing::equal_uid))]
@@ -89,16 +89,9 @@ fn rest_of_uids(
 ) -> Result<Items<UidTree>, Halt>
     ensures { ParsesTo (spec.rest_of_uids first tokens.old.rest.now) result tokens.new.rest.now }
 {
-    let mut found = Items::new(alloc);
-    found.push(first)?;
-    for _turn in 0..tokens.left() {
-        if !tokens.sees(TokenKind::Comma) {
-            return Ok(found);
-        }
-        let next = comma_uid(alloc, tokens)?;
-        found.push(next)?;
-    }
-    Ok(found)
+    read_more(alloc, tokens, first, TokenKind::Comma, |tokens| {
+        comma_uid(alloc, tokens)
+    })
 }
 
 /// [ Uid { "," Uid } ]

@@ -1,5 +1,5 @@
 //! The token at the front of a text.
-ghost use Rattle.std.specs.Prelude.{◌≡◌, ◌∷◌, ◌<◌, ◌++◌, List, length, codes, ℕ};
+ghost use Rattle.std.specs.Prelude.{◌≡◌, ◌<◌, ◌++◌, List, codes, ℕ};
 ghost use Rattle.policy_tokens.specs.inner.Reading.{TellsToken, mark_of};
 
 use crate::quoted::quoted;

@@ -1,5 +1,5 @@
 //! What strings stand for.
-ghost use Rattle.std.specs.Prelude.{◌≡◌, ◌≤◌, List, IfOk, length, encode_utf8, true};
+ghost use Rattle.std.specs.Prelude.{◌≡◌, ◌≤◌, List, IfOk, length, true};
 ghost use Rattle.policy_tokens.specs.Lexing.{IsSpelledIn, spelling_of, IsBody};
 ghost use Rattle.plain.specs.Words.{run};
 ghost use Rattle.policy_tokens.specs.inner.Reading.{is_plain, character_of, IsLiteral};

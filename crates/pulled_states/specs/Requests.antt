@@ -8,7 +8,7 @@ use Rattle.entity_worlds.specs.declared.entity.Entity.{Entity}
 use Rattle.stamped_store.specs.Store.{Store, store_of}
 use Rattle.stamped_store.specs.Deltas.{summary_of}
 use Rattle.state_messages.specs.declared.update.Update.{Update as SentUpdate}
-use Rattle.state_messages.specs.Updates.{shown_updates}
+use Rattle.state_messages.specs.Updates.{abstract_updates}
 use Rattle.sync_messages.specs.Summaries.{summary_text}
 use Rattle.merged_states.specs.Messages.{IsMessageOf}
 
@@ -16,7 +16,7 @@ use Rattle.merged_states.specs.Messages.{IsMessageOf}
 abbrev pub Holds : StatedSchema → Option (List ℕ) → Store → Type 0
 Holds s None m = m ≡ store_of []
 Holds s (Some bytes) m = (us : List (SentUpdate Policy Entity)) × IsMessageOf s bytes us
-    × (m ≡ store_of (shown_updates us))
+    × (m ≡ store_of (abstract_updates us))
 
 -- this summary, posted to the host
 unfoldable pub delta_request : List ℕ → List ℕ → List ℕ

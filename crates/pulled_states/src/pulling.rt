@@ -2,7 +2,7 @@
 ghost use Rattle.std.specs.Prelude.{◌≡◌, ◌≢◌, ◌⊎◌, ℕ, List, Ok, Err, IfOk, IfErr, OnErr, MatchResult, option_map};
 ghost use Rattle.schema.specs.Schemas.{StatedSchema};
 ghost use Rattle.schema.specs.Views.{schema_view};
-ghost use Rattle.stamped_store.specs.Store.{Store, shown_store};
+ghost use Rattle.stamped_store.specs.Store.{Store, abstract_store};
 ghost use Rattle.decision_texts.specs.declared.refusal.Refusal.{Refusal};
 ghost use Rattle.decision_texts.specs.Refusals.{no_memory};
 ghost use Rattle.merged_states.specs.Messages.{IsMessageRefused, IsSendable};
@@ -39,8 +39,8 @@ fn store_in(
     state: Option<&[u8]>,
 ) -> Result<PolicyStore<Policy, Entity>, Refusal>
     ensures holds { IfOk result (λ m. Holds (schema_view schema.now) (option_map (λ b. b.now) state.entry)
-        (shown_store m)) }
-    ensures sendable { IfOk result (λ m. IsSendable (schema_view schema.now) (shown_store m)) }
+        (abstract_store m)) }
+    ensures sendable { IfOk result (λ m. IsSendable (schema_view schema.now) (abstract_store m)) }
     ensures refused { IfErr result (λ r. (r ≡ no_memory → ⊥)
         → IsStateRefused (schema_view schema.now) (option_map (λ b. b.now) state.entry) r) }
 {
@@ -63,9 +63,9 @@ fn take_reply(
     store: PolicyStore<Policy, Entity>,
     message: &[u8],
 ) -> Result<Pulled, Refusal>
-    requires { IsSendable (schema_view schema.now) (shown_store store) }
-    ensures pulled { IfOk result (λ p. IsPulled (schema_view schema.now) (shown_store store) message.now p.state.items
-        p.taken) }
+    requires { IsSendable (schema_view schema.now) (abstract_store store) }
+    ensures pulled { IfOk result
+        (λ p. IsPulled (schema_view schema.now) (abstract_store store) message.now p.state.items p.taken) }
     ensures refused { IfErr result
         (λ r. (r ≡ no_memory → ⊥) → IsMessageRefused (schema_view schema.now) message.now r) }
 {
@@ -94,15 +94,15 @@ fn news_for<R: Source, W: Sink>(
     writer: &mut W,
 ) -> Result<Vec<u8>, PullFault>
     ensures answered { IfOk result (λ body. IsAnswered R.left R.reads W.holds
-        (request_for host.now (schema_view schema.now) (shown_store store.now)) reader.old reader.new writer.old
+        (request_for host.now (schema_view schema.now) (abstract_store store.now)) reader.old reader.new writer.old
         writer.new 200 body.items) }
     ensures refused { (r : Refusal) → result ≡ Err (PullFault.Refused r) → r ≡ no_memory }
     ensures network { (f : NetworkFault) → result ≡ Err (PullFault.Network f)
         → IsUnanswered R.left R.reads R.failed R.fails W.holds W.failed W.fails
-        (request_for host.now (schema_view schema.now) (shown_store store.now)) reader.old reader.new writer.old
+        (request_for host.now (schema_view schema.now) (abstract_store store.now)) reader.old reader.new writer.old
         writer.new f }
     ensures err { OnErr result (((reader.new ≡ reader.old) × (writer.new ≡ writer.old)) ⊎ IsBegun R.left W.holds
-        (request_for host.now (schema_view schema.now) (shown_store store.now)) reader.old reader.new writer.old
+        (request_for host.now (schema_view schema.now) (abstract_store store.now)) reader.old reader.new writer.old
         writer.new) }
     ensures reads { result ≢ Err (PullFault.Network NetworkFault.Read) → R.failed reader.new ≡ R.failed reader.old }
     ensures writes { result ≢ Err (PullFault.Network NetworkFault.Write) → W.failed writer.new ≡ W.failed writer.old }
@@ -122,22 +122,22 @@ fn pull_under<R: Source, W: Sink>(
     reader: &mut R,
     writer: &mut W,
 ) -> Result<Pulled, PullFault>
-    requires { IsSendable (schema_view schema.now) (shown_store store) }
+    requires { IsSendable (schema_view schema.now) (abstract_store store) }
     ensures pulled { IfOk result (λ p. (body : List ℕ) × IsAnswered R.left R.reads W.holds
-        (request_for host.now (schema_view schema.now) (shown_store store)) reader.old reader.new writer.old
+        (request_for host.now (schema_view schema.now) (abstract_store store)) reader.old reader.new writer.old
         writer.new 200 body
-        × IsPulled (schema_view schema.now) (shown_store store) body p.state.items p.taken) }
+        × IsPulled (schema_view schema.now) (abstract_store store) body p.state.items p.taken) }
     ensures refused { (r : Refusal) → result ≡ Err (PullFault.Refused r) → r ≢ no_memory
         → (body : List ℕ) × IsAnswered R.left R.reads W.holds
-        (request_for host.now (schema_view schema.now) (shown_store store)) reader.old reader.new writer.old
+        (request_for host.now (schema_view schema.now) (abstract_store store)) reader.old reader.new writer.old
         writer.new 200 body
         × IsMessageRefused (schema_view schema.now) body r }
     ensures network { (f : NetworkFault) → result ≡ Err (PullFault.Network f)
         → IsUnanswered R.left R.reads R.failed R.fails W.holds W.failed W.fails
-        (request_for host.now (schema_view schema.now) (shown_store store)) reader.old reader.new writer.old
+        (request_for host.now (schema_view schema.now) (abstract_store store)) reader.old reader.new writer.old
         writer.new f }
     ensures err { OnErr result (((reader.new ≡ reader.old) × (writer.new ≡ writer.old)) ⊎ IsBegun R.left W.holds
-        (request_for host.now (schema_view schema.now) (shown_store store)) reader.old reader.new writer.old
+        (request_for host.now (schema_view schema.now) (abstract_store store)) reader.old reader.new writer.old
         writer.new) }
     ensures reads { result ≢ Err (PullFault.Network NetworkFault.Read) → R.failed reader.new ≡ R.failed reader.old }
     ensures writes { result ≢ Err (PullFault.Network NetworkFault.Write) → W.failed writer.new ≡ W.failed writer.old }

@@ -23,7 +23,7 @@ use Rattle.schema_names.specs.Naming.{StatesNamed}
 use Rattle.schema_names.specs.Laws as names
 use Rattle.schema_parts.specs.declared.parts.Place.{Place}
 use Rattle.schema.specs.Schemas as schemas
-use Rattle.schema.specs.Schemas.{EnvironmentOf, StatedSchema, Answers, IsAction, IsShape, IsEnvironment, IsPlace, Applies, IsRecordOf, IsWritten, StandsIn, IsSound, IsUnsound, IsSchemaOf, action_parents, type_parents, type_uid, with_types, place_cmp}
+use Rattle.schema.specs.Schemas.{EnvironmentOf, StatedSchema, Answers, IsAction, IsEnvironment, IsPlace, IsRecordOf, IsSound, IsUnsound, IsSchemaOf, action_parents, type_parents, type_uid, place_cmp}
 use Rattle.schema.specs.Outcomes as outcomes
 use Rattle.schema.specs.Outcomes.{SchemaOrRefusal, SomeOutcome}
 use Rattle.schema_parts.specs.Places.{place_of}

@@ -1,7 +1,6 @@
 -- What actions and entity types are called, and that the actions above an action are declared.
 use Rattle.std.proofs.Common.{◌≡◌, ◌∙◌, ℕ, suc, List, [], ◌∷◌, ◌++◌, map, Option, Some, None, Result, Ok, Err, Bool, true, false, not, cond, refl, sym, ap, subst, inl, inr}
 use Rattle.std.specs.Prelude.{◌⊎◌, Contains, codes, ⊤, ◌==◌, ◌||◌}
-use Rattle.std.specs.List.{list_any}
 use Rattle.std.specs.Str.{bytes_eq}
 use Rattle.std.specs.Ordering.{is_eq}
 use Rattle.serde_json.specs.Data.{Data, Members, no_members, member}
@@ -15,7 +14,7 @@ use Rattle.values.specs.Paths.{is_path}
 use Rattle.ancestor_closure.specs.Deciding.{Contains-here, Contains-there, Contains-none, Contains-cases, any_at, same_uid}
 use Rattle.schema_types.specs.Names.{is_qualified, full_name}
 use Rattle.schema_types.specs.TypeShape.{type_name}
-use Rattle.named_types.specs.Actions.{action_type, uid_of, declared_action, first_of, action_of_type}
+use Rattle.named_types.specs.Actions.{action_type, action_uid, declared_action, first_of, action_of_type}
 use Rattle.schema_types.specs.declared.fault.SchemaFault.{SchemaFault}
 use Rattle.schema_types.specs.declared.fault.SchemaFault.TheVariants.{BadShape, UnknownName}
 use Rattle.schema_types.specs.Raw.{Raw}
@@ -249,15 +248,15 @@ entity_type_found s own e f h =
 
 -- an action as it was stated: its uid, and its parents
 record IsStated (is_action : EntityUid → Bool) (own : Option (List ℕ)) (a : ActionOf) (f : FoundAction) : Type 0 where
-  uid : f.uid ≡ uid_of (action_type own) a.id
+  uid : f.uid ≡ action_uid (action_type own) a.id
   parents : parents_named is_action own a.parents ≡ Ok f.parents
 
 action_found : (s : Scope) (is_action : EntityUid → Bool) (own : Option (List ℕ)) (a : ActionOf) (f : FoundAction) → qualified_action s is_action own a ≡ Ok f → IsStated is_action own a f
 unfolding qualified_action
 action_found s is_action own a f h =
-    let one = bound (parents_named is_action own a.parents) (λ (parents : List EntityUid). use_named s own a.applies_to >>= λ (applies_to : Option FoundUse). Ok (record { uid = uid_of (action_type own) a.id; parents = parents; applies_to = applies_to })) f h in
-    let two = bound (use_named s own a.applies_to) (λ (applies_to : Option FoundUse). Ok (record { uid = uid_of (action_type own) a.id; parents = one.0; applies_to = applies_to })) f one.2 in
-    let made : FoundAction = record { uid = uid_of (action_type own) a.id; parents = one.0; applies_to = two.0 } in
+    let one = bound (parents_named is_action own a.parents) (λ (parents : List EntityUid). use_named s own a.applies_to >>= λ (applies_to : Option FoundUse). Ok (record { uid = action_uid (action_type own) a.id; parents = parents; applies_to = applies_to })) f h in
+    let two = bound (use_named s own a.applies_to) (λ (applies_to : Option FoundUse). Ok (record { uid = action_uid (action_type own) a.id; parents = one.0; applies_to = applies_to })) f one.2 in
+    let made : FoundAction = record { uid = action_uid (action_type own) a.id; parents = one.0; applies_to = two.0 } in
     let same : made ≡ f = cc (two.2) in
     subst (λ (x : FoundAction). IsStated is_action own a x) same (record { uid = refl; parents = one.1 })
 
@@ -266,12 +265,12 @@ action_found s is_action own a f h =
 some_is : (u w : EntityUid) → Some u ≡ Some w → u ≡ w
 some_is u w e = cc
 
-declared_is : (is_action : EntityUid → Bool) (t id : List ℕ) (b : Bool) (u : EntityUid) → is_action (uid_of t id) ≡ b → cond b (Some (uid_of t id)) None ≡ Some u → is_action u ≡ true
-declared_is is_action t id true u is h = subst (λ (x : EntityUid). is_action x ≡ true) (some_is (uid_of t id) u h) is
+declared_is : (is_action : EntityUid → Bool) (t id : List ℕ) (b : Bool) (u : EntityUid) → is_action (action_uid t id) ≡ b → cond b (Some (action_uid t id)) None ≡ Some u → is_action u ≡ true
+declared_is is_action t id true u is h = subst (λ (x : EntityUid). is_action x ≡ true) (some_is (action_uid t id) u h) is
 declared_is is_action t id false u is h = absurd cc
 
 of_declared : (is_action : EntityUid → Bool) (t id : List ℕ) (u : EntityUid) → declared_action is_action t id ≡ Some u → is_action u ≡ true
-of_declared is_action t id u h = declared_is is_action t id (is_action (uid_of t id)) u refl h
+of_declared is_action t id u h = declared_is is_action t id (is_action (action_uid t id)) u refl h
 
 first_is : (o p : Option EntityUid) (u : EntityUid) → first_of o p ≡ Some u → (o ≡ Some u) ⊎ (p ≡ Some u)
 first_is (Some x) p u h = inl h
@@ -326,8 +325,8 @@ module _ (ns : List NamespaceOf) (parts : List FoundSchema) (all : qualified_nam
   declared_at : (u : EntityUid) → Contains (actions_declared ns) u → IsAction (together parts) u
   unfolding qualified_actions
   declared_at u c =
-      let at = from_all (λ (n : NamespaceOf). map (λ (a : ActionOf). uid_of (action_type n.name) a.id) n.actions) ns u c in
-      let a = contains_map (λ (a : ActionOf). uid_of (action_type at.0.name) a.id) at.0.actions u at.2 in
+      let at = from_all (λ (n : NamespaceOf). map (λ (a : ActionOf). action_uid (action_type n.name) a.id) n.actions) ns u c in
+      let a = contains_map (λ (a : ActionOf). action_uid (action_type at.0.name) a.id) at.0.actions u at.2 in
       let p = part_to at.0 at.1 in
       let to = each_to (λ i x. qualified_action (scope_in ns) (is_action_in ns) at.0.name x) 0 at.0.actions p.0.actions p.2.actions a.0 a.1 in
       let is = action_found (scope_in ns) (is_action_in ns) at.0.name a.0 to.1 to.3 in

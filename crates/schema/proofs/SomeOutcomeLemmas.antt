@@ -22,7 +22,7 @@ use Rattle.schema_names.specs.Qualifying.{FoundEntityType, FoundUse, FoundAction
 use Rattle.schema_names.specs.Laws as names
 use Rattle.schema_names.specs.Laws.{DeclaresOnce, NamesItsOwn}
 use Rattle.schema.specs.Schemas as schemas
-use Rattle.schema.specs.Schemas.{EnvironmentOf, StatedSchema, Answers, IsAction, IsShape, IsEnvironment, IsPlace, Applies, IsRecordOf, IsWritten, StandsIn, SomeActionIsOnCycle, SomeTypeIsTooLarge, IsSound, IsUnsound, IsSchemaOf, action_parents, type_parents, type_uid, with_actions, with_types, place_cmp}
+use Rattle.schema.specs.Schemas.{IsWritten, StandsIn, SomeActionIsOnCycle, SomeTypeIsTooLarge, IsSound, IsUnsound, type_uid, with_actions, with_types}
 use Rattle.schema.proofs.HierarchyLemmas.{first_edge, has_parent}
 use Rattle.schema.proofs.InOrder.{in_order, in_order_ascends, from_in_order, all_in_order}
 

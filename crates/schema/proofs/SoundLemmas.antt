@@ -6,13 +6,13 @@ use Rattle.schema_types.specs.Cedar.{Cedar}
 use Rattle.schema_types.specs.WrittenOut as written
 use Rattle.schema_types.specs.WrittenOut.{Declarations, Declares, WrittenOut}
 use Rattle.written_types.specs.Knowledge.{Knowledge, AreWritten, AreWhole}
-use Rattle.schema_types.specs.Outcome.{SomeHasNoEnd, SomeIsTooLarge, CommonsRefused, SizesRefused, TypeRefused, IsLarge}
+use Rattle.schema_types.specs.Outcome.{SomeHasNoEnd, CommonsRefused, SizesRefused, TypeRefused}
 use Rattle.schema_types.specs.Outcome as outcome
 use Rattle.schema_types.specs.declared.fault.SchemaFault.{SchemaFault}
 use Rattle.schema_types.specs.declared.fault.SchemaFault.TheVariants.{ActionCycle}
 use Rattle.schema_names.specs.Qualifying.{FoundSchema}
 use Rattle.schema_names.specs.Laws.{IsShapeOrContext}
-use Rattle.schema.specs.Schemas.{SomeActionIsOnCycle, SomeTypeIsTooLarge, StandsIn, IsWritten, IsSound, IsUnsound}
+use Rattle.schema.specs.Schemas.{SomeActionIsOnCycle, StandsIn, IsWritten, IsSound, IsUnsound}
 use Rattle.schema.specs.Schemas as schemas
 use Rattle.schema.specs.declared.reading.Types.{Types}
 use Rattle.schema.specs.inner.Reading.{AreTypesOf, TypesRefused, EdgesRefused}

@@ -12,7 +12,7 @@ use Rattle.schema_types.specs.Ascending.{Ascend, KeysAscend}
 use Rattle.schema_types.specs.AscendingLaw.{WrittenTypesAscend}
 use Rattle.schema_types.specs.Law.{OneWritten, WrittenEntitiesAreNamed}
 use Rattle.schema_types.specs.Mentions.{MentionsEntity, NamesEntity}
-use Rattle.schema_names.specs.Qualifying.{FoundEntityType, FoundAction, FoundSchema}
+use Rattle.schema_names.specs.Qualifying.{FoundEntityType, FoundSchema}
 use Rattle.schema_names.specs.Laws as names
 use Rattle.schema_names.specs.Laws.{IsShapeOrContext, DeclaresOnce, TypesAscend, IsEntityType, NamesItsEntityTypes}
 use Rattle.schema.specs.Schemas.{StatedSchema, Answers, IsAction, IsRecordOf, IsSound, shape_or_context, action_parents, type_parents, type_uid}

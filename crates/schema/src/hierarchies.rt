@@ -2,7 +2,7 @@
 ghost use Rattle.std.specs.Prelude.{◌≡◌, ℕ, List, IfOk, OnOk, map};
 ghost use Rattle.std.specs.BTreeMap.{keys};
 ghost use Rattle.std.specs.BTreeSet.{contains};
-ghost use Rattle.values.specs.Names.{uid_cmp, text_cmp};
+ghost use Rattle.values.specs.Names.{text_cmp};
 ghost use Rattle.ancestor_closure.specs.Hierarchy.{IsAllAbove, IsAscending, names, no_parents, with_parents};
 ghost use Rattle.ancestor_closure.specs.contracts.searched.SearchedAncestry.TheImpl as searched;
 ghost use Rattle.schema_names.specs.FoundViews.{found_action_view, found_entity_type_view};

@@ -8,7 +8,7 @@ ghost use Rattle.written_types.specs.Knowledge.{AreWritten};
 ghost use Rattle.written_types.specs.TableViews.{knowledge};
 ghost use Rattle.schema_types.specs.declared.fault.SchemaFault.TheVariants as SchemaFault;
 ghost use Rattle.schema_names.specs.FoundViews.{found_entity_type_view};
-ghost use Rattle.schema.specs.inner.Making.{IsClosedAt, IsMade, IsRefusedAt, AddsShape, AddsShapes, AreShapesClosed};
+ghost use Rattle.schema.specs.inner.Making.{IsClosedAt, IsMade, IsRefusedAt, AddsShape, AreShapesClosed};
 ghost use Rattle.schema.specs.inner.Making.{SomeShapeIsRefused, AreShapes};
 
 use crate::maps::put;

@@ -63,7 +63,7 @@ module _ (laws : Laws) where
   later s place p ps passes (inl all) = inl (All-cons (Passes s) p ps passes all)
   later s place p ps passes (inr first) = inr (first.0, unpassed_later passes first.1)
 
-  by_check : (s : StatedSchema) (place : ℕ) (p : Policy) (ps : List Policy) (o : checks.CheckResult) → checks.ComesTo s p o → AllOrFirst s (suc place) ps
+  by_check : (s : StatedSchema) (place : ℕ) (p : Policy) (ps : List Policy) (o : checks.CheckResult) → checks.IsCheckResult s p o → AllOrFirst s (suc place) ps
       → AllOrFirst s place (p ∷ ps)
   by_check s place p ps (checks.passes b) is rest = later s place p ps is.passes rest
   by_check s place p ps (checks.refused f) is rest = inr (check_refusal place f, unpassed_here (record { fault = f; due = is; is = refl }))

@@ -1,9 +1,9 @@
 //! The line of the answer to a request.
-ghost use Rattle.std.specs.Prelude.{◌≡◌, IfOk, IfErr, Some, map, string_bytes};
+ghost use Rattle.std.specs.Prelude.{IfOk, IfErr, map, string_bytes};
 ghost use Rattle.authoriser.specs.Answers.{IsAnswer};
 ghost use Rattle.authoriser.specs.Views.{named};
 ghost use Rattle.schema.specs.Views.{schema_view};
-ghost use Rattle.decision_texts.specs.Decisions.{named_policies, IsInOrder};
+ghost use Rattle.decision_texts.specs.Decisions.{named_policies};
 ghost use Rattle.schema_decisions.specs.Refusals.{OrNoMemory};
 ghost use Rattle.schema_decisions.specs.Requests.{IsRequestRefused};
 ghost use Rattle.schema_decisions.specs.Decisions.{IsAnswerTo, IsAnswered, IsUnanswered};

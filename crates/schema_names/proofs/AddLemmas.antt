@@ -14,7 +14,7 @@ use Rattle.named_types.specs.declared.names.Names.{Names}
 use Rattle.schema_types.specs.Names.{full_name}
 use Rattle.schema_file.specs.Stated.{NamespaceOf}
 use Rattle.schema_names.specs.Qualifying.{common_in, commons_declared, entity_types_declared, actions_declared}
-use Rattle.named_types.specs.Actions.{action_type, uid_of}
+use Rattle.named_types.specs.Actions.{action_type, action_uid}
 use Rattle.schema_names.specs.inner.Adding.{has_name, has_uid, Adds, AddsNamespace, AddsAll, Declares, any_common, any_name, any_uid}
 
 pub or_cond : (b x : Bool) → cond b true x ≡ (b || x)
@@ -56,8 +56,8 @@ all_before n ns cur new last h k = record {
       (λ q. any_both (λ e. bytes_eq e q) (map (λ e. full_name n.name e.name) n.entity_types) (entity_types_declared ns))
       (adds_before has_name (any_name (map (λ e. full_name n.name e.name) n.entity_types)) (any_name (entity_types_declared ns)) cur.entities new.entities last.entities h.entities k.entities);
   actions = adds_by has_uid _ (any_uid (actions_declared (n ∷ ns))) cur.actions last.actions
-      (λ u. any_both (λ a. is_eq (uid_cmp a u)) (map (λ a. uid_of (action_type n.name) a.id) n.actions) (actions_declared ns))
-      (adds_before has_uid (any_uid (map (λ a. uid_of (action_type n.name) a.id) n.actions)) (any_uid (actions_declared ns)) cur.actions new.actions last.actions h.actions k.actions);
+      (λ u. any_both (λ a. is_eq (uid_cmp a u)) (map (λ a. action_uid (action_type n.name) a.id) n.actions) (actions_declared ns))
+      (adds_before has_uid (any_uid (map (λ a. action_uid (action_type n.name) a.id) n.actions)) (any_uid (actions_declared ns)) cur.actions new.actions last.actions h.actions k.actions);
 }
 
 pub all_none : (names : Names) → AddsAll [] names names

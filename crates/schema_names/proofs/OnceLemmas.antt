@@ -25,7 +25,7 @@ use Rattle.schema_types.specs.declared.fault.SchemaFault.TheVariants.{BadShape}
 use Rattle.schema_file.specs.Once.{AreApart, StatesOnce, AllStateOnce}
 use Rattle.schema_file.specs.Stated.{EntityTypeOf, ActionOf, NamespaceOf, ident, is_common, common_of, commons_of, entity_type_name, entity_type_of, entity_types_of, names_in, type_in, members_in, commons_in, entity_types_in, actions_in, namespace_name, namespace_of, namespaces_of, stated}
 use Rattle.schema_names.specs.Qualifying.{FoundEntityType, FoundAction, FoundSchema, all_of, entity_types_named, type_named, parents_named, use_named, qualified_common, qualified_commons, qualified_entity_type, qualified_entity_types, qualified_action, qualified_actions, qualified_namespace, qualified_namespaces, together, scope_in, is_action_in, qualified}
-use Rattle.named_types.specs.Actions.{action_type, uid_of}
+use Rattle.named_types.specs.Actions.{action_type, action_uid}
 use Rattle.schema_types.specs.AscendingLaw.{JsonAscends}
 use Rattle.schema_file.specs.Laws.{FilesStateOnce}
 use Rattle.schema_names.specs.Laws.{DeclaresOnce, FilesDeclareOnce}
@@ -113,7 +113,7 @@ abbrev Any : List ℕ → Type 0
 Any w = Unit {0}
 
 abbrev full_uid : Option (List ℕ) → List ℕ → EntityUid
-full_uid own id = uid_of (action_type own) id
+full_uid own id = action_uid (action_type own) id
 
 uid_once : (m n : Option (List ℕ)) (w v : List ℕ) → Any w → Any v → full_uid m w ≡ full_uid n v → (m ≡ n) × (w ≡ v)
 uid_once m n w v h k e =
@@ -238,7 +238,7 @@ module _ (sc : Scope) (is_action : EntityUid → Bool) where
   action_is own i x a read =
       let p = bind_ok (parents_named is_action own x.parents) _ a read in
       let u = bind_ok (use_named sc own x.applies_to) _ a p.2 in
-      ap (λ (y : FoundAction). y.uid) (sym (ok_same (record { uid = uid_of (action_type own) x.id; parents = p.0; applies_to = u.0 }) a u.2))
+      ap (λ (y : FoundAction). y.uid) (sym (ok_same (record { uid = action_uid (action_type own) x.id; parents = p.0; applies_to = u.0 }) a u.2))
 
   module _ (n : NamespaceOf) (p : FoundSchema) (e : qualified_namespace sc is_action n ≡ ok p) where
     commons_are : map (λ d. d.0) p.commons ≡ map (full_name n.name) (map (λ c. c.0) n.commons)

@@ -15,7 +15,7 @@ use Rattle.schema_types.specs.Raw.{Raw}
 use Rattle.schema_types.specs.Qualified.{Qualified}
 use Rattle.schema_types.specs.WrittenOut.{Declarations}
 use Rattle.schema_types.specs.Names.{Scope, full_name, found, qualified_of}
-use Rattle.named_types.specs.Actions.{action_type, uid_of, declared_action, action_of_type}
+use Rattle.named_types.specs.Actions.{action_type, action_uid, declared_action, action_of_type}
 use Rattle.schema_file.specs.Stated.{EntityTypeOf, UseOf, ActionOf, NamespaceOf}
 use Rattle.schema_file.specs.declared.stated.StatedParent.{StatedParent}
 use Rattle.schema_types.specs.declared.fault.SchemaFault.{SchemaFault}
@@ -43,7 +43,7 @@ abbrev pub entity_types_declared : List NamespaceOf → List (List ℕ)
 entity_types_declared ns = all_of (λ n. map (λ e. full_name n.name e.name) n.entity_types) ns
 
 abbrev pub actions_declared : List NamespaceOf → List EntityUid
-actions_declared ns = all_of (λ n. map (λ a. uid_of (action_type n.name) a.id) n.actions) ns
+actions_declared ns = all_of (λ n. map (λ a. action_uid (action_type n.name) a.id) n.actions) ns
 
 abbrev pub scope_in : List NamespaceOf → Scope
 scope_in ns = record {
@@ -131,7 +131,7 @@ unfoldable pub qualified_action : Scope → (EntityUid → Bool) → Option (Lis
 qualified_action s is_action own a = do
   parents ← parents_named is_action own a.parents
   applies_to ← use_named s own a.applies_to
-  Ok (record { uid = uid_of (action_type own) a.id; parents = parents; applies_to = applies_to })
+  Ok (record { uid = action_uid (action_type own) a.id; parents = parents; applies_to = applies_to })
 
 unfoldable pub qualified_commons : Scope → Option (List ℕ) → List (List ℕ × Raw)
     → Result (List (List ℕ × Qualified)) SchemaFault

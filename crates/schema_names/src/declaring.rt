@@ -6,7 +6,7 @@ ghost use Rattle.values.specs.Names.{uid_cmp};
 ghost use Rattle.schema_types.specs.Names.{full_name};
 ghost use Rattle.schema_file.specs.StatedViews.{common_view, entity_type_view, action_view, namespace_view};
 ghost use Rattle.schema_names.specs.Qualifying.{common_in};
-ghost use Rattle.named_types.specs.Actions.{action_type, uid_of};
+ghost use Rattle.named_types.specs.Actions.{action_type, action_uid};
 ghost use Rattle.schema_names.specs.inner.Adding.{has_name, has_uid, Adds, AddsNamespace, Declares, any_common};
 ghost use Rattle.schema_names.specs.inner.Adding.{any_name, any_uid};
 
@@ -68,7 +68,7 @@ fn add_action(
     action: &StatedAction,
 ) -> Result<(), NoMemory>
     ensures { OnOk result (Adds has_uid
-        (λ u. is_eq (uid_cmp (uid_of (action_type own.now) action.now.id) u)) declared.old declared.new) }
+        (λ u. is_eq (uid_cmp (action_uid (action_type own.now) action.now.id) u)) declared.old declared.new) }
 {
     let type_name = action_type(alloc, own)?;
     let id = action.id.copy()?;
@@ -83,7 +83,7 @@ fn add_actions(
     stated: &[StatedAction],
 ) -> Result<(), NoMemory>
     ensures { OnOk result (Adds has_uid
-        (any_uid (map (λ a. uid_of (action_type own.now) a.id) (map action_view stated.now)))
+        (any_uid (map (λ a. action_uid (action_type own.now) a.id) (map action_view stated.now)))
         declared.old declared.new) }
 {
     for action in stated {

@@ -5,7 +5,7 @@ use Rattle.schema_types.specs.Qualified.{Qualified, QualifiedFields}
 use Rattle.schema_types.specs.Cedar as cedar
 use Rattle.schema_types.specs.Cedar.{Cedar, CedarFields}
 use Rattle.schema_types.specs.WrittenOut as written
-use Rattle.schema_types.specs.WrittenOut.{Declarations, Declares, WrittenOut, FieldsWrittenOut, HasNoEnd}
+use Rattle.schema_types.specs.WrittenOut.{Declarations, Declares, WrittenOut, FieldsWrittenOut}
 use Rattle.schema_types.specs.Mentions.{Mentions, FieldsMention, Leads, step, steps}
 use Rattle.schema_types.specs.Law.{AreOnce, OneWritten, CyclesHaveNoEnd}
 

@@ -1,5 +1,5 @@
 -- From JSON to types written out, the keys of each record ascend.
-use Rattle.std.specs.Prelude.{◌≡◌, ℕ, List, Bool, Option, Some, Ok}
+use Rattle.std.specs.Prelude.{◌≡◌, ℕ, List, Bool, Option, Ok}
 use Rattle.serde_json.specs.Data.{Data}
 pub use Rattle.json_words.specs.Ascending.{JsonAscends}
 use Rattle.schema_types.specs.Raw.{Raw}

@@ -14,7 +14,7 @@ use Rattle.entities.specs.declared.fault.EntityFault.{EntityFault}
 use Rattle.entities.specs.declared.fault.EntityFault.TheVariants.{BadShape}
 use Rattle.entities.specs.declared.stated.StatedEntity.{StatedEntity}
 use Rattle.entities.specs.Entities.{attributes_in, entity_in, parents_in}
-use Rattle.entities.specs.Stated.{has_objects, parents_of, stated_in, uid_of}
+use Rattle.entities.specs.Stated.{has_objects, parents_of, stated_in, stated_uid}
 
 -- the value of a step that did not fail
 value_of : {A B F : Type 0} (r : Result A F) (f : A → Result B F) (y : B) → (r >>= f) ≡ Ok y
@@ -40,10 +40,10 @@ path_found all d uid (Some x) read is =
 path_stated : UidsAreFound → (d : Data) (e : StatedEntity) → stated_in d ≡ given e → IsPath e.uid.type_name
 unfolding stated_in
 path_stated all d e h =
-    let name = value_of (or_fault BadShape (get (codes "uid") d)) (λ name. uid_of name >>= λ uid.
+    let name = value_of (or_fault BadShape (get (codes "uid") d)) (λ name. stated_uid name >>= λ uid.
     demand BadShape (has_objects d) >>= λ objects. parents_of (get (codes "parents") d) >>= λ parents.
     given (record { uid = uid; parents = parents })) e h in
-    let uid = value_of (uid_of name.0) (λ uid. demand BadShape (has_objects d) >>= λ objects.
+    let uid = value_of (stated_uid name.0) (λ uid. demand BadShape (has_objects d) >>= λ objects.
     parents_of (get (codes "parents") d) >>= λ parents. given (record { uid = uid; parents = parents })) e name.2 in
     let objects = value_of (demand BadShape (has_objects d)) (λ objects. parents_of (get (codes "parents") d) >>= λ parents.
     given (record { uid = uid.0; parents = parents })) e uid.2 in

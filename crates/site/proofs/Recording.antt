@@ -14,7 +14,7 @@ use Rattle.stamped_store.specs.declared.entry.ReadText.{ReadText}
 use Rattle.stamped_store.specs.declared.entry.Stamp.{Stamp}
 use Rattle.stamped_store.specs.Contents.{text_under}
 use Rattle.stamped_store.specs.Store.{Store, Update, StoreEntries, updates, store_of, issue, issued, policy_name, entity_name}
-use Rattle.stamped_store.specs.Store.{KeepsOtherNames, shown_store}
+use Rattle.stamped_store.specs.Store.{KeepsOtherNames, abstract_store}
 use Rattle.sync_messages.specs.Summaries.{IsStamped}
 use Rattle.state_messages.specs.Updates.{AreInRange, stamped}
 use Rattle.stored_world.specs.Said.{MakesCycle, MakesNoCycle}
@@ -28,14 +28,14 @@ use Rattle.site.specs.inner.Recording.{OrMemory}
 
 -- ---- what is always true of a site, after a call that may have found no memory
 pub site_after : {A B : Type 0} → (schema : StatedSchema) (number : ℕ) (k l t : StoreEntries Policy Entity) (u : Update)
-    (r : Result A B) → OnOk r (t ≡ l) → OnOk r (shown_store t ≡ store_of (updates (shown_store k) ++ u ∷ []))
+    (r : Result A B) → OnOk r (t ≡ l) → OnOk r (abstract_store t ≡ store_of (updates (abstract_store k) ++ u ∷ []))
     → OnErr r (t ≡ k) → IsSite schema number k → IsHeld schema l
     → ((m n : Store) (v : Update) → AreInRange (updates m) → IsStamped (stamped v)
     → n ≡ store_of (updates m ++ v ∷ []) → AreInRange (updates n))
     → IsStamped (stamped u) → IsSite schema number t
 site_after schema number k l t u (Ok a) e stored f old new stay in_range = record {
   held = subst (IsHeld schema) (sym e) new;
-  in_range = stay (shown_store k) (shown_store t) u old.in_range in_range stored;
+  in_range = stay (abstract_store k) (abstract_store t) u old.in_range in_range stored;
   numbered = old.numbered;
   small = old.small;
 }

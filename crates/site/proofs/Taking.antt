@@ -11,8 +11,8 @@ use Rattle.stamped_store.specs.declared.entry.Entry.{Entry}
 use Rattle.stamped_store.specs.declared.entry.ReadText.{ReadText}
 use Rattle.stamped_store.specs.EntryOrder.{body_bytes}
 use Rattle.stamped_store.specs.Reading.{AllNamed, IsBodyRead, IsEntryRead}
-use Rattle.stamped_store.specs.Shown.{shown_entries}
-use Rattle.stamped_store.specs.Store.{Store, Update, StoreEntries, updates, store_of, shown_store, shown_updates, id_name, entity_name}
+use Rattle.stamped_store.specs.Abstraction.{abstract_entries}
+use Rattle.stamped_store.specs.Store.{Store, Update, StoreEntries, updates, store_of, abstract_store, abstract_updates, id_name, entity_name}
 use Rattle.state_messages.specs.Updates.{AreValid, IsBodyReadable}
 use Rattle.site.specs.Admitted.{IsPolicyUnder, IsEntityUnder}
 use Rattle.site.specs.Seen.{IsSite, MayBeHeld}
@@ -37,14 +37,14 @@ module _ (schema : StatedSchema) where
 
   policies_valid : (es : List (String Global × Entry Policy))
       → AllNamed string_bytes (λ id. IsEntryRead (IsPolicyUnder schema id)) es
-      → AreValid (IsPolicyUnder schema) (IsEntityUnder schema) (shown_entries id_name es)
+      → AreValid (IsPolicyUnder schema) (IsEntityUnder schema) (abstract_entries id_name es)
   policies_valid [] h = tt
   policies_valid (e ∷ es) h =
       (body_readable (IsPolicyUnder schema (string_bytes e.0)) e.1.body h.0, policies_valid es h.1)
 
   entities_valid : (es : List (EntityUid × Entry Entity))
       → AllNamed (λ uid. uid) (λ uid. IsEntryRead (IsEntityUnder schema uid)) es
-      → AreValid (IsPolicyUnder schema) (IsEntityUnder schema) (shown_entries entity_name es)
+      → AreValid (IsPolicyUnder schema) (IsEntityUnder schema) (abstract_entries entity_name es)
   entities_valid [] h = tt
   entities_valid (e ∷ es) h = (body_readable (IsEntityUnder schema e.0) e.1.body h.0, entities_valid es h.1)
 
@@ -55,10 +55,10 @@ module _ (schema : StatedSchema) where
   both_valid (u ∷ us) vs h k = (h.0, both_valid us vs h.1 k)
 
   pub may_be_held : (number : ℕ) (k : StoreEntries Policy Entity) → IsSite schema number k
-      → updates (shown_store k) ≡ shown_updates k → MayBeHeld schema (shown_store k)
+      → updates (abstract_store k) ≡ abstract_updates k → MayBeHeld schema (abstract_store k)
   may_be_held number k h in_order = record {
     in_range = h.in_range;
     valid = subst (λ (us : List Update). AreValid (IsPolicyUnder schema) (IsEntityUnder schema) us) (sym in_order)
-        (both_valid (shown_entries id_name k.policies) (shown_entries entity_name k.entities)
+        (both_valid (abstract_entries id_name k.policies) (abstract_entries entity_name k.entities)
         (policies_valid k.policies h.held.policies) (entities_valid k.entities h.held.entities));
   }

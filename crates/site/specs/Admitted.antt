@@ -23,7 +23,7 @@ use Rattle.stored_texts.specs.passed_on.validator.{CheckFault}
 use Rattle.stored_texts.specs.passed_on.validator.{IsRefused}
 use Rattle.sync_messages.specs.Summaries.{IsStamped}
 use Rattle.state_messages.specs.declared.update.Update.{Update}
-use Rattle.state_messages.specs.Updates.{shown_update, stamped, IsUpdateRead}
+use Rattle.state_messages.specs.Updates.{abstract_update, stamped, IsUpdateRead}
 use Rattle.stored_texts.specs.Texts.{ReadsPolicy, ReadsEntity}
 use Rattle.site.specs.declared.fault.SiteFault.{SiteFault}
 use Rattle.site.specs.declared.fault.SiteFault.TheVariants as fault
@@ -75,5 +75,5 @@ IsNoRequest schema (Some d) f = RequestRefused schema d f
 -- an update is valid: its name and stamp are in their ranges, and its text, if it has one, is read as what stands
 -- beside it
 pub record IsValid (schema : StatedSchema) (u : Update Policy Entity) : Type 0 where
-  pub in_range : IsStamped (stamped (shown_update u))
+  pub in_range : IsStamped (stamped (abstract_update u))
   pub is_read : IsUpdateRead (IsPolicyUnder schema) (IsEntityUnder schema) u

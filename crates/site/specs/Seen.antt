@@ -6,8 +6,8 @@ use Rattle.schema.specs.SchemaEntries as kept_schema
 use Rattle.schema.specs.Schemas.{StatedSchema}
 use Rattle.schema.specs.Views.{schema_view}
 use Rattle.entity_worlds.specs.declared.entity.Entity.{Entity}
-use Rattle.stamped_store.specs.Reading.{IsKeptRead}
-use Rattle.stamped_store.specs.Store.{Store, StoreEntries, shown_store, updates}
+use Rattle.stamped_store.specs.Reading.{AreEntriesRead}
+use Rattle.stamped_store.specs.Store.{Store, StoreEntries, abstract_store, updates}
 use Rattle.state_messages.specs.Updates.{AreInRange, AreValid}
 use Rattle.site.specs.Admitted.{IsPolicyUnder, IsEntityUnder}
 
@@ -22,7 +22,7 @@ schema_of a = schema_view a.schema
 
 -- the plain store: at each name at most one stamped body
 abbrev pub store_in : Seen → Store
-store_in a = shown_store a.kept
+store_in a = abstract_store a.kept
 
 -- schema and number stay
 abbrev pub IsSameSite : Seen → Seen → Type 0
@@ -30,13 +30,13 @@ IsSameSite a b = (b.schema ≡ a.schema) × (b.number ≡ a.number)
 
 -- each text that is kept is read as what stands beside it, under the site's schema
 abbrev pub IsHeld : StatedSchema → StoreEntries Policy Entity → Type 0
-IsHeld schema k = IsKeptRead (IsPolicyUnder schema) (IsEntityUnder schema) k
+IsHeld schema k = AreEntriesRead (IsPolicyUnder schema) (IsEntityUnder schema) k
 
 -- what is always true of a site: so are its texts read; each name and stamp that it keeps is one that messages may
 -- have, and its number is one of a stamp
 pub record IsSite (schema : StatedSchema) (number : ℕ) (k : StoreEntries Policy Entity) : Type 0 where
   pub held : IsHeld schema k
-  pub in_range : AreInRange (updates (shown_store k))
+  pub in_range : AreInRange (updates (abstract_store k))
   pub numbered : 1 ≤ number
   pub small : number ≤ 65535
 

@@ -9,7 +9,7 @@ ghost use Rattle.schema.specs.Views.{schema_view};
 ghost use Rattle.entities.specs.Canonical.{canonical_text};
 ghost use Rattle.entities.specs.Entities.{entity_in};
 ghost use Rattle.stored_texts.specs.passed_on.validator.{Passes, IsImpossible};
-ghost use Rattle.site.specs.Admitted.{IsEntityUnder, IsAdmitted, IsNotAdmitted, IsRequestOf};
+ghost use Rattle.site.specs.Admitted.{IsEntityUnder, IsNotAdmitted, IsRequestOf};
 ghost use Rattle.site.specs.inner.Recording.{IsStated, IsStatedBy, StatesNone, AsksNone, IsJudged, OrMemory};
 
 use crate::fault::SiteFault;

@@ -13,12 +13,12 @@ ghost use Rattle.stamped_store.specs.Deltas.{delta, summary_of};
 ghost use Rattle.stamped_store.specs.EntryOrder.{body_bytes, plain_entry};
 ghost use Rattle.stamped_store.specs.Greatest.{greatest_count};
 ghost use Rattle.stamped_store.specs.Reading.{IsBodyRead, IsEntryRead};
-ghost use Rattle.stamped_store.specs.Store.{store_of, updates, shown_store};
+ghost use Rattle.stamped_store.specs.Store.{store_of, updates, abstract_store};
 ghost use Rattle.stamped_store.specs.Store.{policy_name, entity_name, issued, KeepsOtherNames};
 ghost use Rattle.stored_world.specs.Said.{MakesCycle, MakesNoCycle};
 ghost use Rattle.sync_messages.specs.Summaries.{summary_text, summary_stated, IsName, IsStamped};
 ghost use Rattle.state_messages.specs.Messages.{state_text, delta_text, updates_stated};
-ghost use Rattle.state_messages.specs.Updates.{shown_update, shown_updates};
+ghost use Rattle.state_messages.specs.Updates.{abstract_update, abstract_updates};
 ghost use Rattle.site.specs.Admitted.{IsPolicyUnder, IsEntityUnder, IsValid, entity_stated};
 ghost use Rattle.site.specs.Seen.{schema_of, store_in, IsSameSite, MayBeHeld};
 ghost use Rattle.site.specs.Steps.{PutsPolicy, PutsEntity, Deletes, Takes, Answers, policy_found, most_count};
@@ -120,8 +120,8 @@ fn refused<T: Drop>(_dropped: T, fault: SiteFault) -> Result<Stamp, SiteFault>
 
 /// The stamp of the next local command at a site; None where no stamp is left.
 fn next_stamp(store: &PolicyStore<Policy, Entity>, number: u16) -> Option<Stamp>
-    requires { greatest_count (shown_store store.now) ≤ COUNT_MAX }
-    ensures { IsNext number (shown_store store.now) result }
+    requires { greatest_count (abstract_store store.now) ≤ COUNT_MAX }
+    ensures { IsNext number (abstract_store store.now) result }
 {
     if store.greatest_count() >= COUNT_MAX {
         return None;
@@ -477,7 +477,7 @@ impl Site {
     fn take_one(&mut self, update: Update<Policy, Entity>) -> bool
         requires { IsValid (schema_of self.old) update }
         ensures taken { IsTrue result → store_in self.new
-            ≡ store_of (updates (store_in self.old) ++ shown_update update ∷ []) }
+            ≡ store_of (updates (store_in self.old) ++ abstract_update update ∷ []) }
         ensures refused { result ≡ false → store_in self.new ≡ store_in self.old }
         ensures same { IsSameSite self.old self.new }
     {
@@ -494,7 +494,7 @@ impl Site {
     /// Each update is valid under the site's schema, as those are that [`state_messages::read_message`] answers.
     pub fn take(&mut self, updates: Vec<Update<Policy, Entity>>) -> Taken
         requires { AllByRecursion (IsValid (schema_of self.old)) updates.items }
-        ensures takes { Takes (store_in self.old) (shown_updates updates.items) result (store_in self.new) }
+        ensures takes { Takes (store_in self.old) (abstract_updates updates.items) result (store_in self.new) }
         ensures same { IsSameSite self.old self.new }
     {
         updates_have_one_store();

@@ -11,7 +11,7 @@ ghost use Rattle.entity_worlds.specs.declared.entity.Entity.{Entity};
 ghost use Rattle.stamped_store.specs.declared.entry.Entry.{Entry};
 ghost use Rattle.stamped_store.specs.EntryOrder.{greater};
 ghost use Rattle.stamped_store.specs.Reading.{IsEntryRead};
-ghost use Rattle.stamped_store.specs.Store.{StoreEntries, kept, shown_store};
+ghost use Rattle.stamped_store.specs.Store.{StoreEntries, kept, abstract_store};
 ghost use Rattle.stamped_store.specs.Stored.{taken};
 ghost use Rattle.stored_world.specs.Said.{IsAnswerOver, MakesCycle, MakesNoCycle};
 ghost use Rattle.site.specs.Admitted.{IsPolicyUnder, IsEntityUnder};
@@ -51,7 +51,7 @@ pub(crate) fn answer_under(
 ) -> Result<Answer, NoMemory>
     ensures { IfOk result (λ a. IsHeld (schema_view schema.now) store.now
         → IsAnswerOver (IsPolicyUnder (schema_view schema.now)) (IsEntityUnder (schema_view schema.now))
-        (schema_view schema.now) (shown_store store.now) request.now a) }
+        (schema_view schema.now) (abstract_store store.now) request.now a) }
 {
     stored_world::answer_over::<SchemaTexts<'static>>(alloc, schema, store, request)
 }
@@ -64,10 +64,10 @@ pub(crate) fn would_cycle(
     entity: &Entity,
 ) -> Result<bool, NoMemory>
     ensures yes { IfOk result (λ yes. yes ≡ true → IsHeld (schema_view schema.now) store.now
-        → MakesCycle (IsEntityUnder (schema_view schema.now)) (schema_view schema.now) (shown_store store.now)
+        → MakesCycle (IsEntityUnder (schema_view schema.now)) (schema_view schema.now) (abstract_store store.now)
         entity.now) }
     ensures no { IfOk result (λ yes. yes ≡ false → IsHeld (schema_view schema.now) store.now
-        → MakesNoCycle (IsEntityUnder (schema_view schema.now)) (schema_view schema.now) (shown_store store.now)
+        → MakesNoCycle (IsEntityUnder (schema_view schema.now)) (schema_view schema.now) (abstract_store store.now)
         entity.now) }
 {
     stored_world::would_cycle::<SchemaTexts<'static>>(alloc, schema, store, entity)

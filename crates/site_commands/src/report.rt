@@ -1,7 +1,7 @@
 //! What a run writes at its end, and the status that it ends with.
 ghost use Rattle.std.specs.Prelude.{◌≡◌, ◌⊎◌, ◌++◌, is_ok, if◌then◌else◌};
 ghost use Rattle.std.specs.Process.{exit_status};
-ghost use Rattle.decision_texts.specs.Refusals.{error_line, no_memory};
+ghost use Rattle.decision_texts.specs.Refusals.{error_line};
 ghost use Rattle.site_commands.specs.Events.{Runs};
 ghost use Rattle.site_commands.specs.Reports.{IsReported, IsAnswerReported, IsRefusalReported, IsMemoryReported};
 ghost use Rattle.site_commands.specs.Reports.{IsFileReported};

@@ -30,7 +30,7 @@ use Rattle.sync_messages.specs.declared.fault.MessageFault.{MessageFault}
 use Rattle.sync_messages.specs.Summaries.{summary_text, summary_stated}
 use Rattle.state_messages.specs.declared.update.Update.{Update as SentUpdate}
 use Rattle.state_messages.specs.Messages.{state_text, delta_text}
-use Rattle.state_messages.specs.Updates.{shown_updates, IsRefused}
+use Rattle.state_messages.specs.Updates.{abstract_updates, IsRefused}
 use Rattle.site.specs.passed_on.stored_texts.{RefusesPolicy, RefusesEntity}
 use Rattle.site.specs.declared.fault.SiteFault.{SiteFault}
 use Rattle.site.specs.declared.fault.SiteFault.TheVariants as fault
@@ -282,7 +282,7 @@ RefusedMessage schema bytes f = IsRefused (IsPolicyUnder schema) (IsEntityUnder 
 
 data MessageComes (schema : StatedSchema) (s : Store) (bytes : List ℕ) : Result taking.Taken SiteFault → Store → Type 0 where
   joined : (k : ℕ) (t : Store) (us : List (SentUpdate Policy Entity)) → IsMessageOf schema bytes us
-      → k ≡ length (shown_updates us) → t ≡ store_of (updates s ++ shown_updates us)
+      → k ≡ length (abstract_updates us) → t ≡ store_of (updates s ++ abstract_updates us)
       → MessageComes schema s bytes (Ok (All k)) t
   unread : (f : MessageFault) (t : Store) → RefusedMessage schema bytes f → t ≡ s
       → MessageComes schema s bytes (Err (fault.Message f)) t
@@ -315,9 +315,9 @@ one_message : (schema : StatedSchema) → MessagesAreOne schema → (s : Store) 
     → MessageComes schema s bytes y u → (x ≡ y) × (t ≡ u)
 one_message schema law s bytes _ _ _ _ (joined j t us h i e) (joined k u vs l m f) =
     let same = law.updates bytes us vs h l in
-    let count : j ≡ k = i ∙ ap (λ (ws : List (SentUpdate Policy Entity)). length (shown_updates ws)) same ∙ sym m in (
+    let count : j ≡ k = i ∙ ap (λ (ws : List (SentUpdate Policy Entity)). length (abstract_updates ws)) same ∙ sym m in (
       ap (λ (x : ℕ). Ok (All x)) count,
-      e ∙ ap (λ (ws : List (SentUpdate Policy Entity)). store_of (updates s ++ shown_updates ws)) same ∙ sym f,
+      e ∙ ap (λ (ws : List (SentUpdate Policy Entity)). store_of (updates s ++ abstract_updates ws)) same ∙ sym f,
     )
 one_message schema law s bytes _ _ _ _ (joined j t us h i e) (unread g u l m) = absurd (law.apart bytes us g h l)
 one_message schema law s bytes _ _ _ _ (unread f t h i) (joined k u vs l m e) = absurd (law.apart bytes vs f l h)

@@ -9,7 +9,7 @@ use Rattle.entity_worlds.specs.declared.entity.Entity.{Entity}
 use Rattle.schema.specs.Schemas.{StatedSchema}
 use Rattle.stamped_store.specs.Store.{Store, Update, updates, store_of, policy_name, entity_name}
 use Rattle.state_messages.specs.declared.update.Update.{Update as SentUpdate}
-use Rattle.state_messages.specs.Updates.{AreInRange, shown_updates, IsMessage, IsRefused, IsUpdateRead}
+use Rattle.state_messages.specs.Updates.{AreInRange, abstract_updates, IsMessage, IsRefused, IsUpdateRead}
 use Rattle.site.specs.passed_on.stored_texts.{RefusesPolicy, RefusesEntity}
 use Rattle.sync_messages.specs.declared.fault.MessageFault.{MessageFault}
 use Rattle.schema.specs.Views.{schema_view}
@@ -27,7 +27,7 @@ use Rattle.site.specs.passed_on.stored_texts.{SchemaTexts}
 use Rattle.site_runs.specs.Runs.{Step, Run, HoldsAfter, took_by, took, update_of_entity, updates_of_message}
 
 -- updates of a message are valid where they are in range and are read
-pub all_valid : (schema : StatedSchema) (us : List (SentUpdate Policy Entity)) → AreInRange (shown_updates us)
+pub all_valid : (schema : StatedSchema) (us : List (SentUpdate Policy Entity)) → AreInRange (abstract_updates us)
     → AllByRecursion (IsUpdateRead (IsPolicyUnder schema) (IsEntityUnder schema)) us → AllByRecursion (IsValid schema) us
 all_valid schema [] h k = tt
 all_valid schema (u ∷ us) h k = (record { in_range = h.0; is_read = k.0 }, all_valid schema us h.1 k.1)

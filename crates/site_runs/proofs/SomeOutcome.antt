@@ -29,7 +29,7 @@ use Rattle.entities.specs.Canonical.{canonical_text}
 use Rattle.entities.specs.Laws.{RequestOrRefusal}
 use Rattle.entity_worlds.specs.declared.data.EntityData.{EntityData}
 use Rattle.entity_worlds.specs.Entities.{action_or, parents_of}
-use Rattle.validator.specs.Outcomes.{passes, refused as check_refused, ComesTo, PoliciesHaveOneOutcome, PassingIsNotRefused, CheckResult as CheckOutcome}
+use Rattle.validator.specs.Outcomes.{passes, refused as check_refused, IsCheckResult, PoliciesHaveOneOutcome, PassingIsNotRefused, CheckResult as CheckOutcome}
 use Rattle.validator.specs.Passing.{Passes, IsImpossible}
 use Rattle.stamped_store.specs.declared.entry.Stamp.{Stamp}
 use Rattle.stamped_store.specs.Contents.{text_under, policy_text, entities_of}
@@ -43,7 +43,7 @@ use Rattle.sync_messages.specs.Summaries.{summary_text, summary_stated}
 use Rattle.state_messages.specs.declared.bodies.BodyFault.{BodyFault}
 use Rattle.state_messages.specs.declared.update.Update.{Update as SentUpdate}
 use Rattle.state_messages.specs.Messages.{state_text, delta_text}
-use Rattle.state_messages.specs.Updates.{AreValid, IsReadable, IsValid, shown_updates, IsRefused, stamped}
+use Rattle.state_messages.specs.Updates.{AreValid, IsReadable, IsValid, abstract_updates, IsRefused, stamped}
 use Rattle.sync_messages.specs.Summaries.{IsStamped}
 use Rattle.site.specs.passed_on.stored_texts.{PoliciesHaveOneReading}
 use Rattle.site.specs.passed_on.stored_texts.{RefusesPolicy, RefusesEntity, entity_of_text, no_policy as text_of_none, not_passing as text_of_failing}
@@ -98,7 +98,7 @@ id_or_not id = elim (cases_lt (length id) 1) [
 
 module _ (schema : StatedSchema) (checks : PoliciesHaveOneOutcome) (apart : PassingIsNotRefused)
     (texts : PoliciesHaveOneReading) (n : ℕ) (s : Store) (room : greatest_count s ≤ most_count) (id text : List ℕ) where
-  verdict_by : (p : Policy) → Passes schema p → (o : CheckOutcome) → ComesTo schema p o
+  verdict_by : (p : Policy) → Passes schema p → (o : CheckOutcome) → IsCheckResult schema p o
       → (b : Bool) × (IsTrue b ↔ IsImpossible schema p)
   verdict_by p h (passes b) k = (b, k.impossible)
   verdict_by p h (check_refused f) k = absurd (apart schema p f h k)
@@ -305,7 +305,7 @@ ReadsOrRefuses schema bytes = ((us : List (SentUpdate Policy Entity)) × IsMessa
 some_take : (schema : StatedSchema) (s : Store) (bytes : List ℕ) → ReadsOrRefuses schema bytes
     → (x : Result taking.Taken SiteFault) × (t : Store) × TakesMessage schema s bytes x t × HadMemoryForAll x
 some_take schema s bytes o = elim o [
-  | inl m ↦ (Ok (All (length (shown_updates m.0))), store_of (updates s ++ shown_updates m.0), (m.0, m.1, (refl, refl)), tt)
+  | inl m ↦ (Ok (All (length (abstract_updates m.0))), store_of (updates s ++ abstract_updates m.0), (m.0, m.1, (refl, refl)), tt)
   | inr f ↦ (Err (fault.Message f.0), s, (f.1, refl), tt)
 ]
 

@@ -15,7 +15,7 @@ use Rattle.sync_messages.specs.declared.fault.MessageFault.{MessageFault}
 use Rattle.sync_messages.specs.Summaries.{summary_text, summary_stated}
 use Rattle.state_messages.specs.declared.update.Update.{Update as SentUpdate}
 use Rattle.state_messages.specs.Messages.{state_text, delta_text, updates_stated}
-use Rattle.state_messages.specs.Updates.{IsMessage, IsRefused, shown_updates}
+use Rattle.state_messages.specs.Updates.{IsMessage, IsRefused, abstract_updates}
 use Rattle.site.specs.passed_on.stored_texts.{RefusesPolicy, RefusesEntity}
 use Rattle.site.specs.declared.fault.SiteFault.{SiteFault}
 use Rattle.site.specs.declared.fault.SiteFault.TheVariants as fault
@@ -46,7 +46,7 @@ IsNoMessageOf schema bytes _ = ⊥
 -- a message comes: all of its updates are taken, or the first ones, or it is refused whole
 abbrev pub TakesMessage : StatedSchema → Store → List ℕ → Result taking.Taken SiteFault → Store → Type 0
 TakesMessage schema s bytes (Ok taken) t =
-    (us : List (SentUpdate Policy Entity)) × IsMessageOf schema bytes us × Takes s (shown_updates us) taken t
+    (us : List (SentUpdate Policy Entity)) × IsMessageOf schema bytes us × Takes s (abstract_updates us) taken t
 TakesMessage schema s bytes (Err f) t = IsNoMessageOf schema bytes f × (t ≡ s)
 
 -- ---- questions

@@ -1,5 +1,5 @@
 //! Inputs of a site, answered one after another.
-ghost use Rattle.std.specs.Prelude.{◌≡◌, ◌≢◌, ◌++◌, IfOk, IfErr, OnErr};
+ghost use Rattle.std.specs.Prelude.{◌≡◌, ◌++◌, IfOk, IfErr, OnErr};
 ghost use Rattle.std.specs.List.{AllByRecursion};
 ghost use Rattle.json_words.specs.Json.{json_of};
 ghost use Rattle.schema.specs.Views.{schema_view};

@@ -16,7 +16,7 @@ use Rattle.stamped_store.specs.declared.entry.Entry.{Entry}
 use Rattle.stamped_store.specs.EntryOrder.{entry_cmp, greater, greater_entry, plain_entry}
 use Rattle.stamped_store.specs.Stored.{value_at, taken, all_taken, joined_onto}
 use Rattle.stamped_store.specs.Greatest.{store_of}
-use Rattle.stamped_store.specs.Shown.{shown_entry, shown_entries, shown, greatest_kept}
+use Rattle.stamped_store.specs.Abstraction.{abstract_entry, abstract_entries, abstract_map, greatest_kept}
 use Rattle.stamped_store.proofs.Greatests.{store_of-push, store_of-append, store_of-entries}
 
 pub plain_entry-greater : {P : Type 0} (a b : Entry P) → plain_entry (greater a b) ≡ greater_entry (plain_entry a) (plain_entry b)
@@ -34,69 +34,69 @@ both true b p q = q
 both false b p q = p
 
 module _ {K N P : Type 0} (name : K → N) (R : N → N → Ordering) where
-  pub below_all-shown : (k : K) (es : List (K × Entry P)) → AllByRecursion (λ y. R (name k) (name y) ≡ Less) (keys_of es) → T (below_all R (name k) (shown_entries name es))
+  pub below_all-shown : (k : K) (es : List (K × Entry P)) → AllByRecursion (λ y. R (name k) (name y) ≡ Less) (keys_of es) → T (below_all R (name k) (abstract_entries name es))
   below_all-shown k [] h = tt
   below_all-shown k (e ∷ es) h = both (is_lt (R (name k) (name e.0))) _ (subst (λ r. T (is_lt r)) (sym h.0) tt) (below_all-shown k es h.1)
 
-  pub is_sorted-shown : (es : List (K × Entry P)) → IsStrictlySortedBy (by_names name R) (keys_of es) → T (is_sorted R (shown_entries name es))
+  pub is_sorted-shown : (es : List (K × Entry P)) → IsStrictlySortedBy (by_names name R) (keys_of es) → T (is_sorted R (abstract_entries name es))
   unfolding IsStrictlySortedBy
   is_sorted-shown [] h = tt
-  is_sorted-shown (e ∷ es) h = both (below_all R (name e.0) (shown_entries name es)) _ (below_all-shown e.0 es h.0) (is_sorted-shown es h.1)
+  is_sorted-shown (e ∷ es) h = both (below_all R (name e.0) (abstract_entries name es)) _ (below_all-shown e.0 es h.0) (is_sorted-shown es h.1)
 
-  pub shown-insert_entry : (es : List (K × Entry P)) (k : K) (w : Entry P) → shown_entries name (insert_entry (by_names name R) es k w) ≡ put R (name k) (plain_entry w) (shown_entries name es)
+  pub shown-insert_entry : (es : List (K × Entry P)) (k : K) (w : Entry P) → abstract_entries name (insert_entry (by_names name R) es k w) ≡ put R (name k) (plain_entry w) (abstract_entries name es)
   shown-insert_entry [] k w = refl
   shown-insert_entry (e ∷ es) k w =
-      elim (R (name k) (name e.0)) as (λ r. shown_entries name (match_ordering r ((k, w) ∷ e ∷ es) ((e.0, w) ∷ es) (e ∷ insert_entry (by_names name R) es k w)) ≡ by_order r ((name k, plain_entry w) ∷ shown_entries name (e ∷ es)) ((name e.0, plain_entry w) ∷ shown_entries name es) (shown_entry name e ∷ put R (name k) (plain_entry w) (shown_entries name es))) [
+      elim (R (name k) (name e.0)) as (λ r. abstract_entries name (match_ordering r ((k, w) ∷ e ∷ es) ((e.0, w) ∷ es) (e ∷ insert_entry (by_names name R) es k w)) ≡ by_order r ((name k, plain_entry w) ∷ abstract_entries name (e ∷ es)) ((name e.0, plain_entry w) ∷ abstract_entries name es) (abstract_entry name e ∷ put R (name k) (plain_entry w) (abstract_entries name es))) [
         | Less ↦ refl
         | Equal ↦ refl
-        | Greater ↦ ap (λ rest. shown_entry name e ∷ rest) (shown-insert_entry es k w)
+        | Greater ↦ ap (λ rest. abstract_entry name e ∷ rest) (shown-insert_entry es k w)
       ]
 
-  pub find-shown : (es : List (K × Entry P)) (k : K) → find R (name k) (shown_entries name es) ≡ option_map plain_entry (value_at (by_names name R) es k)
+  pub find-shown : (es : List (K × Entry P)) (k : K) → find R (name k) (abstract_entries name es) ≡ option_map plain_entry (value_at (by_names name R) es k)
   find-shown [] k = refl
   find-shown (e ∷ es) k =
-      elim (is_eq (R (name k) (name e.0))) as (λ b. cond b (Some (plain_entry e.1)) (find R (name k) (shown_entries name es)) ≡ option_map plain_entry (cond b (Some e.1) (value_at (by_names name R) es k))) [
+      elim (is_eq (R (name k) (name e.0))) as (λ b. cond b (Some (plain_entry e.1)) (find R (name k) (abstract_entries name es)) ≡ option_map plain_entry (cond b (Some e.1) (value_at (by_names name R) es k))) [
         | true ↦ refl
         | false ↦ find-shown es k
       ]
 
   module _ (o : IsTotalOrder R) (exact : IsAntisymmetric R) where
     -- what is found in the map is found in the store
-    pub get-shown : (es : List (K × Entry P)) (k : K) → get (shown name {R = R} es) (name k) ≡ option_map plain_entry (value_at (by_names name R) es k)
-    get-shown es k = get-from_entries o (shown_entries name es) (name k) ∙ find-shown es k
+    pub get-shown : (es : List (K × Entry P)) (k : K) → get (abstract_map name {R = R} es) (name k) ≡ option_map plain_entry (value_at (by_names name R) es k)
+    get-shown es k = get-from_entries o (abstract_entries name es) (name k) ∙ find-shown es k
 
-    shown-inserted : (es : List (K × Entry P)) (k : K) (w : Entry P) → shown name {R = R} (insert_entry (by_names name R) es k w) ≡ insert (shown name es) (name k) (plain_entry w)
+    shown-inserted : (es : List (K × Entry P)) (k : K) (w : Entry P) → abstract_map name {R = R} (insert_entry (by_names name R) es k w) ≡ insert (abstract_map name es) (name k) (plain_entry w)
     shown-inserted es k w = same_map o exact _ _ (λ q.
-        get-from_entries o (shown_entries name (insert_entry (by_names name R) es k w)) q
+        get-from_entries o (abstract_entries name (insert_entry (by_names name R) es k w)) q
         ∙ ap (find R q) (shown-insert_entry es k w)
-        ∙ find-put R o q (name k) (plain_entry w) (shown_entries name es)
-        ∙ ap (cond (eq_by_cmp R q (name k)) (Some (plain_entry w))) (sym (get-from_entries o (shown_entries name es) q))
-        ∙ sym (get-insert o (shown name es) (name k) (plain_entry w) q))
+        ∙ find-put R o q (name k) (plain_entry w) (abstract_entries name es)
+        ∙ ap (cond (eq_by_cmp R q (name k)) (Some (plain_entry w))) (sym (get-from_entries o (abstract_entries name es) q))
+        ∙ sym (get-insert o (abstract_map name es) (name k) (plain_entry w) q))
 
-    pub shown-taken_insert : (es : List (K × Entry P)) (k : K) (v : Entry P) → shown name {R = R} (taken (by_names name R) greater es k v) ≡ insert (shown name es) (name k) (joined_onto greater_entry (get (shown name {R = R} es) (name k)) (plain_entry v))
+    pub shown-taken_insert : (es : List (K × Entry P)) (k : K) (v : Entry P) → abstract_map name {R = R} (taken (by_names name R) greater es k v) ≡ insert (abstract_map name es) (name k) (joined_onto greater_entry (get (abstract_map name {R = R} es) (name k)) (plain_entry v))
     shown-taken_insert es k v =
         shown-inserted es k (joined_onto greater (value_at (by_names name R) es k) v)
-        ∙ ap (insert (shown name es) (name k)) (plain_entry-onto (value_at (by_names name R) es k) v ∙ ap (λ a. joined_onto greater_entry a (plain_entry v)) (sym (get-shown es k)))
+        ∙ ap (insert (abstract_map name es) (name k)) (plain_entry-onto (value_at (by_names name R) es k) v ∙ ap (λ a. joined_onto greater_entry a (plain_entry v)) (sym (get-shown es k)))
 
     -- one value joined is one more update
-    pub shown-taken : (es : List (K × Entry P)) (k : K) (v : Entry P) → shown name {R = R} (taken (by_names name R) greater es k v) ≡ store_of R (entries (shown name {R = R} es) ++ (name k, plain_entry v) ∷ [])
-    shown-taken es k v = shown-taken_insert es k v ∙ sym (store_of-push o exact (shown name es) (name k) (plain_entry v))
+    pub shown-taken : (es : List (K × Entry P)) (k : K) (v : Entry P) → abstract_map name {R = R} (taken (by_names name R) greater es k v) ≡ store_of R (entries (abstract_map name {R = R} es) ++ (name k, plain_entry v) ∷ [])
+    shown-taken es k v = shown-taken_insert es k v ∙ sym (store_of-push o exact (abstract_map name es) (name k) (plain_entry v))
 
     -- values joined in turn are as many more updates
-    pub shown-all_taken : (s es : List (K × Entry P)) → shown name {R = R} (all_taken (by_names name R) greater s es) ≡ store_of R (entries (shown name {R = R} s) ++ shown_entries name es)
-    shown-all_taken s [] = sym (ap (store_of R) (append-nil (entries (shown name s))) ∙ store_of-entries o exact (shown name s))
+    pub shown-all_taken : (s es : List (K × Entry P)) → abstract_map name {R = R} (all_taken (by_names name R) greater s es) ≡ store_of R (entries (abstract_map name {R = R} s) ++ abstract_entries name es)
+    shown-all_taken s [] = sym (ap (store_of R) (append-nil (entries (abstract_map name s))) ∙ store_of-entries o exact (abstract_map name s))
     shown-all_taken s (e ∷ es) =
         shown-all_taken (taken (by_names name R) greater s e.0 e.1) es
-        ∙ ap (λ m. store_of R (entries m ++ shown_entries name es)) (shown-taken s e.0 e.1)
-        ∙ store_of-append o exact (entries (shown name s) ++ shown_entry name e ∷ []) (shown_entries name es)
-        ∙ ap (store_of R) (append_assoc (entries (shown name s)) (shown_entry name e ∷ []) (shown_entries name es))
+        ∙ ap (λ m. store_of R (entries m ++ abstract_entries name es)) (shown-taken s e.0 e.1)
+        ∙ store_of-append o exact (entries (abstract_map name s) ++ abstract_entry name e ∷ []) (abstract_entries name es)
+        ∙ ap (store_of R) (append_assoc (entries (abstract_map name s)) (abstract_entry name e ∷ []) (abstract_entries name es))
 
     -- the entries of the store are those of the map, in the same order
-    pub entries-shown : (es : List (K × Entry P)) → IsStrictlySortedBy (by_names name R) (keys_of es) → entries (shown name {R = R} es) ≡ shown_entries name es
+    pub entries-shown : (es : List (K × Entry P)) → IsStrictlySortedBy (by_names name R) (keys_of es) → entries (abstract_map name {R = R} es) ≡ abstract_entries name es
     entries-shown es h =
         let sorted = is_sorted-shown es h in
-        ap entries (same_map o exact (shown name {R = R} es) (from_sorted (shown_entries name es)) (λ q. get-from_entries o (shown_entries name es) q ∙ sym (get-from_sorted R (shown_entries name es) q sorted)))
-        ∙ entries-from_sorted R (shown_entries name es) sorted
+        ap entries (same_map o exact (abstract_map name {R = R} es) (from_sorted (abstract_entries name es)) (λ q. get-from_entries o (abstract_entries name es) q ∙ sym (get-from_sorted R (abstract_entries name es) q sorted)))
+        ∙ entries-from_sorted R (abstract_entries name es) sorted
 
 pub greatest_kept-append : {K P : Type 0} (es fs : List (K × Entry P)) → greatest_kept (es ++ fs) ≡ max (greatest_kept es) (greatest_kept fs)
 greatest_kept-append [] fs = omega arith

@@ -29,8 +29,8 @@ use Rattle.stamped_store.specs.Joins.{option_joined, option_below}
 use Rattle.stamped_store.specs.EntryOrder.{PlainEntry, plain_entry, entry_cmp, entry_below, greater, greater_entry}
 use Rattle.stamped_store.specs.Stored.{value_at, value_at_text, taken, all_taken, joined_onto, IsBelow}
 use Rattle.stamped_store.specs.Greatest.{greatest_count, max_count, greatest_at}
-use Rattle.stamped_store.specs.Shown.{shown_entry, shown_entries, greatest_kept}
-use Rattle.stamped_store.specs.Store.{Store, Update, StoreEntries, kept, all_kept, first_kept, updates, store_of, first_names, plain_below, IsStoreBelow, IsStoreJoin, joined_stores, id_name, entity_name, shown_updates, shown_store, KeepsOtherNames, IsCounted, issue, issued}
+use Rattle.stamped_store.specs.Abstraction.{abstract_entry, abstract_entries, greatest_kept}
+use Rattle.stamped_store.specs.Store.{Store, Update, StoreEntries, kept, all_kept, first_kept, updates, store_of, first_names, plain_below, IsStoreBelow, IsStoreJoin, joined_stores, id_name, entity_name, abstract_updates, abstract_store, KeepsOtherNames, IsCounted, issue, issued}
 use Rattle.stamped_store.proofs.Greatests.{no_member, in_head, in_tail, by_place, count_le, count_of_find, greater_assoc, greater_commutes, greater_itself, greater_entry_is_join, alike, get-store_of, greatest_at-append, greatest_at-entries, store_of-append, store_of-append_right, store_of-entries, store_of-push, greatest_count-empty, greatest_count-insert, greatest_count-store_of, max_count-append}
 use Rattle.stamped_store.proofs.Lifted.{above_first, above_second, least_above}
 use Rattle.stamped_store.proofs.Showing.{plain_entry-onto, shown-insert_entry, find-shown}
@@ -65,164 +65,164 @@ equal_of Equal h = refl
 equal_of Greater h = absurd (cc)
 
 module _ {P : Type 0} where
-  entity_among_policies : (u : EntityUid) (ps : List (String Global × Entry P)) → find name_cmp (Entity u) (shown_entries id_name ps) ≡ None
+  entity_among_policies : (u : EntityUid) (ps : List (String Global × Entry P)) → find name_cmp (Entity u) (abstract_entries id_name ps) ≡ None
   entity_among_policies u [] = refl
   entity_among_policies u (p ∷ ps) = entity_among_policies u ps
 
-  policy_among_entities : (bytes : List ℕ) (es : List (EntityUid × Entry P)) → find name_cmp (Policy bytes) (shown_entries entity_name es) ≡ None
+  policy_among_entities : (bytes : List ℕ) (es : List (EntityUid × Entry P)) → find name_cmp (Policy bytes) (abstract_entries entity_name es) ≡ None
   policy_among_entities bytes [] = refl
   policy_among_entities bytes (e ∷ es) = policy_among_entities bytes es
 
-  find-policies : (bytes : List ℕ) (ps : List (String Global × Entry P)) → find name_cmp (Policy bytes) (shown_entries id_name ps) ≡ option_map plain_entry (value_at_text ps bytes)
+  find-policies : (bytes : List ℕ) (ps : List (String Global × Entry P)) → find name_cmp (Policy bytes) (abstract_entries id_name ps) ≡ option_map plain_entry (value_at_text ps bytes)
   find-policies bytes [] = refl
   find-policies bytes (p ∷ ps) =
-      elim (is_eq (slice_cmp nat_cmp bytes (string_bytes p.0))) as (λ t. cond t (Some (plain_entry p.1)) (find name_cmp (Policy bytes) (shown_entries id_name ps)) ≡ option_map plain_entry (cond t (Some p.1) (value_at_text ps bytes))) [
+      elim (is_eq (slice_cmp nat_cmp bytes (string_bytes p.0))) as (λ t. cond t (Some (plain_entry p.1)) (find name_cmp (Policy bytes) (abstract_entries id_name ps)) ≡ option_map plain_entry (cond t (Some p.1) (value_at_text ps bytes))) [
         | true ↦ refl
         | false ↦ find-policies bytes ps
       ]
 
-max_count-shown : {K P : Type 0} (name : K → Name) (es : List (K × Entry P)) → max_count (shown_entries name es) ≡ greatest_kept es
+max_count-shown : {K P : Type 0} (name : K → Name) (es : List (K × Entry P)) → max_count (abstract_entries name es) ≡ greatest_kept es
 max_count-shown name [] = refl
 max_count-shown name (e ∷ es) = ap (max e.1.stamp.count) (max_count-shown name es)
 
-put_first : {E : Type 0} (bytes : List ℕ) (w : PlainEntry) (fs : List (EntityUid × Entry E)) → put name_cmp (Policy bytes) w (shown_entries entity_name fs) ≡ (Policy bytes, w) ∷ shown_entries entity_name fs
+put_first : {E : Type 0} (bytes : List ℕ) (w : PlainEntry) (fs : List (EntityUid × Entry E)) → put name_cmp (Policy bytes) w (abstract_entries entity_name fs) ≡ (Policy bytes, w) ∷ abstract_entries entity_name fs
 put_first bytes w [] = refl
 put_first bytes w (f ∷ fs) = refl
 
 module _ {P E : Type 0} where
   -- what is found among policies is found in the store
-  pub get-policy : (ps : List (String Global × Entry P)) (es : List (EntityUid × Entry E)) (bytes : List ℕ) → get (shown_store (kept ps es)) (Policy bytes) ≡ option_map plain_entry (value_at_text ps bytes)
+  pub get-policy : (ps : List (String Global × Entry P)) (es : List (EntityUid × Entry E)) (bytes : List ℕ) → get (abstract_store (kept ps es)) (Policy bytes) ≡ option_map plain_entry (value_at_text ps bytes)
   get-policy ps es bytes =
-      get-from_entries name_cmp-IsTotalOrder (shown_updates (kept ps es)) (Policy bytes)
-      ∙ find-append (shown_entries id_name ps) (shown_entries entity_name es) (Policy bytes)
-      ∙ ap (or_else (find name_cmp (Policy bytes) (shown_entries id_name ps))) (policy_among_entities bytes es)
+      get-from_entries name_cmp-IsTotalOrder (abstract_updates (kept ps es)) (Policy bytes)
+      ∙ find-append (abstract_entries id_name ps) (abstract_entries entity_name es) (Policy bytes)
+      ∙ ap (or_else (find name_cmp (Policy bytes) (abstract_entries id_name ps))) (policy_among_entities bytes es)
       ∙ or_else-none _ ∙ find-policies bytes ps
 
   -- what is found among entities is found in the store
-  pub get-entity : (ps : List (String Global × Entry P)) (es : List (EntityUid × Entry E)) (u : EntityUid) → get (shown_store (kept ps es)) (Entity u) ≡ option_map plain_entry (value_at uid_cmp es u)
+  pub get-entity : (ps : List (String Global × Entry P)) (es : List (EntityUid × Entry E)) (u : EntityUid) → get (abstract_store (kept ps es)) (Entity u) ≡ option_map plain_entry (value_at uid_cmp es u)
   unfolding or_else
   get-entity ps es u =
-      get-from_entries name_cmp-IsTotalOrder (shown_updates (kept ps es)) (Entity u)
-      ∙ find-append (shown_entries id_name ps) (shown_entries entity_name es) (Entity u)
-      ∙ ap (λ a. or_else a (find name_cmp (Entity u) (shown_entries entity_name es))) (entity_among_policies u ps)
+      get-from_entries name_cmp-IsTotalOrder (abstract_updates (kept ps es)) (Entity u)
+      ∙ find-append (abstract_entries id_name ps) (abstract_entries entity_name es) (Entity u)
+      ∙ ap (λ a. or_else a (find name_cmp (Entity u) (abstract_entries entity_name es))) (entity_among_policies u ps)
       ∙ find-shown entity_name name_cmp es u
 
   -- ---- one entry written
-  inserted-policy : (ps : List (String Global × Entry P)) (es : List (EntityUid × Entry E)) (k : String Global) (w : Entry P) → shown_store (kept (insert_entry string_cmp ps k w) es) ≡ insert (shown_store (kept ps es)) (id_name k) (plain_entry w)
+  inserted-policy : (ps : List (String Global × Entry P)) (es : List (EntityUid × Entry E)) (k : String Global) (w : Entry P) → abstract_store (kept (insert_entry string_cmp ps k w) es) ≡ insert (abstract_store (kept ps es)) (id_name k) (plain_entry w)
   inserted-policy ps es k w = same_map name_cmp-IsTotalOrder name_cmp-IsAntisymmetric _ _ (λ q.
-      get-from_entries name_cmp-IsTotalOrder (shown_updates (kept (insert_entry string_cmp ps k w) es)) q
-      ∙ ap (λ us. find name_cmp q (us ++ shown_entries entity_name es)) (shown-insert_entry id_name name_cmp ps k w)
-      ∙ find-append (put name_cmp (id_name k) (plain_entry w) (shown_entries id_name ps)) (shown_entries entity_name es) q
-      ∙ ap (λ a. or_else a (find name_cmp q (shown_entries entity_name es))) (find-put name_cmp name_cmp-IsTotalOrder q (id_name k) (plain_entry w) (shown_entries id_name ps))
+      get-from_entries name_cmp-IsTotalOrder (abstract_updates (kept (insert_entry string_cmp ps k w) es)) q
+      ∙ ap (λ us. find name_cmp q (us ++ abstract_entries entity_name es)) (shown-insert_entry id_name name_cmp ps k w)
+      ∙ find-append (put name_cmp (id_name k) (plain_entry w) (abstract_entries id_name ps)) (abstract_entries entity_name es) q
+      ∙ ap (λ a. or_else a (find name_cmp q (abstract_entries entity_name es))) (find-put name_cmp name_cmp-IsTotalOrder q (id_name k) (plain_entry w) (abstract_entries id_name ps))
       ∙ or_else-cond (eq_by_cmp name_cmp q (id_name k)) (plain_entry w) _ _
-      ∙ ap (cond (eq_by_cmp name_cmp q (id_name k)) (Some (plain_entry w))) (sym (find-append (shown_entries id_name ps) (shown_entries entity_name es) q) ∙ sym (get-from_entries name_cmp-IsTotalOrder (shown_updates (kept ps es)) q))
-      ∙ sym (get-insert name_cmp-IsTotalOrder (shown_store (kept ps es)) (id_name k) (plain_entry w) q))
+      ∙ ap (cond (eq_by_cmp name_cmp q (id_name k)) (Some (plain_entry w))) (sym (find-append (abstract_entries id_name ps) (abstract_entries entity_name es) q) ∙ sym (get-from_entries name_cmp-IsTotalOrder (abstract_updates (kept ps es)) q))
+      ∙ sym (get-insert name_cmp-IsTotalOrder (abstract_store (kept ps es)) (id_name k) (plain_entry w) q))
 
-  inserted-entity : (ps : List (String Global × Entry P)) (es : List (EntityUid × Entry E)) (u : EntityUid) (w : Entry E) → shown_store (kept ps (insert_entry uid_cmp es u w)) ≡ insert (shown_store (kept ps es)) (Entity u) (plain_entry w)
+  inserted-entity : (ps : List (String Global × Entry P)) (es : List (EntityUid × Entry E)) (u : EntityUid) (w : Entry E) → abstract_store (kept ps (insert_entry uid_cmp es u w)) ≡ insert (abstract_store (kept ps es)) (Entity u) (plain_entry w)
   unfolding or_else
   inserted-entity ps es u w = same_map name_cmp-IsTotalOrder name_cmp-IsAntisymmetric _ _ (λ q.
-      get-from_entries name_cmp-IsTotalOrder (shown_updates (kept ps (insert_entry uid_cmp es u w))) q
-      ∙ ap (λ us. find name_cmp q (shown_entries id_name ps ++ us)) (shown-insert_entry entity_name name_cmp es u w)
-      ∙ find-append (shown_entries id_name ps) (put name_cmp (Entity u) (plain_entry w) (shown_entries entity_name es)) q
-      ∙ ap (or_else (find name_cmp q (shown_entries id_name ps))) (find-put name_cmp name_cmp-IsTotalOrder q (Entity u) (plain_entry w) (shown_entries entity_name es))
-      ∙ elim (eq_by_cmp name_cmp q (Entity u)) as (λ t. eq_by_cmp name_cmp q (Entity u) ≡ t → or_else (find name_cmp q (shown_entries id_name ps)) (cond t (Some (plain_entry w)) (find name_cmp q (shown_entries entity_name es))) ≡ cond t (Some (plain_entry w)) (or_else (find name_cmp q (shown_entries id_name ps)) (find name_cmp q (shown_entries entity_name es)))) [
-        | true ↦ λ same. ap (λ a. or_else a (Some (plain_entry w))) (sym (find_tied name_cmp name_cmp-IsTotalOrder q (Entity u) (equal_of (name_cmp q (Entity u)) same) (shown_entries id_name ps)) ∙ entity_among_policies u ps)
+      get-from_entries name_cmp-IsTotalOrder (abstract_updates (kept ps (insert_entry uid_cmp es u w))) q
+      ∙ ap (λ us. find name_cmp q (abstract_entries id_name ps ++ us)) (shown-insert_entry entity_name name_cmp es u w)
+      ∙ find-append (abstract_entries id_name ps) (put name_cmp (Entity u) (plain_entry w) (abstract_entries entity_name es)) q
+      ∙ ap (or_else (find name_cmp q (abstract_entries id_name ps))) (find-put name_cmp name_cmp-IsTotalOrder q (Entity u) (plain_entry w) (abstract_entries entity_name es))
+      ∙ elim (eq_by_cmp name_cmp q (Entity u)) as (λ t. eq_by_cmp name_cmp q (Entity u) ≡ t → or_else (find name_cmp q (abstract_entries id_name ps)) (cond t (Some (plain_entry w)) (find name_cmp q (abstract_entries entity_name es))) ≡ cond t (Some (plain_entry w)) (or_else (find name_cmp q (abstract_entries id_name ps)) (find name_cmp q (abstract_entries entity_name es)))) [
+        | true ↦ λ same. ap (λ a. or_else a (Some (plain_entry w))) (sym (find_tied name_cmp name_cmp-IsTotalOrder q (Entity u) (equal_of (name_cmp q (Entity u)) same) (abstract_entries id_name ps)) ∙ entity_among_policies u ps)
         | false ↦ λ apart. refl
       ] refl
-      ∙ ap (cond (eq_by_cmp name_cmp q (Entity u)) (Some (plain_entry w))) (sym (find-append (shown_entries id_name ps) (shown_entries entity_name es) q) ∙ sym (get-from_entries name_cmp-IsTotalOrder (shown_updates (kept ps es)) q))
-      ∙ sym (get-insert name_cmp-IsTotalOrder (shown_store (kept ps es)) (Entity u) (plain_entry w) q))
+      ∙ ap (cond (eq_by_cmp name_cmp q (Entity u)) (Some (plain_entry w))) (sym (find-append (abstract_entries id_name ps) (abstract_entries entity_name es) q) ∙ sym (get-from_entries name_cmp-IsTotalOrder (abstract_updates (kept ps es)) q))
+      ∙ sym (get-insert name_cmp-IsTotalOrder (abstract_store (kept ps es)) (Entity u) (plain_entry w) q))
 
   -- ---- one entry joined
-  taken_policy_insert : (ps : List (String Global × Entry P)) (es : List (EntityUid × Entry E)) (k : String Global) (v : Entry P) → shown_store (kept (taken string_cmp greater ps k v) es) ≡ insert (shown_store (kept ps es)) (id_name k) (joined_onto greater_entry (get (shown_store (kept ps es)) (id_name k)) (plain_entry v))
+  taken_policy_insert : (ps : List (String Global × Entry P)) (es : List (EntityUid × Entry E)) (k : String Global) (v : Entry P) → abstract_store (kept (taken string_cmp greater ps k v) es) ≡ insert (abstract_store (kept ps es)) (id_name k) (joined_onto greater_entry (get (abstract_store (kept ps es)) (id_name k)) (plain_entry v))
   taken_policy_insert ps es k v =
       inserted-policy ps es k (joined_onto greater (value_at string_cmp ps k) v)
-      ∙ ap (insert (shown_store (kept ps es)) (id_name k)) (plain_entry-onto (value_at string_cmp ps k) v ∙ ap (λ a. joined_onto greater_entry a (plain_entry v)) (sym (get-policy ps es (string_bytes k))))
+      ∙ ap (insert (abstract_store (kept ps es)) (id_name k)) (plain_entry-onto (value_at string_cmp ps k) v ∙ ap (λ a. joined_onto greater_entry a (plain_entry v)) (sym (get-policy ps es (string_bytes k))))
 
-  taken_entity_insert : (ps : List (String Global × Entry P)) (es : List (EntityUid × Entry E)) (u : EntityUid) (v : Entry E) → shown_store (kept ps (taken uid_cmp greater es u v)) ≡ insert (shown_store (kept ps es)) (Entity u) (joined_onto greater_entry (get (shown_store (kept ps es)) (Entity u)) (plain_entry v))
+  taken_entity_insert : (ps : List (String Global × Entry P)) (es : List (EntityUid × Entry E)) (u : EntityUid) (v : Entry E) → abstract_store (kept ps (taken uid_cmp greater es u v)) ≡ insert (abstract_store (kept ps es)) (Entity u) (joined_onto greater_entry (get (abstract_store (kept ps es)) (Entity u)) (plain_entry v))
   taken_entity_insert ps es u v =
       inserted-entity ps es u (joined_onto greater (value_at uid_cmp es u) v)
-      ∙ ap (insert (shown_store (kept ps es)) (Entity u)) (plain_entry-onto (value_at uid_cmp es u) v ∙ ap (λ a. joined_onto greater_entry a (plain_entry v)) (sym (get-entity ps es u)))
+      ∙ ap (insert (abstract_store (kept ps es)) (Entity u)) (plain_entry-onto (value_at uid_cmp es u) v ∙ ap (λ a. joined_onto greater_entry a (plain_entry v)) (sym (get-entity ps es u)))
 
-  pub shown-taken_policy : (ps : List (String Global × Entry P)) (es : List (EntityUid × Entry E)) (k : String Global) (v : Entry P) → shown_store (kept (taken string_cmp greater ps k v) es) ≡ store_of (updates (shown_store (kept ps es)) ++ (id_name k, plain_entry v) ∷ [])
-  shown-taken_policy ps es k v = taken_policy_insert ps es k v ∙ sym (store_of-push name_cmp-IsTotalOrder name_cmp-IsAntisymmetric (shown_store (kept ps es)) (id_name k) (plain_entry v))
+  pub shown-taken_policy : (ps : List (String Global × Entry P)) (es : List (EntityUid × Entry E)) (k : String Global) (v : Entry P) → abstract_store (kept (taken string_cmp greater ps k v) es) ≡ store_of (updates (abstract_store (kept ps es)) ++ (id_name k, plain_entry v) ∷ [])
+  shown-taken_policy ps es k v = taken_policy_insert ps es k v ∙ sym (store_of-push name_cmp-IsTotalOrder name_cmp-IsAntisymmetric (abstract_store (kept ps es)) (id_name k) (plain_entry v))
 
-  pub shown-taken_entity : (ps : List (String Global × Entry P)) (es : List (EntityUid × Entry E)) (u : EntityUid) (v : Entry E) → shown_store (kept ps (taken uid_cmp greater es u v)) ≡ store_of (updates (shown_store (kept ps es)) ++ (Entity u, plain_entry v) ∷ [])
-  shown-taken_entity ps es u v = taken_entity_insert ps es u v ∙ sym (store_of-push name_cmp-IsTotalOrder name_cmp-IsAntisymmetric (shown_store (kept ps es)) (Entity u) (plain_entry v))
+  pub shown-taken_entity : (ps : List (String Global × Entry P)) (es : List (EntityUid × Entry E)) (u : EntityUid) (v : Entry E) → abstract_store (kept ps (taken uid_cmp greater es u v)) ≡ store_of (updates (abstract_store (kept ps es)) ++ (Entity u, plain_entry v) ∷ [])
+  shown-taken_entity ps es u v = taken_entity_insert ps es u v ∙ sym (store_of-push name_cmp-IsTotalOrder name_cmp-IsAntisymmetric (abstract_store (kept ps es)) (Entity u) (plain_entry v))
 
   -- ---- many entries joined
-  shown-all_policies : (ps qs : List (String Global × Entry P)) (es : List (EntityUid × Entry E)) → shown_store (kept (all_taken string_cmp greater ps qs) es) ≡ store_of (updates (shown_store (kept ps es)) ++ shown_entries id_name qs)
-  shown-all_policies ps [] es = sym (ap store_of (append-nil (updates (shown_store (kept ps es)))) ∙ store_of-entries name_cmp-IsTotalOrder name_cmp-IsAntisymmetric (shown_store (kept ps es)))
+  shown-all_policies : (ps qs : List (String Global × Entry P)) (es : List (EntityUid × Entry E)) → abstract_store (kept (all_taken string_cmp greater ps qs) es) ≡ store_of (updates (abstract_store (kept ps es)) ++ abstract_entries id_name qs)
+  shown-all_policies ps [] es = sym (ap store_of (append-nil (updates (abstract_store (kept ps es)))) ∙ store_of-entries name_cmp-IsTotalOrder name_cmp-IsAntisymmetric (abstract_store (kept ps es)))
   shown-all_policies ps (q ∷ qs) es =
       shown-all_policies (taken string_cmp greater ps q.0 q.1) qs es
-      ∙ ap (λ m. store_of (updates m ++ shown_entries id_name qs)) (shown-taken_policy ps es q.0 q.1)
-      ∙ store_of-append name_cmp-IsTotalOrder name_cmp-IsAntisymmetric (updates (shown_store (kept ps es)) ++ shown_entry id_name q ∷ []) (shown_entries id_name qs)
-      ∙ ap store_of (append_assoc (updates (shown_store (kept ps es))) (shown_entry id_name q ∷ []) (shown_entries id_name qs))
+      ∙ ap (λ m. store_of (updates m ++ abstract_entries id_name qs)) (shown-taken_policy ps es q.0 q.1)
+      ∙ store_of-append name_cmp-IsTotalOrder name_cmp-IsAntisymmetric (updates (abstract_store (kept ps es)) ++ abstract_entry id_name q ∷ []) (abstract_entries id_name qs)
+      ∙ ap store_of (append_assoc (updates (abstract_store (kept ps es))) (abstract_entry id_name q ∷ []) (abstract_entries id_name qs))
 
-  shown-all_entities : (ps : List (String Global × Entry P)) (es fs : List (EntityUid × Entry E)) → shown_store (kept ps (all_taken uid_cmp greater es fs)) ≡ store_of (updates (shown_store (kept ps es)) ++ shown_entries entity_name fs)
-  shown-all_entities ps es [] = sym (ap store_of (append-nil (updates (shown_store (kept ps es)))) ∙ store_of-entries name_cmp-IsTotalOrder name_cmp-IsAntisymmetric (shown_store (kept ps es)))
+  shown-all_entities : (ps : List (String Global × Entry P)) (es fs : List (EntityUid × Entry E)) → abstract_store (kept ps (all_taken uid_cmp greater es fs)) ≡ store_of (updates (abstract_store (kept ps es)) ++ abstract_entries entity_name fs)
+  shown-all_entities ps es [] = sym (ap store_of (append-nil (updates (abstract_store (kept ps es)))) ∙ store_of-entries name_cmp-IsTotalOrder name_cmp-IsAntisymmetric (abstract_store (kept ps es)))
   shown-all_entities ps es (f ∷ fs) =
       shown-all_entities ps (taken uid_cmp greater es f.0 f.1) fs
-      ∙ ap (λ m. store_of (updates m ++ shown_entries entity_name fs)) (shown-taken_entity ps es f.0 f.1)
-      ∙ store_of-append name_cmp-IsTotalOrder name_cmp-IsAntisymmetric (updates (shown_store (kept ps es)) ++ shown_entry entity_name f ∷ []) (shown_entries entity_name fs)
-      ∙ ap store_of (append_assoc (updates (shown_store (kept ps es))) (shown_entry entity_name f ∷ []) (shown_entries entity_name fs))
+      ∙ ap (λ m. store_of (updates m ++ abstract_entries entity_name fs)) (shown-taken_entity ps es f.0 f.1)
+      ∙ store_of-append name_cmp-IsTotalOrder name_cmp-IsAntisymmetric (updates (abstract_store (kept ps es)) ++ abstract_entry entity_name f ∷ []) (abstract_entries entity_name fs)
+      ∙ ap store_of (append_assoc (updates (abstract_store (kept ps es))) (abstract_entry entity_name f ∷ []) (abstract_entries entity_name fs))
 
   -- all entries of another store joined: the store of the updates of both
-  pub shown-all_taken : (ps qs : List (String Global × Entry P)) (es fs : List (EntityUid × Entry E)) → shown_store (kept (all_taken string_cmp greater ps qs) (all_taken uid_cmp greater es fs)) ≡ store_of (updates (shown_store (kept ps es)) ++ shown_updates (kept qs fs))
+  pub shown-all_taken : (ps qs : List (String Global × Entry P)) (es fs : List (EntityUid × Entry E)) → abstract_store (kept (all_taken string_cmp greater ps qs) (all_taken uid_cmp greater es fs)) ≡ store_of (updates (abstract_store (kept ps es)) ++ abstract_updates (kept qs fs))
   shown-all_taken ps qs es fs =
       shown-all_entities (all_taken string_cmp greater ps qs) es fs
-      ∙ ap (λ m. store_of (updates m ++ shown_entries entity_name fs)) (shown-all_policies ps qs es)
-      ∙ store_of-append name_cmp-IsTotalOrder name_cmp-IsAntisymmetric (updates (shown_store (kept ps es)) ++ shown_entries id_name qs) (shown_entries entity_name fs)
-      ∙ ap store_of (append_assoc (updates (shown_store (kept ps es))) (shown_entries id_name qs) (shown_entries entity_name fs))
+      ∙ ap (λ m. store_of (updates m ++ abstract_entries entity_name fs)) (shown-all_policies ps qs es)
+      ∙ store_of-append name_cmp-IsTotalOrder name_cmp-IsAntisymmetric (updates (abstract_store (kept ps es)) ++ abstract_entries id_name qs) (abstract_entries entity_name fs)
+      ∙ ap store_of (append_assoc (updates (abstract_store (kept ps es))) (abstract_entries id_name qs) (abstract_entries entity_name fs))
 
   -- ---- the order of the entries
-  put_policy : (bytes : List ℕ) (w : PlainEntry) (ps : List (String Global × Entry P)) (fs : List (EntityUid × Entry E)) → put name_cmp (Policy bytes) w (shown_entries id_name ps ++ shown_entries entity_name fs) ≡ put name_cmp (Policy bytes) w (shown_entries id_name ps) ++ shown_entries entity_name fs
+  put_policy : (bytes : List ℕ) (w : PlainEntry) (ps : List (String Global × Entry P)) (fs : List (EntityUid × Entry E)) → put name_cmp (Policy bytes) w (abstract_entries id_name ps ++ abstract_entries entity_name fs) ≡ put name_cmp (Policy bytes) w (abstract_entries id_name ps) ++ abstract_entries entity_name fs
   put_policy bytes w [] fs = put_first bytes w fs
   put_policy bytes w (p ∷ ps) fs =
-      let rest = shown_entries id_name ps ++ shown_entries entity_name fs in
-      elim (slice_cmp nat_cmp bytes (string_bytes p.0)) as (λ r. by_order r ((Policy bytes, w) ∷ shown_entry id_name p ∷ rest) ((id_name p.0, w) ∷ rest) (shown_entry id_name p ∷ put name_cmp (Policy bytes) w rest) ≡ by_order r ((Policy bytes, w) ∷ shown_entries id_name (p ∷ ps)) ((id_name p.0, w) ∷ shown_entries id_name ps) (shown_entry id_name p ∷ put name_cmp (Policy bytes) w (shown_entries id_name ps)) ++ shown_entries entity_name fs) [
+      let rest = abstract_entries id_name ps ++ abstract_entries entity_name fs in
+      elim (slice_cmp nat_cmp bytes (string_bytes p.0)) as (λ r. by_order r ((Policy bytes, w) ∷ abstract_entry id_name p ∷ rest) ((id_name p.0, w) ∷ rest) (abstract_entry id_name p ∷ put name_cmp (Policy bytes) w rest) ≡ by_order r ((Policy bytes, w) ∷ abstract_entries id_name (p ∷ ps)) ((id_name p.0, w) ∷ abstract_entries id_name ps) (abstract_entry id_name p ∷ put name_cmp (Policy bytes) w (abstract_entries id_name ps)) ++ abstract_entries entity_name fs) [
         | Less ↦ refl
         | Equal ↦ refl
-        | Greater ↦ ap (λ us. shown_entry id_name p ∷ us) (put_policy bytes w ps fs)
+        | Greater ↦ ap (λ us. abstract_entry id_name p ∷ us) (put_policy bytes w ps fs)
       ]
 
-  put_entity : (u : EntityUid) (w : PlainEntry) (ps : List (String Global × Entry P)) (fs : List (EntityUid × Entry E)) → put name_cmp (Entity u) w (shown_entries id_name ps ++ shown_entries entity_name fs) ≡ shown_entries id_name ps ++ put name_cmp (Entity u) w (shown_entries entity_name fs)
+  put_entity : (u : EntityUid) (w : PlainEntry) (ps : List (String Global × Entry P)) (fs : List (EntityUid × Entry E)) → put name_cmp (Entity u) w (abstract_entries id_name ps ++ abstract_entries entity_name fs) ≡ abstract_entries id_name ps ++ put name_cmp (Entity u) w (abstract_entries entity_name fs)
   put_entity u w [] fs = refl
-  put_entity u w (p ∷ ps) fs = ap (λ us. shown_entry id_name p ∷ us) (put_entity u w ps fs)
+  put_entity u w (p ∷ ps) fs = ap (λ us. abstract_entry id_name p ∷ us) (put_entity u w ps fs)
 
-  in_order_policy : (ps : List (String Global × Entry P)) (es : List (EntityUid × Entry E)) (k : String Global) (v : Entry P) → updates (shown_store (kept ps es)) ≡ shown_updates (kept ps es) → updates (shown_store (kept (taken string_cmp greater ps k v) es)) ≡ shown_updates (kept (taken string_cmp greater ps k v) es)
+  in_order_policy : (ps : List (String Global × Entry P)) (es : List (EntityUid × Entry E)) (k : String Global) (v : Entry P) → updates (abstract_store (kept ps es)) ≡ abstract_updates (kept ps es) → updates (abstract_store (kept (taken string_cmp greater ps k v) es)) ≡ abstract_updates (kept (taken string_cmp greater ps k v) es)
   in_order_policy ps es k v h =
       let w : Entry P = joined_onto greater (value_at string_cmp ps k) v in
       ap entries (inserted-policy ps es k w)
-      ∙ entries-insert name_cmp-IsTotalOrder (shown_store (kept ps es)) (id_name k) (plain_entry w)
+      ∙ entries-insert name_cmp-IsTotalOrder (abstract_store (kept ps es)) (id_name k) (plain_entry w)
       ∙ ap (put name_cmp (id_name k) (plain_entry w)) h
       ∙ put_policy (string_bytes k) (plain_entry w) ps es
-      ∙ ap (λ us. us ++ shown_entries entity_name es) (sym (shown-insert_entry id_name name_cmp ps k w))
+      ∙ ap (λ us. us ++ abstract_entries entity_name es) (sym (shown-insert_entry id_name name_cmp ps k w))
 
-  in_order_entity : (ps : List (String Global × Entry P)) (es : List (EntityUid × Entry E)) (u : EntityUid) (v : Entry E) → updates (shown_store (kept ps es)) ≡ shown_updates (kept ps es) → updates (shown_store (kept ps (taken uid_cmp greater es u v))) ≡ shown_updates (kept ps (taken uid_cmp greater es u v))
+  in_order_entity : (ps : List (String Global × Entry P)) (es : List (EntityUid × Entry E)) (u : EntityUid) (v : Entry E) → updates (abstract_store (kept ps es)) ≡ abstract_updates (kept ps es) → updates (abstract_store (kept ps (taken uid_cmp greater es u v))) ≡ abstract_updates (kept ps (taken uid_cmp greater es u v))
   in_order_entity ps es u v h =
       let w : Entry E = joined_onto greater (value_at uid_cmp es u) v in
       ap entries (inserted-entity ps es u w)
-      ∙ entries-insert name_cmp-IsTotalOrder (shown_store (kept ps es)) (entity_name u) (plain_entry w)
+      ∙ entries-insert name_cmp-IsTotalOrder (abstract_store (kept ps es)) (entity_name u) (plain_entry w)
       ∙ ap (put name_cmp (entity_name u) (plain_entry w)) h
       ∙ put_entity u (plain_entry w) ps es
-      ∙ ap (λ us. shown_entries id_name ps ++ us) (sym (shown-insert_entry entity_name name_cmp es u w))
+      ∙ ap (λ us. abstract_entries id_name ps ++ us) (sym (shown-insert_entry entity_name name_cmp es u w))
 
-  in_order_policies : (ps qs : List (String Global × Entry P)) (es : List (EntityUid × Entry E)) → updates (shown_store (kept ps es)) ≡ shown_updates (kept ps es) → updates (shown_store (kept (all_taken string_cmp greater ps qs) es)) ≡ shown_updates (kept (all_taken string_cmp greater ps qs) es)
+  in_order_policies : (ps qs : List (String Global × Entry P)) (es : List (EntityUid × Entry E)) → updates (abstract_store (kept ps es)) ≡ abstract_updates (kept ps es) → updates (abstract_store (kept (all_taken string_cmp greater ps qs) es)) ≡ abstract_updates (kept (all_taken string_cmp greater ps qs) es)
   in_order_policies ps [] es h = h
   in_order_policies ps (q ∷ qs) es h = in_order_policies (taken string_cmp greater ps q.0 q.1) qs es (in_order_policy ps es q.0 q.1 h)
 
-  in_order_entities : (ps : List (String Global × Entry P)) (es fs : List (EntityUid × Entry E)) → updates (shown_store (kept ps es)) ≡ shown_updates (kept ps es) → updates (shown_store (kept ps (all_taken uid_cmp greater es fs))) ≡ shown_updates (kept ps (all_taken uid_cmp greater es fs))
+  in_order_entities : (ps : List (String Global × Entry P)) (es fs : List (EntityUid × Entry E)) → updates (abstract_store (kept ps es)) ≡ abstract_updates (kept ps es) → updates (abstract_store (kept ps (all_taken uid_cmp greater es fs))) ≡ abstract_updates (kept ps (all_taken uid_cmp greater es fs))
   in_order_entities ps es [] h = h
   in_order_entities ps es (f ∷ fs) h = in_order_entities ps (taken uid_cmp greater es f.0 f.1) fs (in_order_entity ps es f.0 f.1 h)
 
-  in_order_all : (ps qs : List (String Global × Entry P)) (es fs : List (EntityUid × Entry E)) → updates (shown_store (kept ps es)) ≡ shown_updates (kept ps es) → updates (shown_store (kept (all_taken string_cmp greater ps qs) (all_taken uid_cmp greater es fs))) ≡ shown_updates (kept (all_taken string_cmp greater ps qs) (all_taken uid_cmp greater es fs))
+  in_order_all : (ps qs : List (String Global × Entry P)) (es fs : List (EntityUid × Entry E)) → updates (abstract_store (kept ps es)) ≡ abstract_updates (kept ps es) → updates (abstract_store (kept (all_taken string_cmp greater ps qs) (all_taken uid_cmp greater es fs))) ≡ abstract_updates (kept (all_taken string_cmp greater ps qs) (all_taken uid_cmp greater es fs))
   in_order_all ps qs es fs h = in_order_entities (all_taken string_cmp greater ps qs) es fs (in_order_policies ps qs es h)
 
   -- ---- the count that is kept
   pub counted_empty : IsCounted (kept {P = P} {E = E} [] []) 0
   counted_empty = record {
     counted = sym (greatest_count-empty name_cmp-IsTotalOrder);
-    in_order = no_entries (updates (shown_store (kept {P = P} {E = E} [] []))) (sym (len-entries empty) ∙ len-empty name_cmp PlainEntry);
+    in_order = no_entries (updates (abstract_store (kept {P = P} {E = E} [] []))) (sym (len-entries empty) ∙ len-empty name_cmp PlainEntry);
   }
     where
       no_entries : (es : List Update) → length es ≡ 0 → es ≡ []
@@ -233,7 +233,7 @@ module _ {P E : Type 0} where
       → n ≡ taken string_cmp greater ps k v → after ≡ max greatest v.stamp.count → IsCounted (kept ps es) greatest → IsCounted (kept n es) after
   counted_policy ps n es k v greatest after e m h =
       let counted : IsCounted (kept (taken string_cmp greater ps k v) es) after = record {
-        counted = m ∙ ap (λ c. max c v.stamp.count) h.counted ∙ sym (ap greatest_count (taken_policy_insert ps es k v) ∙ greatest_count-insert name_cmp-IsTotalOrder (shown_store (kept ps es)) (id_name k) (plain_entry v));
+        counted = m ∙ ap (λ c. max c v.stamp.count) h.counted ∙ sym (ap greatest_count (taken_policy_insert ps es k v) ∙ greatest_count-insert name_cmp-IsTotalOrder (abstract_store (kept ps es)) (id_name k) (plain_entry v));
         in_order = in_order_policy ps es k v h.in_order;
       } in
       subst (λ x. IsCounted (kept x es) after) (sym e) counted
@@ -242,7 +242,7 @@ module _ {P E : Type 0} where
       → n ≡ taken uid_cmp greater es u v → after ≡ max greatest v.stamp.count → IsCounted (kept ps es) greatest → IsCounted (kept ps n) after
   counted_entity ps es n u v greatest after e m h =
       let counted : IsCounted (kept ps (taken uid_cmp greater es u v)) after = record {
-        counted = m ∙ ap (λ c. max c v.stamp.count) h.counted ∙ sym (ap greatest_count (taken_entity_insert ps es u v) ∙ greatest_count-insert name_cmp-IsTotalOrder (shown_store (kept ps es)) (entity_name u) (plain_entry v));
+        counted = m ∙ ap (λ c. max c v.stamp.count) h.counted ∙ sym (ap greatest_count (taken_entity_insert ps es u v) ∙ greatest_count-insert name_cmp-IsTotalOrder (abstract_store (kept ps es)) (entity_name u) (plain_entry v));
         in_order = in_order_entity ps es u v h.in_order;
       } in
       subst (λ x. IsCounted (kept ps x) after) (sym e) counted
@@ -252,11 +252,11 @@ module _ {P E : Type 0} where
       → n ≡ all_taken string_cmp greater ps qs → m ≡ all_taken uid_cmp greater es fs → after ≡ max greatest other
       → IsCounted (kept ps es) greatest → IsCounted (kept qs fs) other → IsCounted (kept n m) after
   counted_all ps qs n es fs m greatest other after e f is h k =
-      let whole : greatest_count (shown_store (kept (all_taken string_cmp greater ps qs) (all_taken uid_cmp greater es fs))) ≡ max (greatest_count (shown_store (kept ps es))) (max_count (shown_updates (kept qs fs))) =
-      ap greatest_count (shown-all_taken ps qs es fs) ∙ greatest_count-store_of name_cmp-IsTotalOrder (updates (shown_store (kept ps es)) ++ shown_updates (kept qs fs)) ∙ max_count-append (updates (shown_store (kept ps es))) (shown_updates (kept qs fs)) in
-      let theirs : other ≡ max_count (shown_updates (kept qs fs)) = k.counted ∙ ap max_count k.in_order in
+      let whole : greatest_count (abstract_store (kept (all_taken string_cmp greater ps qs) (all_taken uid_cmp greater es fs))) ≡ max (greatest_count (abstract_store (kept ps es))) (max_count (abstract_updates (kept qs fs))) =
+      ap greatest_count (shown-all_taken ps qs es fs) ∙ greatest_count-store_of name_cmp-IsTotalOrder (updates (abstract_store (kept ps es)) ++ abstract_updates (kept qs fs)) ∙ max_count-append (updates (abstract_store (kept ps es))) (abstract_updates (kept qs fs)) in
+      let theirs : other ≡ max_count (abstract_updates (kept qs fs)) = k.counted ∙ ap max_count k.in_order in
       let counted : IsCounted (kept (all_taken string_cmp greater ps qs) (all_taken uid_cmp greater es fs)) after = record {
-        counted = is ∙ ap (λ c. max c other) h.counted ∙ ap (max (greatest_count (shown_store (kept ps es)))) theirs ∙ sym whole;
+        counted = is ∙ ap (λ c. max c other) h.counted ∙ ap (max (greatest_count (abstract_store (kept ps es)))) theirs ∙ sym whole;
         in_order = in_order_all ps qs es fs h.in_order;
       } in
       subst (λ x. IsCounted (kept x m) after) (sym e) (subst (λ y. IsCounted (kept (all_taken string_cmp greater ps qs) y) after) (sym f) counted)
@@ -266,20 +266,20 @@ module _ {P E : Type 0} where
       → n ≡ all_taken string_cmp greater ps qs → m ≡ all_taken uid_cmp greater es fs → after ≡ max (greatest_kept n) (greatest_kept m)
       → IsCounted (kept ps es) greatest → IsCounted (kept n m) after
   counted_anew ps qs n es fs m greatest after e f is h =
-      let ordered : updates (shown_store (kept n m)) ≡ shown_updates (kept n m) =
-      subst (λ x. updates (shown_store (kept x m)) ≡ shown_updates (kept x m)) (sym e)
-      (subst (λ y. updates (shown_store (kept (all_taken string_cmp greater ps qs) y)) ≡ shown_updates (kept (all_taken string_cmp greater ps qs) y)) (sym f) (in_order_all ps qs es fs h.in_order)) in
+      let ordered : updates (abstract_store (kept n m)) ≡ abstract_updates (kept n m) =
+      subst (λ x. updates (abstract_store (kept x m)) ≡ abstract_updates (kept x m)) (sym e)
+      (subst (λ y. updates (abstract_store (kept (all_taken string_cmp greater ps qs) y)) ≡ abstract_updates (kept (all_taken string_cmp greater ps qs) y)) (sym f) (in_order_all ps qs es fs h.in_order)) in
       record {
-        counted = is ∙ sym (ap max_count ordered ∙ max_count-append (shown_entries id_name n) (shown_entries entity_name m) ∙ ap (λ c. max c (max_count (shown_entries entity_name m))) (max_count-shown id_name n) ∙ ap (max (greatest_kept n)) (max_count-shown entity_name m));
+        counted = is ∙ sym (ap max_count ordered ∙ max_count-append (abstract_entries id_name n) (abstract_entries entity_name m) ∙ ap (λ c. max c (max_count (abstract_entries entity_name m))) (max_count-shown id_name n) ∙ ap (max (greatest_kept n)) (max_count-shown entity_name m));
         in_order = ordered;
       }
 
   -- ---- what a call leaves
-  pub joined_policy : (s t : StoreEntries P E) (k : String Global) (v : Entry P) → t ≡ kept (taken string_cmp greater s.policies k v) s.entities → shown_store t ≡ store_of (updates (shown_store s) ++ (id_name k, plain_entry v) ∷ [])
-  joined_policy s t k v e = ap shown_store e ∙ shown-taken_policy s.policies s.entities k v
+  pub joined_policy : (s t : StoreEntries P E) (k : String Global) (v : Entry P) → t ≡ kept (taken string_cmp greater s.policies k v) s.entities → abstract_store t ≡ store_of (updates (abstract_store s) ++ (id_name k, plain_entry v) ∷ [])
+  joined_policy s t k v e = ap abstract_store e ∙ shown-taken_policy s.policies s.entities k v
 
-  pub joined_entity : (s t : StoreEntries P E) (u : EntityUid) (v : Entry E) → t ≡ kept s.policies (taken uid_cmp greater s.entities u v) → shown_store t ≡ store_of (updates (shown_store s) ++ (entity_name u, plain_entry v) ∷ [])
-  joined_entity s t u v e = ap shown_store e ∙ shown-taken_entity s.policies s.entities u v
+  pub joined_entity : (s t : StoreEntries P E) (u : EntityUid) (v : Entry E) → t ≡ kept s.policies (taken uid_cmp greater s.entities u v) → abstract_store t ≡ store_of (updates (abstract_store s) ++ (entity_name u, plain_entry v) ∷ [])
+  joined_entity s t u v e = ap abstract_store e ∙ shown-taken_entity s.policies s.entities u v
 
 -- ---- the first names of a store
 take_both : {A : Type 0} (n : ℕ) (xs ys : List A) → take n (xs ++ ys) ≡ take n xs ++ take (n - length xs) ys
@@ -363,28 +363,28 @@ below_at_text ps qs h bytes (Some a) e =
 
 module _ {P E : Type 0} where
   -- the updates of the first names
-  first_updates : (n : ℕ) (k : StoreEntries P E) → shown_updates (first_kept n k) ≡ take n (shown_updates k)
+  first_updates : (n : ℕ) (k : StoreEntries P E) → abstract_updates (first_kept n k) ≡ take n (abstract_updates k)
   first_updates n k = sym (
-      take_both n (shown_entries id_name k.policies) (shown_entries entity_name k.entities)
-      ∙ ap (λ us. us ++ take (n - length (shown_entries id_name k.policies)) (shown_entries entity_name k.entities)) (take-map (shown_entry id_name) n k.policies)
-      ∙ ap (λ us. shown_entries id_name (take n k.policies) ++ us) (ap (λ m. take (n - m) (shown_entries entity_name k.entities)) (length-map k.policies (shown_entry id_name)) ∙ take-map (shown_entry entity_name) (n - length k.policies) k.entities))
+      take_both n (abstract_entries id_name k.policies) (abstract_entries entity_name k.entities)
+      ∙ ap (λ us. us ++ take (n - length (abstract_entries id_name k.policies)) (abstract_entries entity_name k.entities)) (take-map (abstract_entry id_name) n k.policies)
+      ∙ ap (λ us. abstract_entries id_name (take n k.policies) ++ us) (ap (λ m. take (n - m) (abstract_entries entity_name k.entities)) (length-map k.policies (abstract_entry id_name)) ∙ take-map (abstract_entry entity_name) (n - length k.policies) k.entities))
 
   -- a store that took all that another has is their join
-  pub joined_whole : (s o t : StoreEntries P E) → updates (shown_store o) ≡ shown_updates o → t ≡ all_kept s o → IsStoreJoin (shown_store s) (shown_store o) (shown_store t)
+  pub joined_whole : (s o t : StoreEntries P E) → updates (abstract_store o) ≡ abstract_updates o → t ≡ all_kept s o → IsStoreJoin (abstract_store s) (abstract_store o) (abstract_store t)
   joined_whole s o t h e =
-      let path : shown_store t ≡ joined_stores (shown_store s) (shown_store o) =
-      ap shown_store e ∙ shown-all_taken s.policies o.policies s.entities o.entities ∙ ap (λ us. store_of (updates (shown_store s) ++ us)) (sym h) in
-      subst (IsStoreJoin (shown_store s) (shown_store o)) (sym path) (joined_is_join (shown_store s) (shown_store o))
+      let path : abstract_store t ≡ joined_stores (abstract_store s) (abstract_store o) =
+      ap abstract_store e ∙ shown-all_taken s.policies o.policies s.entities o.entities ∙ ap (λ us. store_of (updates (abstract_store s) ++ us)) (sym h) in
+      subst (IsStoreJoin (abstract_store s) (abstract_store o)) (sym path) (joined_is_join (abstract_store s) (abstract_store o))
 
   -- and one that took the first names' entries is the join with these
-  pub joined_first : (s o t : StoreEntries P E) (n : ℕ) → updates (shown_store o) ≡ shown_updates o → t ≡ all_kept s (first_kept n o) → IsStoreJoin (shown_store s) (first_names n (shown_store o)) (shown_store t)
+  pub joined_first : (s o t : StoreEntries P E) (n : ℕ) → updates (abstract_store o) ≡ abstract_updates o → t ≡ all_kept s (first_kept n o) → IsStoreJoin (abstract_store s) (first_names n (abstract_store o)) (abstract_store t)
   joined_first s o t n h e =
-      let path : shown_store t ≡ joined_stores (shown_store s) (first_names n (shown_store o)) =
-      ap shown_store e
+      let path : abstract_store t ≡ joined_stores (abstract_store s) (first_names n (abstract_store o)) =
+      ap abstract_store e
       ∙ shown-all_taken s.policies (take n o.policies) s.entities (take (n - length o.policies) o.entities)
-      ∙ ap (λ us. store_of (updates (shown_store s) ++ us)) (first_updates n o ∙ ap (take n) (sym h))
-      ∙ sym (store_of-append_right name_cmp-IsTotalOrder name_cmp-IsAntisymmetric (updates (shown_store s)) (take n (updates (shown_store o)))) in
-      subst (IsStoreJoin (shown_store s) (first_names n (shown_store o))) (sym path) (joined_is_join (shown_store s) (first_names n (shown_store o)))
+      ∙ ap (λ us. store_of (updates (abstract_store s) ++ us)) (first_updates n o ∙ ap (take n) (sym h))
+      ∙ sym (store_of-append_right name_cmp-IsTotalOrder name_cmp-IsAntisymmetric (updates (abstract_store s)) (take n (updates (abstract_store o)))) in
+      subst (IsStoreJoin (abstract_store s) (first_names n (abstract_store o))) (sym path) (joined_is_join (abstract_store s) (first_names n (abstract_store o)))
 
   -- memory was refused among the policies
   pub kept_first_policies : (s o : StoreEntries P E) (n : List (String Global × Entry P)) (k : ℕ) → n ≡ all_taken string_cmp greater s.policies (take k o.policies) → k < length o.policies → kept n s.entities ≡ all_kept s (first_kept k o)
@@ -400,33 +400,33 @@ module _ {P E : Type 0} where
       ap (λ ps. kept ps m) (e ∙ ap (all_taken string_cmp greater s.policies) all)
       ∙ ap (kept (all_taken string_cmp greater s.policies (take k o.policies))) (f ∙ ap (λ i. all_taken uid_cmp greater s.entities (take i o.entities)) some)
 
-  store_below : (s o : StoreEntries P E) → IsBelow string_cmp entry_below s.policies o.policies → IsBelow uid_cmp entry_below s.entities o.entities → IsStoreBelow (shown_store s) (shown_store o)
+  store_below : (s o : StoreEntries P E) → IsBelow string_cmp entry_below s.policies o.policies → IsBelow uid_cmp entry_below s.entities o.entities → IsStoreBelow (abstract_store s) (abstract_store o)
   store_below s o h k (Policy bytes) =
-      ap (λ a. option_below plain_below a (get (shown_store o) (Policy bytes))) (get-policy s.policies s.entities bytes)
+      ap (λ a. option_below plain_below a (get (abstract_store o) (Policy bytes))) (get-policy s.policies s.entities bytes)
       ∙ ap (option_below plain_below (option_map plain_entry (value_at_text s.policies bytes))) (get-policy o.policies o.entities bytes)
       ∙ entries_below (value_at_text s.policies bytes) (value_at_text o.policies bytes)
       ∙ below_at_text s.policies o.policies h bytes (value_at_text s.policies bytes) refl
   store_below s o h k (Entity u) =
-      ap (λ a. option_below plain_below a (get (shown_store o) (Entity u))) (get-entity s.policies s.entities u)
+      ap (λ a. option_below plain_below a (get (abstract_store o) (Entity u))) (get-entity s.policies s.entities u)
       ∙ ap (option_below plain_below (option_map plain_entry (value_at uid_cmp s.entities u))) (get-entity o.policies o.entities u)
       ∙ entries_below (value_at uid_cmp s.entities u) (value_at uid_cmp o.entities u)
       ∙ k u
 
-  policies_below : (s o : StoreEntries P E) → IsStoreBelow (shown_store s) (shown_store o) → IsBelow string_cmp entry_below s.policies o.policies
+  policies_below : (s o : StoreEntries P E) → IsStoreBelow (abstract_store s) (abstract_store o) → IsBelow string_cmp entry_below s.policies o.policies
   policies_below s o h k = sym (entries_below (value_at string_cmp s.policies k) (value_at string_cmp o.policies k))
-      ∙ sym (ap (λ a. option_below plain_below a (get (shown_store o) (id_name k))) (get-policy s.policies s.entities (string_bytes k)) ∙ ap (option_below plain_below (option_map plain_entry (value_at string_cmp s.policies k))) (get-policy o.policies o.entities (string_bytes k)))
+      ∙ sym (ap (λ a. option_below plain_below a (get (abstract_store o) (id_name k))) (get-policy s.policies s.entities (string_bytes k)) ∙ ap (option_below plain_below (option_map plain_entry (value_at string_cmp s.policies k))) (get-policy o.policies o.entities (string_bytes k)))
       ∙ h (id_name k)
 
-  entities_below : (s o : StoreEntries P E) → IsStoreBelow (shown_store s) (shown_store o) → IsBelow uid_cmp entry_below s.entities o.entities
+  entities_below : (s o : StoreEntries P E) → IsStoreBelow (abstract_store s) (abstract_store o) → IsBelow uid_cmp entry_below s.entities o.entities
   entities_below s o h u = sym (entries_below (value_at uid_cmp s.entities u) (value_at uid_cmp o.entities u))
-      ∙ sym (ap (λ a. option_below plain_below a (get (shown_store o) (Entity u))) (get-entity s.policies s.entities u) ∙ ap (option_below plain_below (option_map plain_entry (value_at uid_cmp s.entities u))) (get-entity o.policies o.entities u))
+      ∙ sym (ap (λ a. option_below plain_below a (get (abstract_store o) (Entity u))) (get-entity s.policies s.entities u) ∙ ap (option_below plain_below (option_map plain_entry (value_at uid_cmp s.entities u))) (get-entity o.policies o.entities u))
       ∙ h (entity_name u)
 
   -- both parts are asked, the entities only where the policies are below
-  pub below_if_both : (s o : StoreEntries P E) (p e : Bool) → IsTrue p ↔ IsBelow string_cmp entry_below s.policies o.policies → IsTrue e ↔ IsBelow uid_cmp entry_below s.entities o.entities → p ≡ true → IsTrue e ↔ IsStoreBelow (shown_store s) (shown_store o)
+  pub below_if_both : (s o : StoreEntries P E) (p e : Bool) → IsTrue p ↔ IsBelow string_cmp entry_below s.policies o.policies → IsTrue e ↔ IsBelow uid_cmp entry_below s.entities o.entities → p ≡ true → IsTrue e ↔ IsStoreBelow (abstract_store s) (abstract_store o)
   below_if_both s o p e h k first = ((λ is. store_below s o (h.0 first) (k.0 is)), (λ b. k.1 (entities_below s o b)))
 
-  pub below_if_not : (s o : StoreEntries P E) (p : Bool) → IsTrue p ↔ IsBelow string_cmp entry_below s.policies o.policies → p ≡ false → IsTrue p ↔ IsStoreBelow (shown_store s) (shown_store o)
+  pub below_if_not : (s o : StoreEntries P E) (p : Bool) → IsTrue p ↔ IsBelow string_cmp entry_below s.policies o.policies → p ≡ false → IsTrue p ↔ IsStoreBelow (abstract_store s) (abstract_store o)
   below_if_not s o p h apart = ((λ is. let both : p ≡ true = is in absurd (cc)), (λ b. h.1 (policies_below s o b)))
 
 -- ---- laws of the join

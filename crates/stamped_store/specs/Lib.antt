@@ -3,7 +3,7 @@ pub mod EntryOrder
 pub mod EntryJoins
 pub mod Stored
 pub mod Greatest
-pub mod Shown
+pub mod Abstraction
 pub mod Store
 pub mod Reading
 pub mod Contents

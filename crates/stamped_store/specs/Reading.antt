@@ -21,7 +21,7 @@ abbrev pub IsEntryRead : {P : Type 0} → (List ℕ → P → Type 0) → Entry 
 IsEntryRead Reads e = IsBodyRead Reads e.body
 
 -- each text in a store is read as what stands beside it; what it may be read as depends on its name
-pub record IsKeptRead {P E : Type 0} (Policies : List ℕ → List ℕ → P → Type 0)
+pub record AreEntriesRead {P E : Type 0} (Policies : List ℕ → List ℕ → P → Type 0)
     (Entities : EntityUid → List ℕ → E → Type 0) (k : StoreEntries P E) : Type 0 where
   pub policies : AllNamed string_bytes (λ id. IsEntryRead (Policies id)) k.policies
   pub entities : AllNamed (λ uid. uid) (λ uid. IsEntryRead (Entities uid)) k.entities

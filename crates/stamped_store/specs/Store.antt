@@ -15,7 +15,7 @@ use Rattle.stamped_store.specs.Joins.{IsLeastAbove, option_below}
 use Rattle.stamped_store.specs.EntryOrder.{PlainEntry, entry_cmp, greater}
 use Rattle.stamped_store.specs.Greatest as updates_of
 use Rattle.stamped_store.specs.Stored.{all_taken}
-use Rattle.stamped_store.specs.Shown.{shown_entries}
+use Rattle.stamped_store.specs.Abstraction.{abstract_entries}
 
 abbrev pub Store : Type 0
 Store = map.FinMap name_cmp PlainEntry
@@ -83,12 +83,12 @@ abbrev pub entity_name : EntityUid → Name
 entity_name uid = Entity uid
 
 -- its updates: policies, then entities
-abbrev pub shown_updates : {P E : Type 0} → StoreEntries P E → List Update
-shown_updates k = shown_entries id_name k.policies ++ shown_entries entity_name k.entities
+abbrev pub abstract_updates : {P E : Type 0} → StoreEntries P E → List Update
+abstract_updates k = abstract_entries id_name k.policies ++ abstract_entries entity_name k.entities
 
 -- the store that it stands for
-abbrev pub shown_store : {P E : Type 0} → StoreEntries P E → Store
-shown_store k = map.from_entries (shown_updates k)
+abbrev pub abstract_store : {P E : Type 0} → StoreEntries P E → Store
+abstract_store k = map.from_entries (abstract_updates k)
 
 -- k, with each entry of l joined in turn
 abbrev pub all_kept : {P E : Type 0} → StoreEntries P E → StoreEntries P E → StoreEntries P E
@@ -102,5 +102,5 @@ first_kept n k = kept (take n k.policies) (take (n - length k.policies) k.entiti
 -- what is always true of what the code keeps: the count beside it is the greatest, and its updates are those of the
 -- store, in order
 pub record IsCounted {P E : Type 0} (k : StoreEntries P E) (greatest : ℕ) : Type 0 where
-  pub counted : greatest ≡ updates_of.greatest_count (shown_store k)
-  pub in_order : updates (shown_store k) ≡ shown_updates k
+  pub counted : greatest ≡ updates_of.greatest_count (abstract_store k)
+  pub in_order : updates (abstract_store k) ≡ abstract_updates k

@@ -1,5 +1,5 @@
 //! Values that can be joined.
-ghost use Rattle.std.specs.Prelude.{◌≡◌, Bool, true, IsTrue};
+ghost use Rattle.std.specs.Prelude.{◌≡◌, Bool, true};
 ghost use Rattle.stamped_store.specs.Joins.{IsJoin};
 
 /// A value that can be joined with another: the join is the least value above both. Two values are equal where each is

@@ -18,7 +18,7 @@ ghost use Rattle.stamped_store.specs.Greatest.{IsStoreOf, greatest_count};
 ghost use Rattle.stamped_store.specs.Store.{Store, Update, updates, store_of, plain_below, IsStoreBelow, IsStoreJoin};
 ghost use Rattle.stamped_store.specs.Store.{joined_stores, issue, issued, policy_name, entity_name};
 ghost use Rattle.stamped_store.specs.Store.{StoreEntries, kept, all_kept, first_kept};
-ghost use Rattle.stamped_store.specs.Reading.{IsEntryRead, IsKeptRead};
+ghost use Rattle.stamped_store.specs.Reading.{IsEntryRead, AreEntriesRead};
 ghost use Rattle.stamped_store.specs.Contents.{text_under, policies_of, entities_of};
 ghost use Rattle.stamped_store.specs.Deltas.{Summary, stamp_of, summary_of, is_news, delta, HaveOneEntryForAStamp};
 
@@ -115,19 +115,19 @@ pub fn deltas_are_joined()
 /// after a policy or an entity is taken whose own text was so read, and after a merge of two such stores, whole or cut
 /// short.
 pub fn readings_are_kept<P: Drop, E: Drop, R: Readings<P, E>>()
-    ensures empty { (r : R) → IsKeptRead {P = P} {E = E} (R.reads_policy r) (R.reads_entity r) (kept [] []) }
+    ensures empty { (r : R) → AreEntriesRead {P = P} {E = E} (R.reads_policy r) (R.reads_entity r) (kept [] []) }
     ensures policy { (r : R) (k : StoreEntries P E) (id : String Global) (entry : Entry P)
-        → IsKeptRead (R.reads_policy r) (R.reads_entity r) k → IsEntryRead (R.reads_policy r (string_bytes id)) entry
-        → IsKeptRead (R.reads_policy r) (R.reads_entity r)
+        → AreEntriesRead (R.reads_policy r) (R.reads_entity r) k → IsEntryRead (R.reads_policy r (string_bytes id)) entry
+        → AreEntriesRead (R.reads_policy r) (R.reads_entity r)
         (kept (taken string_cmp greater k.policies id entry) k.entities) }
     ensures entity { (r : R) (k : StoreEntries P E) (uid : EntityUid) (entry : Entry E)
-        → IsKeptRead (R.reads_policy r) (R.reads_entity r) k → IsEntryRead (R.reads_entity r uid) entry
-        → IsKeptRead (R.reads_policy r) (R.reads_entity r)
+        → AreEntriesRead (R.reads_policy r) (R.reads_entity r) k → IsEntryRead (R.reads_entity r uid) entry
+        → AreEntriesRead (R.reads_policy r) (R.reads_entity r)
         (kept k.policies (taken uid_cmp greater k.entities uid entry)) }
-    ensures merged { (r : R) (k l : StoreEntries P E) → IsKeptRead (R.reads_policy r) (R.reads_entity r) k
-        → IsKeptRead (R.reads_policy r) (R.reads_entity r) l
-        → IsKeptRead (R.reads_policy r) (R.reads_entity r) (all_kept k l) }
-    ensures cut_short { (r : R) (n : ℕ) (k l : StoreEntries P E) → IsKeptRead (R.reads_policy r) (R.reads_entity r) k
-        → IsKeptRead (R.reads_policy r) (R.reads_entity r) l
-        → IsKeptRead (R.reads_policy r) (R.reads_entity r) (all_kept k (first_kept n l)) }
+    ensures merged { (r : R) (k l : StoreEntries P E) → AreEntriesRead (R.reads_policy r) (R.reads_entity r) k
+        → AreEntriesRead (R.reads_policy r) (R.reads_entity r) l
+        → AreEntriesRead (R.reads_policy r) (R.reads_entity r) (all_kept k l) }
+    ensures cut_short { (r : R) (n : ℕ) (k l : StoreEntries P E) → AreEntriesRead (R.reads_policy r) (R.reads_entity r) k
+        → AreEntriesRead (R.reads_policy r) (R.reads_entity r) l
+        → AreEntriesRead (R.reads_policy r) (R.reads_entity r) (all_kept k (first_kept n l)) }
 {}

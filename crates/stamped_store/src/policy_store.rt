@@ -11,9 +11,9 @@ ghost use Rattle.std.specs.List.Sorted.{IsStrictlySortedBy};
 ghost use Rattle.values.specs.Names.{uid_cmp};
 ghost use Rattle.stamped_store.specs.EntryOrder.{plain_entry, greater, entry_below};
 ghost use Rattle.stamped_store.specs.Greatest.{greatest_count};
-ghost use Rattle.stamped_store.specs.Shown.{greatest_kept};
+ghost use Rattle.stamped_store.specs.Abstraction.{greatest_kept};
 ghost use Rattle.stamped_store.specs.Stored.{value_at, value_at_text, taken, IsBelow};
-ghost use Rattle.stamped_store.specs.Store.{shown_store, shown_updates, store_of, updates, kept, all_kept, first_kept};
+ghost use Rattle.stamped_store.specs.Store.{abstract_store, abstract_updates, store_of, updates, kept, all_kept, first_kept};
 ghost use Rattle.stamped_store.specs.Store.{policy_name, entity_name, KeepsOtherNames, IsStoreBelow, IsStoreJoin};
 ghost use Rattle.stamped_store.specs.Store.{first_names, issue};
 
@@ -52,7 +52,7 @@ impl<P: Drop, E: Drop> PolicyStore<P, E> {
     /// The empty store. Takes no memory.
     pub fn new(alloc: Global) -> Self
         ensures kept { result ≡ kept [] [] }
-        ensures empty { shown_store result ≡ store_of [] }
+        ensures empty { abstract_store result ≡ store_of [] }
     {
         PolicyStore {
             policies: Stamped::new(alloc),
@@ -64,7 +64,7 @@ impl<P: Drop, E: Drop> PolicyStore<P, E> {
     /// The entry of the policy of this id, if there is one, in logarithmic time and without memory.
     pub fn get_policy(&self, id: &str) -> Option<&Entry<P>>
         ensures kept { option_copied result ≡ value_at_text self.now.policies id.now }
-        ensures shown { option_map plain_entry (option_copied result) ≡ get (shown_store self.now)
+        ensures shown { option_map plain_entry (option_copied result) ≡ get (abstract_store self.now)
             (policy_name id.now) }
     {
         policy_at(&self.policies, id)
@@ -74,7 +74,7 @@ impl<P: Drop, E: Drop> PolicyStore<P, E> {
     pub fn get_entity(&self, uid: &EntityUid) -> Option<&Entry<E>>
         ensures kept { option_copied result ≡ value_at uid_cmp self.now.entities uid.now }
         ensures shown { option_map plain_entry (option_copied result)
-            ≡ get (shown_store self.now) (entity_name uid.now) }
+            ≡ get (abstract_store self.now) (entity_name uid.now) }
     {
         entity_at(&self.entities, uid)
     }
@@ -84,7 +84,7 @@ impl<P: Drop, E: Drop> PolicyStore<P, E> {
         ensures rest { result ≡ self.now.policies }
         ensures runs { ShowsInOrder (deref_pair {K = String Global} {X = Entry P}) }
         ensures ordered { IsStrictlySortedBy string_cmp (keys_of self.now.policies) }
-        ensures in_order { updates (shown_store self.now) ≡ shown_updates self.now }
+        ensures in_order { updates (abstract_store self.now) ≡ abstract_updates self.now }
     {
         self.policies.iter()
     }
@@ -94,14 +94,14 @@ impl<P: Drop, E: Drop> PolicyStore<P, E> {
         ensures rest { result ≡ self.now.entities }
         ensures runs { ShowsInOrder (deref_pair {K = EntityUid} {X = Entry E}) }
         ensures ordered { IsStrictlySortedBy uid_cmp (keys_of self.now.entities) }
-        ensures in_order { updates (shown_store self.now) ≡ shown_updates self.now }
+        ensures in_order { updates (abstract_store self.now) ≡ abstract_updates self.now }
     {
         self.entities.iter()
     }
 
     /// The greatest count in the whole store, and 0 for the empty one, in constant time.
     pub fn greatest_count(&self) -> u64
-        ensures { result ≡ greatest_count (shown_store self.now) }
+        ensures { result ≡ greatest_count (abstract_store self.now) }
     {
         self.greatest
     }
@@ -109,8 +109,8 @@ impl<P: Drop, E: Drop> PolicyStore<P, E> {
     /// The stamp of the next local command at a site: one more than the greatest count in the whole store, and the
     /// site's number.
     pub fn issue(&self, site: u16) -> Stamp
-        requires { greatest_count (shown_store self.now) < COUNT_MAX }
-        ensures { result ≡ issue (shown_store self.now) site }
+        requires { greatest_count (abstract_store self.now) < COUNT_MAX }
+        ensures { result ≡ issue (abstract_store self.now) site }
     {
         Stamp {
             count: self.greatest + 1,
@@ -121,10 +121,10 @@ impl<P: Drop, E: Drop> PolicyStore<P, E> {
     /// Joins an entry at a policy's id, in logarithmic time. Every other name keeps its entry. Where memory is refused,
     /// the id and the entry come back and nothing changes.
     pub fn take_policy(&mut self, id: String, entry: Entry<P>) -> Result<(), (String, Entry<P>)>
-        ensures ok { OnOk result (shown_store self.new
-            ≡ store_of (updates (shown_store self.old) ++ (policy_name (string_bytes id), plain_entry entry) ∷ [])) }
+        ensures ok { OnOk result (abstract_store self.new
+            ≡ store_of (updates (abstract_store self.old) ++ (policy_name (string_bytes id), plain_entry entry) ∷ [])) }
         ensures others { OnOk result
-            (KeepsOtherNames (policy_name (string_bytes id)) (shown_store self.old) (shown_store self.new)) }
+            (KeepsOtherNames (policy_name (string_bytes id)) (abstract_store self.old) (abstract_store self.new)) }
         ensures kept { OnOk result
             (self.new ≡ kept (taken string_cmp greater self.old.policies id entry) self.old.entities) }
         ensures refused { IfErr result (λ pair. pair ≡ (id, entry)) }
@@ -141,9 +141,9 @@ impl<P: Drop, E: Drop> PolicyStore<P, E> {
         uid: EntityUid,
         entry: Entry<E>,
     ) -> Result<(), (EntityUid, Entry<E>)>
-        ensures ok { OnOk result (shown_store self.new
-            ≡ store_of (updates (shown_store self.old) ++ (entity_name uid, plain_entry entry) ∷ [])) }
-        ensures others { OnOk result (KeepsOtherNames (entity_name uid) (shown_store self.old) (shown_store self.new)) }
+        ensures ok { OnOk result (abstract_store self.new
+            ≡ store_of (updates (abstract_store self.old) ++ (entity_name uid, plain_entry entry) ∷ [])) }
+        ensures others { OnOk result (KeepsOtherNames (entity_name uid) (abstract_store self.old) (abstract_store self.new)) }
         ensures kept { OnOk result
             (self.new ≡ kept self.old.policies (taken uid_cmp greater self.old.entities uid entry)) }
         ensures refused { IfErr result (λ pair. pair ≡ (uid, entry)) }
@@ -156,12 +156,12 @@ impl<P: Drop, E: Drop> PolicyStore<P, E> {
     /// Leaves the join of both stores. Where memory is refused, the entries of the other store's first names have been
     /// joined (policies come before entities), and its rest is dropped.
     pub fn merge(&mut self, other: Self) -> Result<(), Short>
-        ensures ok { OnOk result (IsStoreJoin (shown_store self.old) (shown_store other) (shown_store self.new)) }
+        ensures ok { OnOk result (IsStoreJoin (abstract_store self.old) (abstract_store other) (abstract_store self.new)) }
         ensures ok_kept { OnOk result (self.new ≡ all_kept self.old other) }
         ensures short { IfErr result
-            (λ s. IsStoreJoin (shown_store self.old) (first_names s.taken (shown_store other)) (shown_store self.new)) }
+            (λ s. IsStoreJoin (abstract_store self.old) (first_names s.taken (abstract_store other)) (abstract_store self.new)) }
         ensures short_kept { IfErr result (λ s. self.new ≡ all_kept self.old (first_kept s.taken other)) }
-        ensures cut { IfErr result (λ s. s.taken < length (updates (shown_store other))) }
+        ensures cut { IfErr result (λ s. s.taken < length (updates (abstract_store other))) }
     {
         let PolicyStore {
             policies,
@@ -184,7 +184,7 @@ impl<P: Drop, E: Drop> PolicyStore<P, E> {
     /// Whether each name of this store is a name of the other, with an entry there that is at least as great. Takes no
     /// memory.
     pub fn below(&self, other: &Self) -> bool
-        ensures { IsTrue result ↔ IsStoreBelow (shown_store self.now) (shown_store other.now) }
+        ensures { IsTrue result ↔ IsStoreBelow (abstract_store self.now) (abstract_store other.now) }
     {
         all_below(&self.policies, &other.policies) && all_below(&self.entities, &other.entities)
     }

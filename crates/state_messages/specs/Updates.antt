@@ -22,12 +22,12 @@ use Rattle.state_messages.specs.declared.update.Update.TheVariants.{Policy, Enti
 use Rattle.state_messages.specs.Messages.{updates_stated}
 
 -- without what its text was read as: as it stands in a message, and as a store takes it
-abbrev pub shown_update : {P E : Type 0} → Update P E → PlainUpdate
-shown_update (Policy id entry) = (policy_name id, plain_entry entry)
-shown_update (Entity uid entry) = (entity_name uid, plain_entry entry)
+abbrev pub abstract_update : {P E : Type 0} → Update P E → PlainUpdate
+abstract_update (Policy id entry) = (policy_name id, plain_entry entry)
+abstract_update (Entity uid entry) = (entity_name uid, plain_entry entry)
 
-abbrev pub shown_updates : {P E : Type 0} → List (Update P E) → List PlainUpdate
-shown_updates us = map shown_update us
+abbrev pub abstract_updates : {P E : Type 0} → List (Update P E) → List PlainUpdate
+abstract_updates us = map abstract_update us
 
 -- a name with its stamp
 abbrev pub stamped : PlainUpdate → Name × Stamp
@@ -73,8 +73,8 @@ module _ {P E : Type 0} (Policies : List ℕ → List ℕ → P → Type 0) (Ent
 
   -- the bytes are a state or a delta under the schema of this label, with these updates in this order
   pub record IsMessage (label bytes : List ℕ) (us : List (Update P E)) : Type 0 where
-    pub stated : updates_stated label bytes ≡ Ok (shown_updates us)
-    pub in_range : AreInRange (shown_updates us)
+    pub stated : updates_stated label bytes ≡ Ok (abstract_updates us)
+    pub in_range : AreInRange (abstract_updates us)
     pub are_read : AllByRecursion IsUpdateRead us
 
 -- `NoPolicies` and `NoEntities` say for what a text is refused

@@ -7,9 +7,10 @@ ghost use Rattle.json_words.specs.Json.{json_of};
 ghost use Rattle.values.specs.Names.{name_cmp};
 ghost use Rattle.stamped_store.specs.Deltas.{delta, is_news as is_news_to};
 ghost use Rattle.stamped_store.specs.EntryOrder.{plain_entry, body_bytes};
-ghost use Rattle.stamped_store.specs.Store.{shown_store, shown_updates, updates, id_name, policy_name, entity_name};
+ghost use Rattle.stamped_store.specs.Store.{abstract_store, abstract_updates, updates, id_name};
+ghost use Rattle.stamped_store.specs.Store.{entity_name};
 ghost use Rattle.stamped_store.specs.Stored.{value_at};
-ghost use Rattle.sync_messages.specs.Summaries.{ascend, name_json, AreStamped};
+ghost use Rattle.sync_messages.specs.Summaries.{ascend, name_json};
 ghost use Rattle.state_messages.specs.Messages.{body_json, entry_json, message_json, state_json, state_text};
 ghost use Rattle.state_messages.specs.Messages.{delta_json, delta_text, updates_stated};
 ghost use Rattle.state_messages.specs.Updates.{AreInRange};
@@ -110,7 +111,7 @@ fn policy_entries<P: Drop, E: Drop>(
 ) -> Result<Vec<Value>, NoMemory>
     requires { ascend known.now ≡ true }
     ensures news { IfOk result (λ vs. map view vs.items ≡ all_news_json id_name known.now store.now.policies) }
-    ensures in_order { updates (shown_store store.now) ≡ shown_updates store.now }
+    ensures in_order { updates (abstract_store store.now) ≡ abstract_updates store.now }
 {
     let mut items = Vec::new(alloc);
     for (id, entry) in store.policies() {
@@ -145,7 +146,7 @@ fn all_entries<P: Drop, E: Drop>(
 ) -> Result<Vec<Value>, NoMemory>
     requires { ascend known.now ≡ true }
     ensures { IfOk result (λ vs. map view vs.items
-        ≡ map entry_json (updates (delta (shown_store store.now) known.now))) }
+        ≡ map entry_json (updates (delta (abstract_store store.now) known.now))) }
 {
     let mut items = policy_entries(alloc, store, known)?;
     let mut entities = entity_entries(alloc, store, known)?;
@@ -160,7 +161,7 @@ fn entries_value<P: Drop, E: Drop>(
 ) -> Result<Value, NoMemory>
     requires { ascend known.now ≡ true }
     ensures { IfOk result (λ v. view v
-        ≡ array (items_of (map entry_json (updates (delta (shown_store store.now) known.now))))) }
+        ≡ array (items_of (map entry_json (updates (delta (abstract_store store.now) known.now))))) }
 {
     let items = all_entries(alloc, store, known)?;
     Ok(Value::Array(items))
@@ -175,7 +176,7 @@ fn message_value<P: Drop, E: Drop>(
 ) -> Result<Value, NoMemory>
     requires { ascend known.now ≡ true }
     ensures { IfOk result (λ v. view v
-        ≡ message_json kind.now label.now (updates (delta (shown_store store.now) known.now))) }
+        ≡ message_json kind.now label.now (updates (delta (abstract_store store.now) known.now))) }
 {
     let entries = entries_value(alloc, store, known)?;
     json!(in alloc; {"entries": entries, "kind": kind, "schema": label, "version": 1u64})
@@ -188,10 +189,10 @@ pub fn write_state<P: Drop, E: Drop>(
     label: &str,
     store: &PolicyStore<P, E>,
 ) -> Result<Vec<u8>, NoMemory>
-    ensures text { IfOk result (λ b. b.items ≡ state_text label.now (shown_store store.now)) }
-    ensures json { IfOk result (λ b. json_of b.items ≡ Some (state_json label.now (shown_store store.now))) }
-    ensures reads_back { IfOk result (λ b. AreInRange (updates (shown_store store.now))
-        → updates_stated label.now b.items ≡ Ok (updates (shown_store store.now))) }
+    ensures text { IfOk result (λ b. b.items ≡ state_text label.now (abstract_store store.now)) }
+    ensures json { IfOk result (λ b. json_of b.items ≡ Some (state_json label.now (abstract_store store.now))) }
+    ensures reads_back { IfOk result (λ b. AreInRange (updates (abstract_store store.now))
+        → updates_stated label.now b.items ≡ Ok (updates (abstract_store store.now))) }
 {
     messages_read_back();
     let value = message_value(alloc, "state", label, store, &[])?;
@@ -207,11 +208,11 @@ pub fn write_delta<P: Drop, E: Drop>(
     store: &PolicyStore<P, E>,
     since: &Summary,
 ) -> Result<Vec<u8>, NoMemory>
-    ensures text { IfOk result (λ b. b.items ≡ delta_text label.now (delta (shown_store store.now) since.now)) }
+    ensures text { IfOk result (λ b. b.items ≡ delta_text label.now (delta (abstract_store store.now) since.now)) }
     ensures json { IfOk result
-        (λ b. json_of b.items ≡ Some (delta_json label.now (delta (shown_store store.now) since.now))) }
-    ensures reads_back { IfOk result (λ b. AreInRange (updates (delta (shown_store store.now) since.now))
-        → updates_stated label.now b.items ≡ Ok (updates (delta (shown_store store.now) since.now))) }
+        (λ b. json_of b.items ≡ Some (delta_json label.now (delta (abstract_store store.now) since.now))) }
+    ensures reads_back { IfOk result (λ b. AreInRange (updates (delta (abstract_store store.now) since.now))
+        → updates_stated label.now b.items ≡ Ok (updates (delta (abstract_store store.now) since.now))) }
 {
     messages_read_back();
     let value = message_value(alloc, "delta", label, store, since.stamps())?;

@@ -5,7 +5,7 @@ ghost use Rattle.static_types.specs.Views.{boolean_view, leaf_view, static_view}
 ghost use Rattle.static_types.specs.inner.Parts.{part_view, built_view, fields_view};
 ghost use Rattle.static_types.specs.inner.Rows.{paired};
 
-use crate::parts::{FieldPart, Fields, Kind, Pair, Part};
+use crate::parts::{FieldPart, Fields, Pair, Part, TypeKind};
 use crate::static_type::{BooleanType, Leaf, StaticType};
 use plain::{Items, NoMemory, Shared};
 use std::alloc::Global;
@@ -115,17 +115,17 @@ pub(crate) fn common_of<'a>(
         ≡ common (part_view left.entry) (part_view right.entry)) }
 {
     match left.kind() {
-        Kind::Leaf(a) => match right.kind() {
-            Kind::Leaf(b) => Ok(leaf_type(common_leaf(a, b))),
-            Kind::Set(_) | Kind::Record(_) => Ok(None),
+        TypeKind::Leaf(a) => match right.kind() {
+            TypeKind::Leaf(b) => Ok(leaf_type(common_leaf(a, b))),
+            TypeKind::Set(_) | TypeKind::Record(_) => Ok(None),
         },
-        Kind::Set(a) => match right.kind() {
-            Kind::Set(b) => set_of(alloc, common_of(alloc, a, b)?),
-            Kind::Leaf(_) | Kind::Record(_) => Ok(None),
+        TypeKind::Set(a) => match right.kind() {
+            TypeKind::Set(b) => set_of(alloc, common_of(alloc, a, b)?),
+            TypeKind::Leaf(_) | TypeKind::Record(_) => Ok(None),
         },
-        Kind::Record(a) => match right.kind() {
-            Kind::Record(b) => common_record(alloc, a, b),
-            Kind::Leaf(_) | Kind::Set(_) => Ok(None),
+        TypeKind::Record(a) => match right.kind() {
+            TypeKind::Record(b) => common_record(alloc, a, b),
+            TypeKind::Leaf(_) | TypeKind::Set(_) => Ok(None),
         },
     }
 }

@@ -7,7 +7,7 @@ ghost use Rattle.static_types.specs.inner.Parts.{fields_view, found_view};
 
 use crate::environment::TypingEnvironment;
 use crate::fault::TypeFault;
-use crate::parts::{Fields, Kind, Part};
+use crate::parts::{Fields, Part, TypeKind};
 use crate::static_type::{BooleanType, Leaf, StaticType};
 
 /// What a record type says of a key, by a walk over its fields.
@@ -87,8 +87,8 @@ pub fn field_type<'a>(
         (field_type_of (typing_environment env.entry) is_known key.now (static_view whole.now)) }
 {
     match Part::Built(whole).kind() {
-        Kind::Record(fields) => access(is_known, found(fields, key)),
-        Kind::Leaf(Leaf::Entity(name)) => access(is_known, found(env.attributes_of(name), key)),
+        TypeKind::Record(fields) => access(is_known, found(fields, key)),
+        TypeKind::Leaf(Leaf::Entity(name)) => access(is_known, found(env.attributes_of(name), key)),
         _ => Err(TypeFault::Unexpected),
     }
 }
@@ -108,8 +108,11 @@ pub fn has_type<'a>(
 {
     let part = Part::Built(whole);
     match part.kind() {
-        Kind::Record(fields) => Ok(StaticType::boolean(record_has(is_known, found(fields, key)))),
-        Kind::Leaf(Leaf::Entity(name)) => Ok(StaticType::boolean(entity_has(
+        TypeKind::Record(fields) => Ok(StaticType::boolean(record_has(
+            is_known,
+            found(fields, key),
+        ))),
+        TypeKind::Leaf(Leaf::Entity(name)) => Ok(StaticType::boolean(entity_has(
             is_known,
             found(env.attributes_of(name), key),
         ))),

@@ -15,7 +15,7 @@ use crate::common_types::common_of;
 use crate::environment::{TypingEnvironment, is_action_type};
 use crate::fault::TypeFault;
 use crate::literals::truth_type;
-use crate::parts::{Kind, Part};
+use crate::parts::{Part, TypeKind};
 use crate::static_type::{BooleanType, Leaf, StaticType};
 use expressions::{Binary, BinaryCall, Unary};
 use std::alloc::Global;
@@ -32,25 +32,25 @@ fn turned(truth: BooleanType) -> BooleanType
     }
 }
 
-fn unary_of<'a>(operator: &Unary, operand: Kind<'_, 'a>) -> Result<StaticType<'a>, TypeFault>
+fn unary_of<'a>(operator: &Unary, operand: TypeKind<'_, 'a>) -> Result<StaticType<'a>, TypeFault>
     ensures row { Answers result (unary_type operator.now (kind_view operand.entry)) }
     ensures memory { TakesNoMemory result }
 {
     match operator {
         Unary::Not => match operand {
-            Kind::Leaf(Leaf::Boolean(truth)) => Ok(StaticType::boolean(turned(truth))),
+            TypeKind::Leaf(Leaf::Boolean(truth)) => Ok(StaticType::boolean(turned(truth))),
             _ => Err(TypeFault::Unexpected),
         },
         Unary::Negate => match operand {
-            Kind::Leaf(Leaf::Long) => Ok(StaticType::Leaf(Leaf::Long)),
+            TypeKind::Leaf(Leaf::Long) => Ok(StaticType::Leaf(Leaf::Long)),
             _ => Err(TypeFault::Unexpected),
         },
         Unary::Like(_) => match operand {
-            Kind::Leaf(Leaf::Text) => Ok(StaticType::boolean(BooleanType::Either)),
+            TypeKind::Leaf(Leaf::Text) => Ok(StaticType::boolean(BooleanType::Either)),
             _ => Err(TypeFault::Unexpected),
         },
         Unary::Is(name) => match operand {
-            Kind::Leaf(Leaf::Entity(found)) => {
+            TypeKind::Leaf(Leaf::Entity(found)) => {
                 let truth = found.as_str() == name.as_str();
                 Ok(StaticType::boolean(truth_type(truth)))
             }
@@ -138,22 +138,22 @@ fn if_common<'a>(
 }
 
 /// The name where a type is an entity type.
-fn entity_of<'a>(kind: Kind<'_, 'a>) -> Option<&'a TypeName>
+fn entity_of<'a>(kind: TypeKind<'_, 'a>) -> Option<&'a TypeName>
     ensures { option_map (λ n. n.now) result ≡ entity_in (kind_view kind.entry) }
 {
     match kind {
-        Kind::Leaf(Leaf::Entity(name)) => Some(name),
+        TypeKind::Leaf(Leaf::Entity(name)) => Some(name),
         _ => None,
     }
 }
 
 /// The name where a type is an entity type, or a set of one.
-fn entities_of<'a>(kind: Kind<'_, 'a>) -> Option<&'a TypeName>
+fn entities_of<'a>(kind: TypeKind<'_, 'a>) -> Option<&'a TypeName>
     ensures { option_map (λ n. n.now) result ≡ entities_in (kind_view kind.entry) }
 {
     match kind {
-        Kind::Set(member) => entity_of(member.kind()),
-        Kind::Leaf(_) | Kind::Record(_) => entity_of(kind),
+        TypeKind::Set(member) => entity_of(member.kind()),
+        TypeKind::Leaf(_) | TypeKind::Record(_) => entity_of(kind),
     }
 }
 
@@ -196,8 +196,8 @@ fn may_be_in(env: TypingEnvironment<'_>, left: &TypeName, right: &TypeName) -> b
 
 fn in_of<'a>(
     env: TypingEnvironment<'a>,
-    left: Kind<'_, 'a>,
-    right: Kind<'_, 'a>,
+    left: TypeKind<'_, 'a>,
+    right: TypeKind<'_, 'a>,
 ) -> Result<StaticType<'a>, TypeFault>
     ensures { Answers result
         (binary_type (typing_environment env.entry) In (kind_view left.entry) (kind_view right.entry)) }
@@ -215,40 +215,40 @@ fn in_of<'a>(
 /// This type, of two numbers.
 fn of_numbers<'a>(
     given: Leaf<'a>,
-    left: Kind<'_, 'a>,
-    right: Kind<'_, 'a>,
+    left: TypeKind<'_, 'a>,
+    right: TypeKind<'_, 'a>,
 ) -> Result<StaticType<'a>, TypeFault>
     ensures { Answers result (of_numbers (leaf_view given.entry) (kind_view left.entry) (kind_view right.entry)) }
 {
     match (left, right) {
-        (Kind::Leaf(Leaf::Long), Kind::Leaf(Leaf::Long)) => Ok(StaticType::Leaf(given)),
+        (TypeKind::Leaf(Leaf::Long), TypeKind::Leaf(Leaf::Long)) => Ok(StaticType::Leaf(given)),
         _ => Err(TypeFault::Unexpected),
     }
 }
 
 fn contains_of<'a>(
     alloc: Global,
-    left: Kind<'_, 'a>,
+    left: TypeKind<'_, 'a>,
     right: Part<'_, 'a>,
 ) -> Result<StaticType<'a>, TypeFault>
     ensures { Answers result (contains_type (kind_view left.entry) (part_view right.entry)) }
 {
     match left {
-        Kind::Set(member) => if_common(alloc, member, right),
-        Kind::Leaf(_) | Kind::Record(_) => Err(TypeFault::Unexpected),
+        TypeKind::Set(member) => if_common(alloc, member, right),
+        TypeKind::Leaf(_) | TypeKind::Record(_) => Err(TypeFault::Unexpected),
     }
 }
 
 fn sets_of<'a>(
     alloc: Global,
-    left: Kind<'_, 'a>,
-    right: Kind<'_, 'a>,
+    left: TypeKind<'_, 'a>,
+    right: TypeKind<'_, 'a>,
 ) -> Result<StaticType<'a>, TypeFault>
     ensures { Answers result (sets_type (kind_view left.entry) (kind_view right.entry)) }
 {
     match right {
-        Kind::Set(member) => contains_of(alloc, left, member),
-        Kind::Leaf(_) | Kind::Record(_) => Err(TypeFault::Unexpected),
+        TypeKind::Set(member) => contains_of(alloc, left, member),
+        TypeKind::Leaf(_) | TypeKind::Record(_) => Err(TypeFault::Unexpected),
     }
 }
 
@@ -298,7 +298,7 @@ pub fn address_test_type<'a>(operand: StaticType<'a>) -> Result<StaticType<'a>, 
     ensures memory { TakesNoMemory result }
 {
     match Part::Built(&operand).kind() {
-        Kind::Leaf(Leaf::Ipaddr) => Ok(StaticType::boolean(BooleanType::Either)),
+        TypeKind::Leaf(Leaf::Ipaddr) => Ok(StaticType::boolean(BooleanType::Either)),
         _ => Err(TypeFault::Unexpected),
     }
 }
@@ -321,22 +321,22 @@ pub fn call_type<'a>(
     )
 }
 
-fn is_decimal(kind: Kind<'_, '_>) -> bool
+fn is_decimal(kind: TypeKind<'_, '_>) -> bool
     ensures { result ≡ is_decimal (kind_view kind.entry) }
 {
-    matches!(kind, Kind::Leaf(Leaf::Decimal))
+    matches!(kind, TypeKind::Leaf(Leaf::Decimal))
 }
 
-fn is_ipaddr(kind: Kind<'_, '_>) -> bool
+fn is_ipaddr(kind: TypeKind<'_, '_>) -> bool
     ensures { result ≡ is_ipaddr (kind_view kind.entry) }
 {
-    matches!(kind, Kind::Leaf(Leaf::Ipaddr))
+    matches!(kind, TypeKind::Leaf(Leaf::Ipaddr))
 }
 
 fn call_of<'a>(
     called: BinaryCall,
-    left: Kind<'_, 'a>,
-    right: Kind<'_, 'a>,
+    left: TypeKind<'_, 'a>,
+    right: TypeKind<'_, 'a>,
 ) -> Result<StaticType<'a>, TypeFault>
     ensures row { Answers result (call_type called (kind_view left.entry) (kind_view right.entry)) }
     ensures memory { TakesNoMemory result }

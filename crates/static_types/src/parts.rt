@@ -26,7 +26,7 @@ pub(crate) enum Fields<'r, 'a> {
 
 /// What a type is.
 #[derive(Clone, Copy)]
-pub(crate) enum Kind<'r, 'a> {
+pub(crate) enum TypeKind<'r, 'a> {
     Leaf(Leaf<'a>),
     /// The type of the members.
     Set(Part<'r, 'a>),
@@ -52,7 +52,7 @@ pub(crate) struct Pair<'r, 's, 'a> {
 
 impl<'r, 'a> Part<'r, 'a> {
     /// What the type is.
-    pub(crate) fn kind(self) -> Kind<'r, 'a>
+    pub(crate) fn kind(self) -> TypeKind<'r, 'a>
         ensures { kind_view result ≡ part_view self.entry }
     {
         match self {
@@ -72,30 +72,30 @@ impl<'r, 'a> Part<'r, 'a> {
     }
 }
 
-fn kind_of<'r, 'a>(ty: &'r StaticType<'a>) -> Kind<'r, 'a>
+fn kind_of<'r, 'a>(ty: &'r StaticType<'a>) -> TypeKind<'r, 'a>
     ensures { kind_view result ≡ static_view ty.now }
 {
     match ty {
-        StaticType::Leaf(leaf) => Kind::Leaf(same_leaf(leaf)),
-        StaticType::DeclaredSet(member) => Kind::Set(Part::Declared(*member)),
-        StaticType::DeclaredRecord(fields) => Kind::Record(Fields::Declared(*fields)),
-        StaticType::Set(member) => Kind::Set(Part::Built(member.get())),
-        StaticType::Record(fields) => Kind::Record(Fields::Built(fields.get().as_slice())),
+        StaticType::Leaf(leaf) => TypeKind::Leaf(same_leaf(leaf)),
+        StaticType::DeclaredSet(member) => TypeKind::Set(Part::Declared(*member)),
+        StaticType::DeclaredRecord(fields) => TypeKind::Record(Fields::Declared(*fields)),
+        StaticType::Set(member) => TypeKind::Set(Part::Built(member.get())),
+        StaticType::Record(fields) => TypeKind::Record(Fields::Built(fields.get().as_slice())),
     }
 }
 
-fn declared_kind<'r, 'a>(ty: &'a CedarType) -> Kind<'r, 'a>
+fn declared_kind<'r, 'a>(ty: &'a CedarType) -> TypeKind<'r, 'a>
     ensures { kind_view result ≡ static (cedar_view ty.now) }
 {
     match ty {
-        CedarType::Text => Kind::Leaf(Leaf::Text),
-        CedarType::Long => Kind::Leaf(Leaf::Long),
-        CedarType::Boolean => Kind::Leaf(Leaf::Boolean(BooleanType::Either)),
-        CedarType::Decimal => Kind::Leaf(Leaf::Decimal),
-        CedarType::Ipaddr => Kind::Leaf(Leaf::Ipaddr),
-        CedarType::Set(element) => Kind::Set(Part::Declared(element.get())),
-        CedarType::Record(fields) => Kind::Record(Fields::Declared(fields.get().as_slice())),
-        CedarType::Entity(name) => Kind::Leaf(Leaf::Entity(name)),
+        CedarType::Text => TypeKind::Leaf(Leaf::Text),
+        CedarType::Long => TypeKind::Leaf(Leaf::Long),
+        CedarType::Boolean => TypeKind::Leaf(Leaf::Boolean(BooleanType::Either)),
+        CedarType::Decimal => TypeKind::Leaf(Leaf::Decimal),
+        CedarType::Ipaddr => TypeKind::Leaf(Leaf::Ipaddr),
+        CedarType::Set(element) => TypeKind::Set(Part::Declared(element.get())),
+        CedarType::Record(fields) => TypeKind::Record(Fields::Declared(fields.get().as_slice())),
+        CedarType::Entity(name) => TypeKind::Leaf(Leaf::Entity(name)),
     }
 }
 

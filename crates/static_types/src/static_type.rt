@@ -7,7 +7,7 @@ ghost use Rattle.schema_types.specs.CedarViews.{cedar_view};
 ghost use Rattle.static_types.specs.FromSchemas.{static};
 ghost use Rattle.static_types.specs.Views.{boolean_view, static_view};
 
-use crate::parts::{Kind, Part};
+use crate::parts::{Part, TypeKind};
 use plain::{Items, NoMemory, Shared, Text};
 use schema_types::CedarType;
 use values::TypeName;
@@ -130,7 +130,7 @@ impl<'a> StaticType<'a> {
             (λ b. static_view self.now ≡ boolean_view b) }
     {
         match Part::Built(self).kind() {
-            Kind::Leaf(Leaf::Boolean(truth)) => Some(truth),
+            TypeKind::Leaf(Leaf::Boolean(truth)) => Some(truth),
             _ => None,
         }
     }

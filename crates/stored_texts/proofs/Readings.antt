@@ -11,7 +11,7 @@ use Rattle.schema.specs.Schemas.{StatedSchema}
 use Rattle.validator.specs.declared.fault.CheckFault.{CheckFault}
 use Rattle.validator.specs.Faults as validation
 use Rattle.validator.specs.Passing.{Passes, IsRefused}
-use Rattle.validator.specs.Outcomes.{PoliciesHaveOneOutcome, PassingIsNotRefused, CheckResult, ComesTo, passes, refused}
+use Rattle.validator.specs.Outcomes.{PoliciesHaveOneOutcome, PassingIsNotRefused, CheckResult, IsCheckResult, passes, refused}
 use Rattle.state_messages.specs.declared.bodies.BodyFault.{BodyFault}
 use Rattle.state_messages.specs.declared.bodies.BodyFault.TheVariants as body
 use Rattle.state_messages.specs.Bodies.{HasOneOutcome, HasOutcome}
@@ -47,7 +47,7 @@ module _ (reading : HasOneReading IsPolicyText IsPolicyRefused) (checking : Poli
   not_both p _ h (not_passing q a is x) =
       apart s q a (subst (λ r. Passes s r) (reading.one_value text p q h.is_text is) h.passes) x
 
-  by_check : (p : Policy) (o : CheckResult) → IsPolicyText text p → ComesTo s p o
+  by_check : (p : Policy) (o : CheckResult) → IsPolicyText text p → IsCheckResult s p o
       → ((q : Policy) × ReadsPolicy s text q) ⊎ ((f : BodyFault) × RefusesPolicy s text f)
   by_check p (passes b) is h = inl (p, record { is_text = is; passes = h.passes })
   by_check p (refused f) is h = inr (_, not_passing p f is h)

@@ -15,19 +15,19 @@ use Rattle.entity_store.specs.Entities.{entities_under}
 use Rattle.stored_world.specs.declared.stored_entities.StoredEntities.{StoredEntities}
 use Rattle.schema.specs.Schemas.{StatedSchema}
 use Rattle.entity_worlds.specs.declared.entity.Entity.{Entity}
-use Rattle.stamped_store.specs.Store.{StoreEntries, updates, shown_store, shown_updates}
-use Rattle.stamped_store.specs.Reading.{IsKeptRead}
+use Rattle.stamped_store.specs.Store.{StoreEntries, updates, abstract_store, abstract_updates}
+use Rattle.stamped_store.specs.Reading.{AreEntriesRead}
 use Rattle.stored_world.specs.Said.{data_in, world_under, parents_with, IsAnswerOver, MakesCycle, MakesNoCycle}
 use Rattle.stored_world.specs.Kept.{policies_read, entity_at}
 use Rattle.stored_world.proofs.PolicyLemmas.{policies_are}
 use Rattle.stored_world.proofs.EntityLemmas.{entities_are}
 
 module _ {R E : Type 0} (Policies : R → List ℕ → List ℕ → Policy → Type 0) (Entities : R → EntityUid → List ℕ → Entity → Type 0)
-    (schema : StatedSchema) (k : StoreEntries Policy Entity) (in_order : updates (shown_store k) ≡ shown_updates k) where
+    (schema : StatedSchema) (k : StoreEntries Policy Entity) (in_order : updates (abstract_store k) ≡ abstract_updates k) where
   pub answer_said : (q : Request) (result : Result Answer E)
       → IfOk result (IsAnswer (world_under schema (entity_at k.entities)) q (policies_read k.policies))
-      → IfOk result (λ a. (r : R) → IsKeptRead (Policies r) (Entities r) k
-      → IsAnswerOver (Policies r) (Entities r) schema (shown_store k) q a)
+      → IfOk result (λ a. (r : R) → AreEntriesRead (Policies r) (Entities r) k
+      → IsAnswerOver (Policies r) (Entities r) schema (abstract_store k) q a)
   answer_said q (Ok a) is = λ r h. record {
     policies = policies_read k.policies;
     are_policies = policies_are (Policies r) k h.policies in_order;
@@ -39,8 +39,8 @@ module _ {R E : Type 0} (Policies : R → List ℕ → List ℕ → Policy → T
 
   pub cycle_said : (e : Entity) (result : Result Bool E)
       → IfOk result (λ yes. IsTrue yes ↔ IsOnCycle (parents_with schema (entity_at k.entities) e) e.uid)
-      → IfOk result (λ yes. yes ≡ true → (r : R) → IsKeptRead (Policies r) (Entities r) k
-      → MakesCycle (Entities r) schema (shown_store k) e)
+      → IfOk result (λ yes. yes ≡ true → (r : R) → AreEntriesRead (Policies r) (Entities r) k
+      → MakesCycle (Entities r) schema (abstract_store k) e)
   cycle_said e (Ok t) is = λ yes r h. record {
     entities = entity_at k.entities;
     are_entities = entities_are (Entities r) k h.entities in_order;
@@ -50,8 +50,8 @@ module _ {R E : Type 0} (Policies : R → List ℕ → List ℕ → Policy → T
 
   pub no_cycle_said : (e : Entity) (result : Result Bool E)
       → IfOk result (λ yes. IsTrue yes ↔ IsOnCycle (parents_with schema (entity_at k.entities) e) e.uid)
-      → IfOk result (λ yes. yes ≡ false → (r : R) → IsKeptRead (Policies r) (Entities r) k
-      → MakesNoCycle (Entities r) schema (shown_store k) e)
+      → IfOk result (λ yes. yes ≡ false → (r : R) → AreEntriesRead (Policies r) (Entities r) k
+      → MakesNoCycle (Entities r) schema (abstract_store k) e)
   no_cycle_said e (Ok t) is = λ turned r h. record {
     entities = entity_at k.entities;
     are_entities = entities_are (Entities r) k h.entities in_order;

@@ -1,8 +1,8 @@
 -- The entities that stand beside the texts of a store are those that it says, and there is one at each uid.
-use Rattle.std.specs.Prelude.{◌≡◌, ◌↔◌, ℕ, List, [], ◌∷◌, ◌++◌, Option, Some, None, Bool, true, false, cond, refl, option_and_then, option_map}
+use Rattle.std.specs.Prelude.{◌≡◌, ◌↔◌, ℕ, List, [], ◌∷◌, ◌++◌, Option, Some, None, true, false, cond, refl, option_and_then, option_map}
 use Rattle.std.proofs.Common.{sym, ap, ◌∙◌, subst}
 use Rattle.std.specs.Ordering.{is_eq}
-use Rattle.std.specs.FinMap.{get, get-entries}
+use Rattle.std.specs.FinMap.{get-entries}
 use Rattle.std.specs.FinMap.Entries.{find}
 use Rattle.std.specs.declared.alloc.Global.{Global}
 use Rattle.std.specs.declared.cmp.Ordering.{Ordering}
@@ -15,9 +15,9 @@ use Rattle.entity_worlds.specs.declared.entity.Entity.{Entity}
 use Rattle.stamped_store.specs.declared.entry.Entry.{Entry}
 use Rattle.stamped_store.specs.declared.entry.ReadText.{ReadText}
 use Rattle.stamped_store.specs.EntryOrder.{PlainEntry, plain_entry, body_bytes}
-use Rattle.stamped_store.specs.Shown.{shown_entries}
+use Rattle.stamped_store.specs.Abstraction.{abstract_entries}
 use Rattle.stamped_store.specs.Stored.{value_at}
-use Rattle.stamped_store.specs.Store.{Store, Update, StoreEntries, updates, shown_store, shown_updates, id_name, entity_name}
+use Rattle.stamped_store.specs.Store.{Store, Update, StoreEntries, updates, abstract_store, abstract_updates, id_name, entity_name}
 use Rattle.stamped_store.specs.Contents.{text_under}
 use Rattle.stamped_store.specs.Reading.{AllNamed, IsBodyRead, IsEntryRead}
 use Rattle.stored_world.specs.Said.{IsReadFrom, AreEntities, HaveOneReading}
@@ -30,25 +30,25 @@ equal_of Greater h = absurd (cc)
 
 -- ---- the text under an entity's name is that of the entry kept under its uid
 past_policies : (ps : List (String Global × Entry Policy)) (us : List Update) (uid : EntityUid)
-    → find name_cmp (entity_name uid) (shown_entries id_name ps ++ us) ≡ find name_cmp (entity_name uid) us
+    → find name_cmp (entity_name uid) (abstract_entries id_name ps ++ us) ≡ find name_cmp (entity_name uid) us
 past_policies [] us uid = refl
 past_policies (p ∷ ps) us uid = past_policies ps us uid
 
 found_at : (es : List (EntityUid × Entry Entity)) (uid : EntityUid)
-    → find name_cmp (entity_name uid) (shown_entries entity_name es) ≡ option_map plain_entry (value_at uid_cmp es uid)
+    → find name_cmp (entity_name uid) (abstract_entries entity_name es) ≡ option_map plain_entry (value_at uid_cmp es uid)
 found_at [] uid = refl
 found_at (e ∷ es) uid =
-    elim (is_eq (uid_cmp uid e.0)) as (λ b. cond b (Some (plain_entry e.1)) (find name_cmp (entity_name uid) (shown_entries entity_name es)) ≡ option_map plain_entry (cond b (Some e.1) (value_at uid_cmp es uid))) [
+    elim (is_eq (uid_cmp uid e.0)) as (λ b. cond b (Some (plain_entry e.1)) (find name_cmp (entity_name uid) (abstract_entries entity_name es)) ≡ option_map plain_entry (cond b (Some e.1) (value_at uid_cmp es uid))) [
       | true ↦ refl
       | false ↦ found_at es uid
     ]
 
-text_kept : (k : StoreEntries Policy Entity) → updates (shown_store k) ≡ shown_updates k → (uid : EntityUid)
-    → text_under (shown_store k) (entity_name uid) ≡ option_and_then (λ (e : PlainEntry). e.body) (option_map plain_entry (value_at uid_cmp k.entities uid))
+text_kept : (k : StoreEntries Policy Entity) → updates (abstract_store k) ≡ abstract_updates k → (uid : EntityUid)
+    → text_under (abstract_store k) (entity_name uid) ≡ option_and_then (λ (e : PlainEntry). e.body) (option_map plain_entry (value_at uid_cmp k.entities uid))
 text_kept k in_order uid = ap (option_and_then (λ (e : PlainEntry). e.body))
-    (get-entries (shown_store k) (entity_name uid)
+    (get-entries (abstract_store k) (entity_name uid)
     ∙ ap (find name_cmp (entity_name uid)) in_order
-    ∙ past_policies k.policies (shown_entries entity_name k.entities) uid
+    ∙ past_policies k.policies (abstract_entries entity_name k.entities) uid
     ∙ found_at k.entities uid)
 
 -- ---- what stands beside the texts
@@ -72,7 +72,7 @@ module _ (Reads : EntityUid → List ℕ → Entity → Type 0) where
       ] refl
 
   pub entities_are : (k : StoreEntries Policy Entity) → AllNamed (λ uid. uid) (λ uid. IsEntryRead (Reads uid)) k.entities
-      → updates (shown_store k) ≡ shown_updates k → AreEntities Reads (shown_store k) (entity_at k.entities)
+      → updates (abstract_store k) ≡ abstract_updates k → AreEntities Reads (abstract_store k) (entity_at k.entities)
   entities_are k h in_order uid =
       subst (λ (b : Option (List ℕ)). IsReadFrom (Reads uid) b (entity_at k.entities uid)) (sym (text_kept k in_order uid)) (all_read k.entities h uid)
 

@@ -22,9 +22,9 @@ use Rattle.authoriser.specs.Views.{named}
 use Rattle.entity_worlds.specs.declared.entity.Entity.{Entity}
 use Rattle.stamped_store.specs.declared.entry.Entry.{Entry}
 use Rattle.stamped_store.specs.declared.entry.ReadText.{ReadText}
-use Rattle.stamped_store.specs.EntryOrder.{PlainEntry, body_bytes}
-use Rattle.stamped_store.specs.Shown.{shown_entries}
-use Rattle.stamped_store.specs.Store.{Store, Update, StoreEntries, updates, shown_store, shown_updates, id_name, entity_name, policy_name}
+use Rattle.stamped_store.specs.EntryOrder.{body_bytes}
+use Rattle.stamped_store.specs.Abstraction.{abstract_entries}
+use Rattle.stamped_store.specs.Store.{Store, Update, StoreEntries, updates, abstract_store, abstract_updates, id_name, entity_name, policy_name}
 use Rattle.stamped_store.specs.Contents.{text_under, policy_text, policies_of}
 use Rattle.stamped_store.specs.Reading.{AllNamed, IsBodyRead, IsEntryRead}
 use Rattle.stored_world.specs.Said.{ArePolicies, HaveOneReading}
@@ -45,22 +45,22 @@ module _ (Reads : List ℕ → List ℕ → Policy → Type 0) where
   one_read id None ts ps h rest = rest
   one_read id (Some t) ts ps h rest = ((refl, h), rest)
 
-  none_read : (es : List (EntityUid × Entry Entity)) → AllZip Fits (texts (shown_entries entity_name es)) []
+  none_read : (es : List (EntityUid × Entry Entity)) → AllZip Fits (texts (abstract_entries entity_name es)) []
   unfolding texts
   none_read [] = tt
   none_read (e ∷ es) = none_read es
 
   all_read : (ps : List (String Global × Entry Policy)) (es : List (EntityUid × Entry Entity))
       → AllNamed string_bytes (λ id. IsEntryRead (Reads id)) ps
-      → AllZip Fits (texts (shown_entries id_name ps ++ shown_entries entity_name es)) (policies_read ps)
+      → AllZip Fits (texts (abstract_entries id_name ps ++ abstract_entries entity_name es)) (policies_read ps)
   unfolding texts
   all_read [] es h = none_read es
   all_read (p ∷ ps) es h =
-      one_read (string_bytes p.0) p.1.body (texts (shown_entries id_name ps ++ shown_entries entity_name es))
+      one_read (string_bytes p.0) p.1.body (texts (abstract_entries id_name ps ++ abstract_entries entity_name es))
       (policies_read ps) h.0 (all_read ps es h.1)
 
   pub policies_are : (k : StoreEntries Policy Entity) → AllNamed string_bytes (λ id. IsEntryRead (Reads id)) k.policies
-      → updates (shown_store k) ≡ shown_updates k → ArePolicies Reads (shown_store k) (policies_read k.policies)
+      → updates (abstract_store k) ≡ abstract_updates k → ArePolicies Reads (abstract_store k) (policies_read k.policies)
   unfolding texts
   policies_are k h in_order =
       subst (λ us. AllZip Fits (texts us) (policies_read k.policies)) (sym in_order)
@@ -173,13 +173,13 @@ any_read : (ps : List (String Global × Entry Policy)) → AllNamed string_bytes
 any_read [] = tt
 any_read (p ∷ ps) = (any_body (string_bytes p.0) p.1.body, any_read ps)
 
-pub kept_ascend : (k : StoreEntries Policy Entity) (ps : List NamedPolicy) → updates (shown_store k) ≡ shown_updates k
+pub kept_ascend : (k : StoreEntries Policy Entity) (ps : List NamedPolicy) → updates (abstract_store k) ≡ abstract_updates k
     → ps ≡ policies_read k.policies → AreIdsAscending (map (λ p. p.id) ps)
 kept_ascend k ps in_order is =
     subst (λ qs. AreIdsAscending (map (λ (p : NamedPolicy). p.id) qs)) (sym is)
-    (policies_ascend AnyText (shown_store k) (policies_read k.policies) (policies_are AnyText k (any_read k.policies) in_order))
+    (policies_ascend AnyText (abstract_store k) (policies_read k.policies) (policies_are AnyText k (any_read k.policies) in_order))
 
-pub result_ascends : {E : Type 0} (k : StoreEntries Policy Entity) → updates (shown_store k) ≡ shown_updates k
+pub result_ascends : {E : Type 0} (k : StoreEntries Policy Entity) → updates (abstract_store k) ≡ abstract_updates k
     → (result : Result (Vec (Bor (List ℕ) × Bor Policy) Global) E) → IfOk result (λ ps. named ps.items ≡ policies_read k.policies)
     → IfOk result (λ ps. AreIdsAscending (map (λ p. p.id) (named ps.items)))
 result_ascends k in_order (Ok ps) is = kept_ascend k (named ps.items) in_order is

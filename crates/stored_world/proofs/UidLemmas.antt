@@ -1,5 +1,5 @@
 -- Where the uids of entries ascend, those of entries with a text are those at which there is an entity, and ascend too.
-use Rattle.std.specs.Prelude.{◌≡◌, Vec, Result, Ok, Err, IfOk, List, [], ◌∷◌, ◌++◌, Option, Some, None, is_some, Bool, true, false, cond, refl, option_and_then}
+use Rattle.std.specs.Prelude.{◌≡◌, Vec, Result, Ok, Err, IfOk, List, [], ◌∷◌, ◌++◌, Option, Some, None, is_some, Bool, false, cond, refl, option_and_then}
 use Rattle.std.proofs.Common.{sym, ap, ◌∙◌, subst}
 use Rattle.std.proofs.lemmas.List.Kept.{IsStrictlySortedBy-filter}
 use Rattle.std.specs.Borrow.{Bor}
@@ -9,7 +9,7 @@ use Rattle.std.specs.List.Sorted.{IsStrictlySortedBy}
 use Rattle.std.specs.Map.{keys_of}
 use Rattle.std.specs.Ordering.{is_eq, ordering_reverse}
 use Rattle.std.specs.Cmp.{tied_itself}
-use Rattle.std.specs.declared.cmp.Ordering.TheVariants.{Less, Equal, Greater}
+use Rattle.std.specs.declared.cmp.Ordering.TheVariants.{Less}
 use Rattle.values.specs.declared.entity_uid.EntityUid.{EntityUid}
 use Rattle.values.specs.Names.{uid_cmp, uid_cmp-IsTotalOrder}
 use Rattle.ancestor_closure.specs.Hierarchy.{IsAscending, names}

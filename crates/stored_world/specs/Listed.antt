@@ -1,7 +1,7 @@
 -- The uids that are listed of entries are those at which there is an entity.
-use Rattle.std.specs.Prelude.{◌≡◌, ◌↔◌, List, [], ◌∷◌, Contains, Option, Some, None, IsSome, is_some, Bool, true, false}
+use Rattle.std.specs.Prelude.{◌≡◌, List, [], ◌∷◌, Contains, Option, Some, None, IsSome, is_some, Bool, true, false}
 use Rattle.std.specs.Prelude.{cond, refl, option_and_then, option_map}
-use Rattle.std.proofs.Common.{subst, sym, ◌∙◌, ap, inl, inr}
+use Rattle.std.proofs.Common.{subst, sym, ◌∙◌, inl, inr}
 use Rattle.std.specs.List.{filter}
 use Rattle.std.specs.Map.{keys_of}
 use Rattle.std.specs.Ordering.{is_eq}

@@ -3,8 +3,8 @@ ghost use Rattle.std.specs.Prelude.{◌≡◌, ◌↔◌, true, false, IsTrue, I
 ghost use Rattle.ancestor_closure.specs.Hierarchy.{IsOnCycle, with_parents};
 ghost use Rattle.authoriser.specs.Answers.{IsAnswer};
 ghost use Rattle.schema.specs.Views.{schema_view};
-ghost use Rattle.stamped_store.specs.Store.{updates, shown_store, shown_updates};
-ghost use Rattle.stamped_store.specs.Reading.{IsKeptRead};
+ghost use Rattle.stamped_store.specs.Store.{updates, abstract_store, abstract_updates};
+ghost use Rattle.stamped_store.specs.Reading.{AreEntriesRead};
 ghost use Rattle.stored_world.specs.Said.{world_under, parents_with, IsAnswerOver, MakesCycle, MakesNoCycle};
 ghost use Rattle.stored_world.specs.Kept.{policies_read, entity_at};
 
@@ -22,7 +22,7 @@ use values::Request;
 
 /// What a store keeps is in the order of its names. Does nothing.
 fn is_in_order(store: &PolicyStore<Policy, Entity>)
-    ensures { updates (shown_store store.now) ≡ shown_updates store.now }
+    ensures { updates (abstract_store store.now) ≡ abstract_updates store.now }
 {
     let _policies = store.policies();
 }
@@ -57,8 +57,8 @@ pub fn answer_over<R: Readings<Policy, Entity>>(
     store: &PolicyStore<Policy, Entity>,
     request: &Request,
 ) -> Result<Answer, NoMemory>
-    ensures { IfOk result (λ a. (r : R) → IsKeptRead (R.reads_policy r) (R.reads_entity r) store.now
-        → IsAnswerOver (R.reads_policy r) (R.reads_entity r) (schema_view schema.now) (shown_store store.now)
+    ensures { IfOk result (λ a. (r : R) → AreEntriesRead (R.reads_policy r) (R.reads_entity r) store.now
+        → IsAnswerOver (R.reads_policy r) (R.reads_entity r) (schema_view schema.now) (abstract_store store.now)
         request.now a) }
 {
     is_in_order(store);
@@ -100,11 +100,11 @@ pub fn would_cycle<R: Readings<Policy, Entity>>(
     entity: &Entity,
 ) -> Result<bool, NoMemory>
     ensures yes { IfOk result (λ yes. yes ≡ true → (r : R)
-        → IsKeptRead (R.reads_policy r) (R.reads_entity r) store.now
-        → MakesCycle (R.reads_entity r) (schema_view schema.now) (shown_store store.now) entity.now) }
+        → AreEntriesRead (R.reads_policy r) (R.reads_entity r) store.now
+        → MakesCycle (R.reads_entity r) (schema_view schema.now) (abstract_store store.now) entity.now) }
     ensures no { IfOk result (λ yes. yes ≡ false → (r : R)
-        → IsKeptRead (R.reads_policy r) (R.reads_entity r) store.now
-        → MakesNoCycle (R.reads_entity r) (schema_view schema.now) (shown_store store.now) entity.now) }
+        → AreEntriesRead (R.reads_policy r) (R.reads_entity r) store.now
+        → MakesNoCycle (R.reads_entity r) (schema_view schema.now) (abstract_store store.now) entity.now) }
 {
     is_in_order(store);
     would_cycle_by_kept(alloc, schema, store, entity)

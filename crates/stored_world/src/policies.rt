@@ -2,7 +2,7 @@
 ghost use Rattle.std.specs.Prelude.{◌≡◌, IfOk, map};
 ghost use Rattle.authoriser.specs.Views.{named};
 ghost use Rattle.authoriser.specs.Laws.{AreIdsAscending};
-ghost use Rattle.stamped_store.specs.Store.{updates, shown_store, shown_updates};
+ghost use Rattle.stamped_store.specs.Store.{updates, abstract_store, abstract_updates};
 ghost use Rattle.stored_world.specs.Kept.{policies_read};
 
 use entity_store::Entity;
@@ -17,7 +17,7 @@ fn read_policies<'s>(
     store: &'s PolicyStore<Policy, Entity>,
 ) -> Result<Vec<(&'s str, &'s Policy)>, NoMemory>
     ensures read { IfOk result (λ ps. named ps.items ≡ policies_read store.now.policies) }
-    ensures in_order { updates (shown_store store.now) ≡ shown_updates store.now }
+    ensures in_order { updates (abstract_store store.now) ≡ abstract_updates store.now }
 {
     let mut found = Vec::new(alloc);
     for (id, entry) in store.policies() {

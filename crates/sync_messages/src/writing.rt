@@ -1,9 +1,10 @@
 //! Writing a summary.
-ghost use Rattle.std.specs.Prelude.{◌≡◌, ◌++◌, IfOk, Ok, map, codes};
+ghost use Rattle.std.specs.Prelude.{◌≡◌, ◌++◌, IfOk, Ok, map};
 ghost use Rattle.serde_json.specs.Data.{array};
 ghost use Rattle.serde_json.specs.View.{view, items_of};
 ghost use Rattle.stamped_store.specs.Deltas.{summary_of};
-ghost use Rattle.stamped_store.specs.Store.{shown_store, shown_updates, updates, id_name, policy_name, entity_name};
+ghost use Rattle.stamped_store.specs.Store.{abstract_store, abstract_updates, updates, id_name, policy_name};
+ghost use Rattle.stamped_store.specs.Store.{entity_name};
 ghost use Rattle.sync_messages.specs.Summaries.{stamp_json, summary_json, summary_text, summary_stated, AreStamped};
 ghost use Rattle.sync_messages.specs.inner.Writing.{stamps_json};
 
@@ -35,7 +36,7 @@ fn policy_stamps<P: Drop, E: Drop>(
     store: &PolicyStore<P, E>,
 ) -> Result<Vec<Value>, NoMemory>
     ensures stamps { IfOk result (λ vs. map view vs.items ≡ stamps_json id_name store.now.policies) }
-    ensures in_order { updates (shown_store store.now) ≡ shown_updates store.now }
+    ensures in_order { updates (abstract_store store.now) ≡ abstract_updates store.now }
 {
     let mut items = Vec::new(alloc);
     for (id, entry) in store.policies() {
@@ -66,7 +67,7 @@ fn stamps_value<P: Drop, E: Drop>(
     store: &PolicyStore<P, E>,
 ) -> Result<Value, NoMemory>
     ensures { IfOk result (λ v. view v
-        ≡ array (items_of (map stamp_json (summary_of (shown_store store.now))))) }
+        ≡ array (items_of (map stamp_json (summary_of (abstract_store store.now))))) }
 {
     let policies = policy_stamps(alloc, store)?;
     let items = entity_stamps(alloc, policies, store)?;
@@ -78,7 +79,7 @@ fn summary_value<P: Drop, E: Drop>(
     label: &str,
     store: &PolicyStore<P, E>,
 ) -> Result<Value, NoMemory>
-    ensures { IfOk result (λ v. view v ≡ summary_json label.now (summary_of (shown_store store.now))) }
+    ensures { IfOk result (λ v. view v ≡ summary_json label.now (summary_of (abstract_store store.now))) }
 {
     let stamps = stamps_value(alloc, store)?;
     json!(in alloc; {"kind": "summary", "schema": label, "stamps": stamps, "version": 1u64})
@@ -91,9 +92,9 @@ pub fn write_summary<P: Drop, E: Drop>(
     label: &str,
     store: &PolicyStore<P, E>,
 ) -> Result<Vec<u8>, NoMemory>
-    ensures text { IfOk result (λ b. b.items ≡ summary_text label.now (summary_of (shown_store store.now))) }
-    ensures reads_back { IfOk result (λ b. AreStamped (summary_of (shown_store store.now))
-        → summary_stated label.now b.items ≡ Ok (summary_of (shown_store store.now))) }
+    ensures text { IfOk result (λ b. b.items ≡ summary_text label.now (summary_of (abstract_store store.now))) }
+    ensures reads_back { IfOk result (λ b. AreStamped (summary_of (abstract_store store.now))
+        → summary_stated label.now b.items ≡ Ok (summary_of (abstract_store store.now))) }
 {
     summaries_read_back();
     let value = summary_value(alloc, label, store)?;

@@ -3,7 +3,7 @@ use Rattle.std.proofs.Common.{◌≡◌, ◌⊎◌, inl, inr, ◌≤◌, Bool, t
 use Rattle.policy_tokens.specs.declared.token.Token.{Token}
 use Rattle.policy_tokens.specs.declared.token.TokenKind.{TokenKind}
 use Rattle.token_readers.specs.Kinds.{Kinds, only, same_kind, number_of}
-use Rattle.token_readers.specs.Lang.{Lang, Joined}
+use Rattle.token_readers.specs.Lang.{Lang}
 use Rattle.token_readers.specs.Lang as lang
 use Rattle.token_readers.specs.Reading.{Parser, ParseResult, Read, Stop, Why, Unexpected, TooDeep, pure, take, take_if, either, chosen, refuse}
 use Rattle.token_readers.specs.Reads.{Begins, sees}

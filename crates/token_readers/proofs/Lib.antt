@@ -4,7 +4,7 @@
 --   Rules, Forms, More, Many, Steps, Openings
 --                                    a rule for each form of production: what a parser reads is what its language derives
 --   Firm                             a reader stops for a token at no place at which a tree ends
---   Gathered, LoopEnds               loops of the code, beside the repetition that they read
+--   Gathered                         the loop of the code, beside the repetition that it reads
 --   Whole, Depths                    of any rule: the exits of a reader, and the laws of one tree and one answer
 --   StandsLemmas                     a tree is made of the tokens that derive it
 --   NameRules, UidLoop, NameLoop, NamesFirm, NamesExact
@@ -21,7 +21,6 @@ pub mod Gathered
 pub mod Whole
 pub mod Depths
 pub mod KindLemmas
-pub mod LoopEnds
 pub mod NameRules
 pub mod UidLoop
 pub mod NameLoop

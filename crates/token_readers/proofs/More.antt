@@ -2,7 +2,7 @@
 use Rattle.std.proofs.Common.{◌≡◌, ◌⊎◌, inl, inr, Bool, true, false, List, [], ◌∷◌, ◌++◌, Option, Some, None, refl, sym, ap, subst, ◌∙◌, append-nil}
 use Rattle.policy_tokens.specs.declared.token.Token.{Token}
 use Rattle.token_readers.specs.Kinds.{Kinds}
-use Rattle.token_readers.specs.Lang.{Lang, Joined}
+use Rattle.token_readers.specs.Lang.{Lang}
 use Rattle.token_readers.specs.Lang as lang
 use Rattle.token_readers.specs.Reading.{Parser, Read, Stop, Why, TooDeep, ◌>>=◌, pure, either, too_deep, optional, gate}
 use Rattle.token_readers.specs.Reads.{Begins, sees}

@@ -6,15 +6,14 @@ use Rattle.policy_tokens.specs.declared.token.TokenKind.TheVariants as k
 use Rattle.token_readers.specs.declared.tree.PathTree.{PathTree}
 use Rattle.token_readers.specs.declared.tree.UidTree.{UidTree}
 use Rattle.token_readers.specs.Kinds.{Kinds, only, same_kind}
-use Rattle.token_readers.specs.Lang.{Lang, Joined}
+use Rattle.token_readers.specs.Lang.{Lang}
 use Rattle.token_readers.specs.Lang as lang
 use Rattle.token_readers.specs.Grammar as g
 use Rattle.token_readers.specs.Grammar.{identifiers}
 use Rattle.token_readers.specs.Reads.{Begins, sees}
-use Rattle.token_readers.specs.Reading.{Parser, take, token}
 use Rattle.token_readers.specs.Reading as reading
 use Rattle.token_readers.specs.Parsing as r
-use Rattle.token_readers.specs.Parsing.{pieces, is_text, ended_by, goes_on, piece, ends, beginning, last_of, uid_of, finished}
+use Rattle.token_readers.specs.Parsing.{pieces, is_text, ended_by, goes_on, piece, ends, beginning, last_of, uid_tree, finished}
 use Rattle.token_readers.proofs.Sets.{apart, within}
 use Rattle.token_readers.proofs.Rules.{Rule, Levels, both}
 use Rattle.token_readers.proofs.Forms.{same_self, Starts, Leads, of, nothing, refused, starts_of, starts_both, leads_empty, alive_empty, begin_of}
@@ -66,7 +65,7 @@ abbrev pub segments : Lang (List Token)
 segments = looped ended_by segment false
 
 abbrev pub closed : Bool → Token → List Token → Lang UidTree
-closed true first ts = lang.empty (uid_of first ts)
+closed true first ts = lang.empty (uid_tree first ts)
 closed false first ts = lang.never
 
 abbrev pub behind_first : Token → Lang UidTree
@@ -90,14 +89,14 @@ on_by : (b : Bool) (first : Token) (front ts : List Token) → ends false ts ≡
 on_by true first front ts e d =
     record {
       more = [];
-      value = uid_of first ts;
+      value = uid_tree first ts;
       derived = record {
         front = front;
         back = [];
         value = ts;
         whole = refl;
         first = d;
-        second = subst (λ b. closed b first ts [] (uid_of first ts)) (sym e) (refl, refl);
+        second = subst (λ b. closed b first ts [] (uid_tree first ts)) (sym e) (refl, refl);
       };
     }
 on_by false first front ts e d =
@@ -108,14 +107,14 @@ on_by false first front ts e d =
     let all = ts ++ text ∷ [] in
     record {
       more = colons ∷ text ∷ [];
-      value = uid_of first all;
+      value = uid_tree first all;
       derived = record {
         front = front ++ colons ∷ text ∷ [];
         back = [];
         value = all;
         whole = sym (append-nil (front ++ colons ∷ text ∷ []));
         first = snoc false front (colons ∷ text ∷ []) text ts d e piece;
-        second = subst (λ b. closed b first all [] (uid_of first all)) (sym (ends-snoc false ts text ∙ same_self k.Text)) (refl, refl);
+        second = subst (λ b. closed b first all [] (uid_tree first all)) (sym (ends-snoc false ts text ∙ same_self k.Text)) (refl, refl);
       };
     }
 
@@ -142,7 +141,7 @@ goes_within true = refl
 
 pub leads_closed : (b : Bool) (first : Token) (ts : List Token) → Leads (closed b first ts) (only k.Colons) after_name
 unfolding same_kind
-leads_closed true first ts = leads_empty (uid_of first ts) (only k.Colons) after_name refl
+leads_closed true first ts = leads_empty (uid_tree first ts) (only k.Colons) after_name refl
 leads_closed false first ts = λ front a rest d h. absurd d
 
 module _ (D : Levels) where
@@ -156,7 +155,7 @@ module _ (D : Levels) where
   segments_rule = repeated ended_by segment segment (λ st. piece) (λ st. piece) goes_on none (only k.Colons) D piece_at starts_segment goes_apart refl goes_within false
 
   pub closed_rule : (b : Bool) (first : Token) (ts : List Token) → Rule (closed b first ts) (closed b first ts) (finished b first ts) (finished b first ts) after_name D
-  closed_rule true first ts = nothing (uid_of first ts) after_name D
+  closed_rule true first ts = nothing (uid_tree first ts) after_name D
   closed_rule false first ts = refused after_name D
 
   pub behind_first_rule : (first : Token) → Rule (behind_first first) (behind_first first) (r.rest_of_uid first) (r.rest_of_uid first) after_name D
@@ -237,7 +236,7 @@ cut first front (t ∷ (u ∷ us)) d e =
 pub record Closed (b : Bool) (first : Token) (ts back : List Token) (u : UidTree) : Type 0 where
   pub ended : b ≡ true
   pub none_left : back ≡ []
-  pub made : u ≡ uid_of first ts
+  pub made : u ≡ uid_tree first ts
 
 pub closed_is : (b : Bool) (first : Token) (ts back : List Token) (u : UidTree) → closed b first ts back u → Closed b first ts back u
 closed_is true first ts back u d = record { ended = refl; none_left = d.0; made = d.1 }
@@ -290,8 +289,8 @@ last_of-snoc : (t : Token) (xs : List Token) (x : Token) → last_of t (xs ++ x 
 last_of-snoc t [] x = refl
 last_of-snoc t (y ∷ ys) x = last_of-snoc y ys x
 
-uid_of-snoc : (first : Token) (xs : List Token) (x : Token) → record { path = record { first = first; more = xs }; id = x } ≡ uid_of first (xs ++ x ∷ [])
-uid_of-snoc first xs x =
+uid_tree-snoc : (first : Token) (xs : List Token) (x : Token) → record { path = record { first = first; more = xs }; id = x } ≡ uid_tree first (xs ++ x ∷ [])
+uid_tree-snoc first xs x =
     let named : List Token → Token → UidTree = λ more id. record { path = record { first = first; more = more }; id = id } in
     ap (λ z. named z x) (sym (beginning-snoc xs x)) ∙ ap (λ z. named (beginning (xs ++ x ∷ [])) z) (sym (last_of-snoc first xs x))
 
@@ -307,7 +306,7 @@ from_uid ts u j =
     let text : path_end tail id = record { front = c.front; back = d.front; value = c.value; whole = refl; first = c.first; second = d.first } in
     let ended : ends false all ≡ true = ends-snoc false s.value id ∙ d.first.1 in
     let named : PathTree → UidTree = λ p. record { path = p; id = id } in
-    let made : u ≡ uid_of w.value all = d.second.1 ∙ ap named s.second.1 ∙ uid_of-snoc w.value s.value id in
+    let made : u ≡ uid_tree w.value all = d.second.1 ∙ ap named s.second.1 ∙ uid_tree-snoc w.value s.value id in
     let words : j.front ≡ w.front ++ s.front = w.whole ∙ ap (λ z. w.front ++ z) (s.whole ∙ ap (λ z. s.front ++ z) s.second.0 ∙ append-nil s.front) in
     let rest : j.back ≡ tail = c.whole ∙ ap (λ z. c.front ++ z) (d.whole ∙ ap (λ z. d.front ++ z) d.second.0 ∙ append-nil d.front) in
     record {

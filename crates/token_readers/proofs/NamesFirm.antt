@@ -8,7 +8,7 @@ use Rattle.token_readers.specs.Grammar as g
 use Rattle.token_readers.specs.Grammar.{identifiers}
 use Rattle.token_readers.specs.Reading as reading
 use Rattle.token_readers.specs.Parsing as r
-use Rattle.token_readers.specs.Parsing.{pieces, ended_by, goes_on, piece, ends, uid_of, finished}
+use Rattle.token_readers.specs.Parsing.{pieces, ended_by, goes_on, piece, ends, uid_tree, finished}
 use Rattle.token_readers.proofs.Rules.{Levels}
 use Rattle.token_readers.proofs.Forms.{of, nothing, leads_empty, alive_empty, begin_of}
 use Rattle.token_readers.proofs.Many.{each}
@@ -49,7 +49,7 @@ module _ (D : Levels) where
   firm_segments = firm_repeated ended_by segment (λ st. piece) goes_on none (only k.Colons) D (piece_at D) starts_segment goes_apart refl goes_within firm_piece fresh_piece false
 
   firm_end : (b : Bool) (first : Token) (ts : List Token) → Firm (closed b first ts) (finished b first ts)
-  firm_end true first ts = firm_nothing (uid_of first ts)
+  firm_end true first ts = firm_nothing (uid_tree first ts)
   firm_end false first ts = firm_never reading.refuse
 
   firm_behind : (first : Token) → Firm (behind_first first) (r.rest_of_uid first)

@@ -10,7 +10,7 @@ use Rattle.token_readers.specs.Kinds.{Kinds}
 use Rattle.token_readers.specs.Lang.{Lang}
 use Rattle.token_readers.specs.Reading.{Parser, ParseResult, Read, Stop, Why, Unexpected, TooDeep}
 use Rattle.token_readers.specs.ParsesTo.{ParsesTo}
-use Rattle.token_readers.specs.Reads.{Begins, StopsBefore, BreaksAt, GoesOn, IsRefusedWithin, ComesToWithin, ReadsWithin, ReadsFrontWithin, AnsweredWithin, HasOneTree, HasOneAnswerWithin, is_slot, sees, refusal_by, refusal_at, refusal_of, whole_of}
+use Rattle.token_readers.specs.Reads.{Begins, StopsBefore, BreaksAt, GoesOn, IsRefusedWithin, IsAnswerWithin, ReadsWithin, ReadsFrontWithin, AnsweredWithin, HasOneTree, HasOneAnswerWithin, is_slot, sees, refusal_by, refusal_at, refusal_of, whole_of}
 use Rattle.token_readers.proofs.Firm.{Firm}
 use Rattle.token_readers.proofs.Rules.{Rule, Levels, Keeps, Opens}
 
@@ -306,11 +306,11 @@ module _ {A : Type 0} (L K : Lang A) (p : Parser A) (ks : Kinds) (D : Levels) (r
 
   -- ---- the law of one answer
 
-  only_tree : (ts : List Token) (x : A) → L ts x → (other : Result A SyntaxFault) → ComesToWithin L K ts other → other ≡ Ok x
+  only_tree : (ts : List Token) (x : A) → L ts x → (other : Result A SyntaxFault) → IsAnswerWithin L K ts other → other ≡ Ok x
   only_tree ts x d (Ok y) e = ap Ok (one_tree L p ks D rule equal alive ts y x e d)
   only_tree ts x d (Err e) r = absurd (let t = told L K ts e r in no_break L ts t.rest t.place x d t.breaks)
 
-  only_refusal : (ts : List Token) (d : SyntaxFault) → Broken ts d → (other : Result A SyntaxFault) → ComesToWithin L K ts other → other ≡ Err d
+  only_refusal : (ts : List Token) (d : SyntaxFault) → Broken ts d → (other : Result A SyntaxFault) → IsAnswerWithin L K ts other → other ≡ Err d
   only_refusal ts d b (Ok y) e = absurd (no_break L ts b.rest b.place y e b.breaks)
   only_refusal ts d b (Err e) r =
       let t = told L K ts e r in

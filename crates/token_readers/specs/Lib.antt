@@ -7,3 +7,4 @@ pub mod Parsing
 pub mod ParsesTo
 pub mod WellFormed
 pub mod Included
+pub mod Repeats

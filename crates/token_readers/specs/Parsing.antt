@@ -53,11 +53,11 @@ abbrev pub last_of : Token → List Token → Token
 last_of t [] = t
 last_of t (u ∷ us) = last_of u us
 
-abbrev pub uid_of : Token → List Token → UidTree
-uid_of first ts = record { path = record { first = first; more = beginning ts }; id = last_of first ts }
+abbrev pub uid_tree : Token → List Token → UidTree
+uid_tree first ts = record { path = record { first = first; more = beginning ts }; id = last_of first ts }
 
 abbrev pub finished : Bool → Token → List Token → Parser UidTree
-finished true first ts = pure (uid_of first ts)
+finished true first ts = pure (uid_tree first ts)
 finished false first ts = refuse
 
 unfoldable pub rest_of_uid : Token → Parser UidTree
@@ -71,7 +71,7 @@ abbrev pub path_of : Token → List Token → PathTree
 path_of first more = record { first = first; more = more }
 
 abbrev pub name_by : Bool → Token → List Token → Name
-name_by true first ts = name.Uid (uid_of first ts)
+name_by true first ts = name.Uid (uid_tree first ts)
 name_by false first ts = name.Path (path_of first ts)
 
 unfoldable pub rest_of_name : Token → Parser Name

@@ -60,9 +60,9 @@ IsRefusedWithin L K ts (fault.TooDeep place) =
     (rest : List Token) × (b : BreaksAt L ts place rest) × GoesOn K b.front rest
 
 -- What a list of tokens comes to: the tree that all of them derive; else a refusal at the first that doesn't fit.
-abbrev pub ComesToWithin : {A : Type 0} → Lang A → Lang A → List Token → Result A SyntaxFault → Type 0
-ComesToWithin L K ts (Ok tree) = L ts tree
-ComesToWithin L K ts (Err e) = IsRefusedWithin L K ts e
+abbrev pub IsAnswerWithin : {A : Type 0} → Lang A → Lang A → List Token → Result A SyntaxFault → Type 0
+IsAnswerWithin L K ts (Ok tree) = L ts tree
+IsAnswerWithin L K ts (Err e) = IsRefusedWithin L K ts e
 
 -- A reader answers that, unless memory runs out.
 abbrev pub ReadsWithin : {A : Type 0} → Lang A → Lang A → List Token → Result A SyntaxFault → Type 0
@@ -76,8 +76,8 @@ HasOneTree L = (ts : List Token) (x y : _) → L ts x → L ts y → x ≡ y
 -- and comes to one answer and no other.
 pub record AnsweredWithin {A : Type 0} (L K : Lang A) (ts : List Token) : Type 0 where
   pub answer : Result A SyntaxFault
-  pub comes : ComesToWithin L K ts answer
-  pub only : (other : Result A SyntaxFault) → ComesToWithin L K ts other → other ≡ answer
+  pub comes : IsAnswerWithin L K ts answer
+  pub only : (other : Result A SyntaxFault) → IsAnswerWithin L K ts other → other ≡ answer
 
 abbrev pub HasOneAnswerWithin : {A : Type 0} → Lang A → Lang A → Type 0
 HasOneAnswerWithin L K = (ts : List Token) → AnsweredWithin L K ts

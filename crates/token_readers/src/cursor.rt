@@ -8,14 +8,8 @@ ghost use Rattle.token_readers.specs.Reads as reads;
 ghost use Rattle.token_readers.specs.declared.fault.Halt.TheVariants as halt;
 
 use crate::fault::Halt;
-use crate::kind_sets::KindSet;
+use crate::kind_sets::{KindSet, same_kind};
 use policy_tokens::{Token, TokenKind};
-
-fn same_kind(a: TokenKind, b: TokenKind) -> bool
-    ensures { result ≡ spec.same_kind a b }
-{
-    a == b
-}
 
 /// The tokens that are left.
 #[derive(Drop)]

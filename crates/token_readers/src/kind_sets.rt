@@ -2,7 +2,7 @@
 
 ghost use Rattle.std.specs.Prelude.{◌≡◌};
 ghost use Rattle.token_readers.specs.Included.{included as of_names};
-ghost use Rattle.token_readers.specs.Kinds.{Kinds};
+ghost use Rattle.token_readers.specs.Kinds.{Kinds, only, same_kind};
 
 use policy_tokens::TokenKind;
 
@@ -13,6 +13,21 @@ pub trait KindSet: Copy {
     /// Whether tokens of this kind are in the set.
     fn includes(self, kind: TokenKind) -> bool
         ensures { result ≡ included self kind };
+}
+
+pub(crate) fn same_kind(a: TokenKind, b: TokenKind) -> bool
+    ensures { result ≡ same_kind a b }
+{
+    a == b
+}
+
+/// One kind alone.
+impl KindSet for TokenKind {
+    ghost included = { only };
+
+    fn includes(self, kind: TokenKind) -> bool {
+        same_kind(kind, self)
+    }
 }
 
 /// What readers of names ask for.

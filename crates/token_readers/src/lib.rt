@@ -11,6 +11,7 @@ mod fault;
 mod kind_sets;
 mod names;
 mod refused;
+mod repeated;
 mod tree;
 
 pub use cursor::Cursor;
@@ -18,4 +19,5 @@ pub use fault::{Halt, SyntaxFault};
 pub use kind_sets::{KindSet, NameSet};
 pub use names::{path, rest_of_name, uid};
 pub use refused::read_to_end;
+pub use repeated::{read_many, read_more};
 pub use tree::{Name, PathTree, UidTree};

@@ -10,6 +10,7 @@ ghost use Rattle.token_readers.specs.declared.fault.Halt.TheVariants as halt;
 use crate::cursor::Cursor;
 use crate::fault::Halt;
 use crate::kind_sets::NameSet;
+use crate::repeated::read_many;
 use crate::tree::{Name, PathTree, UidTree};
 use plain::Items;
 use policy_tokens::{Token, TokenKind};
@@ -24,17 +25,11 @@ fn path_word(tokens: &mut Cursor<'_>) -> Result<Token, Halt>
     tokens.take_one_of(NameSet::Identifiers)
 }
 
+#[tactic(auto, unfolding(crate::specs::Parsing::rest_of_path))]
 fn rest_of_path(alloc: Global, tokens: &mut Cursor<'_>, first: Token) -> Result<PathTree, Halt>
     ensures { ParsesTo (spec.rest_of_path first tokens.old.rest.now) result tokens.new.rest.now }
 {
-    let mut more = Items::new(alloc);
-    for _turn in 0..tokens.left() {
-        if !tokens.sees(TokenKind::Colons) {
-            return Ok(PathTree { first, more });
-        }
-        let word = path_word(tokens)?;
-        more.push(word)?;
-    }
+    let more = read_many(alloc, tokens, TokenKind::Colons, path_word)?;
     Ok(PathTree { first, more })
 }
 

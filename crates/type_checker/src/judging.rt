@@ -1,5 +1,5 @@
 //! The recursion over an expression.
-ghost use Rattle.std.specs.Prelude.{◌≡◌, map};
+ghost use Rattle.std.specs.Prelude.{map};
 ghost use Rattle.expressions.specs.declared.expr.Expr.{Expr};
 ghost use Rattle.expressions.specs.declared.expr.Expr.TheVariants as form;
 ghost use Rattle.typing.specs.Learned.{Pairs};

@@ -1,18 +1,16 @@
 -- Policies that pass go right over entities that were read.
-use Rattle.std.proofs.Common.{◌≡◌, ℕ, List, [], ◌∷◌, ◌++◌, map, Option, Some, None, refl, sym, ap, subst, inl, inr}
-use Rattle.std.specs.Prelude.{Contains, IsSome, ◌⊎◌}
+use Rattle.std.proofs.Common.{◌≡◌, List, [], ◌∷◌, ◌++◌, map, Option, Some, None, refl, sym, ap, subst, inl, inr}
+use Rattle.std.specs.Prelude.{Contains, IsSome}
 use Rattle.values.specs.declared.entity_uid.EntityUid.{EntityUid}
 use Rattle.ancestor_closure.specs.Decided.{HaveAllParents, PathsAreDecided, reaches}
 use Rattle.ancestor_closure.specs.Deciding.{Contains-here, Contains-there, Contains-none, Contains-cases}
-use Rattle.schema.specs.Schemas.{EnvironmentOf, StatedSchema}
+use Rattle.schema.specs.Schemas.{StatedSchema}
 use Rattle.schema.specs.WellFormed.{IsWellFormed, StatedSchemasAreWellFormed}
 use Rattle.entity_worlds.specs.declared.data.EntityData.{EntityData}
 use Rattle.entity_worlds.specs.Entities.{EntityMap, AreListed, parents_of, action_or}
 use Rattle.entity_store.specs.Laws.{closed_world}
 use Rattle.entity_worlds.specs.Listing.{in_first, in_second}
-use Rattle.typing.specs.Environment.{Environment}
 use Rattle.static_types.specs.FromSchemas.{environment_of}
-use Rattle.validator.specs.Passing.{environments_of}
 use Rattle.validator.specs.Outcomes.{PassingPoliciesGoRight}
 use Rattle.typed_readings.specs.Worlds.{WhatIsReadConforms, WhatIsStoredGoesRight}
 

@@ -20,10 +20,10 @@ use Rattle.schema_types.specs.Cedar as cedar
 use Rattle.schema_types.specs.Cedar.{Cedar, CedarFields, no_fields, field}
 use Rattle.typed_values.specs.Parts.{element_of, fields_in, declared_at}
 use Rattle.uid_json.specs.Uids.{uid_in}
-use Rattle.typed_values.specs.Parsed.{decimal_of, network_of}
+use Rattle.typed_values.specs.passed_on.extensions.{decimal_of, network_of}
 use Rattle.typed_values.specs.Typing.{argument_in, boolean_in, is_long, long_of, long_in, text_in, entity_in, decimal_in, ipaddr_in, leaf, all_there, with_or, inside, typed, typed_items, typed_members}
 use Rattle.typing.specs.Types as static_type
-use Rattle.typing.specs.Types.{StaticType, FieldTypes, Declared, declared_as, boolean_type, long_type, text_type, entity_type, set_type, record_type, decimal_type, ipaddr_type, undeclared}
+use Rattle.typing.specs.Types.{StaticType, Declared, declared_as, boolean_type, long_type, text_type, entity_type, set_type, record_type, decimal_type, ipaddr_type, undeclared}
 use Rattle.typing.specs.Membership.{Of, of_boolean, of_long, of_text, of_entity, of_set, of_record, of_decimal, of_ipaddr, EachOf, each_none, each_more, FieldOf, absent, left_out, has_optional, has_required}
 use Rattle.static_types.specs.FromSchemas.{static, static_fields}
 

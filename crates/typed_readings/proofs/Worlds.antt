@@ -1,6 +1,6 @@
 -- Entities that were read, with a schema's actions, conform to it.
-use Rattle.std.proofs.Common.{◌≡◌, ◌∙◌, ℕ, List, [], ◌∷◌, ◌++◌, Bool, true, false, not, cond, Option, Some, None, Result, Ok, Err, refl, sym, ap, subst, inl, inr}
-use Rattle.std.specs.Prelude.{Contains, ⊤, ◌⊎◌, ◌↔◌, IsTrue, IsFalse, IsSome}
+use Rattle.std.proofs.Common.{◌≡◌, ℕ, List, [], ◌∷◌, Bool, true, false, not, cond, Option, Some, None, Ok, refl, sym, subst, inl, inr}
+use Rattle.std.specs.Prelude.{Contains, ⊤, IsTrue, IsFalse, IsSome}
 use Rattle.serde_json.specs.Data.{Data}
 use Rattle.serde_json.specs.Find.{get}
 use Rattle.std.specs.Prelude.{codes}
@@ -9,13 +9,12 @@ use Rattle.values.specs.declared.entity_uid.EntityUid.{EntityUid}
 use Rattle.values.specs.declared.request.Request.{Request}
 use Rattle.values.specs.Values.{record_of, fields_of}
 use Rattle.values.specs.Fields.{Field}
-use Rattle.ancestor_closure.specs.Hierarchy.{Parents, Path, Above, IsAllAbove}
-use Rattle.ancestor_closure.specs.Decided.{is_same, HaveAllParents}
-use Rattle.ancestor_closure.specs.Deciding.{Contains-here, Contains-there, Contains-none, Contains-cases}
+use Rattle.ancestor_closure.specs.Hierarchy.{Path, Above, IsAllAbove}
+use Rattle.ancestor_closure.specs.Decided.{is_same}
+use Rattle.ancestor_closure.specs.Deciding.{Contains-none, Contains-cases}
 use Rattle.schema_types.specs.Cedar.{Cedar}
-use Rattle.schema.specs.Schemas.{EnvironmentOf, StatedSchema, IsSchemaOf}
-use Rattle.schema.specs.WellFormed.{IsActionType, IsWellFormed, StatedSchemasAreWellFormed}
-use Rattle.static_types.specs.passed_on.entities.{EntityFault}
+use Rattle.schema.specs.Schemas.{EnvironmentOf, StatedSchema}
+use Rattle.schema.specs.WellFormed.{IsWellFormed, StatedSchemasAreWellFormed}
 use Rattle.static_types.specs.passed_on.entities_EntityFault_variants.{UnknownType, ActionEntity, TagsLeftOut, SelfParent, BadParent}
 use Rattle.entity_worlds.specs.declared.entity.Entity.{Entity}
 use Rattle.static_types.specs.passed_on.entities.{StatedEntity}
@@ -23,18 +22,15 @@ use Rattle.static_types.specs.passed_on.entities.{told}
 use Rattle.static_types.specs.passed_on.entities.{stated_in, is_absent_or_empty, or_empty}
 use Rattle.static_types.specs.passed_on.entities.{is_action_type, shape_of, attributes_in, parent_fits, parents_fit, parents_in, entity_in}
 use Rattle.static_types.specs.passed_on.entities.{ActionTypesAreTold, SetsHoldTheirMembers}
-use Rattle.static_types.specs.passed_on.entities.{StatesRequest}
 use Rattle.entity_worlds.specs.UidSets.{uid_set}
 use Rattle.typed_values.specs.Typing.{record_in}
 use Rattle.entity_worlds.specs.declared.data.EntityData.{EntityData}
-use Rattle.entity_worlds.specs.Entities.{EntityMap, AreListed, action_or}
+use Rattle.entity_worlds.specs.Entities.{EntityMap, action_or}
 use Rattle.entity_worlds.specs.Entities as store
 use Rattle.entity_store.specs.Laws.{closed_world}
 use Rattle.evaluator.specs.Operators.{World}
-use Rattle.typing.specs.Types.{FieldTypes, no_field_types, record_type}
+use Rattle.typing.specs.Types.{no_field_types, record_type}
 use Rattle.typing.specs.Membership.{Of, of_record, absent}
-use Rattle.typing.specs.Environment.{Environment}
-use Rattle.typing.specs.Conforming.{Conforms}
 use Rattle.typing.specs.Laws.{ParentsTellAncestors}
 use Rattle.static_types.specs.FromSchemas.{attributes_of, shape_fields, declared_ancestors, environment_of}
 use Rattle.typed_readings.specs.Laws.{EntitiesAreOfTheirTypes, RequestsAreOfAnEnvironment}

@@ -16,7 +16,7 @@ use Rattle.schema_types.specs.Cedar as cedar
 use Rattle.schema_types.specs.Cedar.{Cedar, CedarFields, no_fields, field, deep, field_depth}
 use Rattle.typed_values.specs.Parts.{element_of, fields_in, declared_at}
 use Rattle.uid_json.specs.Uids.{uid_in}
-use Rattle.typed_values.specs.Parsed.{decimal_of, network_of}
+use Rattle.extensions.specs.TextsDecided.{decimal_of, network_of}
 use Rattle.typed_values.specs.Typing.{argument_in, boolean_in, is_long, long_of, long_in, text_in, entity_in, decimal_in, ipaddr_in, leaf, all_there, with_or, inside, typed, typed_items, typed_members, record_in}
 use Rattle.typed_values.specs.Canonical.{value_json, values_json, fields_json}
 use Rattle.typed_values.proofs.Sets.{all_set}

@@ -24,11 +24,10 @@ use Rattle.values.specs.declared.entity_uid.EntityUid.{EntityUid}
 use Rattle.values.specs.Values.{PlainValue, boolean, long, text, entity, decimal, ipaddr}
 use Rattle.typed_values.specs.declared.fault.ValueFault.{ValueFault}
 use Rattle.typed_values.specs.declared.fault.ValueFault.TheVariants.{WrongType}
-use Rattle.extensions.specs.Decided.{Decided}
-use Rattle.extensions.specs.TextsDecided.{decimal_text_decided, network_text_decided}
+use Rattle.extensions.specs.Decided.{Decided, found}
+use Rattle.extensions.specs.TextsDecided.{decimal_text_decided, network_text_decided, decimal_of, network_of}
 use Rattle.schema_types.specs.Cedar as cedar
 use Rattle.schema_types.specs.Cedar.{Cedar}
-use Rattle.typed_values.specs.Parsed.{found, decimal_of, network_of}
 use Rattle.typed_values.specs.Typing.{plain_call, call_in, argument_in, boolean_in, is_long, long_of, long_in, text_in, entity_in, decimal_in, ipaddr_in, leaf, inside, typed}
 use Rattle.uid_json.specs.Uids.{uid_in, plain_uid_in, uid_made_of, uid_under, entity_json}
 use Rattle.values.specs.Paths.{is_path}

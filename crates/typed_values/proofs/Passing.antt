@@ -1,19 +1,13 @@
 -- Members whose names ascend are read by the fields from the next name on.
-use Rattle.std.proofs.Common.{◌≡◌, ◌∙◌, ℕ, ◌+◌, ◌<◌, ◌≤◌, List, [], ◌∷◌, Bool, true, false, cond, Option, Some, Result, Ok, drop, get_or, length, String, Global, string_bytes, string_cmp, Less, Equal, Greater, Ordering, refl, sym, ap, subst}
+use Rattle.std.proofs.Common.{◌≡◌, ◌∙◌, ℕ, List, [], ◌∷◌, Option, Result, Ok, String, Global, string_bytes, string_cmp, Less, Greater, refl, ap, subst}
 use Rattle.std.specs.List.{AllByRecursion}
 use Rattle.std.specs.Ordering.{ordering_reverse}
 use Rattle.std.specs.Map.{keys_of}
-use Rattle.std.specs.Str.{bytes_eq}
 use Rattle.std.specs.List.Sorted.{IsStrictlySortedBy}
-use Rattle.std.proofs.lemmas.List.{drop_more, drop_all}
-use Rattle.std.proofs.lemmas.Slice.Eq.{bytes_eq-Decides}
 use Rattle.serde_json.specs.View.{view, members_view}
-use Rattle.values.specs.Values.{PlainValue}
 use Rattle.values.specs.Fields.{Field}
 use Rattle.values.specs.Uids.{text_cmp, text_cmp-IsTotalOrder}
-use Rattle.schema_types.specs.Cedar.{Cedar, CedarFields, field}
-use Rattle.schema_types.specs.CedarViews.{cedar_view, cedar_fields_view}
-use Rattle.schema_types.specs.declared.cedar.CedarType.{CedarType}
+use Rattle.schema_types.specs.Cedar.{Cedar, CedarFields}
 use Rattle.json_words.specs.ReadsAs.{◌>>=◌, or_fault}
 use Rattle.typed_values.specs.declared.fault.ValueFault.{ValueFault}
 use Rattle.typed_values.specs.declared.fault.ValueFault.TheVariants.{Undeclared}

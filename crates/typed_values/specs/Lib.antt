@@ -1,7 +1,7 @@
 pub mod Canonical
 pub mod Laws
-pub mod Parsed
 pub mod Parts
 pub mod Texts
 pub mod Typing
 pub mod inner
+pub mod passed_on

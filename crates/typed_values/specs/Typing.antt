@@ -5,7 +5,7 @@
 use Rattle.std.specs.Prelude.{ℕ, ℤ, pos, negsuc, ◌^◌, nat_lt, List, [], ◌∷◌, Bool, true, not, ◌&&◌, ◌||◌}
 use Rattle.std.specs.Prelude.{Option, Some, None, is_some, Result, Ok, Err, codes}
 use Rattle.std.specs.Str.{bytes_eq}
-use Rattle.serde_json.specs.Data.{Data, Num, Items, no_items, item, Members, no_members, member}
+use Rattle.serde_json.specs.Data.{Data, Items, no_items, item, Members, no_members, member}
 use Rattle.serde_json.specs.Data as json
 use Rattle.serde_json.specs.Find.{get, as_i64, as_bool, as_number, as_str, as_object}
 use Rattle.json_words.specs.ReadsAs.{◌>>=◌, or_fault, demand}
@@ -17,7 +17,7 @@ use Rattle.values.specs.Sets.{set_list}
 use Rattle.typed_values.specs.declared.fault.ValueFault.{ValueFault}
 use Rattle.typed_values.specs.declared.fault.ValueFault.TheVariants.{WrongType, Undeclared, Missing}
 use Rattle.uid_json.specs.Uids.{uid_in}
-use Rattle.typed_values.specs.Parsed.{decimal_of, network_of}
+use Rattle.extensions.specs.TextsDecided.{decimal_of, network_of}
 use Rattle.schema_types.specs.Cedar as cedar
 use Rattle.schema_types.specs.Cedar.{Cedar, CedarFields, no_fields, field}
 use Rattle.typed_values.specs.Parts.{element_of, fields_in, declared_at}

@@ -5,7 +5,7 @@ ghost use Rattle.json_words.specs.ReadsAs.{ReadsAs, AlwaysReadsAs, or_fault};
 ghost use Rattle.json_words.specs.Json.{text_at as text_in_json};
 ghost use Rattle.schema_types.specs.CedarViews.{cedar_view, cedar_fields_view};
 ghost use Rattle.typed_values.specs.declared.fault.ValueFault.TheVariants as ValueFault;
-ghost use Rattle.typed_values.specs.Parsed.{decimal_of, network_of};
+ghost use Rattle.extensions.specs.TextsDecided.{decimal_of, network_of};
 ghost use Rattle.typed_values.specs.Parts.{element_of, fields_in, declared_at};
 ghost use Rattle.typed_values.specs.Typing.{plain_call, call_in, argument_in, boolean_in, long_of, long_in, text_in};
 ghost use Rattle.typed_values.specs.Typing.{entity_in, decimal_in, ipaddr_in, leaf, all_there, typed as typed_of};

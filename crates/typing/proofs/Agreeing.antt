@@ -12,12 +12,12 @@ use Rattle.expressions.specs.declared.expr.Expr.TheVariants as form
 use Rattle.extensions.specs.Decided.{Decided, told}
 use Rattle.evaluator.specs.Operators.{TakesAddress}
 use Rattle.typing.specs.Types
-use Rattle.typing.specs.Types.{StaticType, FieldTypes, IsBoolean}
+use Rattle.typing.specs.Types.{StaticType, IsBoolean}
 use Rattle.typing.specs.Environment
 use Rattle.typing.specs.Environment.{Environment, TypeFault}
 use Rattle.typing.specs.Learned.{Pairs, has_learns}
 use Rattle.typing.specs.Literals
-use Rattle.typing.specs.Literals.{Settled, IsUnsettled, ReadsLiteral, TakesText}
+use Rattle.typing.specs.Literals.{IsUnsettled, ReadsLiteral, TakesText}
 use Rattle.typing.specs.Rows
 use Rattle.typing.specs.Rows.{Row}
 use Rattle.typing.specs.Typing

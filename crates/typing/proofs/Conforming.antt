@@ -16,7 +16,7 @@ use Rattle.expressions.specs.declared.expr.Expr.{Expr}
 use Rattle.expressions.specs.declared.expr.Expr.TheVariants as form
 use Rattle.ancestor_closure.specs.Hierarchy.{Path, Above}
 use Rattle.typing.specs.Types
-use Rattle.typing.specs.Types.{StaticType, FieldTypes, declared_as, declared_at}
+use Rattle.typing.specs.Types.{StaticType, declared_as, declared_at}
 use Rattle.typing.specs.Membership
 use Rattle.typing.specs.Membership.{Of, FieldOf}
 use Rattle.typing.specs.Conforming.{Conforms}

@@ -13,7 +13,7 @@ use Rattle.expressions.specs.declared.expr.Expr.TheVariants as form
 use Rattle.extensions.specs.Decided.{Decided, told}
 use Rattle.evaluator.specs.Operators.{TakesAddress}
 use Rattle.typing.specs.Types
-use Rattle.typing.specs.Types.{StaticType, FieldTypes, IsBoolean}
+use Rattle.typing.specs.Types.{StaticType, IsBoolean}
 use Rattle.typing.specs.Environment
 use Rattle.typing.specs.Environment.{Environment, TypeFault}
 use Rattle.typing.specs.Learned.{Pairs, has_learns}

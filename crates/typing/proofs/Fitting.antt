@@ -23,9 +23,9 @@ use Rattle.ancestor_closure.specs.Hierarchy.{IsIn}
 use Rattle.evaluator.specs.Operators
 use Rattle.evaluator.specs.Operators.{World, UnaryGives, BinaryGives, FieldGives, HasGives, UnaryCallGives, BinaryCallGives, TakesAddress, TakesDecimals}
 use Rattle.typing.specs.Types
-use Rattle.typing.specs.Types.{StaticType, FieldTypes, Declared, declared_at, common, truth_type}
+use Rattle.typing.specs.Types.{StaticType, Declared, declared_at, common, truth_type}
 use Rattle.typing.specs.Membership
-use Rattle.typing.specs.Membership.{Of, EachOf, FieldOf}
+use Rattle.typing.specs.Membership.{Of, FieldOf}
 use Rattle.typing.specs.Environment.{Environment}
 use Rattle.typing.specs.Rows
 use Rattle.typing.specs.Rows.{Row, may_be_in}

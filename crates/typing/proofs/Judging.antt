@@ -16,7 +16,7 @@ use Rattle.expressions.specs.declared.expr.Expr.TheViews.{roll-Expr}
 use Rattle.expressions.specs.declared.expr.Expr.TheOpen.{Expr-F}
 use Rattle.expressions.specs.declared.expr.Expr.TheFolds.{map-Expr, fold-Expr}
 use Rattle.typing.specs.Types
-use Rattle.typing.specs.Types.{StaticType, FieldTypes}
+use Rattle.typing.specs.Types.{StaticType}
 use Rattle.typing.specs.Environment
 use Rattle.typing.specs.Environment.{Environment, TypeFault}
 use Rattle.typing.specs.Learned.{Pairs, has_learns}

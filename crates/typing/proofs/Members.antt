@@ -3,7 +3,7 @@ use Rattle.std.specs.Prelude.{◌≡◌, ◌↔◌, IsTrue, ◌⊎◌, zero, suc
 use Rattle.std.proofs.lemmas.Bool.{false≢true}
 use Rattle.std.proofs.Common.{inl, inr, arith, sym, subst}
 use Rattle.extensions.specs.Decided.{Decided, told}
-use Rattle.extensions.specs.Deciding.{decided_as, either_decided}
+use Rattle.extensions.specs.inner.Deciding.{decided_as, either_decided}
 
 module _ {X : Type 0} where
   pub Contains-here : (x : X) (xs : List X) → Contains (x ∷ xs) x

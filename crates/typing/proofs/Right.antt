@@ -28,7 +28,7 @@ use Rattle.evaluator.specs.Outcomes
 use Rattle.evaluator.specs.Outcomes.{EvaluationResult, IsTruthOf, boolean_in}
 use Rattle.ancestor_closure.specs.Hierarchy.{IsIn}
 use Rattle.evaluator.specs.Operators
-use Rattle.evaluator.specs.Operators.{World, BinaryGives, FieldGives, HasGives, UnaryCallGives}
+use Rattle.evaluator.specs.Operators.{World, BinaryGives, HasGives, UnaryCallGives}
 use Rattle.evaluator.specs.Evaluation as rule
 use Rattle.evaluator.specs.Evaluation.{EvaluatesTo, TestFails, EachEvaluatesTo, literal_value, variable_value, put_each}
 use Rattle.evaluator.specs.Laws.{HasOneOutcome}
@@ -38,7 +38,7 @@ use Rattle.typing.specs.Membership
 use Rattle.typing.specs.Membership.{Of}
 use Rattle.typing.specs.Environment.{Environment}
 use Rattle.typing.specs.Learned
-use Rattle.typing.specs.Learned.{Pair, Pairs, InBoth, OrLearns, has_learns}
+use Rattle.typing.specs.Learned.{Pairs, InBoth, OrLearns, has_learns}
 use Rattle.typing.specs.Literals
 use Rattle.typing.specs.Literals.{IsLiteral, AreEntityLiterals, ListsEntities, IsActionIn, Settled, ReadsLiteral}
 use Rattle.typing.specs.Rows

@@ -25,7 +25,7 @@ use Rattle.expressions.specs.declared.expr.Expr.TheVariants as form
 use Rattle.expressions.specs.declared.expr.Expr.TheViews.{roll-Expr, out-Expr, roll-out-Expr}
 use Rattle.expressions.specs.declared.expr.Expr.TheOpen.{Expr-F}
 use Rattle.extensions.specs.Decided.{Decided}
-use Rattle.extensions.specs.Deciding.{decided_as, both_decided, text_decided}
+use Rattle.extensions.specs.inner.Deciding.{decided_as, both_decided, text_decided}
 
 abbrev pub two : {A B C : Type 0} (f : A → B → C) {a c : A} {b d : B} → a ≡ c → b ≡ d → f a b ≡ f c d
 two f {a} {c} {b} {d} p q = ap (λ x. f x b) p ∙ ap (f c) q

@@ -19,7 +19,7 @@ use Rattle.expressions.specs.declared.expr.Expr.TheVariants as form
 use Rattle.expressions.specs.declared.expr.Expr.TheViews.{roll-Expr, out-Expr, roll-out-Expr}
 use Rattle.expressions.specs.declared.expr.Expr.TheOpen.{Expr-F}
 use Rattle.extensions.specs.Decided.{Decided, told}
-use Rattle.extensions.specs.Deciding.{decided_as, both_decided, either_decided, text_decided}
+use Rattle.extensions.specs.inner.Deciding.{decided_as, both_decided, either_decided, text_decided}
 use Rattle.extensions.specs.TextsDecided.{decimal_text_decided, network_text_decided}
 use Rattle.typing.specs.Types
 use Rattle.typing.specs.Types.{StaticType}

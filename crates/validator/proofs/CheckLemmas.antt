@@ -17,7 +17,7 @@ use Rattle.validator.specs.declared.fault.CheckFault.{CheckFault}
 use Rattle.validator.specs.declared.fault.CheckFault.TheVariants.{NoMemory}
 use Rattle.validator.specs.Names.{names_of}
 use Rattle.validator.specs.Passing
-use Rattle.validator.specs.Passing.{environments_of, HasType, HasBooleanType, FirstFaulty, Passes, IsImpossible, IsVerdict, IsRefused}
+use Rattle.validator.specs.Passing.{environments_of, HasType, HasBooleanType, IsVerdict, IsRefused}
 use Rattle.validator.specs.inner.Checking.{scope_parts, typed_in, IsJudged, AreJudged}
 use Rattle.validator.specs.inner.Walking.{Judged, names_told, parts_told}
 use Rattle.validator.proofs.KnownLemmas.{TellsNames, names_tell}

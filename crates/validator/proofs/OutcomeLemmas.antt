@@ -26,9 +26,9 @@ use Rattle.validator.specs.Faults.{of_typing}
 use Rattle.validator.specs.Names.{names_of}
 use Rattle.validator.specs.Unknown.{IsKnown}
 use Rattle.validator.specs.Passing
-use Rattle.validator.specs.Passing.{environments_of, HasType, HasBooleanType, FirstFaulty, Passes, IsImpossible, IsRefused}
+use Rattle.validator.specs.Passing.{environments_of, HasType, HasBooleanType, FirstFaulty, Passes, IsRefused}
 use Rattle.validator.specs.Outcomes
-use Rattle.validator.specs.Outcomes.{CheckResult, ComesTo, PoliciesHaveOneOutcome, NoEnvironmentIsImpossible, PassingPoliciesGoRight, PassingIsNotRefused}
+use Rattle.validator.specs.Outcomes.{CheckResult, IsCheckResult, PoliciesHaveOneOutcome, NoEnvironmentIsImpossible, PassingPoliciesGoRight, PassingIsNotRefused}
 use Rattle.validator.specs.inner.Walking.{Judged, names_told}
 use Rattle.validator.proofs.KnownLemmas.{TellsNames, names_tell, one_first, none_first}
 
@@ -188,23 +188,23 @@ module _ (one : HaveOneJudgement) (s : StatedSchema) (policy : Policy) where
   not_refused f h (Passing.for_name k) = none_first s (names_of policy) f h.known k
   not_refused f h (Passing.for_type {n = n} k l) = none_faulty one (expression_of policy) (environments_of s) n h.typed l
 
-  one_outcome : (o p : CheckResult) → ComesTo s policy o → ComesTo s policy p → p ≡ o
+  one_outcome : (o p : CheckResult) → IsCheckResult s policy o → IsCheckResult s policy p → p ≡ o
   one_outcome (Outcomes.passes b) (Outcomes.passes c) h g = ap (λ d. Outcomes.passes d) (one_answer c b g.impossible h.impossible)
   one_outcome (Outcomes.passes b) (Outcomes.refused f) h g = absurd (not_refused f h.passes g)
   one_outcome (Outcomes.refused f) (Outcomes.passes b) h g = absurd (not_refused f g.passes h)
   one_outcome (Outcomes.refused f) (Outcomes.refused g) h k = ap (λ e. Outcomes.refused e) (one_refusal g f k h)
 
   typed_outcome : All (IsKnown s) (names_of policy) → AreJudged one (expression_of policy) (environments_of s)
-      → (o : CheckResult) × ComesTo s policy o
+      → (o : CheckResult) × IsCheckResult s policy o
   unfolding AreJudged AreTyped
   typed_outcome h (inl g) = (Outcomes.passes g.0, record { passes = record { known = h; typed = g.1 }; impossible = g.2 })
   typed_outcome h (inr g) = (Outcomes.refused (of_typing g.0), Passing.for_type h g.1)
 
-  named_outcome : (r : Judged) → TellsNames s (names_of policy) r → (o : CheckResult) × ComesTo s policy o
+  named_outcome : (r : Judged) → TellsNames s (names_of policy) r → (o : CheckResult) × IsCheckResult s policy o
   named_outcome (Ok u) h = typed_outcome h (all_judged one (expression_of policy) (policy_is_test one policy) (environments_of s))
   named_outcome (Err f) h = (Outcomes.refused f, Passing.for_name h)
 
-  some_outcome : (o : CheckResult) × ComesTo s policy o
+  some_outcome : (o : CheckResult) × IsCheckResult s policy o
   some_outcome = named_outcome (names_told s (names_of policy)) (names_tell s (names_of policy))
 
 pub policies_have_one_outcome : HaveOneJudgement → PoliciesHaveOneOutcome

@@ -23,14 +23,14 @@ pub data CheckResult : Type 0 where
   passes : Bool → CheckResult
   refused : CheckFault → CheckResult
 
-abbrev pub ComesTo : StatedSchema → Policy → CheckResult → Type 0
-ComesTo s policy (passes impossible) = IsVerdict s policy impossible
-ComesTo s policy (refused f) = IsRefused s policy f
+abbrev pub IsCheckResult : StatedSchema → Policy → CheckResult → Type 0
+IsCheckResult s policy (passes impossible) = IsVerdict s policy impossible
+IsCheckResult s policy (refused f) = IsRefused s policy f
 
 -- exactly one of these, whatever schema and policy
 abbrev pub PoliciesHaveOneOutcome : Type 0
 PoliciesHaveOneOutcome = (s : StatedSchema) (policy : Policy)
-    → (o : CheckResult) × ComesTo s policy o × ((p : CheckResult) → ComesTo s policy p → p ≡ o)
+    → (o : CheckResult) × IsCheckResult s policy o × ((p : CheckResult) → IsCheckResult s policy p → p ≡ o)
 
 -- what passes is not refused
 abbrev pub PassingIsNotRefused : Type 0
@@ -39,7 +39,7 @@ PassingIsNotRefused = (s : StatedSchema) (policy : Policy) (f : CheckFault) → 
 -- where a schema has no environment, a policy all names of which are known passes, and is impossible
 abbrev pub NoEnvironmentIsImpossible : Type 0
 NoEnvironmentIsImpossible = (s : StatedSchema) (policy : Policy) → s.environments ≡ []
-    → All (IsKnown s) (names_of policy) → ComesTo s policy (passes true)
+    → All (IsKnown s) (names_of policy) → IsCheckResult s policy (passes true)
 
 -- A policy that passes does not go wrong: where a request and the entities conform to an environment of the schema,
 -- whatever its expression gives is a boolean, or an error because an entity is not stored or a number leaves its

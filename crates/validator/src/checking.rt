@@ -1,5 +1,5 @@
 //! Whether a policy passes.
-ghost use Rattle.std.specs.Prelude.{◌≡◌, ◌≢◌, ◌&&◌, ◌↔◌, IsTrue, IfOk, IfErr, true};
+ghost use Rattle.std.specs.Prelude.{◌≡◌, ◌≢◌, ◌&&◌, IfOk, IfErr, true};
 ghost use Rattle.policy_grammar.specs.Whole.{expression_of};
 ghost use Rattle.schema.specs.Views.{schema_view, environment_view};
 ghost use Rattle.type_checker.specs.passed_on.static_types.{environment_of};

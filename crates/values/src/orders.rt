@@ -5,7 +5,7 @@ ghost use Rattle.std.specs.List.Sorted.{IsStrictlySortedBy};
 ghost use Rattle.std.specs.Cmp.{IsTotalOrder};
 ghost use Rattle.std.specs.FinMap.{IsAntisymmetric};
 ghost use Rattle.values.specs.Names.{text_cmp, uid_cmp, name_cmp, request_cmp};
-ghost use Rattle.values.specs.ValueOrder.{value_cmp, set_cmp, record_cmp, field_cmp};
+ghost use Rattle.values.specs.ValueOrder.{value_cmp, field_cmp};
 
 use crate::entity_uid::EntityUid;
 use crate::name::Name;

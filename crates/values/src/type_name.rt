@@ -1,5 +1,5 @@
 //! Names of entity types.
-ghost use Rattle.std.specs.Prelude.{◌≡◌, ◌<◌, Some, IfOk, MatchResult, MatchOption, length, map, refl};
+ghost use Rattle.std.specs.Prelude.{◌≡◌, ◌<◌, Some, IfOk, MatchOption, length, map, refl};
 ghost use Rattle.std.specs.Prelude.{◌++◌, OnOk, codes, string_bytes};
 ghost use Rattle.std.specs.Ordering.{nat_cmp, is_eq};
 ghost use Rattle.std.specs.Cmp.{partial_equiv_from_equiv, partial_order_from_agreeing_total};

@@ -1,6 +1,6 @@
 //! Values of the policy language, seen as plain data.
-ghost use Rattle.std.specs.Prelude.{◌≡◌, ◌↔◌, IsTrue, Contains, List, [], Some, IfOk, OnOk, OnErr, string_bytes};
-ghost use Rattle.std.specs.Prelude.{option_map, refl, map};
+ghost use Rattle.std.specs.Prelude.{◌≡◌, ◌↔◌, IsTrue, Contains, List, [], Some, IfOk, OnOk, OnErr};
+ghost use Rattle.std.specs.Prelude.{option_map, refl};
 ghost use Rattle.std.specs.Ordering.{is_eq};
 ghost use Rattle.std.specs.Cmp.{partial_equiv_from_equiv, partial_order_from_agreeing_total};
 ghost use Rattle.std.proofs.lemmas.Cmp.{eq_by_cmp_equiv};

@@ -9,7 +9,7 @@ use Rattle.written_types.specs.declared.table.Known.{Known}
 use Rattle.schema_types.specs.Qualified as qualified
 use Rattle.schema_types.specs.Qualified.{Qualified}
 use Rattle.schema_types.specs.WrittenOut as written
-use Rattle.schema_types.specs.WrittenOut.{Declarations, Declares, WrittenOut, HasNoEnd}
+use Rattle.schema_types.specs.WrittenOut.{Declarations, Declares}
 use Rattle.written_types.specs.Knowledge.{Extent, KnownType, Knowledge, Stands, IsTable}
 use Rattle.written_types.specs.inner.Table.{fits, size_in, written_in, built_of, AreSettled, all_known}
 use Rattle.written_types.specs.TableViews.{known_view, knowledge}

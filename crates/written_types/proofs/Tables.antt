@@ -5,7 +5,7 @@ use Rattle.schema_types.specs.Qualified.{Qualified, QualifiedFields}
 use Rattle.schema_types.specs.Cedar as cedar
 use Rattle.schema_types.specs.Cedar.{Cedar, CedarFields}
 use Rattle.schema_types.specs.WrittenOut as written
-use Rattle.schema_types.specs.WrittenOut.{Declarations, Declares, WrittenOut, FieldsWrittenOut, HasNoEnd}
+use Rattle.schema_types.specs.WrittenOut.{Declarations, Declares, WrittenOut, FieldsWrittenOut}
 use Rattle.written_types.specs.Knowledge.{Extent, size_of, KnownType, Knowledge, IsTable}
 use Rattle.written_types.specs.inner.Table.{IsWithin, leaf_size, no_size, above, beside, size_in, sizes_in, written_in, fields_in, AreSettled}
 use Rattle.written_types.proofs.Sizes.{not_large}

@@ -47,12 +47,12 @@ use Rattle.evaluator.specs.Outcomes.{network_in}
 use Rattle.evaluator.specs.Evaluation.{literal_value, variable_value}
 
 -- the attributes of each stored entity, and whether one is above another
-pub record Entities : Type 0 where
+pub record DecidedWorld : Type 0 where
   pub stored : EntityUid → Option (List Field)
   pub above : EntityUid → EntityUid → Bool
 
-abbrev pub entities_of : (EntityUid → Option (List Field)) → (EntityUid → EntityUid → Bool) → Entities
-entities_of stored above = record { stored = stored; above = above }
+abbrev pub decided_world : (EntityUid → Option (List Field)) → (EntityUid → EntityUid → Bool) → DecidedWorld
+decided_world stored above = record { stored = stored; above = above }
 
 -- goes on with a value, or stays at an error
 abbrev pub and_then : {A B : Type 0} → Result A EvalFault → (A → Result B EvalFault) → Result B EvalFault
@@ -90,16 +90,16 @@ apply_unary (Like pattern) v = and_then (demanded (text_in v)) (λ t. truth (is_
 apply_unary (Is name) v = and_then (demanded (entity_in v)) (λ u. truth (bytes_eq u.type_name name))
 
 -- whether one entity is in another
-abbrev pub is_in : Entities → EntityUid → EntityUid → Bool
+abbrev pub is_in : DecidedWorld → EntityUid → EntityUid → Bool
 is_in E a b = is_eq (uid_cmp a b) || E.above b a
 
 -- whether an entity is in some member, all of which have to be entities
-abbrev pub in_members : Entities → EntityUid → List PlainValue → Result Bool EvalFault
+abbrev pub in_members : DecidedWorld → EntityUid → List PlainValue → Result Bool EvalFault
 in_members E a [] = Ok false
 in_members E a (v ∷ vs) =
     and_then (demanded (entity_in v)) (λ b. and_then (in_members E a vs) (λ rest. Ok (is_in E a b || rest)))
 
-abbrev pub in_value : Entities → EntityUid → PlainValue → EvaluationResult
+abbrev pub in_value : DecidedWorld → EntityUid → PlainValue → EvaluationResult
 in_value E a (entity b) = truth (is_in E a b)
 in_value E a (set vs) = and_then (in_members E a (list_of vs)) truth
 in_value E a v = Err TypeError
@@ -110,7 +110,7 @@ numbers f v w = and_then (two_demanded (long_in v) (long_in w)) (λ p. f p.0 p.1
 abbrev pub sets : (List PlainValue → List PlainValue → Bool) → PlainValue → PlainValue → EvaluationResult
 sets f v w = and_then (demanded (members_in v)) (λ x. and_then (demanded (members_in w)) (λ y. truth (f x y)))
 
-abbrev pub apply_binary : Entities → Binary → PlainValue → PlainValue → EvaluationResult
+abbrev pub apply_binary : DecidedWorld → Binary → PlainValue → PlainValue → EvaluationResult
 apply_binary E Equal v w = truth (is_eq (value_cmp v w))
 apply_binary E In v w = and_then (demanded (entity_in v)) (λ a. in_value E a w)
 apply_binary E Less v w = numbers (λ x y. truth (int_lt x y)) v w
@@ -130,7 +130,7 @@ abbrev pub attribute : Option (List Field) → List ℕ → EvaluationResult
 attribute None name = Err EntityDoesNotExist
 attribute (Some fs) name = found_or AttrDoesNotExist (find_field name fs)
 
-abbrev pub field_of : Entities → List ℕ → PlainValue → EvaluationResult
+abbrev pub field_of : DecidedWorld → List ℕ → PlainValue → EvaluationResult
 field_of E name (record_of fs) = found_or AttrDoesNotExist (find_field name (pairs_of fs))
 field_of E name (entity u) = attribute (E.stored u) name
 field_of E name v = Err TypeError
@@ -139,7 +139,7 @@ abbrev pub has_attribute : Option (List Field) → List ℕ → Bool
 has_attribute None name = false
 has_attribute (Some fs) name = is_some (find_field name fs)
 
-abbrev pub has_field : Entities → List ℕ → PlainValue → EvaluationResult
+abbrev pub has_field : DecidedWorld → List ℕ → PlainValue → EvaluationResult
 has_field E name (record_of fs) = truth (is_some (find_field name (pairs_of fs)))
 has_field E name (entity u) = truth (has_attribute (E.stored u) name)
 has_field E name v = Err TypeError
@@ -208,7 +208,7 @@ abbrev pub either : EvaluationResult → EvaluationResult → EvaluationResult
 either a b = and_then (as_test a) (λ t. if t then truth true else and_then (as_test b) truth)
 
 -- what a form gives, whose parts give these
-abbrev pub meaning_step : Request → Entities → Expr-F EvaluationResult → EvaluationResult
+abbrev pub meaning_step : Request → DecidedWorld → Expr-F EvaluationResult → EvaluationResult
 meaning_step q E (Expr-F.Literal l) = Ok (literal_value l)
 meaning_step q E (Expr-F.Variable x) = Ok (variable_value x q)
 meaning_step q E (Expr-F.If a b c) = choice a b c
@@ -224,11 +224,11 @@ meaning_step q E (Expr-F.UnaryCall called a) = and_then a (apply_unary_call call
 meaning_step q E (Expr-F.BinaryCall called a b) = and_then a (λ v. and_then b (apply_binary_call called v))
 
 -- what an expression gives
-abbrev pub meaning : Request → Entities → Expr → EvaluationResult
+abbrev pub meaning : Request → DecidedWorld → Expr → EvaluationResult
 meaning q E = fold-Expr EvaluationResult (meaning_step q E)
 
 -- the same of a field's value
-abbrev pub named_meaning : Request → Entities → Named Expr → Named EvaluationResult
+abbrev pub named_meaning : Request → DecidedWorld → Named Expr → Named EvaluationResult
 named_meaning q E f = record { name = f.name; value = meaning q E f.value }
 
 -- an answer is the outcome m, but where memory was refused

@@ -7,7 +7,7 @@ use Rattle.expressions.specs.declared.expr.Expr.{Expr}
 use Rattle.evaluator.specs.Outcomes.{EvaluationResult}
 use Rattle.evaluator.specs.Operators.{World}
 use Rattle.evaluator.specs.Evaluation.{EvaluatesTo}
-use Rattle.evaluator.specs.inner.Computing.{entities_of, meaning}
+use Rattle.evaluator.specs.inner.Computing.{decided_world, meaning}
 
 -- the expression gives m, and nothing else
 pub record GivesOnly (W : World) (q : Request) (x : Expr) (m : EvaluationResult) : Type 0 where
@@ -18,4 +18,4 @@ pub record GivesOnly (W : World) (q : Request) (x : Expr) (m : EvaluationResult)
 abbrev pub MeaningsAreGiven : Type 0
 MeaningsAreGiven = (W : World) (above : EntityUid → EntityUid → Bool) → Decides W.parents above
     → (q : Request) (x : Expr) →
-    GivesOnly W q x (meaning q (entities_of W.stored above) x)
+    GivesOnly W q x (meaning q (decided_world W.stored above) x)

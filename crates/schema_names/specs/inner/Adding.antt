@@ -12,7 +12,7 @@ use Rattle.schema_types.specs.Names.{full_name}
 use Rattle.named_types.specs.NamesViews.{scope_of, is_action_of}
 use Rattle.schema_file.specs.Stated.{NamespaceOf}
 use Rattle.schema_names.specs.Qualifying.{CommonOf, common_in, commons_declared}
-use Rattle.named_types.specs.Actions.{action_type, uid_of}
+use Rattle.named_types.specs.Actions.{action_type, action_uid}
 use Rattle.schema_names.specs.Qualifying.{entity_types_declared, actions_declared, scope_in, is_action_in}
 
 abbrev pub has_name : BTreeSet (String Global) → List ℕ → Bool
@@ -38,7 +38,8 @@ any_uid us u = list_any (λ a. is_eq (uid_cmp a u)) us
 pub record AddsNamespace (n : NamespaceOf) (old new : Names) : Type 0 where
   pub commons : Adds has_name (any_common (map (λ c. common_in n.name c) n.commons)) old.commons new.commons
   pub entities : Adds has_name (any_name (map (λ e. full_name n.name e.name) n.entity_types)) old.entities new.entities
-  pub actions : Adds has_uid (any_uid (map (λ a. uid_of (action_type n.name) a.id) n.actions)) old.actions new.actions
+  pub actions : Adds has_uid (any_uid (map (λ a. action_uid (action_type n.name) a.id) n.actions)) old.actions
+      new.actions
 
 -- what these namespaces declare was added
 pub record AddsAll (ns : List NamespaceOf) (old new : Names) : Type 0 where

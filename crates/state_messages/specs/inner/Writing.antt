@@ -7,7 +7,7 @@ use Rattle.values.specs.Names.{name_cmp}
 use Rattle.stamped_store.specs.declared.entry.Entry.{Entry}
 use Rattle.stamped_store.specs.Deltas.{Summary, is_news}
 use Rattle.stamped_store.specs.Stored.{value_at}
-use Rattle.stamped_store.specs.Shown.{shown_entries}
+use Rattle.stamped_store.specs.Abstraction.{abstract_entries}
 use Rattle.stamped_store.specs.Store.{Update}
 use Rattle.state_messages.specs.Messages.{entry_json}
 
@@ -19,4 +19,4 @@ abbrev pub news_json : Summary → Update → List Data
 news_json m u = if is_new m u then entry_json u ∷ [] else []
 
 abbrev pub all_news_json : {K P : Type 0} → (K → Name) → Summary → List (K × Entry P) → List Data
-all_news_json name m es = flat_map (news_json m) (shown_entries name es)
+all_news_json name m es = flat_map (news_json m) (abstract_entries name es)

@@ -2,7 +2,7 @@
 use Rattle.std.specs.Prelude.{ℕ, suc, zero, List, map, Bool, true, Option, Some, None}
 use Rattle.std.specs.Borrow.{Bor}
 use Rattle.typing.specs.Types as types
-use Rattle.typing.specs.Types.{long_type, text_type, entity_type, set_type, record_type, decimal_type, ipaddr_type}
+use Rattle.typing.specs.Types.{set_type, record_type}
 use Rattle.typing.specs.Types.{FieldTypes, no_field_types, field_type, Declared, undeclared, declared_as}
 use Rattle.schema_types.specs.CedarViews.{cedar_view, cedar_fields_view}
 use Rattle.static_types.specs.FromSchemas.{static, static_fields}
@@ -12,8 +12,8 @@ use Rattle.static_types.specs.declared.parts.Part.{Part}
 use Rattle.static_types.specs.declared.parts.Part.TheVariants as part
 use Rattle.static_types.specs.declared.parts.Fields.{Fields}
 use Rattle.static_types.specs.declared.parts.Fields.TheVariants as fields
-use Rattle.static_types.specs.declared.parts.Kind.{Kind}
-use Rattle.static_types.specs.declared.parts.Kind.TheVariants as kind
+use Rattle.static_types.specs.declared.parts.TypeKind.{TypeKind}
+use Rattle.static_types.specs.declared.parts.TypeKind.TheVariants as kind
 use Rattle.static_types.specs.declared.parts.FieldPart.{FieldPart}
 
 abbrev pub part_view : Part → types.StaticType
@@ -32,7 +32,7 @@ abbrev pub fields_view : Fields → FieldTypes
 fields_view (fields.Built fs) = built_view fs.now
 fields_view (fields.Declared fs) = static_fields (cedar_fields_view fs.now)
 
-abbrev pub kind_view : Kind → types.StaticType
+abbrev pub kind_view : TypeKind → types.StaticType
 kind_view (kind.Leaf l) = leaf_view l
 kind_view (kind.Set p) = set_type (part_view p)
 kind_view (kind.Record fs) = record_type (fields_view fs)

@@ -1,8 +1,8 @@
 use Rattle.std.proofs.lemmas.Result.{IfOk-weaker}
 use Rattle.std.specs.Prelude.{refl}
 use Rattle.evaluator.specs.Operators.{world_of}
-use Rattle.authoriser.specs.Answers.{ComesTo}
-use Rattle.authoriser.specs.Views.{ConditionComesTo}
+use Rattle.authoriser.specs.Answers.{PolicyEvaluatesTo}
+use Rattle.authoriser.specs.Views.{ConditionEvaluatesTo}
 use Rattle.authoriser.proofs.Judging.{true_scope, other_scope}
 use Rattle.authoriser.proofs.conditions.outcome_of.Goals as goal
 
@@ -12,7 +12,7 @@ returns-then-is_scope_true g c =
     let W = world_of (g.L.Lookup.stored store) (g.L.Ancestry.parents store) in
     let q = c.args.request.now in
     let policy = c.args.policy.now in
-    IfOk-weaker c.outcome_of_condition.result (ConditionComesTo W q policy.condition) (ComesTo W q policy)
+    IfOk-weaker c.outcome_of_condition.result (ConditionEvaluatesTo W q policy.condition) (PolicyEvaluatesTo W q policy)
     (λ o comes. true_scope c.scopes_do_not_err.ensures.leaves W q c.args.request_ancestors.now policy o c.requires (c.if-is_scope_true.ensures.0 refl) comes)
     c.outcome_of_condition.ensures
 

@@ -1,6 +1,6 @@
 use Rattle.std.proofs.Common.{sym, subst}
 use Rattle.evaluator.specs.Operators.{world_of}
-use Rattle.authoriser.specs.Views.{ConditionComesTo}
+use Rattle.authoriser.specs.Views.{ConditionEvaluatesTo}
 use Rattle.authoriser.proofs.Judging.{value_comes_to, fault_comes_to}
 use Rattle.authoriser.proofs.conditions.outcome_of_condition.Goals as goal
 
@@ -10,7 +10,7 @@ returns-in-Ok g c =
     let W = world_of (g.L.Lookup.stored store) (g.L.Ancestry.parents store) in
     let q = c.args.request.now in
     let x = c.args.condition.now in
-    subst (ConditionComesTo W q x) (sym c.outcome_by.ensures) (value_comes_to W q x c.in-Ok.given c.in-Ok.ensures.given)
+    subst (ConditionEvaluatesTo W q x) (sym c.outcome_by.ensures) (value_comes_to W q x c.in-Ok.given c.in-Ok.ensures.given)
 
 pub returns-in_ok-error_by-in-Err : goal.returns-in_ok-error_by-in-Err
 returns-in_ok-error_by-in-Err g c =

@@ -1,5 +1,5 @@
-use Rattle.desugaring.proofs.Decoding.{value_is, pattern_is}
+use Rattle.desugaring.specs.inner.StringReading.{string_meaning}
 use Rattle.desugaring.proofs.laws.strings_are_read.Goals as goal
 
 pub returns : goal.returns
-returns c = record { values = value_is; patterns = pattern_is }
+returns c = record { values = string_meaning.value_is; patterns = string_meaning.pattern_is }

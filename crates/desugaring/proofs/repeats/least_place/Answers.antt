@@ -1,6 +1,6 @@
 use Rattle.std.proofs.Common.{◌++◌, ◌∷◌, [], sym, subst, take, get_or, ◌∙◌, refl}
 use Rattle.std.proofs.lemmas.List.{take_all}
-use Rattle.desugaring.specs.Repeats.{shown}
+use Rattle.desugaring.specs.Repeats.{abstract_names}
 use Rattle.desugaring.specs.Repeats.{NameAt, StandsAgain}
 use Rattle.desugaring.specs.inner.Searching.{TellsLeast}
 use Rattle.desugaring.proofs.Repeating.{Seen, seen-none, seen-new, seen-again, shown-more, was_new, was_old}
@@ -14,7 +14,7 @@ pub loop-mark-preserved : goal.loop-mark-preserved
 loop-mark-preserved c =
     let mark = get_or c.args.marks.now c.loop-mark.mark-index (record { name = record { ref_ptr = (0, 0); now = [] }; at = 0 }) in
     let more = shown-more c.args.marks.now c.loop-mark.mark-index (record { name = record { ref_ptr = (0, 0); now = [] }; at = 0 }) c.loop-mark-test.true in
-    let passed = shown (take c.loop-mark.mark-index c.args.marks.now) in
+    let passed = abstract_names (take c.loop-mark.mark-index c.args.marks.now) in
     let m : NameAt = record { name = mark.name.now; at = mark.at } in
     let updates = c.in_ok-insert.ensures.updates in
     let added = c.in_ok-insert.ensures.added in
@@ -28,4 +28,4 @@ loop-mark-preserved c =
     ])
 
 pub returns : goal.returns
-returns c = subst (λ ms. TellsLeast (StandsAgain (shown ms)) c.loop-mark.least) (take_all _ c.args.marks.now c.loop-mark-test.false) c.loop-mark.invariant.tells
+returns c = subst (λ ms. TellsLeast (StandsAgain (abstract_names ms)) c.loop-mark.least) (take_all _ c.args.marks.now c.loop-mark-test.false) c.loop-mark.invariant.tells

@@ -1,4 +1,4 @@
-use Rattle.evaluator.specs.inner.Computing.{entities_of, meaning}
+use Rattle.evaluator.specs.inner.Computing.{decided_world, meaning}
 use Rattle.evaluator.specs.Operators.{world_of}
 use Rattle.evaluator.proofs.Agreeing.{answers_what_is_given, answers_all_that_is_given}
 use Rattle.evaluator.proofs.evaluating.evaluate.Goals as goal
@@ -11,7 +11,7 @@ returns-clause-given g c =
     let q = c.args.request.now in
     let x = c.args.expr.now in
     let given = c.meanings_are_given.ensures W above (g.met.L.Ancestry.above_is store) q x in
-    answers_what_is_given W q x (meaning q (entities_of W.stored above) x) given c.outcome_of.result c.outcome_of.ensures
+    answers_what_is_given W q x (meaning q (decided_world W.stored above) x) given c.outcome_of.result c.outcome_of.ensures
 
 pub returns-clause-all : goal.returns-clause-all
 returns-clause-all g c =
@@ -21,4 +21,4 @@ returns-clause-all g c =
     let q = c.args.request.now in
     let x = c.args.expr.now in
     let given = c.meanings_are_given.ensures W above (g.met.L.Ancestry.above_is store) q x in
-    answers_all_that_is_given W q x (meaning q (entities_of W.stored above) x) given c.outcome_of.result c.outcome_of.ensures
+    answers_all_that_is_given W q x (meaning q (decided_world W.stored above) x) given c.outcome_of.result c.outcome_of.ensures

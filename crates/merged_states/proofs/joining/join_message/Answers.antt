@@ -1,5 +1,5 @@
 use Rattle.schema.specs.Views.{schema_view}
-use Rattle.stamped_store.specs.Store.{shown_store}
+use Rattle.stamped_store.specs.Store.{abstract_store}
 use Rattle.merged_states.proofs.MessageLemmas.{texts_of, joined_sendable}
 use Rattle.merged_states.proofs.joining.join_message.Goals as goal
 
@@ -7,7 +7,7 @@ pub returns-clause-sendable : goal.returns-clause-sendable
 returns-clause-sendable c h =
     let k = c.args.schema.now in
     let us = c.in_ok-updates.updates.items in
-    joined_sendable (schema_view k) (shown_store c.args.store) (shown_store c.take_all.new.store) c.args.bytes.now c.in_ok-taken.taken h
+    joined_sendable (schema_view k) (abstract_store c.args.store) (abstract_store c.take_all.new.store) c.args.bytes.now c.in_ok-taken.taken h
     (record {
       came = us;
       message = c.in_ok-updates.ensures.read;

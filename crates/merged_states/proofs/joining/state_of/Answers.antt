@@ -1,5 +1,5 @@
 use Rattle.std.proofs.lemmas.Result.{IfOk-weaker}
-use Rattle.stamped_store.specs.Store.{shown_store}
+use Rattle.stamped_store.specs.Store.{abstract_store}
 use Rattle.merged_states.proofs.MessageLemmas.{texts_of, read_back}
 use Rattle.merged_states.proofs.joining.state_of.Goals as goal
 
@@ -7,5 +7,5 @@ pub returns-clause-reads_back : goal.returns-clause-reads_back
 returns-clause-reads_back c =
     let k = c.args.schema.now in
     IfOk-weaker c.write_state.result _ _
-    (λ b. read_back k c.label.result.now b.items (shown_store c.args.store.now) c.label.ensures (c.valid_messages_are_read.ensures.read (texts_of k)))
+    (λ b. read_back k c.label.result.now b.items (abstract_store c.args.store.now) c.label.ensures (c.valid_messages_are_read.ensures.read (texts_of k)))
     c.write_state.ensures.reads_back

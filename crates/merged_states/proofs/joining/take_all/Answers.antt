@@ -1,7 +1,7 @@
 use Rattle.std.proofs.Common.{◌++◌, ◌∷◌, [], refl, sym, ap, ◌∙◌, arith, length-append, append_assoc}
 use Rattle.std.proofs.lemmas.List.{map-append}
-use Rattle.stamped_store.specs.Store.{shown_store, store_of, updates}
-use Rattle.state_messages.specs.Updates.{shown_update, shown_updates}
+use Rattle.stamped_store.specs.Store.{abstract_store, store_of, updates}
+use Rattle.state_messages.specs.Updates.{abstract_update, abstract_updates}
 use Rattle.merged_states.proofs.StoreLemmas.{stores_none, stores_more}
 use Rattle.merged_states.proofs.joining.take_all.Goals as goal
 
@@ -11,13 +11,13 @@ loop-update-init c = record {
   is_finite = tt;
   rest = c.into_iter-update-iterator.ensures.into_iter_gives.0;
   count = refl;
-  stored = stores_none c.updates_have_one_store.ensures.own (shown_store c.args.store.now);
+  stored = stores_none c.updates_have_one_store.ensures.own (abstract_store c.args.store.now);
 }
 
 pub loop-update-preserved : goal.loop-update-preserved
 loop-update-preserved c =
     let i = c.loop-update.invariant in
-    let s = shown_store c.args.store.now in
+    let s = abstract_store c.args.store.now in
     let yielded = c.loop-update.yielded in
     let item = c.in-Some.update in
     let rest = c.next.new.self.rest.items in
@@ -27,6 +27,6 @@ loop-update-preserved c =
       is_finite = tt;
       rest = append_assoc yielded (item ∷ []) rest ∙ ap (λ us. yielded ++ us) (sym steps) ∙ i.rest;
       count = omega (arith, length-append yielded (item ∷ []));
-      stored = stores_more c.updates_have_one_store.ensures.grouped s (shown_store c.loop-update.store) (shown_store c.take_one.new.store) (shown_updates yielded) (shown_update item ∷ []) i.stored c.in_ok-take_one.ensures
-          ∙ ap (λ us. store_of (updates s ++ us)) (sym (map-append shown_update yielded (item ∷ [])));
+      stored = stores_more c.updates_have_one_store.ensures.grouped s (abstract_store c.loop-update.store) (abstract_store c.take_one.new.store) (abstract_updates yielded) (abstract_update item ∷ []) i.stored c.in_ok-take_one.ensures
+          ∙ ap (λ us. store_of (updates s ++ us)) (sym (map-append abstract_update yielded (item ∷ [])));
     }

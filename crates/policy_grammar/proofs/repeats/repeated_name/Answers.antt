@@ -1,6 +1,6 @@
 use Rattle.std.proofs.Common.{◌≡◌, IfOk, ap, arith, subst, ◌∙◌}
 use Rattle.desugaring.specs.Refused.{least}
-use Rattle.desugaring.specs.Repeats.{repeat_faults, shown}
+use Rattle.desugaring.specs.Repeats.{repeat_faults, abstract_names}
 use Rattle.policy_grammar.proofs.Doubtful.{doubtful-enough}
 use Rattle.policy_grammar.proofs.Refusing.{names-long}
 use Rattle.policy_grammar.proofs.repeats.repeated_name.Goals as goal
@@ -14,6 +14,6 @@ doubtful_marks-requires-clause-same c = names-long c.args.text.now c.args.trees.
 pub returns : goal.returns
 returns c =
     subst (λ told. IfOk c.first_duplicate.result (λ fault. fault ≡ told))
-    (ap (λ ms. least (repeat_faults (shown ms))) c.deref.ensures.value ∙ ap (λ ms. least (repeat_faults ms)) c.in_ok-marks.ensures
+    (ap (λ ms. least (repeat_faults (abstract_names ms))) c.deref.ensures.value ∙ ap (λ ms. least (repeat_faults ms)) c.in_ok-marks.ensures
     ∙ doubtful-enough c.repeats_stand_again.ensures.told c.args.text.now c.meets_place-wide.result c.args.names.now c.args.trees.now (omega arith) c.requires.named
     c.meets_place-wide.ensures) c.first_duplicate.ensures

@@ -1,5 +1,4 @@
 use Rattle.std.proofs.Common.{◌≡◌, ◌≢◌, ℕ, Err, refl, ap, subst}
-use Rattle.pulled_states.specs.declared.fault.NetworkFault.TheVariants as network
 use Rattle.pulled_states.specs.declared.fault.PullFault.TheVariants.{Network}
 use Rattle.pulled_states.specs.Requests.{delta_request}
 use Rattle.pulled_states.specs.Exchanges.{IsAnswered}

@@ -1,6 +1,6 @@
 use Rattle.std.proofs.Common.{inr}
 use Rattle.schema.specs.Views.{schema_view}
-use Rattle.stamped_store.specs.Store.{shown_store}
+use Rattle.stamped_store.specs.Store.{abstract_store}
 use Rattle.pulled_states.specs.Requests.{request_for}
 use Rattle.pulled_states.proofs.ToldLemmas.{err_always, begun_whole}
 use Rattle.pulled_states.proofs.pulling.pull_under.Goals as goal
@@ -8,5 +8,5 @@ use Rattle.pulled_states.proofs.pulling.pull_under.Goals as goal
 pub returns-in-Ok-clause-err : goal.returns-in-Ok-clause-err
 returns-in-Ok-clause-err g c =
     err_always c.told.result
-    (inr (begun_whole g.R.Source.left g.R.Source.reads g.W.Sink.holds (request_for c.args.host.now (schema_view c.args.schema.now) (shown_store c.args.store))
+    (inr (begun_whole g.R.Source.left g.R.Source.reads g.W.Sink.holds (request_for c.args.host.now (schema_view c.args.schema.now) (abstract_store c.args.store))
     c.args.reader.now c.news_for.new.reader c.args.writer.now c.news_for.new.writer 200 c.in-Ok.body.items c.in-Ok.ensures.answered))

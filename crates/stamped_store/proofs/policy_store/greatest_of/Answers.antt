@@ -1,7 +1,7 @@
 use Rattle.std.proofs.Common.{◌≡◌, ◌++◌, ◌∷◌, [], ap, sym, ◌∙◌, map, append_assoc, arith}
 use Rattle.std.proofs.lemmas.List.{map-append}
 use Rattle.std.specs.Map.Iter.{deref_pair}
-use Rattle.stamped_store.specs.Shown.{greatest_kept}
+use Rattle.stamped_store.specs.Abstraction.{greatest_kept}
 use Rattle.stamped_store.proofs.Showing.{greatest_kept-append}
 use Rattle.stamped_store.proofs.policy_store.greatest_of.Goals as goal
 

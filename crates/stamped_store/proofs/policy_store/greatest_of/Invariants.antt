@@ -1,6 +1,6 @@
 use Rattle.std.proofs.Common.{◌≡◌, ◌++◌, map}
 use Rattle.std.specs.Map.Iter.{deref_pair}
-use Rattle.stamped_store.specs.Shown.{greatest_kept}
+use Rattle.stamped_store.specs.Abstraction.{greatest_kept}
 use Rattle.stamped_store.proofs.policy_store.greatest_of.Given as goal
 
 -- the greatest count so far

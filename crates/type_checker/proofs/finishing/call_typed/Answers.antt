@@ -1,6 +1,5 @@
 use Rattle.expressions.specs.declared.expr.Expr.TheVariants as form
 use Rattle.typing.specs.Typing as typing
-use Rattle.typing.specs.Typing.{Types}
 use Rattle.typing.specs.Faults as faults
 use Rattle.type_checker.proofs.Carrying.{typed_so, faulty_so, row_judged}
 use Rattle.type_checker.proofs.finishing.call_typed.Goals as goal

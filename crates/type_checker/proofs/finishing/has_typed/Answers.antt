@@ -3,7 +3,6 @@ use Rattle.std.specs.Bool.{Decides}
 use Rattle.expressions.specs.declared.expr.Expr.TheVariants as form
 use Rattle.typing.specs.Learned as learned
 use Rattle.typing.specs.Typing as typing
-use Rattle.typing.specs.Typing.{Types}
 use Rattle.typing.specs.Faults as faults
 use Rattle.static_types.specs.Views.{typing_environment}
 use Rattle.type_checker.specs.inner.Pairs.{pairs}

@@ -1,6 +1,5 @@
 use Rattle.typing.specs.Rows as rows
 use Rattle.typing.specs.Typing as typing
-use Rattle.typing.specs.Typing.{Types}
 use Rattle.typing.specs.Faults as faults
 use Rattle.type_checker.proofs.Carrying.{typed_so, faulty_so, boolean_so}
 use Rattle.type_checker.proofs.finishing.or_behind_false.Goals as goal

@@ -1,7 +1,6 @@
 use Rattle.std.proofs.Common.{map, ap, ◌∙◌}
 use Rattle.expressions.specs.declared.expr.Expr.TheVariants as form
 use Rattle.typing.specs.Typing as typing
-use Rattle.typing.specs.Typing.{Types}
 use Rattle.typing.specs.Faults as faults
 use Rattle.static_types.specs.Views.{static_view}
 use Rattle.type_checker.proofs.Carrying.{each_so, each_faulty, plain_judged}

@@ -1,6 +1,5 @@
 use Rattle.expressions.specs.declared.expr.Expr.TheVariants as form
 use Rattle.typing.specs.Typing as typing
-use Rattle.typing.specs.Typing.{Types}
 use Rattle.typing.specs.Faults as faults
 use Rattle.type_checker.proofs.Carrying.{each_so, each_faulty, row_judged}
 use Rattle.type_checker.proofs.finishing.set_typed.Goals as goal

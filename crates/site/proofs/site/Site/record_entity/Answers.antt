@@ -7,7 +7,7 @@ use Rattle.stamped_store.specs.declared.entry.Entry.{Entry}
 use Rattle.stamped_store.specs.declared.entry.Stamp.{Stamp}
 use Rattle.stamped_store.specs.EntryOrder.{greater, plain_entry}
 use Rattle.stamped_store.specs.Reading.{IsBodyRead}
-use Rattle.stamped_store.specs.Store.{kept, entity_name, shown_store}
+use Rattle.stamped_store.specs.Store.{kept, entity_name, abstract_store}
 use Rattle.stamped_store.specs.Stored.{taken}
 use Rattle.sync_messages.specs.Summaries.{IsStamped}
 use Rattle.site.specs.Admitted.{IsEntityUnder}
@@ -28,5 +28,5 @@ invariant_of-self c =
     (subst (λ (x : SchemaEntries). IsBodyRead (IsEntityUnder (schema_view x) c.args.uid) c.args.body)
     (sym (ap (λ v. v.schema) c.self.view_is)) c.requires.read))
     c.ranges_stay.ensures.joined
-    (subst (λ (x : Stamp). IsStamped (name, x)) (sym next.1) (c.ranges_stay.ensures.issued (shown_store k)
+    (subst (λ (x : Stamp). IsStamped (name, x)) (sym next.1) (c.ranges_stay.ensures.issued (abstract_store k)
     c.self.inside.number name c.requires.named next.0 c.self.invariant.numbered c.self.invariant.small))

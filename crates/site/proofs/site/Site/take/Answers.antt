@@ -7,7 +7,7 @@ use Rattle.schema.specs.SchemaEntries.{SchemaEntries}
 use Rattle.schema.specs.Views.{schema_view}
 use Rattle.stamped_store.specs.Store.{store_of, updates}
 use Rattle.state_messages.specs.declared.update.Update.{Update}
-use Rattle.state_messages.specs.Updates.{shown_update, shown_updates}
+use Rattle.state_messages.specs.Updates.{abstract_update, abstract_updates}
 use Rattle.site.specs.Admitted.{IsValid}
 use Rattle.site.specs.Seen.{schema_of, store_in}
 use Rattle.site.proofs.Taking.{stores_none, stores_more}
@@ -47,6 +47,6 @@ loop-update-preserved c =
       count = omega (arith, length-append yielded (item ∷ []));
       same = (c.take_one.ensures.same.0 ∙ i.same.0, c.take_one.ensures.same.1 ∙ i.same.1);
       valid = (subst (λ (us : List (Update Policy Entity)). AllByRecursion (IsValid (schema_of c.args.self.now)) us) steps i.valid).1;
-      stored = stores_more c.updates_have_one_store.ensures.grouped s (store_in c.loop-update.self) (store_in c.take_one.new.self) (shown_updates yielded) (shown_update item ∷ []) i.stored (c.if-not-take_one.ensures.taken refl)
-          ∙ ap (λ us. store_of (updates s ++ us)) (sym (map-append shown_update yielded (item ∷ [])));
+      stored = stores_more c.updates_have_one_store.ensures.grouped s (store_in c.loop-update.self) (store_in c.take_one.new.self) (abstract_updates yielded) (abstract_update item ∷ []) i.stored (c.if-not-take_one.ensures.taken refl)
+          ∙ ap (λ us. store_of (updates s ++ us)) (sym (map-append abstract_update yielded (item ∷ [])));
     }

@@ -1,7 +1,7 @@
 use Rattle.std.proofs.Common.{◌≡◌, ◌++◌, length}
 use Rattle.std.specs.List.{AllByRecursion}
 use Rattle.stamped_store.specs.Store.{store_of, updates}
-use Rattle.state_messages.specs.Updates.{shown_updates}
+use Rattle.state_messages.specs.Updates.{abstract_updates}
 use Rattle.site.specs.Admitted.{IsValid}
 use Rattle.site.specs.Seen.{schema_of, store_in, IsSameSite}
 use Rattle.site.proofs.site.Site.take.Given as goal
@@ -15,5 +15,5 @@ invariant-loop-update l = record {
   count : l.taken ≡ length l.yielded;
   same : IsSameSite l.fn.self l.self;
   valid : AllByRecursion (IsValid (schema_of l.fn.self)) l.update-iterator.rest.items;
-  stored : store_in l.self ≡ store_of (updates (store_in l.fn.self) ++ shown_updates l.yielded);
+  stored : store_in l.self ≡ store_of (updates (store_in l.fn.self) ++ abstract_updates l.yielded);
 }

@@ -2,7 +2,7 @@ use Rattle.std.proofs.Common.{◌≡◌, ◌∙◌, ap, subst, refl, take, ◌+�
 use Rattle.std.specs.String.{string_cmp}
 use Rattle.stamped_store.specs.EntryOrder.{greater}
 use Rattle.stamped_store.specs.Stored.{all_taken}
-use Rattle.stamped_store.specs.Store.{kept, all_kept, first_kept, shown_store, shown_updates, updates}
+use Rattle.stamped_store.specs.Store.{kept, all_kept, first_kept, abstract_store, abstract_updates, updates}
 use Rattle.stamped_store.proofs.Stores.{counted_all, counted_anew, joined_whole, joined_first, kept_first_policies, kept_first_entities}
 use Rattle.stamped_store.proofs.policy_store.PolicyStore.merge.Goals as goal
 
@@ -22,7 +22,7 @@ returns-in-Err-clause-short_kept g c =
 
 pub returns-in-Err-clause-short : goal.returns-in-Err-clause-short
 returns-in-Err-clause-short g c =
-    let in_order : updates (shown_store c.args.other) ≡ shown_updates c.args.other = subst (λ x. updates (shown_store x) ≡ shown_updates x) c.other.view_is c.other.invariant.in_order in
+    let in_order : updates (abstract_store c.args.other) ≡ abstract_updates c.args.other = subst (λ x. updates (abstract_store x) ≡ abstract_updates x) c.other.view_is c.other.invariant.in_order in
     joined_first c.args.self.now c.args.other _ c.in-Err.short.taken in_order (returns-in-Err-clause-short_kept g c)
 
 -- ---- memory was refused among the entities
@@ -41,7 +41,7 @@ returns-in-Err-merge-clause-short_kept g c =
 
 pub returns-in-Err-merge-clause-short : goal.returns-in-Err-merge-clause-short
 returns-in-Err-merge-clause-short g c =
-    let in_order : updates (shown_store c.args.other) ≡ shown_updates c.args.other = subst (λ x. updates (shown_store x) ≡ shown_updates x) c.other.view_is c.other.invariant.in_order in
+    let in_order : updates (abstract_store c.args.other) ≡ abstract_updates c.args.other = subst (λ x. updates (abstract_store x) ≡ abstract_updates x) c.other.view_is c.other.invariant.in_order in
     joined_first c.args.self.now c.args.other _ c.short_behind.result.taken in_order (returns-in-Err-merge-clause-short_kept g c)
 
 -- ---- all of the other store was taken
@@ -59,5 +59,5 @@ returns-clause-ok_kept g c =
 
 pub returns-clause-ok : goal.returns-clause-ok
 returns-clause-ok g c =
-    let in_order : updates (shown_store c.args.other) ≡ shown_updates c.args.other = subst (λ x. updates (shown_store x) ≡ shown_updates x) c.other.view_is c.other.invariant.in_order in
+    let in_order : updates (abstract_store c.args.other) ≡ abstract_updates c.args.other = subst (λ x. updates (abstract_store x) ≡ abstract_updates x) c.other.view_is c.other.invariant.in_order in
     joined_whole c.args.self.now c.args.other _ in_order (returns-clause-ok_kept g c)

@@ -2,7 +2,7 @@ use Rattle.std.proofs.Common.{ap, ◌∙◌}
 use Rattle.values.specs.Names.{uid_cmp}
 use Rattle.stamped_store.specs.EntryOrder.{plain_entry, greater}
 use Rattle.stamped_store.specs.Stored.{taken}
-use Rattle.stamped_store.specs.Store.{kept, entity_name, shown_store}
+use Rattle.stamped_store.specs.Store.{kept, entity_name, abstract_store}
 use Rattle.stamped_store.proofs.Stores.{counted_entity, joined_entity, others_kept}
 use Rattle.stamped_store.proofs.policy_store.PolicyStore.take_entity.Goals as goal
 
@@ -19,4 +19,4 @@ pub returns-clause-ok : goal.returns-clause-ok
 returns-clause-ok g c = joined_entity c.args.self.now _ c.args.uid c.args.entry (returns-clause-kept g c)
 
 pub returns-clause-others : goal.returns-clause-others
-returns-clause-others g c = others_kept (shown_store c.args.self.now) _ (entity_name c.args.uid) (plain_entry c.args.entry) (returns-clause-ok g c)
+returns-clause-others g c = others_kept (abstract_store c.args.self.now) _ (entity_name c.args.uid) (plain_entry c.args.entry) (returns-clause-ok g c)

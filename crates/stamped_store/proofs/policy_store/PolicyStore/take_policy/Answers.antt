@@ -2,7 +2,7 @@ use Rattle.std.proofs.Common.{ap, ◌∙◌}
 use Rattle.std.specs.String.{string_cmp}
 use Rattle.stamped_store.specs.EntryOrder.{plain_entry, greater}
 use Rattle.stamped_store.specs.Stored.{taken}
-use Rattle.stamped_store.specs.Store.{kept, id_name, shown_store}
+use Rattle.stamped_store.specs.Store.{kept, id_name, abstract_store}
 use Rattle.stamped_store.proofs.Stores.{counted_policy, joined_policy, others_kept}
 use Rattle.stamped_store.proofs.policy_store.PolicyStore.take_policy.Goals as goal
 
@@ -19,4 +19,4 @@ pub returns-clause-ok : goal.returns-clause-ok
 returns-clause-ok g c = joined_policy c.args.self.now _ c.args.id c.args.entry (returns-clause-kept g c)
 
 pub returns-clause-others : goal.returns-clause-others
-returns-clause-others g c = others_kept (shown_store c.args.self.now) _ (id_name c.args.id) (plain_entry c.args.entry) (returns-clause-ok g c)
+returns-clause-others g c = others_kept (abstract_store c.args.self.now) _ (id_name c.args.id) (plain_entry c.args.entry) (returns-clause-ok g c)

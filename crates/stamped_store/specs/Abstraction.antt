@@ -7,14 +7,14 @@ use Rattle.stamped_store.specs.declared.entry.Entry.{Entry}
 use Rattle.stamped_store.specs.EntryOrder.{PlainEntry, plain_entry}
 
 module _ {K N P : Type 0} (name : K → N) where
-  abbrev pub shown_entry : K × Entry P → N × PlainEntry
-  shown_entry e = (name e.0, plain_entry e.1)
+  abbrev pub abstract_entry : K × Entry P → N × PlainEntry
+  abstract_entry e = (name e.0, plain_entry e.1)
 
-  abbrev pub shown_entries : List (K × Entry P) → List (N × PlainEntry)
-  shown_entries es = map shown_entry es
+  abbrev pub abstract_entries : List (K × Entry P) → List (N × PlainEntry)
+  abstract_entries es = map abstract_entry es
 
-  abbrev pub shown : {R : N → N → Ordering} → List (K × Entry P) → FinMap R PlainEntry
-  shown es = from_entries (shown_entries es)
+  abbrev pub abstract_map : {R : N → N → Ordering} → List (K × Entry P) → FinMap R PlainEntry
+  abstract_map es = from_entries (abstract_entries es)
 
 -- the greatest count of entries, and 0 of none
 abbrev pub greatest_kept : {K P : Type 0} → List (K × Entry P) → ℕ

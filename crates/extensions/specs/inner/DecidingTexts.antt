@@ -17,8 +17,8 @@ use Rattle.extensions.specs.DecimalText.{IsUnsignedText, IsSignedText, plain, mi
 use Rattle.extensions.specs.Network.{Network, width, least, greatest, IsWithin}
 use Rattle.extensions.specs.NetworkText.{IsAddressText, IsPrefixText, IsNetworkText}
 use Rattle.extensions.specs.Decided.{Decided}
-use Rattle.extensions.specs.Deciding.{decided_as, both_decided, either_decided, lt_decided, text_decided, below_decided}
-use Rattle.extensions.specs.Deciding.{parted_decided, behind_decided}
+use Rattle.extensions.specs.inner.Deciding.{decided_as, both_decided, either_decided, lt_decided, text_decided}
+use Rattle.extensions.specs.inner.Deciding.{below_decided, parted_decided, behind_decided}
 
 digits_decided : (radix : ℕ) (text : List ℕ) → Decided (AllDigits radix text)
 digits_decided radix [] = inl tt

@@ -1,0 +1,21 @@
+-- A function value that reads one piece, and what is read where it is called again and again.
+use Rattle.std.specs.Prelude.{Result, List, ◌∷◌, ◌++◌}
+use denote.Ref.{MutBor}
+use Rattle.token_readers.specs.declared.cursor.Cursor.{Cursor}
+use Rattle.token_readers.specs.declared.fault.Halt.{Halt}
+use Rattle.token_readers.specs.Kinds.{Kinds}
+use Rattle.token_readers.specs.Reading.{Parser, many, pure, ◌>>=◌}
+use Rattle.token_readers.specs.ParsesTo.{ParsesTo}
+
+-- each call reads what p does
+abbrev pub CallsRead : {A : Type 0} → Parser A → (MutBor Cursor → Result A Halt → MutBor Cursor → Type 0) → Type 0
+CallsRead {A} p post =
+    (old new : MutBor Cursor) (r : Result A Halt) → post old r new → ParsesTo (p old.now.rest.now) r new.now.rest.now
+
+-- pieces, put behind those that were found before
+abbrev pub many_behind : {A : Type 0} → List A → Kinds → Parser A → Parser (List A)
+many_behind found ks p = many ks p >>= (λ more. pure (found ++ more))
+
+-- pieces, put behind a first one
+abbrev pub many_after : {A : Type 0} → A → Kinds → Parser A → Parser (List A)
+many_after first ks p = many ks p >>= (λ more. pure (first ∷ more))
