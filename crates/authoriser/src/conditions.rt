@@ -67,7 +67,8 @@ pub(crate) fn outcome_of<L: Lookup>(
     store: &L,
 ) -> Result<Outcome, NoMemory>
     requires { HasRequestAncestors (L.parents store.now) request.now request_ancestors.now }
-    ensures { IfOk result (PolicyEvaluatesTo (world_of (L.stored store.now) (L.parents store.now)) request.now policy.now) }
+    ensures { IfOk result
+        (PolicyEvaluatesTo (world_of (L.stored store.now) (L.parents store.now)) request.now policy.now) }
 {
     scopes_do_not_err();
     if is_scope_true(&policy.scope, request_ancestors) {

@@ -1,14 +1,13 @@
 //! The fields of records and the attributes of entities.
 ghost use Rattle.std.specs.Prelude.{◌≡◌, option_map};
-ghost use Rattle.evaluator.specs.Borrowed.{of_borrowed};
+ghost use Rattle.values.specs.BorrowedView.{of_borrowed};
 ghost use Rattle.evaluator.specs.inner.Computing.{decided_world, Answers, found_or, attribute, field_of, has_field};
 
 use crate::fault::EvalFault;
 use crate::given::{BorrowedOrOwned, Ownership};
-use crate::kinds::{BorrowedKind, same_kind};
 use crate::lookup::Lookup;
 use std::alloc::Global;
-use values::{EntityUid, Kind, Value};
+use values::{BorrowedKind, EntityUid, Kind, Value};
 
 /// The value that was found.
 fn found<'a>(found: Option<&'a Value>) -> Result<BorrowedOrOwned<'a>, EvalFault>
@@ -88,7 +87,7 @@ pub(crate) fn field<'a, L: Lookup>(
     ensures { Answers result (field_of (decided_world (L.stored store.now) (L.above store.now)) name.now owner.now) }
 {
     match &owner.ownership {
-        Ownership::Borrowed(kind) => field_of_borrowed(store, same_kind(kind), name),
+        Ownership::Borrowed(value) => field_of_borrowed(store, value.kind(), name),
         Ownership::Owned(value) => field_of_computed(alloc, store, value, name),
     }
 }

@@ -2,14 +2,13 @@
 ghost use Rattle.std.specs.Prelude.{◌≡◌, IfOk};
 ghost use Rattle.values.specs.ValueOrder.{value_cmp};
 ghost use Rattle.evaluator.specs.Outcomes.{boolean_in};
-ghost use Rattle.evaluator.specs.Borrowed.{of_borrowed};
+ghost use Rattle.values.specs.BorrowedView.{of_borrowed};
 
-use crate::kinds::{BorrowedKind, borrowed_kind, copied, place, same_kind};
 use plain::NoMemory;
 use std::alloc::Global;
 use std::cmp::Ordering;
 use std::marker::Model;
-use values::Value;
+use values::{BorrowedKind, Value, ValueRef};
 
 /// What an expression gives: a value, borrowed where it stands in the expression, the request or the stored entities.
 /// Contracts see the value.
@@ -21,7 +20,7 @@ pub struct BorrowedOrOwned<'a> {
 /// Where a value comes from.
 #[derive(Drop)]
 pub(crate) enum Ownership<'a> {
-    Borrowed(BorrowedKind<'a>),
+    Borrowed(ValueRef<'a>),
     Owned(Value),
 }
 
@@ -44,7 +43,7 @@ impl<'a> BorrowedOrOwned<'a> {
         ensures { result ≡ value.now }
     {
         BorrowedOrOwned {
-            ownership: Ownership::Borrowed(borrowed_kind(value)),
+            ownership: Ownership::Borrowed(value.as_ref()),
         }
     }
 
@@ -62,8 +61,18 @@ impl<'a> BorrowedOrOwned<'a> {
         ensures { of_borrowed result ≡ self.now }
     {
         match &self.ownership {
-            Ownership::Borrowed(kind) => same_kind(kind),
-            Ownership::Owned(value) => borrowed_kind(value),
+            Ownership::Borrowed(value) => value.kind(),
+            Ownership::Owned(value) => value.as_ref().kind(),
+        }
+    }
+
+    /// How it compares with a value that stands elsewhere.
+    fn compare_with(&self, other: &ValueRef<'_>) -> Ordering
+        ensures { result ≡ value_cmp self.now other.now }
+    {
+        match &self.ownership {
+            Ownership::Borrowed(value) => value.compare(other),
+            Ownership::Owned(value) => value.as_ref().compare(other),
         }
     }
 
@@ -71,18 +80,9 @@ impl<'a> BorrowedOrOwned<'a> {
     pub(crate) fn compare(&self, other: &BorrowedOrOwned<'_>) -> Ordering
         ensures { result ≡ value_cmp self.now other.now }
     {
-        let a = self.kind();
-        let b = other.kind();
-        match (&a, &b) {
-            (BorrowedKind::Boolean(x), BorrowedKind::Boolean(y)) => x.cmp(y),
-            (BorrowedKind::Long(x), BorrowedKind::Long(y)) => x.cmp(y),
-            (BorrowedKind::Text(x), BorrowedKind::Text(y)) => (*x).cmp(*y),
-            (BorrowedKind::Entity(x), BorrowedKind::Entity(y)) => (*x).cmp(*y),
-            (BorrowedKind::Set(x), BorrowedKind::Set(y)) => (*x).cmp(*y),
-            (BorrowedKind::Record(x), BorrowedKind::Record(y)) => (*x).cmp(*y),
-            (BorrowedKind::Decimal(x), BorrowedKind::Decimal(y)) => x.cmp(y),
-            (BorrowedKind::IpAddr(x), BorrowedKind::IpAddr(y)) => x.cmp(y),
-            (x, y) => place(x).cmp(&place(y)),
+        match &other.ownership {
+            Ownership::Borrowed(value) => self.compare_with(value),
+            Ownership::Owned(value) => self.compare_with(&value.as_ref()),
         }
     }
 
@@ -102,7 +102,7 @@ impl<'a> BorrowedOrOwned<'a> {
     {
         let BorrowedOrOwned { ownership } = self;
         match ownership {
-            Ownership::Borrowed(kind) => copied(alloc, kind),
+            Ownership::Borrowed(value) => value.copy(alloc),
             Ownership::Owned(value) => Ok(value),
         }
     }

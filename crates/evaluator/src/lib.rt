@@ -6,7 +6,6 @@ mod evaluating;
 mod fault;
 mod fields;
 mod given;
-mod kinds;
 mod laws;
 mod leaves;
 mod lookup;

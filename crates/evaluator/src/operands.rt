@@ -5,10 +5,9 @@ ghost use Rattle.evaluator.specs.inner.Computing.{demanded, two_demanded};
 
 use crate::fault::EvalFault;
 use crate::given::BorrowedOrOwned;
-use crate::kinds::BorrowedKind;
 use extensions::{Decimal, IpNet};
 use plain::Text;
-use values::{EntityUid, Set};
+use values::{BorrowedKind, EntityUid, Set};
 
 /// The value as a boolean.
 pub(crate) fn boolean_of(given: &BorrowedOrOwned<'_>) -> Result<bool, EvalFault>

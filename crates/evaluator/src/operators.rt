@@ -12,14 +12,13 @@ ghost use Rattle.evaluator.specs.inner.Computing.{sets};
 
 use crate::fault::EvalFault;
 use crate::given::BorrowedOrOwned;
-use crate::kinds::BorrowedKind;
 use crate::lookup::Lookup;
 use crate::operands::{boolean_of, entity_of, long_of, longs_of, set_of, text_of};
 use ancestor_closure::is_among;
 use expressions::{Binary, Unary};
 use plain::NoMemory;
 use std::cmp::Ordering;
-use values::{EntityUid, Kind, Set, Value, sets_hold_their_members};
+use values::{BorrowedKind, EntityUid, Kind, Set, Value, sets_hold_their_members};
 
 /// What an operator gives on a value.
 pub(crate) fn unary(operator: &Unary, given: &BorrowedOrOwned<'_>) -> Result<Value, EvalFault>

@@ -1,3 +1,4 @@
 pub mod ScopeRules
+pub mod BehindScope
 pub mod Exact
 pub mod WellFormedLemmas

@@ -90,8 +90,19 @@ fn conditions(alloc: Global, tokens: &mut Cursor<'_>) -> Result<Items<Condition>
     })
 }
 
-/// What stands behind a policy's scope.
-#[tactic(auto, unfolding(crate::specs::inner::Parsing::policy_of))]
+/// ")" { Condition } ";"
+#[tactic(auto, unfolding(crate::specs::inner::Parsing::behind_scope))]
+fn behind_scope(alloc: Global, tokens: &mut Cursor<'_>) -> Result<Items<Condition>, Halt>
+    ensures { ParsesTo (spec.behind_scope nesting_limit tokens.old.rest.now) result tokens.new.rest.now }
+{
+    tokens.take(TokenKind::RParen)?;
+    let conditions = conditions(alloc, tokens)?;
+    let (conditions, _ended) = beside(conditions, tokens.take(TokenKind::Semicolon))?;
+    Ok(conditions)
+}
+
+/// What stands behind a policy's scope, with what stands before.
+#[tactic(auto, using(crate::proofs::BehindScope::behind_then))]
 fn policy_of(
     alloc: Global,
     tokens: &mut Cursor<'_>,
@@ -102,13 +113,10 @@ fn policy_of(
     ensures { ParsesTo (spec.policy_of nesting_limit annotations effect found tokens.old.rest.now)
         result tokens.new.rest.now }
 {
-    let (kept, _closed) = beside((annotations, found), tokens.take(TokenKind::RParen))?;
-    let (kept, conditions) = beside(kept, conditions(alloc, tokens))?;
-    let ((kept, conditions), _ended) = beside(
-        (kept, conditions),
-        tokens.take(TokenKind::Semicolon),
+    let ((annotations, found), conditions) = beside(
+        (annotations, found),
+        behind_scope(alloc, tokens),
     )?;
-    let (annotations, found) = kept;
     Ok(PolicyTree {
         annotations,
         effect,

@@ -117,7 +117,8 @@ pub fn deltas_are_joined()
 pub fn readings_are_kept<P: Drop, E: Drop, R: Readings<P, E>>()
     ensures empty { (r : R) → AreEntriesRead {P = P} {E = E} (R.reads_policy r) (R.reads_entity r) (kept [] []) }
     ensures policy { (r : R) (k : StoreEntries P E) (id : String Global) (entry : Entry P)
-        → AreEntriesRead (R.reads_policy r) (R.reads_entity r) k → IsEntryRead (R.reads_policy r (string_bytes id)) entry
+        → AreEntriesRead (R.reads_policy r) (R.reads_entity r) k
+        → IsEntryRead (R.reads_policy r (string_bytes id)) entry
         → AreEntriesRead (R.reads_policy r) (R.reads_entity r)
         (kept (taken string_cmp greater k.policies id entry) k.entities) }
     ensures entity { (r : R) (k : StoreEntries P E) (uid : EntityUid) (entry : Entry E)
@@ -127,7 +128,8 @@ pub fn readings_are_kept<P: Drop, E: Drop, R: Readings<P, E>>()
     ensures merged { (r : R) (k l : StoreEntries P E) → AreEntriesRead (R.reads_policy r) (R.reads_entity r) k
         → AreEntriesRead (R.reads_policy r) (R.reads_entity r) l
         → AreEntriesRead (R.reads_policy r) (R.reads_entity r) (all_kept k l) }
-    ensures cut_short { (r : R) (n : ℕ) (k l : StoreEntries P E) → AreEntriesRead (R.reads_policy r) (R.reads_entity r) k
+    ensures cut_short { (r : R) (n : ℕ) (k l : StoreEntries P E)
+        → AreEntriesRead (R.reads_policy r) (R.reads_entity r) k
         → AreEntriesRead (R.reads_policy r) (R.reads_entity r) l
         → AreEntriesRead (R.reads_policy r) (R.reads_entity r) (all_kept k (first_kept n l)) }
 {}

@@ -13,7 +13,8 @@ ghost use Rattle.stamped_store.specs.EntryOrder.{plain_entry, greater, entry_bel
 ghost use Rattle.stamped_store.specs.Greatest.{greatest_count};
 ghost use Rattle.stamped_store.specs.Abstraction.{greatest_kept};
 ghost use Rattle.stamped_store.specs.Stored.{value_at, value_at_text, taken, IsBelow};
-ghost use Rattle.stamped_store.specs.Store.{abstract_store, abstract_updates, store_of, updates, kept, all_kept, first_kept};
+ghost use Rattle.stamped_store.specs.Store.{abstract_store, abstract_updates, store_of, updates, kept, all_kept};
+ghost use Rattle.stamped_store.specs.Store.{first_kept};
 ghost use Rattle.stamped_store.specs.Store.{policy_name, entity_name, KeepsOtherNames, IsStoreBelow, IsStoreJoin};
 ghost use Rattle.stamped_store.specs.Store.{first_names, issue};
 
@@ -143,7 +144,8 @@ impl<P: Drop, E: Drop> PolicyStore<P, E> {
     ) -> Result<(), (EntityUid, Entry<E>)>
         ensures ok { OnOk result (abstract_store self.new
             ≡ store_of (updates (abstract_store self.old) ++ (entity_name uid, plain_entry entry) ∷ [])) }
-        ensures others { OnOk result (KeepsOtherNames (entity_name uid) (abstract_store self.old) (abstract_store self.new)) }
+        ensures others { OnOk result
+            (KeepsOtherNames (entity_name uid) (abstract_store self.old) (abstract_store self.new)) }
         ensures kept { OnOk result
             (self.new ≡ kept self.old.policies (taken uid_cmp greater self.old.entities uid entry)) }
         ensures refused { IfErr result (λ pair. pair ≡ (uid, entry)) }
@@ -156,10 +158,11 @@ impl<P: Drop, E: Drop> PolicyStore<P, E> {
     /// Leaves the join of both stores. Where memory is refused, the entries of the other store's first names have been
     /// joined (policies come before entities), and its rest is dropped.
     pub fn merge(&mut self, other: Self) -> Result<(), Short>
-        ensures ok { OnOk result (IsStoreJoin (abstract_store self.old) (abstract_store other) (abstract_store self.new)) }
+        ensures ok { OnOk result
+            (IsStoreJoin (abstract_store self.old) (abstract_store other) (abstract_store self.new)) }
         ensures ok_kept { OnOk result (self.new ≡ all_kept self.old other) }
-        ensures short { IfErr result
-            (λ s. IsStoreJoin (abstract_store self.old) (first_names s.taken (abstract_store other)) (abstract_store self.new)) }
+        ensures short { IfErr result (λ s. IsStoreJoin (abstract_store self.old)
+            (first_names s.taken (abstract_store other)) (abstract_store self.new)) }
         ensures short_kept { IfErr result (λ s. self.new ≡ all_kept self.old (first_kept s.taken other)) }
         ensures cut { IfErr result (λ s. s.taken < length (updates (abstract_store other))) }
     {

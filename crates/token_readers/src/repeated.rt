@@ -10,7 +10,7 @@ use crate::kind_sets::KindSet;
 use plain::Items;
 use std::alloc::Global;
 
-/// These pieces, and behind them as many as begin with a token of the set.
+/// These pieces, and behind them as many as begin with a token of the set; the first halt of a call, or `NoMemory`.
 fn read_on<T: Drop, S: KindSet, F: Fn(&mut Cursor<'_>) -> Result<T, Halt>>(
     mut found: Items<T>,
     tokens: &mut Cursor<'_>,
@@ -31,7 +31,8 @@ fn read_on<T: Drop, S: KindSet, F: Fn(&mut Cursor<'_>) -> Result<T, Halt>>(
     Ok(found)
 }
 
-/// Pieces, as long as a token of the set comes next. Each is read by a call.
+/// Pieces, as long as a token of the set comes next. Each is read by a call. Answers with the first halt of such a call,
+/// or with `NoMemory` where a piece finds no room.
 pub fn read_many<T: Drop, S: KindSet, F: Fn(&mut Cursor<'_>) -> Result<T, Halt>>(
     alloc: Global,
     tokens: &mut Cursor<'_>,
@@ -45,7 +46,8 @@ pub fn read_many<T: Drop, S: KindSet, F: Fn(&mut Cursor<'_>) -> Result<T, Halt>>
     read_on(Items::new(alloc), tokens, set, read)
 }
 
-/// A first piece, and behind it more, as long as a token of the set comes next.
+/// A first piece, and behind it more, as long as a token of the set comes next. Each of these is read by a call. Answers
+/// with the first halt of such a call, or with `NoMemory` where a piece, the first too, finds no room.
 pub fn read_more<T: Drop, S: KindSet, F: Fn(&mut Cursor<'_>) -> Result<T, Halt>>(
     alloc: Global,
     tokens: &mut Cursor<'_>,

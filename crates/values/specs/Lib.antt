@@ -1,3 +1,4 @@
+pub mod BorrowedView
 pub mod Fields
 pub mod Laws
 pub mod Names

@@ -22,4 +22,4 @@ pub use orders::{
 };
 pub use request::Request;
 pub use type_name::TypeName;
-pub use value::{Kind, Record, Set, Value};
+pub use value::{BorrowedKind, Kind, Record, Set, Value, ValueRef};

@@ -126,6 +126,14 @@ module _ (levels : ℕ) where
   conditions = many condition_words condition
 
   -- what stands behind the scope
+  unfoldable pub behind_scope : Parser (List Condition)
+  behind_scope = do
+    token k.RParen
+    cs ← conditions
+    token k.Semicolon
+    pure cs
+
+  -- the same, with what stands before it
   unfoldable pub policy_of : List Annotation → Token → ScopeTree → Parser PolicyTree
   policy_of notes effect found = do
     token k.RParen

@@ -8,6 +8,9 @@ use Rattle.values.proofs.value.+compare.Given as goal
 abbrev pub decreases-compare : goal.decreases-compare
 decreases-compare l = 2 * height l.a.now + 1
 
+abbrev pub decreases-ValueRef::compare : goal.decreases-ValueRef::compare
+decreases-ValueRef::compare l = 2 * height l.self.now
+
 abbrev pub decreases-compare_members : goal.decreases-compare_members
 decreases-compare_members l = 2 * heights (values_of l.a.now)
 

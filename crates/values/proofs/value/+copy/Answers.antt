@@ -45,16 +45,6 @@ Record::copy-returns t c =
     let s = c.in-None.ensures.steps in
     i.3 ∙ sym (i.1 ∙ rw (s.0, append-nil i.0))
 
-pub Value::copy-copy-requires-in-Set : goal.Value::copy-copy-requires-in-Set
-Value::copy-copy-requires-in-Set t c =
-    let e : set (values_of c.in-Set.members) ≡ c.args.self.now = ap of_kind (sym c.in-Set.is) ∙ c.self.view_is in
-    (omega (arith, ap height e), tt)
-
-pub Value::copy-copy-requires-in-Record : goal.Value::copy-copy-requires-in-Record
-Value::copy-copy-requires-in-Record t c =
-    let e : record_of (fields_of c.in-Record.fields) ≡ c.args.self.now = ap of_kind (sym c.in-Record.is) ∙ c.self.view_is in
-    (omega (arith, ap height e), tt)
-
 pub Set::copy-copy-requires : goal.Set::copy-copy-requires
 Set::copy-copy-requires t c =
     let same : c.deref-member-items.result.now ≡ c.self.inside.members.items = c.deref-member-items.ensures.value in

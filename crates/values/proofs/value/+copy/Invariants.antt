@@ -9,6 +9,9 @@ use Rattle.values.proofs.value.+copy.Given as goal
 abbrev pub decreases-Value::copy : goal.decreases-Value::copy
 decreases-Value::copy l = 2 * height l.self.now + 1
 
+abbrev pub decreases-ValueRef::copy : goal.decreases-ValueRef::copy
+decreases-ValueRef::copy l = 2 * height l.self.now
+
 abbrev pub decreases-Set::copy : goal.decreases-Set::copy
 decreases-Set::copy l = 2 * heights (values_of l.self.now)
 
