@@ -1,5 +1,5 @@
 -- The test for a path decides.
-use Rattle.std.proofs.Common.{◌≡◌, zero, suc, arith, Bool, true, false, List, [], ◌∷◌, refl, ap, sym, subst, inl, inr}
+use Rattle.std.proofs.Common.{◌≡◌, Bool, true, false, List, [], ◌∷◌, refl, ap, sym, subst, inl, inr}
 use Rattle.std.proofs.Common.{◌||◌, Option, Some, None}
 use Rattle.std.specs.Prelude.{Contains, IsTrue, ◌&&◌, ◌⊎◌, Vec, IsSome}
 use Rattle.std.specs.List.{list_any}
@@ -8,25 +8,12 @@ use Rattle.std.specs.BTreeMap.{BTreeMap, get, keys}
 use Rattle.std.specs.declared.alloc.Global.{Global}
 use Rattle.std.specs.Cmp.{tied_itself}
 use Rattle.std.proofs.lemmas.Map.Views.{tells_apart, btree_map_contains_key_iff}
+pub use Rattle.plain.proofs.Members.{Contains-here, Contains-there, Contains-cases, Contains-none}
 use Rattle.values.specs.declared.entity_uid.EntityUid.{EntityUid}
 use Rattle.values.specs.Names.{uid_cmp, uid_cmp-IsTotalOrder, uid_cmp-IsAntisymmetric}
 use Rattle.ancestor_closure.specs.Hierarchy.{Parents, Path, Above}
 use Rattle.ancestor_closure.specs.Search.{parents_of, items_or_none}
 use Rattle.ancestor_closure.specs.Decided.{Decides, HaveAllParents, is_same, reaches, PathsAreDecided}
-
-module _ {X : Type 0} where
-  pub Contains-here : (x : X) (xs : List X) → Contains (x ∷ xs) x
-  Contains-here x xs = (0, omega arith, refl)
-
-  pub Contains-there : (x : X) (xs : List X) (y : X) → Contains xs y → Contains (x ∷ xs) y
-  Contains-there x xs y (k, lt, e) = (suc k, omega arith, e)
-
-  pub Contains-cases : (x : X) (xs : List X) (y : X) → Contains (x ∷ xs) y → (x ≡ y) ⊎ Contains xs y
-  Contains-cases x xs y (zero, lt, e) = inl e
-  Contains-cases x xs y (suc k, lt, e) = inr (k, omega arith, e)
-
-  pub Contains-none : (y : X) {G : Type 0} → Contains [] y → G
-  Contains-none y (k, lt, e) = absurd (omega arith)
 
 pub same_uid : (x y : EntityUid) → is_eq (uid_cmp x y) ≡ true → x ≡ y
 same_uid x y h = tells_apart uid_cmp-IsAntisymmetric x y h

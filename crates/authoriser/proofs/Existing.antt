@@ -16,7 +16,7 @@ use Rattle.policy_grammar.specs.declared.policy.Policy.{Policy}
 use Rattle.policy_grammar.specs.Whole.{entity_part, action_part, expression_of}
 use Rattle.evaluator.specs.declared.fault.EvalFault.{EvalFault}
 use Rattle.evaluator.specs.declared.fault.EvalFault.TheVariants as fault
-use Rattle.evaluator.specs.Outcomes.{EvaluationResult as Given, boolean_in}
+use Rattle.evaluator.specs.Outcomes.{EvaluationResult, boolean_in}
 use Rattle.evaluator.specs.Operators.{World}
 use Rattle.evaluator.specs.Evaluation as rule
 use Rattle.evaluator.specs.Evaluation.{EvaluatesTo, TestFails}
@@ -61,7 +61,7 @@ module _ (W : World) (q : Request) (given : Determined W q) (memory : (x : Expr)
   tested : (x : Expr) → Tested x
   tested x = at (given x).0 (given x).1
     where
-      at : (r : Given) → EvaluatesTo W q x r → Tested x
+      at : (r : EvaluationResult) → EvaluatesTo W q x r → Tested x
       at (Ok v) g = elim (truth_of v) [
         | inl is ↦ inl (is.0, subst (λ w. EvaluatesTo W q x (Ok w)) is.1 g)
         | inr none ↦ inr (TypeError, rule.no_boolean g none)
@@ -71,16 +71,16 @@ module _ (W : World) (q : Request) (given : Determined W q) (memory : (x : Expr)
           inr (named.0, rule.test_errs (subst (λ f. EvaluatesTo W q x (Err f)) (sym named.1) g))
 
   -- a policy's expression gives a boolean or errs, as all conjunctions do
-  abbrev Comes : Expr → Type 0
-  Comes x = ((t : Bool) × EvaluatesTo W q x (Ok (boolean t))) ⊎ ((error : PolicyError) × EvaluatesTo W q x (Err (fault_of error)))
+  abbrev IsBooleanOrErrs : Expr → Type 0
+  IsBooleanOrErrs x = ((t : Bool) × EvaluatesTo W q x (Ok (boolean t))) ⊎ ((error : PolicyError) × EvaluatesTo W q x (Err (fault_of error)))
 
-  both_come : (a b : Expr) → Comes (core.And a b)
+  both_come : (a b : Expr) → IsBooleanOrErrs (core.And a b)
   both_come a b = elim (tested a) [
     | inl left ↦ at left.0 left.1
     | inr error ↦ inr (error.0, rule.and_left_fails a b error.1)
   ]
     where
-      at : (t : Bool) → EvaluatesTo W q a (Ok (boolean t)) → Comes (core.And a b)
+      at : (t : Bool) → EvaluatesTo W q a (Ok (boolean t)) → IsBooleanOrErrs (core.And a b)
       at false g = inl (false, rule.and_false a b g)
       at true g = elim (tested b) [
         | inl right ↦ inl (right.0, rule.and_true a b g right.1)

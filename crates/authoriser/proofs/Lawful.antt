@@ -16,7 +16,7 @@ use Rattle.policy_grammar.specs.declared.policy.Effect.{Effect}
 use Rattle.policy_grammar.specs.declared.policy.Effect.TheVariants.{Permit, Forbid}
 use Rattle.policy_grammar.specs.declared.policy.Policy.{Policy}
 use Rattle.policy_grammar.specs.Whole.{expression_of}
-use Rattle.evaluator.specs.Outcomes.{EvaluationResult as Given}
+use Rattle.evaluator.specs.Outcomes.{EvaluationResult}
 use Rattle.evaluator.specs.Operators.{World}
 use Rattle.evaluator.specs.Evaluation.{EvaluatesTo}
 use Rattle.evaluator.specs.Laws.{HasOneOutcome, HaveOneOutcome}
@@ -47,7 +47,7 @@ errors_apart ExtensionError f h = absurd (cc)
 
 -- a policy comes to one thing, where its expression gives one outcome
 module _ (W : World) (q : Request) (p : Policy) (given : HasOneOutcome W q (expression_of p)) where
-  abbrev pub outcome_given : Outcome → Given
+  abbrev pub outcome_given : Outcome → EvaluationResult
   outcome_given Satisfied = Ok (boolean true)
   outcome_given NotSatisfied = Ok (boolean false)
   outcome_given (Errs e) = Err (fault_of e)

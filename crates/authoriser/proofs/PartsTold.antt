@@ -34,7 +34,7 @@ use Rattle.evaluator.specs.Evaluation as rule
 use Rattle.evaluator.specs.Evaluation.{EvaluatesTo, EachEvaluatesTo, variable_value}
 use Rattle.ancestor_closure.specs.Hierarchy.{IsIn}
 use Rattle.authoriser.specs.Scopes.{IsEntityScopeTrue, IsActionScopeTrue, IsScopeTrue}
-use Rattle.authoriser.specs.Parts.{PartsTell, ConditionDecides, ScopesDoNotErr, TrueScopesLeaveToConditions, OtherScopesGiveFalse}
+use Rattle.authoriser.specs.Parts.{PartsDecide, ConditionDecides, ScopesDoNotErr, TrueScopesLeaveToConditions, OtherScopesGiveFalse}
 use Rattle.plain.proofs.Members.{Contains-here, Contains-there, Contains-cases, Contains-none}
 
 -- ---- entities as values
@@ -170,7 +170,7 @@ module _ (made : SetsHoldTheirMembers) (W : World) (q : Request) where
   action_fails (action.InList []) n = rule.gives_literal (literal.Boolean false)
   action_fails (action.InList (u ∷ us)) n = some_gives Action q.action refl (u ∷ us) false (λ ws same. fails (λ h. n (h.0, (same h.0).0 h.1, h.2)))
 
-  pub parts_tell : (scope : Scope) → PartsTell W q scope
+  pub parts_tell : (scope : Scope) → PartsDecide W q scope
   parts_tell scope = record {
     principal = (entity_holds Principal q.principal refl scope.principal, entity_fails Principal q.principal refl scope.principal);
     action = (action_holds scope.action, action_fails scope.action);

@@ -14,7 +14,7 @@ use Rattle.authoriser.specs.declared.outcome.Outcome.{Outcome}
 use Rattle.authoriser.specs.declared.outcome.Outcome.TheVariants.{Satisfied, NotSatisfied, Errs}
 use Rattle.authoriser.specs.declared.outcome.PolicyError.{PolicyError}
 use Rattle.authoriser.specs.Answers.{NamedPolicy, PolicyOutcome, IsPolicyOutcome, PolicyEvaluatesTo, ArePolicyOutcomes, if_satisfied, satisfied, if_erring, erring, decided, IsCycleDenial}
-use Rattle.authoriser.specs.Laws.{IsSatisfied, AreIdsOf, no_id, its_id, not_its_id, AreErrorsOf, no_error, its_error, not_its_error, IsAcyclic, ForbidDecides, PermitsDecide, ErrorsAreTold}
+use Rattle.authoriser.specs.Laws.{IsSatisfied, AreIdsOf, no_id, its_id, not_its_id, AreErrorsOf, no_error, its_error, not_its_error, IsAcyclic, ForbidDecides, PermitsDecide, ErrorsAreReported}
 use Rattle.plain.proofs.Members.{Contains-none}
 use Rattle.authoriser.proofs.Lawful.{Determined, one_outcome, some_member, forbidden}
 use Rattle.authoriser.proofs.Policies.{none_of, satisfied_from, satisfied_to}
@@ -135,7 +135,7 @@ errors_stay permits (f ∷ forbids) errors = refl
 errors_stay [] [] errors = refl
 errors_stay (p ∷ permits) [] errors = refl
 
-pub errors_are_told : HaveOneOutcome → ErrorsAreTold
+pub errors_are_told : HaveOneOutcome → ErrorsAreReported
 errors_are_told law W above D q ps a (inl d) acyclic = no_denial W a d acyclic
 errors_are_told law W above D q ps a (inr r) acyclic =
     let js = r.judged in

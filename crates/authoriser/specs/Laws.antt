@@ -87,8 +87,8 @@ PermitsDecide = (W : World) (above : EntityUid → EntityUid → Bool) → Decid
     × AreIdsOf (IsSatisfied W q Permit) ps a.reason
 
 -- where no entity is on a cycle, the errors are those of the policies
-abbrev pub ErrorsAreTold : Type 0
-ErrorsAreTold = (W : World) (above : EntityUid → EntityUid → Bool) → Decides W.parents above →
+abbrev pub ErrorsAreReported : Type 0
+ErrorsAreReported = (W : World) (above : EntityUid → EntityUid → Bool) → Decides W.parents above →
     (q : Request) (ps : List NamedPolicy) (a : Answer) → IsAnswer W q ps a → IsAcyclic W → AreErrorsOf W q ps a.errors
 
 -- ---- policies that may be left out

@@ -22,7 +22,7 @@ abbrev pub GivesWhether : World → Request → Expr → Type 0 → Type 0
 GivesWhether W q x P = (P → EvaluatesTo W q x (Ok (boolean true))) × (¬ P → EvaluatesTo W q x (Ok (boolean false)))
 
 -- each part of the scope gives whether it is true
-pub record PartsTell (W : World) (q : Request) (scope : Scope) : Type 0 where
+pub record PartsDecide (W : World) (q : Request) (scope : Scope) : Type 0 where
   pub principal : GivesWhether W q (entity_part Principal scope.principal)
       (IsEntityScopeTrue (IsIn W.parents q.principal) scope.principal q.principal)
   pub action : GivesWhether W q (action_part scope.action)
@@ -38,7 +38,7 @@ pub record ConditionDecides (W : World) (q : Request) (policy : Policy) : Type 0
 
 -- no part of a scope errs
 abbrev pub ScopesDoNotErr : Type 0
-ScopesDoNotErr = (W : World) (q : Request) (scope : Scope) → PartsTell W q scope
+ScopesDoNotErr = (W : World) (q : Request) (scope : Scope) → PartsDecide W q scope
 
 -- a true scope leaves it to the condition,
 abbrev pub TrueScopesLeaveToConditions : Type 0

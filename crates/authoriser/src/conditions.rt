@@ -3,12 +3,12 @@ ghost use Rattle.std.specs.Prelude.{◌≡◌, IfOk, MatchResult};
 ghost use Rattle.evaluator.specs.declared.fault.EvalFault.TheVariants as evaluating;
 ghost use Rattle.evaluator.specs.Operators.{world_of};
 ghost use Rattle.authoriser.specs.Answers.{fault_of, PolicyEvaluatesTo};
-ghost use Rattle.authoriser.specs.Views.{HasRequestAncestors, ConditionEvaluatesTo, outcome_by};
+ghost use Rattle.authoriser.specs.inner.Views.{HasRequestAncestors, ConditionEvaluatesTo, outcome_by};
 
 use crate::laws::scopes_do_not_err;
 use crate::outcome::{Outcome, PolicyError};
-use crate::placed::RequestAncestors;
 use crate::scopes::is_scope_true;
+use crate::with_ancestors::RequestAncestors;
 use evaluator::{BorrowedOrOwned, EvalFault, Lookup, evaluate};
 use expressions::Expr;
 use plain::NoMemory;

@@ -1,8 +1,8 @@
 //! The stored entities, with what was looked up already for a request.
 ghost use Rattle.std.specs.Prelude.{◌≡◌, IfOk};
-ghost use Rattle.authoriser.specs.Views.{HasRequestAncestors};
+ghost use Rattle.authoriser.specs.inner.Views.{HasRequestAncestors};
 
-use crate::placed::{RequestAncestors, request_ancestors_of};
+use crate::with_ancestors::{RequestAncestors, request_ancestors_of};
 use ancestor_closure::{Ancestry, is_among};
 use evaluator::Lookup;
 use plain::NoMemory;
@@ -24,7 +24,7 @@ impl<'a, L: Lookup> Model for Known<'a, L> {
     ghost use Rattle.values.specs.declared.request.Request.{Request};
     ghost use Rattle.std.specs.Coded.{codes};
     ghost use Rattle.values.specs.ValueCode.{value_code};
-    ghost use Rattle.authoriser.specs.Views.{HasRequestAncestors};
+    ghost use Rattle.authoriser.specs.inner.Views.{HasRequestAncestors};
 
     ghost Value = { L × Request };
 

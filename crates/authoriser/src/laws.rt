@@ -1,6 +1,6 @@
 //! Laws of the definitions; the functions do nothing.
 ghost use Rattle.authoriser.specs.Laws.{OneAnswerAtMost, OneAnswerInFiniteHierarchies, DefaultDeny, ForbidDecides};
-ghost use Rattle.authoriser.specs.Laws.{PermitsDecide, ErrorsAreTold};
+ghost use Rattle.authoriser.specs.Laws.{PermitsDecide, ErrorsAreReported};
 ghost use Rattle.authoriser.specs.Laws.{IdleChangesNothing, LeavingOutChangesNothing, OrderDoesNotMatter, ListsAscend};
 ghost use Rattle.authoriser.specs.Parts.{ScopesDoNotErr, TrueScopesLeaveToConditions, OtherScopesGiveFalse};
 
@@ -41,7 +41,7 @@ pub fn answers_are_lawful()
     ensures default_deny { DefaultDeny }
     ensures forbid { ForbidDecides }
     ensures permits { PermitsDecide }
-    ensures errors { ErrorsAreTold }
+    ensures errors { ErrorsAreReported }
     ensures idle { IdleChangesNothing }
     ensures left_out { LeavingOutChangesNothing }
     ensures order { OrderDoesNotMatter }

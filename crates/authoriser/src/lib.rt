@@ -12,9 +12,9 @@ mod deciding;
 mod known;
 mod laws;
 mod outcome;
-mod placed;
 mod scopes;
 mod tally;
+mod with_ancestors;
 
 pub use answer::{Answer, Decision, ErringPolicy};
 pub use deciding::decide;

@@ -1,7 +1,7 @@
 //! The policies that decide and those that err, gathered one after another.
 ghost use Rattle.std.specs.Prelude.{◌≡◌, ◌∷◌, [], ◌++◌, List, map, IfOk, OnOk};
 ghost use Rattle.authoriser.specs.Answers.{PolicyOutcome, decided};
-ghost use Rattle.authoriser.specs.Views.{Counts, ids, faults};
+ghost use Rattle.authoriser.specs.inner.Views.{Counts, ids, faults};
 
 use crate::answer::{Answer, Decision, ErringPolicy};
 use crate::outcome::{Outcome, PolicyError};

@@ -37,8 +37,8 @@ pub enum Line<'a> {
         state: Option<&'a str>,
         connections: Option<u32>,
     },
-    /// Take from the site at an address what the site of this number, from 1 on, lacks: a schema's file, and a file with
-    /// its state, which is then written.
+    /// Take from the site at an address what the site of this number, from 1 on, lacks: a schema's file, and a file
+    /// with its state, which is then written.
     Pull {
         schema: &'a str,
         site: u16,

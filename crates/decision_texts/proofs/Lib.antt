@@ -4,6 +4,7 @@ pub mod LineLemmas
 pub mod NameLemmas
 pub mod OrderLemmas
 pub mod OutcomeLemmas
+pub mod PolicyTexts
 pub mod RefusalLemmas
 pub mod StoreLemmas
 pub mod RequestLemmas

@@ -1,16 +1,12 @@
 -- Three texts have a line or a refusal.
-use Rattle.std.proofs.Common.{◌≡◌, ◌⊎◌, ℕ, ◌≤◌, Bool, true, false, leb, leb-true, leb-false, List, [], map, length, Option, Some, None, Result, Ok, Err, MatchOption, IsUtf8, inl, inr, refl, codes}
-use Rattle.std.specs.Str.{is_utf8}
-use Rattle.std.proofs.lemmas.Str.{IsUtf8-from_is_utf8, is_utf8-from_IsUtf8}
+use Rattle.std.proofs.Common.{◌≡◌, ◌⊎◌, ℕ, Bool, true, false, List, [], map, Option, Some, None, Result, Ok, Err, MatchOption, inl, inr, refl, codes}
 use Rattle.serde_json.specs.Data.{Data}
 use Rattle.serde_json.specs.Find.{get, as_str}
 use Rattle.json_words.specs.Json.{json_of}
 use Rattle.values.specs.declared.entity_uid.EntityUid.{EntityUid}
 use Rattle.values.specs.declared.request.Request.{Request}
 use Rattle.policy_grammar.specs.declared.fault.ReadFault.{ReadFault}
-use Rattle.policy_grammar.specs.declared.fault.ReadFault.TheVariants.{TooLong, BadToken}
 use Rattle.policy_grammar.specs.declared.policy.Policy.{Policy}
-use Rattle.policy_grammar.specs.Limits.{most_file_bytes}
 use Rattle.policy_grammar.specs.PolicyText.{IsUidText, IsUidRefused, IsFileRefused}
 use Rattle.policy_grammar.specs.Unique.{HasOneReading, IsFileOf}
 use Rattle.uid_json.specs.Uids.{IsUid, NamesEntity, IsRead, uid_in}
@@ -22,9 +18,10 @@ use Rattle.decision_texts.specs.Refusals.{bad_shape}
 use Rattle.decision_texts.specs.Bare.{is_absent_or_empty, entities_of}
 use Rattle.decision_texts.specs.Requests.{NamesAt, StatesRequest, IsRequestText, IsNoRequestText}
 use Rattle.decision_texts.specs.Lines.{answer_line}
-use Rattle.decision_texts.specs.Decisions.{ArePoliciesOf, refusal_by, ArePoliciesRefused, world_in, named_policies, IsDecided, IsRefused}
+use Rattle.decision_texts.specs.Decisions.{ArePoliciesOf, world_in, named_policies, IsDecided, IsRefused}
 use Rattle.decision_texts.specs.Outcomes.{LineOrRefusal}
 use Rattle.decision_texts.proofs.NameLemmas.{some_order}
+use Rattle.decision_texts.proofs.PolicyTexts.{PoliciesOrNone, policies_or_none}
 use Rattle.decision_texts.proofs.RequestLemmas.{no_principal, no_action, no_resource, no_context}
 use Rattle.decision_texts.proofs.StoreLemmas.{all_parents}
 
@@ -34,30 +31,6 @@ pub record Laws : Type 0 where
   pub uids : HasOneReading IsUidText IsUidRefused
   pub files : HasOneReading IsFileOf IsFileRefused
   pub answers : OneAnswerInFiniteHierarchies
-
--- ---- policies
-
-abbrev PoliciesOrNone : List ℕ → Type 0
-PoliciesOrNone bytes =
-    ((file : List (List ℕ) × List Policy) × ArePoliciesOf bytes file.0 file.1) ⊎ ((refusal : Refusal) × ArePoliciesRefused bytes refusal)
-
-file_or_none : (bytes : List ℕ) → length bytes ≤ most_file_bytes → IsUtf8 bytes →
-    ((file : List (List ℕ) × List Policy) × IsFileOf bytes file) ⊎ ((why : ReadFault) × IsFileRefused bytes why) → PoliciesOrNone bytes
-file_or_none bytes short utf8 (inl read) = inl (read.0, record { utf8 = utf8; file = read.1 })
-file_or_none bytes short utf8 (inr none) = inr (refusal_by none.0, record { fault = none.0; due = inr (inr (short, utf8, none.1)); is = refl })
-
-text_or_none : Laws → (bytes : List ℕ) → length bytes ≤ most_file_bytes → (valid : Bool) → is_utf8 bytes ≡ valid → PoliciesOrNone bytes
-text_or_none laws bytes short true e = file_or_none bytes short (IsUtf8-from_is_utf8 bytes e) (laws.files.some bytes)
-text_or_none laws bytes short false e =
-    inr (refusal_by (BadToken 0), record { fault = BadToken 0; due = inr (inl (short, λ utf8. let valid = is_utf8-from_IsUtf8 bytes utf8 in absurd (cc), refl)); is = refl })
-
-short_or_long : Laws → (bytes : List ℕ) (short : Bool) → leb (length bytes) most_file_bytes ≡ short → PoliciesOrNone bytes
-short_or_long laws bytes true e = text_or_none laws bytes (leb-true (length bytes) most_file_bytes e) (is_utf8 bytes) refl
-short_or_long laws bytes false e =
-    inr (refusal_by TooLong, record { fault = TooLong; due = inl (leb-false (length bytes) most_file_bytes e, refl); is = refl })
-
-policies_or_none : Laws → (bytes : List ℕ) → PoliciesOrNone bytes
-policies_or_none laws bytes = short_or_long laws bytes (leb (length bytes) most_file_bytes) refl
 
 -- ---- requests
 
@@ -142,4 +115,4 @@ module _ (laws : Laws) (policies entities request : List ℕ) where
   by_policies (inr refused) = inr (refused.0, inl refused.1)
 
 pub line_or_refusal : Laws → LineOrRefusal
-line_or_refusal laws policies entities request = by_policies laws policies entities request (policies_or_none laws policies)
+line_or_refusal laws policies entities request = by_policies laws policies entities request (policies_or_none laws.files policies)

@@ -1,11 +1,10 @@
 -- Three texts have one outcome.
-use Rattle.std.proofs.Common.{◌≡◌, ◌∙◌, ℕ, List, map, Option, Some, None, Result, Ok, Err, MatchOption, inl, inr, sym, ap, subst, arith, codes}
+use Rattle.std.proofs.Common.{◌≡◌, ◌∙◌, ℕ, List, map, Option, Some, None, Result, Ok, Err, MatchOption, inl, inr, sym, ap, subst, codes}
 use Rattle.serde_json.specs.Data.{Data}
 use Rattle.serde_json.specs.Find.{get}
 use Rattle.json_words.specs.Json.{json_of}
 use Rattle.values.specs.declared.entity_uid.EntityUid.{EntityUid}
 use Rattle.values.specs.declared.request.Request.{Request}
-use Rattle.policy_grammar.specs.declared.fault.ReadFault.{ReadFault}
 use Rattle.policy_grammar.specs.declared.policy.Policy.{Policy}
 use Rattle.policy_grammar.specs.PolicyText.{IsFileRefused}
 use Rattle.policy_grammar.specs.Unique.{HasOneReading, IsFileOf, EachIsNamed, NamesDiffer}
@@ -19,8 +18,9 @@ use Rattle.decision_texts.specs.declared.bare.BareEntity.{BareEntity}
 use Rattle.decision_texts.specs.Bare.{entities_of}
 use Rattle.decision_texts.specs.Requests.{StatesRequest}
 use Rattle.decision_texts.specs.Lines.{answer_line}
-use Rattle.decision_texts.specs.Decisions.{ArePoliciesOf, IsFileFault, refusal_by, world_in, named_policies, IsAnswerTo, ArePoliciesRefused}
+use Rattle.decision_texts.specs.Decisions.{ArePoliciesOf, refusal_by, world_in, named_policies, IsAnswerTo, ArePoliciesRefused}
 use Rattle.decision_texts.specs.Outcomes.{OneLine, NotBoth, OneRefusal, ListsOfLinesAscend}
+use Rattle.decision_texts.proofs.PolicyTexts.{file_or_fault, fault_same}
 use Rattle.decision_texts.proofs.StoreLemmas.{all_parents}
 use Rattle.decision_texts.proofs.NameLemmas.{HaveOwnNames, own_names, one_order, ids_ascend}
 
@@ -43,27 +43,9 @@ ok_or_err r x y h g = cc
 
 -- ---- policies
 
-file_or_fault : Laws → (bytes : List ℕ) (names : List (List ℕ)) (cores : List Policy) (fault : ReadFault) → ArePoliciesOf bytes names cores
-    → IsFileFault bytes fault → ⊥
-file_or_fault laws bytes names cores fault are (inl long) = let over = long.0 in let short = are.file.derives.short in absurd (omega arith)
-file_or_fault laws bytes names cores fault are (inr (inl bad)) = bad.1 are.utf8
-file_or_fault laws bytes names cores fault are (inr (inr due)) = laws.files.not_both bytes (names, cores) fault are.file due.2
-
-fault_same : Laws → (bytes : List ℕ) (fault other : ReadFault) → IsFileFault bytes fault → IsFileFault bytes other → fault ≡ other
-fault_same laws bytes fault other (inl a) (inl b) = a.1 ∙ sym b.1
-fault_same laws bytes fault other (inl a) (inr (inl b)) = let over = a.0 in let short = b.0 in absurd (omega arith)
-fault_same laws bytes fault other (inl a) (inr (inr b)) = let over = a.0 in let short = b.0 in absurd (omega arith)
-fault_same laws bytes fault other (inr (inl a)) (inl b) = let over = b.0 in let short = a.0 in absurd (omega arith)
-fault_same laws bytes fault other (inr (inl a)) (inr (inl b)) = a.2 ∙ sym b.2
-fault_same laws bytes fault other (inr (inl a)) (inr (inr b)) = absurd (a.1 b.1)
-fault_same laws bytes fault other (inr (inr a)) (inl b) = let over = b.0 in let short = a.0 in absurd (omega arith)
-fault_same laws bytes fault other (inr (inr a)) (inr (inl b)) = absurd (b.1 a.1)
-fault_same laws bytes fault other (inr (inr a)) (inr (inr b)) = laws.files.one_refusal bytes fault other a.2 b.2
-
--- policies that are read are not refused
 read_or_refused : Laws → (bytes : List ℕ) (names : List (List ℕ)) (cores : List Policy) (refusal : Refusal) → ArePoliciesOf bytes names cores
     → ArePoliciesRefused bytes refusal → ⊥
-read_or_refused laws bytes names cores refusal are refused = file_or_fault laws bytes names cores refused.fault are refused.due
+read_or_refused laws bytes names cores refusal are refused = file_or_fault laws.files bytes names cores refused.fault are refused.due
 
 -- ---- requests
 
@@ -111,7 +93,7 @@ not_both laws policies entities request line refusal x (inr (inr refused)) = ref
 
 pub one_refusal : Laws → OneRefusal
 one_refusal laws policies entities request refusal other (inl a) (inl b) =
-    a.is ∙ ap refusal_by (fault_same laws policies a.fault b.fault a.due b.due) ∙ sym b.is
+    a.is ∙ ap refusal_by (fault_same laws.files policies a.fault b.fault a.due b.due) ∙ sym b.is
 one_refusal laws policies entities request refusal other (inl a) (inr (inl b)) = absurd (read_or_refused laws policies b.names b.cores refusal b.file a)
 one_refusal laws policies entities request refusal other (inl a) (inr (inr b)) = absurd (read_or_refused laws policies b.names b.cores refusal b.file a)
 one_refusal laws policies entities request refusal other (inr (inl a)) (inl b) = absurd (read_or_refused laws policies a.names a.cores other a.file b)

@@ -5,7 +5,7 @@ ghost use Rattle.serde_json.specs.View.{view, items_view};
 ghost use Rattle.json_words.specs.ReadsAs.{ReadsAs};
 ghost use Rattle.decision_texts.specs.Refusals.{no_memory, refusal_at};
 ghost use Rattle.decision_texts.specs.Bare.{entity_of, placed, entities_in, entities_of};
-ghost use Rattle.decision_texts.specs.inner.Stores.{GivesStore};
+ghost use Rattle.decision_texts.specs.inner.Stores.{ReadsStore};
 
 use crate::bare::{BareEntity, ShapeFault, read_entity};
 use crate::refusal::Refusal;
@@ -38,7 +38,7 @@ fn read_entity_at(alloc: Global, value: &Value, place: usize) -> Result<BareEnti
 
 /// The entities of an array, each the only one of its uid. The JSON of each is given up before the next is read.
 fn read_array(alloc: Global, values: Vec<Value>) -> Result<EntityStore, Refusal>
-    ensures { GivesStore result (entities_in (items_view values.items)) }
+    ensures { ReadsStore result (entities_in (items_view values.items)) }
 {
     let count = values.len();
     let mut rest = VecDeque::from_vec(values);
@@ -70,7 +70,7 @@ fn into_array(value: Value) -> Option<Vec<Value>>
 /// The entities of a file.
 #[tactic(auto, unfolding(crate::specs::Bare::entities_of))]
 pub(crate) fn read_entities(alloc: Global, text: &[u8]) -> Result<EntityStore, Refusal>
-    ensures { GivesStore result (entities_of text.now) }
+    ensures { ReadsStore result (entities_of text.now) }
 {
     let Some(value) = read_json(alloc, text)? else {
         return Err(Refusal::bad_shape(None));

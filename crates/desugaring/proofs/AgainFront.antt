@@ -2,7 +2,7 @@
 -- the proofs of crates above.
 use Rattle.std.proofs.Common.{◌≡◌, ◌⊎◌, ℕ, List, [], ◌∷◌, ◌++◌, map, Contains, refl, sym, ◌∙◌, ap, subst, inl, inr}
 use Rattle.desugaring.specs.Repeats.{NameAt, StandsAgain}
-use Rattle.desugaring.proofs.Members.{at_first, further, first_or_further, in_none}
+use Rattle.plain.proofs.Members.{Contains-here, Contains-there, Contains-cases, Contains-none}
 
 -- a mark of this name stands here
 abbrev pub Later : List ℕ → List NameAt → ℕ → Type 0
@@ -25,7 +25,7 @@ again-there m ms at again = record {
   mark = again.mark;
   behind = again.behind;
   whole = ap (λ xs. m ∷ xs) again.whole;
-  again = further m.name (map (λ x. x.name) again.before) again.mark.name again.again;
+  again = Contains-there m.name (map (λ x. x.name) again.before) again.mark.name again.again;
   place = again.place;
 }
 
@@ -43,17 +43,17 @@ again-here m ms at later = let s = split-later m.name ms at later in record {
   mark = s.1;
   behind = s.2;
   whole = ap (λ xs. m ∷ xs) s.3;
-  again = subst (λ x. Contains (m.name ∷ map (λ y. y.name) s.0) x) (sym s.4) (at_first m.name (map (λ y. y.name) s.0));
+  again = subst (λ x. Contains (m.name ∷ map (λ y. y.name) s.0) x) (sym s.4) (Contains-here m.name (map (λ y. y.name) s.0));
   place = s.5;
 }
 
 front : (m : NameAt) (ms before : List NameAt) (mark : NameAt) (behind : List NameAt) (at : ℕ) → m ∷ ms ≡ before ++ mark ∷ behind →
     Contains (map (λ x. x.name) before) mark.name → at ≡ mark.at → Later m.name ms at ⊎ StandsAgain ms at
-front m ms [] mark behind at whole again place = in_none mark.name again
+front m ms [] mark behind at whole again place = Contains-none mark.name again
 front m ms (b ∷ bs) mark behind at whole again place =
     let same : m ≡ b = heads m b _ _ whole in
     let rest : ms ≡ bs ++ mark ∷ behind = tails m b _ _ whole in
-    elim (first_or_further b.name (map (λ x. x.name) bs) mark.name again) [
+    elim (Contains-cases b.name (map (λ x. x.name) bs) mark.name again) [
       | inl e ↦ inl (subst (λ xs. Later m.name xs at) (sym rest) (subst (λ n. Later n (bs ++ mark ∷ behind) at) (sym (ap (λ x. x.name) same ∙ e))
           (subst (Later mark.name (bs ++ mark ∷ behind)) (sym place) (later-at bs mark behind))))
       | inr more ↦ inr (record { before = bs; mark = mark; behind = behind; whole = rest; again = more; place = place })

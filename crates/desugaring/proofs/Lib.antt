@@ -11,6 +11,5 @@ pub mod PartsOf
 pub mod Gaving
 pub mod Telling
 pub mod WellFormedLemmas
-pub mod Members
 pub mod AgainFront
 pub mod Again

@@ -14,7 +14,7 @@ use Rattle.std.proofs.lemmas.Slice.Eq.{bytes_eq-Decides}
 use denote.Ref.{Bor}
 use Rattle.desugaring.specs.declared.repeats.NameAt as code
 use Rattle.desugaring.specs.Repeats.{NameAt, StandsAgain, abstract_names}
-use Rattle.desugaring.specs.inner.Searching.{TellsLeast, lesser_of}
+use Rattle.desugaring.specs.inner.Searching.{ReportsLeast, lesser_of}
 
 -- the names of marks
 abbrev pub names : List NameAt → List (List ℕ)
@@ -27,10 +27,10 @@ has seen bytes = contains_by (λ k. slice_cmp nat_cmp bytes k.now) seen
 -- The set has the names of these marks, and this is the least place at which one of them stands again.
 pub record Seen (marks : List NameAt) (seen : BTreeSet (Bor (List ℕ))) (least : Option ℕ) : Type 0 where
   pub has_names : (bytes : List ℕ) → has seen bytes ≡ list_any (bytes_eq bytes) (names marks)
-  pub tells : TellsLeast (StandsAgain marks) least
+  pub tells : ReportsLeast (StandsAgain marks) least
 
 -- the same places have the same least
-pub tells-same : (P Q : ℕ → Type 0) (o : Option ℕ) → ((at : ℕ) → P at → Q at) → ((at : ℕ) → Q at → P at) → TellsLeast P o → TellsLeast Q o
+pub tells-same : (P Q : ℕ → Type 0) (o : Option ℕ) → ((at : ℕ) → P at → Q at) → ((at : ℕ) → Q at → P at) → ReportsLeast P o → ReportsLeast Q o
 tells-same P Q None there back none = λ at q. none at (back at q)
 tells-same P Q (Some at) there back least = record { here = there at least.here; least = λ other q. least.least other (back other q) }
 
@@ -41,7 +41,7 @@ lesser : (P Q : ℕ → Type 0) (a b : ℕ) → P a → Q b → P (min a b) ⊎ 
 lesser P Q a b p q = elim (min_either a b) [ inl e ↦ inl (subst P (sym e) p) | inr e ↦ inr (subst Q (sym e) q) ]
 
 -- the least of two is the least of both
-pub tells-both : (P Q : ℕ → Type 0) (a b : Option ℕ) → TellsLeast P a → TellsLeast Q b → TellsLeast (λ at. P at ⊎ Q at) (lesser_of a b)
+pub tells-both : (P Q : ℕ → Type 0) (a b : Option ℕ) → ReportsLeast P a → ReportsLeast Q b → ReportsLeast (λ at. P at ⊎ Q at) (lesser_of a b)
 tells-both P Q None None no_p no_q = λ at either. elim either [ inl p ↦ no_p at p | inr q ↦ no_q at q ]
 tells-both P Q None (Some b) no_p least =
     record { here = inr least.here; least = λ other either. elim either [ inl p ↦ absurd (no_p other p) | inr q ↦ least.least other q ] }

@@ -2,6 +2,7 @@
 use Rattle.std.proofs.Common.{◌≡◌, zero, suc, ◌<◌, ◌≤◌, Bool, true, false, List, [], ◌∷◌, Option, Some, None, nat_lt, if◌then◌else◌, refl, sym, subst, arith}
 use Rattle.std.specs.Prelude.{Contains}
 use Rattle.std.proofs.lemmas.Bool.{ltb-true, ltb-false}
+use Rattle.plain.proofs.Members.{Contains-here, Contains-there}
 use Rattle.desugaring.specs.declared.fault.DesugarFault.{DesugarFault}
 use Rattle.desugaring.specs.Refused.{at, earlier_of, least, IsLeastOf, LeastIsLeast, NoneOfNone}
 
@@ -13,13 +14,6 @@ pub none_of_none : NoneOfNone
 none_of_none [] none = refl
 none_of_none (x ∷ xs) none = absurd (is_some x (least xs) none)
 
--- the first item, and those behind it
-here : (x : DesugarFault) (xs : List DesugarFault) → Contains (x ∷ xs) x
-here x xs = (0, omega arith, refl)
-
-behind : (x y : DesugarFault) (xs : List DesugarFault) → Contains xs y → Contains (x ∷ xs) y
-behind x y xs c = (suc c.0, omega (arith, c.1), c.2)
-
 -- P of each
 each : (P : DesugarFault → Type 0) (x : DesugarFault) (xs : List DesugarFault) → P x → ((y : DesugarFault) → Contains xs y → P y) → (y : DesugarFault) → Contains (x ∷ xs) y → P y
 each P x xs first rest y (zero, below, is) = subst P is first
@@ -27,11 +21,11 @@ each P x xs first rest y (suc i, below, is) = rest y (i, omega (arith, below), i
 
 chosen : (x g : DesugarFault) (xs : List DesugarFault) (b : Bool) → nat_lt (at g) (at x) ≡ b → IsLeastOf xs g → IsLeastOf (x ∷ xs) (if b then g else x)
 chosen x g xs true less rest = record {
-  here = behind x g xs rest.here;
+  here = Contains-there x xs g rest.here;
   first = each (λ y. at g ≤ at y) x xs (let low : at g < at x = ltb-true (at g) (at x) less in omega (arith, low)) rest.first;
 }
 chosen x g xs false more rest = record {
-  here = here x xs;
+  here = Contains-here x xs;
   first = each (λ y. at x ≤ at y) x xs (omega arith) (λ y c. let low : at g ≤ at y = rest.first y c in let high : at x ≤ at g = ltb-false (at g) (at x) more in omega (arith, high, low));
 }
 
@@ -43,7 +37,7 @@ mutual_step : (x f : DesugarFault) (xs : List DesugarFault) (o : Option DesugarF
 mutual_step x f xs None is rest told =
     let empty : xs ≡ [] = none_of_none xs is in
     subst (IsLeastOf (x ∷ xs)) (some_same told)
-    (subst (λ ys. IsLeastOf (x ∷ ys) x) (sym empty) (record { here = here x []; first = each (λ y. at x ≤ at y) x [] (omega arith) (λ y c. absurd (omega (arith, c.1))) }))
+    (subst (λ ys. IsLeastOf (x ∷ ys) x) (sym empty) (record { here = Contains-here x []; first = each (λ y. at x ≤ at y) x [] (omega arith) (λ y c. absurd (omega (arith, c.1))) }))
 mutual_step x f xs (Some g) is rest told = subst (IsLeastOf (x ∷ xs)) (some_same told) (chosen x g xs (nat_lt (at g) (at x)) refl (rest g is))
 
 pub least_is_least : LeastIsLeast

@@ -45,7 +45,7 @@ abbrev pub RepeatsStandAgain : Type 0
 RepeatsStandAgain = (marks : List NameAt) (at : ℕ) → Contains (repeats marks) at ↔ StandsAgain marks at
 
 -- and what is told of them follows from these alone.
-abbrev pub RepeatsAreTold : Type 0
-RepeatsAreTold = (marks others : List NameAt) → ((at : ℕ) → StandsAgain marks at → StandsAgain others at) →
+abbrev pub RepeatsAreReported : Type 0
+RepeatsAreReported = (marks others : List NameAt) → ((at : ℕ) → StandsAgain marks at → StandsAgain others at) →
     ((at : ℕ) → StandsAgain others at → StandsAgain marks at) →
     least (repeat_faults marks) ≡ least (repeat_faults others)

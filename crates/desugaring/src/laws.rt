@@ -1,6 +1,6 @@
 //! Laws of the definitions.
 ghost use Rattle.desugaring.specs.Refused.{LeastIsLeast, NoneOfNone, LeastOfBoth};
-ghost use Rattle.desugaring.specs.Repeats.{RepeatsStandAgain, RepeatsAreTold};
+ghost use Rattle.desugaring.specs.Repeats.{RepeatsStandAgain, RepeatsAreReported};
 ghost use Rattle.desugaring.specs.Strings.{ValueIsValue, PatternIsPattern};
 ghost use Rattle.desugaring.specs.Sums.{LiteralIsLeaf, UnaryIsAbove, AndIsPaired};
 
@@ -24,7 +24,7 @@ pub fn strings_are_read()
 /// follows from them alone: it does nothing, and its clauses are laws of the definitions.
 pub fn repeats_stand_again()
     ensures again { RepeatsStandAgain }
-    ensures told { RepeatsAreTold }
+    ensures told { RepeatsAreReported }
 {}
 
 /// That the size and the fault told of a literal, of an operator on one operand and of `&&` are those told of its

@@ -5,7 +5,7 @@ ghost use Rattle.desugaring.specs.inner.WellFormed.{WellFormedEntry};
 ghost use Rattle.desugaring.specs.Refused.{least};
 ghost use Rattle.desugaring.specs.Repeats.{NameAt, StandsAgain, repeat_faults, abstract_names};
 ghost use Rattle.desugaring.specs.Faults.{key_of};
-ghost use Rattle.desugaring.specs.inner.Searching.{TellsLeast, lesser_of, repeat_fault, held};
+ghost use Rattle.desugaring.specs.inner.Searching.{ReportsLeast, lesser_of, repeat_fault, held};
 
 use crate::fault::DesugarFault;
 use crate::words::{name, place};
@@ -41,7 +41,7 @@ fn lesser(a: Option<usize>, b: Option<usize>) -> Option<usize>
 
 /// The least place at which a name stands again.
 fn least_place(alloc: Global, marks: &[NameAt<'_>]) -> Result<Option<usize>, NoMemory>
-    ensures { IfOk result (TellsLeast (StandsAgain (abstract_names marks.now))) }
+    ensures { IfOk result (ReportsLeast (StandsAgain (abstract_names marks.now))) }
 {
     let mut seen = BTreeSet::new(alloc);
     let mut least = None;
@@ -93,7 +93,7 @@ fn keys_of(alloc: Global, text: &str, entries: &[Entry<ExprTree>]) -> Result<Vec
 }
 
 /// The same, lent.
-fn marks_of<'a>(alloc: Global, keys: &'a [Key]) -> Result<Vec<NameAt<'a>>, NoMemory>
+fn names_of<'a>(alloc: Global, keys: &'a [Key]) -> Result<Vec<NameAt<'a>>, NoMemory>
     ensures { IfOk result (λ marks. abstract_names marks.items ≡ map held keys.entry.now) }
 {
     let mut marks = Vec::with_capacity(alloc, keys.len())?;
@@ -116,6 +116,6 @@ pub(crate) fn repeated_key(
     ensures { IfOk result (λ fault. fault ≡ least (repeat_faults (map (key_of text.now) entries.now))) }
 {
     let keys = keys_of(alloc, text, entries)?;
-    let marks = marks_of(alloc, &keys)?;
+    let marks = names_of(alloc, &keys)?;
     first_duplicate(alloc, &marks)
 }

@@ -8,7 +8,7 @@ use Rattle.std.proofs.lemmas.Bool.Decides.{Decides-eqb}
 use Rattle.schema_types.specs.Names.{full_name}
 use Rattle.schema.specs.WellFormed.{IsActionType}
 use Rattle.entities.specs.Entities.{is_action_type}
-use Rattle.entities.specs.Laws.{ActionTypesAreTold}
+use Rattle.entities.specs.Laws.{ActionTypeTestIsExact}
 
 glue : (xs ys zs : List ℕ) → xs ++ (ys ++ zs) ≡ (xs ++ ys) ++ zs
 glue [] ys zs = refl
@@ -40,5 +40,5 @@ found name h = elim (one_true (bytes_eq name (codes "Action")) (ends_with (λ a 
       (Some (take (length name - length (codes "::Action")) name), is ∙ parted (take (length name - length (codes "::Action")) name))
 ]
 
-pub action_types_are_told : ActionTypesAreTold
+pub action_types_are_told : ActionTypeTestIsExact
 action_types_are_told name = (found name, told name)

@@ -17,8 +17,8 @@ use Rattle.entity_worlds.specs.UidSets.{uid_set}
 -- ---- types of actions
 
 -- the test tells the types that the actions of a namespace, or of none, have
-abbrev pub ActionTypesAreTold : Type 0
-ActionTypesAreTold = (name : List ℕ) → IsTrue (is_action_type name) ↔ IsActionType name
+abbrev pub ActionTypeTestIsExact : Type 0
+ActionTypeTestIsExact = (name : List ℕ) → IsTrue (is_action_type name) ↔ IsActionType name
 
 -- ---- entities
 

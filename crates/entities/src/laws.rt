@@ -1,6 +1,6 @@
 //! Laws of the definitions; the functions do nothing.
 ghost use Rattle.entities.specs.Laws.{CanonicalIsRead, CanonicalNests, CanonicalIsOne, ParentsAscend};
-ghost use Rattle.entities.specs.Laws.{SetsHoldTheirMembers, ActionTypesAreTold};
+ghost use Rattle.entities.specs.Laws.{SetsHoldTheirMembers, ActionTypeTestIsExact};
 ghost use Rattle.entities.specs.Laws.{OneRequest, NotBoth, OneRefusal, RequestOrRefusal};
 
 use typed_values::records_are_read_again;
@@ -21,7 +21,7 @@ pub fn entities_read_back()
 
 /// That whether a type's name is one of an action's is told right: it is where its last word is `Action`.
 pub fn action_types_are_told()
-    ensures { ActionTypesAreTold }
+    ensures { ActionTypeTestIsExact }
 {}
 
 /// That a value states exactly one request or is refused for exactly one fault, and never both.

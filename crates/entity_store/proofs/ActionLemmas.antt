@@ -15,15 +15,15 @@ use Rattle.entity_store.specs.Alike.{LeadAlike}
 
 -- ---- what has a parent by `memberOf` is a declared action
 
-abbrev Stands : List FoundAction → EntityUid → Type 0
-Stands us b = (x : FoundAction) × Contains us x × (x.uid ≡ b)
+abbrev IsDeclaredAmong : List FoundAction → EntityUid → Type 0
+IsDeclaredAmong us b = (x : FoundAction) × Contains us x × (x.uid ≡ b)
 
 first_or : (x : FoundAction) (us : List FoundAction) (before : List EntityUid) (b a : EntityUid) (own : Bool) → is_eq (uid_cmp x.uid b) ≡ own
-    → Contains (if own then x.parents else before) a → Stands (x ∷ us) b ⊎ Contains before a
+    → Contains (if own then x.parents else before) a → IsDeclaredAmong (x ∷ us) b ⊎ Contains before a
 first_or x us before b a true e h = inl (x, Contains-here x us, same_uid x.uid b e)
 first_or x us before b a false e h = inr h
 
-declared_or : (parents : Parents) (us : List FoundAction) (b a : EntityUid) → Contains (with_action_parents parents us b) a → Stands us b ⊎ Contains (parents b) a
+declared_or : (parents : Parents) (us : List FoundAction) (b a : EntityUid) → Contains (with_action_parents parents us b) a → IsDeclaredAmong us b ⊎ Contains (parents b) a
 declared_or parents [] b a h = inr h
 declared_or parents (x ∷ us) b a h = elim (declared_or (with_parents parents x.uid x.parents) us b a h) [
   | inl there ↦ inl (there.0, Contains-there x us there.0 there.1, there.2)

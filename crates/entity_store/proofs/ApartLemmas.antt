@@ -17,7 +17,7 @@ use Rattle.entities.specs.declared.stated.StatedEntity.{StatedEntity}
 use Rattle.entities.specs.Faults.{told}
 use Rattle.entities.specs.Stated.{stated_in, is_absent_or_empty, or_empty}
 use Rattle.entities.specs.Entities.{is_action_type, shape_of, attributes_in, parents_in, entity_in}
-use Rattle.entities.specs.Laws.{ActionTypesAreTold}
+use Rattle.entities.specs.Laws.{ActionTypeTestIsExact}
 use Rattle.entity_store.specs.Laws.{NoEntityIsAnAction}
 
 -- one step of reading, and the next
@@ -59,13 +59,13 @@ some_here : {A : Type 0} (o : Option A) (x : A) → o ≡ Some x → IsSome o
 some_here (Some y) x e = refl
 some_here None x e = absurd cc
 
-none_at : (told_types : ActionTypesAreTold) (v : StatedSchema) (wf : IsWellFormed v) (u : EntityUid) → is_action_type u.type_name ≡ false
+none_at : (told_types : ActionTypeTestIsExact) (v : StatedSchema) (wf : IsWellFormed v) (u : EntityUid) → is_action_type u.type_name ≡ false
     → (o : Option (List EntityUid)) → v.ancestors u ≡ o → o ≡ None
 none_at told_types v wf u plain None e = refl
 none_at told_types v wf u plain (Some us) e =
     let action : is_action_type u.type_name ≡ true = (told_types u.type_name).1 (wf.actions_typed u ((wf.actions u).1 (some_here (v.ancestors u) us e))) in
     let both : true ≡ false = sym action ∙ plain in absurd cc
 
-pub no_entity_is_an_action : StatedSchemasAreWellFormed → ActionTypesAreTold → NoEntityIsAnAction
+pub no_entity_is_an_action : StatedSchemasAreWellFormed → ActionTypeTestIsExact → NoEntityIsAnAction
 no_entity_is_an_action well told_types bytes v stated d e read =
     none_at told_types v (well bytes v stated) e.uid (entity_typed v d e read) (v.ancestors e.uid) refl

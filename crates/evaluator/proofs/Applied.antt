@@ -13,7 +13,7 @@ use Rattle.values.specs.Fields.{Field, find_field}
 use Rattle.values.specs.Sets.{has_member}
 use Rattle.values.specs.Values.{PlainValue, PlainValues, PlainFields, boolean, long, text, entity, set, record_of, decimal, ipaddr, list_of, pairs_of}
 use Rattle.values.specs.ValueOrder.{value_cmp}
-use Rattle.values.specs.Laws.{SetsHoldTheirMembers, SetsAreOneList, MembersAreTold}
+use Rattle.values.specs.Laws.{SetsHoldTheirMembers, SetsAreOneList, MemberTestIsExact}
 use Rattle.plain.proofs.Members.{Contains-here, Contains-there, Contains-cases, Contains-none}
 use Rattle.ancestor_closure.specs.Decided.{Decides}
 use Rattle.expressions.specs.LikeTest.{is_match, is_match-Decides}
@@ -49,7 +49,7 @@ pub record LawsBelow : Type 0 where
   pub networks : OneNetwork
   pub made : SetsHoldTheirMembers
   pub one : SetsAreOneList
-  pub told : MembersAreTold
+  pub told : MemberTestIsExact
 
 -- where something else was demanded
 other : {A : Type 0} (f : A → EvaluationResult) (R : EvaluationResult → Type 0) (o : Option A) → o ≡ None → R (Err TypeError) → R (and_then (demanded o) f)

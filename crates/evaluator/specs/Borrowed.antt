@@ -1,7 +1,7 @@
 -- The value of what is borrowed or owned.
 use Rattle.values.specs.Values.{PlainValue}
-use Rattle.evaluator.specs.declared.given.Ownership.{Ownership}
-use Rattle.evaluator.specs.declared.given.Ownership.TheVariants.{Borrowed, Owned}
+use Rattle.evaluator.specs.declared.borrowed_or_owned.Ownership.{Ownership}
+use Rattle.evaluator.specs.declared.borrowed_or_owned.Ownership.TheVariants.{Borrowed, Owned}
 
 abbrev pub of_ownership : Ownership → PlainValue
 of_ownership (Borrowed v) = v

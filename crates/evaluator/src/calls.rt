@@ -7,8 +7,8 @@ ghost use Rattle.extensions.specs.TextsDecided.{within_decided};
 ghost use Rattle.evaluator.specs.inner.Computing.{decimal_read, network_read, is_v4, apply_unary_call};
 ghost use Rattle.evaluator.specs.inner.Computing.{apply_binary_call, and_then, truth};
 
+use crate::borrowed_or_owned::BorrowedOrOwned;
 use crate::fault::EvalFault;
-use crate::given::BorrowedOrOwned;
 use crate::operands::{decimals_of, network_of, text_of};
 use expressions::{BinaryCall, UnaryCall};
 use extensions::decimal::one_decimal_a_text;

@@ -8,10 +8,10 @@ ghost use Rattle.evaluator.specs.inner.Computing.{decided_world, Answers, meanin
 ghost use Rattle.evaluator.specs.inner.Computing.{and_then, as_test, truth, apply_unary, apply_binary};
 ghost use Rattle.evaluator.specs.inner.Computing.{apply_unary_call, apply_binary_call, field_of, has_field};
 
+use crate::borrowed_or_owned::BorrowedOrOwned;
 use crate::calls::{binary_call, unary_call};
 use crate::fault::EvalFault;
 use crate::fields::{field, has};
-use crate::given::BorrowedOrOwned;
 use crate::laws::meanings_are_given;
 use crate::leaves::{literal_of, variable_of};
 use crate::lookup::Lookup;

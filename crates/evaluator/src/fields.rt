@@ -3,8 +3,8 @@ ghost use Rattle.std.specs.Prelude.{◌≡◌, option_map};
 ghost use Rattle.values.specs.BorrowedView.{of_borrowed};
 ghost use Rattle.evaluator.specs.inner.Computing.{decided_world, Answers, found_or, attribute, field_of, has_field};
 
+use crate::borrowed_or_owned::{BorrowedOrOwned, Ownership};
 use crate::fault::EvalFault;
-use crate::given::{BorrowedOrOwned, Ownership};
 use crate::lookup::Lookup;
 use std::alloc::Global;
 use values::{BorrowedKind, EntityUid, Kind, Value};

@@ -2,7 +2,7 @@
 ghost use Rattle.std.specs.Prelude.{◌≡◌};
 ghost use Rattle.evaluator.specs.Evaluation.{literal_value, variable_value};
 
-use crate::given::{BorrowedOrOwned, Ownership};
+use crate::borrowed_or_owned::{BorrowedOrOwned, Ownership};
 use expressions::{Literal, Variable};
 use values::{Request, ValueRef};
 

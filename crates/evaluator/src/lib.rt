@@ -1,20 +1,20 @@
 //! What expressions evaluate to, under a request and over the stored entities.
 #![tactic(auto)]
 
+mod borrowed_or_owned;
 mod calls;
 mod evaluating;
 mod fault;
 mod fields;
-mod given;
 mod laws;
 mod leaves;
 mod lookup;
 mod operands;
 mod operators;
 
+pub use borrowed_or_owned::BorrowedOrOwned;
 pub use evaluating::evaluate;
 pub use fault::EvalFault;
-pub use given::BorrowedOrOwned;
 pub use laws::expressions_have_one_outcome;
 pub use lookup::Lookup;
 pub use plain::NoMemory;

@@ -3,8 +3,8 @@ ghost use Rattle.std.specs.Prelude.{◌≡◌, MatchResult, Ok, Err};
 ghost use Rattle.evaluator.specs.Outcomes.{boolean_in, long_in, text_in, entity_in, members_in, decimal_in, network_in};
 ghost use Rattle.evaluator.specs.inner.Computing.{demanded, two_demanded};
 
+use crate::borrowed_or_owned::BorrowedOrOwned;
 use crate::fault::EvalFault;
-use crate::given::BorrowedOrOwned;
 use extensions::{Decimal, IpNet};
 use plain::Text;
 use values::{BorrowedKind, EntityUid, Set};

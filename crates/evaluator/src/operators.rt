@@ -10,8 +10,8 @@ ghost use Rattle.evaluator.specs.inner.Computing.{decided_world, demanded, Answe
 ghost use Rattle.evaluator.specs.inner.Computing.{apply_binary, is_in, in_members, in_value, and_then, truth, bounded};
 ghost use Rattle.evaluator.specs.inner.Computing.{sets};
 
+use crate::borrowed_or_owned::BorrowedOrOwned;
 use crate::fault::EvalFault;
-use crate::given::BorrowedOrOwned;
 use crate::lookup::Lookup;
 use crate::operands::{boolean_of, entity_of, long_of, longs_of, set_of, text_of};
 use ancestor_closure::is_among;

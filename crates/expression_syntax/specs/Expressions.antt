@@ -301,7 +301,7 @@ unfoldable pub expr : ℕ → Lang ExprTree
 expr zero = never
 expr (suc levels) = level (is_positive levels) (expr levels)
 
--- the most levels
+-- The most levels: `1` has one and `(1)` two, so an expression may stand in 63 pairs of parentheses, and in no more.
 abbrev pub nesting_limit : ℕ
 nesting_limit = 64
 

@@ -28,7 +28,7 @@ use Rattle.service_routes.specs.Routes.{has_id}
 use Rattle.http_service.specs.Asked.{asked, hands, refused, unserved, put_asked, removal_asked, not_text}
 use Rattle.service_replies.specs.Replies.{fault_reply, found_reply, put_reply, stamp_reply, status_reply}
 use Rattle.http_service.specs.Answered.{told}
-use Rattle.http_service.specs.inner.Dealing.{TellsOrNoMemory, Deals}
+use Rattle.http_service.specs.inner.Dealing.{ReportsOrNoMemory, Deals}
 
 pub handed : (old new : Seen) (i : Input) (r : Reply) (status : Status) (before after : List ℕ)
     → Step (schema_of old) old.number (store_in old) i r (store_in new) → IsSameSite old new
@@ -40,7 +40,7 @@ handed old new i r status before after step same e f =
 pub asked_of : (old : Seen) (i : Input) (r m : Reply) (status : Status) (before after : List ℕ)
     → Step (schema_of old) old.number (store_in old) i r (store_in old)
     → Step (schema_of old) old.number (store_in old) i m (store_in old) → told m ≡ fault_reply fault.NoMemory
-    → TellsOrNoMemory (told r) status before after → Deals old (hands i) status before after old
+    → ReportsOrNoMemory (told r) status before after → Deals old (hands i) status before after old
 asked_of old i r m status before after step short e (line, f, inl h) = (line, f, (r, step, (refl, refl), h))
 asked_of old i r m status before after step short e (line, f, inr h) = (line, f, (m, short, (refl, refl), h.1 ∙ sym e))
 
@@ -70,12 +70,12 @@ shown_is None = refl
 shown_is (Some f) = refl
 
 pub found_is_told : (old : Seen) (id : List ℕ) (p : Option (List ℕ × Stamp)) (status : Status) (before after : List ℕ)
-    → p ≡ policy_found (store_in old) id → TellsOrNoMemory (found_reply p) status before after
+    → p ≡ policy_found (store_in old) id → ReportsOrNoMemory (found_reply p) status before after
     → Deals old (hands (input.GetPolicy id)) status before after old
 found_is_told old id p status before after is h =
     asked_of old (input.GetPolicy id) (reply.Found (Ok (shown p))) (reply.Found (Err fault.NoMemory)) status before after
     (shown_is p ∙ is, refl) (tt, refl) refl
-    (subst (λ (q : Option (List ℕ × Stamp)). TellsOrNoMemory (found_reply q) status before after) (sym (shown_is p)) h)
+    (subst (λ (q : Option (List ℕ × Stamp)). ReportsOrNoMemory (found_reply q) status before after) (sym (shown_is p)) h)
 
 -- ---- a policy that is put
 

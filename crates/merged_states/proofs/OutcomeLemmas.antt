@@ -16,7 +16,7 @@ use Rattle.decision_texts.specs.declared.refusal.Refusal.{Refusal}
 use Rattle.policy_checks.specs.Refusals.{schema_refusal}
 use Rattle.merged_states.specs.Messages.{IsMessageOf, message_refusal, IsMessageRefused}
 use Rattle.merged_states.specs.Merges.{AreRefusedUnder, AreRefused}
-use Rattle.merged_states.specs.Outcomes.{Come, merged, refused, TextsComeTo, HaveOneOutcome}
+use Rattle.merged_states.specs.Outcomes.{MergeOutcome, merged, refused, IsOutcomeOfTexts, HaveOneOutcome}
 use Rattle.merged_states.proofs.MergeLemmas.{MergedAt, merged_at, store_as}
 
 abbrev pub IsFaultOf : StatedSchema → List ℕ → MessageFault → Type 0
@@ -61,7 +61,7 @@ module _ (one : schemas.OneSchema) (not_both : schemas.NotBoth) (one_refusal : s
   under s is r (inr a) = subst (λ (t : StatedSchema). AreRefusedUnder t f g r) (one schema a.stated s a.schema_is is) a.refused
 
   module _ (s : StatedSchema) (is : IsSchemaOf schema s) (laws : Laws s) where
-    one_come : (come other : Come) → TextsComeTo schema f g come → TextsComeTo schema f g other → other ≡ come
+    one_come : (come other : MergeOutcome) → IsOutcomeOfTexts schema f g come → IsOutcomeOfTexts schema f g other → other ≡ come
     one_come (merged text) (merged other) a b =
         ap merged (merged_same s laws f g other text (merged_at one schema f g other s is b) (merged_at one schema f g text s is a))
     one_come (merged text) (refused other) a b = absurd (both_apart s laws f g text other (merged_at one schema f g text s is a) (under s is other b))
@@ -69,7 +69,7 @@ module _ (one : schemas.OneSchema) (not_both : schemas.NotBoth) (one_refusal : s
     one_come (refused r) (refused q) a b = ap refused (both_refused_same s laws f g q r (under s is q b) (under s is r a))
 
     abbrev SomeCome : Type 0
-    SomeCome = (come : Come) × TextsComeTo schema f g come
+    SomeCome = (come : MergeOutcome) × IsOutcomeOfTexts schema f g come
 
     by_second : (us : List (SentUpdate Policy Entity)) → IsMessageOf s f us → ((vs : List (SentUpdate Policy Entity)) × IsMessageOf s g vs)
         ⊎ ((e : MessageFault) × IsFaultOf s g e) → SomeCome
@@ -104,7 +104,7 @@ module _ (one : schemas.OneSchema) (not_both : schemas.NotBoth) (one_refusal : s
     stated = let some = by_first (laws.some f) in (some.0, some.1, λ other due. one_come some.0 other some.1 due)
 
   module _ (fault : SchemaFault) (due : RefusedFor schema fault) where
-    one_refused : (other : Come) → TextsComeTo schema f g other → other ≡ refused (schema_refusal fault)
+    one_refused : (other : MergeOutcome) → IsOutcomeOfTexts schema f g other → other ≡ refused (schema_refusal fault)
     one_refused (merged text) h = absurd (not_both schema h.stated fault h.schema_is due)
     one_refused (refused r) (inl h) = ap refused (h.is ∙ ap schema_refusal (one_refusal schema h.fault fault h.due due))
     one_refused (refused r) (inr h) = absurd (not_both schema h.stated fault h.schema_is due)

@@ -6,19 +6,19 @@ use Rattle.decision_texts.specs.declared.refusal.Refusal.{Refusal}
 use Rattle.merged_states.specs.Merges.{IsMerged, IsMergedBack, AreRefused}
 
 -- a state, or a refusal
-pub data Come : Type 0 where
-  merged : List ℕ → Come
-  refused : Refusal → Come
+pub data MergeOutcome : Type 0 where
+  merged : List ℕ → MergeOutcome
+  refused : Refusal → MergeOutcome
 
-abbrev pub TextsComeTo : List ℕ → List ℕ → List ℕ → Come → Type 0
-TextsComeTo schema f g (merged text) = IsMerged schema f g text
-TextsComeTo schema f g (refused refusal) = AreRefused schema f g refusal
+abbrev pub IsOutcomeOfTexts : List ℕ → List ℕ → List ℕ → MergeOutcome → Type 0
+IsOutcomeOfTexts schema f g (merged text) = IsMerged schema f g text
+IsOutcomeOfTexts schema f g (refused refusal) = AreRefused schema f g refusal
 
 -- exactly one of these
 abbrev pub HaveOneOutcome : List ℕ → List ℕ → List ℕ → Type 0
 HaveOneOutcome schema f g =
-    (come : Come) × TextsComeTo schema f g come
-    × ((other : Come) → TextsComeTo schema f g other → other ≡ come)
+    (come : MergeOutcome) × IsOutcomeOfTexts schema f g come
+    × ((other : MergeOutcome) → IsOutcomeOfTexts schema f g other → other ≡ come)
 
 -- whichever way round, the state is the same
 abbrev pub OrderDoesNotMatter : Type 0

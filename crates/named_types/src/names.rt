@@ -29,7 +29,7 @@ pub struct Names {
 pub fn is_qualified(word: &str) -> bool
     ensures { result ≡ is_in_namespace word.now }
 {
-    word.as_bytes().iter().any(|byte| *byte == 58)
+    word.as_bytes().iter().any(|byte| *byte == b':')
 }
 
 /// A name in full, as it stands in its namespace; None is the empty namespace.

@@ -1,24 +1,20 @@
 -- The texts of a schema and of policies have one outcome.
-use Rattle.std.proofs.Common.{◌≡◌, ◌∙◌, ◌⊎◌, ◌≤◌, ℕ, Bool, true, false, leb, leb-true, leb-false, List, [], ◌∷◌, map, length, IsUtf8, inl, inr, refl, sym, ap, subst, arith}
+use Rattle.std.proofs.Common.{◌≡◌, ◌∙◌, ℕ, Bool, List, [], ◌∷◌, map, inl, inr, refl, sym, ap, subst}
 use Rattle.std.specs.List.{AllZip, list_any, join_with_byte}
-use Rattle.std.specs.Str.{is_utf8}
-use Rattle.std.proofs.lemmas.Str.{IsUtf8-from_is_utf8, is_utf8-from_IsUtf8}
-use Rattle.policy_grammar.specs.declared.fault.ReadFault.{ReadFault}
-use Rattle.policy_grammar.specs.declared.fault.ReadFault.TheVariants.{TooLong, BadToken}
 use Rattle.policy_grammar.specs.declared.policy.Policy.{Policy}
-use Rattle.policy_grammar.specs.Limits.{most_file_bytes}
 use Rattle.policy_grammar.specs.PolicyText.{IsFileRefused}
 use Rattle.policy_grammar.specs.Unique.{HasOneReading, IsFileOf}
 use Rattle.authoriser.specs.Answers.{NamedPolicy}
 use Rattle.schema.specs.Schemas.{StatedSchema, IsSchemaOf}
 use Rattle.schema.specs.Outcomes as schemas
 use Rattle.decision_texts.specs.declared.refusal.Refusal.{Refusal}
-use Rattle.decision_texts.specs.Decisions.{ArePoliciesOf, IsFileFault, refusal_by, ArePoliciesRefused, named_policies}
+use Rattle.decision_texts.specs.Decisions.{refusal_by, named_policies}
+use Rattle.decision_texts.proofs.PolicyTexts.{PoliciesOrNone, policies_or_none, file_or_fault, fault_same}
 use Rattle.validator.specs.Outcomes.{PoliciesHaveOneOutcome}
 use Rattle.policy_checks.specs.Refusals.{schema_refusal}
 use Rattle.policy_checks.specs.Lines.{verdict_line, is_refusal}
 use Rattle.policy_checks.specs.Checks.{line_end, PolicyReport, IsReportOf, AreReportsOf, AreReportsOnFile, IsChecked, IsRefused}
-use Rattle.policy_checks.specs.Outcomes.{Come, checked, refused, TextsComeTo, TextsHaveOneOutcome}
+use Rattle.policy_checks.specs.Outcomes.{CheckOutcome, checked, refused, IsOutcomeOfTexts, TextsHaveOneOutcome}
 
 -- the laws of what the texts are made of
 pub record Laws : Type 0 where
@@ -28,47 +24,6 @@ pub record Laws : Type 0 where
   pub schema_one_refusal : schemas.OneRefusal
   pub files : HasOneReading IsFileOf IsFileRefused
   pub verdicts : PoliciesHaveOneOutcome
-
--- ---- policies' texts
-
-file_or_fault : Laws → (bytes : List ℕ) (names : List (List ℕ)) (cores : List Policy) (fault : ReadFault) → ArePoliciesOf bytes names cores
-    → IsFileFault bytes fault → ⊥
-file_or_fault laws bytes names cores fault are (inl long) = let over = long.0 in let short = are.file.derives.short in absurd (omega arith)
-file_or_fault laws bytes names cores fault are (inr (inl bad)) = bad.1 are.utf8
-file_or_fault laws bytes names cores fault are (inr (inr due)) = laws.files.not_both bytes (names, cores) fault are.file due.2
-
-fault_same : Laws → (bytes : List ℕ) (fault other : ReadFault) → IsFileFault bytes fault → IsFileFault bytes other → fault ≡ other
-fault_same laws bytes fault other (inl a) (inl b) = a.1 ∙ sym b.1
-fault_same laws bytes fault other (inl a) (inr (inl b)) = let over = a.0 in let short = b.0 in absurd (omega arith)
-fault_same laws bytes fault other (inl a) (inr (inr b)) = let over = a.0 in let short = b.0 in absurd (omega arith)
-fault_same laws bytes fault other (inr (inl a)) (inl b) = let over = b.0 in let short = a.0 in absurd (omega arith)
-fault_same laws bytes fault other (inr (inl a)) (inr (inl b)) = a.2 ∙ sym b.2
-fault_same laws bytes fault other (inr (inl a)) (inr (inr b)) = absurd (a.1 b.1)
-fault_same laws bytes fault other (inr (inr a)) (inl b) = let over = b.0 in let short = a.0 in absurd (omega arith)
-fault_same laws bytes fault other (inr (inr a)) (inr (inl b)) = absurd (b.1 a.1)
-fault_same laws bytes fault other (inr (inr a)) (inr (inr b)) = laws.files.one_refusal bytes fault other a.2 b.2
-
-abbrev PoliciesOrNone : List ℕ → Type 0
-PoliciesOrNone bytes =
-    ((file : List (List ℕ) × List Policy) × ArePoliciesOf bytes file.0 file.1) ⊎ ((refusal : Refusal) × ArePoliciesRefused bytes refusal)
-
-file_or_none : (bytes : List ℕ) → length bytes ≤ most_file_bytes → IsUtf8 bytes →
-    ((file : List (List ℕ) × List Policy) × IsFileOf bytes file) ⊎ ((why : ReadFault) × IsFileRefused bytes why) → PoliciesOrNone bytes
-file_or_none bytes short utf8 (inl read) = inl (read.0, record { utf8 = utf8; file = read.1 })
-file_or_none bytes short utf8 (inr none) = inr (refusal_by none.0, record { fault = none.0; due = inr (inr (short, utf8, none.1)); is = refl })
-
-text_or_none : Laws → (bytes : List ℕ) → length bytes ≤ most_file_bytes → (valid : Bool) → is_utf8 bytes ≡ valid → PoliciesOrNone bytes
-text_or_none laws bytes short true e = file_or_none bytes short (IsUtf8-from_is_utf8 bytes e) (laws.files.some bytes)
-text_or_none laws bytes short false e =
-    inr (refusal_by (BadToken 0), record { fault = BadToken 0; due = inr (inl (short, λ utf8. let valid = is_utf8-from_IsUtf8 bytes utf8 in absurd (cc), refl)); is = refl })
-
-short_or_long : Laws → (bytes : List ℕ) (short : Bool) → leb (length bytes) most_file_bytes ≡ short → PoliciesOrNone bytes
-short_or_long laws bytes true e = text_or_none laws bytes (leb-true (length bytes) most_file_bytes e) (is_utf8 bytes) refl
-short_or_long laws bytes false e =
-    inr (refusal_by TooLong, record { fault = TooLong; due = inl (leb-false (length bytes) most_file_bytes e, refl); is = refl })
-
-policies_or_none : Laws → (bytes : List ℕ) → PoliciesOrNone bytes
-policies_or_none laws bytes = short_or_long laws bytes (leb (length bytes) most_file_bytes) refl
 
 -- ---- what policies came to
 
@@ -131,16 +86,16 @@ module _ (laws : Laws) (schema policies : List ℕ) where
   not_both : (text : List ℕ) (some_refused : Bool) (refusal : Refusal) → IsChecked schema policies text some_refused → IsRefused schema policies refusal → ⊥
   not_both text some_refused refusal a (inl none) = laws.schema_not_both schema a.stated none.fault a.schema_is none.due
   not_both text some_refused refusal a (inr none) =
-      file_or_fault laws policies a.file_told.names a.file_told.cores none.refused.fault a.file_told.file none.refused.due
+      file_or_fault laws.files policies a.file_told.names a.file_told.cores none.refused.fault a.file_told.file none.refused.due
 
   refused_same : (refusal other : Refusal) → IsRefused schema policies refusal → IsRefused schema policies other → refusal ≡ other
   refused_same refusal other (inl a) (inl b) = a.is ∙ ap schema_refusal (laws.schema_one_refusal schema a.fault b.fault a.due b.due) ∙ sym b.is
   refused_same refusal other (inl a) (inr b) = absurd (laws.schema_not_both schema b.stated a.fault b.schema_is a.due)
   refused_same refusal other (inr a) (inl b) = absurd (laws.schema_not_both schema a.stated b.fault a.schema_is b.due)
   refused_same refusal other (inr a) (inr b) =
-      a.refused.is ∙ ap refusal_by (fault_same laws policies a.refused.fault b.refused.fault a.refused.due b.refused.due) ∙ sym b.refused.is
+      a.refused.is ∙ ap refusal_by (fault_same laws.files policies a.refused.fault b.refused.fault a.refused.due b.refused.due) ∙ sym b.refused.is
 
-  one_come : (come other : Come) → TextsComeTo schema policies come → TextsComeTo schema policies other → come ≡ other
+  one_come : (come other : CheckOutcome) → IsOutcomeOfTexts schema policies come → IsOutcomeOfTexts schema policies other → come ≡ other
   one_come (checked text some_refused) (checked other some_other) a b = checked_same text other some_refused some_other a b
   one_come (checked text some_refused) (refused other) a b = absurd (not_both text some_refused other a b)
   one_come (refused refusal) (checked other some_other) a b = absurd (not_both other some_other refusal b a)
@@ -149,7 +104,7 @@ module _ (laws : Laws) (schema policies : List ℕ) where
   -- ---- the texts come to something
 
   abbrev SomeCome : Type 0
-  SomeCome = (come : Come) × TextsComeTo schema policies come
+  SomeCome = (come : CheckOutcome) × IsOutcomeOfTexts schema policies come
 
   by_policies : (s : StatedSchema) → IsSchemaOf schema s → PoliciesOrNone policies → SomeCome
   by_policies s is (inl file) =
@@ -169,7 +124,7 @@ module _ (laws : Laws) (schema policies : List ℕ) where
   by_policies s is (inr none) = (refused none.0, inr (record { stated = s; schema_is = is; refused = none.1 }))
 
   by_schema : schemas.SchemaOrRefusal schema → SomeCome
-  by_schema (schemas.states s is) = by_policies s is (policies_or_none laws policies)
+  by_schema (schemas.states s is) = by_policies s is (policies_or_none laws.files policies)
   by_schema (schemas.refused f due) = (refused (schema_refusal f), inl (record { fault = f; due = due; is = refl }))
 
   come_of : SomeCome

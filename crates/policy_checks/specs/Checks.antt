@@ -2,6 +2,7 @@
 -- Rules of this product: the schema is judged before the policies; a policy that does not pass is no refusal of the
 -- texts, but told in its line.
 use Rattle.std.specs.Prelude.{◌≡◌, ◌⊎◌, ℕ, Bool, List, map}
+use Prim.Native.Char.{code}
 use Rattle.std.specs.List.{AllZip, list_any, join_with_byte}
 use Rattle.policy_grammar.specs.declared.policy.Policy.{Policy}
 use Rattle.authoriser.specs.Answers.{NamedPolicy}
@@ -15,7 +16,7 @@ use Rattle.policy_checks.specs.Lines.{verdict_line, is_refusal}
 
 -- a line feed
 abbrev pub line_end : ℕ
-line_end = 10
+line_end = code "\n"
 
 -- ---- policies under a schema
 

@@ -6,16 +6,16 @@ use Rattle.decision_texts.specs.declared.refusal.Refusal.{Refusal}
 use Rattle.policy_checks.specs.Checks.{IsChecked, IsRefused}
 
 -- lines, and whether they tell of a refused policy; or the texts are refused
-pub data Come : Type 0 where
-  checked : List ℕ → Bool → Come
-  refused : Refusal → Come
+pub data CheckOutcome : Type 0 where
+  checked : List ℕ → Bool → CheckOutcome
+  refused : Refusal → CheckOutcome
 
-abbrev pub TextsComeTo : List ℕ → List ℕ → Come → Type 0
-TextsComeTo schema policies (checked text some_refused) = IsChecked schema policies text some_refused
-TextsComeTo schema policies (refused refusal) = IsRefused schema policies refusal
+abbrev pub IsOutcomeOfTexts : List ℕ → List ℕ → CheckOutcome → Type 0
+IsOutcomeOfTexts schema policies (checked text some_refused) = IsChecked schema policies text some_refused
+IsOutcomeOfTexts schema policies (refused refusal) = IsRefused schema policies refusal
 
 -- exactly one of these, whatever the texts
 abbrev pub TextsHaveOneOutcome : Type 0
 TextsHaveOneOutcome = (schema policies : List ℕ)
-    → (come : Come) × TextsComeTo schema policies come
-    × ((other : Come) → TextsComeTo schema policies other → other ≡ come)
+    → (come : CheckOutcome) × IsOutcomeOfTexts schema policies come
+    × ((other : CheckOutcome) → IsOutcomeOfTexts schema policies other → other ≡ come)

@@ -42,7 +42,7 @@ use Rattle.policy_grammar.specs.CoreOf.{IsUidOf, AreUidsOf, IsEntityScopeOf, IsA
 use Rattle.policy_grammar.specs.Faults.{of_desugaring}
 use Rattle.expressions.specs.Size.{most_height, most_forms}
 use Rattle.policy_grammar.specs.Limits.{Shape, height, forms, shape_of, IsSmallShape, IsSmallTree, IsId, most_id_bytes, most_policy_bytes, most_file_bytes}
-use Rattle.policy_grammar.specs.PolicyText.{Derives, byte_of, IsUnread, IsToldOf, tree_faults, file_faults, IsPolicyOf, HasNoPolicy, ArePoliciesOf, HaveNoPolicies, IsUidText, IsUidRefused, IsPolicyText, IsPolicyRefused, IsFileRefused}
+use Rattle.policy_grammar.specs.PolicyText.{Derives, byte_of, IsUnread, IsReportedOf, tree_faults, file_faults, IsPolicyOf, HasNoPolicy, ArePoliciesOf, HaveNoPolicies, IsUidText, IsUidRefused, IsPolicyText, IsPolicyRefused, IsFileRefused}
 use Rattle.policy_grammar.specs.Unique.{IsFileOf}
 use Rattle.policy_grammar.proofs.Lists.{text-kind}
 use Rattle.policy_grammar.proofs.Sizes.{small_core, small_cores}
@@ -204,10 +204,10 @@ module _ (laws : Laws) (text : List ℕ) (ts : List Token) (lexed : IsLexed text
 
 -- ---- a tree has a policy or not
 
-sound_or_told : NoneOfNone → (faults : List DesugarFault) → (faults ≡ []) ⊎ ((why : ReadFault) × IsToldOf faults why)
+sound_or_told : NoneOfNone → (faults : List DesugarFault) → (faults ≡ []) ⊎ ((why : ReadFault) × IsReportedOf faults why)
 sound_or_told none faults = by (least faults) refl
   where
-    by : (o : Option DesugarFault) → least faults ≡ o → (faults ≡ []) ⊎ ((why : ReadFault) × IsToldOf faults why)
+    by : (o : Option DesugarFault) → least faults ≡ o → (faults ≡ []) ⊎ ((why : ReadFault) × IsReportedOf faults why)
     by None e = inl (none faults e)
     by (Some first) e = inr (of_desugaring first, record { fault = first; first = e; told = refl })
 
@@ -219,7 +219,7 @@ module _ (text : List ℕ) (tree : PolicyTree) (core : (policy : Policy) × IsCo
   small_or_large sound (inl small) = inl (core.0, record { sound = sound; core = core.1; small = small_core text tree core.0 core.1 small })
   small_or_large sound (inr large) = inr (fault.TooDeep 0, inr (sound, (large, refl)))
 
-  policy_or_told : (tree_faults text tree ≡ []) ⊎ ((why : ReadFault) × IsToldOf (tree_faults text tree) why) →
+  policy_or_told : (tree_faults text tree ≡ []) ⊎ ((why : ReadFault) × IsReportedOf (tree_faults text tree) why) →
       ((policy : Policy) × IsPolicyOf text tree policy) ⊎ ((why : ReadFault) × HasNoPolicy text tree why)
   policy_or_told (inl sound) = small_or_large sound (small_or_not (shape_of text tree))
   policy_or_told (inr told) = inr (told.0, inl told.1)
@@ -244,7 +244,7 @@ module _ (text : List ℕ) (trees : List PolicyTree) (names : List (List ℕ)) (
   within_or_over sound (inl small) (inr bad) = inr (fault.BadId, inr (sound, (small, bad)))
   within_or_over sound (inr large) ids = inr (fault.TooDeep 0, inr (sound, (large, refl)))
 
-  policies_or_told : (file_faults text trees names ≡ []) ⊎ ((why : ReadFault) × IsToldOf (file_faults text trees names) why) → PoliciesOrNone
+  policies_or_told : (file_faults text trees names ≡ []) ⊎ ((why : ReadFault) × IsReportedOf (file_faults text trees names) why) → PoliciesOrNone
   policies_or_told (inl sound) = within_or_over sound (all_or_not (IsSmallTree text) (λ tree. small_or_not (shape_of text tree)) trees) (ids_or_not names)
   policies_or_told (inr told) = inr (told.0, inl told.1)
 

@@ -10,8 +10,8 @@ use Rattle.desugaring.specs.Repeats.{NameAt, places_of, repeats}
 use Rattle.policy_grammar.specs.CoreOf.{IsCoreOf}
 use Rattle.policy_grammar.specs.Faults.{place_of, of_desugaring}
 use Rattle.policy_grammar.specs.PolicyText.{tree_faults}
-use Rattle.policy_grammar.specs.Repeats.{start_of, policy_marks}
-use Rattle.policy_grammar.specs.Unique.{ToldIsLeast, EachIsNamed, NamesDiffer}
+use Rattle.policy_grammar.specs.Repeats.{start_of, policy_names}
+use Rattle.policy_grammar.specs.Unique.{ReportedIsLeast, EachIsNamed, NamesDiffer}
 use Rattle.policy_grammar.proofs.Lists.{none-left, none-right}
 use Rattle.policy_grammar.proofs.Refusing.{names-long}
 
@@ -21,7 +21,7 @@ placed (desugar.UnknownCall p) = refl
 placed (desugar.Arity p) = refl
 placed (desugar.RepeatedKey p) = refl
 
-pub told_is_least : LeastIsLeast → ToldIsLeast
+pub told_is_least : LeastIsLeast → ReportedIsLeast
 told_is_least least faults why told = (told.fault, least faults told.fault told.first, ap place_of told.told ∙ placed told.fault)
 
 -- ---- names
@@ -62,6 +62,6 @@ marked_names start (name ∷ names) (tree ∷ trees) long = ap (λ (ns : List (L
 
 pub names_differ : NamesDiffer
 names_differ text names policies file =
-    let marks = policy_marks names file.trees in
+    let marks = policy_names names file.trees in
     let none = none-left (map desugar.RepeatedKey (repeats marks)) (flat_map (tree_faults text) file.trees) file.are.sound in
     subst (IsDistinct bytes_eq) (marked_names start_of names file.trees (names-long text file.trees names file.are.named)) (distinct marks (none-of (repeats marks) none))

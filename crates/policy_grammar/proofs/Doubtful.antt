@@ -6,12 +6,12 @@ use Rattle.std.specs.Fmt.{decimal}
 use Rattle.std.proofs.Math.Seq.{drop-cons}
 use Rattle.std.proofs.lemmas.Fmt.{decimal_injective}
 use Rattle.desugaring.specs.Refused.{least}
-use Rattle.desugaring.specs.Repeats.{NameAt, StandsAgain, repeat_faults, RepeatsAreTold}
+use Rattle.desugaring.specs.Repeats.{NameAt, StandsAgain, repeat_faults, RepeatsAreReported}
 use Rattle.desugaring.proofs.AgainFront.{Later, again-there, again-here, again-front, again-none}
 use Rattle.policy_syntax.specs.declared.tree.Annotation.{Annotation}
 use Rattle.policy_syntax.specs.declared.tree.PolicyTree.{PolicyTree}
 use Rattle.policy_grammar.specs.CoreOf.{is_id, IsNameBy, IsNameOf, AreNamesOf}
-use Rattle.policy_grammar.specs.Repeats.{policy_marks, start_of}
+use Rattle.policy_grammar.specs.Repeats.{policy_names, start_of}
 use Rattle.policy_grammar.specs.inner.Parts.{has_id, looks_placed, meets_place, kept, doubtful_marks}
 
 -- ---- marks that are kept
@@ -74,15 +74,15 @@ or_left a b yes' = ap (λ x. x || b) yes'
 or_right : (a b : Bool) → b ≡ true → (a || b) ≡ true
 or_right a b yes' = ap (λ x. a || x) yes' ∙ or_true a
 
-abbrev Placed : List ℕ → ℕ × PolicyTree → List ℕ → Type 0
-Placed text = λ placed. IsNameOf text placed.0 placed.1
+abbrev IsNamedAtPlace : List ℕ → ℕ × PolicyTree → List ℕ → Type 0
+IsNamedAtPlace text = λ placed. IsNameOf text placed.0 placed.1
 
 -- whether a policy of this name is kept, and those of the name behind it
 module _ (text : List ℕ) (wide : Bool) where
   -- those behind it that have its name
   behind : (k p : ℕ) (n : List ℕ) (t : PolicyTree) (names : List (List ℕ)) (trees : List PolicyTree) (at : ℕ) → k < p → p + length trees ≤ 2 ^ 64 → IsNameOf text k t n →
-      (looks_placed text n t ≡ true → wide ≡ true) → AllZip (Placed text) (enumerate_from p trees) names → (meets_place text names trees ≡ true → wide ≡ true) →
-      Later n (policy_marks names trees) at → ((wide || has_id text t) ≡ true) × Later n (doubtful_marks text wide names trees) at
+      (looks_placed text n t ≡ true → wide ≡ true) → AllZip (IsNamedAtPlace text) (enumerate_from p trees) names → (meets_place text names trees ≡ true → wide ≡ true) →
+      Later n (policy_names names trees) at → ((wide || has_id text t) ≡ true) × Later n (doubtful_marks text wide names trees) at
   behind k p n t [] trees at below fits is one all meets later = absurd later
   behind k p n t (m ∷ ms) [] at below fits is one all meets later = absurd all
   behind k p n t (m ∷ ms) (u ∷ us) at below fits is one all meets later =
@@ -96,7 +96,7 @@ module _ (text : List ℕ) (wide : Bool) where
             (rest.0, later-keeps (wide || has_id text u) n (record { name = m; at = start_of u }) (doubtful_marks text wide ms us) at (λ e. (both e).1) (inr rest.1))
       ]
 
-  fewer-later : (n : List ℕ) (names : List (List ℕ)) (trees : List PolicyTree) (at : ℕ) → Later n (doubtful_marks text wide names trees) at → Later n (policy_marks names trees) at
+  fewer-later : (n : List ℕ) (names : List (List ℕ)) (trees : List PolicyTree) (at : ℕ) → Later n (doubtful_marks text wide names trees) at → Later n (policy_names names trees) at
   fewer-later n [] trees at later = absurd later
   fewer-later n (m ∷ ms) [] at later = absurd later
   fewer-later n (m ∷ ms) (u ∷ us) at later =
@@ -105,25 +105,25 @@ module _ (text : List ℕ) (wide : Bool) where
         | inr more ↦ inr (fewer-later n ms us at more)
       ]
 
-  fewer : (names : List (List ℕ)) (trees : List PolicyTree) (at : ℕ) → StandsAgain (doubtful_marks text wide names trees) at → StandsAgain (policy_marks names trees) at
+  fewer : (names : List (List ℕ)) (trees : List PolicyTree) (at : ℕ) → StandsAgain (doubtful_marks text wide names trees) at → StandsAgain (policy_names names trees) at
   fewer [] trees at again = again-none at again
   fewer (m ∷ ms) [] at again = again-none at again
   fewer (m ∷ ms) (u ∷ us) at again =
       let mark : NameAt = record { name = m; at = start_of u } in
       elim (again-kept (wide || has_id text u) mark (doubtful_marks text wide ms us) at again) [
-        | inl later ↦ again-here mark (policy_marks ms us) at (fewer-later m ms us at later)
-        | inr more ↦ again-there mark (policy_marks ms us) at (fewer ms us at more)
+        | inl later ↦ again-here mark (policy_names ms us) at (fewer-later m ms us at later)
+        | inr more ↦ again-there mark (policy_names ms us) at (fewer ms us at more)
       ]
 
-  enough : (p : ℕ) (names : List (List ℕ)) (trees : List PolicyTree) (at : ℕ) → p + length trees ≤ 2 ^ 64 → AllZip (Placed text) (enumerate_from p trees) names →
-      (meets_place text names trees ≡ true → wide ≡ true) → StandsAgain (policy_marks names trees) at → StandsAgain (doubtful_marks text wide names trees) at
+  enough : (p : ℕ) (names : List (List ℕ)) (trees : List PolicyTree) (at : ℕ) → p + length trees ≤ 2 ^ 64 → AllZip (IsNamedAtPlace text) (enumerate_from p trees) names →
+      (meets_place text names trees ≡ true → wide ≡ true) → StandsAgain (policy_names names trees) at → StandsAgain (doubtful_marks text wide names trees) at
   enough p [] trees at fits all meets again = again-none at again
   enough p (m ∷ ms) [] at fits all meets again = again-none at again
   enough p (m ∷ ms) (u ∷ us) at fits all meets again =
       let mark : NameAt = record { name = m; at = start_of u } in
       let one : looks_placed text m u ≡ true → wide ≡ true = λ h. meets (or_left (looks_placed text m u) (meets_place text ms us) h) in
       let more : meets_place text ms us ≡ true → wide ≡ true = λ h. meets (or_right (looks_placed text m u) (meets_place text ms us) h) in
-      elim (again-front mark (policy_marks ms us) at again) [
+      elim (again-front mark (policy_names ms us) at again) [
         | inl later ↦
             let found = behind p (p + 1) m u ms us at (omega arith) (omega arith) all.0 one all.1 more later in
             again-keeps (wide || has_id text u) mark (doubtful_marks text wide ms us) at (λ _. found.0) (inl found.1)
@@ -131,10 +131,10 @@ module _ (text : List ℕ) (wide : Bool) where
       ]
 
 -- The names that may stand twice are enough to be looked at.
-pub doubtful-enough : RepeatsAreTold → (text : List ℕ) (wide : Bool) (names : List (List ℕ)) (trees : List PolicyTree) → length trees < 2 ^ 64 → AreNamesOf text trees names →
-    wide ≡ meets_place text names trees → least (repeat_faults (doubtful_marks text wide names trees)) ≡ least (repeat_faults (policy_marks names trees))
+pub doubtful-enough : RepeatsAreReported → (text : List ℕ) (wide : Bool) (names : List (List ℕ)) (trees : List PolicyTree) → length trees < 2 ^ 64 → AreNamesOf text trees names →
+    wide ≡ meets_place text names trees → least (repeat_faults (doubtful_marks text wide names trees)) ≡ least (repeat_faults (policy_names names trees))
 doubtful-enough told text wide names trees fits named is =
-    told (doubtful_marks text wide names trees) (policy_marks names trees) (λ at. fewer text wide names trees at)
+    told (doubtful_marks text wide names trees) (policy_names names trees) (λ at. fewer text wide names trees at)
     (λ at. enough text wide 0 names trees at (omega arith) named (λ h. is ∙ h))
 
 -- ---- the steps of the loops

@@ -19,7 +19,7 @@ use Rattle.desugaring.specs.declared.fault.DesugarFault.{DesugarFault}
 use Rattle.desugaring.specs.Refused.{least}
 use Rattle.policy_grammar.specs.Faults.{of_desugaring}
 use Rattle.policy_grammar.specs.Limits.{most_policy_bytes, most_file_bytes, IsId, IsSmallTree}
-use Rattle.policy_grammar.specs.PolicyText.{Derives, IsUnread, IsUidText, IsUidRefused, IsPolicyOf, IsPolicyText, tree_faults, file_faults, IsToldOf, IsOverLimit, AreOverLimits, HasNoPolicy, IsPolicyRefused, ArePoliciesOf, HaveNoPolicies, IsFileRefused}
+use Rattle.policy_grammar.specs.PolicyText.{Derives, IsUnread, IsUidText, IsUidRefused, IsPolicyOf, IsPolicyText, tree_faults, file_faults, IsReportedOf, IsOverLimit, AreOverLimits, HasNoPolicy, IsPolicyRefused, ArePoliciesOf, HaveNoPolicies, IsFileRefused}
 use Rattle.policy_grammar.specs.inner.Parts.{refusal_of}
 use Rattle.policy_grammar.specs.Unique.{HasOneReading, IsFileOf}
 use Rattle.policy_grammar.proofs.Cores.{uid-same, core-same, names-same, cores-same}
@@ -130,7 +130,7 @@ module _ {A : Type 0} (L K : Lang A) (most : ℕ) (text : List ℕ) (laws : Laws
 
 -- each text has a value or a refusal
 abbrev IsAnswered : {A : Type 0} → (List ℕ → A → Type 0) → (List ℕ → ReadFault → Type 0) → Type 0
-IsAnswered {A} Stands Refused = (text : List ℕ) → ((x : A) × Stands text x) ⊎ ((why : ReadFault) × Refused text why)
+IsAnswered {A} Holds Refused = (text : List ℕ) → ((x : A) × Holds text x) ⊎ ((why : ReadFault) × Refused text why)
 
 pub uid_reading : Laws → HasOneTree grammar.uid → HasOneAnswer grammar.uid → IsAnswered IsUidText IsUidRefused → HasOneReading IsUidText IsUidRefused
 uid_reading laws trees answers each = record {
@@ -146,10 +146,10 @@ some-same : {A : Type 0} {x y : A} → Some x ≡ Some y → x ≡ y
 some-same e = cc
 
 -- one fault is told
-told-same : (faults : List DesugarFault) (why other : ReadFault) → IsToldOf faults why → IsToldOf faults other → why ≡ other
+told-same : (faults : List DesugarFault) (why other : ReadFault) → IsReportedOf faults why → IsReportedOf faults other → why ≡ other
 told-same faults why other a b = a.told ∙ ap of_desugaring (some-same (sym a.first ∙ b.first)) ∙ sym b.told
 
-told-or-none : (faults : List DesugarFault) (why : ReadFault) → faults ≡ [] → IsToldOf faults why → ⊥
+told-or-none : (faults : List DesugarFault) (why : ReadFault) → faults ≡ [] → IsReportedOf faults why → ⊥
 told-or-none faults why none told = let e : None ≡ Some told.fault = ap least (sym none) ∙ told.first in cc
 
 -- a tree has a policy or not

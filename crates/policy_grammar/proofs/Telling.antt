@@ -15,20 +15,20 @@ use Rattle.policy_grammar.specs.declared.verdict.Verdict.{Verdict}
 use Rattle.policy_grammar.specs.Conditions.{conditions_of, condition_faults}
 use Rattle.policy_grammar.specs.Limits.{IsSmallOver, IsSmallTree}
 use Rattle.policy_grammar.specs.PolicyText.{tree_faults, file_faults, OrNoMemory}
-use Rattle.policy_grammar.specs.Repeats.{annotation_marks, policy_marks}
-use Rattle.policy_grammar.specs.inner.Parts.{TellsPolicy, TellsFile}
+use Rattle.policy_grammar.specs.Repeats.{annotation_keys, policy_names}
+use Rattle.policy_grammar.specs.inner.Parts.{ReportsPolicy, ReportsFile}
 use Rattle.policy_grammar.proofs.Lists.{all-left, all-right}
 use Rattle.policy_grammar.proofs.Sizes.{decides}
 
 -- of one policy, by its annotations and by the measure of its conditions
 pub told-one : LeastOfBoth → (text : List ℕ) (tree : PolicyTree) (repeat : Option DesugarFault) (j : Measure) (verdict : Verdict) →
-    repeat ≡ least (repeat_faults (annotation_marks text tree)) → j ≡ of (conditions_of text tree.conditions) (condition_faults text tree.conditions) →
-    (IsTrue verdict.small ↔ IsSmallOver tree j.height j.forms) → verdict.fault ≡ earlier_of repeat j.fault → TellsPolicy text tree verdict
+    repeat ≡ least (repeat_faults (annotation_keys text tree)) → j ≡ of (conditions_of text tree.conditions) (condition_faults text tree.conditions) →
+    (IsTrue verdict.small ↔ IsSmallOver tree j.height j.forms) → verdict.fault ≡ earlier_of repeat j.fault → ReportsPolicy text tree verdict
 told-one both text tree repeat j verdict again is small same =
     let e = conditions_of text tree.conditions in
     record {
-      fault = same ∙ ap (λ o. earlier_of o j.fault) again ∙ ap (λ i. earlier_of (least (repeat_faults (annotation_marks text tree))) i.fault) is
-          ∙ sym (both (repeat_faults (annotation_marks text tree)) (condition_faults text tree.conditions));
+      fault = same ∙ ap (λ o. earlier_of o j.fault) again ∙ ap (λ i. earlier_of (least (repeat_faults (annotation_keys text tree))) i.fault) is
+          ∙ sym (both (repeat_faults (annotation_keys text tree)) (condition_faults text tree.conditions));
       small = decides tree (size.height e) (size.forms e) (IsTrue verdict.small) (subst (λ i. IsTrue verdict.small ↔ IsSmallOver tree i.height i.forms) is small);
     }
 
@@ -37,13 +37,13 @@ all-more P [] x all p = (p, tt)
 all-more P (y ∷ xs) x all p = (all.0, all-more P xs x all.1 p)
 
 -- of one policy more
-pub told-more : LeastOfBoth → (text : List ℕ) (trees : List PolicyTree) (i : ℕ) (tree : PolicyTree) (old one new : Verdict) → TellsFile text (take i trees) old → i < length trees →
-    tree ≡ get_or trees i tree → TellsPolicy text tree one → new.fault ≡ earlier_of old.fault one.fault → (IsTrue new.small ↔ (IsTrue old.small × IsTrue one.small)) →
-    TellsFile text (take (i + 1) trees) new
+pub told-more : LeastOfBoth → (text : List ℕ) (trees : List PolicyTree) (i : ℕ) (tree : PolicyTree) (old one new : Verdict) → ReportsFile text (take i trees) old → i < length trees →
+    tree ≡ get_or trees i tree → ReportsPolicy text tree one → new.fault ≡ earlier_of old.fault one.fault → (IsTrue new.small ↔ (IsTrue old.small × IsTrue one.small)) →
+    ReportsFile text (take (i + 1) trees) new
 told-more law text trees i tree old one new was below is tells same both =
     let more : take (i + 1) trees ≡ take i trees ++ tree ∷ [] = take_more trees i tree below ∙ ap (λ t. take i trees ++ t ∷ []) (sym is) in
     let faults = flat_map (tree_faults text) (take i trees) in
-    subst (λ ts. TellsFile text ts new) (sym more) (record {
+    subst (λ ts. ReportsFile text ts new) (sym more) (record {
       fault = same ∙ ap (λ o. earlier_of o one.fault) was.fault ∙ ap (earlier_of (least faults)) tells.fault ∙ sym (law faults (tree_faults text tree))
           ∙ ap least (flat_map_more (tree_faults text) [] (take i trees) tree);
       small = (
@@ -55,18 +55,18 @@ told-more law text trees i tree old one new was below is tells same both =
       );
     })
 
-pub told-none : (text : List ℕ) (verdict : Verdict) → verdict.fault ≡ None → verdict.small ≡ true → TellsFile text [] verdict
+pub told-none : (text : List ℕ) (verdict : Verdict) → verdict.fault ≡ None → verdict.small ≡ true → ReportsFile text [] verdict
 told-none text verdict none small = record { fault = none; small = (λ yes'. tt, λ all. small) }
 
-pub told-all : (text : List ℕ) (trees : List PolicyTree) (i : ℕ) (verdict : Verdict) → TellsFile text (take i trees) verdict → length trees ≤ i → TellsFile text trees verdict
-told-all text trees i verdict tells over = subst (λ ts. TellsFile text ts verdict) (take_all i trees over) tells
+pub told-all : (text : List ℕ) (trees : List PolicyTree) (i : ℕ) (verdict : Verdict) → ReportsFile text (take i trees) verdict → length trees ≤ i → ReportsFile text trees verdict
+told-all text trees i verdict tells over = subst (λ ts. ReportsFile text ts verdict) (take_all i trees over) tells
 
 -- of a file, by its names and by its policies
 pub told-file : LeastOfBoth → (text : List ℕ) (trees : List PolicyTree) (names : List (List ℕ)) (repeat : Option DesugarFault) (verdict : Verdict) (told : Option DesugarFault) →
-    repeat ≡ least (repeat_faults (policy_marks names trees)) → TellsFile text trees verdict → told ≡ earlier_of repeat verdict.fault → told ≡ least (file_faults text trees names)
+    repeat ≡ least (repeat_faults (policy_names names trees)) → ReportsFile text trees verdict → told ≡ earlier_of repeat verdict.fault → told ≡ least (file_faults text trees names)
 told-file both text trees names repeat verdict told again tells is =
-    is ∙ ap (λ o. earlier_of o verdict.fault) again ∙ ap (earlier_of (least (repeat_faults (policy_marks names trees)))) tells.fault
-    ∙ sym (both (repeat_faults (policy_marks names trees)) (flat_map (tree_faults text) trees))
+    is ∙ ap (λ o. earlier_of o verdict.fault) again ∙ ap (earlier_of (least (repeat_faults (policy_names names trees)))) tells.fault
+    ∙ sym (both (repeat_faults (policy_names names trees)) (flat_map (tree_faults text) trees))
 
 pub or_no_memory : (Refused : ReadFault → Type 0) (why : ReadFault) → Refused why → OrNoMemory Refused why
 or_no_memory Refused fault.NoMemory refused = tt

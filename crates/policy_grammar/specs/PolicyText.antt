@@ -24,7 +24,7 @@ use Rattle.policy_grammar.specs.Conditions.{condition_faults}
 use Rattle.policy_grammar.specs.CoreOf.{IsUidOf, IsCoreOf, AreNamesOf, AreCoresOf}
 use Rattle.policy_grammar.specs.Faults.{of_desugaring}
 use Rattle.policy_grammar.specs.Limits.{IsSmallTree, IsSmallPolicy, IsId, most_policy_bytes, most_file_bytes}
-use Rattle.policy_grammar.specs.Repeats.{annotation_marks, policy_marks}
+use Rattle.policy_grammar.specs.Repeats.{annotation_keys, policy_names}
 
 -- The text is no longer than so many bytes, and its tokens derive the tree.
 pub record Derives {A : Type 0} (L : Lang A) (most : ℕ) (text : List ℕ) (tree : A) : Type 0 where
@@ -35,11 +35,11 @@ pub record Derives {A : Type 0} (L : Lang A) (most : ℕ) (text : List ℕ) (tre
 
 -- the faults of a policy's tree: annotations that stand again, and those of its conditions
 abbrev pub tree_faults : List ℕ → PolicyTree → List DesugarFault
-tree_faults text tree = repeat_faults (annotation_marks text tree) ++ condition_faults text tree.conditions
+tree_faults text tree = repeat_faults (annotation_keys text tree) ++ condition_faults text tree.conditions
 
 -- and of a file's: names of policies that stand again, and those of each tree
 abbrev pub file_faults : List ℕ → List PolicyTree → List (List ℕ) → List DesugarFault
-file_faults text trees names = repeat_faults (policy_marks names trees) ++ flat_map (tree_faults text) trees
+file_faults text trees names = repeat_faults (policy_names names trees) ++ flat_map (tree_faults text) trees
 
 -- A tree's policy, within the limits.
 pub record IsPolicyOf (text : List ℕ) (tree : PolicyTree) (policy : Policy) : Type 0 where
@@ -104,7 +104,7 @@ IsUnread L K most text (fault.TooDeep at) = StopsAt L K most text syntax.TooDeep
 IsUnread L K most text _ = ⊥
 
 -- Of these faults this one is told: the one at the least place, and of those at one place the one that is listed first.
-pub record IsToldOf (faults : List DesugarFault) (why : ReadFault) : Type 0 where
+pub record IsReportedOf (faults : List DesugarFault) (why : ReadFault) : Type 0 where
   pub fault : DesugarFault
   pub first : least faults ≡ Some fault
   pub told : why ≡ of_desugaring fault
@@ -122,12 +122,12 @@ AreOverLimits text trees names _ = ⊥
 -- A tree has no policy: it has a fault, or else its core expression is too large.
 abbrev pub HasNoPolicy : List ℕ → PolicyTree → ReadFault → Type 0
 HasNoPolicy text tree why =
-    IsToldOf (tree_faults text tree) why ⊎ ((tree_faults text tree ≡ []) × IsOverLimit text tree why)
+    IsReportedOf (tree_faults text tree) why ⊎ ((tree_faults text tree ≡ []) × IsOverLimit text tree why)
 
 -- The trees of a file have no policies: there is a fault; else a core expression is too large; else a name is no id.
 abbrev pub HaveNoPolicies : List ℕ → List PolicyTree → List (List ℕ) → ReadFault → Type 0
 HaveNoPolicies text trees names why =
-    IsToldOf (file_faults text trees names) why
+    IsReportedOf (file_faults text trees names) why
     ⊎ ((file_faults text trees names ≡ []) × AreOverLimits text trees names why)
 
 -- This text is no uid,

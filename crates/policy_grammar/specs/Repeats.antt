@@ -10,11 +10,11 @@ use Rattle.policy_syntax.specs.declared.tree.PolicyTree.{PolicyTree}
 use Rattle.desugaring.specs.Repeats.{NameAt}
 
 -- the annotations of a policy, each by its key at its `@`
-abbrev pub mark_of : List ℕ → Annotation → NameAt
-mark_of text annotation = record { name = spelling_of text annotation.key; at = annotation.at.start }
+abbrev pub key_at : List ℕ → Annotation → NameAt
+key_at text annotation = record { name = spelling_of text annotation.key; at = annotation.at.start }
 
-abbrev pub annotation_marks : List ℕ → PolicyTree → List NameAt
-annotation_marks text tree = map (mark_of text) tree.annotations
+abbrev pub annotation_keys : List ℕ → PolicyTree → List NameAt
+annotation_keys text tree = map (key_at text) tree.annotations
 
 -- where the first token of a policy stands
 abbrev pub start_behind : List Annotation → Token → ℕ
@@ -25,5 +25,5 @@ abbrev pub start_of : PolicyTree → ℕ
 start_of tree = start_behind tree.annotations tree.effect
 
 -- the policies of a file, each by its name at its first token
-abbrev pub policy_marks : List (List ℕ) → List PolicyTree → List NameAt
-policy_marks names trees = map (λ named. record { name = named.0; at = start_of named.1 }) (zip names trees)
+abbrev pub policy_names : List (List ℕ) → List PolicyTree → List NameAt
+policy_names names trees = map (λ named. record { name = named.0; at = start_of named.1 }) (zip names trees)

@@ -7,16 +7,16 @@ use Rattle.policy_grammar.specs.declared.fault.ReadFault.{ReadFault}
 use Rattle.desugaring.specs.declared.fault.DesugarFault.{DesugarFault}
 use Rattle.desugaring.specs.Refused.{at, IsLeastOf}
 use Rattle.policy_grammar.specs.Faults.{place_of}
-use Rattle.policy_grammar.specs.PolicyText.{IsPolicyFile, IsToldOf}
+use Rattle.policy_grammar.specs.PolicyText.{IsPolicyFile, IsReportedOf}
 
 -- A text stands for one value at most; one that stands for a value is not refused; it has one refusal at most; and it
 -- stands for a value or is refused. So it comes to exactly one thing.
-pub record HasOneReading {A : Type 0} (Stands : List ℕ → A → Type 0) (Refused : List ℕ → ReadFault → Type 0) :
+pub record HasOneReading {A : Type 0} (Holds : List ℕ → A → Type 0) (Refused : List ℕ → ReadFault → Type 0) :
     Type 0 where
-  pub one_value : (text : List ℕ) (x y : A) → Stands text x → Stands text y → x ≡ y
-  pub not_both : (text : List ℕ) (x : A) (why : ReadFault) → Stands text x → Refused text why → ⊥
+  pub one_value : (text : List ℕ) (x y : A) → Holds text x → Holds text y → x ≡ y
+  pub not_both : (text : List ℕ) (x : A) (why : ReadFault) → Holds text x → Refused text why → ⊥
   pub one_refusal : (text : List ℕ) (why other : ReadFault) → Refused text why → Refused text other → why ≡ other
-  pub some : (text : List ℕ) → ((x : A) × Stands text x) ⊎ ((why : ReadFault) × Refused text why)
+  pub some : (text : List ℕ) → ((x : A) × Holds text x) ⊎ ((why : ReadFault) × Refused text why)
 
 -- a file's names and policies as one value
 abbrev pub IsFileOf : List ℕ → (List (List ℕ) × List Policy) → Type 0
@@ -24,8 +24,8 @@ IsFileOf text file = IsPolicyFile text file.0 file.1
 
 -- The fault that is told of a tree or of a file is one of its faults; it is told where it stands, and no other stands
 -- further left.
-abbrev pub ToldIsLeast : Type 0
-ToldIsLeast = (faults : List DesugarFault) (why : ReadFault) → IsToldOf faults why →
+abbrev pub ReportedIsLeast : Type 0
+ReportedIsLeast = (faults : List DesugarFault) (why : ReadFault) → IsReportedOf faults why →
     (fault : DesugarFault) × IsLeastOf faults fault × (place_of why ≡ Some (at fault))
 
 -- Each policy of a file has a name,

@@ -1,7 +1,7 @@
 //! Laws of the definitions.
 ghost use Rattle.policy_grammar.specs.PolicyText.{IsUidText, IsUidRefused, IsPolicyText, IsPolicyRefused};
 ghost use Rattle.policy_grammar.specs.PolicyText.{IsFileRefused};
-ghost use Rattle.policy_grammar.specs.Unique.{HasOneReading, IsFileOf, ToldIsLeast, EachIsNamed, NamesDiffer};
+ghost use Rattle.policy_grammar.specs.Unique.{HasOneReading, IsFileOf, ReportedIsLeast, EachIsNamed, NamesDiffer};
 
 use desugaring::least_fault_is_told;
 use policy_syntax::{reading_is_unique, trees_stand_in_tokens};
@@ -24,7 +24,7 @@ pub fn texts_have_one_reading()
 /// That the fault told of a tree or a file is the one at the least place: it does nothing, and its clause is a law of
 /// the definitions.
 pub fn told_fault_is_least()
-    ensures { ToldIsLeast }
+    ensures { ReportedIsLeast }
 {
     least_fault_is_told();
 }

@@ -6,7 +6,7 @@ ghost use Rattle.policy_grammar.specs.CoreOf.{AreNamesOf};
 ghost use Rattle.desugaring.specs.Refused.{least};
 ghost use Rattle.desugaring.specs.Repeats.{repeat_faults, abstract_names};
 ghost use Rattle.desugaring.specs.BuiltFrom.{IsBuiltFrom};
-ghost use Rattle.policy_grammar.specs.Repeats.{annotation_marks, policy_marks, start_of};
+ghost use Rattle.policy_grammar.specs.Repeats.{annotation_keys, policy_names, start_of};
 ghost use Rattle.policy_grammar.specs.inner.Parts.{has_id, looks_placed, meets_place, doubtful_marks};
 
 use crate::names::has_id;
@@ -17,13 +17,13 @@ use policy_tokens::spelling;
 use std::alloc::Global;
 
 /// The annotations of a policy, each at its `@`.
-fn marks_of_annotations<'a>(
+fn names_of_annotations<'a>(
     alloc: Global,
     text: &'a str,
     tree: &PolicyTree,
 ) -> Result<Vec<NameAt<'a>>, NoMemory>
     requires { IsBuiltFrom text.now (λ tokens. WellFormedPolicy tokens tree.now) }
-    ensures { IfOk result (λ marks. abstract_names marks.items ≡ annotation_marks text.entry.now tree.now) }
+    ensures { IfOk result (λ marks. abstract_names marks.items ≡ annotation_keys text.entry.now tree.now) }
 {
     let mut marks = Vec::new(alloc);
     for annotation in tree.annotations.as_slice() {
@@ -42,9 +42,9 @@ pub(crate) fn repeated_annotation(
     tree: &PolicyTree,
 ) -> Result<Option<DesugarFault>, NoMemory>
     requires { IsBuiltFrom text.now (λ tokens. WellFormedPolicy tokens tree.now) }
-    ensures { IfOk result (λ fault. fault ≡ least (repeat_faults (annotation_marks text.now tree.now))) }
+    ensures { IfOk result (λ fault. fault ≡ least (repeat_faults (annotation_keys text.now tree.now))) }
 {
-    let keys = marks_of_annotations(alloc, text, tree)?;
+    let keys = names_of_annotations(alloc, text, tree)?;
     first_duplicate(alloc, &keys)
 }
 
@@ -124,7 +124,7 @@ pub(crate) fn repeated_name(
 ) -> Result<Option<DesugarFault>, NoMemory>
     requires named { AreNamesOf text.now trees.now names.now }
     requires stands { IsBuiltFrom text.now (λ tokens. AllByRecursion (WellFormedPolicy tokens) trees.now) }
-    ensures { IfOk result (λ fault. fault ≡ least (repeat_faults (policy_marks names.now trees.now))) }
+    ensures { IfOk result (λ fault. fault ≡ least (repeat_faults (policy_names names.now trees.now))) }
 {
     repeats_stand_again();
     let wide = meets_place(text, names, trees);

@@ -5,7 +5,7 @@ ghost use Rattle.std.specs.List.{AllByRecursion};
 ghost use Rattle.desugaring.specs.Refused as spec;
 ghost use Rattle.desugaring.specs.BuiltFrom.{IsBuiltFrom};
 ghost use Rattle.policy_syntax.specs.WellFormed.{WellFormedPolicy};
-ghost use Rattle.policy_grammar.specs.inner.Parts.{TellsPolicy, TellsFile};
+ghost use Rattle.policy_grammar.specs.inner.Parts.{ReportsPolicy, ReportsFile};
 
 use crate::conditions::judge_conditions;
 use crate::limits::is_small;
@@ -42,7 +42,7 @@ pub(crate) fn judge_policy(
     tree: &PolicyTree,
 ) -> Result<Verdict, NoMemory>
     requires { IsBuiltFrom text.now (λ tokens. WellFormedPolicy tokens tree.now) }
-    ensures { IfOk result (TellsPolicy text.now tree.now) }
+    ensures { IfOk result (ReportsPolicy text.now tree.now) }
 {
     least_fault_is_told();
     let repeat = repeated_annotation(alloc, text, tree)?;
@@ -61,7 +61,7 @@ pub(crate) fn judge_policies(
     trees: &[PolicyTree],
 ) -> Result<Verdict, NoMemory>
     requires { IsBuiltFrom text.now (λ tokens. AllByRecursion (WellFormedPolicy tokens) trees.now) }
-    ensures { IfOk result (TellsFile text.now trees.now) }
+    ensures { IfOk result (ReportsFile text.now trees.now) }
 {
     least_fault_is_told();
     let mut verdict = Verdict {

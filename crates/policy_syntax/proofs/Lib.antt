@@ -1,4 +1,4 @@
 pub mod ScopeRules
-pub mod BehindScope
+pub mod ScopeTail
 pub mod Exact
 pub mod WellFormedLemmas

@@ -52,4 +52,4 @@ pub record WellFormedPolicy (ts : List Token) (p : PolicyTree) : Type 0 where
 
 -- What tokens derive is made of them.
 abbrev pub IsMadeOfTokens : {A : Type 0} → Lang A → (List Token → A → Type 0) → Type 0
-IsMadeOfTokens L Stands = (ts : List Token) (x : _) → L ts x → Stands ts x
+IsMadeOfTokens L Holds = (ts : List Token) (x : _) → L ts x → Holds ts x

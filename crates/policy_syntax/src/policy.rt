@@ -91,9 +91,9 @@ fn conditions(alloc: Global, tokens: &mut Cursor<'_>) -> Result<Items<Condition>
 }
 
 /// ")" { Condition } ";"
-#[tactic(auto, unfolding(crate::specs::inner::Parsing::behind_scope))]
-fn behind_scope(alloc: Global, tokens: &mut Cursor<'_>) -> Result<Items<Condition>, Halt>
-    ensures { ParsesTo (spec.behind_scope nesting_limit tokens.old.rest.now) result tokens.new.rest.now }
+#[tactic(auto, unfolding(crate::specs::inner::Parsing::scope_tail))]
+fn scope_tail(alloc: Global, tokens: &mut Cursor<'_>) -> Result<Items<Condition>, Halt>
+    ensures { ParsesTo (spec.scope_tail nesting_limit tokens.old.rest.now) result tokens.new.rest.now }
 {
     tokens.take(TokenKind::RParen)?;
     let conditions = conditions(alloc, tokens)?;
@@ -102,7 +102,7 @@ fn behind_scope(alloc: Global, tokens: &mut Cursor<'_>) -> Result<Items<Conditio
 }
 
 /// What stands behind a policy's scope, with what stands before.
-#[tactic(auto, using(crate::proofs::BehindScope::behind_then))]
+#[tactic(auto, using(crate::proofs::ScopeTail::tail_then))]
 fn policy_of(
     alloc: Global,
     tokens: &mut Cursor<'_>,
@@ -115,7 +115,7 @@ fn policy_of(
 {
     let ((annotations, found), conditions) = beside(
         (annotations, found),
-        behind_scope(alloc, tokens),
+        scope_tail(alloc, tokens),
     )?;
     Ok(PolicyTree {
         annotations,

@@ -5,7 +5,7 @@ use Rattle.policy_tokens.specs.declared.token.TokenKind.TheVariants.{Number}
 use Rattle.policy_tokens.specs.declared.token.Found.{Found}
 use Rattle.plain.specs.Words.{is_letter, is_digit, is_word_byte, run}
 use Rattle.policy_tokens.specs.Lexing.{kind_of_word, listed, singles, pairs, IsToken, word, number, single, pair, NoToken}
-use Rattle.policy_tokens.specs.inner.Reading.{IsFirst, TellsToken, sized, first_found, mark_of}
+use Rattle.policy_tokens.specs.inner.Reading.{IsFirst, ReportsToken, sized, first_found, mark_of}
 use Rattle.plain.proofs.Runs.{run_all, run_most, run_within}
 use Rattle.policy_tokens.proofs.FirstByte.{Class, letters, digits, others, class, OfClass, class_of_letter, class_of_digit, of_class, not_empty}
 
@@ -162,16 +162,16 @@ which : (o : Option TokenKind) → Which o
 which None = none
 which (Some k) = some k
 
-single_tells : (c : ℕ) (cs : List ℕ) → class c ≡ others → NoPair c cs → (o : Option TokenKind) → listed singles (c ∷ []) ≡ o → TellsToken (c ∷ cs) (sized 1 o)
+single_tells : (c : ℕ) (cs : List ℕ) → class c ≡ others → NoPair c cs → (o : Option TokenKind) → listed singles (c ∷ []) ≡ o → ReportsToken (c ∷ cs) (sized 1 o)
 single_tells c cs o n None l = no_mark c cs o n l
 single_tells c cs o n (Some k) l = single_found c cs k o n l
 
-pair_tells : (c d : ℕ) (rest : List ℕ) → class c ≡ others → (o : Option TokenKind) → listed pairs (c ∷ d ∷ []) ≡ o → TellsToken (c ∷ d ∷ rest) (first_found (sized 2 o) (sized 1 (listed singles (c ∷ []))))
+pair_tells : (c d : ℕ) (rest : List ℕ) → class c ≡ others → (o : Option TokenKind) → listed pairs (c ∷ d ∷ []) ≡ o → ReportsToken (c ∷ d ∷ rest) (first_found (sized 2 o) (sized 1 (listed singles (c ∷ []))))
 pair_tells c d rest o None l = single_tells c (d ∷ rest) o (λ x more e. let same : d ≡ x = cc in subst (λ (y : ℕ). listed pairs (c ∷ y ∷ []) ≡ None) same l) (listed singles (c ∷ [])) refl
 pair_tells c d rest o (Some k) l = pair_found c d rest k o l
 
 -- and at any other byte that no slot and no quoted text begins with
-pub mark_tells : (c : ℕ) (cs : List ℕ) → class c ≡ others → TellsToken (c ∷ cs) (mark_of (c ∷ cs))
+pub mark_tells : (c : ℕ) (cs : List ℕ) → class c ≡ others → ReportsToken (c ∷ cs) (mark_of (c ∷ cs))
 mark_tells c [] o = single_tells c [] o (λ d rest e. absurd (cc)) (listed singles (c ∷ [])) refl
 mark_tells c (d ∷ rest) o = pair_tells c d rest o (listed pairs (c ∷ d ∷ [])) refl
 
@@ -183,8 +183,8 @@ word_at text rest c e l = subst (λ (x : List ℕ). IsFirst (record { kind = kin
 pub number_at : (text rest : List ℕ) (c len : ℕ) → text ≡ c ∷ rest → is_digit c ≡ true → len ≡ run is_digit text → IsFirst (record { kind = Number; len = len }) text
 number_at text rest c len e l f = subst (λ (x : List ℕ). IsFirst (record { kind = Number; len = len }) x) (sym e) (number_tells c rest len l (f ∙ ap (run is_digit) e))
 
-pub mark_at : (text rest : List ℕ) (c : ℕ) (r : Option Found) → text ≡ c ∷ rest → class c ≡ others → r ≡ mark_of text → TellsToken text r
-mark_at text rest c r e o f = subst (TellsToken text) (sym f) (subst (λ (x : List ℕ). TellsToken x (mark_of x)) (sym e) (mark_tells c rest o))
+pub mark_at : (text rest : List ℕ) (c : ℕ) (r : Option Found) → text ≡ c ∷ rest → class c ≡ others → r ≡ mark_of text → ReportsToken text r
+mark_at text rest c r e o f = subst (ReportsToken text) (sym f) (subst (λ (x : List ℕ). ReportsToken x (mark_of x)) (sym e) (mark_tells c rest o))
 
 pub word_here : (text rest word : List ℕ) (c len : ℕ) (k : TokenKind) → text ≡ c ∷ rest → is_letter c ≡ true → len ≡ run is_word_byte text → word ≡ take len text → k ≡ kind_of_word word →
     IsFirst (record { kind = k; len = len }) text

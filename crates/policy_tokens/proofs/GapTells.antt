@@ -8,7 +8,7 @@ use Rattle.std.proofs.lemmas.Bool.{cases_Bool, eqb-true}
 use Rattle.std.proofs.lemmas.List.{append-nil}
 use Rattle.policy_tokens.specs.Lexing.{in_line, EndsLine, IsGap, blank, comment, NoGap}
 use Rattle.plain.specs.Words.{run}
-use Rattle.policy_tokens.specs.inner.Reading.{IsGapOf, TellsBlank}
+use Rattle.policy_tokens.specs.inner.Reading.{IsGapOf, ReportsBlank}
 use Rattle.plain.proofs.Runs.{run_all, run_within}
 
 run_ends : (cs : List ℕ) → EndsLine (drop (run in_line cs) cs)
@@ -18,7 +18,7 @@ run_ends (c ∷ cs) = elim (cases_Bool (in_line c)) [
   | inr n ↦ rw n n
 ]
 
-pub blank_found : (text : List ℕ) (len : ℕ) → TellsBlank text (Some len) → IsGapOf len text
+pub blank_found : (text : List ℕ) (len : ℕ) → ReportsBlank text (Some len) → IsGapOf len text
 blank_found text len b = record { w = encode_utf8 b.0; rest = b.1; cut = b.3; is = blank b.0 b.2 refl; long = sym b.4 }
 
 pub comment_found : (text one said : List ℕ) (first second len : ℕ) → text ≡ first ∷ one → one ≡ second ∷ said → first ≡ 47 → second ≡ 47 → len ≡ run in_line said → IsGapOf (len + 2) text
@@ -34,7 +34,7 @@ comment_found text one said first second len e f a b l =
     }
 
 -- with no blank and no two slashes at the front there is no gap
-pub no_gap : (text : List ℕ) → TellsBlank text None → ((more : List ℕ) → text ≡ 47 ∷ 47 ∷ more → ⊥) → NoGap text
+pub no_gap : (text : List ℕ) → ReportsBlank text None → ((more : List ℕ) → text ≡ 47 ∷ 47 ∷ more → ⊥) → NoGap text
 no_gap text n m w rest (blank c h e) q = n c rest h (q ∙ ap (λ (x : List ℕ). x ++ rest) e)
 no_gap text n m w rest (comment said a b e) q = m (said ++ rest) (q ∙ ap (λ (x : List ℕ). x ++ rest) e)
 
@@ -88,14 +88,14 @@ nonempty c more h = omega (arith, length-append (encode_utf8 c) more, length-enc
 true_or_false : (b : Bool) → b ≡ true → b ≡ false → ⊥
 true_or_false b y n = cc
 
-pub no_blank_at_end : (text rest : List ℕ) → rest ≡ text → length rest ≡ 0 → TellsBlank text None
+pub no_blank_at_end : (text rest : List ℕ) → rest ≡ text → length rest ≡ 0 → ReportsBlank text None
 no_blank_at_end text rest e z c more h q = nonempty c more (ap length (sym q) ∙ (ap length (sym e) ∙ z))
 
-pub no_blank : (text rest tail : List ℕ) (c : ℕ) → rest ≡ text → rest ≡ encode_utf8 c ++ tail → is_whitespace c ≡ false → TellsBlank text None
+pub no_blank : (text rest tail : List ℕ) (c : ℕ) → rest ≡ text → rest ≡ encode_utf8 c ++ tail → is_whitespace c ≡ false → ReportsBlank text None
 no_blank text rest tail c e f n d more h q =
     let same = (encode_same c d tail more (sym f ∙ (e ∙ q))).0 in
     let y : is_whitespace c ≡ true = ap is_whitespace same ∙ h in
     true_or_false (is_whitespace c) y n
 
-pub found_blank : (text rest tail : List ℕ) (c len : ℕ) → rest ≡ text → rest ≡ encode_utf8 c ++ tail → is_whitespace c ≡ true → len ≡ len_utf8 c → TellsBlank text (Some len)
+pub found_blank : (text rest tail : List ℕ) (c len : ℕ) → rest ≡ text → rest ≡ encode_utf8 c ++ tail → is_whitespace c ≡ true → len ≡ len_utf8 c → ReportsBlank text (Some len)
 found_blank text rest tail c len e f w l = (c, tail, w, sym e ∙ f, l ∙ sym (length-encode c))

@@ -8,7 +8,7 @@ use Rattle.policy_tokens.specs.declared.token.TokenKind.TheVariants.{Number, Tex
 use Rattle.policy_tokens.specs.declared.token.Found.{Found}
 use Rattle.policy_tokens.specs.declared.piece.Piece.{Piece}
 use Rattle.policy_tokens.specs.Lexing.{kind_of_word, IsEscape, NoToken}
-use Rattle.policy_tokens.specs.inner.Reading.{kind_with, IsFirst, TellsToken, mark_of}
+use Rattle.policy_tokens.specs.inner.Reading.{kind_with, IsFirst, ReportsToken, mark_of}
 use Rattle.policy_tokens.proofs.Escapes.{shaped}
 use Rattle.policy_tokens.proofs.FirstByte.{class_of_other}
 use Rattle.policy_tokens.proofs.FrontTells.{at_end, word_found, number_found, mark_tells}
@@ -54,7 +54,7 @@ some_slot text rest q = elim (cases_Bool (starts_with nat_eq text (codes "?princ
   ]
 ]
 
-as_told : (text : List ℕ) (o : Option Found) → TellsToken text o → MayBegin text
+as_told : (text : List ℕ) (o : Option Found) → ReportsToken text o → MayBegin text
 as_told text None n = inr n
 as_told text (Some f) i = inl (f, i)
 

@@ -1,10 +1,11 @@
 -- The kind of a token tells whether it is an identifier or a reserved word.
-use Rattle.std.proofs.Common.{◌≡◌, ℕ, zero, suc, Bool, true, false, not, ◌&&◌, List, [], ◌∷◌, ◌⊎◌, inl, inr, refl, sym, ◌∙◌, ap, subst, arith, Option, Some, None, if◌then◌else◌}
+use Rattle.std.proofs.Common.{◌≡◌, ℕ, Bool, true, false, not, ◌&&◌, List, [], ◌∷◌, ◌⊎◌, inl, inr, refl, sym, ◌∙◌, ap, subst, arith, Option, Some, None, if◌then◌else◌}
 use Rattle.std.specs.Prelude.{Contains, map}
 use Rattle.std.specs.List.{list_all}
 use Rattle.std.specs.Str.{bytes_eq}
 use Rattle.std.proofs.lemmas.Bool.{cases_Bool, and_parts}
 use Rattle.std.proofs.lemmas.Slice.Eq.{bytes_eq-Decides}
+use Rattle.plain.proofs.Members.{Contains-here, Contains-there, Contains-cases}
 use Rattle.plain.specs.Words.{is_letter, IsWord, reserved_words, IsReserved, IsIdent}
 use Rattle.policy_tokens.specs.declared.token.TokenKind.{TokenKind}
 use Rattle.policy_tokens.specs.declared.token.TokenKind.TheVariants.{Ident, Text, StarText}
@@ -32,16 +33,6 @@ listed_passes test (e ∷ table) a w k h =
       | inr n ↦ let g : listed table w ≡ Some k = rw n at h in listed_passes test table both.1 w k g
     ]
 
-here : (x : List ℕ) (xs : List (List ℕ)) → Contains (x ∷ xs) x
-here x xs = (0, omega arith, refl)
-
-there : (x y : List ℕ) (xs : List (List ℕ)) → Contains xs y → Contains (x ∷ xs) y
-there x y xs c = (suc c.0, omega (arith, c.1), c.2)
-
-contains_cases : (x y : List ℕ) (xs : List (List ℕ)) → Contains (x ∷ xs) y → (x ≡ y) ⊎ Contains xs y
-contains_cases x y xs (zero, l, e) = inl e
-contains_cases x y xs (suc k, l, e) = inr (k, omega arith, e)
-
 abbrev spellings : List Entry → List (List ℕ)
 spellings table = map (λ e. e.spelling) table
 
@@ -49,8 +40,8 @@ spellings table = map (λ e. e.spelling) table
 listed_contains : (table : List Entry) (w : List ℕ) (k : TokenKind) → listed table w ≡ Some k → Contains (spellings table) w
 listed_contains [] w k h = absurd (cc)
 listed_contains (e ∷ table) w k h = elim (cases_Bool (bytes_eq e.spelling w)) [
-  | inl y ↦ subst (λ (s : List ℕ). Contains (e.spelling ∷ spellings table) s) (same_spelling e.spelling w y) (here e.spelling (spellings table))
-  | inr n ↦ let g : listed table w ≡ Some k = rw n at h in there e.spelling w (spellings table) (listed_contains table w k g)
+  | inl y ↦ subst (λ (s : List ℕ). Contains (e.spelling ∷ spellings table) s) (same_spelling e.spelling w y) (Contains-here e.spelling (spellings table))
+  | inr n ↦ let g : listed table w ≡ Some k = rw n at h in Contains-there e.spelling (spellings table) w (listed_contains table w k g)
 ]
 
 -- and one that it lacks is none
@@ -60,7 +51,7 @@ unlisted_lacks (e ∷ table) w h c = elim (cases_Bool (bytes_eq e.spelling w)) [
   | inl y ↦ let g : Some e.kind ≡ None = rw y at h in cc
   | inr n ↦
       let g : listed table w ≡ None = rw n at h in
-      elim (contains_cases e.spelling w (spellings table) c) [
+      elim (Contains-cases e.spelling (spellings table) w c) [
         | inl same ↦ let y : bytes_eq e.spelling w ≡ true = (bytes_eq-Decides e.spelling w).1 same in cc
         | inr more ↦ unlisted_lacks table w g more
       ]

@@ -1,6 +1,6 @@
 //! The token at the front of a text.
 ghost use Rattle.std.specs.Prelude.{◌≡◌, ◌<◌, ◌++◌, List, codes, ℕ};
-ghost use Rattle.policy_tokens.specs.inner.Reading.{TellsToken, mark_of};
+ghost use Rattle.policy_tokens.specs.inner.Reading.{ReportsToken, mark_of};
 
 use crate::quoted::quoted;
 use crate::token::{Found, TokenKind};
@@ -24,7 +24,7 @@ pub(crate) fn mark(text: &[u8]) -> Option<Found>
 /// The slot that a text begins with.
 pub(crate) fn slot(text: &[u8]) -> Option<Found>
     requires { (rest : List ℕ) × (text.now ≡ codes "?" ++ rest) }
-    ensures { TellsToken text.now result }
+    ensures { ReportsToken text.now result }
 {
     if text.starts_with(b"?principal") {
         Some(Found {
@@ -43,7 +43,7 @@ pub(crate) fn slot(text: &[u8]) -> Option<Found>
 
 /// The token that a text begins with.
 pub(crate) fn front(text: &str) -> Option<Found>
-    ensures { TellsToken text.now result }
+    ensures { ReportsToken text.now result }
 {
     let bytes = text.as_bytes();
     let (first, _rest) = bytes.split_first()?;

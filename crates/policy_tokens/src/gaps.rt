@@ -2,7 +2,7 @@
 ghost use Rattle.std.specs.Prelude.{◌≡◌, ◌≤◌, length};
 ghost use Rattle.policy_tokens.specs.Lexing.{in_line};
 ghost use Rattle.plain.specs.Words.{run};
-ghost use Rattle.policy_tokens.specs.inner.Reading.{TellsBlank, TellsGap};
+ghost use Rattle.policy_tokens.specs.inner.Reading.{ReportsBlank, ReportsGap};
 
 /// Whether a comment goes on over this byte.
 #[tactic(auto, unfolding(crate::specs::Lexing::in_line))]
@@ -29,7 +29,7 @@ fn line_len(text: &[u8]) -> usize
 
 /// The blank that a text begins with: its number of bytes.
 fn blank(text: &str) -> Option<usize>
-    ensures { TellsBlank text.now result }
+    ensures { ReportsBlank text.now result }
 {
     let Some(c) = text.chars().next() else {
         return None;
@@ -43,7 +43,7 @@ fn blank(text: &str) -> Option<usize>
 
 /// The blank or comment that a text begins with: its number of bytes.
 pub(crate) fn gap(text: &str) -> Option<usize>
-    ensures { TellsGap text.now result }
+    ensures { ReportsGap text.now result }
 {
     if let Some(len) = blank(text) {
         return Some(len);

@@ -4,7 +4,7 @@ ghost use Rattle.std.specs.Option.{SomeIff};
 ghost use Rattle.std.specs.Char.{digit_value};
 ghost use Rattle.plain.specs.Words.{AllAre, run};
 ghost use Rattle.policy_tokens.specs.Lexing.{quote, backslash, escaped, is_hex, hex_after};
-ghost use Rattle.policy_tokens.specs.inner.Reading.{kind_with, TellsEscape, TellsToken};
+ghost use Rattle.policy_tokens.specs.inner.Reading.{kind_with, ReportsEscape, ReportsToken};
 
 use crate::piece::{Escape, Piece};
 use crate::token::{Found, TokenKind};
@@ -58,7 +58,7 @@ fn hex_value(byte: u8) -> Option<u32>
 
 /// The escape that two hexadecimal digits up to 7F make after `\x`.
 fn short_escape(text: &[u8]) -> Option<Escape>
-    ensures { TellsEscape (backslash ∷ 120 ∷ text.now) result }
+    ensures { ReportsEscape (backslash ∷ 120 ∷ text.now) result }
 {
     let (high, rest) = text.split_first()?;
     let (low, _) = rest.split_first()?;
@@ -88,7 +88,7 @@ fn hex_number(digits: &[u8]) -> u32
 
 /// The escape that hexadecimal digits in braces make after `\u`.
 fn long_escape(text: &[u8]) -> Option<Escape>
-    ensures { TellsEscape (backslash ∷ 117 ∷ text.now) result }
+    ensures { ReportsEscape (backslash ∷ 117 ∷ text.now) result }
 {
     let (brace, rest) = text.split_first()?;
     if *brace != b'{' {
@@ -119,7 +119,7 @@ fn long_escape(text: &[u8]) -> Option<Escape>
 /// The escape that a text begins with, at a backslash.
 pub(crate) fn escape(text: &[u8]) -> Option<Escape>
     requires { (rest : List ℕ) × (text.now ≡ backslash ∷ rest) }
-    ensures { TellsEscape text.now result }
+    ensures { ReportsEscape text.now result }
 {
     let (_, rest) = text.split_first()?;
     let (letter, rest) = rest.split_first()?;
@@ -150,7 +150,7 @@ fn kind_with(kind: TokenKind, piece: Piece) -> TokenKind
 /// The quoted text that a text begins with, at a quote.
 pub(crate) fn quoted(text: &[u8]) -> Option<Found>
     requires { (rest : List ℕ) × (text.now ≡ quote ∷ rest) }
-    ensures { TellsToken text.now result }
+    ensures { ReportsToken text.now result }
 {
     let mut kind = TokenKind::Text;
     let mut at = 1;

@@ -49,7 +49,7 @@ fn character(piece: Piece) -> char
 {
     match piece {
         Piece::Char(c) => c,
-        _ => '*',
+        Piece::Byte(_) | Piece::Star => '*',
     }
 }
 

@@ -67,7 +67,7 @@ module _ {R W : Type 0} (left : R → Option (List ℕ)) (reads : R → ℕ → 
   pub begun_part : IsPart → IsBegun left holds request r r2 w w2
   begun_part h = record { bytes = h.0; front = h.1; back = h.2; read = h.3; joined = sym is ∙ h.4; written = h.5 }
 
-  pub record Tells (fault : FetchFault) : Type 0 where
+  pub record Reports (fault : FetchFault) : Type 0 where
     pub bad : fault ≡ fetch.BadReply → (bytes : List ℕ) × (front : List ℕ) × Consumes (left r) (left r2) bytes
         × Appends (holds w) (holds w2) text × IsBadReply bytes × IsUnfinishedReply front × EndsByOneRead left reads r r2 bytes front
     pub ended : fault ≡ fetch.Ended → (bytes : List ℕ) × Consumes (left r) (left r2) bytes
@@ -80,7 +80,7 @@ module _ {R W : Type 0} (left : R → Option (List ℕ)) (reads : R → ℕ → 
   abbrev Unanswered : NetworkFault → Type 0
   Unanswered f = IsUnanswered left reads read_failed read_fails holds write_failed write_fails request r r2 w w2 f
 
-  pub unanswered : (fault : FetchFault) → Tells fault → (f : NetworkFault) → pull_fault fault ≡ Network f → Unanswered f
+  pub unanswered : (fault : FetchFault) → Reports fault → (f : NetworkFault) → pull_fault fault ≡ Network f → Unanswered f
   unanswered fetch.Read t f e =
       let same : network.Read ≡ f = cc in
       let h = t.read refl in

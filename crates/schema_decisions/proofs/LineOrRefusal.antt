@@ -18,10 +18,10 @@ use Rattle.validator.specs.Passing.{Passes}
 use Rattle.validator.specs.Outcomes as checks
 use Rattle.decision_texts.specs.declared.refusal.Refusal.{Refusal}
 use Rattle.decision_texts.specs.Lines.{answer_line}
-use Rattle.decision_texts.specs.Decisions.{ArePoliciesOf, ArePoliciesRefused, named_policies}
+use Rattle.decision_texts.specs.Decisions.{ArePoliciesOf, named_policies}
 use Rattle.policy_checks.specs.Refusals.{schema_refusal, check_refusal}
 use Rattle.policy_checks.specs.Outcomes as texts
-use Rattle.policy_checks.specs.Outcomes.{TextsComeTo, TextsHaveOneOutcome}
+use Rattle.policy_checks.specs.Outcomes.{IsOutcomeOfTexts, TextsHaveOneOutcome}
 use Rattle.schema_decisions.specs.Refusals.{entity_refusal}
 use Rattle.schema_decisions.specs.Policies.{ArePassing, FirstUnpassed, unpassed_here, unpassed_later, unread, unpassed}
 use Rattle.schema_decisions.specs.EntityArrays.{entities_of}
@@ -29,6 +29,7 @@ use Rattle.schema_decisions.specs.Requests.{IsRequestText}
 use Rattle.schema_decisions.specs.Decisions.{world_under, IsAnswered, IsUnanswered, by_entities, by_request, IsDecidedUnder, IsRefusedUnder}
 use Rattle.schema_decisions.specs.Decisions.{by_policies, by_question, IsDecided, IsRefused, by_schema, under_schema}
 use Rattle.schema_decisions.specs.Outcomes.{LineOrRefusal}
+use Rattle.decision_texts.proofs.PolicyTexts.{PoliciesOrNone}
 use Rattle.decision_texts.proofs.NameLemmas.{some_order}
 use Rattle.schema_decisions.proofs.StoreLemmas.{with_parents, all_parents}
 
@@ -42,14 +43,8 @@ pub record Laws : Type 0 where
   pub answers : OneAnswerInFiniteHierarchies
 
 module _ (laws : Laws) where
-  -- ---- the file of policies
-
-  abbrev PoliciesOrNone : List ℕ → Type 0
-  PoliciesOrNone bytes =
-      ((file : List (List ℕ) × List Policy) × ArePoliciesOf bytes file.0 file.1) ⊎ ((refusal : Refusal) × ArePoliciesRefused bytes refusal)
-
   -- what the texts of a schema and of policies come to
-  come : (bytes policies : List ℕ) (s : StatedSchema) → IsSchemaOf bytes s → (c : texts.Come) → TextsComeTo bytes policies c → PoliciesOrNone policies
+  come : (bytes policies : List ℕ) (s : StatedSchema) → IsSchemaOf bytes s → (c : texts.CheckOutcome) → IsOutcomeOfTexts bytes policies c → PoliciesOrNone policies
   come bytes policies s states (texts.checked text some_refused) is = inl ((is.file_told.names, is.file_told.cores), is.file_told.file)
   come bytes policies s states (texts.refused refusal) (inl none) = absurd (laws.no_schema bytes s none.fault states none.due)
   come bytes policies s states (texts.refused refusal) (inr none) = inr (refusal, none.refused)

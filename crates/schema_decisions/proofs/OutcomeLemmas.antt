@@ -1,11 +1,10 @@
 -- Four texts have one outcome.
-use Rattle.std.proofs.Common.{◌≡◌, ◌∙◌, ℕ, suc, List, [], ◌∷◌, Option, Some, None, Result, Ok, Err, MatchOption, inl, inr, sym, ap, subst, arith}
+use Rattle.std.proofs.Common.{◌≡◌, ◌∙◌, ℕ, suc, List, [], ◌∷◌, Option, Some, None, Result, Ok, Err, MatchOption, inr, sym, ap, subst}
 use Rattle.std.specs.Prelude.{All}
 use Rattle.std.proofs.lemmas.List.Elements.{All-head, All-tail}
 use Rattle.serde_json.specs.Data.{Data}
 use Rattle.json_words.specs.Json.{json_of}
 use Rattle.values.specs.declared.request.Request.{Request}
-use Rattle.policy_grammar.specs.declared.fault.ReadFault.{ReadFault}
 use Rattle.policy_grammar.specs.declared.policy.Policy.{Policy}
 use Rattle.policy_grammar.specs.PolicyText.{IsFileRefused}
 use Rattle.policy_grammar.specs.Unique.{HasOneReading, IsFileOf, EachIsNamed, NamesDiffer}
@@ -25,7 +24,7 @@ use Rattle.validator.specs.Passing.{Passes, IsRefused}
 use Rattle.validator.specs.Outcomes as checks
 use Rattle.decision_texts.specs.declared.refusal.Refusal.{Refusal}
 use Rattle.decision_texts.specs.Lines.{answer_line}
-use Rattle.decision_texts.specs.Decisions.{ArePoliciesOf, ArePoliciesRefused, IsFileFault, named_policies}
+use Rattle.decision_texts.specs.Decisions.{ArePoliciesOf, ArePoliciesRefused, named_policies}
 use Rattle.policy_checks.specs.Refusals.{schema_refusal, check_refusal}
 use Rattle.policy_checks.specs.Outcomes as texts
 use Rattle.policy_checks.specs.Outcomes.{TextsHaveOneOutcome}
@@ -38,6 +37,7 @@ use Rattle.schema_decisions.specs.Decisions.{world_under, IsAnswerTo, IsAnswered
 use Rattle.schema_decisions.specs.Decisions.{IsDecidedUnder, IsRefusedUnder, by_policies, by_question, by_schema, under_schema}
 use Rattle.schema_decisions.specs.Outcomes.{OneLine, NotBoth, OneRefusal, ListsOfLinesAscend, MemberOfDecidesAlike}
 use Rattle.schema_decisions.proofs.StoreLemmas.{with_parents, all_parents}
+use Rattle.decision_texts.proofs.PolicyTexts.{file_or_fault}
 use Rattle.decision_texts.proofs.NameLemmas.{HaveOwnNames, own_names, one_order, ids_ascend}
 
 -- the laws of what the texts are made of
@@ -68,15 +68,9 @@ ok_or_err r x y h g = cc
 module _ (laws : Laws) where
   -- ---- the file of policies
 
-  file_or_fault : (bytes : List ℕ) (names : List (List ℕ)) (cores : List Policy) (fault : ReadFault) → ArePoliciesOf bytes names cores
-      → IsFileFault bytes fault → ⊥
-  file_or_fault bytes names cores fault are (inl long) = let over = long.0 in let short = are.file.derives.short in absurd (omega arith)
-  file_or_fault bytes names cores fault are (inr (inl bad)) = bad.1 are.utf8
-  file_or_fault bytes names cores fault are (inr (inr due)) = laws.files.not_both bytes (names, cores) fault are.file due.2
-
   read_or_refused : (bytes : List ℕ) (names : List (List ℕ)) (cores : List Policy) (refusal : Refusal) → ArePoliciesOf bytes names cores
       → ArePoliciesRefused bytes refusal → ⊥
-  read_or_refused bytes names cores refusal are refused = file_or_fault bytes names cores refused.fault are refused.due
+  read_or_refused bytes names cores refusal are refused = file_or_fault laws.files bytes names cores refused.fault are refused.due
 
   same_refusal : (a b : Refusal) → texts.refused a ≡ texts.refused b → a ≡ b
   same_refusal a b e = cc

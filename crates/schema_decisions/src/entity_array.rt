@@ -7,7 +7,7 @@ ghost use Rattle.schema.specs.Views.{schema_view};
 ghost use Rattle.entities.specs.Entities.{entity_in};
 ghost use Rattle.decision_texts.specs.Refusals.{no_memory, bad_shape};
 ghost use Rattle.schema_decisions.specs.EntityArrays.{placed, entities_in, entities_of};
-ghost use Rattle.schema_decisions.specs.inner.Stores.{GivesStore};
+ghost use Rattle.schema_decisions.specs.inner.Stores.{ReadsStore};
 
 use crate::refusal::entity_refusal;
 use decision_texts::Refusal;
@@ -43,7 +43,7 @@ fn read_entity_at(
 
 /// The entities of an array, each the only one of its uid. The JSON of each is given up before the next is read.
 fn read_array(alloc: Global, schema: &Schema, values: Vec<Value>) -> Result<EntityStore, Refusal>
-    ensures { GivesStore result (entities_in (schema_view schema.now) (items_view values.items)) }
+    ensures { ReadsStore result (entities_in (schema_view schema.now) (items_view values.items)) }
 {
     let count = values.len();
     let mut rest = VecDeque::from_vec(values);
@@ -79,7 +79,7 @@ pub(crate) fn read_entities(
     schema: &Schema,
     text: &[u8],
 ) -> Result<EntityStore, Refusal>
-    ensures { GivesStore result (entities_of (schema_view schema.now) text.now) }
+    ensures { ReadsStore result (entities_of (schema_view schema.now) text.now) }
 {
     let Some(value) = read_json(alloc, text)? else {
         return Err(bad_shape(None));

@@ -1,5 +1,5 @@
 -- In each type that a file states the keys ascend, since those of the file's objects do.
-use Rattle.std.proofs.Common.{◌≡◌, ◌∙◌, ◌⊎◌, ℕ, zero, suc, arith, false, List, [], ◌∷◌, Option, Some, None, Result, Ok, refl, sym, ap, subst, inl, inr}
+use Rattle.std.proofs.Common.{◌≡◌, ◌∙◌, ◌⊎◌, ℕ, false, List, [], ◌∷◌, Option, Some, None, Result, Ok, refl, sym, ap, subst, inl, inr}
 use Rattle.std.specs.Prelude.{codes, Contains}
 use Rattle.std.specs.Ordering.{match_ordering, nat_cmp}
 use Rattle.std.specs.Cmp.Lexicographic.{slice_cmp}
@@ -8,6 +8,7 @@ use Rattle.std.specs.declared.cmp.Ordering.TheVariants.{Less, Equal, Greater}
 use Rattle.std.specs.List.Sorted.{IsStrictlySortedBy}
 use Rattle.serde_json.specs.Data.{Data, null, boolean, number, string, array, object, Members, no_members, member}
 use Rattle.serde_json.specs.Find.{get, get_member, as_object}
+use Rattle.plain.proofs.Members.{Contains-cases, Contains-none}
 use Rattle.json_words.specs.ReadsAs.{◌>>=◌, demand, or_fault}
 use Rattle.json_words.specs.Each.{each_member}
 use Rattle.json_words.specs.Keys.{has_only}
@@ -100,24 +101,17 @@ optional_members k d ms h e = members_at (optional k d) ms (λ x at. optional_as
 
 -- ---- each member that was read
 
-no_item : {A B : Type 0} (x : A) → Contains [] x → B
-no_item x (k, lt, e) = absurd (omega (arith, lt))
-
-item_cases : {A : Type 0} (x : A) (xs : List A) (y : A) → Contains (x ∷ xs) y → (x ≡ y) ⊎ Contains xs y
-item_cases x xs y (zero, lt, e) = inl e
-item_cases x xs y (suc k, lt, e) = inr (k, omega (arith, lt), e)
-
 module _ {B : Type 0} (f : List ℕ → Data → Result B SchemaFault) where
   abbrev From : B → Type 0
   From x = (k : List ℕ) × (d : Data) × (f k d ≡ ok x) × DataAscends d
 
   read_from : (ms : Members) (xs : List B) → each_member f ms ≡ ok xs → MembersAscend ms → (x : B) → Contains xs x → From x
   unfolding each_member
-  read_from no_members xs e h x here = no_item x (subst (λ (l : List B). Contains l x) (sym (ok_same [] xs e)) here)
+  read_from no_members xs e h x here = Contains-none x (subst (λ (l : List B). Contains l x) (sym (ok_same [] xs e)) here)
   read_from (member k d ms) xs e h x here =
       let a = bind_ok (f k d) (λ y. each_member f ms >>= λ ys. ok (y ∷ ys)) xs e in
       let b = bind_ok (each_member f ms) (λ ys. ok (a.0 ∷ ys)) xs a.2 in
-      by a.0 b.0 a.1 (item_cases a.0 b.0 x (subst (λ (l : List B). Contains l x) (sym (ok_same (a.0 ∷ b.0) xs b.2)) here)) (λ later. read_from ms b.0 b.1 h.1 x later)
+      by a.0 b.0 a.1 (Contains-cases a.0 b.0 x (subst (λ (l : List B). Contains l x) (sym (ok_same (a.0 ∷ b.0) xs b.2)) here)) (λ later. read_from ms b.0 b.1 h.1 x later)
     where
       by : (y : B) (ys : List B) → f k d ≡ ok y → (y ≡ x) ⊎ Contains ys x → (Contains ys x → From x) → From x
       by y ys one (inl same) later = (k, d, one ∙ ap (λ (z : B). ok z) same, h.0)

@@ -6,15 +6,14 @@ use Rattle.std.proofs.lemmas.Bool.{cases_Bool}
 use Rattle.std.proofs.lemmas.Slice.Eq.{bytes_eq-Decides}
 use Rattle.serde_json.specs.Data.{Data}
 use Rattle.json_words.specs.Json.{json_of}
-use Rattle.plain.proofs.Members.{Contains-here, Contains-there}
+use Rattle.plain.proofs.Members.{Contains-here, Contains-there, Contains-cases}
 use Rattle.schema_types.specs.declared.fault.SchemaFault.{SchemaFault}
 use Rattle.schema_file.specs.Stated.{NamespaceOf, stated}
 use Rattle.schema_names.specs.Qualifying.{CommonOf, commons_declared, scope_in, FoundSchema, qualified}
 use Rattle.schema_names.specs.Records.{SomeIsNoRecord}
-use Rattle.schema_names.specs.inner.Spreading.{means_now, NamesNoRecord, TellsRecords, are_records}
+use Rattle.schema_names.specs.inner.Spreading.{means_now, NamesNoRecord, ReportsRecords, are_records}
 use Rattle.schema_names.specs.Naming.{no_record, unknown, not_json, bad_shape, bad_names}
 use Rattle.schema_names.specs.Laws.{NamesOrRefusal, SomeOutcome, states, refused}
-use Rattle.schema_names.proofs.FoundLemmas.{member_cases}
 use Rattle.schema_names.proofs.FollowLemmas.{Known, IsSo, IsDone, found_so, all_found}
 use Rattle.schema_names.proofs.RecordLemmas.{all_records, some_record}
 
@@ -45,7 +44,7 @@ module _ (ns : List NamespaceOf) where
   one_less : (c : CommonOf) (known : Known) (cs : List CommonOf) → Contains cs c → known c.name ≡ false → unfound (adding c.name known) cs < unfound known cs
   unfolding unfound adding
   one_less c known [] (k, lt, e) none = absurd (omega (arith, lt))
-  one_less c known (d ∷ cs) here none = by (member_cases d cs c here) (no_more c.name known cs) (λ later. one_less c known cs later none)
+  one_less c known (d ∷ cs) here none = by (Contains-cases d cs c here) (no_more c.name known cs) (λ later. one_less c known cs later none)
     where
       first : (a b : Bool) {m n : ℕ} → a ≡ true → b ≡ false → m ≤ n → cond (a || b) 0 1 + m < cond b 0 1 + n
       first true true x y le = absurd (true≢false y)
@@ -79,7 +78,7 @@ module _ (ns : List NamespaceOf) where
       more done one c (inr there) m = done c there m
 
       late : (means_now known (scope_in ns) d.own d.type ≡ true → known d.name ≡ true) → IsDone ns known cs ⊎ Next known cs → IsDone ns known (d ∷ cs) ⊎ Next known (d ∷ cs)
-      late one (inl done) = inl (λ c here m. more done one c (member_cases d cs c here) m)
+      late one (inl done) = inl (λ c here m. more done one c (Contains-cases d cs c here) m)
       late one (inr (c, there, m, none)) = inr (c, Contains-there d cs c there, m, none)
 
       by : (means_now known (scope_in ns) d.own d.type ≡ true) ⊎ (means_now known (scope_in ns) d.own d.type ≡ false) → (known d.name ≡ true) ⊎ (known d.name ≡ false) → IsDone ns known cs ⊎ Next known cs
@@ -119,10 +118,10 @@ module _ (ns : List NamespaceOf) where
   pub records_decided : (SomeIsNoRecord ns → ⊥) ⊎ SomeIsNoRecord ns
   records_decided =
       let k = settle (unfound (λ q. false) (commons_declared ns)) (λ q. false) (omega arith) (λ q e. absurd (true≢false (sym e))) in
-      let tells : TellsRecords ns k.0 = record { sound = λ own r m. found_so ns k.0 own r k.1 m; complete = all_found ns k.0 k.2 } in
+      let tells : ReportsRecords ns k.0 = record { sound = λ own r m. found_so ns k.0 own r k.1 m; complete = all_found ns k.0 k.2 } in
       by k.0 tells (cases_Bool (are_records k.0 (scope_in ns) ns))
     where
-      by : (known : Known) → TellsRecords ns known → (are_records known (scope_in ns) ns ≡ true) ⊎ (are_records known (scope_in ns) ns ≡ false) → (SomeIsNoRecord ns → ⊥) ⊎ SomeIsNoRecord ns
+      by : (known : Known) → ReportsRecords ns known → (are_records known (scope_in ns) ns ≡ true) ⊎ (are_records known (scope_in ns) ns ≡ false) → (SomeIsNoRecord ns → ⊥) ⊎ SomeIsNoRecord ns
       by known t (inl all) = inl (all_records ns known t all)
       by known t (inr not_all) = inr (some_record ns known t not_all)
 

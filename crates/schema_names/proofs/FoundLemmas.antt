@@ -1,5 +1,5 @@
 -- What is found comes from what is stated, and what is stated is found.
-use Rattle.std.proofs.Common.{◌≡◌, ◌∙◌, ◌⊎◌, inl, inr, ℕ, suc, zero, List, [], ◌∷◌, map, Bool, true, false, Option, Some, None, Result, Ok, refl, sym, ap, arith, subst, true≢false}
+use Rattle.std.proofs.Common.{◌≡◌, ◌∙◌, ◌⊎◌, inl, inr, ℕ, suc, List, [], ◌∷◌, map, Bool, true, false, Option, Some, None, Result, Ok, refl, sym, ap, subst, true≢false}
 use Rattle.std.specs.Prelude.{◌||◌, Contains}
 use Rattle.std.specs.List.{list_any}
 use Rattle.std.specs.Str.{bytes_eq}
@@ -9,7 +9,7 @@ use Rattle.json_words.specs.ReadsAs.{◌>>=◌}
 use Rattle.json_words.specs.Each.{each}
 use Rattle.json_words.proofs.EachLemmas.{bind_ok}
 use Rattle.values.specs.declared.entity_uid.EntityUid.{EntityUid}
-use Rattle.plain.proofs.Members.{Contains-here, Contains-there}
+use Rattle.plain.proofs.Members.{Contains-here, Contains-there, Contains-cases, Contains-none}
 use Rattle.schema_types.specs.Raw.{Raw}
 use Rattle.schema_types.specs.Qualified.{Qualified}
 use Rattle.schema_types.specs.WrittenOut.{Declarations, Declares}
@@ -38,13 +38,6 @@ some_same x y e = cc
 none_some : {B A : Type 0} {x : A} → None ≡ some x → B
 none_some e = absurd cc
 
-no_member : {A B : Type 0} (x : A) → Contains [] x → B
-no_member x (k, lt, e) = absurd (omega (arith, lt))
-
-pub member_cases : {A : Type 0} (x : A) (xs : List A) (y : A) → Contains (x ∷ xs) y → (x ≡ y) ⊎ Contains xs y
-member_cases x xs y (zero, lt, e) = inl e
-member_cases x xs y (suc k, lt, e) = inr (k, omega (arith, lt), e)
-
 -- ---- reading each
 
 -- f reads x as y, at some place
@@ -57,11 +50,11 @@ From {A = A} f xs y = (x : A) × Contains xs x × Reads f x y
 -- each that was read comes from one of the list
 pub read_from : {A B : Type 0} (f : ℕ → A → Result B SchemaFault) (k : ℕ) (xs : List A) (ys : List B) → each f k xs ≡ ok ys → (y : B) → Contains ys y → From f xs y
 unfolding each
-read_from {B = B} f k [] ys e y here = no_member y (subst (λ (l : List B). Contains l y) (sym (ok_same [] ys e)) here)
+read_from {B = B} f k [] ys e y here = Contains-none y (subst (λ (l : List B). Contains l y) (sym (ok_same [] ys e)) here)
 read_from {A = A} {B = B} f k (x ∷ xs) ys e y here =
     let a = bind_ok (f k x) (λ z. each f (suc k) xs >>= λ zs. ok (z ∷ zs)) ys e in
     let b = bind_ok (each f (suc k) xs) (λ zs. ok (a.0 ∷ zs)) ys a.2 in
-    by a.0 b.0 a.1 (member_cases a.0 b.0 y (subst (λ (l : List B). Contains l y) (sym (ok_same (a.0 ∷ b.0) ys b.2)) here)) (λ later. read_from f (suc k) xs b.0 b.1 y later)
+    by a.0 b.0 a.1 (Contains-cases a.0 b.0 y (subst (λ (l : List B). Contains l y) (sym (ok_same (a.0 ∷ b.0) ys b.2)) here)) (λ later. read_from f (suc k) xs b.0 b.1 y later)
   where
     more : From f xs y → From f (x ∷ xs) y
     more (z, there, reads) = (z, Contains-there x xs z there, reads)
@@ -76,11 +69,11 @@ To {B = B} f x ys = (y : B) × Contains ys y × Reads f x y
 -- each of the list was read
 pub read_to : {A B : Type 0} (f : ℕ → A → Result B SchemaFault) (k : ℕ) (xs : List A) (ys : List B) → each f k xs ≡ ok ys → (x : A) → Contains xs x → To f x ys
 unfolding each
-read_to f k [] ys e x here = no_member x here
+read_to f k [] ys e x here = Contains-none x here
 read_to {A = A} {B = B} f k (z ∷ xs) ys e x here =
     let a = bind_ok (f k z) (λ w. each f (suc k) xs >>= λ ws. ok (w ∷ ws)) ys e in
     let b = bind_ok (each f (suc k) xs) (λ ws. ok (a.0 ∷ ws)) ys a.2 in
-    subst (λ (l : List B). To f x l) (ok_same (a.0 ∷ b.0) ys b.2) (by a.0 b.0 a.1 (member_cases z xs x here) (λ later. read_to f (suc k) xs b.0 b.1 x later))
+    subst (λ (l : List B). To f x l) (ok_same (a.0 ∷ b.0) ys b.2) (by a.0 b.0 a.1 (Contains-cases z xs x here) (λ later. read_to f (suc k) xs b.0 b.1 x later))
   where
     more : (w : B) (ws : List B) → To f x ws → To f x (w ∷ ws)
     more w ws (y, there, reads) = (y, Contains-there w ws y there, reads)
@@ -92,7 +85,7 @@ read_to {A = A} {B = B} f k (z ∷ xs) ys e x here =
 -- ---- all of several lists
 
 pub all_of_from : {A B : Type 0} (g : A → List B) (xs : List A) (y : B) → Contains (all_of g xs) y → (x : A) × Contains xs x × Contains (g x) y
-all_of_from g [] y here = no_member y here
+all_of_from g [] y here = Contains-none y here
 all_of_from {A = A} {B = B} g (x ∷ xs) y here = by (Contains-append_cases (g x) (all_of g xs) y here) (λ later. all_of_from g xs y later)
   where
     more : ((z : A) × Contains xs z × Contains (g z) y) → (z : A) × Contains (x ∷ xs) z × Contains (g z) y
@@ -103,16 +96,16 @@ all_of_from {A = A} {B = B} g (x ∷ xs) y here = by (Contains-append_cases (g x
     by (inr there) later = more (later there)
 
 pub all_of_to : {A B : Type 0} (g : A → List B) (xs : List A) (x : A) (y : B) → Contains xs x → Contains (g x) y → Contains (all_of g xs) y
-all_of_to g [] x y here inside = no_member x here
-all_of_to {A = A} g (z ∷ xs) x y here inside = by (member_cases z xs x here) (λ later. all_of_to g xs x y later inside)
+all_of_to g [] x y here inside = Contains-none x here
+all_of_to {A = A} g (z ∷ xs) x y here inside = by (Contains-cases z xs x here) (λ later. all_of_to g xs x y later inside)
   where
     by : (z ≡ x) ⊎ Contains xs x → (Contains xs x → Contains (all_of g xs) y) → Contains (all_of g (z ∷ xs)) y
     by (inl same) later = Contains-append_left (g z) (all_of g xs) y (subst (λ (w : A). Contains (g w) y) (sym same) inside)
     by (inr there) later = Contains-append_right (g z) (all_of g xs) y (later there)
 
 pub map_from : {A B : Type 0} (g : A → B) (xs : List A) (y : B) → Contains (map g xs) y → (x : A) × Contains xs x × (g x ≡ y)
-map_from g [] y here = no_member y here
-map_from {A = A} g (x ∷ xs) y here = by (member_cases (g x) (map g xs) y here) (λ later. map_from g xs y later)
+map_from g [] y here = Contains-none y here
+map_from {A = A} g (x ∷ xs) y here = by (Contains-cases (g x) (map g xs) y here) (λ later. map_from g xs y later)
   where
     more : ((z : A) × Contains xs z × (g z ≡ y)) → (z : A) × Contains (x ∷ xs) z × (g z ≡ y)
     more (z, there, is) = (z, Contains-there x xs z there, is)
@@ -122,8 +115,8 @@ map_from {A = A} g (x ∷ xs) y here = by (member_cases (g x) (map g xs) y here)
     by (inr there) later = more (later there)
 
 pub map_to : {A B : Type 0} (g : A → B) (xs : List A) (x : A) → Contains xs x → Contains (map g xs) (g x)
-map_to g [] x here = no_member x here
-map_to {A = A} {B = B} g (z ∷ xs) x here = by (member_cases z xs x here) (λ later. map_to g xs x later)
+map_to g [] x here = Contains-none x here
+map_to {A = A} {B = B} g (z ∷ xs) x here = by (Contains-cases z xs x here) (λ later. map_to g xs x later)
   where
     by : (z ≡ x) ⊎ Contains xs x → (Contains xs x → Contains (map g xs) (g x)) → Contains (g z ∷ map g xs) (g x)
     by (inl same) later = subst (λ (w : A). Contains (g z ∷ map g xs) (g w)) same (Contains-here (g z) (map g xs))
@@ -138,8 +131,8 @@ declares_from (d ∷ ds) q r (inl p) =
 declares_from (d ∷ ds) q r (inr p) = Contains-there d ds (q, r) (declares_from ds q r p)
 
 pub declares_to : (ds : Declarations) (d : List ℕ × Qualified) → Contains ds d → Declares ds d.0 d.1
-declares_to [] d here = no_member d here
-declares_to (e ∷ ds) d here = by (member_cases e ds d here) (λ later. declares_to ds d later)
+declares_to [] d here = Contains-none d here
+declares_to (e ∷ ds) d here = by (Contains-cases e ds d here) (λ later. declares_to ds d later)
   where
     by : (e ≡ d) ⊎ Contains ds d → (Contains ds d → Declares ds d.0 d.1) → Declares (e ∷ ds) d.0 d.1
     by (inl same) later = inl (ap (λ (x : List ℕ × Qualified). x.0) same, ap (λ (x : List ℕ × Qualified). x.1) same)

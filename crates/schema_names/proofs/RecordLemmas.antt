@@ -8,7 +8,7 @@ use Rattle.schema_types.specs.Raw.{Raw}
 use Rattle.schema_file.specs.Stated.{UseOf, ActionOf, NamespaceOf}
 use Rattle.schema_names.specs.Qualifying.{scope_in}
 use Rattle.schema_names.specs.Records.{StandsAsRecord, SomeIsNoRecord}
-use Rattle.schema_names.specs.inner.Spreading.{means_now, TellsRecords, is_record_at, is_record_in, are_shapes, are_contexts, are_records_of, are_records}
+use Rattle.schema_names.specs.inner.Spreading.{means_now, ReportsRecords, is_record_at, is_record_in, are_shapes, are_contexts, are_records_of, are_records}
 use Rattle.json_words.proofs.EachSame.{cut}
 
 -- ---- a loop that stops at the first that fails
@@ -52,7 +52,7 @@ not_false : (b : Bool) → not b ≡ false → b ≡ true
 not_false true h = refl
 not_false false h = absurd (true≢false h)
 
-module _ (ns : List NamespaceOf) (names : List ℕ → Bool) (t : TellsRecords ns names) where
+module _ (ns : List NamespaceOf) (names : List ℕ → Bool) (t : ReportsRecords ns names) where
   no_shape : (n : NamespaceOf) (r : Raw) → are_records_of names (scope_in ns) n ≡ true → StandsAsRecord n r → means_now names (scope_in ns) n.name r ≡ true → ⊥
   no_shape n r h (inl (e, there, is)) m =
       let both = and_parts (are_shapes names (scope_in ns) n.name n.entity_types) _ h in

@@ -10,7 +10,7 @@ use Rattle.schema_types.specs.Names.{Scope}
 use Rattle.schema_file.specs.Stated.{NamespaceOf}
 use Rattle.schema_names.specs.Qualifying.{CommonOf, common_in, commons_declared, scope_in}
 use Rattle.schema_names.specs.inner.Adding.{has_name}
-use Rattle.schema_names.specs.inner.Spreading.{means_now, NamesNoRecord, IsSound, AreAmong, IsSettled, KeepsNames, Spreads, TellsRecords, tried_one, tried_of, tried_at, tried_in_order}
+use Rattle.schema_names.specs.inner.Spreading.{means_now, NamesNoRecord, IsSound, AreAmong, IsSettled, KeepsNames, Spreads, ReportsRecords, tried_one, tried_of, tried_at, tried_in_order}
 use Rattle.schema_names.specs.declared.records.Place.{Place}
 use Rattle.std.specs.List.{slice_get}
 use Rattle.std.proofs.lemmas.List.{drop_all, drop_more}
@@ -18,22 +18,19 @@ use Rattle.schema_file.specs.declared.stated.StatedCommon.{StatedCommon}
 use Rattle.schema_file.specs.declared.stated.StatedNamespace.{StatedNamespace}
 use Rattle.schema_file.specs.StatedViews.{common_view, namespace_view}
 use Rattle.json_words.proofs.EachSame.{cut}
-use Rattle.plain.proofs.Members.{Contains-here, Contains-there}
+use Rattle.plain.proofs.Members.{Contains-here, Contains-there, Contains-none}
 use Rattle.schema_names.proofs.AddLemmas.{name_added}
 use Rattle.schema_names.proofs.FollowLemmas.{found_so, all_found}
 
 abbrev Names : Type 0
 Names = BTreeSet (String Global)
 
-no_member : (c : CommonOf) → Contains [] c → ⊥
-no_member c (k, lt, e) = omega (arith, lt)
-
 only_member : (c d : CommonOf) → Contains (c ∷ []) d → c ≡ d
 only_member c d (zero, lt, e) = e
 only_member c d (suc k, lt, e) = absurd (omega (arith, lt))
 
 pub spreads_none : (s : Scope) (t : Names) → Spreads s [] t t
-spreads_none s t = record { sound = λ ns e among h. h; grows = inl (refl, λ c here m. absurd (no_member c here)) }
+spreads_none s t = record { sound = λ ns e among h. h; grows = inl (refl, λ c here m. Contains-none c here) }
 
 settled_both : (s : Scope) (t : Names) (xs ys : List CommonOf) → IsSettled s t xs → IsSettled s t ys → IsSettled s t (xs ++ ys)
 settled_both s t xs ys h k c here m = at (Contains-append_cases xs ys c here)
@@ -114,7 +111,7 @@ grown_of s cs old new r apart = at r.grows
     at (inl p) = absurd (apart (ap (λ (t : Names). btree_set_len t) p.0))
     at (inr lt) = lt
 
-pub tells : (ns : List NamespaceOf) (known : Names) → IsSound ns known → IsSettled (scope_in ns) known (commons_declared ns) → TellsRecords ns (λ q. has_name known q)
+pub tells : (ns : List NamespaceOf) (known : Names) → IsSound ns known → IsSettled (scope_in ns) known (commons_declared ns) → ReportsRecords ns (λ q. has_name known q)
 tells ns known so settled = record { sound = λ own r m. found_so ns (λ q. has_name known q) own r so m; complete = all_found ns (λ q. has_name known q) settled }
 
 -- ---- one of the common types

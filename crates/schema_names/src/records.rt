@@ -8,7 +8,7 @@ ghost use Rattle.schema_file.specs.StatedViews.{common_view, entity_type_view, u
 ghost use Rattle.schema_names.specs.Records.{common_meant, SomeIsNoRecord};
 ghost use Rattle.schema_names.specs.Qualifying.{common_in, commons_declared};
 ghost use Rattle.schema_names.specs.inner.Adding.{has_name, Declares};
-ghost use Rattle.schema_names.specs.inner.Spreading.{means_now, IsSettled, KeepsNames, Spreads, TellsRecords};
+ghost use Rattle.schema_names.specs.inner.Spreading.{means_now, IsSettled, KeepsNames, Spreads, ReportsRecords};
 ghost use Rattle.schema_names.specs.inner.Spreading.{tried_one, tried_at, tried_in_order};
 ghost use Rattle.schema_names.specs.inner.Spreading.{is_record_at, is_record_in, are_shapes, are_contexts};
 ghost use Rattle.schema_names.specs.inner.Spreading.{are_records_of, are_records, MayRefuseRecords};
@@ -372,7 +372,7 @@ fn no_records(
     stated: &[StatedNamespace],
 ) -> Result<BTreeSet<String>, NoMemory>
     requires { Declares (map namespace_view stated.now) names.now }
-    ensures { IfOk result (λ known. TellsRecords (map namespace_view stated.now) (λ q. has_name known q)) }
+    ensures { IfOk result (λ known. ReportsRecords (map namespace_view stated.now) (λ q. has_name known q)) }
 {
     let listed = list_all(alloc, stated)?;
     let order = order_of(alloc, names, stated, &listed)?;

@@ -62,7 +62,7 @@ fn is_impossible(alloc: Global, schema: &Schema, policy: &Policy) -> Result<bool
 
 /// A policy that may be put: its id, what its text was read as beside the text, and whether it is impossible.
 #[derive(Drop)]
-pub(crate) struct Judged<P> {
+pub(crate) struct CheckedPolicy<P> {
     pub(crate) id: String,
     pub(crate) body: ReadText<P>,
     pub(crate) impossible: bool,
@@ -74,7 +74,7 @@ fn with_verdict<P: Drop>(
     verdict: Result<bool, SiteFault>,
     id: Result<String, NoMemory>,
     text: Result<Text, NoMemory>,
-) -> Result<Judged<P>, SiteFault>
+) -> Result<CheckedPolicy<P>, SiteFault>
     ensures all { IfOk result (λ j. (j.body.read ≡ read) × (verdict ≡ Ok j.impossible) × (id ≡ Ok j.id)
         × (text ≡ Ok j.body.text)) }
     ensures refused { IfErr result (λ f. f ≢ SiteFault.NoMemory → verdict ≡ Err f) }
@@ -83,7 +83,7 @@ fn with_verdict<P: Drop>(
     let id = id?;
     let text = text?;
     let body = ReadText { text, read };
-    Ok(Judged {
+    Ok(CheckedPolicy {
         id,
         body,
         impossible,
@@ -104,7 +104,7 @@ pub(crate) fn judged_policy(
     schema: &Schema,
     id: &str,
     text: &str,
-) -> Result<Judged<Policy>, SiteFault>
+) -> Result<CheckedPolicy<Policy>, SiteFault>
     ensures named { IfOk result (λ j. string_bytes j.id ≡ id.now) }
     ensures judged { IfOk result
         (λ j. IsJudged (schema_view schema.now) id.now text.now j.body j.impossible) }

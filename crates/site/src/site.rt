@@ -25,7 +25,7 @@ ghost use Rattle.site.specs.Steps.{PutsPolicy, PutsEntity, Deletes, Takes, Answe
 ghost use Rattle.site.specs.inner.Recording.{RecordsOr, PutsUnless, IsNext, put_result};
 
 use crate::fault::SiteFault;
-use crate::judging::{Judged, judged_policy, stated_entity, stated_request};
+use crate::judging::{CheckedPolicy, judged_policy, stated_entity, stated_request};
 use crate::outcome::{Put, Taken};
 use crate::ranges::ranges_stay;
 use crate::under_schema::{answer_under, readings_stay, would_cycle};
@@ -296,7 +296,7 @@ impl Site {
         stamps_are_issued();
         match judged_policy(self.alloc, &self.schema, id, text) {
             Ok(judged) => {
-                let Judged {
+                let CheckedPolicy {
                     id,
                     body,
                     impossible,

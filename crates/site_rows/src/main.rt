@@ -96,7 +96,7 @@ enum Part {
 
 /// What the rows of each part gave to those below them.
 #[derive(Drop)]
-struct Given {
+struct Setup {
     judging: Judging,
     store: Site,
     sites: Sites,
@@ -115,7 +115,7 @@ fn part_named(line: &str) -> Option<Part> {
 }
 
 /// What a row comes to.
-fn came_to(alloc: Global, given: &mut Given, part: Part, line: &str) -> Result<String, NoMemory> {
+fn came_to(alloc: Global, given: &mut Setup, part: Part, line: &str) -> Result<String, NoMemory> {
     let (word, text) = line.split_once(' ').unwrap_or((line, ""));
     match part {
         Part::Judging => judging::came_to(alloc, &mut given.judging, word, text),
@@ -126,7 +126,7 @@ fn came_to(alloc: Global, given: &mut Given, part: Part, line: &str) -> Result<S
 }
 
 /// What is printed for a line.
-fn told(alloc: Global, given: &mut Given, part: Part, line: &str) -> Result<String, NoMemory> {
+fn told(alloc: Global, given: &mut Setup, part: Part, line: &str) -> Result<String, NoMemory> {
     if line.is_empty() || line.starts_with('#') || line.starts_with("part ") {
         return String::from_str(alloc, line);
     }
@@ -137,7 +137,7 @@ fn told(alloc: Global, given: &mut Given, part: Part, line: &str) -> Result<Stri
 fn main(rt: HostRuntime) -> io::Result<()> {
     let alloc = rt.alloc();
     let mut part = Part::Judging;
-    let mut given = Given {
+    let mut given = Setup {
         judging: Judging::new(alloc),
         store: Site::new(alloc),
         sites: Sites::new(alloc),

@@ -64,7 +64,7 @@ use Rattle.site_runs.specs.Outcomes.{HadMemory, HadMemoryForAll, IsOutcome}
 
 -- a result that a command may have, and the store behind it
 abbrev Has : {A : Type 0} → (Result A SiteFault → Store → Type 0) → Type 0
-Has {A} Comes = (x : Result A SiteFault) × (t : Store) × Comes x t × HadMemory x
+Has {A} HasOutcome = (x : Result A SiteFault) × (t : Store) × HasOutcome x t × HadMemory x
 
 -- ---- the clock
 
@@ -353,11 +353,11 @@ pub record LawsOfSome (schema : StatedSchema) : Type 0 where
       → ArePolicies (IsPolicyUnder schema) s ps → AreEntities (IsEntityUnder schema) s es
       → (a : Answer) × IsAnswerOver (IsPolicyUnder schema) (IsEntityUnder schema) schema s q a
 
-abbrev Comes : StatedSchema → ℕ → Store → Input → Type 0
-Comes schema n s i = (r : Reply) × (t : Store) × IsOutcome schema n s i r t
+abbrev HasOutcome : StatedSchema → ℕ → Store → Input → Type 0
+HasOutcome schema n s i = (r : Reply) × (t : Store) × IsOutcome schema n s i r t
 
 pub some_step : (schema : StatedSchema) → LawsOfSome schema → (n : ℕ) (s : Store) (i : Input) → MayBeHeld schema s
-    → Comes schema n s i
+    → HasOutcome schema n s i
 some_step schema law n s (input.PutPolicy id text) held =
     let a = some_policy schema law.checks law.apart law.texts n s (room_in law.stores schema s held) id text in
     (reply.Put a.0, a.1, record { step = a.2; whole = a.3 })

@@ -16,7 +16,8 @@ use Rattle.values.specs.Names.{name_cmp, name_cmp-IsTotalOrder, name_cmp-IsAntis
 use Rattle.stamped_store.specs.EntryOrder.{PlainEntry}
 use Rattle.stamped_store.specs.Store.{Store, Update, updates}
 use Rattle.stamped_store.specs.Contents.{text_under, policy_text, entity_text, policies_of, entities_of}
-use Rattle.stamped_store.proofs.Greatests.{no_member, in_head, in_tail, by_place}
+use Rattle.plain.proofs.Members.{Contains-none, Contains-here, Contains-there}
+use Rattle.stamped_store.proofs.Greatests.{by_place}
 
 -- ---- what a store has under a name is one of its updates
 equal_of : (r : Ordering) → is_eq r ≡ true → r ≡ Equal
@@ -44,18 +45,18 @@ of_found (x ∷ es) q e h =
       | true ↦ λ same found.
           let value : x.1 ≡ e = cc in
           let name : x.0 ≡ q = sym (name_cmp-IsAntisymmetric q x.0 (equal_of (name_cmp q x.0) same)) in
-          subst (λ (u : Update). Contains (x ∷ es) u) (λ i. (name i, value i)) (in_head x es)
-      | false ↦ λ apart found. in_tail x es (q, e) (of_found es q e found)
+          subst (λ (u : Update). Contains (x ∷ es) u) (λ i. (name i, value i)) (Contains-here x es)
+      | false ↦ λ apart found. Contains-there x es (q, e) (of_found es q e found)
     ] refl h
 
 below_member : (k : Name) (es : List Update) (q : Name) (e : PlainEntry) → T (below_all name_cmp k es) → Contains es (q, e) → T (is_lt (name_cmp k q))
-below_member k [] q e h m = absurd (no_member (q, e) m)
+below_member k [] q e h m = absurd (Contains-none (q, e) m)
 below_member k (x ∷ es) q e h m = by_place x es (q, e) m
     (λ same. subst (λ (u : Update). T (is_lt (name_cmp k u.0))) same (left_of (is_lt (name_cmp k x.0)) (below_all name_cmp k es) h))
     (λ later. below_member k es q e (right_of (is_lt (name_cmp k x.0)) (below_all name_cmp k es) h) later)
 
 found_of : (es : List Update) (q : Name) (e : PlainEntry) → T (is_sorted name_cmp es) → Contains es (q, e) → find name_cmp q es ≡ Some e
-found_of [] q e h m = absurd (no_member (q, e) m)
+found_of [] q e h m = absurd (Contains-none (q, e) m)
 found_of (x ∷ es) q e h m = by_place x es (q, e) m
     (λ same.
     let name : q ≡ x.0 = sym (ap (λ (u : Update). u.0) same) in
@@ -83,19 +84,19 @@ module _ {K : Type 0} (name : K → Name) (pick : Name → Option (List ℕ) →
 
   from_texts : (us : List Update) (k : K) (text : List ℕ) → Contains (texts us) (k, text) → (e : PlainEntry) × Contains us (name k, e) × (e.body ≡ Some text)
   unfolding texts
-  from_texts [] k text h = absurd (no_member (k, text) h)
+  from_texts [] k text h = absurd (Contains-none (k, text) h)
   from_texts (u ∷ us) k text h = ⊎_elim
-      (λ here. let both = picked u.0 u.1.body k text here in (u.1, subst (λ n. Contains (u ∷ us) (n, u.1)) both.0 (in_head u us), both.1))
-      (λ later. let rest = from_texts us k text later in (rest.0, in_tail u us (name k, rest.0) rest.1, rest.2))
+      (λ here. let both = picked u.0 u.1.body k text here in (u.1, subst (λ n. Contains (u ∷ us) (n, u.1)) both.0 (Contains-here u us), both.1))
+      (λ later. let rest = from_texts us k text later in (rest.0, Contains-there u us (name k, rest.0) rest.1, rest.2))
       (Contains-append_cases (pick u.0 u.1.body) (texts us) (k, text) h)
 
   to_texts : (us : List Update) (k : K) (text : List ℕ) (e : PlainEntry) → Contains us (name k, e) → e.body ≡ Some text → Contains (texts us) (k, text)
   unfolding texts
-  to_texts [] k text e m is = absurd (no_member (name k, e) m)
+  to_texts [] k text e m is = absurd (Contains-none (name k, e) m)
   to_texts (u ∷ us) k text e m is = by_place u us (name k, e) m
       (λ same.
       let one : pick u.0 u.1.body ≡ (k, text) ∷ [] = ap (λ (x : Update). pick x.0 x.1.body) same ∙ ap (pick (name k)) is ∙ picks k text in
-      Contains-append_left (pick u.0 u.1.body) (texts us) (k, text) (subst (λ (ts : List (K × List ℕ)). Contains ts (k, text)) (sym one) (in_head (k, text) [])))
+      Contains-append_left (pick u.0 u.1.body) (texts us) (k, text) (subst (λ (ts : List (K × List ℕ)). Contains ts (k, text)) (sym one) (Contains-here (k, text) [])))
       (λ later. Contains-append_right (pick u.0 u.1.body) (texts us) (k, text) (to_texts us k text e later is))
 
   stand : (s : Store) (k : K) (text : List ℕ) → Contains (texts (updates s)) (k, text) ↔ (text_under s (name k) ≡ Some text)
@@ -105,14 +106,14 @@ module _ {K : Type 0} (name : K → Name) (pick : Name → Option (List ℕ) →
   )
 
 policy_picked : (n : Name) (b : Option (List ℕ)) (id text : List ℕ) → Contains (policy_text n b) (id, text) → (n ≡ Policy id) × (b ≡ Some text)
-policy_picked (Policy i) (Some t) id text h = by_place (i, t) [] (id, text) h (λ same. (ap (λ (p : List ℕ × List ℕ). Policy p.0) same, ap (λ (p : List ℕ × List ℕ). Some p.1) same)) (λ later. absurd (no_member (id, text) later))
-policy_picked (Policy i) None id text h = absurd (no_member (id, text) h)
-policy_picked (Entity u) b id text h = absurd (no_member (id, text) h)
+policy_picked (Policy i) (Some t) id text h = by_place (i, t) [] (id, text) h (λ same. (ap (λ (p : List ℕ × List ℕ). Policy p.0) same, ap (λ (p : List ℕ × List ℕ). Some p.1) same)) (λ later. absurd (Contains-none (id, text) later))
+policy_picked (Policy i) None id text h = absurd (Contains-none (id, text) h)
+policy_picked (Entity u) b id text h = absurd (Contains-none (id, text) h)
 
 entity_picked : (n : Name) (b : Option (List ℕ)) (uid : EntityUid) (text : List ℕ) → Contains (entity_text n b) (uid, text) → (n ≡ Entity uid) × (b ≡ Some text)
-entity_picked (Entity u) (Some t) uid text h = by_place (u, t) [] (uid, text) h (λ same. (ap (λ (p : EntityUid × List ℕ). Entity p.0) same, ap (λ (p : EntityUid × List ℕ). Some p.1) same)) (λ later. absurd (no_member (uid, text) later))
-entity_picked (Entity u) None uid text h = absurd (no_member (uid, text) h)
-entity_picked (Policy i) b uid text h = absurd (no_member (uid, text) h)
+entity_picked (Entity u) (Some t) uid text h = by_place (u, t) [] (uid, text) h (λ same. (ap (λ (p : EntityUid × List ℕ). Entity p.0) same, ap (λ (p : EntityUid × List ℕ). Some p.1) same)) (λ later. absurd (Contains-none (uid, text) later))
+entity_picked (Entity u) None uid text h = absurd (Contains-none (uid, text) h)
+entity_picked (Policy i) b uid text h = absurd (Contains-none (uid, text) h)
 
 pub policies_stand : (s : Store) (id text : List ℕ) → Contains (policies_of s) (id, text) ↔ (text_under s (Policy id) ≡ Some text)
 unfolding texts

@@ -8,8 +8,8 @@ use Rattle.std.specs.FinMap.{FinMap, IsAntisymmetric, empty, get, insert, entrie
 use Rattle.std.specs.FinMap.Entries.{find, put, is_sorted, below_all, by_order}
 use Rattle.std.specs.declared.cmp.Ordering.{Ordering}
 use Rattle.std.specs.declared.cmp.Ordering.TheVariants.{Less, Equal, Greater}
-use Rattle.std.proofs.lemmas.List.Elements.{Contains-append_right, Contains-append_cases, Contains-push_cases}
 use Rattle.std.proofs.lemmas.Cmp.{ranked, by_ranked}
+use Rattle.plain.proofs.Members.{Contains-here, Contains-there, Contains-cases, Contains-none}
 use Rattle.stamped_store.specs.Joins.{IsJoin, option_joined}
 use Rattle.stamped_store.specs.EntryOrder.{PlainEntry, body_cmp, entry_cmp, greater_entry}
 use Rattle.stamped_store.specs.EntryJoins.{entry_cmp_total, greater_by_is_join}
@@ -73,17 +73,8 @@ joined_some None v = refl
 joined_some (Some a) v = refl
 
 -- ---- members
-pub no_member : {X : Type 0} (x : X) → ¬ (Contains [] x)
-no_member x h = absurd (omega (arith, h.1))
-
-pub in_head : {X : Type 0} (x : X) (xs : List X) → Contains (x ∷ xs) x
-in_head x xs = (0, omega arith, refl)
-
-pub in_tail : {X : Type 0} (x : X) (xs : List X) (y : X) → Contains xs y → Contains (x ∷ xs) y
-in_tail x xs y h = Contains-append_right (x ∷ []) xs y h
-
 pub by_place : {X G : Type 0} (x : X) (xs : List X) (y : X) → Contains (x ∷ xs) y → (x ≡ y → G) → (Contains xs y → G) → G
-by_place x xs y h here there = ⊎_elim (λ a. ⊎_elim (λ n. absurd (no_member y n)) here (Contains-push_cases [] x y a)) there (Contains-append_cases (x ∷ []) xs y h)
+by_place x xs y h here there = ⊎_elim here there (Contains-cases x xs y h)
 
 by_test : {X : Type 0} (P : X → Type 0) (a b : X) (t : Bool) → P a → P b → P (if t then a else b)
 by_test P a b true h k = h
@@ -92,9 +83,9 @@ by_test P a b false h k = k
 module _ {N : Type 0} where
   greater_member : (u : N × PlainEntry) (us : List (N × PlainEntry)) (a : Option PlainEntry) → IsGreatestAt us u.0 a → IsGreatestAt (u ∷ us) u.0 (Some (joined_onto greater_entry a u.1))
   greater_member u us None h =
-      (in_head u us, λ f m. by_place u us (u.0, f) m (λ e. let same : u.1 ≡ f = ap (λ (x : N × PlainEntry). x.1) e in subst (λ g. is_le (entry_cmp g u.1) ≡ true) same (greater_entry_is_join.reflexive u.1)) (λ n. absurd (h f n)))
+      (Contains-here u us, λ f m. by_place u us (u.0, f) m (λ e. let same : u.1 ≡ f = ap (λ (x : N × PlainEntry). x.1) e in subst (λ g. is_le (entry_cmp g u.1) ≡ true) same (greater_entry_is_join.reflexive u.1)) (λ n. absurd (h f n)))
   greater_member u us (Some g) h = (
-    by_test (λ e. Contains (u ∷ us) (u.0, e)) g u.1 (is_le (entry_cmp u.1 g)) (in_tail u us (u.0, g) h.0) (in_head u us),
+    by_test (λ e. Contains (u ∷ us) (u.0, e)) g u.1 (is_le (entry_cmp u.1 g)) (Contains-there u us (u.0, g) h.0) (Contains-here u us),
     λ f m. by_place u us (u.0, f) m
         (λ e. let same : u.1 ≡ f = ap (λ (x : N × PlainEntry). x.1) e in subst (λ x. is_le (entry_cmp x (greater_entry g u.1)) ≡ true) same (greater_entry_is_join.above_right g u.1))
         (λ n. greater_entry_is_join.transitive f g (greater_entry g u.1) (h.1 f n) (greater_entry_is_join.above_left g u.1)),
@@ -102,7 +93,7 @@ module _ {N : Type 0} where
 
   passes_by : (u : N × PlainEntry) (us : List (N × PlainEntry)) (q : N) (a : Option PlainEntry) → ¬ (u.0 ≡ q) → IsGreatestAt us q a → IsGreatestAt (u ∷ us) q a
   passes_by u us q None apart h = λ e m. by_place u us (q, e) m (λ is. apart (ap (λ (x : N × PlainEntry). x.0) is)) (h e)
-  passes_by u us q (Some g) apart h = (in_tail u us (q, g) h.0, λ f m. by_place u us (q, f) m (λ is. absurd (apart (ap (λ (x : N × PlainEntry). x.0) is))) (h.1 f))
+  passes_by u us q (Some g) apart h = (Contains-there u us (q, g) h.0, λ f m. by_place u us (q, f) m (λ is. absurd (apart (ap (λ (x : N × PlainEntry). x.0) is))) (h.1 f))
 
   one_greatest : (us : List (N × PlainEntry)) (q : N) (a b : Option PlainEntry) → IsGreatestAt us q a → IsGreatestAt us q b → a ≡ b
   one_greatest us q None None h k = refl
@@ -222,7 +213,7 @@ module _ {N : Type 0} {R : N → N → Ordering} (o : IsTotalOrder R) where
 
     -- what the fold finds is the greatest entry
     pub is_greatest_at : (us : List (N × PlainEntry)) (q : N) → IsGreatestAt us q (greatest_at R us q)
-    is_greatest_at [] q = λ e h. no_member (q, e) h
+    is_greatest_at [] q = λ e h. Contains-none (q, e) h
     is_greatest_at (u ∷ us) q =
         elim (eq_by_cmp R q u.0) as (λ b. eq_by_cmp R q u.0 ≡ b → IsGreatestAt (u ∷ us) q (cond b (Some (joined_onto greater_entry (greatest_at R us q) u.1)) (greatest_at R us q))) [
           | true ↦ λ same. subst (λ n. IsGreatestAt (u ∷ us) n (Some (joined_onto greater_entry (greatest_at R us q) u.1))) (sym (exact q u.0 (equal_of (R q u.0) same)))

@@ -31,7 +31,8 @@ use Rattle.stamped_store.specs.Stored.{value_at, value_at_text, taken, all_taken
 use Rattle.stamped_store.specs.Greatest.{greatest_count, max_count, greatest_at}
 use Rattle.stamped_store.specs.Abstraction.{abstract_entry, abstract_entries, greatest_kept}
 use Rattle.stamped_store.specs.Store.{Store, Update, StoreEntries, kept, all_kept, first_kept, updates, store_of, first_names, plain_below, IsStoreBelow, IsStoreJoin, joined_stores, id_name, entity_name, abstract_updates, abstract_store, KeepsOtherNames, IsCounted, issue, issued}
-use Rattle.stamped_store.proofs.Greatests.{no_member, in_head, in_tail, by_place, count_le, count_of_find, greater_assoc, greater_commutes, greater_itself, greater_entry_is_join, alike, get-store_of, greatest_at-append, greatest_at-entries, store_of-append, store_of-append_right, store_of-entries, store_of-push, greatest_count-empty, greatest_count-insert, greatest_count-store_of, max_count-append}
+use Rattle.plain.proofs.Members.{Contains-none, Contains-here, Contains-there}
+use Rattle.stamped_store.proofs.Greatests.{by_place, count_le, count_of_find, greater_assoc, greater_commutes, greater_itself, greater_entry_is_join, alike, get-store_of, greatest_at-append, greatest_at-entries, store_of-append, store_of-append_right, store_of-entries, store_of-push, greatest_count-empty, greatest_count-insert, greatest_count-store_of, max_count-append}
 use Rattle.stamped_store.proofs.Lifted.{above_first, above_second, least_above}
 use Rattle.stamped_store.proofs.Showing.{plain_entry-onto, shown-insert_entry, find-shown}
 
@@ -488,7 +489,7 @@ issued_wins s q n body =
 
 -- every update's count is at most the greatest
 pub counts_below : (us : List Update) (u : Update) → Contains us u → u.1.count ≤ max_count us
-counts_below [] u h = absurd (no_member u h)
+counts_below [] u h = absurd (Contains-none u h)
 counts_below (v ∷ us) u h = by_place v us u h
     (λ same. let c : v.1.count ≡ u.1.count = ap (λ (x : Update). x.1.count) same in omega arith)
     (λ later. let c = counts_below us u later in omega arith)
@@ -500,7 +501,7 @@ count_reached (v ∷ us) =
     ⊎_elim
     (λ there. ⊎_elim
     (λ none. inl (omega arith))
-    (λ found. let c = found.2 in inr (found.0, in_tail v us found.0 found.1, omega arith))
+    (λ found. let c = found.2 in inr (found.0, Contains-there v us found.0 found.1, omega arith))
     (count_reached us))
-    (λ here. inr (v, in_head v us, omega arith))
+    (λ here. inr (v, Contains-here v us, omega arith))
     (cases_lt v.1.count (max_count us))

@@ -9,8 +9,8 @@ use Rattle.static_types.specs.inner.Rows.{and_of, or_of}
 use Rattle.static_types.specs.declared.static_type.BooleanType.{BooleanType}
 use Rattle.static_types.specs.declared.static_type.BooleanType.TheVariants.{True, False, Either}
 
-abbrev pub Tells : Option BooleanType → StaticType → Type 0
-Tells o t = MatchOption o (IsBoolean t → ⊥) (λ b. t ≡ boolean_view b)
+abbrev pub Reports : Option BooleanType → StaticType → Type 0
+Reports o t = MatchOption o (IsBoolean t → ⊥) (λ b. t ≡ boolean_view b)
 
 booleans : (b : BooleanType) → IsBoolean (boolean_view b)
 booleans True = is_true
@@ -64,7 +64,7 @@ no_left (types.record_type us) n = refl
 no_left types.decimal_type n = refl
 no_left types.ipaddr_type n = refl
 
-pub and_is : (o p : Option BooleanType) (s t : StaticType) → Tells o s → Tells p t → boolean_view (and_of o p) ≡ and_type s t
+pub and_is : (o p : Option BooleanType) (s t : StaticType) → Reports o s → Reports p t → boolean_view (and_of o p) ≡ and_type s t
 and_is o None s t h k = sym (no_type s t k)
 and_is None (Some False) s t h k = subst (λ u. false_type ≡ and_type s u) (sym k) refl
 and_is (Some b) (Some False) s t h k = subst (λ u. false_type ≡ and_type s u) (sym k) refl
@@ -87,7 +87,7 @@ no_or (types.record_type us) n = refl
 no_or types.decimal_type n = refl
 no_or types.ipaddr_type n = refl
 
-pub or_is : (p : Option BooleanType) (t : StaticType) → Tells p t → boolean_view (or_of p) ≡ or_type t
+pub or_is : (p : Option BooleanType) (t : StaticType) → Reports p t → boolean_view (or_of p) ≡ or_type t
 or_is None t k = sym (no_or t k)
 or_is (Some True) t k = subst (λ u. true_type ≡ or_type u) (sym k) refl
 or_is (Some False) t k = subst (λ u. boolean_type ≡ or_type u) (sym k) refl

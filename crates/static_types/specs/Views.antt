@@ -62,15 +62,6 @@ fault_view EmptySet = environment.empty_set
 fault_view BadExtensionLiteral = environment.bad_extension_literal
 fault_view NoMemory = environment.unexpected
 
--- the refusals by number
-abbrev pub code_of : TypeFault → ℕ
-code_of NoMemory = 1
-code_of Unexpected = 42
-code_of NoCommonType = 43
-code_of AttributeMayBeMissing = 44
-code_of EmptySet = 45
-code_of BadExtensionLiteral = 46
-
 -- what was returned is what the row says, unless memory was refused
 abbrev pub Answers : Result StaticType TypeFault → Row → Type 0
 Answers r row = MatchResult r (λ t. row ≡ Ok (static_view t)) (λ f. f ≢ NoMemory → row ≡ Err (fault_view f))

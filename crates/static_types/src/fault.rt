@@ -21,24 +21,6 @@ pub enum TypeFault {
     BadExtensionLiteral,
 }
 
-impl TypeFault {
-    ghost use Rattle.static_types.specs.Views.{code_of};
-
-    /// The number by which the refusal is told.
-    pub fn code(self) -> u8
-        ensures { result ≡ code_of self }
-    {
-        match self {
-            TypeFault::NoMemory => 1,
-            TypeFault::Unexpected => 42,
-            TypeFault::NoCommonType => 43,
-            TypeFault::AttributeMayBeMissing => 44,
-            TypeFault::EmptySet => 45,
-            TypeFault::BadExtensionLiteral => 46,
-        }
-    }
-}
-
 impl From<NoMemory> for TypeFault {
     ghost use Rattle.static_types.specs.declared.fault.TypeFault.TheVariants.{NoMemory};
 

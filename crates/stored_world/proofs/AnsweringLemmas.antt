@@ -18,7 +18,7 @@ use Rattle.entity_worlds.specs.declared.entity.Entity.{Entity}
 use Rattle.stamped_store.specs.Store.{StoreEntries, updates, abstract_store, abstract_updates}
 use Rattle.stamped_store.specs.Reading.{AreEntriesRead}
 use Rattle.stored_world.specs.Said.{data_in, world_under, parents_with, IsAnswerOver, MakesCycle, MakesNoCycle}
-use Rattle.stored_world.specs.Kept.{policies_read, entity_at}
+use Rattle.stored_world.specs.TextsRead.{policies_read, entity_at}
 use Rattle.stored_world.proofs.PolicyLemmas.{policies_are}
 use Rattle.stored_world.proofs.EntityLemmas.{entities_are}
 

@@ -21,7 +21,7 @@ use Rattle.stamped_store.specs.Store.{Store, Update, StoreEntries, updates, abst
 use Rattle.stamped_store.specs.Contents.{text_under}
 use Rattle.stamped_store.specs.Reading.{AllNamed, IsBodyRead, IsEntryRead}
 use Rattle.stored_world.specs.Said.{IsReadFrom, AreEntities, HaveOneReading}
-use Rattle.stored_world.specs.Kept.{entity_read, entity_at}
+use Rattle.stored_world.specs.TextsRead.{entity_read, entity_at}
 
 equal_of : (r : Ordering) → is_eq r ≡ true → r ≡ Equal
 equal_of Less h = absurd (cc)

@@ -28,7 +28,7 @@ use Rattle.stamped_store.specs.Store.{Store, Update, StoreEntries, updates, abst
 use Rattle.stamped_store.specs.Contents.{text_under, policy_text, policies_of}
 use Rattle.stamped_store.specs.Reading.{AllNamed, IsBodyRead, IsEntryRead}
 use Rattle.stored_world.specs.Said.{ArePolicies, HaveOneReading}
-use Rattle.stored_world.specs.Kept.{policy_read, policies_read}
+use Rattle.stored_world.specs.TextsRead.{policy_read, policies_read}
 use Rattle.stored_world.proofs.Zips.{one_list, of_first, of_second}
 
 texts : List Update → List (List ℕ × List ℕ)

@@ -17,7 +17,7 @@ use Rattle.entity_worlds.specs.declared.entity.Entity.{Entity}
 use Rattle.stamped_store.specs.declared.entry.Entry.{Entry}
 use Rattle.stamped_store.specs.declared.entry.ReadText.{ReadText}
 use Rattle.stamped_store.specs.Stored.{value_at}
-use Rattle.stored_world.specs.Kept.{entity_read, entity_at, uids_read}
+use Rattle.stored_world.specs.TextsRead.{entity_read, entity_at, uids_read}
 use Rattle.stored_world.specs.inner.Listing.{uid_with, uids_with_text}
 
 abbrev Entries : Type 0

@@ -1,4 +1,4 @@
 pub mod Said
-pub mod Kept
+pub mod TextsRead
 pub mod Listed
 pub mod inner

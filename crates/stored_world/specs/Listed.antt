@@ -13,7 +13,7 @@ use Rattle.entity_worlds.specs.Entities.{AreListed}
 use Rattle.stamped_store.specs.declared.entry.Entry.{Entry}
 use Rattle.stamped_store.specs.Stored.{value_at}
 use Rattle.stored_world.specs.Said.{data_of, data_in}
-use Rattle.stored_world.specs.Kept.{entity_at, uids_read}
+use Rattle.stored_world.specs.TextsRead.{entity_at, uids_read}
 
 out_of_filter : (p : EntityUid → Bool) (xs : List EntityUid) (u : EntityUid) → Contains (filter p xs) u
     → Contains xs u × (p u ≡ true)

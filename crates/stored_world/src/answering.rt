@@ -6,7 +6,7 @@ ghost use Rattle.schema.specs.Views.{schema_view};
 ghost use Rattle.stamped_store.specs.Store.{updates, abstract_store, abstract_updates};
 ghost use Rattle.stamped_store.specs.Reading.{AreEntriesRead};
 ghost use Rattle.stored_world.specs.Said.{world_under, parents_with, IsAnswerOver, MakesCycle, MakesNoCycle};
-ghost use Rattle.stored_world.specs.Kept.{policies_read, entity_at};
+ghost use Rattle.stored_world.specs.TextsRead.{policies_read, entity_at};
 
 use crate::policies::policies_in;
 use crate::stored_entities::StoredEntities;

@@ -3,7 +3,7 @@ ghost use Rattle.std.specs.Prelude.{◌≡◌, IfOk, map};
 ghost use Rattle.authoriser.specs.Views.{named};
 ghost use Rattle.authoriser.specs.Laws.{AreIdsAscending};
 ghost use Rattle.stamped_store.specs.Store.{updates, abstract_store, abstract_updates};
-ghost use Rattle.stored_world.specs.Kept.{policies_read};
+ghost use Rattle.stored_world.specs.TextsRead.{policies_read};
 
 use entity_store::Entity;
 use plain::NoMemory;

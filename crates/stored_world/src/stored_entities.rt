@@ -6,7 +6,7 @@ ghost use Rattle.std.specs.List.Sorted.{IsStrictlySortedBy};
 ghost use Rattle.std.specs.Map.{keys_of};
 ghost use Rattle.values.specs.Names.{uid_cmp};
 ghost use Rattle.stored_world.specs.inner.Listing.{uids_with_text};
-ghost use Rattle.stored_world.specs.Kept.{entity_at, uids_read};
+ghost use Rattle.stored_world.specs.TextsRead.{entity_at, uids_read};
 ghost use Rattle.stored_world.specs.Said.{data_in};
 ghost use Rattle.stored_world.specs.Listed.{entities_listed};
 

@@ -5,7 +5,7 @@ use Rattle.std.specs.Str.{IsUtf8}
 use Rattle.json_words.specs.Plain.{IsPlain, ArePlain, CompactIsOne}
 use Rattle.json_words.proofs.AsciiLemmas.{are_ascii, ascii_is_utf8}
 use Rattle.serde_json.specs.View.{items_of}
-use Rattle.values.specs.Paths.{PathsAreTold}
+use Rattle.values.specs.Paths.{PathTestIsExact}
 use Rattle.values.specs.declared.name.Name.{Name}
 use Rattle.values.specs.declared.name.Name.TheVariants.{Policy, Entity}
 use Rattle.stamped_store.specs.declared.entry.Stamp.{Stamp}
@@ -69,7 +69,7 @@ ok_is : (m n : Summary) → done m ≡ done n → m ≡ n
 unfolding done
 ok_is m n h = cc
 
-pub one_text : PathsAreTold → CompactIsOne → (label : List ℕ) (m n : Summary) → IsUtf8 label → IsWritten m → IsWritten n → summary_text label m ≡ summary_text label n → m ≡ n
+pub one_text : PathTestIsExact → CompactIsOne → (label : List ℕ) (m n : Summary) → IsUtf8 label → IsWritten m → IsWritten n → summary_text label m ≡ summary_text label n → m ≡ n
 unfolding summary_text done
 one_text told compact_one label m n is h k same =
     let json : summary_json label m ≡ summary_json label n =

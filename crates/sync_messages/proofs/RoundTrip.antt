@@ -19,7 +19,7 @@ use Rattle.values.specs.declared.name.Name.{Name}
 use Rattle.values.specs.declared.name.Name.TheVariants.{Policy, Entity}
 use Rattle.values.specs.declared.entity_uid.EntityUid.{EntityUid}
 use Rattle.values.specs.Names.{name_cmp}
-use Rattle.values.specs.Paths.{PathsAreTold}
+use Rattle.values.specs.Paths.{PathTestIsExact}
 use Rattle.uid_json.specs.Uids.{uid_in, plain_uid_in, uid_json}
 use Rattle.stamped_store.specs.declared.entry.Stamp.{Stamp}
 use Rattle.stamped_store.specs.Deltas.{Summary, stamp_of, summary_of}
@@ -27,16 +27,16 @@ use Rattle.stamped_store.specs.Store.{Store, Update, updates}
 use Rattle.sync_messages.specs.Summaries.{ascend, IsName, IsStamped, AreStamped, name_json, stamp_json, summary_json, policy_in, entity_in, name_in, stamped_in, stamp_in, stamps_of, stamps_in, is_id, judged, summary_in, summary_stated}
 
 -- ---- one stamp
-uid_again : PathsAreTold → (uid : EntityUid) → IsPath uid.type_name → uid_in (uid_json uid) ≡ Some uid
+uid_again : PathTestIsExact → (uid : EntityUid) → IsPath uid.type_name → uid_in (uid_json uid) ≡ Some uid
 unfolding uid_in plain_uid_in
 uid_again told uid path = rw ((told uid.type_name).1 path) refl
 
-pub name_again : PathsAreTold → (n : Name) → IsName n → name_in (name_json n) ≡ Ok n
+pub name_again : PathTestIsExact → (n : Name) → IsName n → name_in (name_json n) ≡ Ok n
 unfolding name_in policy_in entity_in
 name_again told (Policy id) h = refl
 name_again told (Entity uid) h = rw (uid_again told uid h) refl
 
-stamp_again : PathsAreTold → (u : Name × Stamp) → IsStamped u → stamp_in (stamp_json u) ≡ Ok u
+stamp_again : PathTestIsExact → (u : Name × Stamp) → IsStamped u → stamp_in (stamp_json u) ≡ Ok u
 unfolding stamp_in stamped_in
 stamp_again told u h = rw (le-leb _ _ h.numbered, le-leb _ _ h.small, name_again told u.0 h.name) refl
 
@@ -49,7 +49,7 @@ unfolding judged
 judged_again k u h = rw (le-leb _ _ h.counted, le-leb _ _ h.bounded, id_again u.0 h.name) refl
 
 -- ---- all stamps
-stamps_again : PathsAreTold → (k : ℕ) (m : Summary) → AreStamped m → each (λ i d. stamp_in d) k (list_of (items_of (map stamp_json m))) ≡ Ok m
+stamps_again : PathTestIsExact → (k : ℕ) (m : Summary) → AreStamped m → each (λ i d. stamp_in d) k (list_of (items_of (map stamp_json m))) ≡ Ok m
 unfolding each
 stamps_again told k [] h = refl
 stamps_again told k (u ∷ m) h = rw (stamp_again told u h.0, stamps_again told (suc k) m h.1) refl
@@ -62,11 +62,11 @@ all_judged k (u ∷ m) h = rw (judged_again k u h.0, all_judged (suc k) m h.1) r
 bytes_eq_same : (s : List ℕ) → bytes_eq s s ≡ true
 bytes_eq_same s = (bytes_eq-Decides s s).1 refl
 
-stamps_in_again : PathsAreTold → (label : List ℕ) (m : Summary) → AreStamped m → ascend m ≡ true → stamps_in (summary_json label m) ≡ Ok m
+stamps_in_again : PathTestIsExact → (label : List ℕ) (m : Summary) → AreStamped m → ascend m ≡ true → stamps_in (summary_json label m) ≡ Ok m
 unfolding stamps_in stamps_of
 stamps_in_again told label m h up = rw (stamps_again told 0 m h, up) refl
 
-pub summary_again : PathsAreTold → (label : List ℕ) (m : Summary) → AreStamped m → ascend m ≡ true → summary_in label (summary_json label m) ≡ Ok m
+pub summary_again : PathTestIsExact → (label : List ℕ) (m : Summary) → AreStamped m → ascend m ≡ true → summary_in label (summary_json label m) ≡ Ok m
 unfolding summary_in
 summary_again told label m h up = rw (stamps_in_again told label m h up, bytes_eq_same label) (all_judged 0 m h)
 

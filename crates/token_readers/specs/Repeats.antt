@@ -13,8 +13,8 @@ CallsRead {A} p post =
     (old new : MutBor Cursor) (r : Result A Halt) → post old r new → ParsesTo (p old.now.rest.now) r new.now.rest.now
 
 -- pieces, put behind those that were found before
-abbrev pub many_behind : {A : Type 0} → List A → Kinds → Parser A → Parser (List A)
-many_behind found ks p = many ks p >>= (λ more. pure (found ++ more))
+abbrev pub many_onto : {A : Type 0} → List A → Kinds → Parser A → Parser (List A)
+many_onto found ks p = many ks p >>= (λ more. pure (found ++ more))
 
 -- pieces, put behind a first one
 abbrev pub many_after : {A : Type 0} → A → Kinds → Parser A → Parser (List A)

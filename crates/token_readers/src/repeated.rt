@@ -2,7 +2,7 @@
 
 ghost use Rattle.token_readers.specs.ParsesTo.{ParsesTo};
 ghost use Rattle.token_readers.specs.Reading.{Parser, many};
-ghost use Rattle.token_readers.specs.Repeats.{CallsRead, many_behind, many_after};
+ghost use Rattle.token_readers.specs.Repeats.{CallsRead, many_onto, many_after};
 
 use crate::cursor::Cursor;
 use crate::fault::Halt;
@@ -19,7 +19,7 @@ fn read_on<T: Drop, S: KindSet, F: Fn(&mut Cursor<'_>) -> Result<T, Halt>>(
 ) -> Result<Items<T>, Halt>
     requires { F.IsAlwaysCallable read }
     ensures { (p : Parser T) → CallsRead p (F.post read)
-        → ParsesTo (many_behind found (S.included set) p tokens.old.rest.now) result tokens.new.rest.now }
+        → ParsesTo (many_onto found (S.included set) p tokens.old.rest.now) result tokens.new.rest.now }
 {
     for _turn in 0..tokens.left() {
         if !tokens.sees_one_of(set) {
@@ -31,8 +31,8 @@ fn read_on<T: Drop, S: KindSet, F: Fn(&mut Cursor<'_>) -> Result<T, Halt>>(
     Ok(found)
 }
 
-/// Pieces, as long as a token of the set comes next. Each is read by a call. Answers with the first halt of such a call,
-/// or with `NoMemory` where a piece finds no room.
+/// Pieces, as long as a token of the set comes next. Each is read by a call. Answers with the first halt of such a
+/// call, or with `NoMemory` where a piece finds no room.
 pub fn read_many<T: Drop, S: KindSet, F: Fn(&mut Cursor<'_>) -> Result<T, Halt>>(
     alloc: Global,
     tokens: &mut Cursor<'_>,
@@ -46,8 +46,8 @@ pub fn read_many<T: Drop, S: KindSet, F: Fn(&mut Cursor<'_>) -> Result<T, Halt>>
     read_on(Items::new(alloc), tokens, set, read)
 }
 
-/// A first piece, and behind it more, as long as a token of the set comes next. Each of these is read by a call. Answers
-/// with the first halt of such a call, or with `NoMemory` where a piece, the first too, finds no room.
+/// A first piece, and behind it more, as long as a token of the set comes next. Each of these is read by a call.
+/// Answers with the first halt of such a call, or with `NoMemory` where a piece, the first too, finds no room.
 pub fn read_more<T: Drop, S: KindSet, F: Fn(&mut Cursor<'_>) -> Result<T, Halt>>(
     alloc: Global,
     tokens: &mut Cursor<'_>,

@@ -1,24 +1,11 @@
 -- Lists of pairs, item by item.
-use Rattle.std.proofs.Common.{◌≡◌, ◌+◌, ◌<◌, ◌↔◌, ◌⊎◌, ℕ, zero, suc, List, [], ◌∷◌, ◌++◌, length, get_or, take, drop, Contains, refl, sym, subst, ap, ◌∙◌, inl, inr, arith}
+use Rattle.std.proofs.Common.{◌≡◌, ◌+◌, ◌<◌, ◌↔◌, ℕ, List, [], ◌∷◌, ◌++◌, length, get_or, take, drop, Contains, refl, sym, subst, ap, ◌∙◌, inl, inr}
 use Rattle.std.proofs.lemmas.List.{drop_more, take_more, map-append}
+use Rattle.plain.proofs.Members.{Contains-here, Contains-there, Contains-cases}
 use Rattle.typing.specs.Learned as learned
 use Rattle.typing.specs.Learned.{Pairs, InBoth}
 use Rattle.type_checker.specs.declared.known.Pair.{Pair}
 use Rattle.type_checker.specs.inner.Pairs.{pair_of, pairs}
-
-module _ {X : Type 0} where
-  pub here : (x : X) (xs : List X) → Contains (x ∷ xs) x
-  here x xs = (0, omega arith, refl)
-
-  pub there : (x : X) (xs : List X) (y : X) → Contains xs y → Contains (x ∷ xs) y
-  there x xs y (k, lt, e) = (suc k, omega arith, e)
-
-  pub first_or_later : (x : X) (xs : List X) (y : X) → Contains (x ∷ xs) y → (x ≡ y) ⊎ Contains xs y
-  first_or_later x xs y (zero, lt, e) = inl e
-  first_or_later x xs y (suc k, lt, e) = inr (k, omega arith, e)
-
-  pub none_stands : (y : X) {G : Type 0} → Contains [] y → G
-  none_stands y (k, lt, e) = absurd (omega arith)
 
 -- the pair at this place and those behind it
 pub from_here : (ps : List Pair) (i : ℕ) (d : Pair) → i < length ps
@@ -30,7 +17,7 @@ pub found_here : (ps : List Pair) (i : ℕ) (d : Pair) (p : learned.Pair) → i 
     → Contains (pairs (drop i ps)) p
 found_here ps i d p lt e =
     subst (λ qs. Contains qs p) (sym (from_here ps i d lt))
-    (subst (λ q. Contains (pair_of (get_or ps i d) ∷ pairs (drop (i + 1) ps)) q) e (here _ _))
+    (subst (λ q. Contains (pair_of (get_or ps i d) ∷ pairs (drop (i + 1) ps)) q) e (Contains-here _ _))
 
 -- one that is not at this place stands behind it, if it stands there or behind it
 pub not_here : (ps : List Pair) (i : ℕ) (d : Pair) (p : learned.Pair) → i < length ps → ¬ (pair_of (get_or ps i d) ≡ p)
@@ -39,11 +26,11 @@ not_here ps i d p lt n =
     let e = from_here ps i d lt in
     let forth = λ (c : Contains (pairs (drop i ps)) p).
     behind (pair_of (get_or ps i d)) (pairs (drop (i + 1) ps)) n (subst (λ qs. Contains qs p) e c) in
-    let back = λ (c : Contains (pairs (drop (i + 1) ps)) p). subst (λ qs. Contains qs p) (sym e) (there _ _ p c) in
+    let back = λ (c : Contains (pairs (drop (i + 1) ps)) p). subst (λ qs. Contains qs p) (sym e) (Contains-there _ _ p c) in
     (forth, back)
   where
     behind : (x : learned.Pair) (xs : Pairs) → ¬ (x ≡ p) → Contains (x ∷ xs) p → Contains xs p
-    behind x xs m c = elim (first_or_later x xs p c) [ inl h ↦ absurd (m h) | inr h ↦ h ]
+    behind x xs m c = elim (Contains-cases x xs p c) [ inl h ↦ absurd (m h) | inr h ↦ h ]
 
 -- the pairs that both lists have, where one more of the first is looked at
 

@@ -22,7 +22,7 @@ use Rattle.typing.specs.Environment.{Environment}
 use Rattle.typing.specs.Literals as literals
 use Rattle.typing.specs.Literals.{IsLiteral, AreEntityLiterals, ListsEntities, IsActionIn, Settled, IsUnsettled, ReadsLiteral}
 use Rattle.expressions.specs.declared.operator.Binary.{Binary}
-use Rattle.type_checker.proofs.Learning.{here, first_or_later, none_stands}
+use Rattle.plain.proofs.Members.{Contains-here, Contains-cases, Contains-none}
 
 module _ (env : Environment) where
   pub stated_as : {x : Expr} {l m : Literal} → x ≡ form.Literal l → m ≡ l → IsLiteral env x m
@@ -106,12 +106,12 @@ module _ (env : Environment) where
   InSome a us = (v : EntityUid) × Contains us v × IsActionIn env a v
 
   pub in_none : (a : EntityUid) → Decides false (InSome a [])
-  in_none a = (λ e. absurd (false≢true e), λ h. none_stands h.0 h.1)
+  in_none a = (λ e. absurd (false≢true e), λ h. Contains-none h.0 h.1)
 
   pub in_one : (a u : EntityUid) (r : Bool) → Decides r (IsActionIn env a u) → Decides r (InSome a (u ∷ []))
   in_one a u r d = (
-    λ e. (u, here u [], d.0 e),
-    λ h. elim (first_or_later u [] h.0 h.1) [ inl e ↦ d.1 (subst (IsActionIn env a) (sym e) h.2) | inr c ↦ none_stands h.0 c ],
+    λ e. (u, Contains-here u [], d.0 e),
+    λ h. elim (Contains-cases u [] h.0 h.1) [ inl e ↦ d.1 (subst (IsActionIn env a) (sym e) h.2) | inr c ↦ Contains-none h.0 c ],
   )
 
   pub in_more : (a u : EntityUid) (us : List EntityUid) (f g r : Bool) → Decides f (InSome a us)
@@ -123,7 +123,7 @@ module _ (env : Environment) where
     where
       from_both : IsTrue f ⊎ IsTrue g → InSome a (us ++ u ∷ [])
       from_both (inl h) = let w = d.0 h in (w.0, Contains-append_left us (u ∷ []) w.0 w.1, w.2)
-      from_both (inr h) = (u, Contains-append_right us (u ∷ []) u (here u []), k.0 h)
+      from_both (inr h) = (u, Contains-append_right us (u ∷ []) u (Contains-here u []), k.0 h)
 
       of_both : (h : InSome a (us ++ u ∷ [])) → Contains us h.0 ⊎ Contains (u ∷ []) h.0 → IsTrue f ⊎ IsTrue g
       of_both h (inl c) = inl (d.1 (h.0, c, h.2))

@@ -21,7 +21,7 @@ use Rattle.static_types.specs.passed_on.entities.{StatedEntity}
 use Rattle.static_types.specs.passed_on.entities.{told}
 use Rattle.static_types.specs.passed_on.entities.{stated_in, is_absent_or_empty, or_empty}
 use Rattle.static_types.specs.passed_on.entities.{is_action_type, shape_of, attributes_in, parent_fits, parents_fit, parents_in, entity_in}
-use Rattle.static_types.specs.passed_on.entities.{ActionTypesAreTold, SetsHoldTheirMembers}
+use Rattle.static_types.specs.passed_on.entities.{ActionTypeTestIsExact, SetsHoldTheirMembers}
 use Rattle.entity_worlds.specs.UidSets.{uid_set}
 use Rattle.typed_values.specs.Typing.{record_in}
 use Rattle.entity_worlds.specs.declared.data.EntityData.{EntityData}
@@ -112,7 +112,7 @@ no_such : (b : Bool) → (b ≡ true → ⊥) → b ≡ false
 no_such true h = absurd (h refl)
 no_such false h = refl
 
-module _ (told_types : ActionTypesAreTold) (sets : SetsHoldTheirMembers) (typed : EntitiesAreOfTheirTypes) (tells : ParentsTellAncestors)
+module _ (told_types : ActionTypeTestIsExact) (sets : SetsHoldTheirMembers) (typed : EntitiesAreOfTheirTypes) (tells : ParentsTellAncestors)
     (s : StatedSchema) (wf : IsWellFormed s) (entities : EntityMap) (are_read : AreRead s entities) where
   abbrev W : World
   W = closed_world s entities
@@ -195,7 +195,7 @@ module _ (told_types : ActionTypesAreTold) (sets : SetsHoldTheirMembers) (typed 
     ancestors_of_others u a plain above =
         tells (environment_of s e) W.parents (λ l m n h i. wf.parents_join l m n h i) (λ v p not_action h. allowed_at v p not_action (s.ancestors v) (entities v) refl refl h) u a plain above
 
-pub what_is_read_conforms : StatedSchemasAreWellFormed → ActionTypesAreTold → SetsHoldTheirMembers → EntitiesAreOfTheirTypes → RequestsAreOfAnEnvironment → ParentsTellAncestors → WhatIsReadConforms
+pub what_is_read_conforms : StatedSchemasAreWellFormed → ActionTypeTestIsExact → SetsHoldTheirMembers → EntitiesAreOfTheirTypes → RequestsAreOfAnEnvironment → ParentsTellAncestors → WhatIsReadConforms
 what_is_read_conforms well told_types sets typed requests tells bytes s stated entities are_read d q states =
     let wf = well bytes s stated in
     let at = requests s d q states in (

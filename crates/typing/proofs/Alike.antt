@@ -12,7 +12,8 @@ use Rattle.typing.specs.Typing.{Types, TypesEach}
 use Rattle.typing.specs.Faults
 use Rattle.typing.specs.Faults.{Faults, FaultsEach}
 use Rattle.typing.specs.Laws.{AreSamePairs, KnownPairsAreASet}
-use Rattle.typing.proofs.Members.{Contains-here, Contains-there, Contains-cases, Contains-none, Contains-joined}
+use Rattle.std.proofs.lemmas.List.Elements.{Contains-append_cases}
+use Rattle.plain.proofs.Members.{Contains-here, Contains-there, Contains-cases, Contains-none}
 use Rattle.typing.proofs.Tests.{in_both, in_both_holds}
 
 pub both_members : {L M N : Pairs} → InBoth L M N → (p : Pair) → Contains N p → Contains L p × Contains M p
@@ -47,7 +48,7 @@ joined_second (x ∷ K) L p c = Contains-there x (K ++ L) p (joined_second K L p
 
 one_way : (K L M N : Pairs) → ((p : Pair) → Contains K p → Contains M p) → ((p : Pair) → Contains L p → Contains N p)
     → (p : Pair) → Contains (K ++ L) p → Contains (M ++ N) p
-one_way K L M N f g p c = elim (Contains-joined K L p c) [
+one_way K L M N f g p c = elim (Contains-append_cases K L p c) [
   | inl k ↦ joined_first M N p (f p k)
   | inr l ↦ joined_second M N p (g p l)
 ]

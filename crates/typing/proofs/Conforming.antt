@@ -29,7 +29,7 @@ use Rattle.typing.specs.Faults
 use Rattle.typing.specs.Laws.{SomethingConforms, SomethingIsTyped, SomethingIsFaulty}
 use Rattle.typing.specs.Example
 use Rattle.typing.specs.Example.{alice, staff, plan, view, readers, parents, environment}
-use Rattle.typing.proofs.Members.{Contains-here, Contains-there, Contains-cases, Contains-none}
+use Rattle.plain.proofs.Members.{Contains-here, Contains-there, Contains-cases, Contains-none}
 use Rattle.typing.proofs.Values.{None-Some, Some-same, FieldsFit, find_first, record_fits}
 
 same : (a b : EntityUid) → is_eq (uid_cmp a b) ≡ true → a ≡ b

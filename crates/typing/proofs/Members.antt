@@ -1,24 +1,12 @@
 -- Members of lists, and deciding.
-use Rattle.std.specs.Prelude.{◌≡◌, ◌↔◌, IsTrue, ◌⊎◌, zero, suc, List, [], ◌∷◌, ◌++◌, map, false, Contains, refl}
+use Rattle.std.specs.Prelude.{◌≡◌, ◌↔◌, IsTrue, List, [], ◌∷◌, map, false, Contains, refl}
 use Rattle.std.proofs.lemmas.Bool.{false≢true}
-use Rattle.std.proofs.Common.{inl, inr, arith, sym, subst}
+use Rattle.std.proofs.Common.{inl, inr, sym, subst}
+use Rattle.plain.proofs.Members.{Contains-here, Contains-there, Contains-cases, Contains-none}
 use Rattle.extensions.specs.Decided.{Decided, told}
 use Rattle.extensions.specs.inner.Deciding.{decided_as, either_decided}
 
 module _ {X : Type 0} where
-  pub Contains-here : (x : X) (xs : List X) → Contains (x ∷ xs) x
-  Contains-here x xs = (0, omega arith, refl)
-
-  pub Contains-there : (x : X) (xs : List X) (y : X) → Contains xs y → Contains (x ∷ xs) y
-  Contains-there x xs y (k, lt, e) = (suc k, omega arith, e)
-
-  pub Contains-cases : (x : X) (xs : List X) (y : X) → Contains (x ∷ xs) y → (x ≡ y) ⊎ Contains xs y
-  Contains-cases x xs y (zero, lt, e) = inl e
-  Contains-cases x xs y (suc k, lt, e) = inr (k, omega arith, e)
-
-  pub Contains-none : (y : X) {G : Type 0} → Contains [] y → G
-  Contains-none y (k, lt, e) = absurd (omega arith)
-
   pub contains_decided : ((x y : X) → Decided (x ≡ y)) → (xs : List X) (x : X) → Decided (Contains xs x)
   contains_decided d [] x = inr (λ h. Contains-none x h)
   contains_decided d (y ∷ ys) x =
@@ -58,13 +46,6 @@ Contains-unmapped f [] y c = Contains-none y c
 Contains-unmapped f (x ∷ xs) y c = elim (Contains-cases (f x) (map f xs) y c) [
   | inl e ↦ (x, Contains-here x xs, e)
   | inr m ↦ let h = Contains-unmapped f xs y m in (h.0, Contains-there x xs h.0 h.1, h.2)
-]
-
-pub Contains-joined : {X : Type 0} (xs ys : List X) (x : X) → Contains (xs ++ ys) x → Contains xs x ⊎ Contains ys x
-Contains-joined [] ys x c = inr c
-Contains-joined (z ∷ xs) ys x c = elim (Contains-cases z (xs ++ ys) x c) [
-  | inl e ↦ inl (subst (λ w. Contains (z ∷ xs) w) e (Contains-here z xs))
-  | inr m ↦ elim (Contains-joined xs ys x m) [ inl h ↦ inl (Contains-there z xs x h) | inr h ↦ inr h ]
 ]
 
 -- the test tells it

@@ -46,7 +46,9 @@ use Rattle.typing.specs.Rows.{Row}
 use Rattle.typing.specs.Typing
 use Rattle.typing.specs.Typing.{Types, TypesEach}
 use Rattle.typing.specs.Conforming.{Conforms, IsHarmless, Fits, IsPresent, ArePresent, GoesRight}
-use Rattle.typing.proofs.Members.{Contains-here, Contains-cases, Contains-none, Contains-mapped, Contains-unmapped, Contains-joined}
+use Rattle.std.proofs.lemmas.List.Elements.{Contains-append_cases}
+use Rattle.plain.proofs.Members.{Contains-here, Contains-cases, Contains-none}
+use Rattle.typing.proofs.Members.{Contains-mapped, Contains-unmapped}
 use Rattle.typing.proofs.Alike.{both_members}
 use Rattle.typing.proofs.Values.{None-Some, Widens, common_has, AllOf, common_of_has, set_of, FieldsFit, put_fits, record_fits}
 use Rattle.typing.proofs.Fitting.{FitsRow, decided_fits, unary_fits, binary_fits, field_fits, has_fits, address_fits, call_fits}
@@ -115,7 +117,7 @@ module _ (env : Environment) (W : World) (q : Request) (C : Conforms env W q) (o
   nothing = record { each = λ p c. Contains-none p c }
 
   present_joined : (K L : Pairs) → Present K → Present L → Present (K ++ L)
-  present_joined K L h g = record { each = λ p c. elim (Contains-joined K L p c) [ inl k ↦ h.each p k | inr l ↦ g.each p l ] }
+  present_joined K L h g = record { each = λ p c. elim (Contains-append_cases K L p c) [ inl k ↦ h.each p k | inr l ↦ g.each p l ] }
 
   both_left : {L M N : Pairs} → InBoth L M N → Present L → Present N
   both_left h l = record { each = λ p c. l.each p (both_members h p c).0 }

@@ -17,7 +17,7 @@ use Rattle.typing.specs.Types
 use Rattle.typing.specs.Types.{StaticType, FieldTypes, Declared, common, common_fields, common_of, declared_as, declared_at, put_required, field_before, same_requirement}
 use Rattle.typing.specs.Membership
 use Rattle.typing.specs.Membership.{Of, EachOf, FieldOf}
-use Rattle.typing.proofs.Members.{Contains-here, Contains-there, Contains-cases, Contains-none}
+use Rattle.plain.proofs.Members.{Contains-here, Contains-there, Contains-cases, Contains-none}
 
 -- ---- tests
 

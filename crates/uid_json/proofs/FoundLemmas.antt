@@ -7,12 +7,12 @@ use Rattle.serde_json.specs.Find.{get}
 use Rattle.json_words.specs.Keys.{has_only}
 use Rattle.json_words.specs.Json.{text_at}
 use Rattle.values.specs.declared.entity_uid.EntityUid.{EntityUid}
-use Rattle.values.specs.Paths.{is_path, PathsAreTold}
+use Rattle.values.specs.Paths.{is_path, PathTestIsExact}
 use Rattle.uid_json.specs.Uids.{IsPlainUid, IsUid, IsRead, uid_made_of, plain_uid_in, uid_under, uid_in}
 use Rattle.uid_json.specs.Laws.{OneUid, UidsAreFound}
 use Rattle.uid_json.proofs.UidLemmas.{plain, under_entity}
 
-made : PathsAreTold → (d : Data) (name id : Option (List ℕ)) → text_at (codes "type") d ≡ name → text_at (codes "id") d ≡ id
+made : PathTestIsExact → (d : Data) (name id : Option (List ℕ)) → text_at (codes "type") d ≡ name → text_at (codes "id") d ≡ id
     → has_only (codes "type" ∷ codes "id" ∷ []) d ≡ true → IsRead (IsPlainUid d) (uid_made_of name id)
 made told d None id at_type at_id alone = λ uid is. let named = is.type_name in absurd (cc)
 made told d (Some name) None at_type at_id alone = λ uid is. let named = is.id in absurd (cc)
@@ -24,21 +24,21 @@ made told d (Some name) (Some id) at_type at_id alone = elim (cases_Bool (is_pat
       absurd (cc))
 ]
 
-plain_found : PathsAreTold → (d : Data) → IsRead (IsPlainUid d) (plain_uid_in d)
+plain_found : PathTestIsExact → (d : Data) → IsRead (IsPlainUid d) (plain_uid_in d)
 unfolding plain_uid_in
 plain_found told d = elim (cases_Bool (has_only (codes "type" ∷ codes "id" ∷ []) d)) [
   | inl y ↦ rw y (made told d (text_at (codes "type") d) (text_at (codes "id") d) refl refl y)
   | inr n ↦ rw n (λ uid is. let alone = is.alone in absurd (cc))
 ]
 
-under : PathsAreTold → (d : Data) (inner : Option Data) → get (codes "__entity") d ≡ inner → IsRead (IsUid d) (uid_under d inner)
+under : PathTestIsExact → (d : Data) (inner : Option Data) → get (codes "__entity") d ≡ inner → IsRead (IsUid d) (uid_under d inner)
 under told d None e = plain d e (plain_uid_in d) (plain_found told d)
 under told d (Some inner) e = elim (cases_Bool (has_only (codes "__entity" ∷ []) d)) [
   | inl y ↦ rw y (under_entity d inner e y (plain_uid_in inner) (plain_found told inner))
   | inr n ↦ rw n (λ uid is. let alone = (rw e at is).alone in absurd (cc))
 ]
 
-pub found : PathsAreTold → UidsAreFound
+pub found : PathTestIsExact → UidsAreFound
 unfolding uid_in
 found told d = under told d (get (codes "__entity") d) refl
 

@@ -19,8 +19,8 @@ use Rattle.validator.specs.Names.{names_of}
 use Rattle.validator.specs.Passing
 use Rattle.validator.specs.Passing.{environments_of, HasType, HasBooleanType, IsVerdict, IsRefused}
 use Rattle.validator.specs.inner.Checking.{scope_parts, typed_in, IsJudged, AreJudged}
-use Rattle.validator.specs.inner.Walking.{Judged, names_told, parts_told}
-use Rattle.validator.proofs.KnownLemmas.{TellsNames, names_tell}
+use Rattle.validator.specs.inner.Walking.{WalkResult, names_told, parts_told}
+use Rattle.validator.proofs.KnownLemmas.{ReportsNames, names_tell}
 use Rattle.validator.proofs.WalkLemmas.{parts_walked}
 
 -- ---- one environment after the other
@@ -85,8 +85,8 @@ module _ (s : StatedSchema) (policy : Policy) (parts : List Expr) (are : parts �
   told_is : parts_told s parts policy.condition ≡ names_told s (names_of policy)
   told_is = ap (λ es. parts_told s es policy.condition) are ∙ parts_walked s _ _ _ policy.condition
 
-  names_come : (r : Judged) → r ≡ parts_told s parts policy.condition → TellsNames s (names_of policy) r
-  names_come r e = subst (TellsNames s (names_of policy)) (sym (e ∙ told_is)) (names_tell s (names_of policy))
+  names_come : (r : WalkResult) → r ≡ parts_told s parts policy.condition → ReportsNames s (names_of policy) r
+  names_come r e = subst (ReportsNames s (names_of policy)) (sym (e ∙ told_is)) (names_tell s (names_of policy))
 
   pub name_refused : (f : CheckFault) → Err f ≡ parts_told s parts policy.condition → IsRefused s policy f
   name_refused f e = Passing.for_name (names_come (Err f) e)

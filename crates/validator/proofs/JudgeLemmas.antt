@@ -20,7 +20,7 @@ use Rattle.validator.specs.declared.fault.CheckFault.{CheckFault}
 use Rattle.validator.specs.declared.fault.CheckFault.TheVariants.{NoMemory}
 use Rattle.validator.specs.Faults.{of_typing, of_types}
 use Rattle.validator.specs.Passing.{HasType, HasBooleanType}
-use Rattle.validator.specs.inner.Checking.{scope_parts, TellsFalse, IsJudged}
+use Rattle.validator.specs.inner.Checking.{scope_parts, ReportsFalse, IsJudged}
 use Rattle.validator.proofs.OutcomeLemmas.{IsTest, policy_is_test, one_type, typed_or_faulty}
 
 module _ (one : HaveOneJudgement) (policy : Policy) (parts : List Expr) (are : parts ≡ scope_parts policy.scope)
@@ -65,7 +65,7 @@ module _ (one : HaveOneJudgement) (policy : Policy) (parts : List Expr) (are : p
   pub judged : (r : Result at_hand_type.StaticType at_hand.TypeFault)
       → IfOk r (λ t. (L : Pairs) × Types env [] (joined parts policy.condition) (static_view t) L)
       → IfErr r (λ f. f ≢ fault.NoMemory → Faults env [] (joined parts policy.condition) (fault_view f))
-      → (told : Result Bool CheckFault) → TellsFalse r told → IsJudged e (expression_of policy) told
+      → (told : Result Bool CheckFault) → ReportsFalse r told → IsJudged e (expression_of policy) told
   judged (Ok t) h g (Ok b) d = judged_typed (static_view t) h.0 h.1 b d
   judged (Err f) h g (Err n) d = judged_faulty f g n d
   judged (Ok t) h g (Err n) d = absurd d

@@ -19,7 +19,7 @@ use Rattle.validator.specs.declared.fault.CheckFault.TheVariants.{UnknownType, U
 use Rattle.validator.specs.Names.{Name, tested_type, entity}
 use Rattle.validator.specs.Unknown
 use Rattle.validator.specs.Unknown.{IsEntityType, IsTypeOfAction, IsUnknown, IsKnown, FirstUnknown}
-use Rattle.validator.specs.inner.Walking.{Judged, and_then, or_fault, is_type_of_action, is_declared_action, action_told, other_told, name_told, names_told}
+use Rattle.validator.specs.inner.Walking.{WalkResult, and_then, or_fault, is_type_of_action, is_declared_action, action_told, other_told, name_told, names_told}
 
 -- ---- actions
 
@@ -55,13 +55,13 @@ type_of_action_holds s n = (
 -- ---- one name
 
 -- what is told of a name, in the words of the definitions
-abbrev pub TellsName : StatedSchema → Name → Judged → Type 0
-TellsName s n (Ok u) = IsKnown s n
-TellsName s n (Err f) = IsUnknown s n f
+abbrev pub ReportsName : StatedSchema → Name → WalkResult → Type 0
+ReportsName s n (Ok u) = IsKnown s n
+ReportsName s n (Err f) = IsUnknown s n f
 
-abbrev pub TellsNames : StatedSchema → List Name → Judged → Type 0
-TellsNames s ns (Ok u) = All (IsKnown s) ns
-TellsNames s ns (Err f) = FirstUnknown s ns f
+abbrev pub ReportsNames : StatedSchema → List Name → WalkResult → Type 0
+ReportsNames s ns (Ok u) = All (IsKnown s) ns
+ReportsNames s ns (Err f) = FirstUnknown s ns f
 
 not_tested : {s : StatedSchema} {n : List ℕ} {f : CheckFault} → IsUnknown s (tested_type n) f
     → ¬ IsEntityType s n × ¬ IsTypeOfAction s n
@@ -78,28 +78,28 @@ not_other (Unknown.unknown_type u i n) t = n
 not_other (Unknown.unknown_action u i n) t = absurd (false≢true (sym t ∙ i))
 
 tested_case : (s : StatedSchema) (n : List ℕ) (a b : Bool) → is_some (s.shape n) ≡ a → is_type_of_action s n ≡ b
-    → TellsName s (tested_type n) (or_fault UnknownType (a || b))
+    → ReportsName s (tested_type n) (or_fault UnknownType (a || b))
 tested_case s n true b e g = λ f h. (not_tested h).0 e
 tested_case s n false true e g = λ f h. (not_tested h).1 ((type_of_action_holds s n).0 g)
 tested_case s n false false e g =
     Unknown.unknown_tested_type n (λ t. false≢true (sym e ∙ t)) (λ t. false≢true (sym g ∙ (type_of_action_holds s n).1 t))
 
 action_case : (s : StatedSchema) (u : EntityUid) → IsTrue (is_action_type u.type_name) → (b : Bool) → is_declared_action s u ≡ b
-    → TellsName s (entity u) (or_fault UnknownAction b)
+    → ReportsName s (entity u) (or_fault UnknownAction b)
 action_case s u i true e = λ f h. not_entity h i ((declared_holds s u).0 e)
 action_case s u i false e = Unknown.unknown_action u i (λ m. false≢true (sym e ∙ (declared_holds s u).1 m))
 
 other_case : (s : StatedSchema) (u : EntityUid) → IsFalse (is_action_type u.type_name) → (b : Bool) → is_some (s.shape u.type_name) ≡ b
-    → TellsName s (entity u) (or_fault UnknownType b)
+    → ReportsName s (entity u) (or_fault UnknownType b)
 other_case s u i true e = λ f h. not_other h i e
 other_case s u i false e = Unknown.unknown_type u i (λ t. false≢true (sym e ∙ t))
 
 entity_case : (s : StatedSchema) (u : EntityUid) (a : Bool) → is_action_type u.type_name ≡ a
-    → TellsName s (entity u) (if a then action_told s u else other_told s u)
+    → ReportsName s (entity u) (if a then action_told s u else other_told s u)
 entity_case s u true i = action_case s u i (is_declared_action s u) refl
 entity_case s u false i = other_case s u i (is_some (s.shape u.type_name)) refl
 
-pub name_tells : (s : StatedSchema) (n : Name) → TellsName s n (name_told s n)
+pub name_tells : (s : StatedSchema) (n : Name) → ReportsName s n (name_told s n)
 name_tells s (tested_type n) = tested_case s n (is_some (s.shape n)) (is_type_of_action s n) refl refl
 name_tells s (entity u) = entity_case s u (is_action_type u.type_name) refl
 
@@ -113,12 +113,12 @@ one_cause s n f g (Unknown.unknown_action u i a) (Unknown.unknown_action v j b) 
 
 -- ---- several names
 
-more_tell : (s : StatedSchema) (n : Name) (ns : List Name) (r q : Judged) → TellsName s n r → TellsNames s ns q → TellsNames s (n ∷ ns) (and_then r q)
+more_tell : (s : StatedSchema) (n : Name) (ns : List Name) (r q : WalkResult) → ReportsName s n r → ReportsNames s ns q → ReportsNames s (n ∷ ns) (and_then r q)
 more_tell s n ns (Ok u) (Ok v) h g = All-cons (IsKnown s) n ns h g
 more_tell s n ns (Ok u) (Err f) h g = Unknown.unknown_later h g
 more_tell s n ns (Err f) q h g = Unknown.unknown_here h
 
-pub names_tell : (s : StatedSchema) (ns : List Name) → TellsNames s ns (names_told s ns)
+pub names_tell : (s : StatedSchema) (ns : List Name) → ReportsNames s ns (names_told s ns)
 names_tell s [] = All-nil (IsKnown s)
 names_tell s (n ∷ ns) = more_tell s n ns (name_told s n) (names_told s ns) (name_tells s n) (names_tell s ns)
 

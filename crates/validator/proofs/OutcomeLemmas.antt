@@ -29,8 +29,8 @@ use Rattle.validator.specs.Passing
 use Rattle.validator.specs.Passing.{environments_of, HasType, HasBooleanType, FirstFaulty, Passes, IsRefused}
 use Rattle.validator.specs.Outcomes
 use Rattle.validator.specs.Outcomes.{CheckResult, IsCheckResult, PoliciesHaveOneOutcome, NoEnvironmentIsImpossible, PassingPoliciesGoRight, PassingIsNotRefused}
-use Rattle.validator.specs.inner.Walking.{Judged, names_told}
-use Rattle.validator.proofs.KnownLemmas.{TellsNames, names_tell, one_first, none_first}
+use Rattle.validator.specs.inner.Walking.{WalkResult, names_told}
+use Rattle.validator.proofs.KnownLemmas.{ReportsNames, names_tell, one_first, none_first}
 
 -- ---- `&&` has a boolean type or a fault
 
@@ -200,7 +200,7 @@ module _ (one : HaveOneJudgement) (s : StatedSchema) (policy : Policy) where
   typed_outcome h (inl g) = (Outcomes.passes g.0, record { passes = record { known = h; typed = g.1 }; impossible = g.2 })
   typed_outcome h (inr g) = (Outcomes.refused (of_typing g.0), Passing.for_type h g.1)
 
-  named_outcome : (r : Judged) → TellsNames s (names_of policy) r → (o : CheckResult) × IsCheckResult s policy o
+  named_outcome : (r : WalkResult) → ReportsNames s (names_of policy) r → (o : CheckResult) × IsCheckResult s policy o
   named_outcome (Ok u) h = typed_outcome h (all_judged one (expression_of policy) (policy_is_test one policy) (environments_of s))
   named_outcome (Err f) h = (Outcomes.refused f, Passing.for_name h)
 

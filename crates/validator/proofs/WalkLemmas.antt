@@ -12,25 +12,25 @@ use Rattle.expressions.specs.declared.expr.Expr.{Expr}
 use Rattle.expressions.specs.declared.expr.Expr.TheVariants as form
 use Rattle.schema.specs.Schemas.{StatedSchema}
 use Rattle.validator.specs.Names.{Name, literal_names, operator_names, joined, names_step, names_in}
-use Rattle.validator.specs.inner.Walking.{Judged, and_then, in_turn, literal_told, operator_told, walk_step, walk, named_walk, name_told, names_told, parts_told}
+use Rattle.validator.specs.inner.Walking.{WalkResult, and_then, in_turn, literal_told, operator_told, walk_step, walk, named_walk, name_told, names_told, parts_told}
 
-and_assoc : (p q r : Judged) → and_then p (and_then q r) ≡ and_then (and_then p q) r
+and_assoc : (p q r : WalkResult) → and_then p (and_then q r) ≡ and_then (and_then p q) r
 and_assoc (Ok u) q r = refl
 and_assoc (Err f) q r = refl
 
-and_end : (r : Judged) → and_then r (Ok tt) ≡ r
+and_end : (r : WalkResult) → and_then r (Ok tt) ≡ r
 and_end (Ok u) = refl
 and_end (Err f) = refl
 
 module _ (s : StatedSchema) where
-  abbrev told : List Name → Judged
+  abbrev told : List Name → WalkResult
   told = names_told s
 
   told_joined : (ms ns : List Name) → told (ms ++ ns) ≡ and_then (told ms) (told ns)
   told_joined [] ns = refl
   told_joined (m ∷ ms) ns = ap (and_then (name_told s m)) (told_joined ms ns) ∙ and_assoc (name_told s m) (told ms) (told ns)
 
-  two : (r q : Judged) (ms ns : List Name) → r ≡ told ms → q ≡ told ns → and_then r q ≡ told (ms ++ ns)
+  two : (r q : WalkResult) (ms ns : List Name) → r ≡ told ms → q ≡ told ns → and_then r q ≡ told (ms ++ ns)
   two r q ms ns e f = ap (λ x. and_then x q) e ∙ ap (and_then (told ms)) f ∙ sym (told_joined ms ns)
 
   of_literal : (l : Literal) → literal_told s l ≡ told (literal_names l)
@@ -48,7 +48,7 @@ module _ (s : StatedSchema) where
   Walked : Expr → Type 0
   Walked x = walk s x ≡ told (names_in x)
 
-  at : (x : Expr) (r : Judged) (ns : List Name) → walk s x ≡ r → names_in x ≡ ns → r ≡ told ns → Walked x
+  at : (x : Expr) (r : WalkResult) (ns : List Name) → walk s x ≡ r → names_in x ≡ ns → r ≡ told ns → Walked x
   unfolding Walked
   at x r ns e f g = e ∙ g ∙ ap told (sym f)
 
@@ -70,24 +70,24 @@ module _ (s : StatedSchema) where
   walked_cases : Cases Walked
   unfolding Walked
   walked_cases = record {
-    literal = λ l. at (form.Literal l) _ _ (fold_literal Judged (walk_step s) l) (fold_literal (List Name) names_step l) (of_literal l);
-    variable = λ x. at (form.Variable x) _ _ (fold_variable Judged (walk_step s) x) (fold_variable (List Name) names_step x) refl;
-    if_form = λ a b c f g h. at (form.If a b c) _ _ (fold_if Judged (walk_step s) a b c) (fold_if (List Name) names_step a b c)
+    literal = λ l. at (form.Literal l) _ _ (fold_literal WalkResult (walk_step s) l) (fold_literal (List Name) names_step l) (of_literal l);
+    variable = λ x. at (form.Variable x) _ _ (fold_variable WalkResult (walk_step s) x) (fold_variable (List Name) names_step x) refl;
+    if_form = λ a b c f g h. at (form.If a b c) _ _ (fold_if WalkResult (walk_step s) a b c) (fold_if (List Name) names_step a b c)
         (two (walk s a) _ (names_in a) _ f (two (walk s b) (walk s c) (names_in b) (names_in c) g h));
-    and_form = λ a b f g. at (form.And a b) _ _ (fold_and Judged (walk_step s) a b) (fold_and (List Name) names_step a b)
+    and_form = λ a b f g. at (form.And a b) _ _ (fold_and WalkResult (walk_step s) a b) (fold_and (List Name) names_step a b)
         (two (walk s a) (walk s b) (names_in a) (names_in b) f g);
-    or_form = λ a b f g. at (form.Or a b) _ _ (fold_or Judged (walk_step s) a b) (fold_or (List Name) names_step a b)
+    or_form = λ a b f g. at (form.Or a b) _ _ (fold_or WalkResult (walk_step s) a b) (fold_or (List Name) names_step a b)
         (two (walk s a) (walk s b) (names_in a) (names_in b) f g);
-    unary = λ op a f. at (form.Unary op a) _ _ (fold_unary Judged (walk_step s) op a) (fold_unary (List Name) names_step op a)
+    unary = λ op a f. at (form.Unary op a) _ _ (fold_unary WalkResult (walk_step s) op a) (fold_unary (List Name) names_step op a)
         (two (walk s a) (operator_told s op) (names_in a) (operator_names op) f (of_operator op));
-    binary = λ op a b f g. at (form.Binary op a b) _ _ (fold_binary Judged (walk_step s) op a b) (fold_binary (List Name) names_step op a b)
+    binary = λ op a b f g. at (form.Binary op a b) _ _ (fold_binary WalkResult (walk_step s) op a b) (fold_binary (List Name) names_step op a b)
         (two (walk s a) (walk s b) (names_in a) (names_in b) f g);
-    field = λ a k f. at (form.Field a k) _ _ (fold_field Judged (walk_step s) a k) (fold_field (List Name) names_step a k) f;
-    has = λ a k f. at (form.Has a k) _ _ (fold_has Judged (walk_step s) a k) (fold_has (List Name) names_step a k) f;
-    set = λ xs h. at (form.Set xs) _ _ (fold_set Judged (walk_step s) xs) (fold_set (List Name) names_step xs) (walked_each xs h);
-    record_form = λ fs h. at (form.Record fs) _ _ (fold_record Judged (walk_step s) fs) (fold_record (List Name) names_step fs) (walked_fields fs h);
-    unary_call = λ c a f. at (form.UnaryCall c a) _ _ (fold_unary_call Judged (walk_step s) c a) (fold_unary_call (List Name) names_step c a) f;
-    binary_call = λ c a b f g. at (form.BinaryCall c a b) _ _ (fold_binary_call Judged (walk_step s) c a b) (fold_binary_call (List Name) names_step c a b)
+    field = λ a k f. at (form.Field a k) _ _ (fold_field WalkResult (walk_step s) a k) (fold_field (List Name) names_step a k) f;
+    has = λ a k f. at (form.Has a k) _ _ (fold_has WalkResult (walk_step s) a k) (fold_has (List Name) names_step a k) f;
+    set = λ xs h. at (form.Set xs) _ _ (fold_set WalkResult (walk_step s) xs) (fold_set (List Name) names_step xs) (walked_each xs h);
+    record_form = λ fs h. at (form.Record fs) _ _ (fold_record WalkResult (walk_step s) fs) (fold_record (List Name) names_step fs) (walked_fields fs h);
+    unary_call = λ c a f. at (form.UnaryCall c a) _ _ (fold_unary_call WalkResult (walk_step s) c a) (fold_unary_call (List Name) names_step c a) f;
+    binary_call = λ c a b f g. at (form.BinaryCall c a b) _ _ (fold_binary_call WalkResult (walk_step s) c a b) (fold_binary_call (List Name) names_step c a b)
         (two (walk s a) (walk s b) (names_in a) (names_in b) f g);
   }
 
@@ -96,7 +96,7 @@ module _ (s : StatedSchema) where
   walked x = by_forms Walked walked_cases x
 
   walk_and : (a b : Expr) → walk s (form.And a b) ≡ and_then (walk s a) (walk s b)
-  walk_and a b = fold_and Judged (walk_step s) a b
+  walk_and a b = fold_and WalkResult (walk_step s) a b
 
   -- the parts of a scope and a condition, in turn, are the whole
   pub parts_walked : (p a r c : Expr)

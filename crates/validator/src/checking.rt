@@ -4,7 +4,7 @@ ghost use Rattle.policy_grammar.specs.Whole.{expression_of};
 ghost use Rattle.schema.specs.Views.{schema_view, environment_view};
 ghost use Rattle.type_checker.specs.passed_on.static_types.{environment_of};
 ghost use Rattle.validator.specs.Passing.{IsVerdict, IsRefused};
-ghost use Rattle.validator.specs.inner.Checking.{scope_parts, typed_in, TellsFalse, IsJudged, AreJudged};
+ghost use Rattle.validator.specs.inner.Checking.{scope_parts, typed_in, ReportsFalse, IsJudged, AreJudged};
 ghost use Rattle.validator.specs.inner.Walking.{parts_told};
 
 use crate::fault::CheckFault;
@@ -34,7 +34,7 @@ fn check_names(schema: &Schema, parts: &[Expr], condition: &Expr) -> Result<(), 
 
 /// Whether the type that was found is False, or why none was found.
 fn told<'a>(found: Result<StaticType<'a>, TypeFault>) -> Result<bool, CheckFault>
-    ensures { TellsFalse found.entry result }
+    ensures { ReportsFalse found.entry result }
 {
     match found {
         Ok(found) => Ok(found.is_false()),

@@ -18,8 +18,8 @@ abbrev pub SetsAreOneList : Type 0
 SetsAreOneList = (vs s : List PlainValue) → IsSetOf vs s → s ≡ set_list vs
 
 -- the test for a member holds exactly of the members
-abbrev pub MembersAreTold : Type 0
-MembersAreTold = (vs : List PlainValue) (v : PlainValue) → IsTrue (has_member vs v) ↔ Contains vs v
+abbrev pub MemberTestIsExact : Type 0
+MemberTestIsExact = (vs : List PlainValue) (v : PlainValue) → IsTrue (has_member vs v) ↔ Contains vs v
 
 -- a binary search in an ascending list finds exactly the members
 abbrev pub MembersAreFound : Type 0

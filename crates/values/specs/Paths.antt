@@ -32,8 +32,8 @@ unfoldable pub is_path : List ℕ → Bool
 is_path text = list_all is_ident (pieces [] text)
 
 -- the tests hold exactly of identifiers and of Paths
-abbrev pub IdentsAreTold : Type 0
-IdentsAreTold = (word : List ℕ) → IsTrue (is_ident word) ↔ IsIdent word
+abbrev pub IdentTestIsExact : Type 0
+IdentTestIsExact = (word : List ℕ) → IsTrue (is_ident word) ↔ IsIdent word
 
-abbrev pub PathsAreTold : Type 0
-PathsAreTold = (text : List ℕ) → IsTrue (is_path text) ↔ IsPath text
+abbrev pub PathTestIsExact : Type 0
+PathTestIsExact = (text : List ℕ) → IsTrue (is_path text) ↔ IsPath text

@@ -1,11 +1,11 @@
 //! Laws of sets and records; the functions do nothing.
 ghost use Rattle.std.specs.Prelude.{◌≡◌, ◌≢◌, ℕ, List, Some};
 ghost use Rattle.values.specs.Fields.{find_field, put};
-ghost use Rattle.values.specs.Laws.{SetsHoldTheirMembers, SetsAreOneList, MembersAreTold, MembersAreFound};
+ghost use Rattle.values.specs.Laws.{SetsHoldTheirMembers, SetsAreOneList, MemberTestIsExact, MembersAreFound};
 ghost use Rattle.values.specs.Laws.{KeysStayAscending, FieldsTellRecords, OrderOfFieldsDoesNotMatter, LaterValueStays};
 ghost use Rattle.values.specs.Laws.{SetsAreWellFormed, MembersAreWellFormed, RecordsStayWellFormed};
 ghost use Rattle.values.specs.Laws.{FieldsAreWellFormed};
-ghost use Rattle.values.specs.Paths.{IdentsAreTold, PathsAreTold};
+ghost use Rattle.values.specs.Paths.{IdentTestIsExact, PathTestIsExact};
 
 use crate::value::{Record, Value};
 
@@ -14,7 +14,7 @@ use crate::value::{Record, Value};
 pub fn sets_hold_their_members()
     ensures made { SetsHoldTheirMembers }
     ensures one { SetsAreOneList }
-    ensures told { MembersAreTold }
+    ensures told { MemberTestIsExact }
     ensures found { MembersAreFound }
 {}
 
@@ -43,6 +43,6 @@ pub fn values_stay_well_formed()
 
 /// The tests for identifiers and for Paths hold exactly of these.
 pub fn paths_are_told()
-    ensures idents { IdentsAreTold }
-    ensures paths { PathsAreTold }
+    ensures idents { IdentTestIsExact }
+    ensures paths { PathTestIsExact }
 {}

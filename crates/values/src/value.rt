@@ -90,8 +90,8 @@ pub enum BorrowedKind<'a> {
     IpAddr(IpNet),
 }
 
-/// A value that stands elsewhere: a whole one, or a part alone, as the text of a literal or the uid that a request names,
-/// which is seen as a value with no copy. Contracts see the value.
+/// A value that stands elsewhere: a whole one, or a part alone, as the text of a literal or the uid that a request
+/// names, which is seen as a value with no copy. Contracts see the value.
 #[derive(Drop)]
 pub struct ValueRef<'a> {
     kind: BorrowedKind<'a>,

@@ -10,7 +10,7 @@ use Rattle.schema_types.specs.Qualified as qualified
 use Rattle.schema_types.specs.Qualified.{Qualified}
 use Rattle.schema_types.specs.WrittenOut as written
 use Rattle.schema_types.specs.WrittenOut.{Declarations, Declares}
-use Rattle.written_types.specs.Knowledge.{Extent, KnownType, Knowledge, Stands, IsTable}
+use Rattle.written_types.specs.Knowledge.{Extent, KnownType, Knowledge, IsKnown, IsTable}
 use Rattle.written_types.specs.inner.Table.{fits, size_in, written_in, built_of, AreSettled, all_known}
 use Rattle.written_types.specs.TableViews.{known_view, knowledge}
 use Rattle.written_types.specs.inner.Rounds.{Adds, KeepsTable, Steps, Rounds}
@@ -37,13 +37,13 @@ built_large : (known : Knowledge) (s : Extent) (r : Qualified) → fits s ≡ fa
 built_large known s r e = rw e refl
 
 stands_at : (commons : Declarations) (d : List ℕ × Qualified) (old new : Map) → Declares commons d.0 d.1 → IsTable commons (knowledge old) → (a : Adds d old new) → (q : List ℕ) (k : KnownType) (b : Bool) → bytes_eq d.0 q ≡ b
-    → cond b (Some a.added) (knowledge old q) ≡ Some k → Stands commons q k
+    → cond b (Some a.added) (knowledge old q) ≡ Some k → IsKnown commons q k
 stands_at commons d old new here h a q k false apart e = h q k e
 stands_at commons d old new here h a q k true same e =
     let is : a.added ≡ k = some_is a.added k e in
     let key : d.0 ≡ q = (bytes_eq-Decides d.0 q).0 same in
     let f = sound commons (knowledge old) h d.1 a.added.size a.size in
-    let at_d : Stands commons d.0 a.added = record {
+    let at_d : IsKnown commons d.0 a.added = record {
       type = f.type;
       is_written = written.common d.0 d.1 f.type here f.is_written;
       size_is = f.size_is;
@@ -51,7 +51,7 @@ stands_at commons d old new here h a q k true same e =
           let fit = fits_small a.added.size f.type f.size_is small in
           a.whole ∙ built_small (knowledge old) a.added.size d.1 fit ∙ f.at_hand (within a.added.size fit);
       unbuilt = λ large. a.whole ∙ built_large (knowledge old) a.added.size d.1 (fits_large a.added.size f.type f.size_is large);
-    } in subst (λ (x : KnownType). Stands commons q x) is (subst (λ (x : List ℕ). Stands commons x a.added) key at_d)
+    } in subst (λ (x : KnownType). IsKnown commons q x) is (subst (λ (x : List ℕ). IsKnown commons x a.added) key at_d)
 
 step_sound : (commons : Declarations) (d : List ℕ × Qualified) (old new : Map) → Declares commons d.0 d.1 → IsTable commons (knowledge old) → Steps d old new → IsTable commons (knowledge new)
 step_sound commons d old new here h (inl s) = subst (λ (t : Map). IsTable commons (knowledge t)) (sym s.same) h

@@ -22,7 +22,7 @@ abbrev pub Knowledge : Type 0
 Knowledge = List ℕ → Option KnownType
 
 -- what is known of a name is so; the type is at hand just where it is not too large
-pub record Stands (commons : Declarations) (q : List ℕ) (k : KnownType) : Type 0 where
+pub record IsKnown (commons : Declarations) (q : List ℕ) (k : KnownType) : Type 0 where
   pub type : Cedar
   pub is_written : WrittenOut commons (common q) type
   pub size_is : k.size ≡ size_of type
@@ -30,7 +30,7 @@ pub record Stands (commons : Declarations) (q : List ℕ) (k : KnownType) : Type
   pub unbuilt : IsTooLarge type → k.whole ≡ None
 
 abbrev pub IsTable : Declarations → Knowledge → Type 0
-IsTable commons known = (q : List ℕ) (k : KnownType) → known q ≡ Some k → Stands commons q k
+IsTable commons known = (q : List ℕ) (k : KnownType) → known q ≡ Some k → IsKnown commons q k
 
 -- every name that is declared is known, and what is known is so
 pub record AreWritten (commons : Declarations) (known : Knowledge) : Type 0 where

@@ -82,8 +82,8 @@ IsPath e Beyond [] = Unit {0}
 IsPath e Beyond (g ∷ gs) = IsGroup e Beyond g gs × IsPath e (λ x. Beyond x ⊎ Contains g.members x) gs
 
 -- a number is done, or was not seen and is in no group, or its place among the members is noted
-abbrev pub Stands : List ℕ → List ℕ → ℕ → Type 0
-Stands place members x =
+abbrev pub IsAccounted : List ℕ → List ℕ → ℕ → Type 0
+IsAccounted place members x =
     IsDone place x
     ⊎ (((mark_of place x ≡ 0) × (Contains members x → ⊥))
     ⊎ ((k : ℕ) × (mark_of place x ≡ k + 1) × (k < length members) × (slice_index_or members k x ≡ x)))
@@ -97,7 +97,7 @@ pub record IsFinished (e : Edges) (place : List ℕ) (found : List Bool) : Type 
 -- a search along a path of groups
 pub record IsWalk (e : Edges) (place : List ℕ) (found : List Bool) (members : List ℕ) (path : List Group) : Type 0 where
   pub groups : IsPath e (IsDone place) path
-  pub stands : (x : ℕ) → Stands place members x
+  pub stands : (x : ℕ) → IsAccounted place members x
   pub same : members ≡ members_of path
   pub finished : IsFinished e place found
 
@@ -132,7 +132,7 @@ IsHeld e place y members pending bounds last =
 pub record Awaits (e : Edges) (place : List ℕ) (found : List Bool) (members pending : List ℕ)
     (bounds : List Bound) (last : Bound) (y : ℕ) : Type 0 where
   pub held : IsHeld e place y members pending bounds last
-  pub stands : (x : ℕ) → Stands place members x
+  pub stands : (x : ℕ) → IsAccounted place members x
   pub finished : IsFinished e place found
 
 -- groups are joined until y, which has this place, is in the last one

@@ -41,9 +41,9 @@ pub record Keeps (read : Result (List BareEntity) Refusal) (store : Entries) : T
   pub world_is : world_held store ≡ world_in entities
 
 -- What reading entities into a store gives, unless memory was refused.
-abbrev pub GivesStore : Result Entries Refusal → Result (List BareEntity) Refusal → Type 0
-GivesStore (Ok store) read = Keeps read store
-GivesStore (Err refusal) read = Fails no_memory refusal read
+abbrev pub ReadsStore : Result Entries Refusal → Result (List BareEntity) Refusal → Type 0
+ReadsStore (Ok store) read = Keeps read store
+ReadsStore (Err refusal) read = Fails no_memory refusal read
 
 -- the answer to the request over these policies, tried in the order of their names, where entities are as in W
 pub record IsAnswerIn (policies : List NamedPolicy) (W : World) (asked : Request) (answer : Answer) : Type 0 where

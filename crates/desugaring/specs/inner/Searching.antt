@@ -15,9 +15,9 @@ pub record IsLeast (P : ℕ → Type 0) (at : ℕ) : Type 0 where
   pub least : (other : ℕ) → P other → at ≤ other
 
 -- the least place, or that there is none
-abbrev pub TellsLeast : (ℕ → Type 0) → Option ℕ → Type 0
-TellsLeast P None = Nowhere P
-TellsLeast P (Some at) = IsLeast P at
+abbrev pub ReportsLeast : (ℕ → Type 0) → Option ℕ → Type 0
+ReportsLeast P None = Nowhere P
+ReportsLeast P (Some at) = IsLeast P at
 
 -- the lesser place, where there is one
 abbrev pub lesser_of : Option ℕ → Option ℕ → Option ℕ

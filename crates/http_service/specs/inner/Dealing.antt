@@ -7,8 +7,8 @@ use Rattle.http_service.specs.Asked.{Asked}
 use Rattle.http_service.specs.Answered.{Replies}
 
 -- it is told behind what the text had, or want of memory is
-abbrev pub TellsOrNoMemory : Status × List ℕ → Status → List ℕ → List ℕ → Type 0
-TellsOrNoMemory reply status before after =
+abbrev pub ReportsOrNoMemory : Status × List ℕ → Status → List ℕ → List ℕ → Type 0
+ReportsOrNoMemory reply status before after =
     (line : List ℕ) × (after ≡ before ++ line) × IsReplyOrNoMemory reply status line
 
 -- the reply to what was asked is appended, and the site goes on

@@ -77,11 +77,11 @@ abbrev pub AreSound : List ℕ → List Condition → Type 0
 AreSound text = AllByRecursion (λ c. faults_of text c.expression ≡ [])
 
 -- what is told of a policy before its expression is made: its fault at the least place, and whether it is small
-pub record TellsPolicy (text : List ℕ) (tree : PolicyTree) (verdict : Verdict) : Type 0 where
+pub record ReportsPolicy (text : List ℕ) (tree : PolicyTree) (verdict : Verdict) : Type 0 where
   pub fault : verdict.fault ≡ least (tree_faults text tree)
   pub small : IsTrue verdict.small ↔ IsSmallTree text tree
 
 -- and of a file's policies
-pub record TellsFile (text : List ℕ) (trees : List PolicyTree) (verdict : Verdict) : Type 0 where
+pub record ReportsFile (text : List ℕ) (trees : List PolicyTree) (verdict : Verdict) : Type 0 where
   pub fault : verdict.fault ≡ least (flat_map (tree_faults text) trees)
   pub small : IsTrue verdict.small ↔ AllByRecursion (IsSmallTree text) trees

@@ -126,8 +126,8 @@ module _ (levels : ℕ) where
   conditions = many condition_words condition
 
   -- what stands behind the scope
-  unfoldable pub behind_scope : Parser (List Condition)
-  behind_scope = do
+  unfoldable pub scope_tail : Parser (List Condition)
+  scope_tail = do
     token k.RParen
     cs ← conditions
     token k.Semicolon

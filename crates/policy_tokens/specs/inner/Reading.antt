@@ -26,9 +26,9 @@ pub record IsFirst (found : Found) (text : List ℕ) : Type 0 where
   pub len : length w ≡ found.len
 
 -- what a search for a token at the front tells
-abbrev pub TellsToken : List ℕ → Option Found → Type 0
-TellsToken text None = NoToken text
-TellsToken text (Some found) = IsFirst found text
+abbrev pub ReportsToken : List ℕ → Option Found → Type 0
+ReportsToken text None = NoToken text
+ReportsToken text (Some found) = IsFirst found text
 
 -- a token of so many bytes
 abbrev pub sized : ℕ → Option TokenKind → Option Found
@@ -56,14 +56,14 @@ pub record IsGapOf (len : ℕ) (text : List ℕ) : Type 0 where
   pub long : length w ≡ len
 
 -- what a search for a blank or comment at the front tells
-abbrev pub TellsGap : List ℕ → Option ℕ → Type 0
-TellsGap text None = NoGap text
-TellsGap text (Some len) = IsGapOf len text
+abbrev pub ReportsGap : List ℕ → Option ℕ → Type 0
+ReportsGap text None = NoGap text
+ReportsGap text (Some len) = IsGapOf len text
 
 -- what a search for a blank at the front tells: how many bytes it has
-abbrev pub TellsBlank : List ℕ → Option ℕ → Type 0
-TellsBlank text None = (c : ℕ) (more : List ℕ) → is_whitespace c ≡ true → text ≡ encode_utf8 c ++ more → ⊥
-TellsBlank text (Some len) = (c : ℕ) × (more : List ℕ) × (is_whitespace c ≡ true) × (text ≡ encode_utf8 c ++ more)
+abbrev pub ReportsBlank : List ℕ → Option ℕ → Type 0
+ReportsBlank text None = (c : ℕ) (more : List ℕ) → is_whitespace c ≡ true → text ≡ encode_utf8 c ++ more → ⊥
+ReportsBlank text (Some len) = (c : ℕ) × (more : List ℕ) × (is_whitespace c ≡ true) × (text ≡ encode_utf8 c ++ more)
     × (len ≡ length (encode_utf8 c))
 
 -- ## Strings
@@ -80,9 +80,9 @@ pub record IsFirstEscape (found : Escape) (text : List ℕ) : Type 0 where
   pub long : length w ≡ found.len
 
 -- what a search for an escape at the front tells
-abbrev pub TellsEscape : List ℕ → Option Escape → Type 0
-TellsEscape text None = NoEscape text
-TellsEscape text (Some found) = IsFirstEscape found text
+abbrev pub ReportsEscape : List ℕ → Option Escape → Type 0
+ReportsEscape text None = NoEscape text
+ReportsEscape text (Some found) = IsFirstEscape found text
 
 -- the kind of a string that goes on with this piece
 abbrev pub kind_with : TokenKind → Piece → TokenKind

@@ -31,9 +31,9 @@ pub record Keeps (read : Result (List Entity) Refusal) (store : Entries) : Type 
   pub held : Holds store entities
 
 -- What reading entities into a store gives, unless memory was refused.
-abbrev pub GivesStore : Result Entries Refusal → Result (List Entity) Refusal → Type 0
-GivesStore (Ok store) read = Keeps read store
-GivesStore (Err refusal) read = Fails no_memory refusal read
+abbrev pub ReadsStore : Result Entries Refusal → Result (List Entity) Refusal → Type 0
+ReadsStore (Ok store) read = Keeps read store
+ReadsStore (Err refusal) read = Fails no_memory refusal read
 
 -- the line of the answer to a request over these policies, where entities are as in W
 pub record IsLineIn (policies : List NamedPolicy) (W : World) (asked : Request) (line : List ℕ) : Type 0 where

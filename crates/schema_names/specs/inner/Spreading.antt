@@ -72,7 +72,7 @@ tried_in_order ns places [] = []
 tried_in_order ns places (i ∷ is) = tried_at ns (slice_get places i) ++ tried_in_order ns places is
 
 -- the set has the common types that mean no record, and so tells it of each type
-pub record TellsRecords (ns : List NamespaceOf) (known : List ℕ → Bool) : Type 0 where
+pub record ReportsRecords (ns : List NamespaceOf) (known : List ℕ → Bool) : Type 0 where
   pub sound : (own : Option (List ℕ)) (r : Raw) → means_now known (scope_in ns) own r ≡ true
       → MeansNoRecord ns own r
   pub complete : (own : Option (List ℕ)) (r : Raw) → MeansNoRecord ns own r

@@ -9,5 +9,5 @@ pub use Rattle.entities.specs.declared.stated.StatedEntity.{StatedEntity}
 pub use Rattle.entities.specs.Faults.{told}
 pub use Rattle.entities.specs.Stated.{is_absent_or_empty, or_empty}
 unfoldable pub use Rattle.entities.specs.Stated.{stated_in}
-pub use Rattle.entities.specs.Laws.{ActionTypesAreTold, SetsHoldTheirMembers}
+pub use Rattle.entities.specs.Laws.{ActionTypeTestIsExact, SetsHoldTheirMembers}
 pub use Rattle.entities.specs.Contexts.{context_where, is_place}

@@ -30,11 +30,11 @@ abbrev pub typed_in : StatedSchema → List given.Environment → List Environme
 typed_in s ps = map (λ p. environment_of s (environment_view p)) ps
 
 -- whether a type that was found is False, or why none was
-abbrev pub TellsFalse : Result StaticType FoundFault → Result Bool CheckFault → Type 0
-TellsFalse (Ok t) (Ok b) = Decides b (static_view t ≡ false_type)
-TellsFalse (Ok t) (Err f) = ⊥
-TellsFalse (Err f) (Ok b) = ⊥
-TellsFalse (Err f) (Err g) = g ≡ of_types f
+abbrev pub ReportsFalse : Result StaticType FoundFault → Result Bool CheckFault → Type 0
+ReportsFalse (Ok t) (Ok b) = Decides b (static_view t ≡ false_type)
+ReportsFalse (Ok t) (Err f) = ⊥
+ReportsFalse (Err f) (Ok b) = ⊥
+ReportsFalse (Err f) (Err g) = g ≡ of_types f
 
 -- whether the expression is False in the environment, or why it has no type there
 abbrev pub IsJudged : Environment → Expr → Result Bool CheckFault → Type 0

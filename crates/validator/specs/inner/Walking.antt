@@ -20,18 +20,18 @@ use Rattle.validator.specs.declared.fault.CheckFault.TheVariants.{UnknownType, U
 use Rattle.validator.specs.Names.{Name, tested_type, entity}
 
 -- nothing, or the first fault
-abbrev pub Judged : Type 0
-Judged = Result ⊤ CheckFault
+abbrev pub WalkResult : Type 0
+WalkResult = Result ⊤ CheckFault
 
-abbrev pub and_then : Judged → Judged → Judged
+abbrev pub and_then : WalkResult → WalkResult → WalkResult
 and_then (Ok u) r = r
 and_then (Err f) r = Err f
 
-abbrev pub in_turn : List Judged → Judged
+abbrev pub in_turn : List WalkResult → WalkResult
 in_turn [] = Ok tt
 in_turn (r ∷ rs) = and_then r (in_turn rs)
 
-abbrev pub or_fault : CheckFault → Bool → Judged
+abbrev pub or_fault : CheckFault → Bool → WalkResult
 or_fault f b = if b then Ok tt else Err f
 
 abbrev pub is_type_of_action : StatedSchema → List ℕ → Bool
@@ -40,32 +40,32 @@ is_type_of_action s n = list_any (λ u. bytes_eq u.type_name n) s.actions
 abbrev pub is_declared_action : StatedSchema → EntityUid → Bool
 is_declared_action s u = list_any (λ v. is_same u v) s.actions
 
-abbrev pub tested_type_told : StatedSchema → List ℕ → Judged
+abbrev pub tested_type_told : StatedSchema → List ℕ → WalkResult
 tested_type_told s n = or_fault UnknownType (is_some (s.shape n) || is_type_of_action s n)
 
-abbrev pub action_told : StatedSchema → EntityUid → Judged
+abbrev pub action_told : StatedSchema → EntityUid → WalkResult
 action_told s u = or_fault UnknownAction (is_declared_action s u)
 
-abbrev pub other_told : StatedSchema → EntityUid → Judged
+abbrev pub other_told : StatedSchema → EntityUid → WalkResult
 other_told s u = or_fault UnknownType (is_some (s.shape u.type_name))
 
-abbrev pub entity_told : StatedSchema → EntityUid → Judged
+abbrev pub entity_told : StatedSchema → EntityUid → WalkResult
 entity_told s u = if is_action_type u.type_name then action_told s u else other_told s u
 
-abbrev pub name_told : StatedSchema → Name → Judged
+abbrev pub name_told : StatedSchema → Name → WalkResult
 name_told s (tested_type n) = tested_type_told s n
 name_told s (entity u) = entity_told s u
 
-abbrev pub literal_told : StatedSchema → Literal → Judged
+abbrev pub literal_told : StatedSchema → Literal → WalkResult
 literal_told s (literal.Entity u) = entity_told s u
 literal_told s l = Ok tt
 
-abbrev pub operator_told : StatedSchema → Unary → Judged
+abbrev pub operator_told : StatedSchema → Unary → WalkResult
 operator_told s (Is n) = tested_type_told s n
 operator_told s op = Ok tt
 
 -- a form over parts that come to these
-abbrev pub walk_step : StatedSchema → Expr-F Judged → Judged
+abbrev pub walk_step : StatedSchema → Expr-F WalkResult → WalkResult
 walk_step s (Expr-F.Literal l) = literal_told s l
 walk_step s (Expr-F.Variable x) = Ok tt
 walk_step s (Expr-F.If a b c) = and_then a (and_then b c)
@@ -80,16 +80,16 @@ walk_step s (Expr-F.Record fs) = in_turn (values_of fs)
 walk_step s (Expr-F.UnaryCall called a) = a
 walk_step s (Expr-F.BinaryCall called a b) = and_then a b
 
-abbrev pub walk : StatedSchema → Expr → Judged
-walk s = fold-Expr Judged (walk_step s)
+abbrev pub walk : StatedSchema → Expr → WalkResult
+walk s = fold-Expr WalkResult (walk_step s)
 
-abbrev pub named_walk : StatedSchema → Named Expr → Named Judged
+abbrev pub named_walk : StatedSchema → Named Expr → Named WalkResult
 named_walk s f = record { name = f.name; value = walk s f.value }
 
 -- names one after the other
-abbrev pub names_told : StatedSchema → List Name → Judged
+abbrev pub names_told : StatedSchema → List Name → WalkResult
 names_told s ns = in_turn (map (name_told s) ns)
 
 -- the parts of a policy's expression, before its condition, and then that
-abbrev pub parts_told : StatedSchema → List Expr → Expr → Judged
+abbrev pub parts_told : StatedSchema → List Expr → Expr → WalkResult
 parts_told s parts condition = and_then (in_turn (map (walk s) parts)) (walk s condition)

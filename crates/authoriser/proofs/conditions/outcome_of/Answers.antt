@@ -2,7 +2,7 @@ use Rattle.std.proofs.lemmas.Result.{IfOk-weaker}
 use Rattle.std.specs.Prelude.{refl}
 use Rattle.evaluator.specs.Operators.{world_of}
 use Rattle.authoriser.specs.Answers.{PolicyEvaluatesTo}
-use Rattle.authoriser.specs.Views.{ConditionEvaluatesTo}
+use Rattle.authoriser.specs.inner.Views.{ConditionEvaluatesTo}
 use Rattle.authoriser.proofs.Judging.{true_scope, other_scope}
 use Rattle.authoriser.proofs.conditions.outcome_of.Goals as goal
 

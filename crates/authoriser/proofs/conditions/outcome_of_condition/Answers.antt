@@ -1,6 +1,6 @@
 use Rattle.std.proofs.Common.{sym, subst}
 use Rattle.evaluator.specs.Operators.{world_of}
-use Rattle.authoriser.specs.Views.{ConditionEvaluatesTo}
+use Rattle.authoriser.specs.inner.Views.{ConditionEvaluatesTo}
 use Rattle.authoriser.proofs.Judging.{value_comes_to, fault_comes_to}
 use Rattle.authoriser.proofs.conditions.outcome_of_condition.Goals as goal
 

@@ -2,7 +2,8 @@ use Rattle.std.proofs.Common.{take}
 use Rattle.std.specs.Prelude.{List}
 use Rattle.evaluator.specs.Operators.{world_of}
 use Rattle.authoriser.specs.Answers.{PolicyOutcome, ArePolicyOutcomes}
-use Rattle.authoriser.specs.Views.{named, Counts}
+use Rattle.authoriser.specs.Views.{named}
+use Rattle.authoriser.specs.inner.Views.{Counts}
 use Rattle.authoriser.proofs.deciding.answer_by_known.Given as goal
 
 abbrev pub invariant-loop-id : goal.invariant-loop-id

@@ -1,7 +1,7 @@
 use Rattle.std.proofs.Common.{subst, sym}
 use Rattle.std.specs.Prelude.{Contains}
 use Rattle.std.proofs.lemmas.List.{take_all}
-use Rattle.authoriser.specs.Views.{IsWithin}
+use Rattle.authoriser.specs.inner.Views.{IsWithin}
 use Rattle.authoriser.proofs.Judging.{none_before}
 use Rattle.authoriser.proofs.scopes.is_within_any.Goals as goal
 

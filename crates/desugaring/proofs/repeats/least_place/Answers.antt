@@ -2,7 +2,7 @@ use Rattle.std.proofs.Common.{◌++◌, ◌∷◌, [], sym, subst, take, get_or,
 use Rattle.std.proofs.lemmas.List.{take_all}
 use Rattle.desugaring.specs.Repeats.{abstract_names}
 use Rattle.desugaring.specs.Repeats.{NameAt, StandsAgain}
-use Rattle.desugaring.specs.inner.Searching.{TellsLeast}
+use Rattle.desugaring.specs.inner.Searching.{ReportsLeast}
 use Rattle.desugaring.proofs.Repeating.{Seen, seen-none, seen-new, seen-again, shown-more, was_new, was_old}
 use Rattle.desugaring.proofs.repeats.least_place.Goals as goal
 use Rattle.desugaring.proofs.repeats.least_place.Goals.{then-not-branch, else-not-branch}
@@ -28,4 +28,4 @@ loop-mark-preserved c =
     ])
 
 pub returns : goal.returns
-returns c = subst (λ ms. TellsLeast (StandsAgain (abstract_names ms)) c.loop-mark.least) (take_all _ c.args.marks.now c.loop-mark-test.false) c.loop-mark.invariant.tells
+returns c = subst (λ ms. ReportsLeast (StandsAgain (abstract_names ms)) c.loop-mark.least) (take_all _ c.args.marks.now c.loop-mark-test.false) c.loop-mark.invariant.tells

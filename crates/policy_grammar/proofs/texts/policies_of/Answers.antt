@@ -5,7 +5,7 @@ use Rattle.desugaring.specs.Repeats.{repeat_faults}
 use Rattle.policy_grammar.specs.CoreOf.{AreNamesOf}
 use Rattle.policy_grammar.specs.Limits.{IsSmallTree, IsId}
 use Rattle.policy_grammar.specs.PolicyText.{HaveNoPolicies, tree_faults, file_faults}
-use Rattle.policy_grammar.specs.Repeats.{policy_marks}
+use Rattle.policy_grammar.specs.Repeats.{policy_names}
 use Rattle.policy_grammar.proofs.Joining.{sound-all}
 use Rattle.policy_grammar.proofs.Lists.{none-right}
 use Rattle.policy_grammar.proofs.Refusing.{refuted, names-long}
@@ -18,7 +18,7 @@ repeated_name-requires-clause-named c = subst (AreNamesOf c.args.text.now c.args
 
 pub returns-in-Some-clause-refused : goal.returns-in-Some-clause-refused
 returns-in-Some-clause-refused c =
-    let again = subst (λ ns. c.in_ok-repeat.repeat ≡ least (repeat_faults (policy_marks ns c.args.trees.now))) c.deref.ensures.value c.in_ok-repeat.ensures in
+    let again = subst (λ ns. c.in_ok-repeat.repeat ≡ least (repeat_faults (policy_names ns c.args.trees.now))) c.deref.ensures.value c.in_ok-repeat.ensures in
     let told = told-file c.least_fault_is_told.ensures.both c.args.text.now c.args.trees.now c.args.names.items c.in_ok-repeat.repeat c.in_ok-verdict.verdict c.earlier_of.result again
     c.in_ok-verdict.ensures c.earlier_of.ensures in
     or_no_memory (HaveNoPolicies c.args.text.now c.args.trees.now c.args.names.items) c.from.result
@@ -26,7 +26,7 @@ returns-in-Some-clause-refused c =
 
 pub returns-then-not-verdict-clause-refused : goal.returns-then-not-verdict-clause-refused
 returns-then-not-verdict-clause-refused c =
-    let again = subst (λ ns. c.in_ok-repeat.repeat ≡ least (repeat_faults (policy_marks ns c.args.trees.now))) c.deref.ensures.value c.in_ok-repeat.ensures in
+    let again = subst (λ ns. c.in_ok-repeat.repeat ≡ least (repeat_faults (policy_names ns c.args.trees.now))) c.deref.ensures.value c.in_ok-repeat.ensures in
     let told = told-file c.least_fault_is_told.ensures.both c.args.text.now c.args.trees.now c.args.names.items c.in_ok-repeat.repeat c.in_ok-verdict.verdict c.earlier_of.result again
     c.in_ok-verdict.ensures c.earlier_of.ensures in
     let none = c.least_fault_is_told.ensures.none (file_faults c.args.text.now c.args.trees.now c.args.names.items) (sym told ∙ c.in_default.is) in
@@ -40,7 +40,7 @@ returns-then-not-verdict-clause-refused c =
 
 pub returns-then-not-are_ids-clause-refused : goal.returns-then-not-are_ids-clause-refused
 returns-then-not-are_ids-clause-refused c =
-    let again = subst (λ ns. c.in_ok-repeat.repeat ≡ least (repeat_faults (policy_marks ns c.args.trees.now))) c.deref.ensures.value c.in_ok-repeat.ensures in
+    let again = subst (λ ns. c.in_ok-repeat.repeat ≡ least (repeat_faults (policy_names ns c.args.trees.now))) c.deref.ensures.value c.in_ok-repeat.ensures in
     let told = told-file c.least_fault_is_told.ensures.both c.args.text.now c.args.trees.now c.args.names.items c.in_ok-repeat.repeat c.in_ok-verdict.verdict c.earlier_of.result again
     c.in_ok-verdict.ensures c.earlier_of.ensures in
     let none = c.least_fault_is_told.ensures.none (file_faults c.args.text.now c.args.trees.now c.args.names.items) (sym told ∙ c.in_default.is) in
@@ -57,15 +57,15 @@ named_of-requires-clause-same c = names-long c.args.text.now c.args.trees.now c.
 
 pub named_of-requires-clause-sound : goal.named_of-requires-clause-sound
 named_of-requires-clause-sound c =
-    let again = subst (λ ns. c.in_ok-repeat.repeat ≡ least (repeat_faults (policy_marks ns c.args.trees.now))) c.deref.ensures.value c.in_ok-repeat.ensures in
+    let again = subst (λ ns. c.in_ok-repeat.repeat ≡ least (repeat_faults (policy_names ns c.args.trees.now))) c.deref.ensures.value c.in_ok-repeat.ensures in
     let told = told-file c.least_fault_is_told.ensures.both c.args.text.now c.args.trees.now c.args.names.items c.in_ok-repeat.repeat c.in_ok-verdict.verdict c.earlier_of.result again
     c.in_ok-verdict.ensures c.earlier_of.ensures in
     let none = c.least_fault_is_told.ensures.none (file_faults c.args.text.now c.args.trees.now c.args.names.items) (sym told ∙ c.in_default.is) in
-    sound-all c.args.text.now c.args.trees.now (none-right (repeat_faults (policy_marks c.args.names.items c.args.trees.now)) (flat_map (tree_faults c.args.text.now) c.args.trees.now) none)
+    sound-all c.args.text.now c.args.trees.now (none-right (repeat_faults (policy_names c.args.names.items c.args.trees.now)) (flat_map (tree_faults c.args.text.now) c.args.trees.now) none)
 
 pub returns-clause-read : goal.returns-clause-read
 returns-clause-read c =
-    let again = subst (λ ns. c.in_ok-repeat.repeat ≡ least (repeat_faults (policy_marks ns c.args.trees.now))) c.deref.ensures.value c.in_ok-repeat.ensures in
+    let again = subst (λ ns. c.in_ok-repeat.repeat ≡ least (repeat_faults (policy_names ns c.args.trees.now))) c.deref.ensures.value c.in_ok-repeat.ensures in
     let told = told-file c.least_fault_is_told.ensures.both c.args.text.now c.args.trees.now c.args.names.items c.in_ok-repeat.repeat c.in_ok-verdict.verdict c.earlier_of.result again
     c.in_ok-verdict.ensures c.earlier_of.ensures in
     let none = c.least_fault_is_told.ensures.none (file_faults c.args.text.now c.args.trees.now c.args.names.items) (sym told ∙ c.in_default.is) in

@@ -1,7 +1,7 @@
 use Rattle.std.proofs.Common.{◌≡◌, ◌++◌, map}
 use Rattle.std.specs.Map.Iter.{deref_pair}
 use Rattle.authoriser.specs.Views.{named}
-use Rattle.stored_world.specs.Kept.{policies_read}
+use Rattle.stored_world.specs.TextsRead.{policies_read}
 use Rattle.stored_world.proofs.policies.read_policies.Given as goal
 
 -- what was found so far

@@ -4,14 +4,14 @@ use Rattle.token_readers.specs.declared.fault.Halt.{Halt}
 use Rattle.policy_tokens.specs.declared.token.Token.{Token}
 use Rattle.token_readers.specs.ParsesTo.{ParsesTo}
 use Rattle.token_readers.specs.Reading.{Parser, many}
-use Rattle.token_readers.specs.Repeats.{many_behind}
+use Rattle.token_readers.specs.Repeats.{many_onto}
 use Rattle.token_readers.proofs.Gathered.{as_read, instead}
 use Rattle.token_readers.proofs.repeated.read_many.Goals as goal
 
 after_none : {A : Type 0} (ks : Kinds) (p : Parser A) (ts rest : List Token) (none : List A) (r : Result (List A) Halt)
-    → none ≡ [] → ParsesTo (many_behind none ks p ts) r rest → ParsesTo (many ks p ts) r rest
+    → none ≡ [] → ParsesTo (many_onto none ks p ts) r rest → ParsesTo (many ks p ts) r rest
 after_none ks p ts rest none r empty =
-    instead (many ks p ts) (many_behind none ks p ts) r rest (as_read (many ks p ts) ∙ ap (λ found. many_behind found ks p ts) (sym empty))
+    instead (many ks p ts) (many_onto none ks p ts) r rest (as_read (many ks p ts) ∙ ap (λ found. many_onto found ks p ts) (sym empty))
 
 pub returns : goal.returns
 returns g c = λ p reads.

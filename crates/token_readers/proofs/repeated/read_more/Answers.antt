@@ -4,13 +4,13 @@ use Rattle.token_readers.specs.declared.fault.Halt.{Halt}
 use Rattle.policy_tokens.specs.declared.token.Token.{Token}
 use Rattle.token_readers.specs.ParsesTo.{ParsesTo}
 use Rattle.token_readers.specs.Reading.{Parser}
-use Rattle.token_readers.specs.Repeats.{many_behind, many_after}
+use Rattle.token_readers.specs.Repeats.{many_onto, many_after}
 use Rattle.token_readers.proofs.repeated.read_more.Goals as goal
 
 after_one : {A : Type 0} (ks : Kinds) (p : Parser A) (ts rest : List Token) (first : A) (none one : List A) (r : Result (List A) Halt)
-    → none ≡ [] → one ≡ none ++ first ∷ [] → ParsesTo (many_behind one ks p ts) r rest → ParsesTo (many_after first ks p ts) r rest
+    → none ≡ [] → one ≡ none ++ first ∷ [] → ParsesTo (many_onto one ks p ts) r rest → ParsesTo (many_after first ks p ts) r rest
 after_one ks p ts rest first none one r empty begun =
-    subst (λ found. ParsesTo (many_behind found ks p ts) r rest) (begun ∙ ap (λ z. z ++ first ∷ []) empty)
+    subst (λ found. ParsesTo (many_onto found ks p ts) r rest) (begun ∙ ap (λ z. z ++ first ∷ []) empty)
 
 pub returns : goal.returns
 returns g c = λ p reads.

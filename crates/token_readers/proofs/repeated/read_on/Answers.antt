@@ -1,5 +1,5 @@
 use Rattle.std.proofs.lemmas.Result.{err_from_is_err_and}
-use Rattle.token_readers.specs.Repeats.{many_behind}
+use Rattle.token_readers.specs.Repeats.{many_onto}
 use Rattle.token_readers.proofs.Gathered.{pushed, ended, ran_out, stopped}
 use Rattle.token_readers.proofs.repeated.read_on.Goals as goal
 
@@ -16,7 +16,7 @@ returns-then-not-sees_one_of g c = λ p reads.
 pub returns-in_err-next : goal.returns-in_err-next
 returns-in_err-next g c = λ p reads.
     let exit = err_from_is_err_and c.from_residual.result c.from_residual.ensures.1 in
-    rw (exit.1, exit.2) (stopped (g.S.KindSet.included c.args.set) p (many_behind c.args.found (g.S.KindSet.included c.args.set) p c.args.tokens.now.rest.now) c.left-turn-end.result c.loop-turn._turn c.loop-turn.found c.loop-turn.tokens.rest.now
+    rw (exit.1, exit.2) (stopped (g.S.KindSet.included c.args.set) p (many_onto c.args.found (g.S.KindSet.included c.args.set) p c.args.tokens.now.rest.now) c.left-turn-end.result c.loop-turn._turn c.loop-turn.found c.loop-turn.tokens.rest.now
     c.in_err-next.field-0.0 c.read.new.arg2.rest.now (c.loop-turn.invariant p reads) c.loop-turn-test.true c.if-not-sees_one_of.ensures (reads _ _ _ c.in_err-next.ensures))
 
 pub returns : goal.returns

@@ -1,7 +1,7 @@
 use Rattle.std.proofs.Common.{ap, ◌∙◌}
 use Rattle.desugaring.specs.inner.Searching.{held}
 use Rattle.desugaring.proofs.Repeating.{shown-step}
-use Rattle.desugaring.proofs.repeats.marks_of.Goals as goal
+use Rattle.desugaring.proofs.repeats.names_of.Goals as goal
 
 pub loop-key-preserved : goal.loop-key-preserved
 loop-key-preserved c =

@@ -1,7 +1,7 @@
 //! Where a request's three entities stand in the hierarchy, looked up once.
 ghost use Rattle.std.specs.Prelude.{◌≡◌, ◌↔◌, ⊤, IsTrue, IfOk, MatchOption};
 ghost use Rattle.ancestor_closure.specs.Hierarchy.{Parents, IsAscending, names};
-ghost use Rattle.authoriser.specs.Views.{IsWithin, HasItsAncestors, HasRequestAncestors, AllHaveTheirAncestors};
+ghost use Rattle.authoriser.specs.inner.Views.{IsWithin, HasItsAncestors, HasRequestAncestors, AllHaveTheirAncestors};
 
 use ancestor_closure::{Ancestry, is_among};
 use plain::NoMemory;

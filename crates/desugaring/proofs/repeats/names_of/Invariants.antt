@@ -1,7 +1,7 @@
 use Rattle.std.proofs.Common.{◌≡◌, map, take}
 use Rattle.desugaring.specs.Repeats.{abstract_names}
 use Rattle.desugaring.specs.inner.Searching.{held}
-use Rattle.desugaring.proofs.repeats.marks_of.Given as goal
+use Rattle.desugaring.proofs.repeats.names_of.Given as goal
 
 -- the marks up to here
 abbrev pub invariant-loop-key : goal.invariant-loop-key

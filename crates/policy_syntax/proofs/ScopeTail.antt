@@ -19,10 +19,10 @@ made notes effect s cs = record {
   conditions = cs;
 }
 
-pub behind_then : (n : ℕ) (notes : List Annotation) (effect : Token) (s : ScopeTree) (ts : List Token)
-    → r.policy_of n notes effect s ts ≡ and_then (r.behind_scope n ts) (λ cs. pure (made notes effect s cs))
-unfolding r.policy_of r.behind_scope
-behind_then n notes effect s ts = closed (token k.RParen ts)
+pub tail_then : (n : ℕ) (notes : List Annotation) (effect : Token) (s : ScopeTree) (ts : List Token)
+    → r.policy_of n notes effect s ts ≡ and_then (r.scope_tail n ts) (λ cs. pure (made notes effect s cs))
+unfolding r.policy_of r.scope_tail
+tail_then n notes effect s ts = closed (token k.RParen ts)
   where
     ended : (cs : List Condition) (q : ParseResult Token)
         → and_then q (λ _. pure (made notes effect s cs))

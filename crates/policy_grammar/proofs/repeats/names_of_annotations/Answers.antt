@@ -1,6 +1,6 @@
 use Rattle.std.proofs.Common.{refl}
 use Rattle.policy_grammar.proofs.Marking.{annotation-step}
-use Rattle.policy_grammar.proofs.repeats.marks_of_annotations.Goals as goal
+use Rattle.policy_grammar.proofs.repeats.names_of_annotations.Goals as goal
 
 pub loop-annotation-preserved : goal.loop-annotation-preserved
 loop-annotation-preserved c =

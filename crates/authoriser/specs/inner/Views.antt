@@ -1,0 +1,83 @@
+-- How the values that the code holds are read by the definitions.
+use Rattle.std.specs.Prelude.{◌≡◌, ◌⊎◌, ℕ, List, map, Contains, Bool, true, false, Option, Some, None, Ok}
+use Rattle.std.specs.Borrow.{Bor}
+use Rattle.values.specs.declared.entity_uid.EntityUid.{EntityUid}
+use Rattle.values.specs.declared.request.Request.{Request}
+use Rattle.values.specs.Values.{PlainValue, boolean}
+use Rattle.ancestor_closure.specs.Hierarchy.{Parents, IsAllAbove, IsAscending, names}
+use Rattle.expressions.specs.declared.expr.Expr.{Expr}
+use Rattle.policy_grammar.specs.declared.policy.Scope.{Scope}
+use Rattle.policy_grammar.specs.declared.policy.Effect.TheVariants.{Permit, Forbid}
+use Rattle.evaluator.specs.Outcomes.{boolean_in}
+use Rattle.evaluator.specs.Operators.{World}
+use Rattle.evaluator.specs.Evaluation.{EvaluatesTo, TestFails}
+use Rattle.authoriser.specs.declared.answer.ErringPolicy.{ErringPolicy}
+use Rattle.authoriser.specs.declared.outcome.Outcome.{Outcome}
+use Rattle.authoriser.specs.declared.outcome.Outcome.TheVariants.{Satisfied, NotSatisfied, Errs}
+use Rattle.authoriser.specs.declared.outcome.PolicyError.{PolicyError}
+use Rattle.authoriser.specs.declared.outcome.PolicyError.TheVariants.{TypeError}
+use Rattle.authoriser.specs.declared.with_ancestors.WithAncestors.{WithAncestors}
+use Rattle.authoriser.specs.declared.with_ancestors.RequestAncestors.{RequestAncestors}
+use Rattle.authoriser.specs.declared.tally.Tally.{Tally}
+use Rattle.authoriser.specs.Scopes.{IsEntityScopeTrue, IsActionScopeTrue}
+use Rattle.authoriser.specs.Answers.{PolicyOutcome, fault_of, satisfied, erring}
+
+-- the entity is `of` itself, or `of` is among the ancestors that were looked up
+abbrev pub IsWithin : WithAncestors → EntityUid → Type 0
+IsWithin p of = (p.uid.now ≡ of) ⊎ Contains (names p.ancestors.items) of
+
+-- its ancestors are all that lie above it, ascending
+pub record HasItsAncestors (parents : Parents) (entity : EntityUid) (p : WithAncestors) : Type 0 where
+  pub same : p.uid.now ≡ entity
+  pub all : IsAllAbove parents entity (names p.ancestors.items)
+  pub ascending : IsAscending (names p.ancestors.items)
+
+pub record HasRequestAncestors (parents : Parents) (q : Request) (s : RequestAncestors) : Type 0 where
+  pub principal : HasItsAncestors parents q.principal s.principal
+  pub action : HasItsAncestors parents q.action s.action
+  pub resource : HasItsAncestors parents q.resource s.resource
+
+-- the ancestors of each of the three are all that lie above it
+pub record AllHaveTheirAncestors (parents : Parents) (s : RequestAncestors) : Type 0 where
+  pub principal : HasItsAncestors parents s.principal.uid.now s.principal
+  pub action : HasItsAncestors parents s.action.uid.now s.action
+  pub resource : HasItsAncestors parents s.resource.uid.now s.resource
+
+pub record AreAscending (s : RequestAncestors) : Type 0 where
+  pub principal : IsAscending (names s.principal.ancestors.items)
+  pub action : IsAscending (names s.action.ancestors.items)
+  pub resource : IsAscending (names s.resource.ancestors.items)
+
+-- the scope is true, by the ancestors that were looked up
+abbrev pub IsTrueOf : Scope → RequestAncestors → Type 0
+IsTrueOf scope s =
+    IsEntityScopeTrue (IsWithin s.principal) scope.principal s.principal.uid.now
+    × IsActionScopeTrue (IsWithin s.action) scope.action s.action.uid.now
+    × IsEntityScopeTrue (IsWithin s.resource) scope.resource s.resource.uid.now
+
+-- what a condition as a test comes to
+abbrev pub ConditionEvaluatesTo : World → Request → Expr → Outcome → Type 0
+ConditionEvaluatesTo W q x Satisfied = EvaluatesTo W q x (Ok (boolean true))
+ConditionEvaluatesTo W q x NotSatisfied = EvaluatesTo W q x (Ok (boolean false))
+ConditionEvaluatesTo W q x (Errs error) = TestFails W q x (fault_of error)
+
+-- a condition has to give a boolean
+abbrev pub outcome_by_truth : Option Bool → Outcome
+outcome_by_truth (Some true) = Satisfied
+outcome_by_truth (Some false) = NotSatisfied
+outcome_by_truth None = Errs TypeError
+
+abbrev pub outcome_by : PlainValue → Outcome
+outcome_by v = outcome_by_truth (boolean_in v)
+
+abbrev pub ids : List (Bor (List ℕ)) → List (List ℕ)
+ids xs = map (λ x. x.now) xs
+
+abbrev pub faults : List (Bor (List ℕ) × PolicyError) → List ErringPolicy
+faults xs = map (λ x. record { policy = x.0.now; error = x.1 }) xs
+
+-- the tally has the satisfied permits, the satisfied forbids and the erring policies of these
+pub record Counts (t : Tally) (js : List PolicyOutcome) : Type 0 where
+  pub permits : ids t.permits.items ≡ satisfied Permit js
+  pub forbids : ids t.forbids.items ≡ satisfied Forbid js
+  pub errors : faults t.errors.items ≡ erring js
