@@ -3,14 +3,18 @@
 
     tools/check_docs.py
 
-- Each crate of crates.txt that is no test and measures nothing stands in README.md's table and in docs/proved.md, and no other does; each has a part
-  in docs/definitions.md or docs/surface.md.
-- The reading list of docs/definitions.md is what tools/reading_list.py finds; of the twelve files before it each is one of that list, with its lines.
-- Each file that a document names by its path is there. Numbers of crates, and of each crate's must-fail edits, are those that are.
-- In README.md's picture of the layers each crate stands on crates of layers below, or to its right in its own.
-- README.md has at most 120 lines; no line of a document, but for tables, code and links, has over 100 characters.
+- Each crate of crates.txt that is no test and measures nothing stands in README.md's list and has a part in docs/proved.md, and no other does; each is
+  named in docs/definitions.md or docs/surface.md.
+- The reading list of docs/definitions.md is what tools/reading_list.py prints; of the twelve files before it each is one of that list, with its lines.
+- Each file of docs/, bench/, tools/, examples/ and of a crate's src/, specs/ and proofs/ that a document names by its path from the top is there; so is,
+  below a heading that names crates, each path that begins with specs/, proofs/, src/ or must-fail/, in one of these crates.
+- The numbers of crates that README.md, docs/CONTRIBUTING.md and docs/proving.md tell of the two programs are those that crates.txt gives, and the number
+  of all crates that docs/proving.md tells; each crate's must-fail edits are as many as its row there says.
+- Each such crate is in README.md's picture of the layers, and stands on crates of layers below, or to its right in its own.
+- README.md has at most 120 lines; no line of a document, but for tables and code, has over 100 characters.
 - Lines of specs/ and src/ have at most 120 characters, but for those of LONG.
-- The numbers by which refusals are told (docs/codes.md) are those of the code.
+- docs/codes.md has a row for each number that an arm of a `fn code` of the code gives, and for each that a body is refused with (`BodyFault::Refused`);
+  of the statuses of HTTP for those that stand in the place of a code. That a row says what the number means is for a reader.
 Standard library alone.
 """
 import os
@@ -20,18 +24,17 @@ import sys
 
 TOP = os.path.dirname(os.path.dirname(os.path.abspath(__file__)))
 BESIDE = re.compile(r"_tests$|_rows$|^bench$|^conformance$")
+# statuses that are told of no refusal, or beside a code of the site
+BESIDE_CODES = {"200", "409", "422", "503"}
+INSIDE = re.compile(r"(?<![\w/.])((?:specs|proofs|src|must-fail)/[\w./-]*\w)(?![\w*])")
 NAMED = re.compile(r"(?<![\w/.])((?:docs|bench|tools|examples)/[\w./-]*\w|crates/\w+/(?:src|specs|proofs)/[\w/]+\.\w+)")
 
-# lines of specs/ and src/ that are longer: texts that are printed or read, attributes, which stand on one line, and
-# doc comments one or two characters too long, to be laid out anew when their crates are next proved
+# lines of specs/ and src/ that are longer: texts that are printed or read, and attributes, which stand on one line
 LONG = {
     "crates/bench/src/policies.rt": 1,
-    "crates/command_lines/src/line.rt": 1,
     "crates/decision_texts/src/request.rt": 1,
     "crates/entities/src/requests.rt": 1,
     "crates/http_rows/src/serving.rt": 1,
-    "crates/token_readers/src/repeated.rt": 2,
-    "crates/values/src/value.rt": 1,
 }
 
 
@@ -64,10 +67,19 @@ def about_crates():
 
 
 def about_paths():
+    known = set(crates())
     for name in documents():
-        for path in sorted(set(NAMED.findall(text_of(name)))):
+        text = text_of(name)
+        for path in sorted(set(NAMED.findall(text))):
             if not os.path.exists(f"{TOP}/{path}"):
                 yield f"{name} names {path}, which is not there"
+        # what stands below a heading that names crates is of these
+        for part in re.split(r"(?m)^#+ ", text):
+            folders = [f"{TOP}/crates/{it}" for it in re.findall(r"`(\w+)`", part.partition("\n")[0]) if it in known]
+            for path in sorted(set(INSIDE.findall(part))) if folders else ():
+                # a word in capitals stands for any name
+                if not re.search(r"/[A-Z]+$", path) and not any(os.path.exists(f"{it}/{path}{ending}") for it in folders for ending in ("", ".antt", ".rt", ".edit")):
+                    yield f"{name} names {path} of {part.partition(chr(10))[0]}, which is not there"
 
 
 def about_layers():
@@ -102,13 +114,15 @@ def about_numbers():
     libraries = {name.split()[0]: named.split() for name, _, named in lines if name.strip()}
     bare, whole = len(below("bare_decide", libraries)), len(below("cedar_site", libraries))
     wanted = (
-        ("README.md", rf"`bare_decide` first, once: {bare} crates"),
-        ("README.md", rf"proves the whole program: {whole} crates"),
-        ("docs/proving.md", rf"Today's {len(libraries)} crates\s+and\s+programs"),
-        ("docs/proving.md", rf"\(`bare_decide`\) stands on {bare}\s+crates, the whole program on {whole}"),
+        ("README.md", f"here `bare_decide`: {bare} crates"),
+        ("README.md", f"builds the whole program: {whole} crates"),
+        ("docs/CONTRIBUTING.md", f"program is not built: {bare} crates, none of schemas"),
+        ("docs/CONTRIBUTING.md", f"builds `cedar_site`: {whole} crates"),
+        ("docs/proving.md", f"Today's {len(libraries)} crates and programs"),
+        ("docs/proving.md", f"(`bare_decide`) stands on {bare} crates, the whole program on {whole}"),
     )
     for name, words in wanted:
-        if not re.search(words, text_of(name)):
+        if words not in " ".join(text_of(name).split()):
             yield f"{name} does not say: {words}"
     rows = dict(re.findall(r"(?m)^\| `(\w+)` \| [^|]*\| (\d*)", text_of("docs/proving.md")))
     for name in libraries:
@@ -140,9 +154,16 @@ def about_long_lines():
 
 
 def about_codes():
-    coded = set(re.findall(r"ReadFault::\w+(?:\(\w*\))? => (\d+)", text_of("crates/policy_grammar/src/fault.rt")))
-    told = set(re.findall(r"(?m)^(?:\| |- )(\d\d)\b", text_of("docs/codes.md")))
-    yield from (f"docs/codes.md lacks {it}" for it in sorted(coded - told - {"1"}))
+    coded = set()
+    for folder, _, names in os.walk(f"{TOP}/crates"):
+        inside = os.path.relpath(folder, TOP).split(os.sep)[2:3]
+        for name in names if inside == ["src"] else ():
+            text = text_of(os.path.relpath(f"{folder}/{name}", TOP))
+            for arms in re.findall(r"(?s)\bfn code\(.*?\n    }\n", text):
+                coded |= set(re.findall(r"=> (\d+)", arms))
+            coded |= set(re.findall(r"\bBodyFault::Refused\((\d+)\)", text))
+    told = set(re.findall(r"(?m)^\| (\d+) \|", text_of("docs/codes.md").partition("## Statuses of the program")[0]))
+    yield from (f"docs/codes.md has no row for {it}" for it in sorted(coded - told - BESIDE_CODES, key=int))
 
 
 def about_reading():

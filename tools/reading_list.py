@@ -1,21 +1,25 @@
 #!/usr/bin/env python3
-"""Lists the definitions that a contract rests on: which files of specs/ a reader has to believe, lowest first, with their lines.
+"""Lists the definitions that a contract rests on: which files of specs/ a reader has to believe, highest first, with their lines.
 
     tools/reading_list.py [--names] [--check FILE] [CRATE MODULE NAME ..]
 
-Without words it starts at the contract of the program's runs, `site_commands::run`. It walks names: from those that the contract cites to those that their
-definitions cite, over the `use` lines of specs/, and leaves out what no definition on the way names (lemmas, helpers of proofs). A file counts with the
-lines of those of its definitions that are reached, and of the comments above them. Types that are declared in code count with their file.
-With --names it prints the reached names of each file; --check FILE compares the list with the one that stands in a document between the lines
-`<!-- reading list -->` and `<!-- end of the reading list -->`. Standard library alone.
+Without words it starts at the contract of the program's runs, `site_commands::run`, and at what it is over: the clauses of the trait `Host`, and what
+`SystemHost` means by them. It walks names: from those that the contract cites to those that their definitions cite, over the `use` lines of specs/, and
+leaves out what no definition on the way names (lemmas, helpers of proofs). A file counts with the lines of those of its definitions that are reached, and
+of the comments above them. Types and traits that are declared in code count with their file. Of std and the ported libraries it follows nothing: it tells
+which of them are cited. With --names it prints the reached names of each file; --check FILE compares what it prints with what stands in a document between
+the lines `<!-- reading list -->` and `<!-- end of the reading list -->`. Standard library alone.
 """
 import os
 import re
 import sys
 
 TOP = os.path.dirname(os.path.dirname(os.path.abspath(__file__)))
-START = ("site_commands", ["Runs", "IsRun"])
-HEAD = re.compile(r"^(?:(?:abbrev|unfoldable|opaque|pub|data|record|mutual|infixl|infixr|infix)\s+)*(?:\d+\s+)?([^\s:(){},=]+)")
+START = "site_commands"
+# what the clauses of its contract cite, and what they are over: each file of its code with what is declared there
+CITED = [("Events", "Runs"), ("Runs", "IsRun")]
+OVER = [("host", "Host"), ("system", "SystemHost")]
+HEAD = re.compile(r"^(?:(?:abbrev|unfoldable|opaque|pub|data|record|mutual|infixl|infixr|infix)\s+)*(?:\d+\s+)?(◌\S+|[^\s:(){},=]+)")
 WORD = re.compile(r"[^\s(){}\[\],;.]+")
 # What has such a type is believed by its type alone: a decision, or functions with the laws that settle them. Above its module nothing
 # else of it is known, since it is neither an `abbrev` nor `unfoldable`.
@@ -23,10 +27,12 @@ BY_TYPE = re.compile(r"^pub \S+ :(?:.*→)? (?:Decided|StringMeaning)\b[^→]*$"
 
 
 def opened(lines):
-    """The lines with what stands in a `module` or `mutual` block moved to the left, and the line that opens it left empty."""
-    found, inside = [], False
+    """The lines with what stands in a `module` or `mutual` block moved to the left, and those that open it left empty."""
+    found, inside, head = [], False, False
     for line in lines:
-        if re.match(r"(pub )?module .*where$|(\w+ )*mutual$", line):
+        if head or re.match(r"(pub )?module |(\w+ )*mutual$", line):
+            # a module's parameters may take several lines
+            head = not line.endswith(("where", "mutual"))
             inside, line = True, ""
         elif inside and line[:2].strip():
             inside = False
@@ -58,7 +64,7 @@ class Module:
                 at, comment = end + 1, []
                 continue
             end = at + 1
-            while end < len(lines) and (not lines[end].strip() or lines[end][0].isspace() or lines[end].startswith("--")):
+            while end < len(lines) and (not lines[end].strip() or lines[end][0].isspace() or lines[end].startswith(("--", "]"))):
                 if lines[end].startswith("--") or not lines[end].strip() and not any(it[:1].isspace() for it in lines[end + 1 : end + 2]):
                     break
                 end += 1
@@ -80,7 +86,7 @@ class Module:
     def add_item(self, lines, at, end, comment):
         text = "\n".join(lines[at:end])
         found = HEAD.match(lines[at])
-        names = {found[1]} if found else set()
+        names = {found[1]} if found and found[1] != "unfolding" else set()
         # a record's fields and a type's constructors
         names |= set(re.findall(r"(?m)^  (?:pub )?(\S+) :", text)) if re.match(r"(pub )?(data|record)", lines[at]) else set()
         for name in names:
@@ -93,11 +99,20 @@ class Module:
             owner[1] += text + "\n"
 
 
+def imports_of(text):
+    """What the `ghost use` lines of a file of code bring."""
+    module = Module.__new__(Module)
+    module.imports = {}
+    for found in re.finditer(r"ghost (use [^;]+);", text):
+        module.add_import(" ".join(found[1].split()))
+    return module.imports
+
+
 class Walk:
     """What is reached from some names."""
 
     def __init__(self):
-        self.modules, self.reached, self.types, self.order, self.seen = {}, {}, {}, [], set()
+        self.modules, self.reached, self.types, self.seen, self.libraries = {}, {}, {}, set(), set()
 
     def module(self, crate, name):
         path = f"{TOP}/crates/{crate}/specs/{name.replace('.', '/')}.antt"
@@ -116,8 +131,34 @@ class Walk:
                     return
         self.types.setdefault(f"{TOP}/crates/{crate}/src/lib.rt", set()).add(parts[-1])
 
+    def visit_code(self, crate, file, name):
+        """What is declared in a file of code, with its clauses and ghost members."""
+        path = f"{TOP}/crates/{crate}/src/{file}.rt"
+        self.types.setdefault(path, set()).add(name)
+        with open(path, encoding="utf-8") as it:
+            text = re.sub(r"(?m)//.*$", "", it.read())
+        self.follow(text, imports_of(text))
+
+    def follow(self, code, imports, here=None, but=None):
+        """What a piece of a definition or of a clause cites: what the imports bring, and in the module of a definition its others."""
+        for word in sorted(set(WORD.findall(code)) | set(re.findall(r"◌[^\s]*◌", code)), key=lambda it: (code.find(it), it)):
+            if here and word in here[2] and word != but:
+                self.visit(here[0], here[1], word)
+            elif word in imports:
+                crate, module, real = imports[word]
+                # a module under a name of its own: what stands behind its dot
+                behind = re.findall(rf"(?<![\w.]){re.escape(word)}\.(\w[^\s(){{}}\[\],;.]*)", code)
+                for each in [real] if real else behind:
+                    self.visit(crate, module, each)
+        # an operator stands between its parts; the steps of a `do` block are joined by `>>=`
+        code = code.replace("←", ">>=")
+        for shown, to in {**imports, **({it: (*here[:2], it) for it in here[2]} if here else {})}.items():
+            if "◌" in shown and shown != but and all(part in code for part in shown.split("◌") if part):
+                self.visit(to[0], to[1], to[2] or shown)
+
     def visit(self, crate, module, name):
         if not os.path.isdir(f"{TOP}/crates/{crate}"):
+            self.libraries.add(crate)
             return
         if module.startswith("declared."):
             self.declared(crate, module)
@@ -139,21 +180,7 @@ class Walk:
         is_sealed = name in found.by_type and "/specs/inner/" in found.path
         if not is_sealed:
             self.reached.setdefault(found.path, {})[name] = lines
-        code = re.sub(r"(?m)--.*$", "", text)
-        for word in sorted(set(WORD.findall(code)) | set(re.findall(r"◌[^\s]*◌", code)), key=lambda it: (code.find(it), it)):
-            if word in found.items and word != name:
-                self.visit(crate, module, word)
-            elif word in found.imports:
-                crate_of, module_of, real = found.imports[word]
-                # a module under a name of its own: what stands behind its dot
-                behind = re.findall(rf"(?<![\w.]){re.escape(word)}\.(\w[^\s(){{}}\[\],;.]*)", code)
-                for each in [real] if real else behind:
-                    self.visit(crate_of, module_of, each)
-        for shown, to in found.imports.items():
-            if "◌" in shown and all(part in code for part in shown.split("◌") if part):
-                self.visit(to[0], to[1], to[2] or shown)
-        if found.path not in self.order and not is_sealed:
-            self.order.append(found.path)
+        self.follow(re.sub(r"(?m)--.*$", "", text), found.imports, (crate, module, found.items), name)
 
 
 def crates_in_order():
@@ -161,11 +188,26 @@ def crates_in_order():
         return [it.split(":")[0].split()[0] for it in file if it.partition("#")[0].strip()]
 
 
+def lowest_first(walk):
+    """The files, by crate and in a crate each behind those that it cites; what declares types goes before."""
+    crates, behind, seen = crates_in_order(), [], set()
+
+    def put(path):
+        if path in walk.reached and path not in seen:
+            seen.add(path)
+            for crate, module, _ in walk.modules[path].imports.values():
+                put(f"{TOP}/crates/{crate}/specs/{module.replace('.', '/')}.antt")
+            behind.append(path)
+
+    for path in walk.reached:
+        put(path)
+    return sorted([*sorted({*walk.types} - {*behind}), *behind], key=lambda path: crates.index(os.path.relpath(path, TOP).split("/")[1]))
+
+
 def listed(walk, names):
-    order = crates_in_order()
-    rank = lambda path: (order.index(os.path.relpath(path, TOP).split("/")[1]), walk.order.index(path) if path in walk.order else -1, path)
+    """What is printed: how much there is, and a row a file, highest first."""
     rows, total = [], 0
-    for path in sorted({*walk.reached, *walk.types}, key=rank):
+    for path in reversed(lowest_first(walk)):
         short = os.path.relpath(path, TOP)
         if path in walk.reached:
             lines = len(set().union(*walk.reached[path].values()))
@@ -174,7 +216,10 @@ def listed(walk, names):
             lines, told = 0, ", ".join(sorted(walk.types[path]))
         total += lines
         rows.append(f"| {short} | {lines or 'types'} | {told} |" if names else f"| {short} | {lines or 'types'} |")
-    return rows, total
+    head = ["| file | lines | names |", "|---|---|---|"] if names else ["| file | lines |", "|---|---|"]
+    count = f"{len(walk.reached)} files of specs/, {total} lines of definitions; {len(rows) - len(walk.reached)} files that declare types."
+    libraries = [f"Cited, and not listed: {', '.join(sorted(walk.libraries))}."] if walk.libraries else []
+    return [count, *libraries, "", *head, *rows]
 
 
 def main(words):
@@ -186,19 +231,19 @@ def main(words):
         for name in rest[2:]:
             walk.visit(rest[0], rest[1], name)
     else:
-        walk.visit(START[0], "Events", "Runs")
-        walk.visit(START[0], "Runs", "IsRun")
-    rows, total = listed(walk, names)
+        for file, name in OVER:
+            walk.visit_code(START, file, name)
+        for module, name in CITED:
+            walk.visit(START, module, name)
+    lines = listed(walk, names)
     if check:
         with open(check, encoding="utf-8") as file:
             inside = file.read().partition("<!-- reading list -->")[2].partition("<!-- end of the reading list -->")[0]
-        stands = [it for it in inside.split("\n") if it.startswith("| crates/")]
-        if stands != rows:
+        if inside.strip().split("\n") != lines:
             print(f"{check}: its reading list is not what the imports say (tools/reading_list.py prints it)")
             return 1
         return 0
-    print("\n".join(rows))
-    print(f"{len(rows)} files, {total} lines of definitions")
+    print("\n".join(lines))
     return 0
 
 
