@@ -86,13 +86,14 @@ if_erring j = error_of j.outcome j.id
 abbrev pub erring : List PolicyOutcome → List ErringPolicy
 erring js = flat_map if_erring js
 
--- Allow where some permit is satisfied and no forbid is; the reason is then the satisfied permits, else the satisfied
--- forbids
+-- Allow where some permit is satisfied and no forbid is. The reason (Cedar's determining policies) is then the
+-- satisfied permits, else the satisfied forbids.
 abbrev pub decided : List (List ℕ) → List (List ℕ) → List ErringPolicy → Answer
 decided permits (f ∷ forbids) errors = record { decision = Deny; reason = f ∷ forbids; errors = errors; cycle = [] }
 decided [] [] errors = record { decision = Deny; reason = []; errors = errors; cycle = [] }
 decided (p ∷ permits) [] errors = record { decision = Allow; reason = p ∷ permits; errors = errors; cycle = [] }
 
+-- the answer by what the policies come to
 abbrev pub answer_by : List PolicyOutcome → Answer
 answer_by js = decided (satisfied Permit js) (satisfied Forbid js) (erring js)
 
@@ -110,5 +111,7 @@ pub record IsPolicyAnswer (W : World) (q : Request) (ps : List NamedPolicy) (a :
   pub outcomes : ArePolicyOutcomes W q ps judged
   pub answer : a ≡ answer_by judged
 
+-- the answer to a request: a denial that names all entities on cycles, where there are any; else by what the policies
+-- come to
 abbrev pub IsAnswer : World → Request → List NamedPolicy → Answer → Type 0
 IsAnswer W q ps a = IsCycleDenial W.parents a ⊎ IsPolicyAnswer W q ps a

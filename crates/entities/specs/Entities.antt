@@ -45,19 +45,21 @@ parent_fits s uid parent = do
   other ← demand SelfParent (not (is_same parent uid))
   demand BadParent (s.may_have_parent uid.type_name parent.type_name)
 
--- each of these, in their order
+-- an entity may have each of these parents; the first that it may not have tells why
 unfoldable pub parents_fit : StatedSchema → EntityUid → List EntityUid → Result ⊤ EntityFault
 parents_fit s uid [] = Ok tt
 parents_fit s uid (p ∷ ps) = do
   fits ← parent_fits s uid p
   parents_fit s uid ps
 
--- then they are its parents, ascending and each once
+-- the parents of an entity, ascending and each once, where it may have them
 unfoldable pub parents_in : StatedSchema → EntityUid → List EntityUid → Result (List EntityUid) EntityFault
 parents_in s uid ps = do
   fit ← parents_fit s uid ps
   Ok (uid_set ps)
 
+-- The entity that JSON states, or its first fault: first of its form, then of its type, its tags, its attributes and
+-- its parents.
 unfoldable pub entity_in : StatedSchema → Data → Result Entity EntityFault
 entity_in s d = do
   stated ← stated_in d

@@ -115,11 +115,13 @@ mutual
     each_fails_later : {x : Expr} {xs : List Expr} {v : PlainValue} {e : EvalFault} → EvaluatesTo W q x (Ok v)
         → EachEvaluatesTo W q xs (Err e) → EachEvaluatesTo W q (x ∷ xs) (Err e)
 
--- the answer is what the expression gives, but where memory was refused
+-- ---- what code that evaluates returns
+
+-- what is returned is what the expression gives, but where memory was refused
 abbrev pub AnswersWhatIsGiven : World → Request → Expr → EvaluationResult → Type 0
 AnswersWhatIsGiven W q x answer = MatchResult answer (λ v. EvaluatesTo W q x (Ok v))
     (λ e. e ≢ NoMemory → EvaluatesTo W q x (Err e))
 
--- whatever the expression gives is the answer, but where memory was refused
+-- whatever the expression gives is returned, but where memory was refused
 abbrev pub AnswersAllThatIsGiven : World → Request → Expr → EvaluationResult → Type 0
 AnswersAllThatIsGiven W q x answer = (r : EvaluationResult) → EvaluatesTo W q x r → answer ≢ Err NoMemory → answer ≡ r

@@ -33,11 +33,11 @@ pub record Derives {A : Type 0} (L : Lang A) (most : ℕ) (text : List ℕ) (tre
   pub lexed : IsLexed text tokens
   pub derived : L tokens tree
 
--- the faults of a policy's tree: annotations that stand again, and those of its conditions
+-- The faults of a policy's tree: annotations that stand again, and those of its conditions.
 abbrev pub tree_faults : List ℕ → PolicyTree → List DesugarFault
 tree_faults text tree = repeat_faults (annotation_keys text tree) ++ condition_faults text tree.conditions
 
--- and of a file's: names of policies that stand again, and those of each tree
+-- The faults of a file's trees: names of policies that stand again, and the faults of each tree.
 abbrev pub file_faults : List ℕ → List PolicyTree → List (List ℕ) → List DesugarFault
 file_faults text trees names = repeat_faults (policy_names names trees) ++ flat_map (tree_faults text) trees
 
@@ -82,8 +82,10 @@ abbrev pub byte_of : List ℕ → Option Token → ℕ
 byte_of text None = length text
 byte_of text (Some token) = token.start
 
--- The tokens leave the language at the token that starts at this byte, or with the text's end. K is the language
--- without a limit on nesting.
+-- The tokens leave the language at the token that starts at this byte, or with the text's end: those before it begin
+-- some text of the language, and with it they begin none. An example: those of `permit(principal, action);` leave it at
+-- `)`, byte 24: `permit(principal, action` begins policies, and with `)` behind it none. K is the language without a
+-- limit on nesting, which is 64 levels.
 pub record StopsAt {A : Type 0} (L K : Lang A) (most : ℕ) (text : List ℕ) (why : ℕ → SyntaxFault) (at : ℕ) :
     Type 0 where
   pub short : length text ≤ most
@@ -109,11 +111,13 @@ pub record IsReportedOf (faults : List DesugarFault) (why : ReadFault) : Type 0 
   pub first : least faults ≡ Some fault
   pub told : why ≡ of_desugaring fault
 
--- The policy of this tree is too large, or those of these trees are, or their names are no ids.
+-- The policy of this tree is too large: its core expression is over 1,000 high, or has over 1,000,000 forms. That is
+-- told as too deep, at byte 0.
 abbrev pub IsOverLimit : List ℕ → PolicyTree → ReadFault → Type 0
 IsOverLimit text tree (fault.TooDeep at) = (IsSmallTree text tree → ⊥) × (at ≡ 0)
 IsOverLimit text tree _ = ⊥
 
+-- Some policy of these trees is too large; or none is, and some name is no id.
 abbrev pub AreOverLimits : List ℕ → List PolicyTree → List (List ℕ) → ReadFault → Type 0
 AreOverLimits text trees names (fault.TooDeep at) = (AllByRecursion (IsSmallTree text) trees → ⊥) × (at ≡ 0)
 AreOverLimits text trees names fault.BadId = AllByRecursion (IsSmallTree text) trees × (All IsId names → ⊥)
@@ -130,18 +134,18 @@ HaveNoPolicies text trees names why =
     IsReportedOf (file_faults text trees names) why
     ⊎ ((file_faults text trees names ≡ []) × AreOverLimits text trees names why)
 
--- This text is no uid,
+-- This text is no uid, for this reason.
 abbrev pub IsUidRefused : List ℕ → ReadFault → Type 0
 IsUidRefused = IsUnread grammar.uid grammar.uid most_policy_bytes
 
--- no policy,
+-- This text is no policy, for this reason.
 abbrev pub IsPolicyRefused : List ℕ → ReadFault → Type 0
 IsPolicyRefused text why =
     IsUnread (grammar.policy nesting_limit) (at_any grammar.policy) most_policy_bytes text why
     ⊎ ((tree : PolicyTree) × Derives (grammar.policy nesting_limit) most_policy_bytes text tree
     × HasNoPolicy text tree why)
 
--- no file of policies.
+-- This text is no file of policies, for this reason.
 abbrev pub IsFileRefused : List ℕ → ReadFault → Type 0
 IsFileRefused text why =
     IsUnread (grammar.policies nesting_limit) (at_any grammar.policies) most_file_bytes text why

@@ -28,11 +28,14 @@ use Rattle.stored_texts.specs.Texts.{ReadsPolicy, ReadsEntity}
 use Rattle.site.specs.declared.fault.SiteFault.{SiteFault}
 use Rattle.site.specs.declared.fault.SiteFault.TheVariants as fault
 
--- ---- what a text in the store is read as: that of a policy whatever its id, that of an entity under its uid
+-- ---- what a text in the store is read as
 
+-- A policy's text is read as this policy: it is the policy's, which passes, whatever the id.
 abbrev pub IsPolicyUnder : StatedSchema → List ℕ → List ℕ → Policy → Type 0
 IsPolicyUnder schema id text p = ReadsPolicy schema text p
 
+-- An entity's text is read as this entity: it is the one canonical text of the entity, which the schema allows and
+-- which has this uid.
 abbrev pub IsEntityUnder : StatedSchema → EntityUid → List ℕ → Entity → Type 0
 IsEntityUnder schema uid text e = ReadsEntity schema uid text e
 
@@ -72,8 +75,8 @@ IsNoRequest schema (Some d) f = RequestRefused schema d f
 
 -- ---- updates that another site sent
 
--- an update is valid: its name and stamp are in their ranges, and its text, if it has one, is read as what stands
--- beside it
+-- An update is valid: its name and stamp are in their ranges, and its text, if it has one, is read as what stands
+-- beside it. (In state_messages `IsValid` is the second half alone.)
 pub record IsValid (schema : StatedSchema) (u : Update Policy Entity) : Type 0 where
   pub in_range : IsStamped (stamped (abstract_update u))
   pub is_read : IsUpdateRead (IsPolicyUnder schema) (IsEntityUnder schema) u

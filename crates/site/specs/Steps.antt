@@ -35,7 +35,8 @@ use Rattle.site.specs.Admitted.{IsRequestOf, IsNoRequest}
 abbrev pub most_count : ℕ
 most_count = 1_000_000_000_000_000_000
 
--- a name gets this body with the next stamp, whatever was judged before: the store is that of its updates and this one
+-- A name gets this body with the next stamp: the store is that of its updates and this one. That the body may be put is
+-- stated where this is used.
 pub record Records (n : ℕ) (s : Store) (name : Name) (body : Option (List ℕ)) (stamp : Stamp) (t : Store) : Type 0 where
   pub clock : greatest_count s < most_count
   pub next : stamp ≡ issue s n

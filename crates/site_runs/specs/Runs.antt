@@ -1,4 +1,4 @@
--- A run of a site: one step after another, each an input with its reply; and which updates entered its store. From
+-- A run of a site: one step after another, each an input with its reply; and which updates the site took. From
 -- these the store at the end is told without the steps between. Rules of this product: a message is refused whole or
 -- its updates are taken in order; what is refused, and what is asked, changes nothing.
 use Rattle.std.specs.Prelude.{◌≡◌, ℕ, List, [], ◌∷◌, ◌++◌, take, Option, Some, None, option_map, Result, Ok, Err}
@@ -31,7 +31,7 @@ use Rattle.site_runs.specs.declared.reply.Reply.TheVariants as reply
 
 -- ---- messages
 
--- the bytes are a state or a delta of this schema, each of its updates valid
+-- the bytes are a state or a delta of this schema, each of its updates in range and readable under it
 abbrev pub IsMessageOf : StatedSchema → List ℕ → List (SentUpdate Policy Entity) → Type 0
 IsMessageOf schema bytes us = IsMessage (IsPolicyUnder schema) (IsEntityUnder schema) schema.label bytes us
 
@@ -94,7 +94,7 @@ Step schema n s _ _ t = ⊥
 -- From s to t by one step for each input, each with its reply. An example: site 1 begins with nothing. It is given a
 -- text for the policy `a`, which gets the stamp (1, 1); is sent a message in which site 2 has put another text for `a`
 -- with the stamp (3, 2), and takes it; and is asked to delete `a`, which gets the stamp (4, 1). These are three inputs
--- with three replies; three updates entered, and the store at the end says that `a` was deleted at (4, 1).
+-- with three replies; three updates were taken, and the store at the end says that `a` was deleted at (4, 1).
 abbrev pub Run : StatedSchema → ℕ → Store → List Input → List Reply → Store → Type 0
 Run schema n s [] [] t = t ≡ s
 Run schema n s [] (r ∷ rs) t = ⊥
@@ -111,8 +111,8 @@ abbrev pub updates_of_message : Result (List Update) MessageFault → List Updat
 updates_of_message (Ok us) = us
 updates_of_message (Err f) = []
 
--- the updates that entered by an input with this reply: what a command was given a stamp for, or a message's, all or
--- the first k
+-- The updates that were taken by an input with this reply: what a command was given a stamp for, or a message's, all or
+-- the first k. Those are among them that lose to a greater entry, and so never stand in the store.
 abbrev pub took_by : StatedSchema → Input → Reply → List Update
 took_by schema (input.PutPolicy id text) (reply.Put (Ok put)) = (policy_name id, issued put.stamp (Some text)) ∷ []
 took_by schema (input.DeletePolicy id) (reply.Stamped (Ok stamp)) = (policy_name id, issued stamp None) ∷ []
@@ -125,7 +125,7 @@ took_by schema (input.Take bytes) (reply.Taken (Ok (Short k))) =
     take k (updates_of_message (updates_stated schema.label bytes))
 took_by schema _ _ = []
 
--- the updates that entered in a run, in their order: by each input with its reply
+-- the updates that were taken in a run, in their order: by each input with its reply
 abbrev pub took : StatedSchema → List Input → List Reply → List Update
 took schema [] rs = []
 took schema (i ∷ is) [] = []

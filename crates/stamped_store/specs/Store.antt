@@ -20,7 +20,7 @@ use Rattle.stamped_store.specs.Abstraction.{abstract_entries}
 abbrev pub Store : Type 0
 Store = map.FinMap name_cmp PlainEntry
 
--- a name, and an entry for it
+-- an update: a name, and an entry for it
 abbrev pub Update : Type 0
 Update = Name × PlainEntry
 
@@ -28,7 +28,9 @@ Update = Name × PlainEntry
 abbrev pub updates : Store → List Update
 updates s = map.entries s
 
--- the greatest-stamp store of a set of updates
+-- The greatest-stamp store of a set of updates: at each name the greatest of the entries that they have for it, by
+-- count, then site, then body, nothing being the least body (EntryOrder). It is built one update after another
+-- (Greatest); that the entry is the greatest, whatever their order, is the law `updates_have_one_store`.
 abbrev pub store_of : List Update → Store
 store_of us = updates_of.store_of name_cmp us
 
@@ -52,7 +54,7 @@ KeepsOtherNames name old new = (q : Name) → q ≢ name → map.get new q ≡ m
 abbrev pub IsStoreJoin : Store → Store → Store → Type 0
 IsStoreJoin = IsLeastAbove IsStoreBelow
 
--- the join of two stores: the store of the updates of both
+-- the join of two stores, which is their merge: the store of the updates of both
 abbrev pub joined_stores : Store → Store → Store
 joined_stores s t = store_of (updates s ++ updates t)
 
@@ -64,29 +66,34 @@ issue s n = record { count = updates_of.greatest_count s + 1; site = n }
 abbrev pub issued : Stamp → Option (List ℕ) → PlainEntry
 issued stamp body = record { count = stamp.count; site = stamp.site; body = body }
 
+-- ---- what the code keeps, and the store that it stands for
+
 -- what the code keeps: policies by id and entities by uid, each ascending
 pub record StoreEntries (P E : Type 0) : Type 0 where
   pub policies : List (String Global × Entry P)
   pub entities : List (EntityUid × Entry E)
 
+-- what is kept of these policies and entities
 abbrev pub kept : {P E : Type 0} → List (String Global × Entry P) → List (EntityUid × Entry E) → StoreEntries P E
 kept ps es = record { policies = ps; entities = es }
 
--- the names of a policy of these bytes as its id, of one of this id, and of an entity
+-- the name of the policy whose id has these bytes
 abbrev pub policy_name : List ℕ → Name
 policy_name bytes = Policy bytes
 
+-- the name of the policy with this id
 abbrev pub id_name : String Global → Name
 id_name id = Policy (string_bytes id)
 
+-- the name of an entity
 abbrev pub entity_name : EntityUid → Name
 entity_name uid = Entity uid
 
--- its updates: policies, then entities
+-- the updates of what is kept: policies, then entities
 abbrev pub abstract_updates : {P E : Type 0} → StoreEntries P E → List Update
 abstract_updates k = abstract_entries id_name k.policies ++ abstract_entries entity_name k.entities
 
--- the store that it stands for
+-- the store that what is kept stands for
 abbrev pub abstract_store : {P E : Type 0} → StoreEntries P E → Store
 abstract_store k = map.from_entries (abstract_updates k)
 

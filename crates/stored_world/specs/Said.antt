@@ -45,7 +45,9 @@ data_of e = record { attrs = e.attrs; parents = e.parents }
 abbrev pub data_in : (EntityUid → Option Entity) → EntityMap
 data_in entities uid = option_map data_of (entities uid)
 
--- these entities and the actions of the schema, as evaluation asks for them
+-- A World, as evaluation asks for it: the attributes of these entities, and the parents of these and of the schema's
+-- actions. All that is above an action stands as its parents; that the parents that `memberOf` states would lead to the
+-- same answers is a law of entity_store.
 abbrev pub world_under : StatedSchema → (EntityUid → Option Entity) → World
 world_under schema entities = world_in (with_actions schema.ancestors (data_in entities))
 

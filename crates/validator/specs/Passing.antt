@@ -1,9 +1,9 @@
 -- Whether a policy passes under a schema, whether it can never be true, and why it is refused.
 -- Source: Cedar reference guide 4.0, "Policy validation" (strict mode); cedar-spec,
--- cedar-lean/Cedar/Validation/Validator.lean (`typecheckPolicyWithEnvironments`). Rules of this
--- product: names go before types, and the first environment that has a fault tells it. A policy that is False in each
--- environment passes, and is noted as impossible; where a schema has no environment, so is each policy all names of
--- which are known.
+-- cedar-lean/Cedar/Validation/Validator.lean (`typecheckPolicyWithEnvironments`). Rules of this product: names go
+-- before types, and the first environment that has a fault tells it. A policy that is False in each environment is
+-- refused there; here it passes, and is noted as impossible. Where a schema has no environment, so is each policy
+-- whose names are all known.
 use Rattle.std.specs.Prelude.{◌↔◌, List, [], ◌∷◌, map, All, Bool, IsTrue}
 use Rattle.expressions.specs.declared.expr.Expr.{Expr}
 use Rattle.policy_grammar.specs.declared.policy.Policy.{Policy}
@@ -24,7 +24,8 @@ use Rattle.validator.specs.Unknown.{IsKnown, FirstUnknown}
 abbrev pub environments_of : StatedSchema → List Environment
 environments_of s = map (environment_of s) s.environments
 
--- the expression has this type in the environment, where no pair is known
+-- the expression has this type in the environment, where no optional field is known to be there: there is no pair of an
+-- expression and a field yet (a capability, in cedar-spec)
 abbrev pub HasType : Expr → StaticType → Environment → Type 0
 HasType x t env = (L : Pairs) × Types env [] x t L
 
