@@ -4,6 +4,7 @@
 #   bench/ancestor_closure.sh [SIZE ..]       (default: 1,000 and 10,000 entities)
 set -euo pipefail
 source "$(dirname "${BASH_SOURCE[0]}")/counting.sh"
+measuring measures
 sizes=("$@")
 [ ${#sizes[@]} -gt 0 ] || sizes=(1000 10000)
 
@@ -12,9 +13,9 @@ for shape in chain tree layers cycle; do
     for size in "${sizes[@]}"; do
         edges=$size
         [ "$shape" = layers ] && edges=$((10 * size))
-        built=$(instructions "ancestor_closure/$shape-cyclic/$size/0")
+        built=$(counted "ancestor_closure/$shape-cyclic/$size/0")
         for question in ancestors is_ancestor cyclic; do
-            asked=$(instructions "ancestor_closure/$shape-$question/$size/1")
+            asked=$(counted "ancestor_closure/$shape-$question/$size/1")
             printf '%-8s %8s %12s %22s\n' "$shape" "$size" "$question" "$(each "$built" "$asked" "$edges")"
         done
     done

@@ -1,24 +1,26 @@
 #!/usr/bin/env bash
-# Measures entities under a schema, by rows of crates/conformance: instructions (by valgrind) of reading one from its
-# bytes and writing its canonical text.
+# Measures entities under a schema: instructions (by valgrind) of reading one from its bytes and writing its canonical
+# text.
 #
 #   bench/entities.sh ["ATTRIBUTES PARENTS" ..]   (default: 10 attributes and 3 parents; then more of each)
 #
-# A row `entity` reads and writes the entity, and does both again with what it wrote: half of it is counted, after rows
-# as long of a word that reads nothing are taken off. PROGRAM names another binary. Needs python3 and valgrind.
+# `merge` does both with each entity of a message. It is given one whose last entry is refused, and the same under the
+# label of another schema, which is refused before any entity is read: these are the difference. PROGRAM names another
+# binary. Needs python3 and valgrind.
 set -euo pipefail
-top=$(cd "$(dirname "${BASH_SOURCE[0]}")/.." && pwd)
-program=${PROGRAM:-$top/crates/conformance/out/conformance}
-[ -x "$program" ] || (cd "$top/crates/conformance" && rt run <stdin >/dev/null)
-exec python3 - "$program" "$@" <<'P'
+source "$(dirname "${BASH_SOURCE[0]}")/counting.sh"
+whole
+python - "$program" "$@" <<'P'
+import hashlib
 import json
-import re
-import subprocess
 import sys
+import tempfile
+from runs import COUNTING, Ended, collected
 
-program = sys.argv[1]
-sizes = [tuple(map(int, it.split())) for it in sys.argv[2:]] or [(10, 3), (100, 3), (1000, 3), (10, 100), (10, 1000)]
-ROWS = 20
+PROGRAM = sys.argv[1]
+SIZES = [tuple(map(int, it.split())) for it in sys.argv[2:]] or [(10, 3), (100, 3), (1000, 3), (10, 100), (10, 1000)]
+COUNT = 40
+UID = {"id": "u", "type": "User"}
 
 
 def compact(value):
@@ -26,29 +28,42 @@ def compact(value):
 
 
 def schema(attributes):
-    shape = {"type": "Record", "attributes": {f"a{n:04}": {"type": "Long" if n % 2 else "String"} for n in range(attributes)}}
-    return compact({"": {"entityTypes": {"User": {"memberOfTypes": ["Group"], "shape": shape}, "Group": {}}, "actions": {}}})
+    types = {f"a{n:04}": {"type": "Long" if n % 2 else "String"} for n in range(attributes)}
+    user = {"memberOfTypes": ["Group"], "shape": {"type": "Record", "attributes": types}}
+    return compact({"": {"entityTypes": {"User": user, "Group": {}}, "actions": {}}})
 
 
 def entity(attributes, parents):
     attrs = {f"a{n:04}": n if n % 2 else f"text {n}" for n in range(attributes)}
-    return compact({"attrs": attrs, "parents": [{"id": f"g{n:04}", "type": "Group"} for n in range(parents)], "uid": {"id": "u", "type": "User"}})
+    groups = [{"id": f"g{n:04}", "type": "Group"} for n in range(parents)]
+    return compact({"attrs": attrs, "parents": groups, "uid": UID})
 
 
-def instructions(lines):
-    ran = subprocess.run(["valgrind", "--tool=callgrind", "--callgrind-out-file=/dev/null", program], input="\n".join(lines) + "\n", capture_output=True, text=True, check=True)
-    if "is not read back" in ran.stdout:
-        sys.exit("an entity was not read back")
-    return int(re.search(r"Collected *: *(\d+)", ran.stderr).group(1)), ran.stdout
+def message(label, text):
+    """A state with so many entries of the entity, and one whose count is refused."""
+    entries = [{"body": text, "count": n + 1, "name": {"entity": UID}, "site": 1} for n in range(COUNT)]
+    entries.append({"body": None, "count": 0, "name": {"policy": "last"}, "site": 1})
+    return compact({"entries": entries, "kind": "state", "schema": label, "version": 1})
+
+
+def instructions(room, label, text, wanted):
+    """Of a merge of that message, which is refused so."""
+    with open(f"{room}/message", "w", encoding="utf-8") as file:
+        file.write(message(label, text))
+    ran = Ended([*COUNTING, PROGRAM, "merge", "--schema", "schema", "message", "message"], room)
+    if wanted not in ran.err:
+        sys.exit(f"refused otherwise: {ran.err}")
+    return collected(ran.err)
 
 
 print(f"{'attributes':>10} {'parents':>8} {'bytes':>8} {'instructions':>13}")
-for attributes, parents in sizes:
-    text = entity(attributes, parents)
-    under = f"under {schema(attributes)}"
-    told, printed = instructions([under] + [f"entity {text}"] * ROWS)
-    if printed.count(f"  ->  {text}\n") != ROWS:
-        sys.exit("an entity was refused")
-    idle, _ = instructions([under] + [f"nothin {text}"] * ROWS)
-    print(f"{attributes:>10} {parents:>8} {len(text):>8} {(told - idle) // (2 * ROWS):>13,}", flush=True)
+with tempfile.TemporaryDirectory() as room:
+    for attributes, parents in SIZES:
+        text, under = entity(attributes, parents), schema(attributes)
+        with open(f"{room}/schema", "w", encoding="utf-8") as file:
+            file.write(under)
+        label = hashlib.sha256(under.encode()).hexdigest()
+        told = instructions(room, label, text, f'"code":54,"place":{COUNT},')
+        idle = instructions(room, "0" * len(label), text, '"code":52,"place":null,')
+        print(f"{attributes:>10} {parents:>8} {len(text):>8} {(told - idle) // COUNT:>13,}", flush=True)
 P

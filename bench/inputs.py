@@ -1,7 +1,7 @@
 """Writes what bench/decide.sh and bench/profile.sh decide over: FOLDER POLICIES ENTITIES.
 
-Policies have scopes alone, or where CONDITION is given that condition and no scope; one in ten names a group that the principal is in.
-Entities: users in groups, groups in a tree of groups.
+Policies have scopes alone, or where CONDITION is given that condition and no scope; one in ten names a group that the
+principal is in. Entities: users in groups, groups in a tree of groups.
 """
 import json
 import os

@@ -1,15 +1,15 @@
 #!/usr/bin/env bash
-# Where `cedar_site decide` spends its instructions: for each function, its own instructions for one policy or one entity more.
+# Where `cedar_site decide` spends its instructions: for each function, its own instructions for one policy or one
+# entity more.
 #
 #   bench/profile.sh policy [LESS MORE]       (default: 2,000 and 6,000 policies with scopes alone, 1,000 entities)
 #   bench/profile.sh entity [LESS MORE]       (default: 4,000 and 8,000 entities with one parent each, 10 policies)
 #
-# It counts two runs by valgrind and divides the difference. What the compiler put into a caller counts as the caller's. PROGRAM names another
-# binary. Needs python3.
+# It counts two runs by valgrind and divides the difference. What the compiler put into a caller counts as the caller's.
+# PROGRAM names another binary. Needs python3.
 set -euo pipefail
-top=$(cd "$(dirname "${BASH_SOURCE[0]}")/.." && pwd)
-program=${PROGRAM:-$top/crates/cedar_site/out/cedar_site}
-[ -x "$program" ] || "$top/cedar_site" --help >/dev/null
+source "$(dirname "${BASH_SOURCE[0]}")/counting.sh"
+whole
 folder=$(mktemp -d)
 trap 'rm -rf "$folder"' EXIT
 kind=${1:?policy or entity}
@@ -20,7 +20,7 @@ else
 fi
 
 count() {
-    python3 "$top/bench/inputs.py" "$folder" "$2" "$3"
+    python "$top/bench/inputs.py" "$folder" "$2" "$3"
     valgrind --tool=callgrind --callgrind-out-file="$folder/$1" "$program" decide --policies "$folder/policies.cedar" \
         --entities "$folder/entities.json" --request "$folder/request.json" >/dev/null 2>&1
 }
@@ -32,7 +32,7 @@ else
     count less 10 "$less"
     count more 10 "$more"
 fi
-python3 - "$folder/less" "$folder/more" "$((more - less))" <<'P'
+python - "$folder/less" "$folder/more" "$((more - less))" <<'P'
 import re, sys
 
 def own(path):

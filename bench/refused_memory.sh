@@ -1,7 +1,9 @@
 #!/usr/bin/env bash
-# Runs a crate's tests with the 1st, 2nd, .. allocation refused, and tells each test written to survive that which did not. Such a test has
-# `refused_allocation`, `refused_memory` or `refused_merge` in its name. Each run builds the tests anew, so this takes a while.
-# Usage: bench/refused_memory.sh CRATE LAST
+# Runs a crate's tests with the 1st, 2nd, .. allocation refused, and tells each test written to survive that which did
+# not. Such a test has `refused_allocation`, `refused_memory` or `refused_merge` in its name. Each run builds the tests
+# anew, so this takes a while.
+#
+#   bench/refused_memory.sh CRATE LAST
 set -euo pipefail
 crate=${1:?the name of a crate}
 last=${2:?the number of the last allocation to refuse}

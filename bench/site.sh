@@ -1,136 +1,201 @@
 #!/usr/bin/env bash
-# Measures a site, by rows of crates/site_rows that hand inputs to it: instructions (by valgrind), seconds of processor
-# time and the greatest resident memory. With TIMES=1 it counts no instructions, which takes minutes for 100,000 entities.
+# Measures a site that is served over loopback: instructions (by valgrind), seconds of processor time and the greatest
+# resident memory. With TIMES=1 it counts no instructions, which takes minutes for 100,000 entities.
 #
 #   bench/site.sh authorize ["POLICIES ENTITIES" ..]    one request more, over so many policies and entities
 #                                                       (default: 10, 100 and 1,000 policies; 100 to 100,000 entities)
-#   bench/site.sh put [COUNT ..]                        one put more of a policy, of an entity, and of a group below a chain of all others, where so many
-#                                                       are stored (default: 1,000 and 10,000)
-#   bench/site.sh take [COUNT ..]                       one update of a message of so many (default: 1,000, 10,000 and 100,000)
+#   bench/site.sh put [COUNT ..]                        one put more of a policy, of an entity, and of a group below a
+#                                                       chain of all others, where so many are stored (default: 1,000
+#                                                       and 10,000)
+#   bench/site.sh take [COUNT ..]                       one update of a state of so many that the site begins with
+#                                                       (default: 1,000, 10,000 and 100,000)
 #
-# Half of a message's updates are policies with a condition, half entities with two attributes and a parent. The reading and printing of rows is
-# taken off by a run with rows as long that hand in nothing. PROGRAM names another binary. Needs python3, valgrind and GNU time.
+# Half of a message's updates are policies with a condition, half entities with two attributes and a parent. What HTTP
+# takes is taken off by a run with requests as long of a path that is none. PROGRAM names another binary. Needs python3,
+# valgrind and GNU time.
 set -euo pipefail
-top=$(cd "$(dirname "${BASH_SOURCE[0]}")/.." && pwd)
-program=${PROGRAM:-$top/crates/site_rows/out/site_rows}
-[ -x "$program" ] || (cd "$top/crates/site_rows" && rt run <stdin >/dev/null)
-exec python3 - "$program" "$@" <<'P'
-import hashlib, json, os, re, resource, subprocess, sys, tempfile
-program, what, sizes = sys.argv[1], sys.argv[2] if sys.argv[2:] else '', sys.argv[3:]
-SCHEMA = json.dumps({'': {
-    'entityTypes': {
-        'User': {'memberOfTypes': ['Group'], 'shape': {'type': 'Record', 'attributes': {'name': {'type': 'String'}, 'age': {'type': 'Long', 'required': False}}}},
-        'Group': {'memberOfTypes': ['Group']}, 'Doc': {}},
-    'actions': {'view': {'appliesTo': {'principalTypes': ['User'], 'resourceTypes': ['Doc']}}}}})
+source "$(dirname "${BASH_SOURCE[0]}")/counting.sh"
+whole
+python - "$program" "$@" <<'P'
+import hashlib
+import json
+import os
+import sys
+import tempfile
+from runs import COUNTING, TIMING, Ended, Link, Served, collected, request, resident
+
+PROGRAM, WHAT, SIZES = sys.argv[1], sys.argv[2] if sys.argv[2:] else "", sys.argv[3:]
+SHAPE = {"type": "Record", "attributes": {"name": {"type": "String"}, "age": {"type": "Long", "required": False}}}
+USES = {"principalTypes": ["User"], "resourceTypes": ["Doc"]}
+SCHEMA = json.dumps({"": {
+    "entityTypes": {
+        "User": {"memberOfTypes": ["Group"], "shape": SHAPE}, "Group": {"memberOfTypes": ["Group"]}, "Doc": {}},
+    "actions": {"view": {"appliesTo": USES}}}})
+LABEL = hashlib.sha256(SCHEMA.encode()).hexdigest()
 
 
 def compact(value):
-    return json.dumps(value, separators=(',', ':'), sort_keys=True)
+    return json.dumps(value, separators=(",", ":"), sort_keys=True)
 
 
 def policy(n):
     """Of ten policies one is of a group that users are in; the others name another user."""
     part = f'principal in Group::"g{n % 7}"' if n % 10 == 0 else f'principal == User::"u{n}"'
-    return f'permit({part}, action == Action::"view", resource) when {{ principal has age && principal.age >= {n % 10} }};'
+    condition = f"principal has age && principal.age >= {n % 10}"
+    return f'permit({part}, action == Action::"view", resource) when {{ {condition} }};'
+
+
+def stated(kind, number, attrs, above):
+    """An entity with at most one group above it."""
+    parents = [] if above is None else [{"id": f"g{above}", "type": "Group"}]
+    return {"attrs": attrs, "parents": parents, "uid": {"id": number, "type": kind}}
 
 
 def entity(n, groups):
     """Users in groups, and the groups in a tree."""
     if n < groups:
-        return {'attrs': {}, 'parents': [{'id': f'g{n // 2}', 'type': 'Group'}] if n else [], 'uid': {'id': f'g{n}', 'type': 'Group'}}
-    return {'attrs': {'age': n % 99, 'name': f'u{n}'}, 'parents': [{'id': f'g{n % groups}', 'type': 'Group'}], 'uid': {'id': f'u{n}', 'type': 'User'}}
+        return stated("Group", f"g{n}", {}, n // 2 if n else None)
+    return stated("User", f"u{n}", {"age": n % 99, "name": f"u{n}"}, n % groups)
 
 
-def link(n, groups):
+def link(n, _groups):
     """Each group in the one before."""
-    return {'attrs': {}, 'parents': [{'id': f'g{n - 1}', 'type': 'Group'}] if n else [], 'uid': {'id': f'g{n}', 'type': 'Group'}}
+    return stated("Group", f"g{n}", {}, n - 1 if n else None)
 
 
-def request(entities):
-    """Of the last user."""
-    return compact({'principal': f'User::"u{entities - 1}"', 'action': 'Action::"view"', 'resource': 'Doc::"d"'})
+def entry(name, body, count):
+    return {"body": body, "count": count, "name": name, "site": 2}
 
 
 def message(policies, entities, made_of=entity):
+    """A state of so many policies and entities."""
     groups = max(1, entities // 10)
-    found = [{'body': policy(n), 'count': n + 1, 'name': {'policy': f'p{n}'}, 'site': 1} for n in range(policies)]
+    found = [entry({"policy": f"p{n}"}, policy(n), n + 1) for n in range(policies)]
     for n in range(entities):
         made = made_of(n, groups)
-        found.append({'body': compact(made), 'count': n + 1, 'name': {'entity': made['uid']}, 'site': 1})
-    return compact({'entries': found, 'kind': 'state', 'schema': hashlib.sha256(SCHEMA.encode()).hexdigest(), 'version': 1})
+        found.append(entry({"entity": made["uid"]}, compact(made), n + 1))
+    return compact({"entries": found, "kind": "state", "schema": LABEL, "version": 1})
 
 
-def run(rows, *command):
-    with tempfile.TemporaryFile('w+') as file:
-        file.write('\n'.join(['part sites', f'under {SCHEMA}', 'start 1', *rows, '']))
-        file.seek(0)
-        return subprocess.run([*command, program], stdin=file, text=True, capture_output=True, check=True)
+def authorizing(entities):
+    """A request of the last user."""
+    asked = {"principal": f'User::"u{entities - 1}"', "action": 'Action::"view"', "resource": 'Doc::"d"'}
+    return "POST", "/v1/authorize", compact(asked).encode()
 
 
-def instructions(rows):
-    if os.environ.get('TIMES'):
-        return 0
-    told = run(rows, 'valgrind', '--tool=callgrind', '--callgrind-out-file=/dev/null').stderr
-    return int(re.search(r'Collected *: *(\d+)', told)[1])
+def putting(n, groups, made_of):
+    """A put of a policy, or of what `made_of` makes."""
+    if made_of is None:
+        return "PUT", f"/v1/policies/p{n}", policy(n).encode()
+    return "PUT", "/v1/entities", compact(made_of(n, groups)).encode()
 
 
-def seconds(rows):
-    """Of processor time, which other work on the machine changes less than that of the clock."""
-    begun = resource.getrusage(resource.RUSAGE_CHILDREN).ru_utime
-    run(rows)
-    return resource.getrusage(resource.RUSAGE_CHILDREN).ru_utime - begun
+def idle(asked):
+    """Requests as long of a path that is none."""
+    return [(method, path.replace("/v1/", "/no/"), body) for method, path, body in asked]
 
 
-def kib(rows):
-    return int(run(rows, '/usr/bin/time', '-f', '%M').stderr.split()[-1])
+class Room:
+    """A folder with the schema and a state, and runs of a site that begins with it."""
+
+    def __init__(self, folder):
+        self.folder = folder
+        self.write("schema", SCHEMA)
+
+    def write(self, name, text):
+        with open(f"{self.folder}/{name}", "w", encoding="utf-8") as file:
+            file.write(text)
+
+    def begins_with(self, state):
+        self.write("state", state)
+
+    def run(self, asked, *before):
+        """Serves one connection with these requests. Returns what it told, its seconds, its KiB and the replies."""
+        words = ["--state", "state", "--connections", "1"]
+        with Served([*before, PROGRAM], self.folder, *words) as site:
+            if not site.listens:
+                sys.exit(f"the site does not listen: {site.told()}")
+            link = Link(site.port)
+            replies, kib = [link.ask(request(*one))[0] for one in asked], site.peak()
+            link.close()
+            status, seconds = site.ended()
+            if status != 0:
+                sys.exit(f"the site ended with status {status}: {site.told()}")
+            return site.told(), seconds, kib, replies
+
+    def instructions(self, asked):
+        return 0 if os.environ.get("TIMES") else collected(self.run(asked, *COUNTING)[0])
+
+    def seconds(self, asked):
+        return self.run(asked)[1]
+
+    def try_out(self, asked):
+        """The KiB of a run with these requests, each of which has to be answered."""
+        _, _, kib, replies = self.run(asked)
+        wrong = [it for it in replies if it[0] != 200]
+        if wrong:
+            sys.exit(f"another reply: {wrong[0]}")
+        return kib
+
+    def begun(self, *before):
+        """A site that begins and ends, without a connection."""
+        words = ["serve", "--schema", "schema", "--site", "1", "--state", "state", "--connections", "0"]
+        ran = Ended([*before, PROGRAM, *words, "--listen", "127.0.0.1:0"], self.folder)
+        if ran.status != 0:
+            sys.exit(f"the state is not taken: {ran.err}")
+        return ran
+
+    def beginning(self):
+        """The instructions of that."""
+        return 0 if os.environ.get("TIMES") else collected(self.begun(*COUNTING).err)
 
 
-def idle(rows):
-    """Rows as long that hand in nothing."""
-    return ['1 none ' + row[len('1 none '):] for row in rows]
-
-
-def told(rows, wanted):
-    lines = run(rows).stdout.split('\n')[3:-1]
-    assert all(re.search(wanted, line.split('  ->  ')[-1]) for line in lines), lines[-1][-200:]
-
-
-def authorize():
+def authorize(room):
     print(f"{'policies':>9} {'entities':>9} {'M instructions a request':>25} {'ms':>9} {'KiB':>9}")
     every = [(p, e) for e in (100, 1000, 10000, 100000) for p in (10, 100, 1000)]
-    for policies, entities in [tuple(map(int, size.split())) for size in sizes] or every:
-        taken, asked = [f'1 take {message(policies, entities)}'], [f'1 authorize {request(entities)}']
-        told(taken + asked, r'"decision":"(Allow|Deny)"|taken')
-        times = 3 if entities > 20000 else 10
-        less, more = instructions(taken + asked + idle(asked * times)), instructions(taken + asked + asked * times)
-        many = 10 if entities > 20000 else 100
-        took = min(seconds(taken + asked * many) for _ in range(2)) - min(seconds(taken + idle(asked * many)) for _ in range(2))
-        print(f'{policies:>9} {entities:>9} {(more - less) / times / 1e6:>25.3f} {took / many * 1000:>9.2f} {kib(taken + asked):>9}', flush=True)
+    for policies, entities in [tuple(map(int, size.split())) for size in SIZES] or every:
+        room.begins_with(message(policies, entities))
+        asked = [authorizing(entities)]
+        kib = room.try_out(asked)
+        times, many = (3, 10) if entities > 20000 else (10, 100)
+        less = room.instructions(asked + idle(asked * times))
+        more = room.instructions(asked + asked * times)
+        took = min(room.seconds(asked * many) for _ in range(2))
+        took -= min(room.seconds(idle(asked * many)) for _ in range(2))
+        count, ms = (more - less) / times / 1e6, took / many * 1000
+        print(f"{policies:>9} {entities:>9} {count:>25.3f} {ms:>9.2f} {kib:>9}", flush=True)
 
 
-def put():
+def put(room):
     print(f"{'stored':>9} {'what':>9} {'instructions a put more':>24}")
-    for count in map(int, sizes or ('1000', '10000')):
+    for count in map(int, SIZES or ("1000", "10000")):
         step, groups = 200, max(1, count // 10)
-        for kind, row, stored in (
-                ('policy', lambda n: f'1 put_policy p{n} {policy(n)}', message(count, 0)),
-                ('entity', lambda n: f'1 put_entity {compact(entity(n, groups))}', message(0, count)),
-                ('chain', lambda n: f'1 put_entity {compact(link(n, groups))}', message(0, count, link))):
-            puts = [row(n) for n in range(count, count + step)]
-            told([f'1 take {stored}'] + puts, r'^\(\d+, 1\)|taken')
-            less, more = instructions([f'1 take {stored}'] + idle(puts)), instructions([f'1 take {stored}'] + puts)
-            print(f'{count:>9} {kind:>9} {(more - less) / step:>24.0f}', flush=True)
+        for kind, made_of, stored in (
+                ("policy", None, message(count, 0)),
+                ("entity", entity, message(0, count)),
+                ("chain", link, message(0, count, link))):
+            room.begins_with(stored)
+            puts = [putting(n, groups, made_of) for n in range(count, count + step)]
+            room.try_out(puts)
+            less, more = room.instructions(idle(puts)), room.instructions(puts)
+            print(f"{count:>9} {kind:>9} {(more - less) / step:>24.0f}", flush=True)
 
 
-def take():
+def take(room):
     print(f"{'updates':>9} {'MB':>7} {'instructions an update':>23} {'seconds':>8} {'KiB':>9}")
-    for count in map(int, sizes or ('1000', '10000', '100000')):
-        rows = [f'1 take {message(count // 2, count - count // 2)}']
-        told(rows, f'^taken {count}$')
-        print(f'{count:>9} {len(rows[0]) / 1e6:>7.2f} {(instructions(rows) - instructions(idle(rows))) / count:>23.0f} {min(seconds(rows) for _ in range(2)):>8.2f} {kib(rows):>9}', flush=True)
+    room.begins_with(message(0, 0))
+    none = room.beginning()
+    for count in map(int, SIZES or ("1000", "10000", "100000")):
+        state = message(count // 2, count - count // 2)
+        room.begins_with(state)
+        each, seconds = (room.beginning() - none) / count, min(room.begun().seconds for _ in range(2))
+        kib = resident(room.begun(*TIMING).err)
+        print(f"{count:>9} {len(state) / 1e6:>7.2f} {each:>23.0f} {seconds:>8.2f} {kib:>9}", flush=True)
 
 
-if what not in ('authorize', 'put', 'take'):
-    sys.exit('bench/site.sh authorize, put or take, and perhaps sizes')
-{'authorize': authorize, 'put': put, 'take': take}[what]()
+DEEDS = {"authorize": authorize, "put": put, "take": take}
+if WHAT not in DEEDS:
+    sys.exit("bench/site.sh authorize, put or take, and perhaps sizes")
+with tempfile.TemporaryDirectory() as folder:
+    DEEDS[WHAT](Room(folder))
 P

@@ -6,8 +6,8 @@
 - Each crate of crates.txt that is no test and measures nothing stands in README.md's list and has a part in docs/proved.md, and no other does; each is
   named in docs/definitions.md or docs/surface.md.
 - The reading list of docs/definitions.md is what tools/reading_list.py prints; of the twelve files before it each is one of that list, with its lines.
-- Each file of docs/, bench/, tools/, examples/ and of a crate's src/, specs/ and proofs/ that a document names by its path from the top is there; so is,
-  below a heading that names crates, each path that begins with specs/, proofs/, src/ or must-fail/, in one of these crates.
+- Each file of docs/, bench/, tools/, examples/, rows/ and of a crate's src/, specs/ and proofs/ that a document names by its path from the top is there;
+  so is, below a heading that names crates, each path that begins with specs/, proofs/, src/, must-fail/ or wrong-bodies/, in one of these crates.
 - The numbers of crates that README.md, docs/CONTRIBUTING.md and docs/proving.md tell of the two programs are those that crates.txt gives, and the number
   of all crates that docs/proving.md tells; each crate's must-fail edits are as many as its row there says.
 - Each such crate is in README.md's picture of the layers, and stands on crates of layers below, or to its right in its own.
@@ -23,18 +23,16 @@ import subprocess
 import sys
 
 TOP = os.path.dirname(os.path.dirname(os.path.abspath(__file__)))
-BESIDE = re.compile(r"_tests$|_rows$|^bench$|^conformance$")
+BESIDE = re.compile(r"_tests$|^rows$")
 # statuses that are told of no refusal, or beside a code of the site
 BESIDE_CODES = {"200", "409", "422", "503"}
-INSIDE = re.compile(r"(?<![\w/.])((?:specs|proofs|src|must-fail)/[\w./-]*\w)(?![\w*])")
-NAMED = re.compile(r"(?<![\w/.])((?:docs|bench|tools|examples)/[\w./-]*\w|crates/\w+/(?:src|specs|proofs)/[\w/]+\.\w+)")
+INSIDE = re.compile(r"(?<![\w/.])((?:specs|proofs|src|must-fail|wrong-bodies)/[\w./-]*\w)(?![\w*])")
+NAMED = re.compile(r"(?<![\w/.])((?:docs|bench|tools|examples|rows)/[\w./-]*\w|crates/\w+/(?:src|specs|proofs)/[\w/]+\.\w+)")
 
 # lines of specs/ and src/ that are longer: texts that are printed or read, and attributes, which stand on one line
 LONG = {
-    "crates/bench/src/policies.rt": 1,
     "crates/decision_texts/src/request.rt": 1,
     "crates/entities/src/requests.rt": 1,
-    "crates/http_rows/src/serving.rt": 1,
 }
 
 

@@ -12,7 +12,7 @@ use std::alloc::{AllocFailed, Global};
 use values::EntityUid;
 
 /// Why a value is not read.
-#[derive(Clone, Copy, Debug, PartialEq, Eq)]
+#[derive(Clone, Copy, PartialEq, Eq)]
 pub enum ShapeFault {
     /// An allocation was refused.
     NoMemory,
@@ -41,7 +41,7 @@ impl<T: Drop> From<AllocFailed<T>> for ShapeFault {
 }
 
 /// An entity with no attributes.
-#[derive(Debug, Drop)]
+#[derive(Drop)]
 pub struct BareEntity {
     pub uid: EntityUid,
     pub parents: Items<EntityUid>,

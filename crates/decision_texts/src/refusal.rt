@@ -9,7 +9,7 @@ use serde_json::{Value, json};
 use std::alloc::{AllocFailed, Global};
 
 /// Why texts are not decided.
-#[derive(Clone, Copy, Debug, PartialEq, Eq)]
+#[derive(Clone, Copy, PartialEq, Eq)]
 pub struct Refusal {
     /// The number: 1 for want of memory, 10 to 19 for policies, 30 for entities and requests.
     pub code: u8,

@@ -8,7 +8,7 @@ use std::alloc::AllocFailed;
 use typed_values::ValueFault;
 
 /// The first cause for which JSON states no entity, no context or no request under a schema.
-#[derive(Clone, Copy, Debug, PartialEq, Eq)]
+#[derive(Clone, Copy, PartialEq, Eq)]
 pub enum EntityFault {
     /// An allocation was refused.
     NoMemory,

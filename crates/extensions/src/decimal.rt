@@ -20,7 +20,7 @@ const MOST: usize = 21;
 
 /// A number with four decimal places: a whole number of ten-thousandths, in signed 64 bits. Contracts see it as that
 /// number, by which decimals are compared and ordered.
-#[derive(Clone, Copy, Debug)]
+#[derive(Clone, Copy)]
 pub struct Decimal {
     ten_thousandths: i64,
 }

@@ -24,7 +24,7 @@ use std::net::{Ipv4Addr, Ipv6Addr};
 const MOST: usize = 43;
 
 /// The versions of the Internet Protocol.
-#[derive(Clone, Copy, Debug, PartialEq, Eq)]
+#[derive(Clone, Copy, PartialEq, Eq)]
 pub enum Version {
     /// Addresses of 32 bits.
     V4,
@@ -34,7 +34,7 @@ pub enum Version {
 
 /// An address as it was written, and how many of its first bits are the prefix. Contracts see it as a `Network`. IPv4
 /// is less than IPv6; then the address decides, then the prefix.
-#[derive(Clone, Copy, Debug)]
+#[derive(Clone, Copy)]
 pub struct IpNet {
     version: Version,
     address: u128,

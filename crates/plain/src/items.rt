@@ -13,7 +13,7 @@ use std::marker::Model;
 use std::slice::Iter;
 
 /// A list, which contracts see as the list of its items.
-#[derive(Debug, Drop)]
+#[derive(Drop)]
 pub struct Items<T> {
     list: Vec<T>,
 }

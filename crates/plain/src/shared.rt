@@ -10,7 +10,7 @@ use std::rc::Rc;
 /// A value that is kept once and may be held in several places. Contracts see it as the value, whoever else holds it.
 ///
 /// It is read only, and it is let go with the last of its holders.
-#[derive(Debug, Drop)]
+#[derive(Drop)]
 pub struct Shared<T> {
     owner: Rc<T>,
 }

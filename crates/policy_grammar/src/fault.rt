@@ -8,7 +8,7 @@ use policy_tokens::LexFault;
 use std::alloc::{AllocError, AllocFailed};
 
 /// Why a text is not read. Each place is a byte's, counted from 0.
-#[derive(Clone, Copy, Debug, PartialEq, Eq)]
+#[derive(Clone, Copy, PartialEq, Eq)]
 pub enum ReadFault {
     /// An allocation was refused.
     NoMemory,

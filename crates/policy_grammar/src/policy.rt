@@ -5,7 +5,7 @@ use plain::Items;
 use values::{EntityUid, TypeName};
 
 /// What a policy does for a request that it is satisfied by.
-#[derive(Clone, Copy, Debug, PartialEq, Eq)]
+#[derive(Clone, Copy, PartialEq, Eq)]
 pub enum Effect {
     Permit,
     Forbid,

@@ -5,7 +5,7 @@ ghost use Rattle.policy_tokens.specs.declared.fault.LexFault.TheVariants.{NoMemo
 use std::alloc::{AllocError, AllocFailed};
 
 /// Why a text has no tokens to give.
-#[derive(Clone, Copy, Debug, PartialEq, Eq)]
+#[derive(Clone, Copy, PartialEq, Eq)]
 pub enum LexFault {
     /// The allocator refused memory.
     NoMemory,

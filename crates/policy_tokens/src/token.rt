@@ -102,7 +102,7 @@ impl TokenKind {
 }
 
 /// A token, and where it stands: it is spelled by the bytes from `start` up to `end`.
-#[derive(Clone, Copy, Debug, PartialEq, Eq)]
+#[derive(Clone, Copy, PartialEq, Eq)]
 pub struct Token {
     pub kind: TokenKind,
     pub start: usize,

@@ -7,7 +7,7 @@ use decision_texts::Refusal;
 use plain::NoMemory;
 
 /// Why there is no reply of status 200.
-#[derive(Clone, Copy, Debug, PartialEq, Eq)]
+#[derive(Clone, Copy, PartialEq, Eq)]
 pub enum NetworkFault {
     /// The reader failed (70).
     Read,
@@ -22,7 +22,7 @@ pub enum NetworkFault {
 }
 
 /// Why nothing is pulled. There is no new state then.
-#[derive(Clone, Copy, Debug, PartialEq, Eq)]
+#[derive(Clone, Copy, PartialEq, Eq)]
 pub enum PullFault {
     /// The schema, the state or the message that came is refused, or memory was (1).
     Refused(Refusal),

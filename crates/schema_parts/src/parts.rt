@@ -5,7 +5,7 @@ use schema_types::CedarType;
 use values::{EntityUid, TypeName};
 
 /// Who may do which action on what, by types.
-#[derive(Debug, PartialEq, Eq, PartialOrd, Ord, Drop)]
+#[derive(PartialEq, Eq, PartialOrd, Ord, Drop)]
 pub struct Place {
     pub action: EntityUid,
     /// The type of the principal.

@@ -5,7 +5,7 @@ use plain::NoMemory;
 use std::alloc::AllocFailed;
 
 /// The first cause for which bytes state no schema.
-#[derive(Clone, Copy, Debug, PartialEq, Eq)]
+#[derive(Clone, Copy, PartialEq, Eq)]
 pub enum SchemaFault {
     /// An allocation was refused.
     NoMemory,

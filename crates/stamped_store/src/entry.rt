@@ -11,7 +11,7 @@ use plain::Text;
 use std::cmp::Ordering;
 
 /// When and where an entry was issued: ordered by count, then by site.
-#[derive(Clone, Copy, Debug, PartialEq, Eq, PartialOrd, Ord)]
+#[derive(Clone, Copy, PartialEq, Eq, PartialOrd, Ord)]
 pub struct Stamp {
     /// From 1 to 10^18.
     pub count: u64,
@@ -20,7 +20,7 @@ pub struct Stamp {
 }
 
 /// A text, and what it was read as. No order and no equality looks at the latter.
-#[derive(Debug, Drop)]
+#[derive(Drop)]
 pub struct ReadText<P> {
     /// The text itself.
     pub text: Text,
@@ -29,7 +29,7 @@ pub struct ReadText<P> {
 }
 
 /// A stamp and a body: nothing (a tombstone), or a text.
-#[derive(Debug, Drop)]
+#[derive(Drop)]
 pub struct Entry<P> {
     /// When and where the entry was issued.
     pub stamp: Stamp,

@@ -17,7 +17,7 @@ use std::marker::Model;
 
 /// Want of memory in a merge: exactly the entries of the first `taken` keys of the other store were joined, and its
 /// rest was dropped.
-#[derive(Clone, Copy, Debug, PartialEq, Eq)]
+#[derive(Clone, Copy, PartialEq, Eq)]
 pub struct Short {
     /// How many keys of the other store, from its least on, have their entries in the join.
     pub taken: usize,

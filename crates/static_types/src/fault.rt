@@ -5,7 +5,7 @@ use plain::NoMemory;
 use std::alloc::AllocFailed;
 
 /// Why an expression has no type.
-#[derive(Clone, Copy, Debug, PartialEq, Eq)]
+#[derive(Clone, Copy, PartialEq, Eq)]
 pub enum TypeFault {
     /// An allocation was refused.
     NoMemory,

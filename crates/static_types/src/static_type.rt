@@ -13,7 +13,7 @@ use schema_types::CedarType;
 use values::TypeName;
 
 /// A type of booleans.
-#[derive(Clone, Copy, Debug, PartialEq, Eq)]
+#[derive(Clone, Copy, PartialEq, Eq)]
 pub enum BooleanType {
     /// Known to be true, whatever the request.
     True,

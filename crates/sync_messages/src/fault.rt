@@ -6,7 +6,7 @@ ghost use Rattle.sync_messages.specs.Faults.{code_of, place_of, within_of};
 use std::alloc::AllocFailed;
 
 /// Why a message is not read. Each place is that of an entry, or of a summary's stamp, counted from 0.
-#[derive(Clone, Copy, Debug, PartialEq, Eq)]
+#[derive(Clone, Copy, PartialEq, Eq)]
 pub enum MessageFault {
     /// An allocation was refused.
     NoMemory,

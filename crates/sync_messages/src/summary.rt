@@ -7,7 +7,7 @@ use std::marker::Model;
 use values::Name;
 
 /// The names of a store with the stamps of their entries. The names ascend strictly, policies before entities.
-#[derive(Debug, Drop)]
+#[derive(Drop)]
 pub struct Summary {
     pub(crate) stamps: Vec<(Name, Stamp)>,
 }

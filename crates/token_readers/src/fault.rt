@@ -7,7 +7,7 @@ use std::alloc::AllocError;
 
 /// Why a list of tokens is not read. A place is the index of the first token with which nothing
 /// goes on, or the count of the tokens where they end too early.
-#[derive(Clone, Copy, Debug, PartialEq, Eq)]
+#[derive(Clone, Copy, PartialEq, Eq)]
 pub enum SyntaxFault {
     NoMemory,
     /// The token at the place can't stand there.
@@ -27,7 +27,7 @@ impl From<AllocError> for SyntaxFault {
 }
 
 /// Why reading stops at the next token.
-#[derive(Clone, Copy, Debug, PartialEq, Eq)]
+#[derive(Clone, Copy, PartialEq, Eq)]
 pub enum Halt {
     NoMemory,
     /// The next token can't stand there, or the tokens end too early.

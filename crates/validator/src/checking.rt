@@ -18,7 +18,7 @@ use type_checker::{StaticType, TypeFault, TypingEnvironment, judge_all};
 use typing::expressions_have_one_judgement;
 
 /// What is told of a policy that passes.
-#[derive(Clone, Copy, Debug, PartialEq, Eq)]
+#[derive(Clone, Copy, PartialEq, Eq)]
 pub struct Verdict {
     /// It is False in each environment of the schema: no request that conforms satisfies it.
     pub impossible: bool,

@@ -8,7 +8,7 @@ use std::alloc::AllocFailed;
 use type_checker::TypeFault;
 
 /// The first cause for which a policy does not pass under a schema.
-#[derive(Clone, Copy, Debug, PartialEq, Eq)]
+#[derive(Clone, Copy, PartialEq, Eq)]
 pub enum CheckFault {
     /// An allocation was refused.
     NoMemory,

@@ -7,7 +7,7 @@ use plain::{NoMemory, Text};
 /// The name of an entity: its type's name and its id. Contracts see a record of two lists of bytes.
 ///
 /// Uids are ordered by the bytes of the type's name, and then by those of the id.
-#[derive(Debug, PartialEq, Eq, PartialOrd, Ord, Drop)]
+#[derive(PartialEq, Eq, PartialOrd, Ord, Drop)]
 pub struct EntityUid {
     /// The entity's type.
     pub type_name: TypeName,

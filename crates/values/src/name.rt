@@ -8,7 +8,7 @@ use plain::{NoMemory, Text};
 ///
 /// Policies come before entities; policies are ordered by the bytes of the id, entities as their uids are.
 /// A policy's id is any text here: that it has 1 to 256 bytes is judged where ids come in.
-#[derive(Debug, PartialEq, Eq, PartialOrd, Ord, Drop)]
+#[derive(PartialEq, Eq, PartialOrd, Ord, Drop)]
 pub enum Name {
     /// A policy, by its id.
     Policy(Text),

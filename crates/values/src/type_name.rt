@@ -19,7 +19,7 @@ use std::marker::Model;
 ///
 /// Each identifier is `_` or an ASCII letter and then `_`, ASCII letters and digits, and no reserved word (Cedar
 /// reference guide, grammar: `Path`). Names are equal where their bytes are, and ordered by bytes.
-#[derive(Debug, Drop)]
+#[derive(Drop)]
 pub struct TypeName {
     text: Text,
 }

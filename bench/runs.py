@@ -1,0 +1,136 @@
+"""What the Python parts of the scripts beside this one share: runs of a program that are counted, and served sites.
+
+Standard library alone. Counting needs valgrind, TIMING GNU time.
+"""
+import os
+import re
+import socket
+import subprocess
+import tempfile
+import time
+
+# behind these words a run tells its instructions, which are the same whatever else the machine does
+COUNTING = ("valgrind", "--tool=callgrind", "--callgrind-out-file=/dev/null")
+# behind these its memory; what the system tells of a child begins with what its parent has
+TIMING = ("/usr/bin/time", "-f", "%M")
+
+
+def collected(told):
+    """The instructions that a run told of."""
+    return int(re.search(r"Collected *: *(\d+)", told)[1])
+
+
+def resident(told):
+    """The KiB of memory at most that a run told of."""
+    return int(told.split()[-1])
+
+
+def waited(child):
+    """The status of a child once it ended, and its seconds of processor time.
+
+    Other work on the machine changes these less than those of the clock.
+    """
+    _, status, used = os.wait4(child.pid, 0)
+    child.returncode = os.waitstatus_to_exitcode(status)
+    return child.returncode, used.ru_utime
+
+
+class Ended:
+    """A run that ended: its status, its seconds of processor time, and what it wrote."""
+
+    def __init__(self, words, room=None):
+        with tempfile.TemporaryFile() as out, tempfile.TemporaryFile() as err:
+            child = subprocess.Popen(words, cwd=room, stdin=subprocess.DEVNULL, stdout=out, stderr=err)
+            self.status, self.seconds = waited(child)
+            out.seek(0)
+            err.seek(0)
+            self.out, self.err = out.read(), err.read().decode(errors="replace")
+
+
+def request(method, path, body=b""):
+    """The bytes of a request."""
+    return f"{method} {path} HTTP/1.1\r\nContent-Length: {len(body)}\r\n\r\n".encode() + body
+
+
+class Link:
+    """A connection that is kept."""
+
+    def __init__(self, port):
+        self.stream, self.buffer = socket.create_connection(("127.0.0.1", port), timeout=600), b""
+        self.stream.setsockopt(socket.IPPROTO_TCP, socket.TCP_NODELAY, 1)
+
+    def reply(self):
+        """The status and the body of the next reply. Fails where the connection ends before it."""
+        while True:
+            at = self.buffer.find(b"\r\n\r\n")
+            if at >= 0:
+                head, begin = self.buffer[:at], at + 4
+                end = begin + int(head.split(b"Content-Length: ")[1].split(b"\r\n")[0])
+                if len(self.buffer) >= end:
+                    body, self.buffer = self.buffer[begin:end], self.buffer[end:]
+                    return int(head[9:12]), body
+            came = self.stream.recv(1 << 16)
+            if not came:
+                raise ConnectionResetError("the connection ended")
+            self.buffer += came
+
+    def ask(self, *requests):
+        """The replies to requests that are sent together."""
+        self.stream.sendall(b"".join(requests))
+        return [self.reply() for _ in requests]
+
+    def close(self):
+        self.stream.close()
+
+
+def free_port():
+    with socket.socket() as it:
+        it.bind(("127.0.0.1", 0))
+        return it.getsockname()[1]
+
+
+class Served:
+    """Site 1, served on loopback under the file `schema` of a folder; `words` are further words of the command.
+
+    `took` is how many seconds went by till it listened. `listens` is false where it ended before that.
+    """
+
+    def __init__(self, command, room, *words, **how):
+        self.port, self.err = free_port(), tempfile.TemporaryFile()
+        serve = ["serve", "--schema", "schema", "--site", "1", "--listen", f"127.0.0.1:{self.port}", *words]
+        began = time.perf_counter()
+        self.child = subprocess.Popen([*command, *serve], cwd=room, stdout=subprocess.PIPE, stderr=self.err, **how)
+        self.listens = self.child.stdout.readline().startswith(b"listening ")
+        self.took = time.perf_counter() - began
+
+    def peak(self):
+        """Its KiB of memory at most, so far."""
+        with open(f"/proc/{self.child.pid}/status", encoding="utf-8") as file:
+            return next(int(line.split()[1]) for line in file if line.startswith("VmHWM"))
+
+    def ended(self):
+        """Waits for its end: its status, and its seconds of processor time."""
+        return waited(self.child)
+
+    def kill(self):
+        """Ends it, where it has not ended."""
+        if self.child.poll() is None:
+            self.child.kill()
+            self.child.wait()
+
+    def told(self):
+        """What it wrote on standard error, once it ended."""
+        self.kill()
+        self.err.seek(0)
+        return self.err.read().decode(errors="replace")
+
+    def close(self):
+        self.kill()
+        self.child.stdout.close()
+        self.err.close()
+
+    def __enter__(self):
+        return self
+
+    def __exit__(self, *_):
+        self.close()

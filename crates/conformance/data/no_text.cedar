@@ -1,1 +1,0 @@
-permit(principal, action, resource);ÿ

@@ -1,0 +1,23 @@
+//! What is kept for the rows below, and what is let go. All is generic, so that what is let go is one step of a proof.
+use plain::NoMemory;
+
+/// Keeps a value in the place of another.
+pub(crate) fn replace<T: Drop>(kept: &mut T, value: T) {
+    *kept = value;
+}
+
+/// What is told of something that was kept, if there was memory to keep it.
+pub(crate) fn told_if_kept<T: Drop, E: Drop>(
+    kept: Result<T, E>,
+    told: Result<String, NoMemory>,
+) -> Result<String, NoMemory> {
+    match kept {
+        Ok(_) => told,
+        Err(_) => Err(NoMemory),
+    }
+}
+
+/// What came of it, once nothing more is kept.
+pub(crate) fn ended<T: Drop, R>(_kept: T, came: R) -> R {
+    came
+}

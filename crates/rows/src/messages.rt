@@ -1,0 +1,81 @@
+//! Messages as they are read, update by update: a state tells of each name one entry alone.
+use crate::schemas::schema_of;
+use crate::texts::quoted;
+use crate::written::bad_row;
+use entities::Entity;
+use plain::NoMemory;
+use policy_grammar::Policy;
+use schema::Schema;
+use stamped_store::Stamp;
+use state_messages::{Update, read_message};
+use std::alloc::Global;
+use stored_texts::SchemaTexts;
+
+fn push_entry(
+    alloc: Global,
+    told: &mut String,
+    name: &str,
+    stamp: Stamp,
+    has_body: bool,
+) -> Result<(), NoMemory> {
+    let name = quoted(alloc, name)?;
+    let body = if has_body { "text" } else { "nothing" };
+    let one = format!(in alloc; "; {name} ({}, {}) {body}", stamp.count, stamp.site)?;
+    told.push_str(one.as_str())
+}
+
+/// Adds the id of what an update is of, its stamp, and whether a text came.
+fn push_update(
+    alloc: Global,
+    told: &mut String,
+    update: &Update<Policy, Entity>,
+) -> Result<(), NoMemory> {
+    match update {
+        Update::Policy { id, entry } => {
+            push_entry(alloc, told, id.as_str(), entry.stamp, entry.body.is_some())
+        }
+        Update::Entity { uid, entry } => {
+            push_entry(
+                alloc,
+                told,
+                uid.id.as_str(),
+                entry.stamp,
+                entry.body.is_some(),
+            )
+        }
+    }
+}
+
+fn push_updates(
+    alloc: Global,
+    told: &mut String,
+    updates: &[Update<Policy, Entity>],
+) -> Result<(), NoMemory> {
+    for update in updates {
+        push_update(alloc, told, update)?;
+    }
+    Ok(())
+}
+
+fn listed(alloc: Global, updates: &[Update<Policy, Entity>]) -> Result<String, NoMemory> {
+    let mut told = format!(in alloc; "{} updates", updates.len())?;
+    push_updates(alloc, &mut told, updates)?;
+    Ok(told)
+}
+
+/// The updates of a state or a delta, or the refusal's number.
+fn updates(alloc: Global, schema: &Schema, bytes: &[u8]) -> Result<String, NoMemory> {
+    let texts = SchemaTexts::under(schema);
+    match read_message(alloc, schema.label(), &texts, bytes) {
+        Ok(updates) => listed(alloc, &updates),
+        Err(fault) => format!(in alloc; "{}", fault.code()),
+    }
+}
+
+/// What a row comes to, under these bytes of a schema.
+pub(crate) fn came_to(alloc: Global, schema: &[u8], bytes: &[u8]) -> Result<String, NoMemory> {
+    match schema_of(alloc, schema) {
+        Ok(schema) => updates(alloc, &schema, bytes),
+        Err(_) => bad_row(alloc),
+    }
+}

@@ -1,0 +1,372 @@
+//! Streams that are served by a service that counts.
+ghost use Rattle.std.specs.Prelude.{◌≡◌, ℕ, List};
+ghost use Rattle.http_streams.specs.Laws.{AgreeOn, AnswersAll, HasOneAnswer, in_memory};
+ghost use Rattle.rows.specs.Counts.{asked_alike, counts};
+
+use crate::ways::{
+    FIRST_WRITE_FAILS, PLAIN, SEVENS, SLOW, Way, by_reads, reader_of, sevens_failing, writer_of,
+};
+use crate::written::shown;
+use counted_devices::devices::{Sink, Source};
+use http_streams::laws::one_answer;
+use http_streams::serve::{StreamFault, serve};
+use http_streams::service::Service;
+use http_texts::status::Status;
+use plain::NoMemory;
+use std::alloc::Global;
+
+/// Answers each request by its body, or by its target where it has none. It counts them, and how often memory was
+/// refused.
+#[derive(Drop)]
+struct Counter {
+    requests: u64,
+    refused: u64,
+}
+
+impl Counter {
+    fn new() -> Counter
+        ensures { result ≡ record { requests = 0; refused = 0 } }
+    {
+        Counter {
+            requests: 0,
+            refused: 0,
+        }
+    }
+}
+
+impl Service for Counter {
+    ghost answers = { counts };
+
+    ghost same = { asked_alike };
+
+    fn call(&mut self, method: &[u8], target: &[u8], body: &[u8], text: &mut Vec<u8>) -> Status {
+        self.requests = self.requests.saturating_add(1);
+        let said = if body.is_empty() { target } else { body };
+        match text.extend_from_slice(said) {
+            Ok(()) => Status::Ok,
+            Err(_) => {
+                self.refused = self.refused.saturating_add(1);
+                Status::ServiceUnavailable
+            }
+        }
+    }
+}
+
+/// The service has one answer to each request, want of memory aside.
+fn has_one_answer()
+    ensures { HasOneAnswer (in_memory counts) asked_alike }
+{}
+
+/// So one answer is told of a stream, however it is cut: the rows look at what is proved here.
+fn agrees()
+    ensures { (old old2 new new2 : Counter) → (stream out more : List ℕ) → asked_alike old old2
+        → AnswersAll (in_memory counts) old stream out new → AnswersAll (in_memory counts) old2 stream more new2
+        → AgreeOn (in_memory counts) asked_alike old old2 stream out more new new2 }
+{
+    has_one_answer();
+    one_answer::<Counter>();
+}
+
+/// What came of a stream.
+#[derive(Drop)]
+struct Outcome {
+    out: Vec<u8>,
+    requests: u64,
+    /// How often memory was refused to the service.
+    refused: u64,
+    fault: Option<StreamFault>,
+    /// How much is unread.
+    left: usize,
+    /// How many reads and writes failed.
+    failures: u64,
+}
+
+impl Outcome {
+    /// Whether the stream was answered to its end, by the same replies to as many requests.
+    fn is_as(&self, whole: &Outcome) -> bool {
+        self.out == whole.out
+            && self.requests == whole.requests
+            && self.fault.is_none()
+            && self.failures == 0
+    }
+
+    /// Whether what went out is a beginning of what went out for the whole.
+    fn begins(&self, whole: &Outcome) -> bool {
+        whole.out.as_slice().starts_with(self.out.as_slice())
+    }
+}
+
+/// Serves the bytes in this way.
+fn run(alloc: Global, bytes: &[u8], way: Way<'_>) -> Result<Outcome, NoMemory> {
+    let mut counter = Counter::new();
+    let mut reader = reader_of(way, bytes);
+    let mut writer = writer_of(way, alloc);
+    let fault = serve(alloc, &mut counter, &mut reader, &mut writer).err();
+    let out = Vec::from_slice(alloc, writer.bytes())?;
+    let left = reader.left().len();
+    let failures = reader.failures().saturating_add(writer.failures());
+    Ok(Outcome {
+        out,
+        requests: counter.requests,
+        refused: counter.refused,
+        fault,
+        left,
+        failures,
+    })
+}
+
+/// Whether the same comes of the bytes in this way.
+fn is_same(alloc: Global, bytes: &[u8], whole: &Outcome, way: Way<'_>) -> Result<bool, NoMemory> {
+    let found = run(alloc, bytes, way)?;
+    Ok(found.is_as(whole))
+}
+
+/// Whether one answer is told of the bytes, however they are cut in two, read byte by byte, and written in pieces.
+fn is_one_answer(alloc: Global, bytes: &[u8], whole: &Outcome) -> Result<bool, NoMemory> {
+    agrees();
+    if !whole.is_as(whole) {
+        return Ok(false);
+    }
+    for at in 0..bytes.len() {
+        let reads = [at, usize::MAX];
+        if !is_same(alloc, bytes, whole, by_reads(&reads))? {
+            return Ok(false);
+        }
+    }
+    is_same(alloc, bytes, whole, SLOW)
+}
+
+/// How much is answered of a part; `None` where that is no beginning of what is answered of the whole, or a fault is
+/// told.
+fn answered(alloc: Global, part: &[u8], whole: &Outcome) -> Result<Option<usize>, NoMemory> {
+    let found = run(alloc, part, PLAIN)?;
+    if found.fault.is_none() && found.begins(whole) {
+        Ok(Some(found.out.len()))
+    } else {
+        Ok(None)
+    }
+}
+
+fn push_place(alloc: Global, told: &mut String, place: usize) -> Result<(), NoMemory> {
+    let text = format!(in alloc; " {place}")?;
+    told.push_str(text.as_str())
+}
+
+/// Adds the places at which more is answered, where the bytes end there; `false` where less is.
+fn push_steps(
+    alloc: Global,
+    bytes: &[u8],
+    whole: &Outcome,
+    told: &mut String,
+) -> Result<bool, NoMemory> {
+    let mut before = 0;
+    for at in 0..bytes.len() {
+        let place = at + 1;
+        match answered(alloc, &bytes[..place], whole)? {
+            Some(now) if now > before => {
+                push_place(alloc, told, place)?;
+                before = now;
+            }
+            Some(now) if now == before => {}
+            _ => return Ok(false),
+        }
+    }
+    Ok(true)
+}
+
+fn push_statuses(told: &mut String, out: &[u8]) -> Result<(), NoMemory> {
+    for at in 0..out.len() {
+        let rest = &out[at..];
+        if rest.starts_with(b"HTTP/1.1 ".as_slice()) && rest.len() > 12 {
+            if !told.is_empty() {
+                told.push(' ')?;
+            }
+            for byte in &rest[9..12] {
+                told.push(char::from(*byte))?;
+            }
+        }
+        if rest.starts_with(b"Connection: close".as_slice()) {
+            told.push('!')?;
+        }
+    }
+    Ok(())
+}
+
+/// The statuses in what went out.
+fn statuses(alloc: Global, out: &[u8]) -> Result<String, NoMemory> {
+    let mut told = String::new(alloc);
+    push_statuses(&mut told, out)?;
+    Ok(told)
+}
+
+/// The statuses, how often the service was asked, and the places; `false` where the places are none.
+fn push_served(
+    alloc: Global,
+    bytes: &[u8],
+    whole: &Outcome,
+    told: &mut String,
+) -> Result<bool, NoMemory> {
+    push_statuses(told, whole.out.as_slice())?;
+    let asked = format!(in alloc; " ({}) at", whole.requests)?;
+    told.push_str(asked.as_str())?;
+    push_steps(alloc, bytes, whole, told)
+}
+
+fn told_of_steps(alloc: Global, bytes: &[u8], whole: &Outcome) -> Result<String, NoMemory> {
+    let mut told = String::new(alloc);
+    if push_served(alloc, bytes, whole, &mut told)? {
+        return Ok(told);
+    }
+    String::from_str(alloc, "differs")
+}
+
+fn served(alloc: Global, bytes: &[u8], whole: &Outcome) -> Result<String, NoMemory> {
+    if is_one_answer(alloc, bytes, whole)? {
+        return told_of_steps(alloc, bytes, whole);
+    }
+    String::from_str(alloc, "differs")
+}
+
+/// How many replies there are.
+fn replies(out: &[u8]) -> u64 {
+    let mut count: u64 = 0;
+    for at in 0..out.len() {
+        if out[at..].starts_with(b"HTTP/1.1 ".as_slice()) {
+            count = count.saturating_add(1);
+        }
+    }
+    count
+}
+
+/// Whether this is what may stand after a read or a write failed.
+fn is_broken_off(whole: &Outcome, found: &Outcome, of_reads: bool) -> bool {
+    let short = of_reads || found.out.len() < whole.out.len();
+    let answered = replies(found.out.as_slice());
+    let asked = found.requests;
+    let told = match found.fault {
+        Some(StreamFault::Read) => of_reads && asked == answered,
+        Some(StreamFault::Write) => !of_reads && asked <= answered.saturating_add(1),
+        _ => false,
+    };
+    found.begins(whole) && short && told && found.failures == 1
+}
+
+/// What came of a stream of which one call was to fail.
+#[derive(Clone, Copy)]
+enum Failed {
+    /// There was no such call.
+    None,
+    /// It was told, behind so many bytes that were read or written.
+    Behind(usize),
+    /// It was not told, or more came of it than may.
+    Badly,
+}
+
+fn failure_of(size: usize, whole: &Outcome, found: &Outcome, of_reads: bool) -> Failed {
+    if found.is_as(whole) {
+        return Failed::None;
+    }
+    if !is_broken_off(whole, found, of_reads) {
+        return Failed::Badly;
+    }
+    if of_reads {
+        Failed::Behind(size.saturating_sub(found.left))
+    } else {
+        Failed::Behind(found.out.len())
+    }
+}
+
+/// What comes of the bytes, in pieces of 7 and of 50 bytes, where this read or write fails.
+fn failing_at(
+    alloc: Global,
+    bytes: &[u8],
+    whole: &Outcome,
+    of_reads: bool,
+    call: u64,
+) -> Result<Failed, NoMemory> {
+    let found = run(alloc, bytes, sevens_failing(&[50], of_reads, call))?;
+    Ok(failure_of(bytes.len(), whole, &found, of_reads))
+}
+
+/// How many reads or writes there are, each of which is made to fail once. Each moves more before it than the one
+/// before.
+fn failing(
+    alloc: Global,
+    bytes: &[u8],
+    whole: &Outcome,
+    of_reads: bool,
+) -> Result<Option<u64>, NoMemory> {
+    let mut least = 0;
+    for call in 0..1000u64 {
+        match failing_at(alloc, bytes, whole, of_reads, call)? {
+            Failed::None => return Ok(Some(call)),
+            Failed::Behind(moved) if moved >= least => least = moved.saturating_add(1),
+            _ => return Ok(None),
+        }
+    }
+    Ok(None)
+}
+
+fn faults(alloc: Global, bytes: &[u8], whole: &Outcome) -> Result<String, NoMemory> {
+    let reads = failing(alloc, bytes, whole, true)?;
+    let writes = failing(alloc, bytes, whole, false)?;
+    match (reads, writes) {
+        (Some(reads), Some(writes)) => format!(in alloc; "{reads} reads, {writes} writes"),
+        _ => String::from_str(alloc, "differs"),
+    }
+}
+
+/// How many bytes are unread, where the stream ended as it was to.
+fn left(alloc: Global, found: &Outcome, is_broken: bool) -> Result<String, NoMemory> {
+    let left = found.left;
+    match found.fault {
+        None if !is_broken => format!(in alloc; "{left} left"),
+        Some(StreamFault::Write) if is_broken => format!(in alloc; "{left} left"),
+        _ => String::from_str(alloc, "fault"),
+    }
+}
+
+/// How often the service was asked, where memory may be refused.
+fn scarce(alloc: Global, whole: &Outcome) -> Result<String, NoMemory> {
+    let asked = whole.requests;
+    let answered = replies(whole.out.as_slice());
+    match whole.fault {
+        None if whole.refused == 0 => format!(in alloc; "asked {asked}, answered {answered}"),
+        None | Some(StreamFault::NoMemory) if asked == answered => {
+            format!(in alloc; "refused, asked {asked}")
+        }
+        Some(StreamFault::Write) if answered <= asked => {
+            format!(in alloc; "refused, asked {asked}")
+        }
+        _ => String::from_str(alloc, "differs"),
+    }
+}
+
+/// How the stream of a row is cut.
+fn way_of(word: &str) -> Way<'static> {
+    match word {
+        "slow" => SLOW,
+        "left" | "faults" => SEVENS,
+        "unread" => FIRST_WRITE_FAILS,
+        _ => PLAIN,
+    }
+}
+
+/// What is told of what came of a stream.
+fn told(alloc: Global, word: &str, bytes: &[u8], found: &Outcome) -> Result<String, NoMemory> {
+    match word {
+        "serve" => served(alloc, bytes, found),
+        "faults" => faults(alloc, bytes, found),
+        "reply" => shown(alloc, found.out.as_slice()),
+        "left" => left(alloc, found, false),
+        "unread" => left(alloc, found, true),
+        "scarce" => scarce(alloc, found),
+        _ => statuses(alloc, found.out.as_slice()),
+    }
+}
+
+/// What a row comes to.
+pub(crate) fn came_to(alloc: Global, word: &str, bytes: &[u8]) -> Result<String, NoMemory> {
+    let found = run(alloc, bytes, way_of(word))?;
+    told(alloc, word, bytes, &found)
+}

@@ -1,0 +1,108 @@
+//! Texts of the policy language and of JSON.
+use crate::written::{bad_row, text_of};
+use json_words::{read_json, write_json};
+use plain::NoMemory;
+use policy_grammar::{ReadFault, parse_uid};
+use policy_tokens::{LexFault, Token, tokens};
+use serde_json::Value;
+use std::alloc::Global;
+use values::{EntityUid, TypeName};
+
+/// The number of a refusal and its place.
+fn refused(alloc: Global, fault: ReadFault) -> Result<String, NoMemory> {
+    match fault.place() {
+        Some(place) => format!(in alloc; "{} at {place}", fault.code()),
+        None => format!(in alloc; "{}", fault.code()),
+    }
+}
+
+fn push_token(alloc: Global, told: &mut String, token: Token) -> Result<(), NoMemory> {
+    let (kind, start) = (token.kind, token.start);
+    let one = format!(in alloc; " {kind:?} {start}")?;
+    told.push_str(one.as_str())
+}
+
+fn push_tokens(alloc: Global, told: &mut String, found: &[Token]) -> Result<(), NoMemory> {
+    for token in found {
+        push_token(alloc, told, *token)?;
+    }
+    Ok(())
+}
+
+/// How many tokens there are, and the kind and the place of each.
+fn listed(alloc: Global, found: &[Token]) -> Result<String, NoMemory> {
+    let mut told = format!(in alloc; "{}:", found.len())?;
+    push_tokens(alloc, &mut told, found)?;
+    Ok(told)
+}
+
+fn lexed(alloc: Global, text: &str) -> Result<String, NoMemory> {
+    match tokens(alloc, text) {
+        Ok(found) => listed(alloc, &found),
+        Err(LexFault::BadToken(at)) => refused(alloc, ReadFault::BadToken(at)),
+        Err(LexFault::NoMemory) => refused(alloc, ReadFault::NoMemory),
+    }
+}
+
+/// The compact text of a value of JSON.
+pub(crate) fn compact(alloc: Global, value: &Value) -> Result<String, NoMemory> {
+    let bytes = write_json(alloc, value)?;
+    text_of(alloc, &bytes)
+}
+
+/// A text within quotes, with what JSON escapes.
+pub(crate) fn quoted(alloc: Global, content: &str) -> Result<String, NoMemory> {
+    let value = Value::String(String::from_str(alloc, content)?);
+    compact(alloc, &value)
+}
+
+/// The type of an entity, and its id as JSON.
+fn type_and_id(alloc: Global, uid: &EntityUid) -> Result<String, NoMemory> {
+    let id = quoted(alloc, uid.id.as_str())?;
+    let name = uid.type_name.as_str();
+    format!(in alloc; "{name} {id}")
+}
+
+fn uid(alloc: Global, text: &str) -> Result<String, NoMemory> {
+    match parse_uid(alloc, text) {
+        Ok(uid) => type_and_id(alloc, &uid),
+        Err(fault) => refused(alloc, fault),
+    }
+}
+
+fn name(alloc: Global, text: &str) -> Result<String, NoMemory> {
+    match TypeName::parse(alloc, text)? {
+        Some(name) => String::from_str(alloc, name.as_str()),
+        None => String::from_str(alloc, "no name"),
+    }
+}
+
+/// The compact text of JSON.
+fn json(alloc: Global, bytes: &[u8]) -> Result<String, NoMemory> {
+    match read_json(alloc, bytes)? {
+        Some(value) => compact(alloc, &value),
+        None => String::from_str(alloc, "no JSON"),
+    }
+}
+
+/// What a row of the policy language comes to.
+fn of_text(alloc: Global, word: &str, text: &str) -> Result<String, NoMemory> {
+    match word {
+        "tokens" => lexed(alloc, text),
+        "uid" => uid(alloc, text),
+        "name" => name(alloc, text),
+        "no_memory" => refused(alloc, ReadFault::NoMemory),
+        _ => bad_row(alloc),
+    }
+}
+
+/// What a row comes to.
+pub(crate) fn came_to(alloc: Global, word: &str, bytes: &[u8]) -> Result<String, NoMemory> {
+    if word == "json" {
+        return json(alloc, bytes);
+    }
+    match std::str::from_utf8(bytes) {
+        Ok(text) => of_text(alloc, word, text),
+        Err(_) => String::from_str(alloc, "no UTF-8"),
+    }
+}

@@ -1,0 +1,386 @@
+#!/usr/bin/env python3
+"""Runs sites on loopback and compares what they answer with examples/clinic/service_answers.txt.
+
+    [PROGRAM=FILE] examples/service.py
+
+Every route, a connection that is kept, requests sent together, clients that send garbage, cut off or stall, two sites
+that exchange until they are equal, `pull` and `merge`, and what ends a command. PROGRAM names another binary than the
+built one. Standard library alone.
+"""
+import atexit
+import hashlib
+import http.client
+import json
+import os
+import random
+import shutil
+import socket
+import struct
+import subprocess
+import sys
+import tempfile
+import time
+
+HERE = os.path.dirname(os.path.abspath(__file__))
+PROGRAM = os.path.realpath(os.environ.get("PROGRAM") or f"{HERE}/../crates/cedar_site/out/cedar_site")
+CLINIC = f"{HERE}/clinic"
+WORK = tempfile.mkdtemp(prefix="service-")
+ASK = b"GET /v1/policies/absent HTTP/1.1\r\nHost: a\r\n\r\n"
+LINE = b'{"error":{"code":60,"place":null,"within":null}}'
+REPLY = b"HTTP/1.1 404 Not Found\r\nContent-Type: application/json\r\nContent-Length: 48\r\n\r\n" + LINE
+wrong, servers = [], []
+
+
+def same(name, wanted, came):
+    if wanted != came:
+        wrong.append(name)
+        print(f"{name}: wanted: {wanted!r} came: {came!r}")
+
+
+def free_port():
+    with socket.socket() as probe:
+        probe.bind(("127.0.0.1", 0))
+        return probe.getsockname()[1]
+
+
+def begin(number, *words):
+    """Starts a site. Returns its process and its port once it listens."""
+    port = free_port()
+    words = ["serve", "--schema", "schema.json", "--site", str(number), "--listen", f"127.0.0.1:{port}", *words]
+    site = subprocess.Popen([PROGRAM, *words], cwd=CLINIC, stdout=subprocess.PIPE, stderr=subprocess.PIPE, text=True)
+    servers.append(site)
+    told = site.stdout.readline()
+    if told != f"listening 127.0.0.1:{port}\n":
+        sys.exit(f"site {number} does not listen: {told}{site.communicate()[1]}")
+    return site, port
+
+
+def end_all():
+    for site in servers:
+        site.kill()
+        site.wait()
+    shutil.rmtree(WORK, ignore_errors=True)
+
+
+def text_of(path):
+    with open(path, encoding="utf-8") as file:
+        return file.read()
+
+
+LABEL = hashlib.sha256(text_of(f"{CLINIC}/schema.json").encode()).hexdigest()
+
+
+def asked(port, method, path, body=None, fields=()):
+    """The status and the text of the reply to one request, on a connection of its own."""
+    link = http.client.HTTPConnection("127.0.0.1", port, timeout=20)
+    try:
+        link.putrequest(method, path)
+        if body is not None and not fields:
+            link.putheader("Content-Length", str(len(body.encode())))
+        for name, value in fields:
+            link.putheader(name, value)
+        link.endheaders(None if body is None else body.encode())
+        reply = link.getresponse()
+        return reply.status, reply.read().decode()
+    finally:
+        link.close()
+
+
+def put(port, name, text):
+    return asked(port, "PUT", f"/v1/policies/{name}", text)
+
+
+def post(port, path, body):
+    return asked(port, "POST", path, body)
+
+
+def message(kind, **parts):
+    return json.dumps({"kind": kind, "schema": LABEL, "version": 1, **parts}, sort_keys=True, separators=(",", ":"))
+
+
+def tombstone(name, count):
+    return [{"body": None, "count": count, "name": {"policy": name}, "site": 9}]
+
+
+def asks_of_policies(port):
+    yield put(port, "keeper", "permit(principal, action, resource) when { resource.keeper == principal };")
+    yield put(port, "teams", "permit(principal is Team, action, resource);")
+    yield put(port, "senior", "permit(principal, action, resource) when { principal.grade > 3 };")
+    yield put(port, "short", "permit(principal, action);")
+    yield put(port, "no%20writing%2F1", 'forbid(principal, action == Action::"write", resource);')
+    yield asked(port, "GET", "/v1/policies/keeper")
+    yield asked(port, "GET", "/v1/policies/no%20writing%2f1")
+    yield asked(port, "DELETE", "/v1/policies/teams")
+    yield asked(port, "DELETE", "/v1/policies/teams")
+    yield asked(port, "GET", "/v1/policies/teams")
+
+
+def asks_of_entities(port):
+    def entity(text):
+        return asked(port, "PUT", "/v1/entities", text)
+
+    parents = '[{"type":"Team","id":"nurses"}]'
+    yield entity(f'{{"uid":{{"type":"Staff","id":"ann"}},"attrs":{{"ward":"south"}},"parents":{parents}}}')
+    keeper = '"keeper":{"type":"Staff","id":"ann"}'
+    yield entity(f'{{"uid":{{"type":"Chart","id":"c1"}},"attrs":{{"ward":"north",{keeper},"sealed":false}}}}')
+    yield entity('{"uid":{"type":"Staff","id":"eve"}}')
+    yield entity('{"uid":')
+    yield entity('{"uid":{"type":"Team","id":"a"},"parents":[{"type":"Team","id":"b"}]}')
+    yield entity('{"uid":{"type":"Team","id":"b"},"parents":[{"type":"Team","id":"a"}]}')
+
+
+def asks_of_answers(port):
+    def request(action, **more):
+        places = {"principal": 'Staff::"ann"', "action": f'Action::"{action}"', "resource": 'Chart::"c1"'}
+        return json.dumps({**places, **more})
+
+    here = {"address": "10.0.0.1"}
+    yield post(port, "/v1/authorize", request("read", context=here))
+    yield post(port, "/v1/authorize", request("write", context=here))
+    yield post(port, "/v1/authorize", request("chart"))
+    yield post(port, "/v1/authorize", "who?")
+    yield post(port, "/v1/entities/delete", '{"type":"Team","id":"a"}')
+    yield post(port, "/v1/entities/delete", '{"type":"Team","id":"a"}')
+
+
+def asks_of_messages(port):
+    yield asked(port, "GET", "/v1/summary")
+    yield asked(port, "GET", "/v1/state")
+    stamps = [{"count": 1, "name": {"policy": "keeper"}, "site": 1}]
+    yield post(port, "/v1/delta", message("summary", stamps=stamps))
+    yield post(port, "/v1/merge", message("delta", entries=tombstone("keeper", 7)))
+    yield post(port, "/v1/merge", '{"entries":[],"kind":"delta","schema":"another","version":1}')
+    yield post(port, "/v1/merge", message("delta", entries=tombstone("p", 0)))
+    yield asked(port, "GET", "/v1/policies/keeper")
+
+
+def asks_that_are_none(port):
+    yield asked(port, "GET", "/nowhere")
+    yield asked(port, "PATCH", "/v1/state")
+    yield asked(port, "POST", "/v1/authorize")
+    chunked = "24\r\npermit(principal, action, resource);\r\n0\r\n\r\n"
+    yield asked(port, "PUT", "/v1/policies/p", chunked, [("Transfer-Encoding", "chunked")])
+    yield asked(port, "PUT", "/v1/policies/p", None, [("Content-Length", "9000000")])
+    yield asked(port, "HEAD", "/v1/summary")
+
+
+def routes(port):
+    """Every route, in the order of the file of answers."""
+    told = []
+    for asks in (asks_of_policies, asks_of_entities, asks_of_answers, asks_of_messages, asks_that_are_none):
+        told += [f"{status} {text.replace(LABEL, 'LABEL')}\n" for status, text in asks(port)]
+    wanted = text_of(f"{CLINIC}/service_answers.txt").splitlines(True)
+    same("the number of answers", len(wanted), len(told))
+    for number, (line, came) in enumerate(zip(wanted, told), 1):
+        same(f"answer {number}", line, came)
+
+
+def a_kept_connection(port):
+    """One connection carries three requests."""
+    link = http.client.HTTPConnection("127.0.0.1", port, timeout=20)
+    link.connect()
+    kept = link.sock
+    for name in "abc":
+        link.request("GET", f"/v1/policies/{name}")
+        reply = link.getresponse()
+        same("a kept connection", (404, LINE), (reply.status, reply.read()))
+    same("a kept connection is one", True, link.sock is kept)
+    link.close()
+
+
+def opened(port):
+    stream = socket.create_connection(("127.0.0.1", port), timeout=20)
+    stream.setsockopt(socket.IPPROTO_TCP, socket.TCP_NODELAY, 1)
+    return stream
+
+
+def to_end(stream):
+    """What comes until the connection ends."""
+    came = b""
+    try:
+        while part := stream.recv(65536):
+            came += part
+    except ConnectionResetError:
+        pass
+    return came
+
+
+def sent_and_ended(port, pieces):
+    """What comes back for these pieces, behind which nothing more is sent."""
+    with opened(port) as stream:
+        try:
+            for piece in pieces:
+                stream.sendall(piece)
+            stream.shutdown(socket.SHUT_WR)
+        except OSError:
+            pass  # the site has closed already
+        return to_end(stream)
+
+
+def asks_rightly(port, after):
+    same(f"a right request after {after}", REPLY, sent_and_ended(port, [ASK]))
+
+
+def clients_that_send_together(port):
+    asks_rightly(port, "nothing")
+    same("a hundred requests together", REPLY * 100, sent_and_ended(port, [ASK * 100]))
+    same("requests byte by byte", REPLY * 3, sent_and_ended(port, [bytes([byte]) for byte in ASK * 3]))
+    with opened(port) as stream:
+        stream.sendall(b"GET / HTTP/1.1\r\n" + b"a: b\r\n" * 65 + b"\r\n")
+        same("65 fields", True, to_end(stream).startswith(b"HTTP/1.1 400 "))
+    asks_rightly(port, "65 fields")
+
+
+def clients_that_cut_off(port):
+    for at in range(1, len(ASK)):
+        same(f"cut off after {at} bytes", REPLY, sent_and_ended(port, [ASK + ASK[:at]]))
+    asks_rightly(port, "requests that are cut off")
+    with opened(port) as stream:
+        stream.sendall(b"PUT /v1/policies/p HTTP/1.1\r\nContent-Length: 36\r\n\r\npermit(principal, action, resource)")
+    asks_rightly(port, "a body that is cut off")
+    # connections that are reset, before a request, within one and within the replies
+    for sent in (b"", ASK[:20], ASK * 2000):
+        stream = opened(port)
+        stream.setsockopt(socket.SOL_SOCKET, socket.SO_LINGER, struct.pack("ii", 1, 0))
+        try:
+            stream.sendall(sent)
+        except OSError:
+            pass
+        stream.close()
+        asks_rightly(port, "a reset")
+
+
+def a_client_that_stalls(port):
+    """It is waited for, and who comes meanwhile waits for it."""
+    stalled = opened(port)
+    stalled.sendall(ASK[:10])
+    with opened(port) as waiting:
+        waiting.sendall(ASK)
+        waiting.settimeout(0.5)
+        try:
+            same("who waits", b"", waiting.recv(1))
+        except TimeoutError:
+            pass
+        stalled.close()
+        waiting.settimeout(20)
+        waiting.shutdown(socket.SHUT_WR)
+        same("who waited", REPLY, to_end(waiting))
+
+
+def garbage(port):
+    chance = random.Random(7)
+    for length in (1, 3, 17, 300, 5000, 70000):
+        for _ in range(5):
+            came = sent_and_ended(port, [chance.randbytes(length)])
+            same("garbage", True, came == b"" or came.startswith(b"HTTP/1.1 400 Bad Request\r\n"))
+        asks_rightly(port, "garbage")
+
+
+def state(port):
+    return asked(port, "GET", "/v1/state")[1]
+
+
+def exchange(asks, answers):
+    """One site asks another for what is news to it, and takes it."""
+    summary = asked(asks, "GET", "/v1/summary")[1]
+    return post(asks, "/v1/merge", post(answers, "/v1/delta", summary)[1])[1]
+
+
+def two_sites(one, two):
+    """Changes at both, then turns of exchange until their states are equal."""
+    chance = random.Random(11)
+    for i in range(1, 6):
+        put(one, f"p{i}", f'permit(principal == Staff::"s{i}", action, resource);')
+        put(two, f"p{i + 2}", f'forbid(principal == Staff::"s{i}", action, resource);')
+    for turn in range(1, 60):
+        asks, answers = (one, two) if chance.random() < 0.5 else (two, one)
+        if turn < 8:
+            name = f"p{chance.randrange(9)}"
+            put(answers, name, f'permit(principal == Staff::"t{turn}", action, resource);')
+        exchange(asks, answers)
+        if turn >= 8 and state(one) == state(two):
+            break
+    same("two sites after their turns", state(one), state(two))
+    same("nothing is news to equal sites", '{"taken":0}', exchange(one, two))
+
+
+def ran(*words):
+    """The status of a command, and both of its streams."""
+    done = subprocess.run([PROGRAM, *words], cwd=CLINIC, capture_output=True, timeout=20, check=False)
+    return done.returncode, done.stdout.decode(), done.stderr.decode()
+
+
+def pulls_and_merges(one, two):
+    """`pull` into a file that is not there, and again; `merge` of it with itself; a site that begins with it."""
+    file = f"{WORK}/state.json"
+
+    def pulled(port):
+        return ran("pull", "--schema", "schema.json", "--site", "3", "--from", f"127.0.0.1:{port}", "--state", file)[1]
+
+    same("pull", f'{{"taken":{len(json.loads(state(one))["entries"])}}}\n', pulled(one))
+    same("the state that was pulled", state(one).strip(), text_of(file).strip())
+    same("pull again", '{"taken":0}\n', pulled(two))
+    same("merge", state(one).strip(), ran("merge", "--schema", "schema.json", file, file)[1].strip())
+    site, three = begin(3, "--state", file, "--connections", "2")
+    same("a site that begins with a state", state(one), state(three))
+    state(three)
+    same("a site that ends after two connections", 0, site.wait(20))
+    return file
+
+
+def ends(name, status, line, *words):
+    """A command ends with this status, and says this line on standard error, where one is given."""
+    came, _, told = ran(*words)
+    same(f"{name}: status", status, came)
+    if line:
+        same(name, f"{line}\n", told)
+
+
+def refusal(code):
+    return f'{{"error":{{"code":{code},"place":null,"within":null}}}}'
+
+
+def refusals(one, file):
+    """What is refused, and what fails."""
+    other, none = f"{WORK}/other.json", f"{WORK}/none"
+    kept = '{"entries":[],"kind":"state","schema":"another","version":1}'
+    with open(other, "w", encoding="utf-8") as it:
+        it.write(kept)
+    schema = ("--schema", "schema.json")
+    serve = ("serve", *schema, "--site", "4", "--connections", "0")
+    nowhere = ("--listen", "127.0.0.1:0")
+    ends("no connections", 0, "", *serve, *nowhere)
+    ends("site 0", 2, "", "serve", *schema, "--site", "0", *nowhere)
+    ends("site 65536", 2, "", "serve", *schema, "--site", "65536", *nowhere)
+    ends("too many connections", 2, "", "serve", *schema, "--site", "1", *nowhere, "--connections", "4294967296")
+    ends("no address", 2, "", "serve", *schema, "--site", "1")
+    ends("no file", 3, f"fault: {none}", *serve, *nowhere, "--state", none)
+    ends("a state of another schema", 1, refusal(52), *serve, "--listen", "nowhere", "--state", other)
+    ends("no schema", 1, refusal(20), "serve", "--schema", "policies.cedar", "--site", "4", "--listen", "nowhere")
+    ends("an address that is none", 3, "fault: nowhere", *serve, "--listen", "nowhere")
+    ends("an address that is taken", 3, f"fault: 127.0.0.1:{one}", *serve, "--listen", f"127.0.0.1:{one}")
+    pull = ("pull", *schema, "--site", "4")
+    ends("nobody listens", 3, "fault: 127.0.0.1:1", *pull, "--from", "127.0.0.1:1", "--state", other)
+    ends("pull into a refused state", 1, refusal(52), *pull, "--from", f"127.0.0.1:{one}", "--state", other)
+    same("a refused state stays", kept, text_of(other))
+    ends("merge with a refused state", 1, refusal(52), "merge", *schema, file, other)
+    ends("merge with no file", 3, f"fault: {none}", "merge", *schema, other, none)
+    ends("a word that is no text", 2, "error: a word of the command line is not UTF-8", "check", b"\xff")
+
+
+def main():
+    atexit.register(end_all)
+    site, one = begin(1)
+    clients = (clients_that_send_together, clients_that_cut_off, a_client_that_stalls, garbage)
+    for tried in (routes, a_kept_connection, *clients):
+        tried(one)
+    same("the site is still there", None, site.poll())
+    _, two = begin(2)
+    two_sites(one, two)
+    refusals(one, pulls_and_merges(one, two))
+    print(f"service: {len(wrong)} wrong" if wrong else "service: as it should be")
+    return 1 if wrong else 0
+
+
+if __name__ == "__main__":
+    sys.exit(main())

@@ -1,0 +1,112 @@
+#!/usr/bin/env python3
+"""Tries the wrong bodies that the gate does not try: crates/NAME/wrong-bodies/*.edit, of the form of must-fail edits.
+
+    tools/wrong_bodies.py NAME ..     lays them into a copy, as must-fail/, and runs `rt must-fail NAME ..` there
+    tools/wrong_bodies.py --all       the same for every crate that has any
+    tools/wrong_bodies.py --applies   proves nothing: each edit, of must-fail/ too, still stands once in its file
+
+The copy takes along the libraries that stand built in this checkout (crates/NAME/out/rlib), and rt builds anew what
+has changed since or was never built. Each call proves the named crates from nothing, once, and then tries their edits
+over that. Standard library alone.
+"""
+import os
+import shutil
+import subprocess
+import sys
+import tempfile
+
+TOP = os.path.dirname(os.path.dirname(os.path.abspath(__file__)))
+PARTS = ("src", "specs", "proofs")
+FOLDERS = ("must-fail", "wrong-bodies")
+
+
+def edits_of(name, folder):
+    """The edits of a crate in one of its two folders, in order."""
+    at = f"{TOP}/crates/{name}/{folder}"
+    return [f"{at}/{it}" for it in sorted(os.listdir(at)) if it.endswith(".edit")] if os.path.isdir(at) else []
+
+
+def text_of(path):
+    with open(path, encoding="utf-8") as file:
+        return file.read()
+
+
+def fault_of(edit, crate):
+    """Why an edit cannot be applied, or None: as rt reads it, line by line, each pair over what those before it left."""
+    path, old, pairs, texts = "", None, 0, {}
+    for line in text_of(edit).split("\n"):
+        if line.startswith("file: "):
+            path = line[len("file: "):].strip()
+        elif line.startswith("old: "):
+            old = line[len("old: "):]
+        elif line.startswith("new:"):
+            if not path.startswith(tuple(f"{it}/" for it in PARTS)) or not old:
+                return "a 'new:' line without 'file:' and 'old:'"
+            if path not in texts:
+                if not os.path.isfile(f"{crate}/{path}"):
+                    return f"no file {path}"
+                texts[path] = text_of(f"{crate}/{path}")
+            if texts[path].count(old) != 1:
+                return f"its text stands {texts[path].count(old)} times in {path}"
+            texts[path] = texts[path].replace(old, line[len("new:"):].removeprefix(" "))
+            old, pairs = None, pairs + 1
+    return None if pairs else "no pair of 'old:' and 'new:'"
+
+
+def applies():
+    """Says of each edit of the repository that cannot be applied why, and how many can."""
+    found, lost = 0, 0
+    for name in sorted(os.listdir(f"{TOP}/crates")):
+        for folder in FOLDERS:
+            for edit in edits_of(name, folder):
+                why = fault_of(edit, f"{TOP}/crates/{name}")
+                found, lost = found + 1, lost + bool(why)
+                if why:
+                    print(f"{name}/{folder}/{os.path.basename(edit)}: {why}")
+    print(f"{found - lost} of {found} edits stand once in their files")
+    return 1 if lost else 0
+
+
+def lay_out(names, room):
+    """Copies all crates, with the wrong bodies of the named ones as their must-fail edits, and what is built of them."""
+    for name in sorted(os.listdir(f"{TOP}/crates")):
+        for part in PARTS:
+            if os.path.isdir(f"{TOP}/crates/{name}/{part}"):
+                shutil.copytree(f"{TOP}/crates/{name}/{part}", f"{room}/crates/{name}/{part}")
+        built = f"{TOP}/crates/{name}/out/rlib"
+        if os.path.isfile(f"{built}/stamp"):
+            shutil.copytree(built, f"{room}/crates/{name}/out/rlib")
+        if name in names:
+            os.makedirs(f"{room}/crates/{name}/must-fail")
+            for edit in edits_of(name, "wrong-bodies"):
+                shutil.copy(edit, f"{room}/crates/{name}/must-fail")
+    for name in ("crates.txt", "HANDLES"):
+        shutil.copy(f"{TOP}/{name}", room)
+    os.mkdir(f"{room}/.git")  # the top of a repository
+
+
+def tried(names):
+    """Tries the wrong bodies of these crates. Returns the status of `rt must-fail`."""
+    with tempfile.TemporaryDirectory(prefix="wrong-bodies-") as room:
+        lay_out(names, room)
+        return subprocess.run(["rt", "must-fail", *names], cwd=room, check=False).returncode
+
+
+def main(words):
+    if words == ["--applies"]:
+        return applies()
+    names = words
+    if words == ["--all"]:
+        names = [it for it in sorted(os.listdir(f"{TOP}/crates")) if edits_of(it, "wrong-bodies")]
+    if not names or any(it.startswith("-") for it in names):
+        print(__doc__)
+        return 2
+    lost = [it for it in names if not edits_of(it, "wrong-bodies")]
+    if lost:
+        print(f"no wrong bodies: {', '.join(lost)}")
+        return 2
+    return tried(names)
+
+
+if __name__ == "__main__":
+    sys.exit(main(sys.argv[1:]))
