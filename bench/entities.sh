@@ -41,9 +41,9 @@ def entity(attributes, parents):
 
 def message(label, text):
     """A state with so many entries of the entity, and one whose count is refused."""
-    entries = [{"body": text, "count": n + 1, "name": {"entity": UID}, "site": 1} for n in range(COUNT)]
-    entries.append({"body": None, "count": 0, "name": {"policy": "last"}, "site": 1})
-    return compact({"entries": entries, "kind": "state", "schema": label, "version": 1})
+    entries = [{"body": text, "count": n + 1, "name": {"entity": UID}, "site": "00001"} for n in range(COUNT)]
+    entries.append({"body": None, "count": 0, "name": {"policy": "last"}, "site": "00001"})
+    return compact({"entries": entries, "kind": "state", "schema": label, "version": 2})
 
 
 def instructions(room, label, text, wanted):

@@ -42,14 +42,14 @@ def entry(number):
         uid = {"id": f"user{number}", "type": "User"}
         attrs = {"age": number, "name": f"user{number}"}
         name, body = {"entity": uid}, compact({"attrs": attrs, "parents": [STAFF], "uid": uid})
-    return {"body": body, "count": number + 1, "name": name, "site": 1}
+    return {"body": body, "count": number + 1, "name": name, "site": "00001"}
 
 
 def state(size, last):
     """So many entries, and one more with this count: 0 is refused."""
     entries = [entry(number) for number in range(size)]
-    entries.append({"body": None, "count": last, "name": {"policy": "last"}, "site": 1})
-    return compact({"entries": entries, "kind": "state", "schema": LABEL, "version": 1})
+    entries.append({"body": None, "count": last, "name": {"policy": "last"}, "site": "00001"})
+    return compact({"entries": entries, "kind": "state", "schema": LABEL, "version": 2})
 
 
 def write(room, **texts):
@@ -67,7 +67,7 @@ def merged(room, first, second, wanted):
     return collected(Ended([*COUNTING, *words], room).err), resident(ran.err)
 
 
-empty = compact({"entries": [], "kind": "state", "schema": LABEL, "version": 1})
+empty = compact({"entries": [], "kind": "state", "schema": LABEL, "version": 2})
 print(f"{'what':<8} {'entries':>8} {'instructions an entry':>22} {'KiB':>12}")
 with tempfile.TemporaryDirectory() as room:
     write(room, schema=SCHEMA, empty=empty, none="x")

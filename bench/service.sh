@@ -35,7 +35,7 @@ def entry(n, site):
 
 def state(count, site, first=0):
     entries = [entry(n, site) for n in range(first, first + count)]
-    message = {"entries": entries, "kind": "state", "schema": LABEL, "version": 1}
+    message = {"entries": entries, "kind": "state", "schema": LABEL, "version": 2}
     return json.dumps(message, separators=(",", ":"))
 
 
@@ -57,7 +57,7 @@ def asked(port, times, together, make):
 def authorize(room):
     print(f"{'policies':>9} {'one by one, us':>15} {'32 together, us':>16} {'KiB':>8}")
     for count in SIZES or [10, 1000, 10000]:
-        write(room, "state", state(count, 2))
+        write(room, "state", state(count, "00002"))
         with Served([PROGRAM], room, "--state", "state") as site:
             ask = request("POST", "/v1/authorize", ASKED)
             times = max(20, 200000 // (count + 100))
@@ -69,7 +69,7 @@ def authorize(room):
 def put(room):
     print(f"{'stored':>9} {'a put, us':>10} {'KiB':>8}")
     for count in SIZES or [1000, 10000]:
-        write(room, "state", state(count, 2))
+        write(room, "state", state(count, "00002"))
         with Served([PROGRAM], room, "--state", "state") as site:
             text = b"permit(principal, action, resource);"
             took = asked(site.port, 2000, 1, lambda n: request("PUT", f"/v1/policies/q{n}", text))
@@ -79,8 +79,8 @@ def put(room):
 def merge(room):
     print(f"{'entries':>9} {'MB in all':>10} {'seconds':>8} {'us an entry':>12} {'KiB':>8}")
     for count in SIZES or [1000, 10000, 100000]:
-        write(room, "f", state(count, 1))
-        write(room, "g", state(count, 2, count // 2))
+        write(room, "f", state(count, "00001"))
+        write(room, "g", state(count, "00002", count // 2))
         began = resource.getrusage(resource.RUSAGE_CHILDREN)
         ran = Ended([*TIMING, PROGRAM, "merge", "--schema", "schema", "f", "g"], room)
         ended = resource.getrusage(resource.RUSAGE_CHILDREN)

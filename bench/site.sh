@@ -64,7 +64,7 @@ def link(n, _groups):
 
 
 def entry(name, body, count):
-    return {"body": body, "count": count, "name": name, "site": 2}
+    return {"body": body, "count": count, "name": name, "site": "00002"}
 
 
 def message(policies, entities, made_of=entity):
@@ -74,7 +74,7 @@ def message(policies, entities, made_of=entity):
     for n in range(entities):
         made = made_of(n, groups)
         found.append(entry({"entity": made["uid"]}, compact(made), n + 1))
-    return compact({"entries": found, "kind": "state", "schema": LABEL, "version": 1})
+    return compact({"entries": found, "kind": "state", "schema": LABEL, "version": 2})
 
 
 def authorizing(entities):

@@ -43,15 +43,15 @@ def free_port():
         return probe.getsockname()[1]
 
 
-def begin(number, *words):
+def begin(name, *words):
     """Starts a site. Returns its process and its port once it listens."""
     port = free_port()
-    words = ["serve", "--schema", "schema.json", "--site", str(number), "--listen", f"127.0.0.1:{port}", *words]
+    words = ["serve", "--schema", "schema.json", "--site", name, "--listen", f"127.0.0.1:{port}", *words]
     site = subprocess.Popen([PROGRAM, *words], cwd=CLINIC, stdout=subprocess.PIPE, stderr=subprocess.PIPE, text=True)
     servers.append(site)
     told = site.stdout.readline()
     if told != f"listening 127.0.0.1:{port}\n":
-        sys.exit(f"site {number} does not listen: {told}{site.communicate()[1]}")
+        sys.exit(f"site {name} does not listen: {told}{site.communicate()[1]}")
     return site, port
 
 
@@ -95,11 +95,11 @@ def post(port, path, body):
 
 
 def message(kind, **parts):
-    return json.dumps({"kind": kind, "schema": LABEL, "version": 1, **parts}, sort_keys=True, separators=(",", ":"))
+    return json.dumps({"kind": kind, "schema": LABEL, "version": 2, **parts}, sort_keys=True, separators=(",", ":"))
 
 
 def tombstone(name, count):
-    return [{"body": None, "count": count, "name": {"policy": name}, "site": 9}]
+    return [{"body": None, "count": count, "name": {"policy": name}, "site": "east-9"}]
 
 
 def asks_of_policies(port):
@@ -146,10 +146,10 @@ def asks_of_answers(port):
 def asks_of_messages(port):
     yield asked(port, "GET", "/v1/summary")
     yield asked(port, "GET", "/v1/state")
-    stamps = [{"count": 1, "name": {"policy": "keeper"}, "site": 1}]
+    stamps = [{"count": 1, "name": {"policy": "keeper"}, "site": "north"}]
     yield post(port, "/v1/delta", message("summary", stamps=stamps))
     yield post(port, "/v1/merge", message("delta", entries=tombstone("keeper", 7)))
-    yield post(port, "/v1/merge", '{"entries":[],"kind":"delta","schema":"another","version":1}')
+    yield post(port, "/v1/merge", '{"entries":[],"kind":"delta","schema":"another","version":2}')
     yield post(port, "/v1/merge", message("delta", entries=tombstone("p", 0)))
     yield asked(port, "GET", "/v1/policies/keeper")
 
@@ -315,13 +315,13 @@ def pulls_and_merges(one, two):
     file = f"{WORK}/state.json"
 
     def pulled(port):
-        return ran("pull", "--schema", "schema.json", "--site", "3", "--from", f"127.0.0.1:{port}", "--state", file)[1]
+        return ran("pull", "--schema", "schema.json", "--site", "west", "--from", f"127.0.0.1:{port}", "--state", file)[1]
 
     same("pull", f'{{"taken":{len(json.loads(state(one))["entries"])}}}\n', pulled(one))
     same("the state that was pulled", state(one).strip(), text_of(file).strip())
     same("pull again", '{"taken":0}\n', pulled(two))
     same("merge", state(one).strip(), ran("merge", "--schema", "schema.json", file, file)[1].strip())
-    site, three = begin(3, "--state", file, "--connections", "2")
+    site, three = begin("west", "--state", file, "--connections", "2")
     same("a site that begins with a state", state(one), state(three))
     state(three)
     same("a site that ends after two connections", 0, site.wait(20))
@@ -343,23 +343,24 @@ def refusal(code):
 def refusals(one, file):
     """What is refused, and what fails."""
     other, none = f"{WORK}/other.json", f"{WORK}/none"
-    kept = '{"entries":[],"kind":"state","schema":"another","version":1}'
+    kept = '{"entries":[],"kind":"state","schema":"another","version":2}'
     with open(other, "w", encoding="utf-8") as it:
         it.write(kept)
     schema = ("--schema", "schema.json")
-    serve = ("serve", *schema, "--site", "4", "--connections", "0")
+    serve = ("serve", *schema, "--site", "east", "--connections", "0")
     nowhere = ("--listen", "127.0.0.1:0")
     ends("no connections", 0, "", *serve, *nowhere)
-    ends("site 0", 2, "", "serve", *schema, "--site", "0", *nowhere)
-    ends("site 65536", 2, "", "serve", *schema, "--site", "65536", *nowhere)
-    ends("too many connections", 2, "", "serve", *schema, "--site", "1", *nowhere, "--connections", "4294967296")
-    ends("no address", 2, "", "serve", *schema, "--site", "1")
+    for site in ("", "the north", "süd", "north/1", 33 * "n"):
+        ends(f"site {site}", 2, "", "serve", *schema, "--site", site, *nowhere)
+    ends("a site of 32 bytes", 0, "", "serve", *schema, "--site", 32 * "n", "--connections", "0", *nowhere)
+    ends("too many connections", 2, "", "serve", *schema, "--site", "north", *nowhere, "--connections", "4294967296")
+    ends("no address", 2, "", "serve", *schema, "--site", "north")
     ends("no file", 3, f"fault: {none}", *serve, *nowhere, "--state", none)
     ends("a state of another schema", 1, refusal(52), *serve, "--listen", "nowhere", "--state", other)
-    ends("no schema", 1, refusal(20), "serve", "--schema", "policies.cedar", "--site", "4", "--listen", "nowhere")
+    ends("no schema", 1, refusal(20), "serve", "--schema", "policies.cedar", "--site", "east", "--listen", "nowhere")
     ends("an address that is none", 3, "fault: nowhere", *serve, "--listen", "nowhere")
     ends("an address that is taken", 3, f"fault: 127.0.0.1:{one}", *serve, "--listen", f"127.0.0.1:{one}")
-    pull = ("pull", *schema, "--site", "4")
+    pull = ("pull", *schema, "--site", "east")
     ends("nobody listens", 3, "fault: 127.0.0.1:1", *pull, "--from", "127.0.0.1:1", "--state", other)
     ends("pull into a refused state", 1, refusal(52), *pull, "--from", f"127.0.0.1:{one}", "--state", other)
     same("a refused state stays", kept, text_of(other))
@@ -370,12 +371,12 @@ def refusals(one, file):
 
 def main():
     atexit.register(end_all)
-    site, one = begin(1)
+    site, one = begin("north")
     clients = (clients_that_send_together, clients_that_cut_off, a_client_that_stalls, garbage)
     for tried in (routes, a_kept_connection, *clients):
         tried(one)
     same("the site is still there", None, site.poll())
-    _, two = begin(2)
+    _, two = begin("south")
     two_sites(one, two)
     refusals(one, pulls_and_merges(one, two))
     print(f"service: {len(wrong)} wrong" if wrong else "service: as it should be")

@@ -7,6 +7,7 @@ import hashlib
 import json
 import os
 import re
+import shlex
 import socket
 import subprocess
 import sys
@@ -359,11 +360,11 @@ class Stored(UnderSchema):
     def state(self, entries):
         """The state that has these entries."""
         label = hashlib.sha256(self.schema).hexdigest()
-        return compact({"entries": entries, "kind": "state", "schema": label, "version": 1})
+        return compact({"entries": entries, "kind": "state", "schema": label, "version": 2})
 
     def merged(self, name, body):
         """What the entry of this name and body comes to."""
-        state = self.state([{"body": body, "count": 1, "name": name, "site": 1}])
+        state = self.state([{"body": body, "count": 1, "name": name, "site": "1"}])
         self.cedar.lay(first=state.encode(), second=self.state([]).encode())
         ran = self.cedar.run("merge", "--schema", "schema", "first", "second")
         refusal = ran.refusal()
@@ -392,7 +393,8 @@ class Runs(Commands):
     """Runs of command lines.
 
     - `file NAME TEXT`: lays a file beside the runs below: `laid`.
-    - `run`: the status, and what was written on standard output and standard error, as JSON.
+    - `run`: the status, and what was written on standard output and standard error, as JSON. A word with blanks, or
+      of no bytes, stands in quotes.
     - `run_short`: the status where each stream takes ten bytes and then fails.
     """
 
@@ -402,10 +404,10 @@ class Runs(Commands):
         return "laid"
 
     def of_run(self, text):
-        return self.cedar.run(*text.split()).whole()
+        return self.cedar.run(*shlex.split(text)).whole()
 
     def of_run_short(self, text):
-        return str(self.cedar.run_short(*text.split()))
+        return str(self.cedar.run_short(*shlex.split(text)))
 
 
 class Block(Row):
@@ -447,7 +449,7 @@ class Merges(Blocks):
     """Two messages that are merged: the state, or the error line."""
 
     def gives(self, values):
-        self.cedar.lay(**{name: values[name].encode() for name in ("schema", "first", "second")})
+        self.cedar.lay(**{name: expanded(values[name]) for name in ("schema", "first", "second")})
         return self.cedar.run("merge", "--schema", "schema", "first", "second").line()
 
 
@@ -471,7 +473,7 @@ class Pulls(Blocks):
     def gives(self, values):
         state = f"{self.room}/state"
         if values["state"] != "-":
-            self.cedar.lay(state=values["state"].encode())
+            self.cedar.lay(state=expanded(values["state"]))
         elif os.path.exists(state):
             os.remove(state)
         self.cedar.lay(schema=values["schema"].encode())
@@ -496,7 +498,7 @@ class Pulls(Blocks):
         taken = re.fullmatch(r'\{"taken":(\d+)\}', ran.line())
         if taken:
             return f"{taken[1]} {left.decode().rstrip(chr(10))}"
-        if left != values["state"].encode():
+        if left != expanded(values["state"]):
             return f"{ran.whole()}, and the state file became {left!r}"
         if ran.status == 3 and ran.faults == f"fault: {address}\n".encode():
             return "network"

@@ -93,12 +93,12 @@ def first_line(process):
     return line.decode(errors="replace").removesuffix("\n")
 
 
-def listening(processes, program, schema, number):
-    """Starts a site under the schema of this file, and gives its process and its port."""
+def listening(processes, program, schema, name):
+    """Starts a site of this name under the schema of this file, and gives its process and its port."""
     for _ in range(PORTS):
         port = free_port()
         address = f"{HOST}:{port}"
-        process = processes.start([program, "serve", "--schema", schema, "--site", number, "--listen", address])
+        process = processes.start([program, "serve", "--schema", schema, "--site", name, "--listen", address])
         if first_line(process) == f"listening {address}":
             return process, port
         status, told = processes.end(process)
@@ -169,9 +169,9 @@ def connected(port):
 class Site:
     """A site that is served, which had nothing stored when it began, and a connection that is kept."""
 
-    def __init__(self, processes, program, schema, number):
+    def __init__(self, processes, program, schema, name):
         self.processes = processes
-        self.process, self.port = listening(processes, program, schema, number)
+        self.process, self.port = listening(processes, program, schema, name)
         self.link = self.incoming = None
 
     def asked(self, requests):
@@ -218,11 +218,11 @@ class Served(Kind):
         self.processes = Processes()
         self.schema = f"{room}/schema"
 
-    def begin(self, schema, number="1"):
-        """Begins a site under a schema, with nothing stored."""
+    def begin(self, schema, name="1"):
+        """Begins a site of this name under a schema, with nothing stored."""
         with open(self.schema, "wb") as file:
             file.write(schema)
-        return Site(self.processes, self.program, self.schema, number)
+        return Site(self.processes, self.program, self.schema, name)
 
     def close(self):
         """Ends the sites."""
@@ -321,7 +321,7 @@ def label_of(site):
 
 def message(kind, label, **parts):
     """The bytes of a message with these entries or stamps."""
-    whole = {"kind": kind, "schema": label, "version": 1, **parts}
+    whole = {"kind": kind, "schema": label, "version": 2, **parts}
     return json.dumps(whole, ensure_ascii=False).encode()
 
 
@@ -330,11 +330,30 @@ def tombstone(stamp):
     return {"body": None, **stamp}
 
 
+# the bytes that a site's name may have, ascending, and how many it may have
+SITE_BYTES = "-.0123456789ABCDEFGHIJKLMNOPQRSTUVWXYZ_abcdefghijklmnopqrstuvwxyz"
+LONGEST_SITE = 32
+
+
+def next_site(site):
+    """The least greater name of a site, or None where there is none."""
+    if len(site) < LONGEST_SITE:
+        return site + SITE_BYTES[0]
+    kept = site.rstrip(SITE_BYTES[-1])
+    return kept[:-1] + SITE_BYTES[SITE_BYTES.index(kept[-1]) + 1] if kept else None
+
+
 def next_stamp(stamp):
     """The least greater stamp of the same name."""
-    if stamp["site"] < 65535:
-        return {**stamp, "site": stamp["site"] + 1}
-    return {**stamp, "count": stamp["count"] + 1, "site": 1}
+    site = next_site(stamp["site"])
+    if site is not None:
+        return {**stamp, "site": site}
+    return {**stamp, "count": stamp["count"] + 1, "site": SITE_BYTES[0]}
+
+
+def raised(stamp):
+    """A stamp of version 1, of a site with a number, as one of version 2: the site's name is five digits."""
+    return {**stamp, "site": f"{stamp['site']:05}"}
 
 
 class Summaries(Served):
@@ -342,11 +361,12 @@ class Summaries(Served):
 
     An accepted one comes to the number of its stamps. A site with nothing stored has no news for it. One with a
     deletion at each of its names, of the very stamp, and at one name more leaves as many out as it has stamps. Once
-    each of these deletions has the next greater stamp none is left out.
+    each of these deletions has the next greater stamp none is left out. In a summary of version 1 the number of a site
+    stands for five digits.
     """
 
     SCHEMA = b"{}"
-    OTHER = {"count": 1, "name": {"policy": "another name"}, "site": 1}
+    OTHER = {"count": 1, "name": {"policy": "another name"}, "site": "1"}
 
     def __init__(self, program, room):
         super().__init__(program, room)
@@ -363,14 +383,15 @@ class Summaries(Served):
         reply = self.empty.ask("POST", "/v1/delta", summary)
         if not reply.is_given:
             return reply.refusal()
-        nothing = {"entries": [], "kind": "delta", "schema": self.label, "version": 1}
+        nothing = {"entries": [], "kind": "delta", "schema": self.label, "version": 2}
         if reply.text != json.dumps(nothing, separators=(",", ":")):
             return f"news of nothing: {reply.text}"
         return self.stamps_of(summary)
 
     def stamps_of(self, summary):
         """The number of stamps that the site reads of a summary, where they are those that stand in it."""
-        stamps = json.loads(summary)["stamps"]
+        whole = json.loads(summary)
+        stamps = [raised(it) for it in whole["stamps"]] if whole["version"] == 1 else whole["stamps"]
         site = self.begin(self.SCHEMA)
         try:
             left = self.news(site, stamps, summary)
@@ -577,12 +598,12 @@ def input_of(text):
 
 
 class Sites(Served):
-    """Sites, each by its number, and inputs to them.
+    """Sites, each by its name, and inputs to them.
 
     - `under SCHEMA`: gives the sites that are started below it their schema.
-    - `start NUMBER`: starts a site of this number with nothing stored, in place of the one that had it; the schema's
+    - `start NAME`: starts a site of this name with nothing stored, in place of the one that had it; the schema's
       label is told. Where the command does not begin one, by its words or the schema, it is a bad row.
-    - `NUMBER INPUT`: what the site of this number answers to the input. Where several inputs stand in a line, ` ¶ `
+    - `NAME INPUT`: what the site of this name answers to the input. Where several inputs stand in a line, ` ¶ `
       between each two, they are sent together. An input is a word and what it is about: `put_policy ID TEXT`,
       `delete_policy ID`, `put_entity JSON`, `delete_entity TYPE ID`, `take MESSAGE`, `authorize JSON`, `get_policy ID`,
       `state`, `summary`, `delta SUMMARY`.
@@ -607,17 +628,17 @@ class Sites(Served):
         replies = self.started[word].asked([it for it, _ in inputs])
         return self.BETWEEN.join(told(reply) for reply, (_, told) in zip(replies, inputs))
 
-    def start(self, number):
+    def start(self, name):
         """Starts a site."""
-        if number in self.started:
-            self.started.pop(number).end()
+        if name in self.started:
+            self.started.pop(name).end()
         try:
-            site = self.begin(self.declared, number)
+            site = self.begin(self.declared, name)
         except NotBegun as fault:
             if fault.status == 2 or (fault.status == 1 and refusal_of(fault.told)[0] == "20 - -"):
                 return BAD_ROW
             raise
-        self.started[number] = site
+        self.started[name] = site
         return label_of(site)
 
 
@@ -674,7 +695,7 @@ class Streams(Served):
     """Bytes that a site is sent over one connection, and what goes out.
 
     - `under TEXT`: gives the rows below their schema.
-    - `site N`: gives them a site with this number, with nothing stored.
+    - `site NAME`: gives them a site of this name, with nothing stored.
     - `serve TEXT`: the bytes that go out for this stream, which the site keeps what is left of.
     - `cut TEXT`: the same at a site with nothing stored, which is left alone. The same has to go out, and the same
       state be left, however the text is cut in two, and where it comes byte by byte; else `differs`.
@@ -686,7 +707,7 @@ class Streams(Served):
 
     def __init__(self, program, room):
         super().__init__(program, room)
-        self.declared, self.number, self.site = b"", "1", None
+        self.declared, self.name, self.site = b"", "1", None
         self.tried_at, self.nothing = None, None
 
     def came_to(self, word, text):
@@ -713,12 +734,12 @@ class Streams(Served):
                 site.end()
         self.site = self.tried_at = None
 
-    def give(self, number):
+    def give(self, name):
         """Gives the rows below a site."""
         self.leave()
-        self.number = number
+        self.name = name
         try:
-            self.site = self.begin(self.declared, number)
+            self.site = self.begin(self.declared, name)
         except NotBegun as fault:
             if fault.status in (1, 2):
                 return "no site"
@@ -728,7 +749,7 @@ class Streams(Served):
     def tried(self, *parts):
         """What goes out at a site with nothing stored, and the state that is left."""
         if self.tried_at is None:
-            self.tried_at = self.begin(self.declared, self.number)
+            self.tried_at = self.begin(self.declared, self.name)
             self.nothing = sent(self.tried_at.port, self.STATE)
         came, state = sent(self.tried_at.port, *parts), sent(self.tried_at.port, self.STATE)
         if state != self.nothing:

@@ -1,6 +1,9 @@
 """What the tables of rows/ are written in: rows, and the texts in them. Used by tools/rows.py and the kinds of rows."""
+import os
 
 ARROW = "  ->  "
+# where the tables stand, and the files that their texts name
+TABLES = os.path.join(os.path.dirname(os.path.dirname(os.path.abspath(__file__))), "rows")
 
 
 class Row:
@@ -57,7 +60,10 @@ def numbered(count, part):
 
 
 def inside_of(text):
-    """The bytes of what stands in brackets: a part and how often it comes, numbered or not, or bytes."""
+    """The bytes of what stands in brackets: a part and how often it comes, numbered or not, a file, or bytes."""
+    if text.startswith("@"):
+        with open(os.path.join(TABLES, text[1:]), "rb") as file:
+            return file.read()
     count, sign, part = text.partition("№")
     if sign:
         return numbered(int(count), part).encode()
@@ -68,7 +74,10 @@ def inside_of(text):
 
 
 def expanded(text):
-    """The bytes that a text stands for: `⟦3×ab⟧` for `ababab`, `⟦2№a#+⟧` for `a01a12`, `⟦0a ff⟧` for two bytes."""
+    """The bytes that a text stands for.
+
+    `⟦3×ab⟧` is `ababab`, `⟦2№a#+⟧` is `a01a12`, `⟦0a ff⟧` two bytes, and `⟦@NAME⟧` what the file rows/NAME holds.
+    """
     first, *pieces = text.split("⟦")
     found = [first.encode()]
     for piece in pieces:

@@ -1,6 +1,7 @@
 pub mod Decided
 pub mod Deciding
 pub mod Hierarchy
+pub mod LeastCycle
 pub mod Search
 pub mod SearchedMeaning
 pub mod inner

@@ -1,3 +1,4 @@
+pub mod Backwards
 pub mod Numbering
 pub mod UnderWay
 pub mod Walking

@@ -9,7 +9,7 @@ use std::collections::BTreeSet;
 use values::EntityUid;
 
 /// The members of a set, ascending.
-pub(crate) fn listed<'a>(
+pub fn listed<'a>(
     alloc: Global,
     found: BTreeSet<&'a EntityUid>,
 ) -> Result<Vec<&'a EntityUid>, NoMemory>

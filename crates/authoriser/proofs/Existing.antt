@@ -1,13 +1,12 @@
 -- Wherever finitely many entities have parents, a request has an answer.
-use Rattle.std.specs.Prelude.{◌≡◌, ◌≢◌, ◌⊎◌, List, [], ◌∷◌, Bool, true, false, Contains, None, Ok, Err, IsTrue, cond, refl}
-use Rattle.std.specs.List.{filter}
-use Rattle.std.proofs.Common.{inl, inr, sym, ap, subst, ◌∙◌}
+use Rattle.std.specs.Prelude.{◌≡◌, ◌≢◌, ◌⊎◌, List, [], ◌∷◌, Bool, true, false, Contains, None, Ok, Err, refl}
+use Rattle.std.proofs.Common.{inl, inr, sym, subst, ◌∙◌}
 use Rattle.std.proofs.lemmas.Bool.{false≢true}
 use Rattle.values.specs.declared.entity_uid.EntityUid.{EntityUid}
 use Rattle.values.specs.declared.request.Request.{Request}
 use Rattle.values.specs.Values.{PlainValue, boolean, long, text, entity, set, record_of, decimal, ipaddr}
-use Rattle.values.specs.Names.{uid_cmp, uid_cmp-IsTotalOrder, uid_cmp-IsAntisymmetric}
-use Rattle.ancestor_closure.specs.Hierarchy.{Parents, Path, AreOnCycles, IsAscending}
+use Rattle.ancestor_closure.specs.Hierarchy.{Parents, Path, IsOnCycle}
+use Rattle.ancestor_closure.specs.LeastCycle.{HasNoCycle, IsLeastCycle, CyclesHaveALeast}
 use Rattle.ancestor_closure.specs.Decided.{Decides, HaveAllParents, reaches, PathsAreDecided}
 use Rattle.expressions.specs.declared.expr.Expr.{Expr}
 use Rattle.expressions.specs.declared.expr.Expr.TheVariants as core
@@ -29,9 +28,8 @@ use Rattle.authoriser.specs.declared.outcome.PolicyError.{PolicyError}
 use Rattle.authoriser.specs.declared.outcome.PolicyError.TheVariants.{EntityDoesNotExist, AttrDoesNotExist, TypeError, ArithBoundsError, ExtensionError}
 use Rattle.authoriser.specs.Answers.{NamedPolicy, PolicyOutcome, IsPolicyOutcome, fault_of, PolicyEvaluatesTo, ArePolicyOutcomes, answer_by, IsAnswer}
 use Rattle.authoriser.specs.Laws.{OneAnswerAtMost, OneAnswerInFiniteHierarchies}
-use Rattle.plain.proofs.Members.{Contains-here, Contains-there, Contains-cases, Contains-none}
+use Rattle.plain.proofs.Members.{Contains-cases, Contains-none}
 use Rattle.authoriser.proofs.Lawful.{Determined}
-use Rattle.plain.proofs.Ascending.{sorted, sorted-ascends, into_sorted, from_sorted}
 
 -- ---- what a policy comes to
 
@@ -105,25 +103,7 @@ module _ (W : World) (q : Request) (given : Determined W q) (memory : (x : Expr)
       let is : IsPolicyOutcome W q p (record { id = p.id; effect = p.policy.effect; outcome = one.0 }) = record { id = refl; effect = refl; outcome = one.1 } in
       (record { id = p.id; effect = p.policy.effect; outcome = one.0 } ∷ more.0, (is, more.1))
 
--- ---- the entities on cycles
-
-kept_from : (test : EntityUid → Bool) (us : List EntityUid) (u : EntityUid) → Contains (filter test us) u → IsTrue (test u)
-kept_from test [] u c = Contains-none u c
-kept_from test (v ∷ us) u c = at (test v) refl c (λ rest. kept_from test us u rest)
-  where
-    at : (b : Bool) → test v ≡ b → Contains (cond b (v ∷ filter test us) (filter test us)) u → (Contains (filter test us) u → IsTrue (test u)) → IsTrue (test u)
-    at true e h further = elim (Contains-cases v (filter test us) u h) [ inl same ↦ subst (λ w. IsTrue (test w)) same e | inr t ↦ further t ]
-    at false e h further = further h
-
-kept_to : (test : EntityUid → Bool) (us : List EntityUid) (u : EntityUid) → Contains us u → IsTrue (test u) → Contains (filter test us) u
-kept_to test [] u c t = Contains-none u c
-kept_to test (v ∷ us) u c t = at (test v) refl (Contains-cases v us u c) (λ rest. kept_to test us u rest t)
-  where
-    at : (b : Bool) → test v ≡ b → (v ≡ u) ⊎ Contains us u → (Contains us u → Contains (filter test us) u) → Contains (cond b (v ∷ filter test us) (filter test us)) u
-    at true e (inl same) further = subst (λ w. Contains (v ∷ filter test us) w) same (Contains-here v (filter test us))
-    at true e (inr more) further = Contains-there v (filter test us) u (further more)
-    at false e (inl same) further = absurd (false≢true (sym e ∙ ap test same ∙ t))
-    at false e (inr more) further = further more
+-- ---- a cycle, or none
 
 -- where a path begins there is a parent
 has_parent : (parents : Parents) (b a : EntityUid) (through : List EntityUid) → Path parents b through a → (p : EntityUid) × Contains (parents b) p
@@ -131,41 +111,46 @@ has_parent parents b a [] h = (a, h)
 has_parent parents b a (c ∷ cs) h = (c, h.0)
 
 module _ (parents : Parents) (stored : List EntityUid) (all : HaveAllParents parents stored) (D : Decides parents (reaches parents stored)) where
-  on_cycle : EntityUid → Bool
-  on_cycle u = reaches parents stored u u
+  abbrev SomeOnCycle : Type 0
+  SomeOnCycle = (x : EntityUid) × IsOnCycle parents x
 
-  cycle : List EntityUid
-  cycle = sorted uid_cmp (filter on_cycle stored)
+  -- of these entities
+  some_or_none : (us : List EntityUid) → SomeOnCycle ⊎ ((x : EntityUid) → Contains us x → IsOnCycle parents x → ⊥)
+  some_or_none [] = inr (λ x c on. Contains-none x c)
+  some_or_none (u ∷ us) = at (reaches parents stored u u) refl (some_or_none us)
+    where
+      at : (b : Bool) → reaches parents stored u u ≡ b → SomeOnCycle ⊎ ((x : EntityUid) → Contains us x → IsOnCycle parents x → ⊥)
+          → SomeOnCycle ⊎ ((x : EntityUid) → Contains (u ∷ us) x → IsOnCycle parents x → ⊥)
+      at true e rest = inl (u, (D u u).0 e)
+      at false e (inl some) = inl some
+      at false e (inr none) = inr (λ x c on. elim (Contains-cases u us x c) [
+        | inl same ↦ false≢true (sym e ∙ (D u u).1 (subst (IsOnCycle parents) (sym same) on))
+        | inr more ↦ none x more on
+      ])
 
-  cycle_named : AreOnCycles parents cycle
-  unfolding cycle on_cycle
-  cycle_named u = (
-    (λ c. (D u u).0 (kept_from (λ v. reaches parents stored v v) stored u (from_sorted uid_cmp _ u c))),
-    (λ above.
-        let first = has_parent parents u u above.0 above.1 in
-        into_sorted uid_cmp uid_cmp-IsAntisymmetric _ u (kept_to (λ v. reaches parents stored v v) stored u (all u first.0 first.1) ((D u u).1 above))),
-  )
-
-  cycle_ascends : IsAscending cycle
-  unfolding cycle
-  cycle_ascends = sorted-ascends uid_cmp uid_cmp-IsTotalOrder (filter on_cycle stored)
+  cycle_or_none : SomeOnCycle ⊎ HasNoCycle parents
+  cycle_or_none = elim (some_or_none stored) [
+    | inl some ↦ inl some
+    | inr none ↦ inr (λ x on. let first = has_parent parents x x on.0 on.1 in none x (all x first.0 first.1) on)
+  ]
 
 -- ---- an answer
 
 module _ (W : World) (q : Request) (ps : List NamedPolicy) where
-  by_cycle : (xs : List EntityUid) → AreOnCycles W.parents xs → IsAscending xs → ((js : List PolicyOutcome) × ArePolicyOutcomes W q ps js) → (a : Answer) × IsAnswer W q ps a
-  by_cycle [] named ascends judged = (
-    answer_by judged.0,
-    inr (record { acyclic = λ u above. Contains-none u ((named u).1 above); judged = judged.0; outcomes = judged.1; answer = refl }),
-  )
-  by_cycle (x ∷ xs) named ascends judged = (
-    record { decision = Deny; reason = []; errors = []; cycle = x ∷ xs },
-    inl (record { named = named; ascending = ascends; some = λ e. absurd (cc); rest = refl }),
-  )
+  by_cycle : ((walk : List EntityUid) × IsLeastCycle W.parents walk) → (a : Answer) × IsAnswer W q ps a
+  by_cycle cycle = (record { decision = Deny; reason = []; errors = []; cycle = cycle.0 }, inl (record { least = cycle.1; rest = refl }))
 
-pub one_answer_in_finite : PathsAreDecided → HaveOneOutcome → ((W : World) (q : Request) (x : Expr) → ¬ EvaluatesTo W q x (Err fault.NoMemory)) → OneAnswerAtMost → OneAnswerInFiniteHierarchies
-one_answer_in_finite decided law memory at_most W stored all q ps =
+  by_policies : HasNoCycle W.parents → ((js : List PolicyOutcome) × ArePolicyOutcomes W q ps js) → (a : Answer) × IsAnswer W q ps a
+  by_policies none judged = (answer_by judged.0, inr (record { acyclic = none; judged = judged.0; outcomes = judged.1; answer = refl }))
+
+  by_either : CyclesHaveALeast → (stored : List EntityUid) → HaveAllParents W.parents stored → ((x : EntityUid) × IsOnCycle W.parents x) ⊎ HasNoCycle W.parents
+      → ((js : List PolicyOutcome) × ArePolicyOutcomes W q ps js) → (a : Answer) × IsAnswer W q ps a
+  by_either there stored all (inl some) judged = by_cycle (there W.parents stored all some.0 some.1)
+  by_either there stored all (inr none) judged = by_policies none judged
+
+pub one_answer_in_finite : PathsAreDecided → CyclesHaveALeast → HaveOneOutcome → ((W : World) (q : Request) (x : Expr) → ¬ EvaluatesTo W q x (Err fault.NoMemory)) → OneAnswerAtMost → OneAnswerInFiniteHierarchies
+one_answer_in_finite decided there law memory at_most W stored all q ps =
     let D = decided W.parents stored all in
     let given = law W (reaches W.parents stored) D q in
-    let one = by_cycle W q ps (cycle W.parents stored all D) (cycle_named W.parents stored all D) (cycle_ascends W.parents stored all D) (all_judged W q given (memory W q) ps) in
+    let one = by_either W q ps there stored all (cycle_or_none W.parents stored all D) (all_judged W q given (memory W q) ps) in
     (one.0, one.1, λ b is. at_most W (reaches W.parents stored) D q ps b one.0 is one.1)

@@ -7,7 +7,8 @@ use Rattle.std.proofs.lemmas.List.Elements.{Contains-push_cases}
 use Rattle.values.specs.declared.entity_uid.EntityUid.{EntityUid}
 use Rattle.values.specs.declared.request.Request.{Request}
 use Rattle.values.specs.Values.{PlainValue, boolean, long, text, entity, set, record_of, decimal, ipaddr}
-use Rattle.ancestor_closure.specs.Hierarchy.{Parents, Above, IsAllAbove, AreOnCycles, IsAscending, names, IsIn}
+use Rattle.ancestor_closure.specs.Hierarchy.{Parents, IsAllAbove, names, IsIn}
+use Rattle.ancestor_closure.specs.LeastCycle.{HasNoCycle, IsLeastCycle}
 use Rattle.ancestor_closure.specs.Decided.{Decides}
 use Rattle.expressions.specs.declared.expr.Expr.{Expr}
 use Rattle.policy_grammar.specs.declared.policy.Policy.{Policy}
@@ -24,7 +25,7 @@ use Rattle.authoriser.specs.declared.outcome.PolicyError.{PolicyError}
 use Rattle.authoriser.specs.declared.outcome.PolicyError.TheVariants.{EntityDoesNotExist, AttrDoesNotExist, TypeError, ArithBoundsError, ExtensionError}
 use Rattle.authoriser.specs.declared.outcome.Outcome.{Outcome}
 use Rattle.authoriser.specs.declared.outcome.Outcome.TheVariants.{Satisfied, NotSatisfied, Errs}
-use Rattle.authoriser.specs.declared.answer.ErringPolicy.{ErringPolicy}
+use Rattle.authoriser.specs.declared.answer.Answer.{Answer}
 use Rattle.authoriser.specs.declared.answer.Decision.TheVariants.{Deny}
 use Rattle.authoriser.specs.declared.with_ancestors.WithAncestors.{WithAncestors}
 use Rattle.authoriser.specs.declared.with_ancestors.RequestAncestors.{RequestAncestors}
@@ -33,7 +34,6 @@ use Rattle.authoriser.specs.Scopes.{IsEntityScopeTrue, IsActionScopeTrue, IsScop
 use Rattle.authoriser.specs.Answers.{NamedPolicy, PolicyOutcome, IsPolicyOutcome, ArePolicyOutcomes, fault_of, PolicyEvaluatesTo, decided, answer_by, IsAnswer}
 use Rattle.authoriser.specs.Views.{named}
 use Rattle.authoriser.specs.inner.Views.{IsWithin, HasItsAncestors, HasRequestAncestors, AllHaveTheirAncestors, AreAscending, IsTrueOf, ConditionEvaluatesTo, outcome_by, ids, faults, Counts}
-use Rattle.plain.proofs.Members.{Contains-none}
 use Rattle.authoriser.specs.Parts.{TrueScopesLeaveToConditions, OtherScopesGiveFalse}
 
 -- ---- scopes
@@ -155,14 +155,6 @@ counted t js c i = decided (c.permits i) (c.forbids i) (c.errors i)
 pub all_judged : (W : World) (q : Request) (ps : List (Bor (List ℕ) × Bor Policy)) (i : ℕ) (js : List PolicyOutcome) → length ps ≤ i → ArePolicyOutcomes W q (named (take i ps)) js → ArePolicyOutcomes W q (named ps) js
 all_judged W q ps i js le h = subst (λ xs. ArePolicyOutcomes W q (named xs) js) (take_all i ps le) h
 
--- ---- no cycle, or a cycle
-pub acyclic : (parents : Parents) (uids : List (Bor EntityUid)) → AreOnCycles parents (names uids) → uids ≡ [] → (uid : EntityUid) → Above parents uid uid → ⊥
-acyclic parents uids named none uid above = Contains-none uid (subst (λ xs. Contains (names xs) uid) none ((named uid).1 above))
-
-cycle_is_some : (uids : List (Bor EntityUid)) → (uids ≡ [] → ⊥) → names uids ≡ [] → ⊥
-cycle_is_some [] ne e = ne refl
-cycle_is_some (u ∷ uids) ne e = absurd (cc)
-
 pub none_before : (P : EntityUid → Type 0) (xs : List EntityUid) (i : ℕ) (x : EntityUid) → i < length xs → x ≡ slice_index_or xs i x → (P x → ⊥) →
     ((e : EntityUid) → Contains (take i xs) e → P e → ⊥) → (e : EntityUid) → Contains (take (i + 1) xs) e → P e → ⊥
 none_before P xs i x within is not_here before e h p =
@@ -171,12 +163,16 @@ none_before P xs i x within is not_here before e h p =
       | inr here ↦ not_here (subst P (sym here) p)
     ]
 
-pub denial : (W : World) (q : Request) (ps : List NamedPolicy) (uids : List (Bor EntityUid)) (cycle : List EntityUid) (reason : List (List ℕ)) (errors : List ErringPolicy) →
-    cycle ≡ names uids → reason ≡ [] → errors ≡ [] → AreOnCycles W.parents (names uids) → IsAscending (names uids) → (uids ≡ [] → ⊥) →
-    IsAnswer W q ps (record { decision = Deny; reason = reason; errors = errors; cycle = cycle })
-denial W q ps uids cycle reason errors same no_reason no_errors named ascending some = inl (record {
-  named = subst (AreOnCycles W.parents) (sym same) named;
-  ascending = subst IsAscending (sym same) ascending;
-  some = λ none. cycle_is_some uids some (sym same ∙ none);
-  rest = λ i. record { decision = Deny; reason = no_reason i; errors = no_errors i; cycle = cycle };
-})
+-- ---- no cycle, or a cycle
+pub by_policies : (W : World) (q : Request) (ps : List NamedPolicy) (a : Answer) → HasNoCycle W.parents →
+    ((js : List PolicyOutcome) × ArePolicyOutcomes W q ps js × (a ≡ answer_by js)) → IsAnswer W q ps a
+by_policies W q ps a none h = inr (record { acyclic = none; judged = h.0; outcomes = h.1; answer = h.2 })
+
+pub denial : (W : World) (q : Request) (ps : List NamedPolicy) (cycle : List EntityUid) (a : Answer) → IsLeastCycle W.parents cycle →
+    a ≡ record { decision = Deny; reason = []; errors = []; cycle = cycle } → IsAnswer W q ps a
+denial W q ps cycle a least is =
+    let same : a.cycle ≡ cycle = ap (λ (b : Answer). b.cycle) is in
+    inl (record {
+      least = subst (IsLeastCycle W.parents) (sym same) least;
+      rest = is ∙ ap (λ (c : List EntityUid). record { decision = Deny; reason = []; errors = []; cycle = c }) (sym same);
+    })

@@ -9,8 +9,9 @@ use Rattle.std.proofs.lemmas.List.Elements.{Contains-append_left, Contains-appen
 use Rattle.values.specs.declared.entity_uid.EntityUid.{EntityUid}
 use Rattle.values.specs.declared.request.Request.{Request}
 use Rattle.values.specs.Values.{boolean}
-use Rattle.values.specs.Names.{text_cmp, uid_cmp, uid_cmp-IsTotalOrder}
-use Rattle.ancestor_closure.specs.Hierarchy.{Parents, AreOnCycles, IsAscending}
+use Rattle.values.specs.Names.{text_cmp}
+use Rattle.ancestor_closure.specs.Hierarchy.{Parents, IsOnCycle}
+use Rattle.ancestor_closure.specs.LeastCycle.{IsLeastCycle, LeastCyclesAreOne}
 use Rattle.expressions.specs.declared.expr.Expr.{Expr}
 use Rattle.policy_grammar.specs.declared.policy.Effect.{Effect}
 use Rattle.policy_grammar.specs.declared.policy.Effect.TheVariants.{Permit, Forbid}
@@ -30,7 +31,6 @@ use Rattle.authoriser.specs.declared.outcome.PolicyError.TheVariants.{EntityDoes
 use Rattle.authoriser.specs.Answers.{NamedPolicy, PolicyOutcome, IsPolicyOutcome, fault_of, PolicyEvaluatesTo, ArePolicyOutcomes, if_satisfied, satisfied, if_erring, erring, decided, answer_by, IsCycleDenial, IsPolicyAnswer}
 use Rattle.authoriser.specs.Laws.{HasOneAnswerAtMost, OneAnswerAtMost, HaveSameMembers, AreAlike, AreIdsAscending, ListsAscend}
 use Rattle.plain.proofs.Members.{Contains-here, Contains-there, Contains-cases, Contains-none}
-use Rattle.plain.proofs.Ascending.{one_list}
 
 -- ---- one answer
 errors_apart : (e f : PolicyError) → fault_of e ≡ fault_of f → e ≡ f
@@ -93,31 +93,32 @@ one_list_judged W q given (p ∷ ps) (j ∷ js) (k ∷ ks) h g =
     let rest = one_list_judged W q given ps js ks h.1 g.1 in
     λ i. first i ∷ rest i
 
-one_cycle : (parents : Parents) (xs ys : List EntityUid) → AreOnCycles parents xs → IsAscending xs → AreOnCycles parents ys → IsAscending ys → xs ≡ ys
-one_cycle parents xs ys h s g t =
-    one_list uid_cmp uid_cmp-IsTotalOrder xs ys s t (λ v c. (g v).1 ((h v).0 c)) (λ v c. (h v).1 ((g v).0 c))
-
-pub one_denial : (parents : Parents) (a b : Answer) → IsCycleDenial parents a → IsCycleDenial parents b → a ≡ b
-one_denial parents a b d e =
-    let cycle = one_cycle parents a.cycle b.cycle d.named d.ascending e.named e.ascending in
+pub one_denial : LeastCyclesAreOne → (parents : Parents) (a b : Answer) → IsCycleDenial parents a → IsCycleDenial parents b → a ≡ b
+one_denial one parents a b d e =
+    let cycle = one parents a.cycle b.cycle d.least e.least in
     d.rest ∙ ap (λ (c : List EntityUid). record { decision = Deny; reason = []; errors = []; cycle = c }) cycle ∙ sym e.rest
+
+-- a least cycle begins with an entity that is on one
+pub begins_on_cycle : (parents : Parents) (xs : List EntityUid) → IsLeastCycle parents xs → (x : EntityUid) × IsOnCycle parents x
+begins_on_cycle parents [] h = absurd h
+begins_on_cycle parents (c ∷ cs) h = (c, (cs, h.closed))
 
 pub some_member : {X : Type 0} (xs : List X) → xs ≢ [] → (x : X) × Contains xs x
 some_member [] ne = absurd (ne refl)
 some_member (x ∷ xs) ne = (x, Contains-here x xs)
 
 pub not_both : (W : World) (q : Request) (ps : List NamedPolicy) (a b : Answer) → IsCycleDenial W.parents a → IsPolicyAnswer W q ps b → ⊥
-not_both W q ps a b d p = let m = some_member a.cycle d.some in p.acyclic m.0 ((d.named m.0).0 m.1)
+not_both W q ps a b d p = let on = begins_on_cycle W.parents a.cycle d.least in p.acyclic on.0 on.1
 
-has_one_answer : (W : World) → ((q : Request) → Determined W q) → HasOneAnswerAtMost W
-has_one_answer W given q ps a b (inl d) (inl e) = one_denial W.parents a b d e
-has_one_answer W given q ps a b (inl d) (inr p) = absurd (not_both W q ps a b d p)
-has_one_answer W given q ps a b (inr p) (inl d) = absurd (not_both W q ps b a d p)
-has_one_answer W given q ps a b (inr p) (inr r) =
+has_one_answer : LeastCyclesAreOne → (W : World) → ((q : Request) → Determined W q) → HasOneAnswerAtMost W
+has_one_answer one W given q ps a b (inl d) (inl e) = one_denial one W.parents a b d e
+has_one_answer one W given q ps a b (inl d) (inr p) = absurd (not_both W q ps a b d p)
+has_one_answer one W given q ps a b (inr p) (inl d) = absurd (not_both W q ps b a d p)
+has_one_answer one W given q ps a b (inr p) (inr r) =
     p.answer ∙ ap answer_by (one_list_judged W q (given q) ps p.judged r.judged p.outcomes r.outcomes) ∙ sym r.answer
 
-pub one_answer_at_most : HaveOneOutcome → OneAnswerAtMost
-one_answer_at_most law W above D = has_one_answer W (law W above D)
+pub one_answer_at_most : LeastCyclesAreOne → HaveOneOutcome → OneAnswerAtMost
+one_answer_at_most one law W above D = has_one_answer one W (law W above D)
 
 -- ---- default deny, and forbids decide
 pub denied : (permits forbids : List (List ℕ)) (errors : List ErringPolicy) → permits ≡ [] → (decided permits forbids errors).decision ≡ Deny
@@ -260,14 +261,14 @@ same_ids W q (p ∷ ps) [] h = absurd h
 same_ids W q (p ∷ ps) (j ∷ js) h = let rest = same_ids W q ps js h.1 in λ i. sym h.0.id i ∷ rest i
 
 abbrev Ascends : Answer → Type 0
-Ascends a = AreIdsAscending a.reason × AreIdsAscending (map (λ e. e.policy) a.errors) × IsAscending a.cycle
+Ascends a = AreIdsAscending a.reason × AreIdsAscending (map (λ e. e.policy) a.errors)
 
 decided_ascends : (permits forbids : List (List ℕ)) (errors : List ErringPolicy) → AreIdsAscending permits → AreIdsAscending forbids → AreIdsAscending (map (λ e. e.policy) errors) →
     Ascends (decided permits forbids errors)
 unfolding IsStrictlySortedBy
-decided_ascends permits (f ∷ forbids) errors p s e = (s, e, tt)
-decided_ascends [] [] errors p s e = (p, e, tt)
-decided_ascends (x ∷ permits) [] errors p s e = (p, e, tt)
+decided_ascends permits (f ∷ forbids) errors p s e = (s, e)
+decided_ascends [] [] errors p s e = (p, e)
+decided_ascends (x ∷ permits) [] errors p s e = (p, e)
 
 answer_ascends : (js : List PolicyOutcome) → AreIdsAscending (map (λ j. j.id) js) → Ascends (answer_by js)
 answer_ascends js h =
@@ -277,7 +278,7 @@ answer_ascends js h =
 
 denial_ascends : (parents : Parents) (a : Answer) → IsCycleDenial parents a → Ascends a
 unfolding IsStrictlySortedBy
-denial_ascends parents a d = subst Ascends (sym d.rest) (tt, tt, d.ascending)
+denial_ascends parents a d = subst Ascends (sym d.rest) (tt, tt)
 
 pub lists_ascend : ListsAscend
 lists_ascend W q ps a h (inl d) = denial_ascends W.parents a d

@@ -3,6 +3,7 @@ use Rattle.std.specs.Prelude.{◌≡◌, ◌↔◌, ℕ, List, [], ◌∷◌, �
 use Rattle.std.specs.List.{filter}
 use Rattle.std.proofs.Common.{inl, inr, sym, ap, subst, ◌∙◌, append_assoc}
 use Rattle.values.specs.declared.request.Request.{Request}
+use Rattle.ancestor_closure.specs.LeastCycle.{LeastCyclesAreOne}
 use Rattle.policy_grammar.specs.declared.policy.Effect.{Effect}
 use Rattle.policy_grammar.specs.declared.policy.Effect.TheVariants.{Permit, Forbid}
 use Rattle.policy_grammar.specs.Whole.{expression_of}
@@ -201,11 +202,11 @@ same_alike a b e = record {
   cycle = ap (λ x. x.cycle) e;
 }
 
-pub order_does_not_matter : HaveOneOutcome → OrderDoesNotMatter
-order_does_not_matter law W above D q ps others a b same (inl d) (inl e) = same_alike a b (one_denial W.parents a b d e)
-order_does_not_matter law W above D q ps others a b same (inl d) (inr r) = absurd (not_both W q others a b d r)
-order_does_not_matter law W above D q ps others a b same (inr r) (inl e) = absurd (not_both W q ps b a e r)
-order_does_not_matter law W above D q ps others a b same (inr r) (inr s) =
+pub order_does_not_matter : LeastCyclesAreOne → HaveOneOutcome → OrderDoesNotMatter
+order_does_not_matter one law W above D q ps others a b same (inl d) (inl e) = same_alike a b (one_denial one W.parents a b d e)
+order_does_not_matter one law W above D q ps others a b same (inl d) (inr r) = absurd (not_both W q others a b d r)
+order_does_not_matter one law W above D q ps others a b same (inr r) (inl e) = absurd (not_both W q ps b a e r)
+order_does_not_matter one law W above D q ps others a b same (inr r) (inr s) =
     let given = law W above D q in
     let to = same_judged W q given ps others r.judged s.judged r.outcomes s.outcomes (λ p. (same p).0) in
     let back = same_judged W q given others ps s.judged r.judged s.outcomes r.outcomes (λ p. (same p).1) in

@@ -16,7 +16,7 @@ use Rattle.authoriser.specs.declared.outcome.PolicyError.{PolicyError}
 use Rattle.authoriser.specs.Answers.{NamedPolicy, PolicyOutcome, IsPolicyOutcome, PolicyEvaluatesTo, ArePolicyOutcomes, if_satisfied, satisfied, if_erring, erring, decided, IsCycleDenial}
 use Rattle.authoriser.specs.Laws.{IsSatisfied, AreIdsOf, no_id, its_id, not_its_id, AreErrorsOf, no_error, its_error, not_its_error, IsAcyclic, ForbidDecides, PermitsDecide, ErrorsAreReported}
 use Rattle.plain.proofs.Members.{Contains-none}
-use Rattle.authoriser.proofs.Lawful.{Determined, one_outcome, some_member, forbidden}
+use Rattle.authoriser.proofs.Lawful.{Determined, one_outcome, begins_on_cycle, some_member, forbidden}
 use Rattle.authoriser.proofs.Policies.{none_of, satisfied_from, satisfied_to}
 
 -- a judgement is counted as satisfied, or it is not
@@ -92,7 +92,7 @@ module _ (W : World) (q : Request) (given : Determined W q) where
 -- ---- the laws
 
 no_denial : (W : World) (a : Answer) {G : Type 0} → IsCycleDenial W.parents a → IsAcyclic W → G
-no_denial W a d acyclic = let m = some_member a.cycle d.some in absurd (acyclic m.0 ((d.named m.0).0 m.1))
+no_denial W a d acyclic = let on = begins_on_cycle W.parents a.cycle d.least in absurd (acyclic on.0 on.1)
 
 pub forbid_decides : HaveOneOutcome → ForbidDecides
 forbid_decides law W above D q ps a p (inl d) c s = (ap (λ b. b.decision) d.rest, λ acyclic. no_denial W a d acyclic)

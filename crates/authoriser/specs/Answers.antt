@@ -2,12 +2,13 @@
 -- Source: Cedar reference guide 4.0, "Authorization" (default deny, forbid overrides permit, errors skip a policy);
 -- cedar-spec, Spec/Authorizer. That a hierarchy with a cycle is answered by a denial that names the cycle is a rule of
 -- this product.
-use Rattle.std.specs.Prelude.{◌≡◌, ◌≢◌, ◌⊎◌, ℕ, List, [], ◌∷◌, true, false, Ok, Err}
+use Rattle.std.specs.Prelude.{◌≡◌, ◌⊎◌, ℕ, List, [], ◌∷◌, true, false, Ok, Err}
 use Rattle.std.specs.List.{flat_map}
 use Rattle.values.specs.declared.entity_uid.EntityUid.{EntityUid}
 use Rattle.values.specs.declared.request.Request.{Request}
 use Rattle.values.specs.Values.{boolean}
-use Rattle.ancestor_closure.specs.Hierarchy.{Parents, Above, AreOnCycles, IsAscending}
+use Rattle.ancestor_closure.specs.Hierarchy.{Parents, Above}
+use Rattle.ancestor_closure.specs.LeastCycle.{IsLeastCycle}
 use Rattle.policy_grammar.specs.declared.policy.Policy.{Policy}
 use Rattle.policy_grammar.specs.declared.policy.Effect.{Effect}
 use Rattle.policy_grammar.specs.declared.policy.Effect.TheVariants.{Permit, Forbid}
@@ -97,11 +98,9 @@ decided (p ∷ permits) [] errors = record { decision = Allow; reason = p ∷ pe
 abbrev pub answer_by : List PolicyOutcome → Answer
 answer_by js = decided (satisfied Permit js) (satisfied Forbid js) (erring js)
 
--- some entity is on a cycle: a denial that names all that are, ascending, and no policy
+-- some entity is on a cycle: a denial that names the least cycle, and no policy
 pub record IsCycleDenial (parents : Parents) (a : Answer) : Type 0 where
-  pub named : AreOnCycles parents a.cycle
-  pub ascending : IsAscending a.cycle
-  pub some : a.cycle ≢ []
+  pub least : IsLeastCycle parents a.cycle
   pub rest : a ≡ record { decision = Deny; reason = []; errors = []; cycle = a.cycle }
 
 -- no entity is on a cycle: the answer by what the policies come to
@@ -111,7 +110,6 @@ pub record IsPolicyAnswer (W : World) (q : Request) (ps : List NamedPolicy) (a :
   pub outcomes : ArePolicyOutcomes W q ps judged
   pub answer : a ≡ answer_by judged
 
--- the answer to a request: a denial that names all entities on cycles, where there are any; else by what the policies
--- come to
+-- the answer to a request: a denial that names the least cycle, where there is one; else by what the policies come to
 abbrev pub IsAnswer : World → Request → List NamedPolicy → Answer → Type 0
 IsAnswer W q ps a = IsCycleDenial W.parents a ⊎ IsPolicyAnswer W q ps a

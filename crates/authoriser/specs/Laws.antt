@@ -5,7 +5,7 @@ use Rattle.std.specs.List.Sorted.{IsStrictlySortedBy}
 use Rattle.values.specs.declared.entity_uid.EntityUid.{EntityUid}
 use Rattle.values.specs.declared.request.Request.{Request}
 use Rattle.values.specs.Uids.{text_cmp}
-use Rattle.ancestor_closure.specs.Hierarchy.{Above, IsAscending}
+use Rattle.ancestor_closure.specs.Hierarchy.{Above}
 use Rattle.ancestor_closure.specs.Decided.{Decides, HaveAllParents}
 use Rattle.policy_grammar.specs.declared.policy.Effect.{Effect}
 use Rattle.policy_grammar.specs.declared.policy.Effect.TheVariants.{Permit, Forbid}
@@ -133,9 +133,8 @@ OrderDoesNotMatter = (W : World) (above : EntityUid → EntityUid → Bool) → 
 abbrev pub AreIdsAscending : List (List ℕ) → Type 0
 AreIdsAscending ids = IsStrictlySortedBy text_cmp ids
 
--- where the ids of the policies ascend, each list of the answer ascends: the reason, the errors by their policy, the
--- cycle by the order of uids
+-- where the ids of the policies ascend, so do those of the answer: the reason, and the errors by their policy
 abbrev pub ListsAscend : Type 0
 ListsAscend = (W : World) (q : Request) (ps : List NamedPolicy) (a : Answer) → AreIdsAscending (map (λ p. p.id) ps)
     → IsAnswer W q ps a →
-    AreIdsAscending a.reason × AreIdsAscending (map (λ e. e.policy) a.errors) × IsAscending a.cycle
+    AreIdsAscending a.reason × AreIdsAscending (map (λ e. e.policy) a.errors)

@@ -27,7 +27,8 @@ pub struct Answer {
     pub reason: Items<Text>,
     /// The erring policies, ascending by id.
     pub errors: Items<ErringPolicy>,
-    /// The entities on cycles, ascending; empty where the hierarchy has no cycle. Where it is not empty, no policy was
-    /// tried.
+    /// Where some entity is on a cycle, one cycle: an edge leads from each entity to the next, and from the last to the
+    /// first. It begins with the least entity on a cycle, by type and then id; no shorter one does, and of those as
+    /// long it is the least, compared item by item. Then no policy was tried. Empty where no entity is on a cycle.
     pub cycle: Items<EntityUid>,
 }

@@ -1,6 +1,9 @@
 //! Decisions: the answer to a request over policies and stored entities.
-ghost use Rattle.std.specs.Prelude.{◌≡◌, ◌↔◌, [], List, map, IsTrue, IfOk};
+ghost use Rattle.std.specs.Prelude.{◌≡◌, [], List, IfOk};
+ghost use Rattle.ancestor_closure.specs.Hierarchy.{names};
+ghost use Rattle.ancestor_closure.specs.LeastCycle.{HasNoCycle};
 ghost use Rattle.evaluator.specs.Operators.{world_of};
+ghost use Rattle.authoriser.specs.declared.answer.Decision.TheVariants.{Deny};
 ghost use Rattle.authoriser.specs.Answers.{PolicyOutcome, ArePolicyOutcomes, answer_by, IsAnswer};
 ghost use Rattle.authoriser.specs.Views.{named};
 
@@ -16,20 +19,13 @@ use std::alloc::Global;
 use values::{EntityUid, Request};
 
 fn copy_uids(alloc: Global, uids: &[&EntityUid]) -> Result<Items<EntityUid>, NoMemory>
-    ensures { IfOk result (λ copies. copies ≡ map (λ u. u.now) uids.now) }
+    ensures { IfOk result (λ copies. copies ≡ names uids.now) }
 {
     let mut copies = Vec::with_capacity(alloc, uids.len())?;
     for uid in uids {
         copies.push(uid.copy()?)?;
     }
     Ok(Items::from_vec(copies))
-}
-
-/// Whether no entity is among these.
-fn is_none(uids: &[&EntityUid]) -> bool
-    ensures { IsTrue result ↔ (uids.now ≡ []) }
-{
-    uids.is_empty()
 }
 
 /// The answer by what the policies come to, where the request's entities were looked up.
@@ -53,26 +49,41 @@ fn answer_by_known<L: Lookup>(
     tally.into_answer(alloc)
 }
 
-/// The answer by what the policies come to, where the hierarchy has no cycle.
+/// The answer where the hierarchy has no cycle: by what the policies come to.
 fn answer_by_policies<L: Lookup>(
     alloc: Global,
     policies: &[(&str, &Policy)],
     request: &Request,
     store: &L,
 ) -> Result<Answer, NoMemory>
-    ensures { let W = world_of (L.stored store.now) (L.parents store.now) in
-        IfOk result (λ a. (js : List PolicyOutcome) × ArePolicyOutcomes W request.now (named policies.now) js
-        × (a ≡ answer_by js)) }
+    requires { HasNoCycle (L.parents store.now) }
+    ensures { IfOk result (λ a. IsAnswer (world_of (L.stored store.now) (L.parents store.now)) request.now
+        (named policies.now) a) }
 {
     let known = Known::of(alloc, store, request)?;
     answer_by_known(alloc, policies, request, &known)
+}
+
+/// A denial that names this cycle, and no policy.
+fn denial_by_cycle(alloc: Global, cycle: &[&EntityUid]) -> Result<Answer, NoMemory>
+    ensures { IfOk result (λ a. a
+        ≡ record { decision = Deny; reason = []; errors = []; cycle = names cycle.now }) }
+{
+    let cycle = copy_uids(alloc, cycle)?;
+    Ok(Answer {
+        decision: Decision::Deny,
+        reason: Items::new(alloc),
+        errors: Items::new(alloc),
+        cycle,
+    })
 }
 
 /// The answer to a request over these policies and these stored entities.
 ///
 /// The caller's condition is that the ids ascend strictly; the lists of the answer then ascend by id, which is the law
 /// `ascending` of `answers_are_lawful`. One pass over the policies; the ancestors of the request's three entities are
-/// asked for once each, and a condition is evaluated only where the scope before it is true.
+/// asked for once each, and a condition is evaluated only where the scope before it is true. Where some entity is on a
+/// cycle no policy is tried: it is denied, and the answer names the least cycle.
 ///
 /// Source: Cedar reference guide, "Authorization". Errors: `NoMemory` alone.
 pub fn decide<L: Lookup>(
@@ -84,15 +95,8 @@ pub fn decide<L: Lookup>(
     ensures { IfOk result (λ a. IsAnswer (world_of (L.stored store.now) (L.parents store.now)) request.now
         (named policies.now) a) }
 {
-    let cyclic = store.cyclic()?;
-    if is_none(&cyclic) {
-        return answer_by_policies(alloc, policies, request, store);
+    match store.least_cycle()? {
+        None => answer_by_policies(alloc, policies, request, store),
+        Some(cycle) => denial_by_cycle(alloc, &cycle),
     }
-    let cycle = copy_uids(alloc, &cyclic)?;
-    Ok(Answer {
-        decision: Decision::Deny,
-        reason: Items::new(alloc),
-        errors: Items::new(alloc),
-        cycle,
-    })
 }

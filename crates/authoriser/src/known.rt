@@ -88,6 +88,10 @@ impl<L: Lookup> Ancestry for Known<'_, L> {
     fn cyclic(&self) -> Result<Vec<&EntityUid>, NoMemory> {
         self.store.cyclic()
     }
+
+    fn least_cycle(&self) -> Result<Option<Vec<&EntityUid>>, NoMemory> {
+        self.store.least_cycle()
+    }
 }
 
 impl<L: Lookup> Lookup for Known<'_, L> {

@@ -4,7 +4,7 @@ ghost use Rattle.authoriser.specs.Laws.{PermitsDecide, ErrorsAreReported};
 ghost use Rattle.authoriser.specs.Laws.{IdleChangesNothing, LeavingOutChangesNothing, OrderDoesNotMatter, ListsAscend};
 ghost use Rattle.authoriser.specs.Parts.{ScopesDoNotErr, TrueScopesLeaveToConditions, OtherScopesGiveFalse};
 
-use ancestor_closure::laws::paths_are_decided;
+use ancestor_closure::laws::{cycles_have_one_least, paths_are_decided};
 use evaluator::expressions_have_one_outcome;
 use values::sets_hold_their_members;
 
@@ -12,6 +12,7 @@ use values::sets_hold_their_members;
 fn answers_are_one()
     ensures { OneAnswerAtMost }
 {
+    cycles_have_one_least();
     expressions_have_one_outcome();
 }
 
@@ -33,8 +34,8 @@ fn idle_policies_change_nothing()
 /// cycle, the errors are those of exactly the erring policies, in their order. `idle`: leaving out a policy that is
 /// neither satisfied nor erring changes no answer, wherever it stands; `left_out`: nor does leaving out many of them.
 /// `order`: in whatever order the policies stand, the decision is the same, and so are the policies in reason and
-/// errors. `ascending`: where the ids of the policies ascend strictly, by their bytes, so do the reason and the
-/// policies of the errors; the entities of the cycle ascend too.
+/// errors, and the cycle is the same. `ascending`: where the ids of the policies ascend strictly, by their bytes, so do
+/// the reason and the policies of the errors.
 pub fn answers_are_lawful()
     ensures one { OneAnswerAtMost }
     ensures finite { OneAnswerInFiniteHierarchies }
@@ -48,6 +49,7 @@ pub fn answers_are_lawful()
     ensures ascending { ListsAscend }
 {
     paths_are_decided();
+    cycles_have_one_least();
     expressions_have_one_outcome();
     answers_are_one();
     idle_policies_change_nothing();

@@ -3,7 +3,7 @@
 //! [`decide`] answers as the Cedar reference guide's "Authorization" says: a request is allowed where some `permit`
 //! policy is satisfied and no `forbid` policy is, and an erring policy counts for neither. A policy comes to what its
 //! whole expression, scope and conditions, gives. Where the hierarchy has a cycle, no policy is tried: the request is
-//! denied and the answer names the entities on cycles, which is a rule of this product.
+//! denied and the answer names the least cycle, which is a rule of this product.
 #![tactic(auto)]
 
 mod answer;

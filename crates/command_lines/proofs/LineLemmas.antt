@@ -1,16 +1,18 @@
 -- From what clap's getters say to the command line.
-use Rattle.std.proofs.Common.{◌≡◌, ◌<◌, ◌∙◌, ◌⊎◌, inl, inr, ℕ, Bool, true, false, Option, Some, None, option_map, refl, List, sym, ap, arith, [], ◌∷◌, codes, if◌then◌else◌}
-use Rattle.clap.specs.Words.{Row, Text, HasKind, first_of, fault_of, kind_of, subcommand_rows_of, subcommand_name_of}
+use Rattle.std.proofs.Common.{◌≡◌, ◌<◌, ◌∙◌, ◌⊎◌, inl, inr, ℕ, Bool, true, false, Option, Some, None, option_map, refl, List, sym, ap, arith, [], ◌∷◌, codes, if◌then◌else◌, subst}
+use Rattle.stamped_store.specs.SiteNames.{IsSiteName}
+use Rattle.clap.specs.Words.{Row, Text, HasKind, first_of, fault_of, kind_of, subcommand_of, subcommand_rows_of, subcommand_name_of}
 use Rattle.command_lines.specs.declared.line.Line.{Line}
 use Rattle.command_lines.specs.declared.line.Line.TheVariants.{Check, Decide, Serve, Pull, Merge}
-use Rattle.command_lines.specs.Lines.{IsLineOf, IsGiven, IsGivenNumber, MayBeGivenNumber, IsNumberIn}
+use Rattle.command_lines.specs.Lines.{IsLineOf, IsGiven, IsGivenSite, IsGivenNoSite, IsGivenNumber, MayBeGivenNumber, IsNumberIn, IsNoLine, IsOfNoSite}
 use Rattle.clap.specs.declared.error.Error.{Error}
 use Rattle.clap.specs.declared.error.ErrorKind.{ErrorKind}
 use Rattle.clap.specs.declared.error.ErrorKind.TheVariants.{OutOfMemory}
-use Rattle.command_lines.specs.declared.fault.LineFault.TheVariants.{Help, Words, NoMemory}
+use Rattle.command_lines.specs.declared.fault.LineFault.{LineFault}
+use Rattle.command_lines.specs.declared.fault.LineFault.TheVariants.{Help, Words, Site, Incomplete, NotText, NoMemory}
 use Rattle.command_lines.specs.Apps.{site_app}
 use Rattle.command_lines.specs.Faults.{IsFaultOf, is_help, is_memory}
-use Rattle.command_lines.specs.inner.Sorting.{sorted}
+use Rattle.command_lines.specs.inner.Sorting.{IsLackOf, sorted}
 use Rattle.command_lines.specs.inner.Lacking.{IsNone}
 use Rattle.clap.specs.declared.ArgMatches.{ArgMatches}
 use Rattle.clap.specs.declared.ArgMatches.TheViews.{out-ArgMatches}
@@ -148,7 +150,7 @@ module _ (rows : List Row) where
   of_decide (Merge schema first second) is = absurd (merge_is_no_decide is.0)
 
   of_serve : (line : Line) → IsLineOf (codes "serve") rows line → ((text : Text) × IsGiven rows (codes "schema") text)
-      × ((number : ℕ) × IsGivenNumber rows (codes "site") 1 65535 number)
+      × ((text : Text) × IsGivenSite rows text)
       × ((text : Text) × IsGiven rows (codes "listen") text)
       × ((number : Option ℕ) × MayBeGivenNumber rows (codes "connections") 0 4294967295 number)
   of_serve (Check schema policies) is = absurd (check_is_no_serve is.0)
@@ -158,7 +160,7 @@ module _ (rows : List Row) where
   of_serve (Merge schema first second) is = absurd (merge_is_no_serve is.0)
 
   of_pull : (line : Line) → IsLineOf (codes "pull") rows line → ((text : Text) × IsGiven rows (codes "schema") text)
-      × ((number : ℕ) × IsGivenNumber rows (codes "site") 1 65535 number)
+      × ((text : Text) × IsGivenSite rows text)
       × ((text : Text) × IsGiven rows (codes "from") text)
       × ((text : Text) × IsGiven rows (codes "state") text)
   of_pull (Check schema policies) is = absurd (check_is_no_pull is.0)
@@ -195,7 +197,7 @@ module _ (rows : List Row) where
   pub serve_lacks_schema : first_of (codes "schema") rows ≡ None → IsNone (IsLineOf (codes "serve") rows)
   serve_lacks_schema none line is = none_given rows (codes "schema") (of_serve line is).0.0 none (of_serve line is).0.1
 
-  pub serve_lacks_site : IsNone (IsGivenNumber rows (codes "site") 1 65535) → IsNone (IsLineOf (codes "serve") rows)
+  pub serve_lacks_site : IsNone (IsGivenSite rows) → IsNone (IsLineOf (codes "serve") rows)
   serve_lacks_site none line is = none (of_serve line is).1.0 (of_serve line is).1.1
 
   pub serve_lacks_listen : first_of (codes "listen") rows ≡ None → IsNone (IsLineOf (codes "serve") rows)
@@ -207,7 +209,7 @@ module _ (rows : List Row) where
   pub pull_lacks_schema : first_of (codes "schema") rows ≡ None → IsNone (IsLineOf (codes "pull") rows)
   pull_lacks_schema none line is = none_given rows (codes "schema") (of_pull line is).0.0 none (of_pull line is).0.1
 
-  pub pull_lacks_site : IsNone (IsGivenNumber rows (codes "site") 1 65535) → IsNone (IsLineOf (codes "pull") rows)
+  pub pull_lacks_site : IsNone (IsGivenSite rows) → IsNone (IsLineOf (codes "pull") rows)
   pull_lacks_site none line is = none (of_pull line is).1.0 (of_pull line is).1.1
 
   pub pull_lacks_from : first_of (codes "from") rows ≡ None → IsNone (IsLineOf (codes "pull") rows)
@@ -224,6 +226,26 @@ module _ (rows : List Row) where
 
   pub merge_lacks_second : first_of (codes "second") rows ≡ None → IsNone (IsLineOf (codes "merge") rows)
   merge_lacks_second none line is = none_given rows (codes "second") (of_merge line is).2.0 none (of_merge line is).2.1
+
+-- ---- the site
+module _ (rows : List Row) where
+  same_site : {t u : Text} → first_of (codes "site") rows ≡ Some t → first_of (codes "site") rows ≡ Some u → t ≡ u
+  same_site e f = cc
+
+  -- nothing was given
+  pub site_lacks : first_of (codes "site") rows ≡ None → IsNone (IsGivenSite rows)
+  site_lacks none site given = none_given rows (codes "site") site none given.0
+
+  pub no_site_lacks : first_of (codes "site") rows ≡ None → IsGivenNoSite rows → ⊥
+  no_site_lacks none given = none_given rows (codes "site") given.0 none given.1
+
+  -- what was given is no site's name
+  pub no_site : (text : Text) → first_of (codes "site") rows ≡ Some text → (IsSiteName text → ⊥) → IsNone (IsGivenSite rows)
+  no_site text is none site given = none (subst IsSiteName (same_site given.0 is) given.1)
+
+  -- or it is one
+  pub some_site : (text : Text) → first_of (codes "site") rows ≡ Some text → IsSiteName text → IsGivenNoSite rows → ⊥
+  some_site text is named given = given.2 (subst IsSiteName (same_site is given.1) named)
 
 -- ---- numbers
 
@@ -262,3 +284,13 @@ sorted_by words error false false h m (inr among) = (h, among)
 -- an error of clap's is told as what it is
 pub sorted_fault : (words : List Text) (error : Error) → HasKind (fault_of site_app words) error → IsFaultOf words (sorted error)
 sorted_fault words error has = sorted_by words error (is_help (kind_of error)) (is_memory (kind_of error)) refl refl has
+
+-- what a command lacks, where no line was made of it
+pub lacking_fault : (words : List Text) (named : Option (Text × List Row)) (fault : LineFault) → subcommand_of site_app words ≡ named
+    → fault_of site_app words ≡ [] → IsNoLine named → IsLackOf named fault → IsFaultOf words fault
+lacking_fault words named (Help error) is free none lacks = absurd lacks
+lacking_fault words named (Words error) is free none lacks = absurd lacks
+lacking_fault words named Site is free none lacks = (free, subst IsOfNoSite (sym is) lacks)
+lacking_fault words named Incomplete is free none lacks = (free, subst IsNoLine (sym is) none, λ other. lacks (subst IsOfNoSite is other))
+lacking_fault words named NotText is free none lacks = absurd lacks
+lacking_fault words named NoMemory is free none lacks = absurd lacks

@@ -31,17 +31,17 @@ decide_app = with_rule (with_rule (with_rule (with_rule (new_app (codes "decide"
     (demanded (value_option (codes "policies")))) (demanded (value_option (codes "entities"))))
     (demanded (value_option (codes "request")))
 
--- the number of a site, from 1 to 65,535
+-- the name of a site; which texts are one, clap does not judge
 abbrev pub site_option : Rule
-site_option = demanded (number_option (codes "site") 1 65535)
+site_option = demanded (value_option (codes "site"))
 
--- serve --schema FILE --site NUMBER --listen ADDRESS [--state FILE] [--connections NUMBER]
+-- serve --schema FILE --site NAME --listen ADDRESS [--state FILE] [--connections NUMBER]
 abbrev pub serve_app : App
 serve_app = with_rule (with_rule (with_rule (with_rule (with_rule (new_app (codes "serve"))
     (demanded (value_option (codes "schema")))) site_option) (demanded (value_option (codes "listen"))))
     (value_option (codes "state"))) (number_option (codes "connections") 0 4294967295)
 
--- pull --schema FILE --site NUMBER --from ADDRESS --state FILE
+-- pull --schema FILE --site NAME --from ADDRESS --state FILE
 abbrev pub pull_app : App
 pull_app = with_rule (with_rule (with_rule (with_rule (new_app (codes "pull"))
     (demanded (value_option (codes "schema")))) site_option) (demanded (value_option (codes "from"))))

@@ -1,13 +1,14 @@
--- Why words are no command: the first fault that a parse of them meets, that help is asked for, or want of memory.
+-- Why words are no command: the first fault that a parse of them meets, that help is asked for, a text for a site that
+-- is no site's name, or want of memory. That the name is judged after all else is a rule of this product.
 use Rattle.std.specs.Prelude.{◌≡◌, Bool, true, false, List, [], ⊤}
 use Rattle.clap.specs.Words.{Text, IsAmong, fault_of, kind_of, subcommand_of}
 use Rattle.clap.specs.declared.error.Error.{Error}
 use Rattle.clap.specs.declared.error.ErrorKind.{ErrorKind}
 use Rattle.clap.specs.declared.error.ErrorKind.TheVariants.{DisplayHelp, DisplayVersion, OutOfMemory}
 use Rattle.command_lines.specs.declared.fault.LineFault.{LineFault}
-use Rattle.command_lines.specs.declared.fault.LineFault.TheVariants.{Help, Words, Incomplete, NotText, NoMemory}
+use Rattle.command_lines.specs.declared.fault.LineFault.TheVariants.{Help, Words, Site, Incomplete, NotText, NoMemory}
 use Rattle.command_lines.specs.Apps.{site_app}
-use Rattle.command_lines.specs.Lines.{IsNoLine}
+use Rattle.command_lines.specs.Lines.{IsNoLine, IsOfNoSite}
 
 -- help is asked for
 abbrev pub is_help : ErrorKind → Bool
@@ -28,6 +29,8 @@ IsFirstFault words error = IsAmong (kind_of error) (fault_of site_app words)
 abbrev pub IsFaultOf : List Text → LineFault → Type 0
 IsFaultOf words (Help error) = (is_help (kind_of error) ≡ true) × IsFirstFault words error
 IsFaultOf words (Words error) = (is_help (kind_of error) ≡ false) × IsFirstFault words error
+IsFaultOf words Site = (fault_of site_app words ≡ []) × IsOfNoSite (subcommand_of site_app words)
 IsFaultOf words Incomplete = (fault_of site_app words ≡ []) × IsNoLine (subcommand_of site_app words)
+    × (IsOfNoSite (subcommand_of site_app words) → ⊥)
 IsFaultOf words NotText = ⊥
 IsFaultOf words NoMemory = ⊤

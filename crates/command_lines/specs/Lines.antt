@@ -2,6 +2,7 @@
 use Rattle.std.specs.Prelude.{◌≡◌, ℕ, List, Option, None, Some, option_map, codes}
 use Rattle.std.specs.Str.Parse.{digits_value, without_leading_plus}
 use Rattle.clap.specs.Words.{Row, Text, IsUnsignedIn, first_of, subcommand_of}
+use Rattle.stamped_store.specs.SiteNames.{IsSiteName}
 use Rattle.command_lines.specs.declared.line.Line.{Line}
 use Rattle.command_lines.specs.declared.line.Line.TheVariants.{Check, Decide, Serve, Pull, Merge}
 use Rattle.command_lines.specs.Apps.{site_app}
@@ -18,6 +19,14 @@ word_of (Merge schema first second) = codes "merge"
 abbrev pub IsGiven : List Row → Text → Text → Type 0
 IsGiven rows id text = first_of id rows ≡ Some text
 
+-- what was given for the site is the text, which is a site's name
+abbrev pub IsGivenSite : List Row → Text → Type 0
+IsGivenSite rows site = IsGiven rows (codes "site") site × IsSiteName site
+
+-- what was given for the site is no site's name
+abbrev pub IsGivenNoSite : List Row → Type 0
+IsGivenNoSite rows = (text : Text) × IsGiven rows (codes "site") text × (IsSiteName text → ⊥)
+
 -- the text is this number in decimal digits, perhaps behind a plus, and it lies in these bounds
 abbrev pub IsNumberIn : ℕ → ℕ → Text → ℕ → Type 0
 IsNumberIn least most text number =
@@ -33,7 +42,7 @@ abbrev pub MayBeGivenNumber : List Row → Text → ℕ → ℕ → Option ℕ �
 MayBeGivenNumber rows id least most None = first_of id rows ≡ None
 MayBeGivenNumber rows id least most (Some number) = IsGivenNumber rows id least most number
 
--- these are the texts and numbers of its options
+-- these are the texts, names and numbers of its options
 abbrev pub HasTexts : List Row → Line → Type 0
 HasTexts rows (Check schema policies) =
     IsGiven rows (codes "schema") schema.now × IsGiven rows (codes "policies") policies.now
@@ -44,13 +53,13 @@ HasTexts rows (Decide schema policies entities request) =
     × IsGiven rows (codes "request") request.now
 HasTexts rows (Serve schema site listen state connections) =
     IsGiven rows (codes "schema") schema.now
-    × IsGivenNumber rows (codes "site") 1 65535 site
+    × IsGivenSite rows site
     × IsGiven rows (codes "listen") listen.now
     × (first_of (codes "state") rows ≡ option_map (λ s. s.now) state)
     × MayBeGivenNumber rows (codes "connections") 0 4294967295 connections
 HasTexts rows (Pull schema site from state) =
     IsGiven rows (codes "schema") schema.now
-    × IsGivenNumber rows (codes "site") 1 65535 site
+    × IsGivenSite rows site
     × IsGiven rows (codes "from") from.now
     × IsGiven rows (codes "state") state.now
 HasTexts rows (Merge schema first second) =
@@ -70,6 +79,11 @@ IsNamed line (Some named) = IsLineOf named.0 named.1 line
 -- no command was named with all of its options
 abbrev pub IsNoLine : Option (Text × List Row) → Type 0
 IsNoLine named = (line : Line) → IsNamed line named → ⊥
+
+-- a command was named, with a text for its site that is no site's name
+abbrev pub IsOfNoSite : Option (Text × List Row) → Type 0
+IsOfNoSite None = ⊥
+IsOfNoSite (Some named) = IsGivenNoSite named.1
 
 -- the words are this command
 abbrev pub Says : List Text → Line → Type 0

@@ -11,9 +11,6 @@ use clap::{Arg, ArgAction, Command};
 use plain::NoMemory;
 use std::alloc::Global;
 
-/// The greatest number of a site.
-pub(crate) const GREATEST_SITE: u64 = 65_535;
-
 /// The greatest number of connections that can be asked for.
 pub(crate) const MOST_CONNECTIONS: u64 = 4_294_967_295;
 
@@ -73,19 +70,12 @@ fn number_option<'a>(alloc: Global, name: &'a str, least: u64, most: u64, help: 
     value_option(alloc, name, "NUMBER", help).value_parser(ValueParser::unsigned(least, most))
 }
 
-/// The number of a site, demanded.
-fn site_option<'a>(alloc: Global) -> Arg<'a>
+/// The name of a site, demanded.
+fn site_option<'a>(alloc: Global, help: &'a str) -> Arg<'a>
     ensures rule { rule_of result ≡ site_option }
     ensures local { result.global ≡ false }
 {
-    number_option(
-        alloc,
-        "site",
-        1,
-        GREATEST_SITE,
-        "The number of the site, which no other site has",
-    )
-    .required(true)
+    needed_option(alloc, "site", "NAME", help)
 }
 
 /// A file that is named by its place, and demanded.
@@ -140,9 +130,11 @@ fn serve_command<'a>(alloc: Global) -> Result<Command<'a>, NoMemory>
     let address = "Where to listen, as 127.0.0.1:7000";
     let begin = "A state or a delta to begin with; it is read and never written";
     let most = "How many connections to serve before the run ends";
+    let name =
+        "The site's name, which no other site has: 1 to 32 ASCII letters, digits, '-', '_' or '.'";
     let command = bare(alloc, "serve", about);
     let command = with(command, schema_option(alloc));
-    let command = with(command, site_option(alloc));
+    let command = with(command, site_option(alloc, name));
     let command = with(command, needed_option(alloc, "listen", "ADDRESS", address));
     let command = with(command, value_option(alloc, "state", "FILE", begin));
     let connections = number_option(alloc, "connections", 0, MOST_CONNECTIONS, most);
@@ -154,9 +146,11 @@ fn pull_command<'a>(alloc: Global) -> Result<Command<'a>, NoMemory>
 {
     let about = "Takes from another site what a state file lacks";
     let file = "The state, read and then written; where there is none, it is an empty one";
+    let name =
+        "The name of the site whose state it is, for the record alone: a pull stamps nothing";
     let command = bare(alloc, "pull", about);
     let command = with(command, schema_option(alloc));
-    let command = with(command, site_option(alloc));
+    let command = with(command, site_option(alloc, name));
     let from = needed_option(alloc, "from", "ADDRESS", "Where the other site listens");
     let command = with(command, from);
     with(command, needed_option(alloc, "state", "FILE", file))

@@ -14,6 +14,8 @@ pub enum LineFault {
     Help(clap::Error),
     /// The words are no command line.
     Words(clap::Error),
+    /// What `--site` was given is no site's name. Nothing else is wrong with the words.
+    Site,
     /// The words were taken, and yet have no command or lack an option: no words do that.
     Incomplete,
     /// A word is not UTF-8. `line_of` never says so: its words are texts.
@@ -37,6 +39,9 @@ impl fmt::Display for LineFault {
         match self {
             LineFault::Help(error) => write!(f, "{error}"),
             LineFault::Words(error) => write!(f, "{error}"),
+            LineFault::Site => f.write_str(
+                "error: the value of '--site' is no site's name: 1 to 32 ASCII letters, digits, '-', '_' or '.'\n",
+            ),
             LineFault::Incomplete => f.write_str("error: an option is missing\n"),
             LineFault::NotText => f.write_str("error: a word of the command line is not UTF-8\n"),
             LineFault::NoMemory => f.write_str("error: out of memory\n"),

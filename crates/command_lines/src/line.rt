@@ -1,16 +1,18 @@
 //! The command line.
-ghost use Rattle.std.specs.Prelude.{◌≡◌, [], IfOk, IfErr, OnOk, MatchOption, map, option_map};
+ghost use Rattle.std.specs.Prelude.{◌≡◌, ◌↔◌, IsTrue, [], IfOk, IfErr, OnOk, MatchOption, map, option_map};
 ghost use Rattle.std.specs.Prelude.{string_bytes, codes};
 ghost use Rattle.clap.specs.Words.{fault_of, found_of, rows_of, subcommand_rows_of};
 ghost use Rattle.command_lines.specs.Apps.{site_app};
-ghost use Rattle.command_lines.specs.Lines.{IsLineOf, IsNamed, IsNoLine, Says};
+ghost use Rattle.command_lines.specs.Lines.{IsLineOf, IsNamed, IsNoLine, IsOfNoSite, Says};
 ghost use Rattle.command_lines.specs.Faults.{IsFaultOf};
 ghost use Rattle.command_lines.specs.inner.Lacking.{IsNone};
+ghost use Rattle.command_lines.specs.inner.Sorting.{IsLackOf};
 
 use crate::app::command;
 use crate::fault::{LineFault, sorted};
-use crate::options::{connections_in, option_text, site_in};
+use crate::options::{connections_in, has_no_site, option_text, site_in};
 use clap::ArgMatches;
+use stamped_store::SiteName;
 use std::alloc::Global;
 
 /// What the words ask for. Each option that a command demands is there, as a field of its own.
@@ -28,20 +30,20 @@ pub enum Line<'a> {
         entities: &'a str,
         request: &'a str,
     },
-    /// Serve the site of this number, from 1 on, at an address: a schema's file, perhaps a file with a state to begin
-    /// with, and perhaps how many connections there are to be.
+    /// Serve the site of this name at an address: a schema's file, perhaps a file with a state to begin with, and
+    /// perhaps how many connections there are to be.
     Serve {
         schema: &'a str,
-        site: u16,
+        site: SiteName,
         listen: &'a str,
         state: Option<&'a str>,
         connections: Option<u32>,
     },
-    /// Take from the site at an address what the site of this number, from 1 on, lacks: a schema's file, and a file
-    /// with its state, which is then written.
+    /// Take from the site at an address what the site of this name lacks: a schema's file, and a file with its state,
+    /// which is then written. The name is for the record alone: nothing is stamped.
     Pull {
         schema: &'a str,
-        site: u16,
+        site: SiteName,
         from: &'a str,
         state: &'a str,
     },
@@ -97,7 +99,7 @@ fn decide_in<'a>(options: &ArgMatches<'a>) -> Option<Line<'a>>
     })
 }
 
-/// `serve`, if it has each of the options that it demands, and its numbers lie in their bounds.
+/// `serve`, if it has each of the options that it demands, a site's name among them, and its number lies in its bounds.
 fn serve_in<'a>(options: &ArgMatches<'a>) -> Option<Line<'a>>
     ensures { MatchOption result (IsNone (IsLineOf (codes "serve") (rows_of (found_of options.now))))
         (IsLineOf (codes "serve") (rows_of (found_of options.now))) }
@@ -124,7 +126,7 @@ fn serve_in<'a>(options: &ArgMatches<'a>) -> Option<Line<'a>>
     })
 }
 
-/// `pull`, if it has each of its options, and the site's number lies in its bounds.
+/// `pull`, if it has each of its options, a site's name among them.
 fn pull_in<'a>(options: &ArgMatches<'a>) -> Option<Line<'a>>
     ensures { MatchOption result (IsNone (IsLineOf (codes "pull") (rows_of (found_of options.now))))
         (IsLineOf (codes "pull") (rows_of (found_of options.now))) }
@@ -204,10 +206,32 @@ fn line_in<'a>(matches: &ArgMatches<'a>) -> Option<Line<'a>>
     }
 }
 
+/// Whether a command was met with a text for its site that is no site's name.
+fn is_of_no_site(matches: &ArgMatches<'_>) -> bool
+    ensures { IsTrue result ↔ IsOfNoSite (subcommand_rows_of matches.now) }
+{
+    match met(matches) {
+        Some((_name, options)) => has_no_site(options),
+        None => false,
+    }
+}
+
+/// Why a command that was met lacks some of what it demands.
+fn lack_of(matches: &ArgMatches<'_>) -> LineFault
+    ensures { IsLackOf (subcommand_rows_of matches.now) result }
+{
+    if is_of_no_site(matches) {
+        LineFault::Site
+    } else {
+        LineFault::Incomplete
+    }
+}
+
 /// The command that the words give, the first of which is the program's own name.
 ///
-/// It has every option that it demands, `--site` from 1 to 65,535 and `--connections`, where it is given, from 0 to
-/// 4,294,967,295. Words that are no command answer why.
+/// It has every option that it demands, `--site` with a site's name (1 to 32 bytes, each an ASCII letter, a digit, `-`,
+/// `_` or `.`), taken as it stands, and `--connections`, where it is given, from 0 to 4,294,967,295. Words that are no
+/// command answer why; that `--site` has another text is told after every other fault.
 pub fn line_of<'a>(alloc: Global, words: &'a [String]) -> Result<Line<'a>, LineFault>
     ensures ok { IfOk result (Says (map string_bytes words.entry.now)) }
     ensures taken { OnOk result (fault_of site_app (map string_bytes words.entry.now) ≡ []) }
@@ -219,6 +243,6 @@ pub fn line_of<'a>(alloc: Global, words: &'a [String]) -> Result<Line<'a>, LineF
     };
     match line_in(&matches) {
         Some(line) => Ok(line),
-        None => Err(LineFault::Incomplete),
+        None => Err(lack_of(&matches)),
     }
 }

@@ -1,11 +1,12 @@
 //! What was given for each option.
-ghost use Rattle.std.specs.Prelude.{◌≡◌, Some, None, MatchOption, option_map, codes};
+ghost use Rattle.std.specs.Prelude.{◌≡◌, ◌↔◌, IsTrue, Some, None, MatchOption, option_map, codes};
 ghost use Rattle.clap.specs.Words.{first_of, found_of, rows_of};
-ghost use Rattle.command_lines.specs.Lines.{IsNumberIn, IsGivenNumber, MayBeGivenNumber};
+ghost use Rattle.command_lines.specs.Lines.{IsNumberIn, MayBeGivenNumber, IsGivenSite, IsGivenNoSite};
 ghost use Rattle.command_lines.specs.inner.Lacking.{IsNone};
 
-use crate::app::{GREATEST_SITE, MOST_CONNECTIONS};
+use crate::app::MOST_CONNECTIONS;
 use clap::ArgMatches;
+use stamped_store::{SiteName, is_site_name};
 
 /// The text that an option was given.
 pub(crate) fn option_text<'a>(options: &ArgMatches<'a>, name: &str) -> Option<&'a str>
@@ -24,18 +25,25 @@ fn number_in(text: &str, least: u64, most: u64) -> Option<u64>
     }
 }
 
-/// The number of the site.
-pub(crate) fn site_in(options: &ArgMatches<'_>) -> Option<u16>
-    ensures { MatchOption result (IsNone (IsGivenNumber (rows_of (found_of options.now)) (codes "site") 1 65535))
-        (IsGivenNumber (rows_of (found_of options.now)) (codes "site") 1 65535) }
+/// The name of the site.
+pub(crate) fn site_in(options: &ArgMatches<'_>) -> Option<SiteName>
+    ensures { MatchOption result (IsNone (IsGivenSite (rows_of (found_of options.now))))
+        (IsGivenSite (rows_of (found_of options.now))) }
 {
     let Some(text) = option_text(options, "site") else {
         return None;
     };
-    match number_in(text, 1, GREATEST_SITE) {
-        Some(number) => Some(number as u16),
-        None => None,
-    }
+    SiteName::parse(text)
+}
+
+/// Whether what was given for the site is no site's name.
+pub(crate) fn has_no_site(options: &ArgMatches<'_>) -> bool
+    ensures { IsTrue result ↔ IsGivenNoSite (rows_of (found_of options.now)) }
+{
+    let Some(text) = option_text(options, "site") else {
+        return false;
+    };
+    !is_site_name(text)
 }
 
 /// How many connections are asked for, if any number was given; `None` where what was given is no such number.

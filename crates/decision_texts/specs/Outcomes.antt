@@ -2,7 +2,6 @@
 -- A rule of this product: what texts come to follows from the texts alone. Only want of memory may come at any call,
 -- whatever the texts.
 use Rattle.std.specs.Prelude.{◌≡◌, ◌⊎◌, ℕ, List, map}
-use Rattle.ancestor_closure.specs.Hierarchy.{IsAscending}
 use Rattle.authoriser.specs.Laws.{AreIdsAscending}
 use Rattle.decision_texts.specs.declared.refusal.Refusal.{Refusal}
 use Rattle.decision_texts.specs.Decisions.{IsDecided, IsRefused}
@@ -28,8 +27,7 @@ abbrev pub LineOrRefusal : Type 0
 LineOrRefusal = (policies entities request : List ℕ) → ((line : List ℕ) × IsDecided policies entities request line)
     ⊎ ((refusal : Refusal) × IsRefused policies entities request refusal)
 
--- the lists of a line's answer ascend: the reason, the errors by their policy, the cycle by the order of uids
+-- the ids in a line's answer ascend: the reason, and the errors by their policy
 abbrev pub ListsOfLinesAscend : Type 0
 ListsOfLinesAscend = (policies entities request line : List ℕ) (decided : IsDecided policies entities request line) →
     AreIdsAscending decided.answer.reason × AreIdsAscending (map (λ e. e.policy) decided.answer.errors)
-    × IsAscending decided.answer.cycle

@@ -1,17 +1,18 @@
--- Edges by `memberOf` lead as far as edges to all that is above an action.
-use Rattle.std.proofs.Common.{◌≡◌, List, [], ◌∷◌, Option, Some, None, Bool, true, false, refl, inl, inr}
+-- Edges by `memberOf` lead as far as edges to all that is above an action, and no cycle goes through an action.
+use Rattle.std.proofs.Common.{◌≡◌, List, [], ◌∷◌, Option, Some, None, Bool, true, false, refl, subst, inl, inr}
 use Rattle.std.specs.Prelude.{Contains, IsSome, ◌⊎◌, option_map, if◌then◌else◌}
 use Rattle.std.specs.Ordering.{is_eq}
 use Rattle.values.specs.declared.entity_uid.EntityUid.{EntityUid}
 use Rattle.values.specs.Names.{uid_cmp}
-use Rattle.ancestor_closure.specs.Hierarchy.{Parents, Path, Above, no_parents, with_parents}
+use Rattle.ancestor_closure.specs.Hierarchy.{Parents, Path, Above, IsOnCycle, no_parents, with_parents}
 use Rattle.ancestor_closure.specs.Deciding.{Contains-here, Contains-there, Contains-none, same_uid, Above-joined}
 use Rattle.schema_names.specs.Qualifying.{FoundAction, FoundSchema}
 use Rattle.schema.specs.Schemas.{StatedSchema, Answers, IsAction, action_parents}
 use Rattle.schema.specs.Schemas.{with_actions as with_action_parents}
+use Rattle.schema.specs.WellFormed.{IsWellFormed}
 use Rattle.entity_worlds.specs.Entities.{EntityMap, parents_of, attributes_of, action_or}
 use Rattle.entity_store.specs.Laws.{stated_world, closed_world}
-use Rattle.entity_store.specs.Alike.{LeadAlike}
+use Rattle.entity_store.specs.Alike.{LeadAlike, HaveSameCycles}
 
 -- ---- what has a parent by `memberOf` is a declared action
 
@@ -87,6 +88,45 @@ module _ (s : FoundSchema) (v : StatedSchema) (answers : Answers s v) (entities 
 
   pub lead_alike : LeadAlike P Q
   lead_alike a b = ((λ above. (above.0, path b above.0 a above.1)), (λ above. jumps b above.0 a above.1))
+
+  -- ---- the same cycles are in both, since none goes through an action
+
+  module _ (well : IsWellFormed v) where
+    some_of : (o : Option (List EntityUid)) → IsSome o → (us : List EntityUid) × (o ≡ Some us)
+    some_of None some = cc some
+    some_of (Some us) some = (us, refl)
+
+    its_own : (b c : EntityUid) (us : List EntityUid) → v.ancestors b ≡ Some us → Contains (Q b) c → Contains us c
+    its_own b c us e h = subst (λ (o : Option (List EntityUid)). Contains (parents_of (action_or o (entities b))) c) e h
+
+    -- what is above an action is among its ancestors
+    within : (b : EntityUid) (us : List EntityUid) → v.ancestors b ≡ Some us → (cs : List EntityUid) (a : EntityUid) → Path Q b cs a → Contains us a
+    within b us e [] a h = its_own b a us e h
+    within b us e (c ∷ cs) a h =
+        let here = its_own b c us e h.0 in
+        let next = some_of (v.ancestors c) ((well.actions c).0 (well.ancestors_declared b c us e here)) in
+        well.ancestors_join b c a us next.0 e here next.1 (within c next.0 next.1 cs a h.1)
+
+    no_action : (b : EntityUid) → IsOnCycle Q b → v.ancestors b ≡ None
+    no_action b on = at (v.ancestors b) refl
+      where
+        at : (o : Option (List EntityUid)) → v.ancestors b ≡ o → v.ancestors b ≡ None
+        at None e = e
+        at (Some us) e = absurd (well.no_cycle b us e (within b us e on.0 b on.1))
+
+    -- the edges of a cycle are those of entities that are kept
+    kept_edge : (b c : EntityUid) → IsOnCycle Q b → Contains (Q b) c → Contains (P b) c
+    kept_edge b c on h =
+        kept_at b c (v.ancestors b) (no_action b on) (subst (λ (o : Option (List EntityUid)). Contains (parents_of (action_or o (entities b))) c) (no_action b on) h)
+
+    on_walk : (b : EntityUid) (cs : List EntityUid) (a : EntityUid) → Above Q b a → Path Q b cs a → Path P b cs a
+    on_walk b [] a round h = kept_edge b a (Above-joined Q b a b ([], h) round) h
+    on_walk b (c ∷ cs) a round h =
+        (kept_edge b c (Above-joined Q b a b (c ∷ cs, h) round) h.0, on_walk c cs a (Above-joined Q a b c round ([], h.0)) h.1)
+
+    pub same_cycles : HaveSameCycles P Q
+    same_cycles [] = ((λ h. h), (λ h. h))
+    same_cycles (c ∷ cs) = ((λ h. path c cs c h), (λ h. on_walk c cs c (cs, h) h))
 
   -- ---- the same entities stand in both, with the same attributes
   attributes_at : (u : EntityUid) (o : Option (List EntityUid))

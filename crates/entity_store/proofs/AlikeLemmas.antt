@@ -6,6 +6,7 @@ use Rattle.values.specs.declared.request.Request.{Request}
 use Rattle.values.specs.Values.{PlainValue}
 use Rattle.values.specs.Fields.{Field}
 use Rattle.ancestor_closure.specs.Hierarchy.{Parents, IsIn}
+use Rattle.ancestor_closure.specs.LeastCycle.{HasNoCycle, IsLeastCycle}
 use Rattle.expressions.specs.declared.expr.Expr.{Expr}
 use Rattle.expressions.specs.declared.operator.Binary.{Binary}
 use Rattle.evaluator.specs.declared.fault.EvalFault.{EvalFault}
@@ -20,7 +21,7 @@ use Rattle.authoriser.specs.declared.outcome.Outcome.{Outcome as Verdict}
 use Rattle.authoriser.specs.declared.outcome.Outcome.TheVariants.{Satisfied, NotSatisfied, Errs}
 use Rattle.authoriser.specs.declared.answer.Answer.{Answer}
 use Rattle.authoriser.specs.Answers.{NamedPolicy, PolicyOutcome, PolicyEvaluatesTo, ArePolicyOutcomes, IsCycleDenial, IsAnswer}
-use Rattle.entity_store.specs.Alike.{LeadAlike, GiveAlike, AnswerAlike}
+use Rattle.entity_store.specs.Alike.{LeadAlike, HaveSameCycles, GiveAlike, AnswerAlike}
 
 told : {P Q : Type 0} (r : EvaluationResult) → (P → Q) → (Q → P) → IsTruthOf P r → IsTruthOf Q r
 told _ f g (holds p) = holds (f p)
@@ -28,6 +29,26 @@ told _ f g (fails n) = fails (λ h. n (g h))
 
 flipped : (P Q : Parents) → LeadAlike P Q → LeadAlike Q P
 flipped P Q alike a b = ((alike a b).1, (alike a b).0)
+
+-- ---- the cycles
+
+turned : (P Q : Parents) → HaveSameCycles P Q → HaveSameCycles Q P
+turned P Q same walk = ((same walk).1, (same walk).0)
+
+pub none_closed : (P Q : Parents) → LeadAlike P Q → HasNoCycle P → HaveSameCycles P Q
+none_closed P Q alike none [] = ((λ h. h), (λ h. h))
+none_closed P Q alike none (c ∷ cs) = ((λ h. absurd (none c (cs, h))), (λ h. absurd (none c ((alike c c).1 (cs, h)))))
+
+least_stays : (P Q : Parents) → LeadAlike P Q → HaveSameCycles P Q → (walk : List EntityUid) → IsLeastCycle P walk → IsLeastCycle Q walk
+least_stays P Q alike same [] h = h
+least_stays P Q alike same (c ∷ cs) h = record {
+  closed = (same (c ∷ cs)).0 h.closed;
+  first = λ x on. h.first x ((alike x x).1 on);
+  shortest = λ ds walk. h.shortest ds ((same (c ∷ ds)).1 walk);
+  least = λ ds walk. h.least ds ((same (c ∷ ds)).1 walk);
+}
+
+-- ---- what expressions give
 
 module _ (stored : EntityUid → Option (List Field)) (P Q : Parents) (alike : LeadAlike P Q) where
   abbrev W : World
@@ -122,17 +143,12 @@ module _ (stored : EntityUid → Option (List Field)) (P Q : Parents) (alike : L
     judged (p ∷ ps) (j ∷ js) h =
         (record { id = h.0.id; effect = h.0.effect; outcome = comes_to p.policy j.outcome h.0.outcome }, judged ps js h.1)
 
-    denied : (a : Answer) → IsCycleDenial P a → IsCycleDenial Q a
-    denied a d = record {
-      named = λ u. ((λ h. (alike u u).0 ((d.named u).0 h)), (λ h. (d.named u).1 ((alike u u).1 h)));
-      ascending = d.ascending;
-      some = d.some;
-      rest = d.rest;
-    }
+    denied : HaveSameCycles P Q → (a : Answer) → IsCycleDenial P a → IsCycleDenial Q a
+    denied same a d = record { least = least_stays P Q alike same a.cycle d.least; rest = d.rest }
 
-    answered : (ps : List NamedPolicy) (a : Answer) → IsAnswer W q ps a → IsAnswer V q ps a
-    answered ps a (inl d) = inl (denied a d)
-    answered ps a (inr p) = inr (record {
+    answered : HaveSameCycles P Q → (ps : List NamedPolicy) (a : Answer) → IsAnswer W q ps a → IsAnswer V q ps a
+    answered same ps a (inl d) = inl (denied same a d)
+    answered same ps a (inr p) = inr (record {
       acyclic = λ u h. p.acyclic u ((alike u u).1 h);
       judged = p.judged;
       outcomes = judged ps p.judged p.outcomes;
@@ -142,5 +158,5 @@ module _ (stored : EntityUid → Option (List Field)) (P Q : Parents) (alike : L
 pub give_alike : (stored : EntityUid → Option (List Field)) (P Q : Parents) → LeadAlike P Q → GiveAlike (world_of stored P) (world_of stored Q)
 give_alike stored P Q alike q x r = (gives stored P Q alike q x r, gives stored Q P (flipped P Q alike) q x r)
 
-pub answer_alike : (stored : EntityUid → Option (List Field)) (P Q : Parents) → LeadAlike P Q → AnswerAlike (world_of stored P) (world_of stored Q)
-answer_alike stored P Q alike q ps a = (answered stored P Q alike q ps a, answered stored Q P (flipped P Q alike) q ps a)
+pub answer_alike : (stored : EntityUid → Option (List Field)) (P Q : Parents) → LeadAlike P Q → HaveSameCycles P Q → AnswerAlike (world_of stored P) (world_of stored Q)
+answer_alike stored P Q alike same q ps a = (answered stored P Q alike q same ps a, answered stored Q P (flipped P Q alike) q (turned P Q same) ps a)

@@ -3,6 +3,7 @@ use Rattle.std.specs.Prelude.{◌↔◌, List}
 use Rattle.values.specs.declared.entity_uid.EntityUid.{EntityUid}
 use Rattle.values.specs.declared.request.Request.{Request}
 use Rattle.ancestor_closure.specs.Hierarchy.{Parents, Above}
+use Rattle.ancestor_closure.specs.LeastCycle.{IsClosedWalk}
 use Rattle.expressions.specs.declared.expr.Expr.{Expr}
 use Rattle.evaluator.specs.Outcomes.{EvaluationResult}
 use Rattle.evaluator.specs.Operators.{World}
@@ -13,6 +14,10 @@ use Rattle.authoriser.specs.Answers.{NamedPolicy, IsAnswer}
 -- the same entities are above one another, and so the same are on cycles
 abbrev pub LeadAlike : Parents → Parents → Type 0
 LeadAlike parents others = (a b : EntityUid) → Above parents a b ↔ Above others a b
+
+-- the same walks are closed: the cycles are the same, edge by edge
+abbrev pub HaveSameCycles : Parents → Parents → Type 0
+HaveSameCycles parents others = (walk : List EntityUid) → IsClosedWalk parents walk ↔ IsClosedWalk others walk
 
 -- each expression gives the same
 abbrev pub GiveAlike : World → World → Type 0

@@ -1,24 +1,27 @@
 -- What is true of the definitions: an action has as parents all that is above it by `memberOf`, and that is no matter:
 -- over the edges by `memberOf` alone the same entities are above one another, each expression gives the same, and each
--- answer is the same.
+-- answer is the same, since no cycle goes through an action.
 use Rattle.std.specs.Prelude.{◌≡◌, ℕ, List, Option, None, Ok, option_map}
 use Rattle.serde_json.specs.Data.{Data}
 use Rattle.values.specs.declared.entity_uid.EntityUid.{EntityUid}
 use Rattle.values.specs.Fields.{Field}
 use Rattle.ancestor_closure.specs.Hierarchy.{Parents}
+use Rattle.ancestor_closure.specs.LeastCycle.{HasNoCycle}
 use Rattle.evaluator.specs.Operators.{World, world_of}
 use Rattle.schema_names.specs.Qualifying.{FoundSchema}
 use Rattle.schema.specs.Schemas.{StatedSchema, IsSchemaOf, action_parents}
 use Rattle.entity_worlds.specs.declared.entity.Entity.{Entity}
 use Rattle.entities.specs.Entities.{entity_in}
 use Rattle.entity_worlds.specs.Entities.{EntityMap, Actions, with_actions, world_in}
-use Rattle.entity_store.specs.Alike.{LeadAlike, GiveAlike, AnswerAlike}
+use Rattle.entity_store.specs.Alike.{LeadAlike, HaveSameCycles, GiveAlike, AnswerAlike}
 
--- whatever the edges are: it is enough that they lead to the same
+-- Whatever the edges are, each expression gives the same where they lead to the same; and each answer is the same where
+-- they also have the same cycles, since a denial names one edge by edge. So it is where no entity is on a cycle.
 abbrev pub ReachDecides : Type 0
 ReachDecides = (stored : EntityUid → Option (List Field)) (parents others : Parents) → LeadAlike parents others
     → GiveAlike (world_of stored parents) (world_of stored others)
-    × AnswerAlike (world_of stored parents) (world_of stored others)
+    × (HaveSameCycles parents others → AnswerAlike (world_of stored parents) (world_of stored others))
+    × (HasNoCycle parents → HaveSameCycles parents others)
 
 -- the actions of a schema, each with the parents that its `memberOf` states
 abbrev pub by_member_of : FoundSchema → StatedSchema → Actions

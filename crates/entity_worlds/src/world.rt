@@ -7,7 +7,9 @@ ghost use Rattle.entity_worlds.specs.Listing.{all_listed, all_decided};
 use crate::actions::ActionSource;
 use crate::source::EntitySource;
 use crate::uids::with_actions;
-use ancestor_closure::{Ancestry, Graph, ParentsOf, ancestors_of, is_above, on_cycles};
+use ancestor_closure::{
+    Ancestry, Graph, ParentsOf, ancestors_of, is_above, least_cycle, on_cycles,
+};
 use evaluator::Lookup;
 use plain::NoMemory;
 use std::alloc::Global;
@@ -98,6 +100,10 @@ impl<S: EntitySource, A: ActionSource + Drop> Ancestry for World<'_, S, A> {
 
     fn cyclic(&self) -> Result<Vec<&EntityUid>, NoMemory> {
         on_cycles(self.alloc, self)
+    }
+
+    fn least_cycle(&self) -> Result<Option<Vec<&EntityUid>>, NoMemory> {
+        least_cycle(self.alloc, self)
     }
 }
 

@@ -31,15 +31,15 @@ use Rattle.http_service.specs.Answered.{told}
 use Rattle.http_service.specs.inner.Dealing.{ReportsOrNoMemory, Deals}
 
 pub handed : (old new : Seen) (i : Input) (r : Reply) (status : Status) (before after : List ℕ)
-    → Step (schema_of old) old.number (store_in old) i r (store_in new) → IsSameSite old new
+    → Step (schema_of old) old.name (store_in old) i r (store_in new) → IsSameSite old new
     → status ≡ (told r).0 → after ≡ before ++ (told r).1 → Deals old (hands i) status before after new
 handed old new i r status before after step same e f =
     ((told r).1, f, (r, step, same, ap (λ (s : Status). (s, (told r).1)) e))
 
 -- what is asked may meet want of memory when it is told
 pub asked_of : (old : Seen) (i : Input) (r m : Reply) (status : Status) (before after : List ℕ)
-    → Step (schema_of old) old.number (store_in old) i r (store_in old)
-    → Step (schema_of old) old.number (store_in old) i m (store_in old) → told m ≡ fault_reply fault.NoMemory
+    → Step (schema_of old) old.name (store_in old) i r (store_in old)
+    → Step (schema_of old) old.name (store_in old) i m (store_in old) → told m ≡ fault_reply fault.NoMemory
     → ReportsOrNoMemory (told r) status before after → Deals old (hands i) status before after old
 asked_of old i r m status before after step short e (line, f, inl h) = (line, f, (r, step, (refl, refl), h))
 asked_of old i r m status before after step short e (line, f, inr h) = (line, f, (m, short, (refl, refl), h.1 ∙ sym e))
@@ -81,11 +81,11 @@ found_is_told old id p status before after is h =
 
 pub put_text : (old new : Seen) (body id text : List ℕ) (r : Result Put SiteFault) (status : Status)
     (before after : List ℕ) → is_utf8 body ≡ true → text ≡ body
-    → PutsPolicy (schema_of old) old.number (store_in old) id text r (store_in new) → IsSameSite old new
+    → PutsPolicy (schema_of old) old.name (store_in old) id text r (store_in new) → IsSameSite old new
     → status ≡ (put_reply r).0 → after ≡ before ++ (put_reply r).1 → Deals old (put_asked body id) status before after new
 put_text old new body id text r status before after utf8 e step same f g =
     rw utf8 (handed old new (input.PutPolicy id body) (reply.Put r) status before after
-    (subst (λ (t : List ℕ). PutsPolicy (schema_of old) old.number (store_in old) id t r (store_in new)) e step) same f g)
+    (subst (λ (t : List ℕ). PutsPolicy (schema_of old) old.name (store_in old) id t r (store_in new)) e step) same f g)
 
 pub put_other : (old : Seen) (body id : List ℕ) (why : ReadFault) (status : Status) (before after : List ℕ)
     → is_utf8 body ≡ false → why ≡ not_text id body → status ≡ (fault_reply (fault.Policy why)).0
@@ -102,7 +102,7 @@ not_utf8 bytes false e h = e
 -- ---- an entity that is taken away
 
 pub removed : (old new : Seen) (o : Option EntityUid) (uid : EntityUid) (r : Result Stamp SiteFault) (status : Status)
-    (before after : List ℕ) → o ≡ Some uid → Deletes old.number (store_in old) (entity_name uid) r (store_in new)
+    (before after : List ℕ) → o ≡ Some uid → Deletes old.name (store_in old) (entity_name uid) r (store_in new)
     → IsSameSite old new → status ≡ (stamp_reply r).0 → after ≡ before ++ (stamp_reply r).1
     → Deals old (removal_asked o) status before after new
 removed old new o uid r status before after e step same f g =

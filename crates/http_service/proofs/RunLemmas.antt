@@ -19,24 +19,24 @@ pub record Goes (n : ℕ) (old : Seen) (bytes rest : List ℕ) (new : Seen) : Ty
   pub inputs : List Input
   pub replies : List Reply
   pub asks : AskFor n bytes rest inputs
-  pub run : Run (schema_of old) old.number (store_in old) inputs replies (store_in new)
+  pub run : Run (schema_of old) old.name (store_in old) inputs replies (store_in new)
   pub same : IsSameSite old new
 
 unchanged : (old new : Seen) → new ≡ old → IsSameSite old new
-unchanged old new h = (ap (λ (a : Seen). a.schema) h, ap (λ (a : Seen). a.number) h)
+unchanged old new h = (ap (λ (a : Seen). a.schema) h, ap (λ (a : Seen). a.name) h)
 
 -- a site that is the same runs the same
 same_run : (a b : Seen) (s : Store) (is : List Input) (rs : List Reply) (t : Store) → IsSameSite a b
-    → Run (schema_of b) b.number s is rs t → Run (schema_of a) a.number s is rs t
+    → Run (schema_of b) b.name s is rs t → Run (schema_of a) a.name s is rs t
 same_run a b s is rs t same h =
     subst (λ k. Run (schema_of a) k s is rs t) same.1
-    (subst (λ (c : StatedSchema). Run c b.number s is rs t) (ap schema_view same.0) h)
+    (subst (λ (c : StatedSchema). Run c b.name s is rs t) (ap schema_view same.0) h)
 
 -- a request, and then some more
 before : (a : Asked) (old mid new : Seen) (status : Status) (line : List ℕ) (is : List Input) (rs : List Reply)
     → Replies old a status line mid → IsSameSite mid new
-    → Run (schema_of mid) mid.number (store_in mid) is rs (store_in new)
-    → (all : List Reply) × Run (schema_of old) old.number (store_in old) (inputs_of a ++ is) all (store_in new)
+    → Run (schema_of mid) mid.name (store_in mid) is rs (store_in new)
+    → (all : List Reply) × Run (schema_of old) old.name (store_in old) (inputs_of a ++ is) all (store_in new)
     × IsSameSite old new
 before (hands i) old mid new status line is rs h same run = (
   h.0 ∷ rs,
@@ -46,14 +46,14 @@ before (hands i) old mid new status line is rs h same run = (
 before (refused f) old mid new status line is rs h same run =
     let e = unchanged old mid h.1 in (
       rs,
-      subst (λ (s : Store). Run (schema_of old) old.number s is rs (store_in new)) (ap store_in h.1)
+      subst (λ (s : Store). Run (schema_of old) old.name s is rs (store_in new)) (ap store_in h.1)
           (same_run old mid (store_in mid) is rs (store_in new) e run),
       (same.0 ∙ e.0, same.1 ∙ e.1),
     )
 before (unserved u) old mid new status line is rs h same run =
     let e = unchanged old mid h.1 in (
       rs,
-      subst (λ (s : Store). Run (schema_of old) old.number s is rs (store_in new)) (ap store_in h.1)
+      subst (λ (s : Store). Run (schema_of old) old.name s is rs (store_in new)) (ap store_in h.1)
           (same_run old mid (store_in mid) is rs (store_in new) e run),
       (same.0 ∙ e.0, same.1 ∙ e.1),
     )
@@ -88,7 +88,7 @@ goes_then (suc n) m old mid new bytes rest out last h g =
 
 -- the law of runs
 abbrev pub RunsTake : Type 0
-RunsTake = (schema : StatedSchema) (n : ℕ) (s : Store) (is : List Input) (rs : List Reply) (t : Store)
+RunsTake = (schema : StatedSchema) (n : List ℕ) (s : Store) (is : List Input) (rs : List Reply) (t : Store)
     → Run schema n s is rs t → t ≡ store_of (updates s ++ took schema is rs)
 
 left : RunsTake → (old new : Seen) (bytes last : List ℕ) → (n : ℕ) × Goes n old bytes last new → LeavesRun old bytes new
@@ -99,7 +99,7 @@ left law old new bytes last (n, g) = record {
   replies = g.replies;
   asks = g.asks;
   run = g.run;
-  store = law (schema_of old) old.number (store_in old) g.inputs g.replies (store_in new) g.run;
+  store = law (schema_of old) old.name (store_in old) g.inputs g.replies (store_in new) g.run;
   same = g.same;
 }
 

@@ -29,7 +29,7 @@ told (reply.Written r) = message_reply r
 -- memory first
 abbrev pub Replies : Seen → Asked → Status → List ℕ → Seen → Type 0
 Replies old (hands i) status line new =
-    (r : Reply) × Step (schema_of old) old.number (store_in old) i r (store_in new) × IsSameSite old new
+    (r : Reply) × Step (schema_of old) old.name (store_in old) i r (store_in new) × IsSameSite old new
     × ((status, line) ≡ told r)
 Replies old (refused f) status line new =
     (((status, line) ≡ fault_reply f) ⊎ ((status, line) ≡ fault_reply fault.NoMemory)) × (new ≡ old)
@@ -45,7 +45,7 @@ abbrev pub answers_over : Routed → List ℕ → List ℕ → List ℕ → Stat
 answers_over old method target body status line new =
     answers old.site.now method target body status line new.site.now × (new.site.ghost_name ≡ old.site.ghost_name)
 
--- sites of one schema and number with equal stores: requests tell no difference
+-- sites of one schema and name with equal stores: requests tell no difference
 abbrev pub IsAlike : Seen → Seen → Type 0
 IsAlike a b = IsSameSite a b × (store_in b ≡ store_in a)
 

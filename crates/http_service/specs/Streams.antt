@@ -31,6 +31,6 @@ pub record LeavesRun (old : Seen) (bytes : List ℕ) (new : Seen) : Type 0 where
   pub inputs : List Input
   pub replies : List Reply
   pub asks : AskFor count bytes rest inputs
-  pub run : Run (schema_of old) old.number (store_in old) inputs replies (store_in new)
+  pub run : Run (schema_of old) old.name (store_in old) inputs replies (store_in new)
   pub store : store_in new ≡ store_of (updates (store_in old) ++ took (schema_of old) inputs replies)
   pub same : IsSameSite old new

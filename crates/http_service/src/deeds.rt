@@ -46,7 +46,7 @@ fn get_policy(alloc: Global, site: &Site, id: &str, text: &mut Vec<u8>) -> Statu
     ensures kept { vec_capacity text.old ≤ vec_capacity text.new }
 {
     let found = site.get_policy(id);
-    report_found(alloc, text, found)
+    report_found(alloc, text, &found)
 }
 
 /// Answers with the state.

@@ -59,7 +59,7 @@ fn serve_routed<R: Source, W: Sink>(
 /// its status and its body. It ends at the end of the input or after a reply that ends the stream.
 ///
 /// Less than a whole request changes nothing. A site's refusals, and want of memory for what one request asks, are
-/// replies (404, 405, 409, 422, 503), and the stream goes on; schema and number stay. The faults here are those of
+/// replies (404, 405, 409, 422, 503), and the stream goes on; schema and name stay. The faults here are those of
 /// reader and writer, and want of memory for what is to be read next.
 pub fn serve<R: Source, W: Sink>(
     alloc: Global,

@@ -1,27 +1,57 @@
 //! Texts of decimals and addresses where memory is refused.
+use crate::shared::{finished, holds};
 use extensions::{Decimal, IpNet, NoMemory};
 use std::alloc::Global;
 use std::process::Abort;
 
-// The canonical text of a decimal. Where memory is refused, the text that is written to stays as it was, and a second
-// call writes it.
-fn shown_decimal(rt: &impl Abort, alloc: Global, decimal: Decimal) -> Result<String, NoMemory> {
-    let mut out = String::from_str(alloc, "=")?;
-    if decimal.write_to(&mut out).is_err() {
-        assert!(rt; out.as_str() == "=");
-        decimal.write_to(&mut out)?;
-    }
-    Ok(out)
+// What has a canonical text.
+trait Written: Copy {
+    fn write(self, out: &mut String) -> Result<(), NoMemory>;
 }
 
-// The same of an address.
-fn shown_net(rt: &impl Abort, alloc: Global, net: IpNet) -> Result<String, NoMemory> {
-    let mut out = String::from_str(alloc, "=")?;
-    if net.write_to(&mut out).is_err() {
-        assert!(rt; out.as_str() == "=");
-        net.write_to(&mut out)?;
+impl Written for Decimal {
+    fn write(self, out: &mut String) -> Result<(), NoMemory> {
+        self.write_to(out)
     }
-    Ok(out)
+}
+
+impl Written for IpNet {
+    fn write(self, out: &mut String) -> Result<(), NoMemory> {
+        self.write_to(out)
+    }
+}
+
+// Adds the canonical text. Where memory is refused, the text that is written to stays as it was, and a second call
+// writes it.
+fn push<T: Written>(rt: &impl Abort, out: &mut String, value: T) -> Result<(), NoMemory> {
+    if value.write(out).is_err() {
+        holds(rt, out.as_str() == "=", "a refused text stays as it was");
+        return value.write(out);
+    }
+    Ok(())
+}
+
+fn shown<T: Written>(rt: &impl Abort, alloc: Global, value: T) -> Result<String, NoMemory> {
+    let mut out = String::from_str(alloc, "=")?;
+    let done = push(rt, &mut out, value);
+    finished(out, done)
+}
+
+fn is_text(rt: &impl Abort, shown: String, expected: &str) {
+    holds(rt, shown.as_str() == expected, expected);
+}
+
+fn is_shown<T: Written>(
+    rt: &impl Abort,
+    alloc: Global,
+    value: T,
+    expected: &str,
+) -> Result<(), NoMemory> {
+    match shown(rt, alloc, value) {
+        Ok(shown) => is_text(rt, shown, expected),
+        Err(_) => is_text(rt, shown(rt, alloc, value)?, expected),
+    }
+    Ok(())
 }
 
 #[test]
@@ -29,12 +59,7 @@ fn a_decimal_is_written_under_refused_memory(rt: HostRuntime) -> Result<(), NoMe
     let Some(decimal) = Decimal::parse("-0.5") else {
         panic!(rt; "a decimal")
     };
-    let shown = match shown_decimal(&rt, rt.alloc(), decimal) {
-        Ok(shown) => shown,
-        Err(_) => shown_decimal(&rt, rt.alloc(), decimal)?,
-    };
-    assert!(rt; shown.as_str() == "=-0.5000");
-    Ok(())
+    is_shown(&rt, rt.alloc(), decimal, "=-0.5000")
 }
 
 #[test]
@@ -42,10 +67,5 @@ fn an_address_is_written_under_refused_memory(rt: HostRuntime) -> Result<(), NoM
     let Some(net) = IpNet::parse("abcd::00ff/9") else {
         panic!(rt; "an address")
     };
-    let shown = match shown_net(&rt, rt.alloc(), net) {
-        Ok(shown) => shown,
-        Err(_) => shown_net(&rt, rt.alloc(), net)?,
-    };
-    assert!(rt; shown.as_str() == "=abcd:0:0:0:0:0:0:ff/9");
-    Ok(())
+    is_shown(&rt, rt.alloc(), net, "=abcd:0:0:0:0:0:0:ff/9")
 }

@@ -11,4 +11,6 @@ mod names_and_values;
 #[cfg(test)]
 mod plain_types;
 #[cfg(test)]
+mod shared;
+#[cfg(test)]
 mod stores;

@@ -1,16 +1,31 @@
 //! Names and values: their orders, and copies, also where memory is refused.
+use crate::shared::{Copied, beside, finished, holds, is_copied, uid_of};
 use extensions::{Decimal, IpNet};
 use plain::{NoMemory, Text};
 use std::alloc::{AllocError, Global};
 use std::process::Abort;
 use values::*;
 
+impl Copied for Name {
+    fn copied(&self, _alloc: Global) -> Result<Name, NoMemory> {
+        self.copy()
+    }
+}
+
+impl Copied for Value {
+    fn copied(&self, alloc: Global) -> Result<Value, NoMemory> {
+        self.copy(alloc)
+    }
+}
+
+impl Copied for Request {
+    fn copied(&self, alloc: Global) -> Result<Request, NoMemory> {
+        self.copy(alloc)
+    }
+}
+
 fn user(alloc: Global, id: &str) -> Result<EntityUid, NoMemory> {
-    let Some(type_name) = TypeName::parse(alloc, "User")? else {
-        return Err(AllocError);
-    };
-    let id = Text::from_str(alloc, id)?;
-    Ok(EntityUid { type_name, id })
+    uid_of(alloc, "User", id)
 }
 
 fn policy(alloc: Global, id: &str) -> Result<Name, NoMemory> {
@@ -21,16 +36,11 @@ fn entity(alloc: Global, id: &str) -> Result<Name, NoMemory> {
     Ok(Name::Entity(user(alloc, id)?))
 }
 
-fn is_name_copied(rt: &impl Abort, name: &Name) -> Result<(), NoMemory> {
-    let copy = name.copy()?;
-    assert!(rt; copy == *name);
-    Ok(())
-}
-
 #[test]
 fn copies_names(rt: HostRuntime) -> Result<(), NoMemory> {
-    is_name_copied(&rt, &entity(rt.alloc(), "alice")?)?;
-    is_name_copied(&rt, &policy(rt.alloc(), "zebra")?)
+    let alloc = rt.alloc();
+    is_copied(&rt, alloc, entity(alloc, "alice")?)?;
+    is_copied(&rt, alloc, policy(alloc, "zebra")?)
 }
 
 fn text(alloc: Global, content: &str) -> Result<Value, NoMemory> {
@@ -41,25 +51,37 @@ fn put(alloc: Global, fields: &mut Record, name: &str, number: i64) -> Result<()
     fields.insert(Text::from_str(alloc, name)?, Value::long(number))
 }
 
-// A record with the fields `b` and `a`; `b` is set twice.
+// The fields `b` and `a`; `b` is set twice.
+fn put_both(alloc: Global, fields: &mut Record) -> Result<(), NoMemory> {
+    put(alloc, fields, "b", 7)?;
+    put(alloc, fields, "a", 1)?;
+    put(alloc, fields, "b", 2)
+}
+
 fn fields(alloc: Global) -> Result<Record, NoMemory> {
     let mut fields = Record::new(alloc);
-    put(alloc, &mut fields, "b", 7)?;
-    put(alloc, &mut fields, "a", 1)?;
-    put(alloc, &mut fields, "b", 2)?;
-    Ok(fields)
+    let done = put_both(alloc, &mut fields);
+    finished(fields, done)
+}
+
+fn is_two(value: &Value) -> bool {
+    match value.kind() {
+        Kind::Long(number) => *number == 2,
+        _ => false,
+    }
+}
+
+fn has_both(record: &Record) -> bool {
+    let Some(found) = record.field("b") else {
+        return false;
+    };
+    is_two(found) && record.field("y").is_none() && record.as_map().len() == 2
 }
 
 #[test]
 fn finds_fields(rt: HostRuntime) -> Result<(), NoMemory> {
     let record = fields(rt.alloc())?;
-    assert!(rt;
-        record
-            .field("b")
-            .is_some_and(|value| *value == Value::long(2))
-    );
-    assert!(rt; record.field("y").is_none());
-    assert_eq!(rt; record.as_map().len(), 2);
+    holds(&rt, has_both(&record), "fields");
     Ok(())
 }
 
@@ -77,8 +99,16 @@ fn address(text: &str) -> Result<Value, NoMemory> {
     }
 }
 
-// The value at a place of those that ascend: two of each kind.
-fn value_at(alloc: Global, place: u8) -> Result<Value, NoMemory> {
+fn named(alloc: Global, id: &str) -> Result<Value, NoMemory> {
+    Ok(Value::entity(user(alloc, id)?))
+}
+
+fn both_truths(alloc: Global) -> Result<Value, NoMemory> {
+    Value::set(Vec::from_array(alloc, [Value::boolean(true), Value::boolean(false)])?)
+}
+
+// The first of the values that ascend: two of each kind.
+fn first_at(alloc: Global, place: u8) -> Result<Value, NoMemory> {
     match place {
         0 => Ok(Value::boolean(false)),
         1 => Ok(Value::boolean(true)),
@@ -86,16 +116,23 @@ fn value_at(alloc: Global, place: u8) -> Result<Value, NoMemory> {
         3 => Ok(Value::long(3)),
         4 => text(alloc, ""),
         5 => text(alloc, "a"),
-        6 => Ok(Value::entity(user(alloc, "alice")?)),
-        7 => Ok(Value::entity(user(alloc, "bob")?)),
+        6 => named(alloc, "alice"),
+        _ => named(alloc, "bob"),
+    }
+}
+
+// The value at a place of those that ascend.
+fn value_at(alloc: Global, place: u8) -> Result<Value, NoMemory> {
+    match place {
         8 => Value::set(Vec::new(alloc)),
-        9 => Value::set(Vec::from_array(alloc, [Value::boolean(true), Value::boolean(false)])?),
+        9 => both_truths(alloc),
         10 => Ok(Value::from_record(Record::new(alloc))),
         11 => Ok(Value::from_record(fields(alloc)?)),
         12 => decimal("-0.1"),
         13 => decimal("1.0"),
         14 => address("255.255.255.255"),
-        _ => address("::"),
+        15 => address("::"),
+        _ => first_at(alloc, place),
     }
 }
 
@@ -107,63 +144,42 @@ fn value_had(alloc: Global, place: u8) -> Result<Value, NoMemory> {
     }
 }
 
-fn copied(value: &Value, alloc: Global) -> Result<Value, NoMemory> {
-    match value.copy(alloc) {
-        Ok(copy) => Ok(copy),
-        Err(_) => value.copy(alloc),
-    }
-}
-
-fn is_copied(rt: &impl Abort, alloc: Global, value: &Value) -> Result<(), NoMemory> {
-    let copy = copied(value, alloc)?;
-    assert!(rt; copy == *value);
-    Ok(())
-}
-
-fn is_below(rt: &impl Abort, alloc: Global, value: &Value, place: u8) -> Result<(), NoMemory> {
-    let next = value_had(alloc, place)?;
-    assert!(rt; *value < next && *value != next);
-    is_copied(rt, alloc, &next)
+// The greater of two.
+fn above<T: Ord + Drop>(rt: &impl Abort, pair: (T, T)) -> T {
+    let (value, next) = pair;
+    holds(rt, value < next && value != next, "they ascend");
+    next
 }
 
 // A value is below the next one, which is equal to its copy.
 fn is_below_the_next(rt: &impl Abort, alloc: Global, place: u8) -> Result<(), NoMemory> {
-    let value = value_had(alloc, place)?;
-    is_below(rt, alloc, &value, place.saturating_add(1))
+    let pair = beside(
+        value_had(alloc, place)?,
+        value_had(alloc, place.saturating_add(1)),
+    )?;
+    is_copied(rt, alloc, above(rt, pair))
 }
 
 // Whichever allocation is refused, once: each value stays as it was, and its copy is had at the second try.
 #[test]
 fn values_ascend_and_are_copied_under_refused_memory(rt: HostRuntime) -> Result<(), NoMemory> {
+    let alloc = rt.alloc();
     for place in 0..15 {
-        is_below_the_next(&rt, rt.alloc(), place)?;
+        is_below_the_next(&rt, alloc, place)?;
     }
     Ok(())
 }
 
 fn asked(alloc: Global) -> Result<Request, NoMemory> {
-    let principal = user(alloc, "alice")?;
-    let action = user(alloc, "view")?;
-    let resource = user(alloc, "photo")?;
+    let pair = beside(user(alloc, "alice")?, user(alloc, "view"))?;
+    let (pair, resource) = beside(pair, user(alloc, "photo"))?;
+    let (principal, action) = pair;
     Ok(Request {
         principal,
         action,
         resource,
         context: Record::new(alloc),
     })
-}
-
-fn request_copied(request: &Request, alloc: Global) -> Result<Request, NoMemory> {
-    match request.copy(alloc) {
-        Ok(copy) => Ok(copy),
-        Err(_) => request.copy(alloc),
-    }
-}
-
-fn is_request_copied(rt: &impl Abort, alloc: Global, request: &Request) -> Result<(), NoMemory> {
-    let copy = request_copied(request, alloc)?;
-    assert!(rt; copy == *request);
-    Ok(())
 }
 
 fn request_had(alloc: Global) -> Result<Request, NoMemory> {
@@ -175,6 +191,6 @@ fn request_had(alloc: Global) -> Result<Request, NoMemory> {
 
 #[test]
 fn requests_are_copied_under_refused_memory(rt: HostRuntime) -> Result<(), NoMemory> {
-    let request = request_had(rt.alloc())?;
-    is_request_copied(&rt, rt.alloc(), &request)
+    let alloc = rt.alloc();
+    is_copied(&rt, alloc, request_had(alloc)?)
 }

@@ -1,103 +1,145 @@
 //! Each call once with ample memory, at concrete types.
+use crate::shared::{Copied, ascend, beside, finished, holds, is_copied};
 use plain::*;
-use std::cmp::Ordering;
+use std::alloc::Global;
 use std::process::Abort;
 
-fn are_compared(rt: &impl Abort, id: &Text, later: &Text) {
-    assert!(rt; id.as_str() == "alice" && id.len() == 5 && !id.same(later));
-    assert!(rt;
-        id.cmp(later) == Ordering::Less && later.partial_cmp(id) == Some(Ordering::Greater)
-    );
+impl Copied for Text {
+    fn copied(&self, _alloc: Global) -> Result<Text, NoMemory> {
+        self.copy()
+    }
 }
 
-fn is_copied(rt: &impl Abort, id: &Text) -> Result<(), NoMemory> {
-    let copied = id.copy()?;
-    assert!(rt; id.same(&copied) && *id == copied);
-    Ok(())
+fn bob(alloc: Global) -> Result<Text, NoMemory> {
+    Ok(Text::from_string(String::from_str(alloc, "bob")?))
+}
+
+fn is_alice(id: &Text, later: &Text) -> bool {
+    id.as_str() == "alice" && id.len() == 5 && !id.same(later)
+}
+
+fn is_bob(rt: &impl Abort, later: Text) {
+    holds(rt, later.into_string().as_str() == "bob", "bob");
 }
 
 #[test]
 fn texts(rt: HostRuntime) -> Result<(), NoMemory> {
-    let later = Text::from_string(String::from_str(rt.alloc(), "bob")?);
+    let alloc = rt.alloc();
+    let (id, later) = beside(Text::from_str(alloc, "alice")?, bob(alloc))?;
+    holds(&rt, is_alice(&id, &later), "alice");
+    is_bob(&rt, later);
+    is_copied(&rt, alloc, id)
+}
+
+fn are_the_same(rt: &impl Abort, pair: (Text, Text)) {
+    holds(rt, pair.0.same(&pair.1), "they are the same");
+}
+
+#[test]
+fn copied_texts(rt: HostRuntime) -> Result<(), NoMemory> {
     let id = Text::from_str(rt.alloc(), "alice")?;
-    are_compared(&rt, &id, &later);
-    assert!(rt; later.into_string().as_str() == "bob");
-    is_copied(&rt, &id)
+    let copy = id.copy();
+    are_the_same(&rt, beside(id, copy)?);
+    Ok(())
 }
 
-fn push_two(items: &mut Items<u8>) -> Result<(), NoMemory> {
+fn push_two(items: &mut Items<u8>, last: u8) -> Result<(), NoMemory> {
     items.push(7)?;
-    items.push(9)
+    items.push(last)
 }
 
-fn has_two(rt: &impl Abort, items: &Items<u8>) {
-    assert!(rt; items.len() == 2 && items.get(1).copied() == Some(9) && items.get(2).is_none());
-    assert!(rt; items.iter().copied().max() == Some(9));
+// Of 7 and another.
+fn two(alloc: Global, last: u8) -> Result<Items<u8>, NoMemory> {
+    let mut items = Items::<u8>::new(alloc);
+    let done = push_two(&mut items, last);
+    finished(items, done)
+}
+
+fn last_of(items: &Items<u8>) -> u8 {
     let mut last = 0;
     for item in items {
         last = *item;
     }
-    assert!(rt; last == 9);
+    last
+}
+
+fn has_two(items: &Items<u8>) -> bool {
+    items.len() == 2 && items.get(1).copied() == Some(9) && items.get(2).is_none()
+}
+
+fn goes_over_two(items: &Items<u8>) -> bool {
+    items.iter().copied().max() == Some(9) && last_of(items) == 9
+}
+
+fn is_two(rt: &impl Abort, items: Items<u8>) {
+    holds(rt, has_two(&items) && goes_over_two(&items), "two items");
+    let again = Items::from_vec(items.into_vec());
+    holds(rt, again.as_slice() == [7, 9].as_slice(), "the same two");
 }
 
 #[test]
 fn lists(rt: HostRuntime) -> Result<(), NoMemory> {
-    let mut items = Items::<u8>::new(rt.alloc());
-    assert!(rt; items.is_empty());
-    push_two(&mut items)?;
-    has_two(&rt, &items);
-    let again = Items::from_vec(items.into_vec());
-    assert!(rt; again.as_slice() == [7, 9].as_slice());
+    let alloc = rt.alloc();
+    holds(&rt, Items::<u8>::new(alloc).is_empty(), "no items");
+    is_two(&rt, two(alloc, 9)?);
     Ok(())
+}
+
+fn one(alloc: Global) -> Result<Items<u8>, NoMemory> {
+    let mut items = Items::<u8>::new(alloc);
+    let done = items.push(7);
+    finished(items, done)
 }
 
 #[test]
 fn boxes(rt: HostRuntime) -> Result<(), NoMemory> {
     let boxed = Boxed::<u8>::new(rt.alloc(), 7)?;
-    assert!(rt; *boxed.get() == 7);
+    holds(&rt, *boxed.get() == 7, "a boxed number");
     let again = Boxed::from_box(boxed.into_box());
-    assert!(rt; again.into_inner() == 7);
+    holds(&rt, again.into_inner() == 7, "the same number");
     Ok(())
+}
+
+fn is_seven(rt: &impl Abort, other: Shared<u8>) {
+    holds(rt, *other.get() == 7, "a shared number");
 }
 
 #[test]
 fn shares(rt: HostRuntime) -> Result<(), NoMemory> {
     let one = Shared::<u8>::new(rt.alloc(), 7)?;
-    let other = one.share()?;
+    let other = one.share();
     drop(one);
-    assert!(rt; *other.get() == 7);
+    is_seven(&rt, other?);
     Ok(())
 }
 
-#[test]
-fn compared_lists(rt: HostRuntime) -> Result<(), NoMemory> {
-    let mut short = Items::<u8>::new(rt.alloc());
-    short.push(7)?;
-    let mut long = Items::<u8>::new(rt.alloc());
-    long.push(7)?;
-    long.push(1)?;
-    assert!(rt; short != long);
-    assert!(rt; short.cmp(&long) == Ordering::Less);
-    assert!(rt; long.partial_cmp(&short) == Some(Ordering::Greater));
-    Ok(())
+// Texts and lists.
+fn compares_lists(rt: &impl Abort, alloc: Global) -> Result<(), NoMemory> {
+    ascend(
+        rt,
+        beside(Text::from_str(alloc, "alice")?, bob(alloc)),
+        "texts",
+    )?;
+    ascend(rt, beside(one(alloc)?, two(alloc, 1)), "lists")
+}
+
+// What holds one value.
+fn compares_values(rt: &impl Abort, alloc: Global) -> Result<(), NoMemory> {
+    ascend(
+        rt,
+        beside(Boxed::new(alloc, 1u8)?, Boxed::new(alloc, 2u8)),
+        "boxes",
+    )?;
+    ascend(
+        rt,
+        beside(Shared::new(alloc, 1u8)?, Shared::new(alloc, 2u8)),
+        "shares",
+    )
 }
 
 #[test]
-fn compared_boxes(rt: HostRuntime) -> Result<(), NoMemory> {
-    let one = Boxed::new(rt.alloc(), 1u8)?;
-    let two = Boxed::new(rt.alloc(), 2u8)?;
-    assert!(rt; one != two);
-    assert!(rt; one.cmp(&two) == Ordering::Less);
-    assert!(rt; two.partial_cmp(&one) == Some(Ordering::Greater));
-    Ok(())
-}
-
-#[test]
-fn compared_shares(rt: HostRuntime) -> Result<(), NoMemory> {
-    let one = Shared::new(rt.alloc(), 1u8)?;
-    let two = Shared::new(rt.alloc(), 2u8)?;
-    assert!(rt; one != two);
-    assert!(rt; one.cmp(&two) == Ordering::Less);
-    assert!(rt; two.partial_cmp(&one) == Some(Ordering::Greater));
-    Ok(())
+fn compared(rt: HostRuntime) -> Result<(), NoMemory> {
+    let alloc = rt.alloc();
+    compares_lists(&rt, alloc)?;
+    compares_values(&rt, alloc)
 }

@@ -1,9 +1,10 @@
 //! Stores: what is looked up, and how they are joined.
+use crate::shared::{beside, ended, finished, holds, uid_of};
 use plain::{NoMemory, Text};
-use stamped_store::{Entry, PolicyStore, ReadText, Stamp, Stamped, laws};
+use stamped_store::{Entry, PolicyStore, ReadText, SiteName, Stamp, Stamped, is_site_name, laws};
 use std::alloc::{AllocError, Global};
 use std::process::Abort;
-use values::{EntityUid, TypeName};
+use values::EntityUid;
 
 type Store = PolicyStore<usize, usize>;
 
@@ -11,8 +12,8 @@ const PERMIT: &str = "permit (principal, action, resource);";
 
 const FORBID: &str = "forbid (principal, action, resource);";
 
-// A count, a site and a text.
-type Row = (u64, u16, &'static str);
+// A count, a site's name and a text.
+type Row<'a> = (u64, &'a str, &'a str);
 
 // The text that an entry holds, read as its length; an empty text is a tombstone's.
 fn body(alloc: Global, text: &str) -> Result<Option<ReadText<usize>>, NoMemory> {
@@ -24,14 +25,22 @@ fn body(alloc: Global, text: &str) -> Result<Option<ReadText<usize>>, NoMemory> 
     Ok(Some(ReadText { text, read }))
 }
 
-fn stamp(row: Row) -> Stamp {
-    Stamp {
-        count: row.0,
-        site: row.1,
+// The site of this name; of a text that is none, that of number 0.
+fn site(name: &str) -> SiteName {
+    match SiteName::parse(name) {
+        Some(site) => site,
+        None => SiteName::from_number(0),
     }
 }
 
-fn entry(alloc: Global, row: Row) -> Result<Entry<usize>, NoMemory> {
+fn stamp(row: Row<'_>) -> Stamp {
+    Stamp {
+        count: row.0,
+        site: site(row.1),
+    }
+}
+
+fn entry(alloc: Global, row: Row<'_>) -> Result<Entry<usize>, NoMemory> {
     let body = body(alloc, row.2)?;
     let stamp = stamp(row);
     Ok(Entry { stamp, body })
@@ -45,236 +54,394 @@ fn text_of(entry: &Entry<usize>) -> &str {
     }
 }
 
+fn is_of(entry: Option<&Entry<usize>>, row: Row<'_>) -> bool {
+    match entry {
+        Some(entry) => entry.stamp == stamp(row) && text_of(entry) == row.2,
+        None => false,
+    }
+}
+
+fn is_text_of(entry: Option<&Entry<usize>>, text: &str) -> bool {
+    match entry {
+        Some(entry) => text_of(entry) == text,
+        None => false,
+    }
+}
+
 fn uid(alloc: Global, id: &str) -> Result<EntityUid, NoMemory> {
-    let Some(type_name) = TypeName::parse(alloc, "User")? else {
-        return Err(AllocError);
-    };
-    let id = Text::from_str(alloc, id)?;
-    Ok(EntityUid { type_name, id })
+    uid_of(alloc, "User", id)
 }
 
-fn put_policy(alloc: Global, store: &mut Store, id: &str, row: Row) -> Result<(), NoMemory> {
-    let id = String::from_str(alloc, id)?;
-    let entry = entry(alloc, row)?;
-    match store.take_policy(id, entry) {
-        Ok(()) => Ok(()),
+// What was done, or want of memory.
+fn done<T: Drop, E: Drop>(tried: Result<T, E>) -> Result<T, NoMemory> {
+    match tried {
+        Ok(value) => Ok(value),
         Err(_) => Err(AllocError),
     }
 }
 
-fn put_entity(alloc: Global, store: &mut Store, id: &str, row: Row) -> Result<(), NoMemory> {
-    let uid = uid(alloc, id)?;
-    let entry = entry(alloc, row)?;
-    match store.take_entity(uid, entry) {
-        Ok(()) => Ok(()),
-        Err(_) => Err(AllocError),
+fn put_policy(alloc: Global, store: &mut Store, id: &str, row: Row<'_>) -> Result<(), NoMemory> {
+    let (id, entry) = beside(String::from_str(alloc, id)?, entry(alloc, row))?;
+    done(store.take_policy(id, entry))
+}
+
+fn put_entity(alloc: Global, store: &mut Store, id: &str, row: Row<'_>) -> Result<(), NoMemory> {
+    let (uid, entry) = beside(uid(alloc, id)?, entry(alloc, row))?;
+    done(store.take_entity(uid, entry))
+}
+
+fn fill_policies(
+    alloc: Global,
+    store: &mut Store,
+    row: Row<'_>,
+    ids: &str,
+) -> Result<(), NoMemory> {
+    for id in ids.split(' ') {
+        put_policy(alloc, store, id, row)?;
     }
+    Ok(())
+}
+
+fn fill_entities(
+    alloc: Global,
+    store: &mut Store,
+    row: Row<'_>,
+    ids: &str,
+) -> Result<(), NoMemory> {
+    for id in ids.split(' ') {
+        put_entity(alloc, store, id, row)?;
+    }
+    Ok(())
 }
 
 // Gives the store the policies and entities of these names, of one letter each, with an entry of this stamp and text.
 fn fill(
     alloc: Global,
     store: &mut Store,
-    row: Row,
+    row: Row<'_>,
     policies: &str,
     entities: &str,
 ) -> Result<(), NoMemory> {
-    for id in policies.split(' ') {
-        put_policy(alloc, store, id, row)?;
-    }
-    for id in entities.split(' ') {
-        put_entity(alloc, store, id, row)?;
-    }
-    Ok(())
+    fill_policies(alloc, store, row, policies)?;
+    fill_entities(alloc, store, row, entities)
 }
 
-fn filled(alloc: Global, row: Row, policies: &str, entities: &str) -> Result<Store, NoMemory> {
+fn filled(alloc: Global, row: Row<'_>, policies: &str, entities: &str) -> Result<Store, NoMemory> {
     let mut store = PolicyStore::new(alloc);
-    fill(alloc, &mut store, row, policies, entities)?;
-    Ok(store)
+    let done = fill(alloc, &mut store, row, policies, entities);
+    finished(store, done)
 }
 
-fn holds(rt: &impl Abort, store: &Store, row: Row) {
-    let held = store.get_policy("p");
-    assert!(rt; held.map(|entry| entry.stamp) == Some(stamp(row)));
-    assert!(rt; held.map(text_of) == Some(row.2));
-}
-
-fn merge_one(rt: &impl Abort, alloc: Global, store: &mut Store, row: Row) -> Result<(), NoMemory> {
-    let other = filled(alloc, row, "p", "x")?;
-    assert!(rt; store.merge(other).is_ok());
+fn merge_one(
+    rt: &impl Abort,
+    alloc: Global,
+    store: &mut Store,
+    second: Row<'_>,
+    greater: Row<'_>,
+) -> Result<(), NoMemory> {
+    let other = filled(alloc, second, "p", "x")?;
+    holds(rt, store.merge(other).is_ok(), "it is merged");
+    holds(rt, is_of(store.get_policy("p"), greater), greater.2);
     Ok(())
+}
+
+fn merge_twice(
+    rt: &impl Abort,
+    alloc: Global,
+    store: &mut Store,
+    second: Row<'_>,
+    greater: Row<'_>,
+) -> Result<(), NoMemory> {
+    merge_one(rt, alloc, store, second, greater)?;
+    merge_one(rt, alloc, store, second, greater)
 }
 
 // The entry that a name has after another was merged, once and twice.
 fn stays(
     rt: &impl Abort,
     alloc: Global,
-    first: Row,
-    second: Row,
-    greater: Row,
+    first: Row<'_>,
+    second: Row<'_>,
+    greater: Row<'_>,
 ) -> Result<(), NoMemory> {
     let mut store = filled(alloc, first, "p", "x")?;
-    merge_one(rt, alloc, &mut store, second)?;
-    holds(rt, &store, greater);
-    merge_one(rt, alloc, &mut store, second)?;
-    holds(rt, &store, greater);
-    Ok(())
+    let came = merge_twice(rt, alloc, &mut store, second, greater);
+    ended(store, came)
 }
 
-// Each row: two entries for one name, of which the first stays, in whatever order they come.
+// An entry as a row writes it: its count, its site, and its text in a word.
+fn row_of(written: &str) -> Row<'_> {
+    let (count, rest) = written.split_once(' ').unwrap_or((written, ""));
+    let (site, word) = rest.split_once(' ').unwrap_or((rest, ""));
+    let text = match word {
+        "permit" => PERMIT,
+        "forbid" => FORBID,
+        _ => "",
+    };
+    (count.parse::<u64>().unwrap_or(0), site, text)
+}
+
+// Two entries for one name, of which the first stays, in whatever order they come.
+fn first_stays(rt: &impl Abort, alloc: Global, rows: &str) -> Result<(), NoMemory> {
+    let (greater, less) = rows.split_once(" over ").unwrap_or((rows, ""));
+    let (greater, less) = (row_of(greater), row_of(less));
+    stays(rt, alloc, greater, less, greater)?;
+    stays(rt, alloc, less, greater, greater)
+}
+
+// Of one count the greater site is that whose name's bytes are.
+const GREATER: &str = "\
+    1 2 forbid over 1 1 permit/\
+    7 3 permit over 7 3 forbid/\
+    5 1 nothing over 4 2 permit/\
+    1 9 forbid over 1 10 permit/\
+    1 10 forbid over 1 00002 permit/\
+    1 b forbid over 1 00002 permit/\
+    1 ab forbid over 1 a permit/\
+    2 - nothing over 1 zzzzzzzzzzzzzzzzzzzzzzzzzzzzzzzz permit";
+
 #[test]
 fn the_greater_entry_stays(rt: HostRuntime) -> Result<(), NoMemory> {
-    let rows = [
-        ((1, 2, FORBID), (1, 1, PERMIT)),
-        ((7, 3, PERMIT), (7, 3, FORBID)),
-        ((5, 1, ""), (4, 2, PERMIT)),
-    ];
-    for (greater, less) in rows {
-        stays(&rt, rt.alloc(), greater, less, greater)?;
-        stays(&rt, rt.alloc(), less, greater, greater)?;
+    let alloc = rt.alloc();
+    for rows in GREATER.split('/') {
+        first_stays(&rt, alloc, rows)?;
     }
     Ok(())
 }
 
-// Of these policies, how many have a stamp of count 9, from the first on.
-fn joined_policies(store: &Store) -> usize {
-    let mut joined: usize = 0;
-    for id in ["d", "e", "f"] {
-        if store
-            .get_policy(id)
-            .is_some_and(|entry| entry.stamp.count == 9)
-        {
-            joined = joined.saturating_add(1);
-        }
+// 1 where the entry has count 9.
+fn joined(entry: Option<&Entry<usize>>) -> usize {
+    match entry {
+        Some(entry) => usize::from(entry.stamp.count == 9),
+        None => 0,
     }
-    joined
 }
 
-fn joined_entities(store: &Store, uids: &[EntityUid]) -> usize {
-    let mut joined: usize = 0;
-    for uid in uids {
-        if store
-            .get_entity(uid)
-            .is_some_and(|entry| entry.stamp.count == 9)
-        {
-            joined = joined.saturating_add(1);
-        }
+// Of these policies, how many have a stamp of count 9.
+fn joined_policies(store: &Store) -> usize {
+    let mut count: usize = 0;
+    for id in ["d", "e", "f"] {
+        count = count.saturating_add(joined(store.get_policy(id)));
     }
-    joined
+    count
+}
+
+fn joined_entities(store: &Store, uids: &(EntityUid, EntityUid)) -> usize {
+    joined(store.get_entity(&uids.0)).saturating_add(joined(store.get_entity(&uids.1)))
 }
 
 // Of a store whose entries have count 1, where one of three policies and two entities with count 9 was merged: exactly
 // the entries of the first names are joined.
-fn is_joined_up_to(rt: &impl Abort, store: &Store, uids: &[EntityUid], taken: usize) {
+fn is_joined_up_to(store: &Store, uids: &(EntityUid, EntityUid), taken: usize) -> bool {
     let policies = joined_policies(store);
-    assert!(rt; policies == taken.min(3));
-    assert!(rt; joined_entities(store, uids) == taken.saturating_sub(policies));
-    assert!(rt; store.greatest_count() == if taken == 0 { 1 } else { 9 });
+    policies == taken.min(3)
+        && joined_entities(store, uids) == taken.saturating_sub(policies)
+        && store.greatest_count() == if taken == 0 { 1 } else { 9 }
 }
 
 fn merge_five(
     rt: &impl Abort,
     alloc: Global,
     store: &mut Store,
-    uids: &[EntityUid],
+    uids: &(EntityUid, EntityUid),
 ) -> Result<(), NoMemory> {
-    let other = filled(alloc, (9, 2, FORBID), "d e f", "x y")?;
+    let other = filled(alloc, (9, "2", FORBID), "d e f", "x y")?;
     let taken = match store.merge(other) {
         Ok(()) => 5,
         Err(short) => short.taken,
     };
-    is_joined_up_to(rt, store, uids, taken);
+    holds(
+        rt,
+        is_joined_up_to(store, uids, taken),
+        "the first names are joined",
+    );
     Ok(())
+}
+
+fn merge_into(
+    rt: &impl Abort,
+    alloc: Global,
+    kept: ((EntityUid, EntityUid), Store),
+) -> Result<(), NoMemory> {
+    let (uids, mut store) = kept;
+    let came = merge_five(rt, alloc, &mut store, &uids);
+    ended((uids, store), came)
 }
 
 // Where memory is refused in a merge, exactly the entries of the first names are joined. A refusal before that ends the
 // test.
 fn merged(rt: &impl Abort, alloc: Global, policies: &str, entities: &str) -> Result<(), NoMemory> {
-    let uids = [uid(alloc, "x")?, uid(alloc, "y")?];
-    let mut store = filled(alloc, (1, 1, PERMIT), policies, entities)?;
-    merge_five(rt, alloc, &mut store, &uids)
+    let uids = beside(uid(alloc, "x")?, uid(alloc, "y"))?;
+    let store = filled(alloc, (1, "1", PERMIT), policies, entities);
+    merge_into(rt, alloc, beside(uids, store)?)
 }
 
 #[test]
 fn a_refused_merge_joins_the_first_names(rt: HostRuntime) {
-    let _ = merged(&rt, rt.alloc(), "a b c d e", "v");
-    let _ = merged(&rt, rt.alloc(), "a", "v w x y z");
+    let alloc = rt.alloc();
+    let _ = merged(&rt, alloc, "a b c d e", "v");
+    let _ = merged(&rt, alloc, "a", "v w x y z");
 }
 
-fn is_looked_up(rt: &impl Abort, store: &Store, uid: &EntityUid) {
-    assert!(rt; store.greatest_count() == 4);
-    assert!(rt; store.issue(7) == Stamp { count: 5, site: 7 });
-    assert!(rt; store.get_policy("c").is_none());
-    assert!(rt; store.get_entity(uid).map(text_of) == Some(PERMIT));
+fn is_looked_up(store: &Store, uid: &EntityUid) -> bool {
+    store.greatest_count() == 4
+        && store.issue(site("7")) == stamp((5, "7", ""))
+        && store.get_policy("c").is_none()
+        && is_text_of(store.get_entity(uid), PERMIT)
 }
 
-fn is_below(rt: &impl Abort, store: &Store, later: &Store) {
-    assert!(rt; store.below(later));
-    assert!(rt; !later.below(store));
-}
-
-// The names of both kinds, in order.
-fn names(alloc: Global, store: &Store) -> Result<String, NoMemory> {
-    let mut names = String::new(alloc);
+fn push_policies(names: &mut String, store: &Store) -> Result<(), NoMemory> {
     for (id, _) in store.policies() {
         names.push_str(id.as_str())?;
     }
+    Ok(())
+}
+
+fn push_entities(names: &mut String, store: &Store) -> Result<(), NoMemory> {
     for (uid, _) in store.entities() {
         names.push_str(uid.id.as_str())?;
     }
-    Ok(names)
+    Ok(())
+}
+
+// The names of both kinds, in order.
+fn push_names(names: &mut String, store: &Store) -> Result<(), NoMemory> {
+    push_policies(names, store)?;
+    push_entities(names, store)
+}
+
+fn names(alloc: Global, store: &Store) -> Result<String, NoMemory> {
+    let mut names = String::new(alloc);
+    let done = push_names(&mut names, store);
+    finished(names, done)
+}
+
+fn is_gone_over(rt: &impl Abort, alloc: Global, store: &Store) -> Result<(), NoMemory> {
+    let names = names(alloc, store)?;
+    holds(rt, names.as_str() == "abxy", "the names in order");
+    Ok(())
+}
+
+fn is_asked(rt: &impl Abort, alloc: Global, kept: (EntityUid, Store)) -> Result<(), NoMemory> {
+    holds(rt, is_looked_up(&kept.1, &kept.0), "look-ups");
+    let came = is_gone_over(rt, alloc, &kept.1);
+    ended(kept, came)
+}
+
+fn stored(alloc: Global) -> Result<Store, NoMemory> {
+    filled(alloc, (4, "1", PERMIT), "b a", "y x")
+}
+
+fn stored_later(alloc: Global) -> Result<Store, NoMemory> {
+    filled(alloc, (5, "1", ""), "b a", "y x")
 }
 
 #[test]
 fn a_store_is_looked_up_and_gone_over(rt: HostRuntime) -> Result<(), NoMemory> {
-    let uid = uid(rt.alloc(), "x")?;
-    let store = filled(rt.alloc(), (4, 1, PERMIT), "b a", "y x")?;
-    is_looked_up(&rt, &store, &uid);
-    let names = names(rt.alloc(), &store)?;
-    assert!(rt; names.as_str() == "abxy");
-    Ok(())
+    let alloc = rt.alloc();
+    is_asked(&rt, alloc, beside(uid(alloc, "x")?, stored(alloc))?)
+}
+
+fn is_below(rt: &impl Abort, pair: (Store, Store)) {
+    holds(
+        rt,
+        pair.0.below(&pair.1) && !pair.1.below(&pair.0),
+        "it is below",
+    );
 }
 
 #[test]
 fn a_store_is_below_a_later_one(rt: HostRuntime) -> Result<(), NoMemory> {
-    let store = filled(rt.alloc(), (4, 1, PERMIT), "b a", "y x")?;
-    is_below(&rt, &store, &filled(rt.alloc(), (5, 1, ""), "b a", "y x")?);
+    let alloc = rt.alloc();
+    is_below(&rt, beside(stored(alloc)?, stored_later(alloc))?);
     Ok(())
 }
 
 type Entries = Stamped<String, Entry<usize>>;
 
-// A map of one value.
-fn single(alloc: Global, key: &str, row: Row) -> Result<Entries, NoMemory> {
-    let key = String::from_str(alloc, key)?;
-    let entry = entry(alloc, row)?;
-    let mut map = Stamped::new(alloc);
-    match map.take(key, entry) {
-        Ok(()) => Ok(map),
-        Err(_) => Err(AllocError),
-    }
+fn put_single(alloc: Global, map: &mut Entries, key: &str, row: Row<'_>) -> Result<(), NoMemory> {
+    let (key, entry) = beside(String::from_str(alloc, key)?, entry(alloc, row))?;
+    done(map.take(key, entry))
 }
 
-fn has_both(rt: &impl Abort, map: &Entries, q: &String) {
-    assert!(rt; map.get(q).map(text_of) == Some(PERMIT));
-    assert!(rt; map.get_str("p").map(text_of) == Some(""));
+// A map of one value.
+fn single(alloc: Global, key: &str, row: Row<'_>) -> Result<Entries, NoMemory> {
+    let mut map = Stamped::new(alloc);
+    let done = put_single(alloc, &mut map, key, row);
+    finished(map, done)
+}
+
+fn counts_of(map: &Entries) -> u64 {
     let mut counts: u64 = 0;
     for (_, entry) in map.iter() {
         counts = counts.wrapping_mul(10).wrapping_add(entry.stamp.count);
     }
-    assert!(rt; counts == 32);
+    counts
+}
+
+fn has_both(rt: &impl Abort, map: &Entries, q: &String) {
+    let found = is_text_of(map.get(q), PERMIT) && is_text_of(map.get_str("p"), "");
+    holds(rt, found && counts_of(map) == 32, "both values");
+}
+
+fn merge_maps(rt: &impl Abort, pair: (Entries, Entries), q: &String) {
+    let (mut left, right) = pair;
+    holds(rt, !right.below(&left), "it is not below");
+    holds(rt, left.merge(right).is_ok(), "it is merged");
+    has_both(rt, &left, q);
+}
+
+fn join_maps(rt: &impl Abort, alloc: Global, q: &String) -> Result<(), NoMemory> {
+    let left = single(alloc, "q", (2, "1", PERMIT))?;
+    merge_maps(rt, beside(left, single(alloc, "p", (3, "1", "")))?, q);
+    Ok(())
 }
 
 #[test]
 fn a_map_joins_its_values(rt: HostRuntime) -> Result<(), NoMemory> {
-    let q = String::from_str(rt.alloc(), "q")?;
-    let mut left = single(rt.alloc(), "q", (2, 1, PERMIT))?;
-    let right = single(rt.alloc(), "p", (3, 1, ""))?;
-    assert!(rt; !right.below(&left));
-    assert!(rt; left.merge(right).is_ok());
-    has_both(&rt, &left, &q);
-    Ok(())
+    let alloc = rt.alloc();
+    let q = String::from_str(alloc, "q")?;
+    join_maps(&rt, alloc, &q)
+}
+
+// Whether a text is the name of a site that is written as it stands.
+fn is_name(text: &str) -> bool {
+    match SiteName::parse(text) {
+        Some(site) => is_site_name(text) && site.as_str() == text,
+        None => false,
+    }
+}
+
+fn is_no_name(text: &str) -> bool {
+    !is_site_name(text) && SiteName::parse(text).is_none()
+}
+
+fn is_numbered(name: &str) -> bool {
+    let number = name.parse::<u16>().unwrap_or(0);
+    SiteName::from_number(number).as_str() == name
+}
+
+// Behind `#` stands the name of a number, behind `!` what is no name.
+fn is_told(row: &str) -> bool {
+    if let Some(name) = row.strip_prefix('#') {
+        return is_numbered(name);
+    }
+    match row.strip_prefix('!') {
+        Some(text) => is_no_name(text),
+        None => is_name(row),
+    }
+}
+
+const NAMES: &str = "\
+    1|00001|-|_|.|aZ9-_.|zzzzzzzzzzzzzzzzzzzzzzzzzzzzzzzz|\
+    !|!a b|!a/b|!é|!zzzzzzzzzzzzzzzzzzzzzzzzzzzzzzzzz|\
+    #00001|#00009|#00010|#00205|#04096|#65535";
+
+#[test]
+fn names_of_sites(rt: HostRuntime) {
+    for row in NAMES.split('|') {
+        holds(&rt, is_told(row), row);
+    }
 }
 
 #[test]
@@ -286,4 +453,6 @@ fn laws_are_called() {
     laws::updates_have_one_store();
     laws::stores_are_joined();
     laws::stamps_are_issued();
+    laws::site_names_are_told();
+    laws::stores_are_raised();
 }

@@ -152,8 +152,8 @@ fn pull_under<R: Source, W: Sink>(
 ///
 /// `schema` is the text of the schema, `state` a state or a delta of it, absent for an empty store, and `host` what the
 /// field `Host` says. One request is written, `POST /v1/delta` with the summary of the state, and its reply is read;
-/// the updates of its body are joined, and the new state is answered, with their number. The site's own number plays no
-/// part in it: nothing is stamped.
+/// the updates of its body are joined, and the new state is answered, with their number. No site takes part
+/// in it on this side, and none is named: nothing is stamped.
 ///
 /// Refused in this order: the schema (20 to 25, without a place), the state (50 to 56, with its place and the number of
 /// the refusal inside), both before anything is sent; the network's faults (70 to 73, or a reply of another status than
@@ -162,7 +162,6 @@ fn pull_under<R: Source, W: Sink>(
 pub fn pull_over<R: Source, W: Sink>(
     alloc: Global,
     schema: &[u8],
-    _number: u16,
     state: Option<&[u8]>,
     host: &[u8],
     reader: &mut R,

@@ -1,5 +1,6 @@
 //! Conditions and policies over entities with attributes, of which no schema is asked.
 use crate::declared::Declared;
+use crate::keeping::ended;
 use crate::written::{bad_row, text_of};
 use authoriser::{Answer, decide};
 use decision_texts::answer_line;
@@ -34,7 +35,9 @@ fn given(
     request: &Request,
     entities: &BareWorld<'_>,
 ) -> &'static str {
-    word_of(&evaluate(alloc, &policy.condition, request, entities))
+    let found = evaluate(alloc, &policy.condition, request, entities);
+    let word = word_of(&found);
+    ended(found, word)
 }
 
 fn given_by(
@@ -97,7 +100,8 @@ fn line_by(
     entities: &BareWorld<'_>,
 ) -> Result<String, NoMemory> {
     let answer = answer_by(alloc, policies, request, entities)?;
-    line_of(alloc, &answer)
+    let line = line_of(alloc, &answer);
+    ended(answer, line)
 }
 
 /// The answer by a file of policies.

@@ -1,5 +1,5 @@
 //! What JSON states under a schema.
-use crate::keeping::{replace, told_if_kept};
+use crate::keeping::{ended, replace, told_if_kept};
 use crate::schemas::schema_of;
 use crate::texts::compact;
 use crate::written::{bad_row, expanded, text_of};
@@ -74,9 +74,9 @@ fn entity_line(
     }
 }
 
-fn record_text(alloc: Global, record: &Record) -> Result<String, NoMemory> {
-    let value = record_json(alloc, record)?;
-    compact(alloc, &value)
+fn record_text(alloc: Global, record: Record) -> Result<String, NoMemory> {
+    let value = record_json(alloc, &record);
+    compact(alloc, ended(record, value)?)
 }
 
 fn context_of(
@@ -86,7 +86,7 @@ fn context_of(
     value: &Value,
 ) -> Result<String, NoMemory> {
     match read_context(alloc, schema, action, value) {
-        Ok(record) => record_text(alloc, &record),
+        Ok(record) => record_text(alloc, record),
         Err(fault) => number(alloc, fault.code()),
     }
 }
@@ -97,7 +97,10 @@ fn context_line(alloc: Global, schema: &Schema, value: &Value) -> Result<String,
         return bad_row(alloc);
     };
     match read_uid(alloc, action)? {
-        Some(action) => context_of(alloc, schema, &action, context),
+        Some(action) => {
+            let told = context_of(alloc, schema, &action, context);
+            ended(action, told)
+        }
         None => bad_row(alloc),
     }
 }
@@ -107,8 +110,7 @@ fn push_compact(
     told: &mut String,
     value: Result<Value, NoMemory>,
 ) -> Result<(), NoMemory> {
-    let value = value?;
-    let text = compact(alloc, &value)?;
+    let text = compact(alloc, value?)?;
     told.push_str(text.as_str())
 }
 
@@ -176,7 +178,10 @@ fn of_value(
     value: &Value,
 ) -> Result<String, NoMemory> {
     match schema_of(alloc, &declared.schema) {
-        Ok(schema) => under_schema(alloc, &schema, declared, word, value),
+        Ok(schema) => {
+            let told = under_schema(alloc, &schema, declared, word, value);
+            ended(schema, told)
+        }
         Err(_) => bad_row(alloc),
     }
 }
@@ -189,7 +194,10 @@ pub(crate) fn came_to(
     bytes: &[u8],
 ) -> Result<String, NoMemory> {
     match read_json(alloc, bytes)? {
-        Some(value) => of_value(alloc, declared, word, &value),
+        Some(value) => {
+            let told = of_value(alloc, declared, word, &value);
+            ended(value, told)
+        }
         None => bad_row(alloc),
     }
 }

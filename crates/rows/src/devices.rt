@@ -6,17 +6,18 @@ use crate::written::shown;
 use counted_devices::devices::Source;
 use http_service::{Site, serve};
 use http_streams::serve::StreamFault;
-use plain::NoMemory;
+use plain::{NoMemory, Shared};
+use stamped_store::is_site_name;
 use std::alloc::Global;
 
-/// A site with nothing stored.
-fn empty_site(alloc: Global, schema: &[u8], number: u16) -> Option<Site> {
-    if number == 0 {
-        return None;
+/// A site of this name with nothing stored; none where the schema or the name is none.
+fn empty_site(alloc: Global, schema: &[u8], name: &str) -> Result<Option<Site>, NoMemory> {
+    if !is_site_name(name) {
+        return Ok(None);
     }
     match schema_of(alloc, schema) {
-        Ok(schema) => Some(Site::new(alloc, schema, number)),
-        Err(_) => None,
+        Ok(schema) => Ok(Some(Site::new(alloc, Shared::new(alloc, schema)?, name))),
+        Err(_) => Ok(None),
     }
 }
 
@@ -25,10 +26,9 @@ pub(crate) fn begin(
     alloc: Global,
     site: &mut Option<Site>,
     schema: &[u8],
-    number: &str,
+    name: &str,
 ) -> Result<String, NoMemory> {
-    let number = number.parse::<u16>().unwrap_or(0);
-    replace(site, empty_site(alloc, schema, number));
+    replace(site, empty_site(alloc, schema, name)?);
     String::from_str(alloc, if site.is_some() { "empty" } else { "no site" })
 }
 

@@ -17,6 +17,14 @@ pub(crate) fn told_if_kept<T: Drop, E: Drop>(
     }
 }
 
+/// A value that was worked on, where the work was done.
+pub(crate) fn finished<T: Drop>(value: T, done: Result<(), NoMemory>) -> Result<T, NoMemory> {
+    match done {
+        Ok(()) => Ok(value),
+        Err(refused) => Err(refused),
+    }
+}
+
 /// What came of it, once nothing more is kept.
 pub(crate) fn ended<T: Drop, R>(_kept: T, came: R) -> R {
     came

@@ -58,7 +58,7 @@
 //!
 //! Streams to a site (`devices`): what goes out, and how much is unread.
 //!
-//! - `site N`: gives the rows below a site of this number, with nothing stored, under their schema.
+//! - `site NAME`: gives the rows below a site of this name, with nothing stored, under their schema.
 //! - `site_serve`: at this site.
 //! - `site_unread`, `site_unwritten`: the same where the second read fails, of 64 bytes each, or the second write,
 //!   of 100.

@@ -1,4 +1,5 @@
 //! Messages as they are read, update by update: a state tells of each name one entry alone.
+use crate::keeping::ended;
 use crate::schemas::schema_of;
 use crate::texts::quoted;
 use crate::written::bad_row;
@@ -20,7 +21,8 @@ fn push_entry(
 ) -> Result<(), NoMemory> {
     let name = quoted(alloc, name)?;
     let body = if has_body { "text" } else { "nothing" };
-    let one = format!(in alloc; "; {name} ({}, {}) {body}", stamp.count, stamp.site)?;
+    let site = stamp.site.as_str();
+    let one = format!(in alloc; "; {name} ({}, {site}) {body}", stamp.count)?;
     told.push_str(one.as_str())
 }
 
@@ -67,7 +69,10 @@ fn listed(alloc: Global, updates: &[Update<Policy, Entity>]) -> Result<String, N
 fn updates(alloc: Global, schema: &Schema, bytes: &[u8]) -> Result<String, NoMemory> {
     let texts = SchemaTexts::under(schema);
     match read_message(alloc, schema.label(), &texts, bytes) {
-        Ok(updates) => listed(alloc, &updates),
+        Ok(updates) => {
+            let told = listed(alloc, &updates);
+            ended(updates, told)
+        }
         Err(fault) => format!(in alloc; "{}", fault.code()),
     }
 }
@@ -75,7 +80,10 @@ fn updates(alloc: Global, schema: &Schema, bytes: &[u8]) -> Result<String, NoMem
 /// What a row comes to, under these bytes of a schema.
 pub(crate) fn came_to(alloc: Global, schema: &[u8], bytes: &[u8]) -> Result<String, NoMemory> {
     match schema_of(alloc, schema) {
-        Ok(schema) => updates(alloc, &schema, bytes),
+        Ok(schema) => {
+            let told = updates(alloc, &schema, bytes);
+            ended(schema, told)
+        }
         Err(_) => bad_row(alloc),
     }
 }

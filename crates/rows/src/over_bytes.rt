@@ -1,4 +1,5 @@
 //! The public functions from bytes to bytes.
+use crate::keeping::{ended, finished};
 use crate::ways::{PLAIN, reader_of, writer_of};
 use crate::written::{bad_row, expanded, shown, text_of};
 use counted_devices::memory::MemoryWriter;
@@ -71,7 +72,10 @@ fn push_json(
     keys: &[&str],
 ) -> Result<(), NoMemory> {
     match read_json(alloc, text.as_bytes())? {
-        Some(row) => push_row(alloc, texts, &row, keys),
+        Some(row) => {
+            let pushed = push_row(alloc, texts, &row, keys);
+            ended(row, pushed)
+        }
         None => Ok(()),
     }
 }
@@ -160,15 +164,7 @@ fn pull(
 ) -> Result<Pulled, PullFault> {
     let mut reader = reader_of(PLAIN, reply);
     let state = if state.is_empty() { None } else { Some(state) };
-    pull_over(
-        alloc,
-        schema,
-        1,
-        state,
-        b"127.0.0.1:7000",
-        &mut reader,
-        writer,
-    )
+    pull_over(alloc, schema, state, b"127.0.0.1:7000", &mut reader, writer)
 }
 
 fn pull_told(alloc: Global, found: Result<Pulled, PullFault>) -> Result<String, NoMemory> {
@@ -206,9 +202,16 @@ fn of_texts(alloc: Global, word: &str, texts: &[Vec<u8>]) -> Result<String, NoMe
     }
 }
 
+/// The texts of a row.
+fn texts_of(alloc: Global, word: &str, text: &str) -> Result<Vec<Vec<u8>>, NoMemory> {
+    let mut texts = Vec::new(alloc);
+    let pushed = push_json(alloc, &mut texts, text, keys_of(word));
+    finished(texts, pushed)
+}
+
 /// What a row comes to.
 pub(crate) fn came_to(alloc: Global, word: &str, text: &str) -> Result<String, NoMemory> {
-    let mut texts = Vec::new(alloc);
-    push_json(alloc, &mut texts, text, keys_of(word))?;
-    of_texts(alloc, word, &texts)
+    let texts = texts_of(alloc, word, text)?;
+    let told = of_texts(alloc, word, &texts);
+    ended(texts, told)
 }

@@ -1,4 +1,5 @@
 //! Schemas.
+use crate::keeping::{ended, finished};
 use crate::texts::quoted;
 use crate::written::{expanded, push_all};
 use plain::NoMemory;
@@ -157,11 +158,17 @@ fn push_names(alloc: Global, names: &mut Vec<TypeName>, words: &str) -> Result<(
     Ok(())
 }
 
+fn names_of(alloc: Global, words: &str) -> Result<Vec<TypeName>, NoMemory> {
+    let mut names = Vec::new(alloc);
+    let done = push_names(alloc, &mut names, words);
+    finished(names, done)
+}
+
 /// What a schema has at the names that are parted by blanks.
 fn parts_at(alloc: Global, schema: &Schema, words: &str) -> Result<String, NoMemory> {
-    let mut names = Vec::new(alloc);
-    push_names(alloc, &mut names, words)?;
-    parts(alloc, schema, names.as_slice())
+    let names = names_of(alloc, words)?;
+    let told = parts(alloc, schema, names.as_slice());
+    ended(names, told)
 }
 
 /// What a schema comes to, by a word and what stands before the schema.
@@ -174,7 +181,10 @@ fn of_schema(alloc: Global, schema: &Schema, word: &str, words: &str) -> Result<
 
 fn of_bytes(alloc: Global, word: &str, words: &str, bytes: &[u8]) -> Result<String, NoMemory> {
     match schema_of(alloc, bytes) {
-        Ok(schema) => of_schema(alloc, &schema, word, words),
+        Ok(schema) => {
+            let told = of_schema(alloc, &schema, word, words);
+            ended(schema, told)
+        }
         Err(code) => format!(in alloc; "{code}"),
     }
 }

@@ -1,4 +1,5 @@
 //! Texts of the policy language and of JSON.
+use crate::keeping::ended;
 use crate::written::{bad_row, text_of};
 use json_words::{read_json, write_json};
 use plain::NoMemory;
@@ -44,16 +45,20 @@ fn lexed(alloc: Global, text: &str) -> Result<String, NoMemory> {
     }
 }
 
-/// The compact text of a value of JSON.
-pub(crate) fn compact(alloc: Global, value: &Value) -> Result<String, NoMemory> {
+fn compact_text(alloc: Global, value: &Value) -> Result<String, NoMemory> {
     let bytes = write_json(alloc, value)?;
     text_of(alloc, &bytes)
 }
 
+/// The compact text of a value of JSON, which is let go.
+pub(crate) fn compact(alloc: Global, value: Value) -> Result<String, NoMemory> {
+    let text = compact_text(alloc, &value);
+    ended(value, text)
+}
+
 /// A text within quotes, with what JSON escapes.
 pub(crate) fn quoted(alloc: Global, content: &str) -> Result<String, NoMemory> {
-    let value = Value::String(String::from_str(alloc, content)?);
-    compact(alloc, &value)
+    compact(alloc, Value::String(String::from_str(alloc, content)?))
 }
 
 /// The type of an entity, and its id as JSON.
@@ -65,14 +70,20 @@ fn type_and_id(alloc: Global, uid: &EntityUid) -> Result<String, NoMemory> {
 
 fn uid(alloc: Global, text: &str) -> Result<String, NoMemory> {
     match parse_uid(alloc, text) {
-        Ok(uid) => type_and_id(alloc, &uid),
+        Ok(uid) => {
+            let told = type_and_id(alloc, &uid);
+            ended(uid, told)
+        }
         Err(fault) => refused(alloc, fault),
     }
 }
 
 fn name(alloc: Global, text: &str) -> Result<String, NoMemory> {
     match TypeName::parse(alloc, text)? {
-        Some(name) => String::from_str(alloc, name.as_str()),
+        Some(name) => {
+            let told = String::from_str(alloc, name.as_str());
+            ended(name, told)
+        }
         None => String::from_str(alloc, "no name"),
     }
 }
@@ -80,7 +91,7 @@ fn name(alloc: Global, text: &str) -> Result<String, NoMemory> {
 /// The compact text of JSON.
 fn json(alloc: Global, bytes: &[u8]) -> Result<String, NoMemory> {
     match read_json(alloc, bytes)? {
-        Some(value) => compact(alloc, &value),
+        Some(value) => compact(alloc, value),
         None => String::from_str(alloc, "no JSON"),
     }
 }

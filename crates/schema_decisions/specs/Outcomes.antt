@@ -2,7 +2,6 @@
 -- A rule of this product: what texts come to follows from the texts alone. Only want of memory may come at any call,
 -- whatever the texts.
 use Rattle.std.specs.Prelude.{◌≡◌, ◌⊎◌, ℕ, List, map}
-use Rattle.ancestor_closure.specs.Hierarchy.{IsAscending}
 use Rattle.authoriser.specs.Laws.{AreIdsAscending}
 use Rattle.entity_store.specs.Laws.{stated_world}
 use Rattle.decision_texts.specs.declared.refusal.Refusal.{Refusal}
@@ -31,12 +30,11 @@ LineOrRefusal = (schema policies entities request : List ℕ)
     → ((line : List ℕ) × IsDecided schema policies entities request line)
     ⊎ ((refusal : Refusal) × IsRefused schema policies entities request refusal)
 
--- the lists of a line's answer ascend: the reason, the errors by their policy, the cycle by the order of uids
+-- the ids in a line's answer ascend: the reason, and the errors by their policy
 abbrev pub ListsOfLinesAscend : Type 0
 ListsOfLinesAscend = (schema policies entities request line : List ℕ)
     (x : IsDecided schema policies entities request line) → let answer = x.decided.answered.answer in
     AreIdsAscending answer.reason × AreIdsAscending (map (λ e. e.policy) answer.errors)
-    × IsAscending answer.cycle
 
 -- The answer is the same over actions that have as parents what their `memberOf` states, and no more.
 abbrev pub MemberOfDecidesAlike : Type 0

@@ -130,7 +130,7 @@ fn decide_texts(
 /// order (30 to 38, at the place in the array, from 0, or 30 without a place where there is no array), and 30 at the
 /// second of two entities of one uid; the request (30 to 39, without a place). `NoMemory` (1) may come at any point.
 /// The parents of an entity need not stand in the array, and cycles among entities are no fault: the answer is then a
-/// denial that names those on cycles.
+/// denial that names the least cycle.
 ///
 /// Source: Cedar reference guide, "Authorization" and "Policy validation".
 pub fn decide_under(

@@ -6,28 +6,28 @@ use Rattle.serde_json.specs.Written.{compact_text}
 use Rattle.stamped_store.specs.declared.entry.Stamp.{Stamp}
 use Rattle.decision_texts.specs.Refusals.{error_line}
 
--- {"count":2,"site":1}
+-- {"count":2,"site":"00001"}
 unfoldable pub stamp_line : Stamp → List ℕ
 stamp_line s = compact_text (object
     (member (codes "count") (number (unsigned s.count))
-    (member (codes "site") (number (unsigned s.site)) no_members)))
+    (member (codes "site") (string s.site) no_members)))
 
--- {"count":1,"impossible":true,"site":1}
+-- {"count":1,"impossible":true,"site":"00001"}
 unfoldable pub put_line : Stamp → Bool → List ℕ
 put_line s impossible = compact_text (object
     (member (codes "count") (number (unsigned s.count))
     (member (codes "impossible") (boolean impossible)
-    (member (codes "site") (number (unsigned s.site)) no_members))))
+    (member (codes "site") (string s.site) no_members))))
 
 -- {"taken":3}
 unfoldable pub taken_line : ℕ → List ℕ
 taken_line count = compact_text (object (member (codes "taken") (number (unsigned count)) no_members))
 
--- {"count":1,"site":1,"text":"permit(principal, action, resource);"}
+-- {"count":1,"site":"00001","text":"permit(principal, action, resource);"}
 abbrev pub found_json : List ℕ → Stamp → Data
 found_json text s = object
     (member (codes "count") (number (unsigned s.count))
-    (member (codes "site") (number (unsigned s.site))
+    (member (codes "site") (string s.site)
     (member (codes "text") (string text) no_members)))
 
 unfoldable pub found_line : List ℕ → Stamp → List ℕ

@@ -9,7 +9,7 @@ mod long;
 mod status;
 mod telling;
 
-pub use laws::errors_have_one_line;
+pub use laws::{errors_have_one_line, stamps_have_plain_lines};
 pub use site::{Site, SiteFault};
 pub use telling::{
     report_answer, report_fault, report_found, report_message, report_put, report_stamp,

@@ -2,11 +2,12 @@
 ghost use Rattle.std.specs.Prelude.{◌≡◌, ◌≤◌, ◌+◌, ◌++◌, length, vec_len, decimal};
 ghost use Rattle.std.specs.Vec.{vec_capacity};
 ghost use Rattle.service_replies.specs.Lines.{fault_line, put_line, stamp_line, taken_line};
-ghost use Rattle.service_replies.specs.inner.Pieces.{boolean_word, number_or_null};
+ghost use Rattle.stamped_store.specs.SiteNames.{IsSiteName};
+ghost use Rattle.service_replies.specs.inner.Pieces.{boolean_word, number_or_null, site_end};
 
 use crate::LINE_ROOM;
 use itoa::Buffer;
-use stamped_store::Stamp;
+use stamped_store::{SiteName, Stamp};
 
 /// Appends a piece.
 fn append(text: &mut Vec<u8>, piece: &[u8])
@@ -56,6 +57,18 @@ fn append_or_null(text: &mut Vec<u8>, number: Option<u64>)
     }
 }
 
+/// Appends the end of a line that tells a stamp: the name of the site, as it stands, since it needs no escape.
+fn append_site(text: &mut Vec<u8>, site: &SiteName)
+    requires room { vec_len text.old + 43 ≤ vec_capacity text.old }
+    ensures items { text.new.items ≡ text.old.items ++ site_end site.now }
+    ensures named { IsSiteName site.now }
+    ensures kept { vec_capacity text.old ≤ vec_capacity text.new }
+{
+    append(text, b",\"site\":\"");
+    append(text, site.as_bytes());
+    append(text, b"\"}");
+}
+
 /// Appends the line of a stamp that was given.
 pub(crate) fn append_stamp(text: &mut Vec<u8>, stamp: Stamp)
     requires room { vec_len text.old + LINE_ROOM ≤ vec_capacity text.old }
@@ -64,9 +77,7 @@ pub(crate) fn append_stamp(text: &mut Vec<u8>, stamp: Stamp)
 {
     append(text, b"{\"count\":");
     append_number(text, stamp.count);
-    append(text, b",\"site\":");
-    append_number(text, u64::from(stamp.site));
-    append(text, b"}");
+    append_site(text, &stamp.site);
 }
 
 /// Appends the line of a policy that was put.
@@ -79,9 +90,7 @@ pub(crate) fn append_put(text: &mut Vec<u8>, stamp: Stamp, impossible: bool)
     append_number(text, stamp.count);
     append(text, b",\"impossible\":");
     append_boolean(text, impossible);
-    append(text, b",\"site\":");
-    append_number(text, u64::from(stamp.site));
-    append(text, b"}");
+    append_site(text, &stamp.site);
 }
 
 /// Appends the line of updates that were taken.

@@ -44,7 +44,7 @@ pub(crate) fn append_answer(
 fn found_value(alloc: Global, policy: &str, stamp: Stamp) -> Result<Value, NoMemory>
     ensures { IfOk result (λ v. view v ≡ found_json policy.now stamp) }
 {
-    json!(in alloc; {"count": stamp.count, "site": stamp.site, "text": policy})
+    json!(in alloc; {"count": stamp.count, "site": stamp.site.as_str(), "text": policy})
 }
 
 /// The line of a policy that was found.

@@ -40,7 +40,7 @@ pub fn report_status(text: &mut Vec<u8>, status: Status) -> Status
     status
 }
 
-/// Tells what became of a policy that was to be put: `{"count":1,"impossible":true,"site":1}`. Takes no memory.
+/// Tells what became of a policy that was to be put: `{"count":1,"impossible":true,"site":"00001"}`. Takes no memory.
 pub fn report_put(text: &mut Vec<u8>, outcome: Result<Put, SiteFault>) -> Status
     requires room { vec_len text.old + LINE_ROOM ≤ vec_capacity text.old }
     ensures status { result ≡ (put_reply outcome).0 }
@@ -56,8 +56,8 @@ pub fn report_put(text: &mut Vec<u8>, outcome: Result<Put, SiteFault>) -> Status
     }
 }
 
-/// Tells what became of an entity that was to be put, or of what was to be taken away: `{"count":2,"site":1}`. Takes no
-/// memory.
+/// Tells what became of an entity that was to be put, or of what was to be taken away: `{"count":2,"site":"00001"}`.
+/// Takes no memory.
 pub fn report_stamp(text: &mut Vec<u8>, outcome: Result<Stamp, SiteFault>) -> Status
     requires room { vec_len text.old + LINE_ROOM ≤ vec_capacity text.old }
     ensures status { result ≡ (stamp_reply outcome).0 }
@@ -129,17 +129,17 @@ pub fn report_answer(
     }
 }
 
-/// Tells a policy's text and stamp, `{"count":1,"site":1,"text":"permit(principal, action, resource);"}`, or that there
-/// is no such policy (60).
-pub fn report_found(alloc: Global, text: &mut Vec<u8>, found: Option<(&str, Stamp)>) -> Status
+/// Tells a policy's text and stamp, `{"count":1,"site":"00001","text":"permit(principal, action, resource);"}`, or that
+/// there is no such policy (60).
+pub fn report_found(alloc: Global, text: &mut Vec<u8>, found: &Option<(&str, Stamp)>) -> Status
     requires room { vec_len text.old + LINE_ROOM ≤ vec_capacity text.old }
     ensures reply { (body : List ℕ) × (text.new.items ≡ text.old.items ++ body)
-        × IsReplyOrNoMemory (found_reply (option_map (λ f. (f.0.now, f.1)) found.entry)) result body }
+        × IsReplyOrNoMemory (found_reply (option_map (λ f. (f.0.now, f.1)) found.now)) result body }
     ensures kept { vec_capacity text.old ≤ vec_capacity text.new }
 {
     match found {
         Some((policy, stamp)) => {
-            let appended = append_found(alloc, text, policy, stamp);
+            let appended = append_found(alloc, text, policy, *stamp);
             told_or_short(text, appended)
         }
         None => report_fault(text, SiteFault::NotThere),

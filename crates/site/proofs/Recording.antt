@@ -27,19 +27,18 @@ use Rattle.site.specs.inner.Recording.{RecordsOr, PutsUnless, IsNext, put_result
 use Rattle.site.specs.inner.Recording.{OrMemory}
 
 -- ---- what is always true of a site, after a call that may have found no memory
-pub site_after : {A B : Type 0} → (schema : StatedSchema) (number : ℕ) (k l t : StoreEntries Policy Entity) (u : Update)
+pub site_after : {A B : Type 0} → (schema : StatedSchema) (name : List ℕ) (k l t : StoreEntries Policy Entity) (u : Update)
     (r : Result A B) → OnOk r (t ≡ l) → OnOk r (abstract_store t ≡ store_of (updates (abstract_store k) ++ u ∷ []))
-    → OnErr r (t ≡ k) → IsSite schema number k → IsHeld schema l
+    → OnErr r (t ≡ k) → IsSite schema name k → IsHeld schema l
     → ((m n : Store) (v : Update) → AreInRange (updates m) → IsStamped (stamped v)
     → n ≡ store_of (updates m ++ v ∷ []) → AreInRange (updates n))
-    → IsStamped (stamped u) → IsSite schema number t
-site_after schema number k l t u (Ok a) e stored f old new stay in_range = record {
+    → IsStamped (stamped u) → IsSite schema name t
+site_after schema name k l t u (Ok a) e stored f old new stay in_range = record {
   held = subst (IsHeld schema) (sym e) new;
   in_range = stay (abstract_store k) (abstract_store t) u old.in_range in_range stored;
-  numbered = old.numbered;
-  small = old.small;
+  named = old.named;
 }
-site_after schema number k l t u (Err b) e stored f old new stay in_range = subst (IsSite schema number) (sym f) old
+site_after schema name k l t u (Err b) e stored f old new stay in_range = subst (IsSite schema name) (sym f) old
 
 pub others_after : {A B : Type 0} → (name : Name) (s t : Store) (r : Result A B) → OnOk r (KeepsOtherNames name s t)
     → OnErr r (t ≡ s) → KeepsOtherNames name s t
@@ -47,7 +46,7 @@ others_after name s t (Ok a) e f = e
 others_after name s t (Err b) e f = λ q apart. ap (λ (m : Store). get m q) f
 
 -- ---- what is recorded
-pub recorded : {E : Type 0} → (n : ℕ) (s : Store) (name : Name) (body : Option (List ℕ)) (stamp : Stamp)
+pub recorded : {E : Type 0} → (n : List ℕ) (s : Store) (name : Name) (body : Option (List ℕ)) (stamp : Stamp)
     (taken : Result ⊤ E) (r : Result Stamp SiteFault) (t : Store) → IsNext n s (Some stamp)
     → OnOk taken (t ≡ store_of (updates s ++ (name, issued stamp body) ∷ [])) → OnErr taken (t ≡ s)
     → MatchResult taken (λ _. r ≡ Ok stamp) (λ _. r ≡ Err fault.NoMemory) → RecordsOr n s name body r t
@@ -55,13 +54,13 @@ recorded n s name body stamp (Ok x) r t next ok err is =
     subst (λ q. RecordsOr n s name body q t) (sym is) (record { clock = next.0; next = next.1; store = ok })
 recorded n s name body stamp (Err x) r t next ok err is = subst (λ q. RecordsOr n s name body q t) (sym is) err
 
-pub clock_full : (n : ℕ) (s : Store) (name : Name) (body : Option (List ℕ)) (r : Result Stamp SiteFault) (t : Store)
+pub clock_full : (n : List ℕ) (s : Store) (name : Name) (body : Option (List ℕ)) (r : Result Stamp SiteFault) (t : Store)
     → IsNext n s None → t ≡ s → r ≡ Err fault.ClockFull → RecordsOr n s name body r t
 clock_full n s name body r t full same is = subst (λ q. RecordsOr n s name body q t) (sym is) (full, same)
 
-pub stands : ((s : Store) (name : Name) (n : ℕ) (body : Option (List ℕ))
+pub stands : ((s : Store) (name : Name) (n : List ℕ) (body : Option (List ℕ))
     → get (store_of (updates s ++ (name, issued (issue s n) body) ∷ [])) name ≡ Some (issued (issue s n) body))
-    → (n : ℕ) (s : Store) (name : Name) (body : Option (List ℕ)) (r : Result Stamp SiteFault) (t : Store)
+    → (n : List ℕ) (s : Store) (name : Name) (body : Option (List ℕ)) (r : Result Stamp SiteFault) (t : Store)
     → RecordsOr n s name body r t → IfOk r (λ stamp. get t name ≡ Some (issued stamp body))
 stands law n s name body (Ok stamp) t h =
     ap (λ (m : Store). get m name) h.store
@@ -70,7 +69,7 @@ stands law n s name body (Ok stamp) t h =
 stands law n s name body (Err f) t h = tt
 
 -- ---- a policy is put
-pub puts_policy : (schema : StatedSchema) (n : ℕ) (s : Store) (id text : List ℕ) (b : ReadText Policy) (impossible : Bool)
+pub puts_policy : (schema : StatedSchema) (n : List ℕ) (s : Store) (id text : List ℕ) (b : ReadText Policy) (impossible : Bool)
     (r : Result Stamp SiteFault) (t : Store) → IsJudged schema id text b impossible
     → RecordsOr n s (policy_name id) (Some b.text) r t → PutsPolicy schema n s id text (put_result impossible r) t
 puts_policy schema n s id text b impossible (Ok stamp) t j h = (
@@ -95,7 +94,7 @@ none_clock_full schema id text _ (bad_id named) e = absurd (cc)
 none_clock_full schema id text _ (no_policy f named h) e = absurd (cc)
 none_clock_full schema id text _ (not_passing p f named is h) e = absurd (cc)
 
-pub refuses_policy : (schema : StatedSchema) (n : ℕ) (s : Store) (id text : List ℕ) (f : SiteFault)
+pub refuses_policy : (schema : StatedSchema) (n : List ℕ) (s : Store) (id text : List ℕ) (f : SiteFault)
     → OrMemory (IsNotAdmitted schema id text) f → PutsPolicy schema n s id text (Err f) s
 refuses_policy schema n s id text fault.NoMemory h = refl
 refuses_policy schema n s id text (fault.Policy f) h = (h (λ e. cc), refl)
@@ -116,7 +115,7 @@ put_stands s name x y impossible (Ok stamp) e h = h ∙ ap (λ (z : List ℕ). S
 put_stands s name x y impossible (Err f) e h = tt
 
 -- ---- an entity is put
-puts_apart : (schema : StatedSchema) (n : ℕ) (s : Store) (json : Option Data) (b : ReadText Entity)
+puts_apart : (schema : StatedSchema) (n : List ℕ) (s : Store) (json : Option Data) (b : ReadText Entity)
     (r : Result Stamp SiteFault) (t : Store) → IsStatedBy schema json b
     → MakesNoCycle (IsEntityUnder schema) schema s b.read → RecordsOr n s (entity_name b.read.uid) (Some b.text) r t
     → PutsEntity schema n s json r t
@@ -136,7 +135,7 @@ puts_apart schema n s json b (Err fault.WouldCycle) t i apart h = absurd h
 puts_apart schema n s json b (Err fault.ClockFull) t i apart h = ((b.read, i.states, apart), h)
 puts_apart schema n s json b (Err (fault.Request f)) t i apart h = absurd h
 
-pub puts_entity : {E : Type 0} → (schema : StatedSchema) (n : ℕ) (s : Store) (json : Option Data) (b : ReadText Entity)
+pub puts_entity : {E : Type 0} → (schema : StatedSchema) (n : List ℕ) (s : Store) (json : Option Data) (b : ReadText Entity)
     (cycle : Result Bool E) (uid : EntityUid) (r : Result Stamp SiteFault) (t : Store) → IsStatedBy schema json b
     → uid ≡ b.read.uid → IfOk cycle (λ yes. yes ≡ true → MakesCycle (IsEntityUnder schema) schema s b.read)
     → IfOk cycle (λ yes. yes ≡ false → MakesNoCycle (IsEntityUnder schema) schema s b.read)
@@ -150,9 +149,9 @@ puts_entity schema n s json b (Err e) uid r t i named makes apart h =
     subst (λ q. PutsEntity schema n s json q t) (sym h.0) h.1
 
 -- what was put stands, whether or not it might have been on a cycle
-pub put_or_not : {E : Type 0} → ((s : Store) (name : Name) (n : ℕ) (body : Option (List ℕ))
+pub put_or_not : {E : Type 0} → ((s : Store) (name : Name) (n : List ℕ) (body : Option (List ℕ))
     → get (store_of (updates s ++ (name, issued (issue s n) body) ∷ [])) name ≡ Some (issued (issue s n) body))
-    → (n : ℕ) (s : Store) (cycle : Result Bool E) (uid : EntityUid) (text : List ℕ) (r : Result Stamp SiteFault)
+    → (n : List ℕ) (s : Store) (cycle : Result Bool E) (uid : EntityUid) (text : List ℕ) (r : Result Stamp SiteFault)
     (t : Store) → PutsUnless n s cycle uid text r t
     → IfOk r (λ stamp. get t (entity_name uid) ≡ Some (issued stamp (Some text)))
 put_or_not law n s (Ok true) uid text r t h =
@@ -161,7 +160,7 @@ put_or_not law n s (Ok false) uid text r t h = stands law n s (entity_name uid) 
 put_or_not law n s (Err e) uid text r t h =
     subst (λ q. IfOk q (λ stamp. get t (entity_name uid) ≡ Some (issued stamp (Some text)))) (sym h.0) tt
 
-pub refuses_entity : (schema : StatedSchema) (n : ℕ) (s : Store) (json : Option Data) (f : SiteFault)
+pub refuses_entity : (schema : StatedSchema) (n : List ℕ) (s : Store) (json : Option Data) (f : SiteFault)
     → OrMemory (StatesNone schema json) f → PutsEntity schema n s json (Err f) s
 refuses_entity schema n s json fault.NoMemory h = refl
 refuses_entity schema n s json (fault.Policy f) h = absurd (h (λ e. cc))
@@ -195,7 +194,7 @@ none_of : {A : Type 0} (o : Option A) (b : Bool) → b ≡ is_some o → b ≡ f
 none_of None b e h = refl
 none_of (Some x) b e h = absurd (cc)
 
-pub deletes : (n : ℕ) (s : Store) (name : Name) (b : Bool) (r : Result Stamp SiteFault) (t : Store)
+pub deletes : (n : List ℕ) (s : Store) (name : Name) (b : Bool) (r : Result Stamp SiteFault) (t : Store)
     → b ≡ is_some (text_under s name) → b ≡ true → RecordsOr n s name None r t → Deletes n s name r t
 deletes n s name b (Ok stamp) t e is h = (some_of (text_under s name) b e is, h)
 deletes n s name b (Err fault.NoMemory) t e is h = h

@@ -16,9 +16,10 @@ use Rattle.values.specs.declared.name.Name.{Name}
 use Rattle.values.specs.Names.{name_cmp, name_cmp-IsTotalOrder}
 use Rattle.stamped_store.specs.Contents.{text_under}
 use Rattle.stamped_store.specs.Deltas.{Summary, delta, is_news, stamp_of, summary_of}
-use Rattle.stamped_store.specs.EntryOrder.{PlainEntry}
-use Rattle.stamped_store.specs.Greatest.{IsGreatestAt, IsStoreOf, greatest_count}
-use Rattle.stamped_store.specs.Store.{Store, Update, updates, store_of, issue}
+use Rattle.stamped_store.specs.EntryOrder.{PlainEntry, entry_cmp}
+use Rattle.stamped_store.specs.Greatest.{IsGreatestAt, greatest_count}
+use Rattle.stamped_store.specs.SiteNames.{IsSiteName}
+use Rattle.stamped_store.specs.Store.{Store, Update, IsStoreOf, updates, store_of, issue}
 use Rattle.stamped_store.specs.Stored.{value_at}
 use Rattle.sync_messages.specs.Summaries.{AreStamped, IsName, IsStamped}
 use Rattle.state_messages.specs.Updates.{AreInRange, stamped}
@@ -82,7 +83,7 @@ module _ (greatest : (us : List Update) → IsStoreOf us (store_of us)) where
   store_in_range : (us : List Update) → AreInRange us → AreInRange (updates (store_of us))
   store_in_range us h = all_of InRange (updates (store_of us)) (λ u m.
       one_of InRange us h u
-      (subst (λ (a : Option PlainEntry). IsGreatestAt us u.0 a) (found_update (store_of us) u m) (greatest us u.0)).0)
+      (subst (λ (a : Option PlainEntry). IsGreatestAt entry_cmp us u.0 a) (found_update (store_of us) u m) (greatest us u.0)).0)
 
   pub empty_in_range : AreInRange (updates (store_of []))
   empty_in_range = store_in_range [] tt
@@ -94,7 +95,7 @@ module _ (greatest : (us : List Update) → IsStoreOf us (store_of us)) where
 
   module _ (own : (s : Store) → store_of (updates s) ≡ s) where
     pub update_of : (s : Store) (q : Name) (e : PlainEntry) → get s q ≡ Some e → Contains (updates s) (q, e)
-    update_of s q e is = (subst (λ (a : Option PlainEntry). IsGreatestAt (updates s) q a)
+    update_of s q e is = (subst (λ (a : Option PlainEntry). IsGreatestAt entry_cmp (updates s) q a)
         (ap (λ (m : Store). get m q) (own s) ∙ is) (greatest (updates s) q)).0
 
     pub news_in_range : ((t : Store) (m : Summary) (q : Name) (e : PlainEntry) → (get (delta t m) q ≡ Some e)
@@ -129,7 +130,7 @@ counts_in_range reached s h = elim (reached s) [
   | inr found ↦ subst (λ (n : ℕ). n ≤ most_count) found.2 (one_of InRange (updates s) h found.0 found.1).bounded
 ]
 
-pub issued_in_range : (s : Store) (n : ℕ) (q : Name) → IsName q → greatest_count s < most_count → 1 ≤ n → n ≤ 65535
+pub issued_in_range : (s : Store) (n : List ℕ) (q : Name) → IsName q → greatest_count s < most_count → IsSiteName n
     → IsStamped (q, issue s n)
-issued_in_range s n q named clock numbered small =
-    record { name = named; counted = omega arith; bounded = omega arith; numbered = numbered; small = small }
+issued_in_range s n q named clock site =
+    record { name = named; counted = omega arith; bounded = omega arith; site = site }

@@ -54,9 +54,9 @@ module _ (schema : StatedSchema) where
   both_valid [] vs h k = k
   both_valid (u ∷ us) vs h k = (h.0, both_valid us vs h.1 k)
 
-  pub may_be_held : (number : ℕ) (k : StoreEntries Policy Entity) → IsSite schema number k
+  pub may_be_held : (name : List ℕ) (k : StoreEntries Policy Entity) → IsSite schema name k
       → updates (abstract_store k) ≡ abstract_updates k → MayBeHeld schema (abstract_store k)
-  may_be_held number k h in_order = record {
+  may_be_held name k h in_order = record {
     in_range = h.in_range;
     valid = subst (λ (us : List Update). AreValid (IsPolicyUnder schema) (IsEntityUnder schema) us) (sym in_order)
         (both_valid (abstract_entries id_name k.policies) (abstract_entries entity_name k.entities)

@@ -1,19 +1,20 @@
--- What contracts see of a site: its schema, its number, and what it keeps.
+-- What contracts see of a site: its schema, its name, and what it keeps.
 -- A rule of this product: a store of stamped texts is all that a site keeps, each text beside what it was read as.
-use Rattle.std.specs.Prelude.{◌≡◌, ◌≤◌, ℕ}
+use Rattle.std.specs.Prelude.{◌≡◌, ℕ, List}
 use Rattle.policy_grammar.specs.declared.policy.Policy.{Policy}
 use Rattle.schema.specs.SchemaEntries as kept_schema
 use Rattle.schema.specs.Schemas.{StatedSchema}
 use Rattle.schema.specs.Views.{schema_view}
 use Rattle.entity_worlds.specs.declared.entity.Entity.{Entity}
 use Rattle.stamped_store.specs.Reading.{AreEntriesRead}
+use Rattle.stamped_store.specs.SiteNames.{IsSiteName}
 use Rattle.stamped_store.specs.Store.{Store, StoreEntries, abstract_store, updates}
 use Rattle.state_messages.specs.Updates.{AreInRange, AreValid}
 use Rattle.site.specs.Admitted.{IsPolicyUnder, IsEntityUnder}
 
 pub record Seen : Type 0 where
   pub schema : kept_schema.SchemaEntries
-  pub number : ℕ
+  pub name : List ℕ
   pub kept : StoreEntries Policy Entity
 
 -- the schema, as what it states
@@ -24,21 +25,20 @@ schema_of a = schema_view a.schema
 abbrev pub store_in : Seen → Store
 store_in a = abstract_store a.kept
 
--- schema and number stay
+-- schema and name stay
 abbrev pub IsSameSite : Seen → Seen → Type 0
-IsSameSite a b = (b.schema ≡ a.schema) × (b.number ≡ a.number)
+IsSameSite a b = (b.schema ≡ a.schema) × (b.name ≡ a.name)
 
 -- each text that is kept is read as what stands beside it, under the site's schema
 abbrev pub IsHeld : StatedSchema → StoreEntries Policy Entity → Type 0
 IsHeld schema k = AreEntriesRead (IsPolicyUnder schema) (IsEntityUnder schema) k
 
 -- what is always true of a site: so are its texts read; each name and stamp that it keeps is one that messages may
--- have, and its number is one of a stamp
-pub record IsSite (schema : StatedSchema) (number : ℕ) (k : StoreEntries Policy Entity) : Type 0 where
+-- have, and its name is that of a site
+pub record IsSite (schema : StatedSchema) (name : List ℕ) (k : StoreEntries Policy Entity) : Type 0 where
   pub held : IsHeld schema k
   pub in_range : AreInRange (updates (abstract_store k))
-  pub numbered : 1 ≤ number
-  pub small : number ≤ 65535
+  pub named : IsSiteName name
 
 -- what follows of the plain store: names and stamps are in their ranges, and each text may be read under its name
 pub record MayBeHeld (schema : StatedSchema) (s : Store) : Type 0 where

@@ -29,7 +29,7 @@ use Rattle.site.specs.declared.outcome.Taken.TheVariants.{All, Short}
 use Rattle.site.specs.Admitted.{IsPolicyUnder, IsEntityUnder, IsAdmitted, IsNotAdmitted, entity_stated}
 use Rattle.site.specs.Admitted.{IsRequestOf, IsNoRequest}
 
--- ---- local commands, at the site with number n
+-- ---- local commands, at the site with name n
 
 -- the greatest count that a stamp may have
 abbrev pub most_count : ℕ
@@ -37,17 +37,18 @@ most_count = 1_000_000_000_000_000_000
 
 -- A name gets this body with the next stamp: the store is that of its updates and this one. That the body may be put is
 -- stated where this is used.
-pub record Records (n : ℕ) (s : Store) (name : Name) (body : Option (List ℕ)) (stamp : Stamp) (t : Store) : Type 0 where
-  pub clock : greatest_count s < most_count
-  pub next : stamp ≡ issue s n
-  pub store : t ≡ store_of (updates s ++ (name, issued stamp body) ∷ [])
+pub record Records (n : List ℕ) (s : Store) (name : Name) (body : Option (List ℕ)) (stamp : Stamp) (t : Store) : Type 0
+  where
+    pub clock : greatest_count s < most_count
+    pub next : stamp ≡ issue s n
+    pub store : t ≡ store_of (updates s ++ (name, issued stamp body) ∷ [])
 
 -- no stamp is left, and nothing changes
 abbrev pub IsClockFull : Store → Store → Type 0
 IsClockFull s t = (greatest_count s ≡ most_count) × (t ≡ s)
 
 -- a policy is put
-abbrev pub PutsPolicy : StatedSchema → ℕ → Store → List ℕ → List ℕ → Result Put SiteFault → Store → Type 0
+abbrev pub PutsPolicy : StatedSchema → List ℕ → Store → List ℕ → List ℕ → Result Put SiteFault → Store → Type 0
 PutsPolicy schema n s id text (Ok put) t =
     (p : Policy) × IsAdmitted schema id text p × (IsTrue put.impossible ↔ IsImpossible schema p)
     × Records n s (policy_name id) (Some text) put.stamp t
@@ -57,7 +58,7 @@ PutsPolicy schema n s id text (Err fault.ClockFull) t =
 PutsPolicy schema n s id text (Err f) t = IsNotAdmitted schema id text f × (t ≡ s)
 
 -- an entity is put, as its canonical text; whether it would be on a cycle is asked before the clock
-abbrev pub PutsEntity : StatedSchema → ℕ → Store → Option Data → Result Stamp SiteFault → Store → Type 0
+abbrev pub PutsEntity : StatedSchema → List ℕ → Store → Option Data → Result Stamp SiteFault → Store → Type 0
 PutsEntity schema n s json (Ok stamp) t =
     (e : Entity) × (entity_stated schema json ≡ Ok e) × MakesNoCycle (IsEntityUnder schema) schema s e
     × Records n s (entity_name e.uid) (Some (canonical_text e)) stamp t
@@ -71,7 +72,7 @@ PutsEntity schema n s json (Err fault.ClockFull) t =
 PutsEntity schema n s json (Err _) t = ⊥
 
 -- a name that has a text gets a tombstone
-abbrev pub Deletes : ℕ → Store → Name → Result Stamp SiteFault → Store → Type 0
+abbrev pub Deletes : List ℕ → Store → Name → Result Stamp SiteFault → Store → Type 0
 Deletes n s name (Ok stamp) t = IsSome (text_under s name) × Records n s name None stamp t
 Deletes n s name (Err fault.NoMemory) t = t ≡ s
 Deletes n s name (Err fault.NotThere) t = (text_under s name ≡ None) × (t ≡ s)

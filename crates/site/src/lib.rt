@@ -15,5 +15,6 @@ pub use fault::SiteFault;
 pub use outcome::{Put, Taken};
 pub use schema::{Schema, read_schema};
 pub use site::Site;
+pub use stamped_store::is_site_name;
 pub use stored_texts::{SchemaTexts, stored_texts_have_one_reading};
 pub use stored_world::{requests_have_one_answer, stores_have_one_reading};

@@ -1,9 +1,10 @@
 //! That the names and the stamps of what a site keeps are those that messages may have.
-ghost use Rattle.std.specs.Prelude.{◌≡◌, ◌≤◌, ◌<◌, ◌++◌, ◌∷◌, [], ℕ, IsSome};
+ghost use Rattle.std.specs.Prelude.{◌≡◌, ◌≤◌, ◌<◌, ◌++◌, ◌∷◌, [], ℕ, List, IsSome};
 ghost use Rattle.values.specs.declared.name.Name.{Name};
 ghost use Rattle.stamped_store.specs.Contents.{text_under};
 ghost use Rattle.stamped_store.specs.Deltas.{Summary, delta, summary_of};
 ghost use Rattle.stamped_store.specs.Greatest.{greatest_count};
+ghost use Rattle.stamped_store.specs.SiteNames.{IsSiteName};
 ghost use Rattle.stamped_store.specs.Store.{Store, Update, updates, store_of, issue};
 ghost use Rattle.sync_messages.specs.Summaries.{AreStamped, IsName, IsStamped};
 ghost use Rattle.state_messages.specs.Updates.{AreInRange, stamped};
@@ -22,7 +23,7 @@ pub(crate) fn ranges_stay()
     ensures summary { (s : Store) → AreInRange (updates s) → AreStamped (summary_of s) }
     ensures counted { (s : Store) → AreInRange (updates s) → greatest_count s ≤ COUNT_MAX }
     ensures named { (s : Store) (q : Name) → AreInRange (updates s) → IsSome (text_under s q) → IsName q }
-    ensures issued { (s : Store) (n : ℕ) (q : Name) → IsName q → greatest_count s < COUNT_MAX → 1 ≤ n → n ≤ 65535
+    ensures issued { (s : Store) (n : List ℕ) (q : Name) → IsName q → greatest_count s < COUNT_MAX → IsSiteName n
         → IsStamped (q, issue s n) }
 {
     updates_have_one_store();

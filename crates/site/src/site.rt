@@ -1,5 +1,5 @@
 //! A site and its calls.
-ghost use Rattle.std.specs.Prelude.{◌≡◌, ◌≢◌, ◌≤◌, ◌++◌, ◌∷◌, [], IfOk, IsTrue, is_some, true, false};
+ghost use Rattle.std.specs.Prelude.{◌≡◌, ◌≤◌, ◌++◌, ◌∷◌, [], IfOk, IsTrue, is_some, true, false};
 ghost use Rattle.std.specs.Prelude.{option_map, option_and_then, Some, None, Ok, Err, MatchResult, string_bytes};
 ghost use Rattle.std.specs.Option.{option_copied};
 ghost use Rattle.std.specs.FinMap.{get};
@@ -13,6 +13,7 @@ ghost use Rattle.stamped_store.specs.Deltas.{delta, summary_of};
 ghost use Rattle.stamped_store.specs.EntryOrder.{body_bytes, plain_entry};
 ghost use Rattle.stamped_store.specs.Greatest.{greatest_count};
 ghost use Rattle.stamped_store.specs.Reading.{IsBodyRead, IsEntryRead};
+ghost use Rattle.stamped_store.specs.SiteNames.{IsSiteName};
 ghost use Rattle.stamped_store.specs.Store.{store_of, updates, abstract_store};
 ghost use Rattle.stamped_store.specs.Store.{policy_name, entity_name, issued, KeepsOtherNames};
 ghost use Rattle.stored_world.specs.Said.{MakesCycle, MakesNoCycle};
@@ -31,26 +32,26 @@ use crate::ranges::ranges_stay;
 use crate::under_schema::{answer_under, readings_stay, would_cycle};
 use authoriser::Answer;
 use entities::Entity;
-use plain::NoMemory;
+use plain::{NoMemory, Shared};
 use policy_grammar::Policy;
 use schema::Schema;
 use serde_json::Value;
 use stamped_store::laws::{stamps_are_issued, updates_have_one_store};
-use stamped_store::{COUNT_MAX, Entry, PolicyStore, ReadText, Stamp};
+use stamped_store::{COUNT_MAX, Entry, PolicyStore, ReadText, SiteName, Stamp};
 use state_messages::{Update, write_delta, write_state};
 use std::alloc::Global;
 use std::marker::Model;
 use sync_messages::{Summary, write_summary};
 use values::EntityUid;
 
-/// A site: a schema, a number, and a store of stamped texts, each kept with what it was read as under the schema.
+/// A site: a schema, a name, and a store of stamped texts, each kept with what it was read as under the schema.
 ///
 /// Contracts see these three, and speak of the plain store: at each name at most one stamped body.
 #[derive(Drop)]
 pub struct Site {
     alloc: Global,
-    schema: Schema,
-    number: u16,
+    schema: Shared<Schema>,
+    name: SiteName,
     store: PolicyStore<Policy, Entity>,
 }
 
@@ -66,9 +67,9 @@ impl Model for Site {
 
     ghost coded = { Prim.hlevel (codes, cedar.the_row.coded, value_code, expr.the_row.coded) };
 
-    ghost view = { λ a. record { schema = a.schema; number = a.number; kept = a.store } };
+    ghost view = { λ a. record { schema = a.schema; name = a.name; kept = a.store } };
 
-    ghost invariant = { λ a. IsSite (schema_view a.schema) a.number a.store };
+    ghost invariant = { λ a. IsSite (schema_view a.schema) a.name a.store };
 }
 
 /// The outcome of a put: its stamp, and whether the policy is impossible.
@@ -82,11 +83,11 @@ fn put_of(stamped: Result<Stamp, SiteFault>, impossible: bool) -> Result<Put, Si
 }
 
 /// The outcome of storing an entry: its stamp, or want of memory.
-fn stamped<T: Drop>(taken: Result<(), T>, stamp: Stamp) -> Result<Stamp, SiteFault>
-    ensures { MatchResult taken (λ _. result ≡ Ok stamp) (λ _. result ≡ Err SiteFault.NoMemory) }
+fn stamped<T: Drop>(taken: Result<(), T>, stamp: &Stamp) -> Result<Stamp, SiteFault>
+    ensures { MatchResult taken (λ _. result ≡ Ok stamp.now) (λ _. result ≡ Err SiteFault.NoMemory) }
 {
     match taken {
-        Ok(()) => Ok(stamp),
+        Ok(()) => Ok(*stamp),
         Err(_) => Err(SiteFault::NoMemory),
     }
 }
@@ -119,22 +120,25 @@ fn refused<T: Drop>(_dropped: T, fault: SiteFault) -> Result<Stamp, SiteFault>
 }
 
 /// The stamp of the next local command at a site; None where no stamp is left.
-fn next_stamp(store: &PolicyStore<Policy, Entity>, number: u16) -> Option<Stamp>
+fn next_stamp(store: &PolicyStore<Policy, Entity>, name: SiteName) -> Option<Stamp>
     requires { greatest_count (abstract_store store.now) ≤ COUNT_MAX }
-    ensures { IsNext number (abstract_store store.now) result }
+    ensures { IsNext name (abstract_store store.now) result }
 {
     if store.greatest_count() >= COUNT_MAX {
         return None;
     }
-    Some(store.issue(number))
+    Some(store.issue(name))
 }
 
 impl Site {
-    /// A site with nothing stored, under a schema. Its number goes into its stamps, and is not 0. Takes no memory.
-    pub fn new(alloc: Global, schema: Schema, number: u16) -> Self
-        requires { number ≢ 0 }
+    /// A site with nothing stored, under a schema, which many sites may share. Its name goes into its stamps;
+    /// [`is_site_name`] tells whether a text is one. Takes no memory.
+    ///
+    /// [`is_site_name`]: stamped_store::is_site_name
+    pub fn new(alloc: Global, schema: Shared<Schema>, name: &str) -> Self
+        requires { IsSiteName name.now }
         ensures schema { result.schema ≡ schema }
-        ensures number { result.number ≡ number }
+        ensures name { result.name ≡ name.now }
         ensures empty { store_in result ≡ store_of [] }
     {
         readings_stay();
@@ -142,7 +146,7 @@ impl Site {
         Site {
             alloc,
             schema,
-            number,
+            name: SiteName::new(name),
             store: PolicyStore::new(alloc),
         }
     }
@@ -151,7 +155,7 @@ impl Site {
     pub fn schema(&self) -> &Schema
         ensures { result.now ≡ self.now.schema }
     {
-        &self.schema
+        self.schema.get()
     }
 
     /// Whoever holds a site knows by this that bytes state its schema, that each name and stamp of its store is one
@@ -161,7 +165,7 @@ impl Site {
         ensures held { MayBeHeld (schema_of self.now) (store_in self.now) }
         ensures most { most_count ≡ COUNT_MAX }
     {
-        self.schema.is_stated();
+        self.schema.get().is_stated();
         let _ = self.store.policies();
     }
 
@@ -188,7 +192,7 @@ impl Site {
         ensures reads_back { IfOk result
             (λ b. updates_stated (schema_of self.now).label b.items ≡ Ok (updates (store_in self.now))) }
     {
-        write_state(self.alloc, self.schema.label(), &self.store)
+        write_state(self.alloc, self.schema.get().label(), &self.store)
     }
 
     /// The names of the store with their stamps, as a message to other sites of the schema, who tell by it what is news
@@ -200,7 +204,7 @@ impl Site {
             (λ b. summary_stated (schema_of self.now).label b.items ≡ Ok (summary_of (store_in self.now))) }
     {
         ranges_stay();
-        write_summary(self.alloc, self.schema.label(), &self.store)
+        write_summary(self.alloc, self.schema.get().label(), &self.store)
     }
 
     /// The part of the store that is news to whoever has this summary, as a message, which is read back as that part.
@@ -212,7 +216,7 @@ impl Site {
             ≡ Ok (updates (delta (store_in self.now) since.now))) }
     {
         ranges_stay();
-        write_delta(self.alloc, self.schema.label(), &self.store, since)
+        write_delta(self.alloc, self.schema.get().label(), &self.store, since)
     }
 
     /// The answer to the request that JSON states, over what is stored: the policies and entities that the texts of the
@@ -223,8 +227,9 @@ impl Site {
     pub fn authorize(&self, json: &Value) -> Result<Answer, SiteFault>
         ensures { Answers (schema_of self.now) (store_in self.now) (Some (view json.now)) result }
     {
-        let request = stated_request(self.alloc, &self.schema, json)?;
-        Ok(answer_under(self.alloc, &self.schema, &self.store, &request)?)
+        let schema = self.schema.get();
+        let request = stated_request(self.alloc, schema, json)?;
+        Ok(answer_under(self.alloc, schema, &self.store, &request)?)
     }
 
     // ---- commands
@@ -237,18 +242,18 @@ impl Site {
     ) -> Result<Stamp, SiteFault>
         requires named { IsName (policy_name (string_bytes id)) }
         requires read { IsBodyRead (IsPolicyUnder (schema_of self.old) (string_bytes id)) body }
-        ensures records { RecordsOr self.old.number (store_in self.old) (policy_name (string_bytes id))
+        ensures records { RecordsOr self.old.name (store_in self.old) (policy_name (string_bytes id))
             (body_bytes body) result (store_in self.new) }
         ensures others { KeepsOtherNames (policy_name (string_bytes id)) (store_in self.old) (store_in self.new) }
         ensures same { IsSameSite self.old self.new }
     {
         readings_stay();
         ranges_stay();
-        match next_stamp(&self.store, self.number) {
+        match next_stamp(&self.store, self.name) {
             Some(stamp) => {
                 let entry = Entry { stamp, body };
                 let taken = self.store.take_policy(id, entry);
-                stamped(taken, stamp)
+                stamped(taken, &stamp)
             }
             None => refused((id, body), SiteFault::ClockFull),
         }
@@ -262,18 +267,18 @@ impl Site {
     ) -> Result<Stamp, SiteFault>
         requires named { IsName (entity_name uid) }
         requires read { IsBodyRead (IsEntityUnder (schema_of self.old) uid) body }
-        ensures records { RecordsOr self.old.number (store_in self.old) (entity_name uid) (body_bytes body) result
+        ensures records { RecordsOr self.old.name (store_in self.old) (entity_name uid) (body_bytes body) result
             (store_in self.new) }
         ensures others { KeepsOtherNames (entity_name uid) (store_in self.old) (store_in self.new) }
         ensures same { IsSameSite self.old self.new }
     {
         readings_stay();
         ranges_stay();
-        match next_stamp(&self.store, self.number) {
+        match next_stamp(&self.store, self.name) {
             Some(stamp) => {
                 let entry = Entry { stamp, body };
                 let taken = self.store.take_entity(uid, entry);
-                stamped(taken, stamp)
+                stamped(taken, &stamp)
             }
             None => refused((uid, body), SiteFault::ClockFull),
         }
@@ -286,7 +291,7 @@ impl Site {
     /// not pass under the schema (40 to 46); no stamp is left (62). What is refused changes nothing, nor does want of
     /// memory.
     pub fn put_policy(&mut self, id: &str, text: &str) -> Result<Put, SiteFault>
-        ensures puts { PutsPolicy (schema_of self.old) self.old.number (store_in self.old) id.now text.now result
+        ensures puts { PutsPolicy (schema_of self.old) self.old.name (store_in self.old) id.now text.now result
             (store_in self.new) }
         ensures stands { IfOk result
             (λ put. get (store_in self.new) (policy_name id.now) ≡ Some (issued put.stamp (Some text.now))) }
@@ -294,7 +299,7 @@ impl Site {
         ensures same { IsSameSite self.old self.new }
     {
         stamps_are_issued();
-        match judged_policy(self.alloc, &self.schema, id, text) {
+        match judged_policy(self.alloc, self.schema.get(), id, text) {
             Ok(judged) => {
                 let CheckedPolicy {
                     id,
@@ -325,7 +330,7 @@ impl Site {
     /// Stamps and stores that a policy is taken away.
     fn remove_policy(&mut self, id: &str) -> Result<Stamp, SiteFault>
         requires { IsName (policy_name id.now) }
-        ensures records { RecordsOr self.old.number (store_in self.old) (policy_name id.now) None result
+        ensures records { RecordsOr self.old.name (store_in self.old) (policy_name id.now) None result
             (store_in self.new) }
         ensures others { KeepsOtherNames (policy_name id.now) (store_in self.old) (store_in self.new) }
         ensures same { IsSameSite self.old self.new }
@@ -339,7 +344,7 @@ impl Site {
     /// Refused where the id has no text (60), then where no stamp is left (62). What is refused changes nothing, nor
     /// does want of memory.
     pub fn delete_policy(&mut self, id: &str) -> Result<Stamp, SiteFault>
-        ensures deletes { Deletes self.old.number (store_in self.old) (policy_name id.now) result (store_in self.new) }
+        ensures deletes { Deletes self.old.name (store_in self.old) (policy_name id.now) result (store_in self.new) }
         ensures stands { IfOk result
             (λ stamp. get (store_in self.new) (policy_name id.now) ≡ Some (issued stamp None)) }
         ensures others { KeepsOtherNames (policy_name id.now) (store_in self.old) (store_in self.new) }
@@ -357,7 +362,7 @@ impl Site {
     /// Stamps and stores that an entity is taken away.
     fn remove_entity(&mut self, uid: &EntityUid) -> Result<Stamp, SiteFault>
         requires { IsName (entity_name uid.now) }
-        ensures records { RecordsOr self.old.number (store_in self.old) (entity_name uid.now) None result
+        ensures records { RecordsOr self.old.name (store_in self.old) (entity_name uid.now) None result
             (store_in self.new) }
         ensures others { KeepsOtherNames (entity_name uid.now) (store_in self.old) (store_in self.new) }
         ensures same { IsSameSite self.old self.new }
@@ -371,7 +376,7 @@ impl Site {
     /// Refused where the uid has no text (60), then where no stamp is left (62). What is refused changes nothing, nor
     /// does want of memory.
     pub fn delete_entity(&mut self, uid: &EntityUid) -> Result<Stamp, SiteFault>
-        ensures deletes { Deletes self.old.number (store_in self.old) (entity_name uid.now) result (store_in self.new) }
+        ensures deletes { Deletes self.old.name (store_in self.old) (entity_name uid.now) result (store_in self.new) }
         ensures stands { IfOk result
             (λ stamp. get (store_in self.new) (entity_name uid.now) ≡ Some (issued stamp None)) }
         ensures others { KeepsOtherNames (entity_name uid.now) (store_in self.old) (store_in self.new) }
@@ -393,7 +398,7 @@ impl Site {
         ensures no { IfOk result (λ yes. yes ≡ false → MakesNoCycle (IsEntityUnder (schema_of self.now))
             (schema_of self.now) (store_in self.now) entity.now) }
     {
-        would_cycle(self.alloc, &self.schema, &self.store, entity)
+        would_cycle(self.alloc, self.schema.get(), &self.store, entity)
     }
 
     /// Puts an entity that was read, unless it would be on a cycle.
@@ -405,7 +410,7 @@ impl Site {
     ) -> Result<Stamp, SiteFault>
         requires named { IsName (entity_name uid) }
         requires read { IsEntityUnder (schema_of self.old) uid body.text body.read }
-        ensures puts { PutsUnless self.old.number (store_in self.old) cycle uid body.text result (store_in self.new) }
+        ensures puts { PutsUnless self.old.name (store_in self.old) cycle uid body.text result (store_in self.new) }
         ensures others { KeepsOtherNames (entity_name uid) (store_in self.old) (store_in self.new) }
         ensures same { IsSameSite self.old self.new }
     {
@@ -422,7 +427,7 @@ impl Site {
     /// once it is put (61), whatever cycles of others there are; no stamp is left (62). What is refused changes
     /// nothing, nor does want of memory. Asking for a cycle is linear in what is above the entity.
     pub fn put_entity(&mut self, json: &Value) -> Result<Stamp, SiteFault>
-        ensures puts { PutsEntity (schema_of self.old) self.old.number (store_in self.old) (Some (view json.now)) result
+        ensures puts { PutsEntity (schema_of self.old) self.old.name (store_in self.old) (Some (view json.now)) result
             (store_in self.new) }
         ensures stands { IfOk result (λ stamp. (e : Entity)
             × (entity_stated (schema_of self.old) (Some (view json.now)) ≡ Ok e)
@@ -431,7 +436,7 @@ impl Site {
         ensures same { IsSameSite self.old self.new }
     {
         stamps_are_issued();
-        match stated_entity(self.alloc, &self.schema, json) {
+        match stated_entity(self.alloc, self.schema.get(), json) {
             Ok(stated) => {
                 let (uid, body) = stated;
                 let cycle = self.makes_cycle(&body.read);

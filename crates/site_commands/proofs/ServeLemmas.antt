@@ -1,7 +1,6 @@
 -- Connections that are served one after another, and what a site begins with.
 use Rattle.std.proofs.Common.{◌≡◌, ◌∙◌, inr, ℕ, ◌+◌, ◌<◌, ◌≤◌, Bool, List, [], ◌∷◌, ◌++◌, map, length, Option, None, Some, Result, Ok, Err, IfOk, IfErr}
 use Rattle.std.proofs.Common.{refl, sym, ap, subst, arith}
-use Rattle.clap.specs.Words.{Row, Text}
 use Rattle.decision_texts.specs.declared.refusal.Refusal.{Refusal}
 use Rattle.decision_texts.specs.Refusals.{no_memory}
 use Rattle.schema.specs.Schemas.{StatedSchema, IsSchemaOf}
@@ -15,16 +14,11 @@ use Rattle.http_service.specs.passed_on.site_runs.{Seen, schema_of, store_in}
 use Rattle.http_service.specs.passed_on.site_runs.{SiteFault}
 use Rattle.http_service.specs.passed_on.site_runs.{NoMemory, Policy, Check as Unfit, Entity, Message, NotThere, WouldCycle, ClockFull, Request}
 use Rattle.http_service.specs.passed_on.site_runs.{IsMessageOf, IsNoMessageOf}
-use Rattle.command_lines.specs.declared.line.Line.{Line}
-use Rattle.command_lines.specs.declared.line.Line.TheVariants.{Check, Decide, Serve, Pull, Merge}
-use Rattle.command_lines.specs.Apps.{site_app}
-use Rattle.command_lines.specs.Lines.{IsNamed, Says}
-use Rattle.clap.specs.Words.{subcommand_of}
 use Rattle.site_commands.specs.Events.{Event, accepted, Does, Runs}
 use Rattle.site_commands.specs.Beginning.{BeginsWith, IsBegun, IsNotBegun, IsStateRefused, site_refusal}
 use Rattle.site_commands.specs.Serving.{IsServed, AreChained, AreServed}
 use Rattle.site_commands.specs.inner.Begun.{IsBegunUnder, TakesState}
-use Rattle.site_commands.specs.inner.Served.{HasSite, IsServedNext}
+use Rattle.site_commands.specs.inner.Served.{IsServedNext}
 
 -- ---- connections
 
@@ -105,11 +99,11 @@ refused_as_told s bytes fault r is none other =
 none_of_empty : updates (store_of []) ≡ []
 none_of_empty = none_long (updates (store_of [])) (sym (len-entries (store_of [])) ∙ len-empty name_cmp PlainEntry)
 
-begun_by : (s : StatedSchema) (number : ℕ) (bytes : List ℕ) (before after : Seen) → schema_of before ≡ s → before.number ≡ number
-    → store_in before ≡ store_of [] → TakesState before bytes after → IsBegunUnder s number (Some bytes) after
-begun_by s number bytes before after schema_is number_is store_is takes = record {
+begun_by : (s : StatedSchema) (name : List ℕ) (bytes : List ℕ) (before after : Seen) → schema_of before ≡ s → before.name ≡ name
+    → store_in before ≡ store_of [] → TakesState before bytes after → IsBegunUnder s name (Some bytes) after
+begun_by s name bytes before after schema_is name_is store_is takes = record {
   schema_is = ap schema_view takes.3.0 ∙ schema_is;
-  number_is = takes.3.1 ∙ number_is;
+  name_is = takes.3.1 ∙ name_is;
   begins = (
     takes.0,
     subst (λ (t : StatedSchema). IsMessageOf t bytes takes.0) schema_is takes.1,
@@ -118,38 +112,21 @@ begun_by s number bytes before after schema_is number_is store_is takes = record
 }
 
 -- over a result
-pub begun_over : (s : StatedSchema) (number : ℕ) (bytes : List ℕ) (before : Seen) (r : Result Seen Refusal) → schema_of before ≡ s
-    → before.number ≡ number → store_in before ≡ store_of [] → IfOk r (TakesState before bytes) → IfOk r (IsBegunUnder s number (Some bytes))
-begun_over s number bytes before (Ok after) schema_is number_is store_is takes = begun_by s number bytes before after schema_is number_is store_is takes
-begun_over s number bytes before (Err r) schema_is number_is store_is takes = tt
+pub begun_over : (s : StatedSchema) (name : List ℕ) (bytes : List ℕ) (before : Seen) (r : Result Seen Refusal) → schema_of before ≡ s
+    → before.name ≡ name → store_in before ≡ store_of [] → IfOk r (TakesState before bytes) → IfOk r (IsBegunUnder s name (Some bytes))
+begun_over s name bytes before (Ok after) schema_is name_is store_is takes = begun_by s name bytes before after schema_is name_is store_is takes
+begun_over s name bytes before (Err r) schema_is name_is store_is takes = tt
 
-pub begun_as : (schema : List ℕ) (s : StatedSchema) (number : ℕ) (state : Option (List ℕ)) (r : Result Seen Refusal) → IsSchemaOf schema s
-    → IfOk r (IsBegunUnder s number state) → IfOk r (IsBegun schema number state)
-begun_as schema s number state (Ok site) is begun = record {
+pub begun_as : (schema : List ℕ) (s : StatedSchema) (name : List ℕ) (state : Option (List ℕ)) (r : Result Seen Refusal) → IsSchemaOf schema s
+    → IfOk r (IsBegunUnder s name state) → IfOk r (IsBegun schema name state)
+begun_as schema s name state (Ok site) is begun = record {
   schema_is = subst (IsSchemaOf schema) (sym begun.schema_is) is;
-  number_is = begun.number_is;
+  name_is = begun.name_is;
   begins = subst (λ (t : StatedSchema). BeginsWith t state (store_in site)) (sym begun.schema_is) begun.begins;
 }
-begun_as schema s number state (Err r) is begun = tt
+begun_as schema s name state (Err r) is begun = tt
 
 pub not_begun_as : (schema : List ℕ) (s : StatedSchema) (state : Option (List ℕ)) (r : Result Seen Refusal) → IsSchemaOf schema s
     → IfErr r (λ f. (f ≡ no_memory → ⊥) → IsStateRefused s state f) → IfErr r (λ f. (f ≡ no_memory → ⊥) → IsNotBegun schema state f)
 not_begun_as schema s state (Ok site) is refused = tt
 not_begun_as schema s state (Err r) is refused = λ other. inr (s, is, refused other)
-
--- ---- the number of a site
-
-numbered : (n digits : ℕ) → 1 ≤ digits → n ≡ digits → 0 < n
-numbered n digits least is = omega (arith, least, is)
-
-site_in : (named : Option (Text × List Row)) (line : Line) → IsNamed line named → HasSite line
-site_in None line is = absurd is
-site_in (Some named) (Check schema policies) is = tt
-site_in (Some named) (Decide schema policies entities request) is = tt
-site_in (Some named) (Serve schema site listen state connections) is = numbered site _ is.1.1.2.0.2 is.1.1.2.1
-site_in (Some named) (Pull schema site from state) is = numbered site _ is.1.1.2.0.2 is.1.1.2.1
-site_in (Some named) (Merge schema first second) is = tt
-
--- words that are a command give its site a number other than zero
-pub has_site : (words : List Text) (line : Line) → Says words line → HasSite line
-has_site words line says = site_in (subcommand_of site_app words) line says

@@ -26,10 +26,10 @@ BeginsWith s None m = m ≡ store_of []
 BeginsWith s (Some bytes) m = (us : List (SentUpdate Policy Entity)) × IsMessageOf s bytes us
     × (m ≡ store_of (abstract_updates us))
 
--- the site of this number and this schema, with the updates of the state, if there is one
-pub record IsBegun (schema : List ℕ) (number : ℕ) (state : Option (List ℕ)) (site : Seen) : Type 0 where
+-- the site of this name and this schema, with the updates of the state, if there is one
+pub record IsBegun (schema : List ℕ) (name : List ℕ) (state : Option (List ℕ)) (site : Seen) : Type 0 where
   pub schema_is : IsSchemaOf schema (schema_of site)
-  pub number_is : site.number ≡ number
+  pub name_is : site.name ≡ name
   pub begins : BeginsWith (schema_of site) state (store_in site)
 
 -- the state is no message of the schema, for this first fault

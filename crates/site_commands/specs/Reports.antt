@@ -5,7 +5,7 @@ use Rattle.std.specs.Prelude.{◌≡◌, ◌⊎◌, ℕ, Bool, List, [], ◌∷�
 use Rattle.decision_texts.specs.declared.refusal.Refusal.{Refusal}
 use Rattle.decision_texts.specs.Refusals.{error_line, no_memory}
 use Rattle.command_lines.specs.declared.fault.LineFault.{LineFault}
-use Rattle.command_lines.specs.declared.fault.LineFault.TheVariants.{Help, Words, Incomplete, NotText, NoMemory}
+use Rattle.command_lines.specs.declared.fault.LineFault.TheVariants.{Help, Words, Site, Incomplete, NotText, NoMemory}
 use Rattle.site_commands.specs.declared.device.FileFault.{FileFault}
 use Rattle.site_commands.specs.declared.device.FileFault.TheVariants as file
 use Rattle.site_commands.specs.declared.device.Stream.{Stream}
@@ -75,6 +75,7 @@ IsPrinted stream fault status events end = (done : Bool)
 abbrev pub IsFaultReported : LineFault → List Event → ℕ → Type 0
 IsFaultReported (Help error) events end = IsPrinted Answers (Help error) 0 events end
 IsFaultReported (Words error) events end = IsPrinted Faults (Words error) 2 events end
+IsFaultReported Site events end = IsPrinted Faults Site 2 events end
 IsFaultReported Incomplete events end = IsPrinted Faults Incomplete 2 events end
 IsFaultReported NotText events end = IsPrinted Faults NotText 2 events end
 IsFaultReported NoMemory events end = IsMemoryReported events end

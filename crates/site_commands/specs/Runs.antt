@@ -60,7 +60,7 @@ IsMergeRun schema_name first_name second_name =
     Reads second_name (λ second.
     AreMerged schema first second)))
 
--- the command is carried out
+-- the command is carried out; the name that a pull is given changes nothing of it
 abbrev pub IsLineRun : Line → Course
 IsLineRun (Check schema policies) = IsCheckRun schema.now policies.now
 IsLineRun (Decide schema policies entities request) =

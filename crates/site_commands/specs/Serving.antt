@@ -34,15 +34,15 @@ most_of None = 18446744073709551615
 most_of (Some number) = number
 
 -- the site begins, says where it listens once it does, and serves; or the texts are refused
-abbrev pub IsServedFrom : List ℕ → ℕ → Option (List ℕ) → List ℕ → Option ℕ → Course
-IsServedFrom schema number state address connections events end =
-    ((site : Seen) × IsBegun schema number state site
+abbrev pub IsServedFrom : List ℕ → List ℕ → Option (List ℕ) → List ℕ → Option ℕ → Course
+IsServedFrom schema name state address connections events end =
+    ((site : Seen) × IsBegun schema name state site
     × Listens address (Announces (codes "listening " ++ address) (AreAllServed (most_of connections) site)) events end)
     ⊎ IsRefusedFor (IsNotBegun schema state) events end
 
 -- first the schema, then the state, if one is named
-abbrev pub IsServeRun : List ℕ → ℕ → Option (List ℕ) → List ℕ → Option ℕ → Course
-IsServeRun schema_name number state_name address connections =
+abbrev pub IsServeRun : List ℕ → List ℕ → Option (List ℕ) → List ℕ → Option ℕ → Course
+IsServeRun schema_name name state_name address connections =
     Reads schema_name (λ schema.
     ReadsIfNamed state_name (λ state.
-    IsServedFrom schema number state address connections))
+    IsServedFrom schema name state address connections))

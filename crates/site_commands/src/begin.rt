@@ -1,5 +1,5 @@
 //! A site that begins with a state, or empty.
-ghost use Rattle.std.specs.Prelude.{◌≡◌, ◌<◌, IfOk, IfErr, Some, option_map};
+ghost use Rattle.std.specs.Prelude.{◌≡◌, IfOk, IfErr, Some, option_map};
 ghost use Rattle.decision_texts.specs.Refusals.{no_memory};
 ghost use Rattle.schema.specs.Views.{schema_view};
 ghost use Rattle.http_service.specs.passed_on.site_runs.{schema_of};
@@ -8,9 +8,10 @@ ghost use Rattle.site_commands.specs.inner.Begun.{IsBegunUnder, TakesState};
 
 use decision_texts::Refusal;
 use http_service::{Site, SiteFault, Taken, take_bytes};
-use plain::NoMemory;
+use plain::{NoMemory, Shared};
 use schema::Schema;
 use schema_decisions::schema_in;
+use stamped_store::SiteName;
 use std::alloc::Global;
 
 /// A fault of a site, as it is told.
@@ -37,40 +38,56 @@ fn with_state(alloc: Global, mut site: Site, bytes: &[u8]) -> Result<Site, Refus
     }
 }
 
-/// The site of this number under a schema, empty or with the updates of a message.
+/// The site of this name under a schema, empty or with the updates of a message.
 fn begin_under(
     alloc: Global,
-    schema: Schema,
-    number: u16,
+    schema: Shared<Schema>,
+    name: SiteName,
     state: Option<&[u8]>,
 ) -> Result<Site, Refusal>
-    requires { 0 < number }
     ensures begun { IfOk result
-        (IsBegunUnder (schema_view schema) number (option_map (λ s. s.now) state.entry)) }
+        (IsBegunUnder (schema_view schema) name (option_map (λ s. s.now) state.entry)) }
     ensures refused { IfErr result (λ r. (r ≡ no_memory → ⊥)
         → IsStateRefused (schema_view schema) (option_map (λ s. s.now) state.entry) r) }
 {
-    let site = Site::new(alloc, schema, number);
+    let site = Site::new(alloc, schema, name.as_str());
     match state {
         Some(bytes) => with_state(alloc, site, bytes),
         None => Ok(site),
     }
 }
 
-/// The site of this number, empty or with the updates of a message, a state or a delta. The schema is judged first.
+/// The site of this name under a schema of its own, empty or with the updates of a message.
+fn begin_with(
+    alloc: Global,
+    schema: Schema,
+    name: SiteName,
+    state: Option<&[u8]>,
+) -> Result<Site, Refusal>
+    ensures begun { IfOk result
+        (IsBegunUnder (schema_view schema) name (option_map (λ s. s.now) state.entry)) }
+    ensures refused { IfErr result (λ r. (r ≡ no_memory → ⊥)
+        → IsStateRefused (schema_view schema) (option_map (λ s. s.now) state.entry) r) }
+{
+    match Shared::new(alloc, schema) {
+        Ok(schema) => begin_under(alloc, schema, name, state),
+        Err(error) => Err(Refusal::from(error)),
+    }
+}
+
+/// The site of this name, empty or with the updates of a message, a state or a delta. The schema is judged first.
 pub(crate) fn begin(
     alloc: Global,
     schema: &[u8],
-    number: u16,
+    name: SiteName,
     state: Option<&[u8]>,
 ) -> Result<Site, Refusal>
-    requires { 0 < number }
-    ensures begun { IfOk result (IsBegun schema.now number (option_map (λ s. s.now) state.entry)) }
+    ensures begun { IfOk result (IsBegun schema.now name (option_map (λ s. s.now) state.entry)) }
     ensures refused { IfErr result (λ r. (r ≡ no_memory → ⊥)
         → IsNotBegun schema.now (option_map (λ s. s.now) state.entry) r) }
 {
     match schema_in(alloc, schema) {
-        Ok(schema) => begin_under(alloc, schema, number, state),
+        Ok(schema) => begin_with(alloc, schema, name, state),
         Err(refusal) => Err(refusal),
     }
 }

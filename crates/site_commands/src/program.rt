@@ -3,7 +3,6 @@ ghost use Rattle.std.specs.Prelude.{map, string_bytes};
 ghost use Rattle.std.specs.Process.{exit_status};
 ghost use Rattle.site_commands.specs.Events.{Runs};
 ghost use Rattle.site_commands.specs.Runs.{IsLineRun, IsRun};
-ghost use Rattle.site_commands.specs.inner.Served.{HasSite};
 
 use crate::commands::{run_check, run_decide};
 use crate::host::Host;
@@ -14,10 +13,9 @@ use command_lines::{Line, line_of};
 use std::alloc::Global;
 use std::process::ExitCode;
 
-/// Carries out a command.
-fn run_line<H: Host>(alloc: Global, host: &mut H, line: Line<'_>) -> ExitCode
-    requires { HasSite line }
-    ensures { Runs H.does host.old host.new (λ events. IsLineRun line.entry events (exit_status result)) }
+/// Carries out a command. The name that `pull` is given is for the record alone: nothing is stamped.
+fn run_line<H: Host>(alloc: Global, host: &mut H, line: &Line<'_>) -> ExitCode
+    ensures { Runs H.does host.old host.new (λ events. IsLineRun line.now events (exit_status result)) }
 {
     match line {
         Line::Check { schema, policies } => run_check(alloc, host, schema, policies),
@@ -26,20 +24,20 @@ fn run_line<H: Host>(alloc: Global, host: &mut H, line: Line<'_>) -> ExitCode
             policies,
             entities,
             request,
-        } => run_decide(alloc, host, schema, policies, entities, request),
+        } => run_decide(alloc, host, *schema, policies, entities, request),
         Line::Serve {
             schema,
             site,
             listen,
             state,
             connections,
-        } => run_serve(alloc, host, schema, site, state, listen, connections),
+        } => run_serve(alloc, host, schema, *site, *state, listen, *connections),
         Line::Pull {
             schema,
-            site,
+            site: _,
             from,
             state,
-        } => run_pull(alloc, host, schema, site, from, state),
+        } => run_pull(alloc, host, schema, from, state),
         Line::Merge {
             schema,
             first,
@@ -57,7 +55,7 @@ pub fn run<H: Host>(alloc: Global, host: &mut H, words: &[String]) -> ExitCode
     ensures { Runs H.does host.old host.new (λ events. IsRun (map string_bytes words.now) events (exit_status result)) }
 {
     match line_of(alloc, words) {
-        Ok(line) => run_line(alloc, host, line),
+        Ok(line) => run_line(alloc, host, &line),
         Err(fault) => report_words(host, &fault),
     }
 }

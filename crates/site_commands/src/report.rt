@@ -129,6 +129,7 @@ pub fn report_words<H: Host>(host: &mut H, fault: &LineFault) -> ExitCode
     match fault {
         LineFault::Help(_) => report_text(host, Stream::Answers, fault, ANSWERED),
         LineFault::Words(_) => report_text(host, Stream::Faults, fault, LINE_FAULT),
+        LineFault::Site => report_text(host, Stream::Faults, fault, LINE_FAULT),
         LineFault::Incomplete => report_text(host, Stream::Faults, fault, LINE_FAULT),
         LineFault::NotText => report_text(host, Stream::Faults, fault, LINE_FAULT),
         LineFault::NoMemory => report_memory(host),

@@ -1,5 +1,5 @@
 //! A site that is served, one connection after another.
-ghost use Rattle.std.specs.Prelude.{◌≡◌, ◌<◌, ◌++◌, true, option_map, codes};
+ghost use Rattle.std.specs.Prelude.{◌≡◌, ◌++◌, true, option_map, codes};
 ghost use Rattle.std.specs.Process.{exit_status};
 ghost use Rattle.site_commands.specs.Events.{Runs};
 ghost use Rattle.site_commands.specs.Courses.{Announces, Listens};
@@ -13,6 +13,7 @@ use crate::reading::read_file;
 use crate::report::{ANSWERED, report_failure, report_refusal, status_of};
 use counted_devices::devices::{Sink, Source};
 use http_service::{Site, serve};
+use stamped_store::SiteName;
 use std::alloc::Global;
 use std::process::ExitCode;
 
@@ -109,17 +110,16 @@ fn serve_from<H: Host>(
     alloc: Global,
     host: &mut H,
     schema: &[u8],
-    number: u16,
+    site: SiteName,
     state: Option<&[u8]>,
     address: &str,
     connections: Option<u32>,
 ) -> ExitCode
-    requires { 0 < number }
     ensures { Runs H.does host.old host.new (λ events.
-        IsServedFrom schema.now number (option_map (λ s. s.now) state.entry) address.now connections events
+        IsServedFrom schema.now site (option_map (λ s. s.now) state.entry) address.now connections events
         (exit_status result)) }
 {
-    match begin(alloc, schema, number, state) {
+    match begin(alloc, schema, site, state) {
         Ok(site) => serve_at(alloc, host, site, address, most_of(connections)),
         Err(refusal) => report_refusal(alloc, host, refusal),
     }
@@ -130,19 +130,18 @@ fn serve_under<H: Host>(
     alloc: Global,
     host: &mut H,
     schema: &[u8],
-    number: u16,
+    site: SiteName,
     state: Option<&str>,
     address: &str,
     connections: Option<u32>,
 ) -> ExitCode
-    requires { 0 < number }
     ensures { Runs H.does host.old host.new (λ events.
-        IsServeUnder number (option_map (λ s. s.now) state.entry) address.now connections schema.now events
+        IsServeUnder site (option_map (λ s. s.now) state.entry) address.now connections schema.now events
         (exit_status result)) }
 {
     match state {
-        Some(name) => serve_named(alloc, host, schema, number, name, address, connections),
-        None => serve_from(alloc, host, schema, number, None, address, connections),
+        Some(name) => serve_named(alloc, host, schema, site, name, address, connections),
+        None => serve_from(alloc, host, schema, site, None, address, connections),
     }
 }
 
@@ -151,14 +150,13 @@ fn serve_named<H: Host>(
     alloc: Global,
     host: &mut H,
     schema: &[u8],
-    number: u16,
+    site: SiteName,
     name: &str,
     address: &str,
     connections: Option<u32>,
 ) -> ExitCode
-    requires { 0 < number }
     ensures { Runs H.does host.old host.new (λ events.
-        IsServeNamed number name.now address.now connections schema.now events (exit_status result)) }
+        IsServeNamed site name.now address.now connections schema.now events (exit_status result)) }
 {
     let state = match read_file(host, name) {
         Ok(bytes) => bytes,
@@ -168,7 +166,7 @@ fn serve_named<H: Host>(
         alloc,
         host,
         schema,
-        number,
+        site,
         Some(&state),
         address,
         connections,
@@ -181,19 +179,18 @@ pub(crate) fn run_serve<H: Host>(
     alloc: Global,
     host: &mut H,
     schema: &str,
-    number: u16,
+    site: SiteName,
     state: Option<&str>,
     address: &str,
     connections: Option<u32>,
 ) -> ExitCode
-    requires { 0 < number }
     ensures { Runs H.does host.old host.new (λ events.
-        IsServeRun schema.now number (option_map (λ s. s.now) state.entry) address.now connections events
+        IsServeRun schema.now site (option_map (λ s. s.now) state.entry) address.now connections events
         (exit_status result)) }
 {
     let schema = match read_file(host, schema) {
         Ok(bytes) => bytes,
         Err(end) => return end,
     };
-    serve_under(alloc, host, &schema, number, state, address, connections)
+    serve_under(alloc, host, &schema, site, state, address, connections)
 }

@@ -131,7 +131,6 @@ fn pull<H: Host>(
     alloc: Global,
     host: &mut H,
     schema: &[u8],
-    site: u16,
     state: Option<&[u8]>,
     address: &str,
     name: &str,
@@ -145,7 +144,6 @@ fn pull<H: Host>(
     let came = pull_over(
         alloc,
         schema,
-        site,
         state,
         asked,
         &mut link.reader,
@@ -162,7 +160,6 @@ fn pull_from<H: Host>(
     alloc: Global,
     host: &mut H,
     schema: &[u8],
-    site: u16,
     state: Option<&[u8]>,
     address: &str,
     name: &str,
@@ -172,7 +169,7 @@ fn pull_from<H: Host>(
         (exit_status result)) }
 {
     match host.connect(address) {
-        Ok(mut link) => pull(alloc, host, schema, site, state, address, name, &mut link),
+        Ok(mut link) => pull(alloc, host, schema, state, address, name, &mut link),
         Err(NetworkFailed) => report_failure(host, address),
     }
 }
@@ -182,7 +179,6 @@ fn pull_under<H: Host>(
     alloc: Global,
     host: &mut H,
     schema: &[u8],
-    site: u16,
     address: &str,
     name: &str,
 ) -> ExitCode
@@ -193,7 +189,7 @@ fn pull_under<H: Host>(
         Ok(found) => found,
         Err(end) => return end,
     };
-    pull_from(alloc, host, schema, site, lent(&state), address, name)
+    pull_from(alloc, host, schema, lent(&state), address, name)
 }
 
 /// Reads the schema of this name, and the state of this name, if it is there; then takes from the site at an address
@@ -202,7 +198,6 @@ pub(crate) fn run_pull<H: Host>(
     alloc: Global,
     host: &mut H,
     schema: &str,
-    site: u16,
     address: &str,
     name: &str,
 ) -> ExitCode
@@ -213,5 +208,5 @@ pub(crate) fn run_pull<H: Host>(
         Ok(bytes) => bytes,
         Err(end) => return end,
     };
-    pull_under(alloc, host, &schema, site, address, name)
+    pull_under(alloc, host, &schema, address, name)
 }

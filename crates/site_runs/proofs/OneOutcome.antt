@@ -49,14 +49,14 @@ use Rattle.site_runs.specs.Outcomes.{HadMemory, HadMemoryForAll, IsWhole}
 
 -- ---- what is stamped and stored
 
-one_record : (n : ℕ) (s : Store) (name : Name) (body : Option (List ℕ)) (a b : Stamp) (t u : Store)
+one_record : (n : List ℕ) (s : Store) (name : Name) (body : Option (List ℕ)) (a b : Stamp) (t u : Store)
     → Records n s name body a t → Records n s name body b u → (a ≡ b) × (t ≡ u)
 one_record n s name body a b t u h k =
     let stamp : a ≡ b = h.next ∙ sym k.next in
     (stamp, h.store ∙ ap (λ (x : Stamp). store_of (updates s ++ (name, issued x body) ∷ [])) stamp ∙ sym k.store)
 
 -- a clock that is full is below no limit
-not_full : (n : ℕ) (s : Store) (name : Name) (body : Option (List ℕ)) (a : Stamp) (t u : Store)
+not_full : (n : List ℕ) (s : Store) (name : Name) (body : Option (List ℕ)) (a : Stamp) (t u : Store)
     → Records n s name body a t → IsClockFull s u → ⊥
 not_full n s name body a t u h k = less_itself (greatest_count s) most_count h.clock k.0
   where
@@ -90,7 +90,7 @@ same_test X true false h k = sym (k.1 (h.0 refl))
 same_test X false true h k = h.1 (k.0 refl)
 same_test X false false h k = refl
 
-data PolicyComes (schema : StatedSchema) (n : ℕ) (s : Store) (id text : List ℕ) : Result Put SiteFault → Store → Type 0 where
+data PolicyComes (schema : StatedSchema) (n : List ℕ) (s : Store) (id text : List ℕ) : Result Put SiteFault → Store → Type 0 where
   stored : (put : Put) (t : Store) (p : Policy) → IsAdmitted schema id text p
       → (IsTrue put.impossible ↔ IsImpossible schema p) → Records n s (policy_name id) (Some text) put.stamp t
       → PolicyComes schema n s id text (Ok put) t
@@ -99,7 +99,7 @@ data PolicyComes (schema : StatedSchema) (n : ℕ) (s : Store) (id text : List �
   refused : (f : SiteFault) (t : Store) → IsNotAdmitted schema id text f → t ≡ s
       → PolicyComes schema n s id text (Err f) t
 
-policy_comes : (schema : StatedSchema) (n : ℕ) (s : Store) (id text : List ℕ) (r : Result Put SiteFault) (t : Store)
+policy_comes : (schema : StatedSchema) (n : List ℕ) (s : Store) (id text : List ℕ) (r : Result Put SiteFault) (t : Store)
     → PutsPolicy schema n s id text r t → HadMemory r → PolicyComes schema n s id text r t
 policy_comes schema n s id text (Ok put) t h m = stored put t h.0 h.1 h.2 h.3
 policy_comes schema n s id text (Err fault.NoMemory) t h m = absurd m
@@ -142,7 +142,7 @@ module _ (schema : StatedSchema) (texts : HasOneReading IsPolicyText IsPolicyRef
       ap (λ (x : CheckFault). fault.Check x) (one_check p f g h
       (subst (λ (x : Policy). IsCheckRefused schema x g) (texts.one_value text q p are is) k))
 
-  one_policy : (n : ℕ) (s : Store) (id text : List ℕ) (x y : Result Put SiteFault) (t u : Store)
+  one_policy : (n : List ℕ) (s : Store) (id text : List ℕ) (x y : Result Put SiteFault) (t u : Store)
       → PolicyComes schema n s id text x t → PolicyComes schema n s id text y u → (x ≡ y) × (t ≡ u)
   one_policy n s id text _ _ _ _ (stored a t p h i j) (stored b u q k l m) =
       let same = texts.one_value text q p k.reads.is_text h.reads.is_text in
@@ -165,13 +165,13 @@ module _ (schema : StatedSchema) (texts : HasOneReading IsPolicyText IsPolicyRef
 
 -- ---- names that are taken away
 
-data DeleteComes (n : ℕ) (s : Store) (name : Name) : Result Stamp SiteFault → Store → Type 0 where
+data DeleteComes (n : List ℕ) (s : Store) (name : Name) : Result Stamp SiteFault → Store → Type 0 where
   deleted : (stamp : Stamp) (t : Store) → IsSome (text_under s name) → Records n s name None stamp t
       → DeleteComes n s name (Ok stamp) t
   unstamped : (t : Store) → IsSome (text_under s name) → IsClockFull s t → DeleteComes n s name (Err fault.ClockFull) t
   absent : (t : Store) → text_under s name ≡ None → t ≡ s → DeleteComes n s name (Err fault.NotThere) t
 
-delete_comes : (n : ℕ) (s : Store) (name : Name) (r : Result Stamp SiteFault) (t : Store) → Deletes n s name r t
+delete_comes : (n : List ℕ) (s : Store) (name : Name) (r : Result Stamp SiteFault) (t : Store) → Deletes n s name r t
     → HadMemory r → DeleteComes n s name r t
 delete_comes n s name (Ok stamp) t h m = deleted stamp t h.0 h.1
 delete_comes n s name (Err fault.NoMemory) t h m = absurd m
@@ -188,7 +188,7 @@ none_there : {A : Type 0} (o : Option A) → IsSome o → o ≡ None → ⊥
 none_there None h k = absurd cc
 none_there (Some x) h k = absurd cc
 
-one_delete : (n : ℕ) (s : Store) (name : Name) (x y : Result Stamp SiteFault) (t u : Store)
+one_delete : (n : List ℕ) (s : Store) (name : Name) (x y : Result Stamp SiteFault) (t u : Store)
     → DeleteComes n s name x t → DeleteComes n s name y u → (x ≡ y) × (t ≡ u)
 one_delete n s name _ _ _ _ (deleted a t h i) (deleted b u k l) =
     let both = one_record n s name None a b t u i l in (same_ok a b both.0, both.1)
@@ -203,7 +203,7 @@ one_delete n s name _ _ _ _ (absent t h i) (absent u k l) = (refl, i ∙ sym l)
 
 -- ---- entities
 
-data EntityComes (schema : StatedSchema) (n : ℕ) (s : Store) (json : Option Data) : Result Stamp SiteFault → Store
+data EntityComes (schema : StatedSchema) (n : List ℕ) (s : Store) (json : Option Data) : Result Stamp SiteFault → Store
     → Type 0 where
   kept : (stamp : Stamp) (t : Store) (e : Entity) → entity_stated schema json ≡ Ok e
       → MakesNoCycle (IsEntityUnder schema) schema s e
@@ -216,7 +216,7 @@ data EntityComes (schema : StatedSchema) (n : ℕ) (s : Store) (json : Option Da
   unstated : (f : EntityFault) (t : Store) → entity_stated schema json ≡ Err f → t ≡ s
       → EntityComes schema n s json (Err (fault.Entity f)) t
 
-entity_comes : (schema : StatedSchema) (n : ℕ) (s : Store) (json : Option Data) (r : Result Stamp SiteFault) (t : Store)
+entity_comes : (schema : StatedSchema) (n : List ℕ) (s : Store) (json : Option Data) (r : Result Stamp SiteFault) (t : Store)
     → PutsEntity schema n s json r t → HadMemory r → EntityComes schema n s json r t
 entity_comes schema n s json (Ok stamp) t h m = kept stamp t h.0 h.1 h.2 h.3
 entity_comes schema n s json (Err fault.NoMemory) t h m = absurd m
@@ -238,7 +238,7 @@ module _ (schema : StatedSchema) (one_world : (s : Store) (es fs : EntityUid →
       k.none (subst (λ (x : Entity). IsOnCycle (parents_with schema k.entities x) x.uid) same
       (subst (λ (es : EntityUid → Option Entity). IsOnCycle (parents_with schema es e) e.uid) world h.cycle))
 
-  one_entity : (n : ℕ) (s : Store) (json : Option Data) (x y : Result Stamp SiteFault) (t u : Store)
+  one_entity : (n : List ℕ) (s : Store) (json : Option Data) (x y : Result Stamp SiteFault) (t u : Store)
       → EntityComes schema n s json x t → EntityComes schema n s json y u → (x ≡ y) × (t ≡ u)
   one_entity n s json _ _ _ _ (kept a t e h i j) (kept b u f k l m) =
       let same : f ≡ e = one_value (entity_stated schema json) f e k h in
@@ -465,7 +465,7 @@ one_delta schema s summary _ _ (untold f h) (untold g k) =
 -- ---- a step, by its input
 
 -- the results that replies hold
-in_put : (schema : StatedSchema) (n : ℕ) (s : Store) (id text : List ℕ) (r : Reply) (t : Store)
+in_put : (schema : StatedSchema) (n : List ℕ) (s : Store) (id text : List ℕ) (r : Reply) (t : Store)
     → Step schema n s (input.PutPolicy id text) r t → IsWhole r
     → (x : Result Put SiteFault) × (r ≡ reply.Put x) × PutsPolicy schema n s id text x t × HadMemory x
 in_put schema n s id text (reply.Put x) t h m = (x, refl, h, m)
@@ -475,7 +475,7 @@ in_put schema n s id text (reply.Answered x) t h m = absurd h
 in_put schema n s id text (reply.Found x) t h m = absurd h
 in_put schema n s id text (reply.Written x) t h m = absurd h
 
-in_delete_policy : (schema : StatedSchema) (n : ℕ) (s : Store) (id : List ℕ) (r : Reply) (t : Store)
+in_delete_policy : (schema : StatedSchema) (n : List ℕ) (s : Store) (id : List ℕ) (r : Reply) (t : Store)
     → Step schema n s (input.DeletePolicy id) r t → IsWhole r
     → (x : Result Stamp SiteFault) × (r ≡ reply.Stamped x) × Deletes n s (policy_name id) x t × HadMemory x
 in_delete_policy schema n s id (reply.Put x) t h m = absurd h
@@ -485,7 +485,7 @@ in_delete_policy schema n s id (reply.Answered x) t h m = absurd h
 in_delete_policy schema n s id (reply.Found x) t h m = absurd h
 in_delete_policy schema n s id (reply.Written x) t h m = absurd h
 
-in_put_entity : (schema : StatedSchema) (n : ℕ) (s : Store) (bytes : List ℕ) (r : Reply) (t : Store)
+in_put_entity : (schema : StatedSchema) (n : List ℕ) (s : Store) (bytes : List ℕ) (r : Reply) (t : Store)
     → Step schema n s (input.PutEntity bytes) r t → IsWhole r
     → (x : Result Stamp SiteFault) × (r ≡ reply.Stamped x) × PutsEntity schema n s (json_of bytes) x t × HadMemory x
 in_put_entity schema n s bytes (reply.Put x) t h m = absurd h
@@ -495,7 +495,7 @@ in_put_entity schema n s bytes (reply.Answered x) t h m = absurd h
 in_put_entity schema n s bytes (reply.Found x) t h m = absurd h
 in_put_entity schema n s bytes (reply.Written x) t h m = absurd h
 
-in_delete_entity : (schema : StatedSchema) (n : ℕ) (s : Store) (uid : EntityUid) (r : Reply) (t : Store)
+in_delete_entity : (schema : StatedSchema) (n : List ℕ) (s : Store) (uid : EntityUid) (r : Reply) (t : Store)
     → Step schema n s (input.DeleteEntity uid) r t → IsWhole r
     → (x : Result Stamp SiteFault) × (r ≡ reply.Stamped x) × Deletes n s (entity_name uid) x t × HadMemory x
 in_delete_entity schema n s uid (reply.Put x) t h m = absurd h
@@ -505,7 +505,7 @@ in_delete_entity schema n s uid (reply.Answered x) t h m = absurd h
 in_delete_entity schema n s uid (reply.Found x) t h m = absurd h
 in_delete_entity schema n s uid (reply.Written x) t h m = absurd h
 
-in_take : (schema : StatedSchema) (n : ℕ) (s : Store) (bytes : List ℕ) (r : Reply) (t : Store)
+in_take : (schema : StatedSchema) (n : List ℕ) (s : Store) (bytes : List ℕ) (r : Reply) (t : Store)
     → Step schema n s (input.Take bytes) r t → IsWhole r
     → (x : Result taking.Taken SiteFault) × (r ≡ reply.Taken x) × TakesMessage schema s bytes x t × HadMemoryForAll x
 in_take schema n s bytes (reply.Put x) t h m = absurd h
@@ -515,7 +515,7 @@ in_take schema n s bytes (reply.Answered x) t h m = absurd h
 in_take schema n s bytes (reply.Found x) t h m = absurd h
 in_take schema n s bytes (reply.Written x) t h m = absurd h
 
-in_authorize : (schema : StatedSchema) (n : ℕ) (s : Store) (bytes : List ℕ) (r : Reply) (t : Store)
+in_authorize : (schema : StatedSchema) (n : List ℕ) (s : Store) (bytes : List ℕ) (r : Reply) (t : Store)
     → Step schema n s (input.Authorize bytes) r t → IsWhole r
     → (x : Result Answer SiteFault) × (r ≡ reply.Answered x) × (Answers schema s (json_of bytes) x × (t ≡ s)) × HadMemory x
 in_authorize schema n s bytes (reply.Put x) t h m = absurd h
@@ -525,7 +525,7 @@ in_authorize schema n s bytes (reply.Answered x) t h m = (x, refl, h, m)
 in_authorize schema n s bytes (reply.Found x) t h m = absurd h
 in_authorize schema n s bytes (reply.Written x) t h m = absurd h
 
-in_get_policy : (schema : StatedSchema) (n : ℕ) (s : Store) (id : List ℕ) (r : Reply) (t : Store)
+in_get_policy : (schema : StatedSchema) (n : List ℕ) (s : Store) (id : List ℕ) (r : Reply) (t : Store)
     → Step schema n s (input.GetPolicy id) r t → IsWhole r
     → (x : Result (Option Found) SiteFault) × (r ≡ reply.Found x) × (Finds s id x × (t ≡ s)) × HadMemory x
 in_get_policy schema n s id (reply.Put x) t h m = absurd h
@@ -535,7 +535,7 @@ in_get_policy schema n s id (reply.Answered x) t h m = absurd h
 in_get_policy schema n s id (reply.Found x) t h m = (x, refl, h, m)
 in_get_policy schema n s id (reply.Written x) t h m = absurd h
 
-in_state : (schema : StatedSchema) (n : ℕ) (s : Store) (r : Reply) (t : Store)
+in_state : (schema : StatedSchema) (n : List ℕ) (s : Store) (r : Reply) (t : Store)
     → Step schema n s input.State r t → IsWhole r
     → (x : Result (List ℕ) SiteFault) × (r ≡ reply.Written x) × (Writes (state_text schema.label s) x × (t ≡ s)) × HadMemory x
 in_state schema n s (reply.Put x) t h m = absurd h
@@ -545,7 +545,7 @@ in_state schema n s (reply.Answered x) t h m = absurd h
 in_state schema n s (reply.Found x) t h m = absurd h
 in_state schema n s (reply.Written x) t h m = (x, refl, h, m)
 
-in_summary : (schema : StatedSchema) (n : ℕ) (s : Store) (r : Reply) (t : Store)
+in_summary : (schema : StatedSchema) (n : List ℕ) (s : Store) (r : Reply) (t : Store)
     → Step schema n s input.Summary r t → IsWhole r
     → (x : Result (List ℕ) SiteFault) × (r ≡ reply.Written x) × (Writes (summary_text schema.label (deltas.summary_of s)) x × (t ≡ s)) × HadMemory x
 in_summary schema n s (reply.Put x) t h m = absurd h
@@ -555,7 +555,7 @@ in_summary schema n s (reply.Answered x) t h m = absurd h
 in_summary schema n s (reply.Found x) t h m = absurd h
 in_summary schema n s (reply.Written x) t h m = (x, refl, h, m)
 
-in_delta : (schema : StatedSchema) (n : ℕ) (s : Store) (bytes : List ℕ) (r : Reply) (t : Store)
+in_delta : (schema : StatedSchema) (n : List ℕ) (s : Store) (bytes : List ℕ) (r : Reply) (t : Store)
     → Step schema n s (input.Delta bytes) r t → IsWhole r
     → (x : Result (List ℕ) SiteFault) × (r ≡ reply.Written x) × (WritesDelta schema s bytes x × (t ≡ s)) × HadMemory x
 in_delta schema n s bytes (reply.Put x) t h m = absurd h
@@ -584,7 +584,7 @@ pub record LawsOfOne (schema : StatedSchema) : Type 0 where
 by_result : {X : Type 0} (K : X → Reply) (r q : Reply) (x y : X) → r ≡ K x → q ≡ K y → x ≡ y → r ≡ q
 by_result K r q x y h k same = h ∙ ap K same ∙ sym k
 
-pub one_step : (schema : StatedSchema) → LawsOfOne schema → (n : ℕ) (s : Store) (i : Input) (r q : Reply) (t u : Store)
+pub one_step : (schema : StatedSchema) → LawsOfOne schema → (n : List ℕ) (s : Store) (i : Input) (r q : Reply) (t u : Store)
     → Step schema n s i r t → IsWhole r → Step schema n s i q u → IsWhole q → (r ≡ q) × (t ≡ u)
 one_step schema law n s (input.PutPolicy id text) r q t u h m k w =
     let a = in_put schema n s id text r t h m in

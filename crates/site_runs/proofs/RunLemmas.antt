@@ -34,7 +34,7 @@ all_valid schema (u ∷ us) h k = (record { in_range = h.0; is_read = k.0 }, all
 
 -- ---- what is refused changes nothing
 
-policy_kept : (schema : StatedSchema) (n : ℕ) (s : Store) (id text : List ℕ) (f : SiteFault) (t : Store)
+policy_kept : (schema : StatedSchema) (n : List ℕ) (s : Store) (id text : List ℕ) (f : SiteFault) (t : Store)
     → PutsPolicy schema n s id text (Err f) t → t ≡ s
 policy_kept schema n s id text fault.NoMemory t h = h
 policy_kept schema n s id text (fault.Policy f) t h = h.1
@@ -46,7 +46,7 @@ policy_kept schema n s id text fault.WouldCycle t h = h.1
 policy_kept schema n s id text fault.ClockFull t h = h.1.1
 policy_kept schema n s id text (fault.Request f) t h = h.1
 
-entity_kept : (schema : StatedSchema) (n : ℕ) (s : Store) (json : Option Data) (f : SiteFault) (t : Store)
+entity_kept : (schema : StatedSchema) (n : List ℕ) (s : Store) (json : Option Data) (f : SiteFault) (t : Store)
     → PutsEntity schema n s json (Err f) t → t ≡ s
 entity_kept schema n s json fault.NoMemory t h = h
 entity_kept schema n s json (fault.Policy f) t h = absurd h
@@ -58,7 +58,7 @@ entity_kept schema n s json fault.WouldCycle t h = h.1
 entity_kept schema n s json fault.ClockFull t h = h.1.1
 entity_kept schema n s json (fault.Request f) t h = absurd h
 
-delete_kept : (n : ℕ) (s : Store) (name : Name) (f : SiteFault) (t : Store) → Deletes n s name (Err f) t → t ≡ s
+delete_kept : (n : List ℕ) (s : Store) (name : Name) (f : SiteFault) (t : Store) → Deletes n s name (Err f) t → t ≡ s
 delete_kept n s name fault.NoMemory t h = h
 delete_kept n s name (fault.Policy f) t h = absurd h
 delete_kept n s name (fault.Check f) t h = absurd h
@@ -88,7 +88,7 @@ stores_more law s m t us vs h k =
     ∙ law.grouped (updates s ++ us) vs
     ∙ ap store_of (append_assoc (updates s) us vs)
 
-step_took : AreStores → (schema : StatedSchema) (n : ℕ) (s : Store) (i : Input) (r : Reply) (t : Store)
+step_took : AreStores → (schema : StatedSchema) (n : List ℕ) (s : Store) (i : Input) (r : Reply) (t : Store)
     → Step schema n s i r t → t ≡ store_of (updates s ++ took_by schema i r)
 step_took law schema n s (input.PutPolicy id text) (reply.Put (Ok put)) t h = h.3.store
 step_took law schema n s (input.PutPolicy id text) (reply.Put (Err f)) t h =
@@ -166,7 +166,7 @@ step_took law schema n s (input.Delta b) (reply.Written r) t h = unchanged law s
 
 -- ---- runs
 
-pub run_took : AreStores → (schema : StatedSchema) (n : ℕ) (s : Store) (is : List Input) (rs : List Reply) (t : Store)
+pub run_took : AreStores → (schema : StatedSchema) (n : List ℕ) (s : Store) (is : List Input) (rs : List Reply) (t : Store)
     → Run schema n s is rs t → t ≡ store_of (updates s ++ took schema is rs)
 run_took law schema n s [] [] t h = unchanged law s t h
 run_took law schema n s [] (r ∷ rs) t h = absurd h
@@ -176,7 +176,7 @@ run_took law schema n s (i ∷ is) (r ∷ rs) t h =
     (run_took law schema n h.0 is rs t h.2)
 
 -- one more step
-pub run_push : (schema : StatedSchema) (n : ℕ) (s : Store) (is : List Input) (rs : List Reply) (m : Store) (i : Input)
+pub run_push : (schema : StatedSchema) (n : List ℕ) (s : Store) (is : List Input) (rs : List Reply) (m : Store) (i : Input)
     (r : Reply) (t : Store) → Run schema n s is rs m → Step schema n m i r t
     → Run schema n s (is ++ i ∷ []) (rs ++ r ∷ []) t
 run_push schema n s [] [] m i r t h k = (t, subst (λ x. Step schema n x i r t) h k, refl)
@@ -185,7 +185,7 @@ run_push schema n s (x ∷ is) [] m i r t h k = absurd h
 run_push schema n s (x ∷ is) (y ∷ rs) m i r t h k = (h.0, h.1, run_push schema n h.0 is rs m i r t h.2 k)
 
 -- a step at a site that is the same
-pub same_step : (a b : StatedSchema) (m n : ℕ) (s : Store) (i : Input) (r : Reply) (t : Store) → a ≡ b → m ≡ n
+pub same_step : (a b : StatedSchema) (m n : List ℕ) (s : Store) (i : Input) (r : Reply) (t : Store) → a ≡ b → m ≡ n
     → Step a m s i r t → Step b n s i r t
 same_step a b m n s i r t e f h =
     subst (λ k. Step b k s i r t) f (subst (λ (c : StatedSchema). Step c m s i r t) e h)
@@ -199,7 +199,7 @@ texts_of schema = record { schema = record { ref_ptr = (0, 0); now = schema } }
 after_run : AreStores → (schema : StatedSchema) (us : List Update) (t : Store) → HoldsAfter schema us t
     → t ≡ store_of us
 after_run law schema us t h =
-    run_took law schema h.number h.first h.inputs h.replies t h.run ∙ ap store_of (sym h.all)
+    run_took law schema h.name h.first h.inputs h.replies t h.run ∙ ap store_of (sym h.all)
 
 pub same_stores : AreStores → (schema : StatedSchema) (us vs : List Update) (s t : Store) → HoldsAfter schema us s
     → HoldsAfter schema vs t → store_of us ≡ store_of vs → s ≡ t

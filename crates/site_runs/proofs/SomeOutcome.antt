@@ -34,9 +34,9 @@ use Rattle.validator.specs.Passing.{Passes, IsImpossible}
 use Rattle.stamped_store.specs.declared.entry.Stamp.{Stamp}
 use Rattle.stamped_store.specs.Contents.{text_under, policy_text, entities_of}
 use Rattle.stamped_store.specs.Deltas as deltas
-use Rattle.stamped_store.specs.EntryOrder.{PlainEntry}
-use Rattle.stamped_store.specs.Greatest.{IsGreatestAt, IsStoreOf, greatest_count}
-use Rattle.stamped_store.specs.Store.{Store, Update, updates, store_of, issue, issued, policy_name, entity_name}
+use Rattle.stamped_store.specs.EntryOrder.{PlainEntry, entry_cmp}
+use Rattle.stamped_store.specs.Greatest.{IsGreatestAt, greatest_count}
+use Rattle.stamped_store.specs.Store.{Store, Update, IsStoreOf, updates, store_of, issue, issued, policy_name, entity_name}
 use Rattle.site.specs.passed_on.stored_world.{ArePolicies, AreEntities, IsReadFrom, IsAnswerOver, MakesCycle, MakesNoCycle, data_of, parents_with, world_under}
 use Rattle.sync_messages.specs.declared.fault.MessageFault.{MessageFault}
 use Rattle.sync_messages.specs.Summaries.{summary_text, summary_stated}
@@ -74,7 +74,7 @@ below_or_at g m h = elim (cases_lt g m) [
   | inr more ↦ inr (omega arith)
 ]
 
-stamped_or_full : (n : ℕ) (s : Store) (q : Name) (body : Option (List ℕ)) → greatest_count s ≤ most_count
+stamped_or_full : (n : List ℕ) (s : Store) (q : Name) (body : Option (List ℕ)) → greatest_count s ≤ most_count
     → ((stamp : Stamp) × (t : Store) × Records n s q body stamp t) ⊎ IsClockFull s s
 stamped_or_full n s q body h = elim (below_or_at (greatest_count s) most_count h) [
   | inl less ↦ inl (
@@ -97,7 +97,7 @@ id_or_not id = elim (cases_lt (length id) 1) [
 ]
 
 module _ (schema : StatedSchema) (checks : PoliciesHaveOneOutcome) (apart : PassingIsNotRefused)
-    (texts : PoliciesHaveOneReading) (n : ℕ) (s : Store) (room : greatest_count s ≤ most_count) (id text : List ℕ) where
+    (texts : PoliciesHaveOneReading) (n : List ℕ) (s : Store) (room : greatest_count s ≤ most_count) (id text : List ℕ) where
   verdict_by : (p : Policy) → Passes schema p → (o : CheckOutcome) → IsCheckResult schema p o
       → (b : Bool) × (IsTrue b ↔ IsImpossible schema p)
   verdict_by p h (passes b) k = (b, k.impossible)
@@ -127,7 +127,7 @@ module _ (schema : StatedSchema) (checks : PoliciesHaveOneOutcome) (apart : Pass
 
 -- ---- names that are taken away
 
-module _ (n : ℕ) (s : Store) (room : greatest_count s ≤ most_count) (q : Name) where
+module _ (n : List ℕ) (s : Store) (room : greatest_count s ≤ most_count) (q : Name) where
   delete_by : (o : Option (List ℕ)) → text_under s q ≡ o → Has (Deletes n s q)
   delete_by None is = (Err fault.NotThere, s, (is, refl), tt)
   delete_by (Some text) is =
@@ -182,7 +182,7 @@ module _ (stores : LawsOfStores) (schema : StatedSchema) (s : Store) (held : May
 
   -- and of its entities
   update_of : (q : Name) (e : PlainEntry) → get s q ≡ Some e → Contains (updates s) (q, e)
-  update_of q e is = (subst (λ (a : Option PlainEntry). IsGreatestAt (updates s) q a)
+  update_of q e is = (subst (λ (a : Option PlainEntry). IsGreatestAt entry_cmp (updates s) q a)
       (ap (λ (m : Store). get m q) (stores.own s) ∙ is) (stores.greatest (updates s) q)).0
 
   body_by : (q : Name) (text : List ℕ) (a : Option PlainEntry) → get s q ≡ a
@@ -284,7 +284,7 @@ module _ (stores : LawsOfStores) (schema : StatedSchema) (s : Store) (held : May
 
     -- ---- entities
 
-    entity_by : PathsAreDecided → (n : ℕ) (json : Option Data) (r : Result Entity EntityFault) → entity_stated schema json ≡ r
+    entity_by : PathsAreDecided → (n : List ℕ) (json : Option Data) (r : Result Entity EntityFault) → entity_stated schema json ≡ r
         → Has (PutsEntity schema n s json)
     entity_by paths n json (Err f) is = (Err (fault.Entity f), s, (is, refl), tt)
     entity_by paths n json (Ok e) is = elim (cycle_by e paths (reaches (parents_with schema entities_held e) (e.uid ∷ held_uids) e.uid e.uid) refl) [
@@ -353,10 +353,10 @@ pub record LawsOfSome (schema : StatedSchema) : Type 0 where
       → ArePolicies (IsPolicyUnder schema) s ps → AreEntities (IsEntityUnder schema) s es
       → (a : Answer) × IsAnswerOver (IsPolicyUnder schema) (IsEntityUnder schema) schema s q a
 
-abbrev HasOutcome : StatedSchema → ℕ → Store → Input → Type 0
+abbrev HasOutcome : StatedSchema → List ℕ → Store → Input → Type 0
 HasOutcome schema n s i = (r : Reply) × (t : Store) × IsOutcome schema n s i r t
 
-pub some_step : (schema : StatedSchema) → LawsOfSome schema → (n : ℕ) (s : Store) (i : Input) → MayBeHeld schema s
+pub some_step : (schema : StatedSchema) → LawsOfSome schema → (n : List ℕ) (s : Store) (i : Input) → MayBeHeld schema s
     → HasOutcome schema n s i
 some_step schema law n s (input.PutPolicy id text) held =
     let a = some_policy schema law.checks law.apart law.texts n s (room_in law.stores schema s held) id text in

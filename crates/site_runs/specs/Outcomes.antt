@@ -1,6 +1,6 @@
 -- That each input of a site comes to one thing wherever memory suffices: one reply, and one store behind it.
 -- A rule of this product: what is refused for want of memory is told as such, and nothing else is left open.
-use Rattle.std.specs.Prelude.{◌≡◌, ℕ, Result, Ok, Err}
+use Rattle.std.specs.Prelude.{◌≡◌, ℕ, List, Result, Ok, Err}
 use Rattle.schema.specs.Schemas.{StatedSchema}
 use Rattle.stamped_store.specs.Store.{Store}
 use Rattle.site.specs.declared.fault.SiteFault.{SiteFault}
@@ -35,17 +35,17 @@ IsWhole (reply.Answered r) = HadMemory r
 IsWhole (reply.Found r) = HadMemory r
 IsWhole (reply.Written r) = HadMemory r
 
--- at the site with number n the input may be given this reply and leave t, and memory sufficed
-pub record IsOutcome (schema : StatedSchema) (n : ℕ) (s : Store) (i : Input) (r : Reply) (t : Store) : Type 0 where
+-- at the site with name n the input may be given this reply and leave t, and memory sufficed
+pub record IsOutcome (schema : StatedSchema) (n : List ℕ) (s : Store) (i : Input) (r : Reply) (t : Store) : Type 0 where
   pub step : Step schema n s i r t
   pub whole : IsWhole r
 
 -- each input has such an outcome, over any store that a site of the schema may hold,
 abbrev pub InputsHaveAnOutcome : StatedSchema → Type 0
-InputsHaveAnOutcome schema = (n : ℕ) (s : Store) (i : Input) → MayBeHeld schema s
+InputsHaveAnOutcome schema = (n : List ℕ) (s : Store) (i : Input) → MayBeHeld schema s
     → (r : Reply) × (t : Store) × IsOutcome schema n s i r t
 
 -- and no other: the reply and the store are determined
 abbrev pub InputsHaveOneOutcome : StatedSchema → Type 0
-InputsHaveOneOutcome schema = (n : ℕ) (s : Store) (i : Input) (r q : Reply) (t u : Store)
+InputsHaveOneOutcome schema = (n : List ℕ) (s : Store) (i : Input) (r q : Reply) (t u : Store)
     → IsOutcome schema n s i r t → IsOutcome schema n s i q u → (r ≡ q) × (t ≡ u)

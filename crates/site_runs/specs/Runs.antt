@@ -74,8 +74,8 @@ WritesDelta schema s summary (Err _) = ⊥
 
 -- ---- one step
 
--- from s, the site with number n may give this reply to the input and go on to t
-abbrev pub Step : StatedSchema → ℕ → Store → Input → Reply → Store → Type 0
+-- from s, the site with name n may give this reply to the input and go on to t
+abbrev pub Step : StatedSchema → List ℕ → Store → Input → Reply → Store → Type 0
 Step schema n s (input.PutPolicy id text) (reply.Put r) t = PutsPolicy schema n s id text r t
 Step schema n s (input.DeletePolicy id) (reply.Stamped r) t = Deletes n s (policy_name id) r t
 Step schema n s (input.PutEntity bytes) (reply.Stamped r) t = PutsEntity schema n s (json_of bytes) r t
@@ -91,11 +91,12 @@ Step schema n s _ _ t = ⊥
 
 -- ---- runs
 
--- From s to t by one step for each input, each with its reply. An example: site 1 begins with nothing. It is given a
--- text for the policy `a`, which gets the stamp (1, 1); is sent a message in which site 2 has put another text for `a`
--- with the stamp (3, 2), and takes it; and is asked to delete `a`, which gets the stamp (4, 1). These are three inputs
--- with three replies; three updates were taken, and the store at the end says that `a` was deleted at (4, 1).
-abbrev pub Run : StatedSchema → ℕ → Store → List Input → List Reply → Store → Type 0
+-- From s to t by one step for each input, each with its reply. An example: site `east` begins with nothing. It is given
+-- a text for the policy `a`, which gets the stamp (1, `east`); is sent a message in which site `west` has put another
+-- text for `a` with the stamp (3, `west`), and takes it; and is asked to delete `a`, which gets the stamp (4, `east`).
+-- These are three inputs with three replies; three updates were taken, and the store at the end says that `a` was
+-- deleted at (4, `east`).
+abbrev pub Run : StatedSchema → List ℕ → Store → List Input → List Reply → Store → Type 0
 Run schema n s [] [] t = t ≡ s
 Run schema n s [] (r ∷ rs) t = ⊥
 Run schema n s (i ∷ is) [] t = ⊥
@@ -133,9 +134,9 @@ took schema (i ∷ is) (r ∷ rs) = took_by schema i r ++ took schema is rs
 
 -- t is what a site of this schema holds after a run, us being the updates that it had and those that it took
 pub record HoldsAfter (schema : StatedSchema) (us : List Update) (t : Store) : Type 0 where
-  pub number : ℕ
+  pub name : List ℕ
   pub first : Store
   pub inputs : List Input
   pub replies : List Reply
-  pub run : Run schema number first inputs replies t
+  pub run : Run schema name first inputs replies t
   pub all : us ≡ updates first ++ took schema inputs replies

@@ -33,7 +33,7 @@ use sync_messages::{MessageFault, Summary, read_summary};
 /// Refused as [`Site::put_entity`] refuses; bytes that are no JSON have not an entity's form (30). What is refused
 /// changes nothing, nor does want of memory.
 pub fn put_entity_bytes(alloc: Global, site: &mut Site, bytes: &[u8]) -> Result<Stamp, SiteFault>
-    ensures puts { PutsEntity (schema_of site.old) site.old.number (store_in site.old) (json_of bytes.now) result
+    ensures puts { PutsEntity (schema_of site.old) site.old.name (store_in site.old) (json_of bytes.now) result
         (store_in site.new) }
     ensures same { IsSameSite site.old site.new }
 {
@@ -136,7 +136,7 @@ pub fn delta_bytes(alloc: Global, site: &Site, bytes: &[u8]) -> Result<Items<u8>
 
 /// Answers one input.
 fn apply(alloc: Global, site: &mut Site, input: &Input) -> Reply
-    ensures step { Step (schema_of site.old) site.old.number (store_in site.old) input.now result (store_in site.new) }
+    ensures step { Step (schema_of site.old) site.old.name (store_in site.old) input.now result (store_in site.new) }
     ensures same { IsSameSite site.old site.new }
 {
     match input {
@@ -159,7 +159,7 @@ fn apply(alloc: Global, site: &mut Site, input: &Input) -> Reply
 /// Fails where there is no memory for the list of replies; then nothing was done. Other wants of memory are replies,
 /// and the inputs behind them are answered all the same.
 pub fn run(alloc: Global, site: &mut Site, inputs: &[Input]) -> Result<Vec<Reply>, NoMemory>
-    ensures steps { IfOk result (λ replies. Run (schema_of site.old) site.old.number (store_in site.old) inputs.now
+    ensures steps { IfOk result (λ replies. Run (schema_of site.old) site.old.name (store_in site.old) inputs.now
         replies.items (store_in site.new)) }
     ensures store { IfOk result (λ replies. store_in site.new
         ≡ store_of (updates (store_in site.old) ++ took (schema_of site.old) inputs.now replies.items)) }

@@ -23,7 +23,7 @@ use stamped_store::laws::{contents_are_told, stamps_are_issued, updates_have_one
 use state_messages::messages_have_one_outcome;
 use validator::policies_have_one_outcome;
 
-/// Sites of one schema that had and took equal sets of updates hold equal stores, whatever their numbers, and in
+/// Sites of one schema that had and took equal sets of updates hold equal stores, whatever their names, and in
 /// whatever order, as often and in whatever groups the updates came; so they write equal states, and answer a request
 /// equally.
 pub fn equal_updates_leave_equal_stores()

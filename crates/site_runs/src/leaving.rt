@@ -10,7 +10,7 @@ use stamped_store::laws::updates_have_one_store;
 
 /// A run leaves the store of the updates that were there and of those that it took, whoever drove it.
 pub fn runs_leave_what_they_took()
-    ensures { (schema : StatedSchema) (n : ℕ) (s : Store) (inputs : List Input) (replies : List Reply) (t : Store)
+    ensures { (schema : StatedSchema) (n : List ℕ) (s : Store) (inputs : List Input) (replies : List Reply) (t : Store)
         → Run schema n s inputs replies t → t ≡ store_of (updates s ++ took schema inputs replies) }
 {
     updates_have_one_store();

@@ -17,7 +17,7 @@ use Rattle.stamped_store.specs.EntryOrder.{PlainEntry}
 use Rattle.stamped_store.specs.Store.{Store, Update, updates}
 use Rattle.stamped_store.specs.Contents.{text_under, policy_text, entity_text, policies_of, entities_of}
 use Rattle.plain.proofs.Members.{Contains-none, Contains-here, Contains-there}
-use Rattle.stamped_store.proofs.Greatests.{by_place}
+use Rattle.stamped_store.proofs.GreatestsBy.{by_place}
 
 -- ---- what a store has under a name is one of its updates
 equal_of : (r : Ordering) → is_eq r ≡ true → r ≡ Equal

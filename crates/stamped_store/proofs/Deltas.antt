@@ -4,16 +4,16 @@ use Rattle.std.proofs.Common.{sym, ap, ◌∙◌, subst}
 use Rattle.std.specs.Option.{option_map}
 use Rattle.std.specs.Cmp.{IsTotalOrder}
 use Rattle.std.specs.Ordering.{is_eq, is_le, is_lt, nat_cmp, ordering_then, ordering_reverse}
-use Rattle.std.specs.FinMap.{get, same_map, get-retain_keys, get-entries, nat_cmp-IsAntisymmetric}
+use Rattle.std.specs.FinMap.{get, same_map, get-retain_keys, get-entries, nat_cmp-IsAntisymmetric, slice_cmp-IsAntisymmetric}
 use Rattle.std.specs.FinMap.Entries.{find}
 use Rattle.std.specs.declared.cmp.Ordering.{Ordering}
 use Rattle.std.specs.declared.cmp.Ordering.TheVariants.{Less, Equal, Greater}
-use Rattle.std.proofs.lemmas.Cmp.{nat_cmp_total, on_total, then_total}
+use Rattle.std.proofs.lemmas.Cmp.{nat_cmp_total, nat_list_cmp_total, on_total, then_total}
 use Rattle.values.specs.declared.name.Name.{Name}
 use Rattle.values.specs.Names.{name_cmp, name_cmp-IsTotalOrder, name_cmp-IsAntisymmetric}
 use Rattle.stamped_store.specs.declared.entry.Stamp.{Stamp}
 use Rattle.stamped_store.specs.Joins.{option_joined, option_below}
-use Rattle.stamped_store.specs.EntryOrder.{PlainEntry, body_cmp, greater_entry}
+use Rattle.stamped_store.specs.EntryOrder.{PlainEntry, body_cmp, site_cmp, greater_entry}
 use Rattle.stamped_store.specs.Stored.{value_at}
 use Rattle.stamped_store.specs.Store.{Store, Update, updates, plain_below, IsStoreBelow, joined_stores}
 use Rattle.stamped_store.specs.Deltas.{Summary, stamp_of, stamp_cmp, summary_of, is_news, delta, HaveOneEntryForAStamp}
@@ -55,7 +55,7 @@ delta_has t m q e =
 
 -- ---- what it leaves out is there
 stamps_total : IsTotalOrder stamp_cmp
-stamps_total = then_total (on_total (λ p. p.count) nat_cmp_total) (on_total (λ p. p.site) nat_cmp_total)
+stamps_total = then_total (on_total (λ p. p.count) nat_cmp_total) (on_total (λ p. p.site) nat_list_cmp_total)
 
 same_stamps : (r s : Ordering) → ordering_then r s ≡ Equal → (r ≡ Equal) × (s ≡ Equal)
 same_stamps Less s h = absurd (cc)
@@ -68,8 +68,8 @@ one_stamp a b c s = λ i. record { count = c i; site = s i }
 below_by_stamp : (f e : PlainEntry) (r : Ordering) → stamp_cmp (stamp_of f) (stamp_of e) ≡ r → is_lt r ≡ false → (stamp_of f ≡ stamp_of e → f ≡ e) → plain_below e f ≡ true
 below_by_stamp f e Less h k alike = absurd (cc)
 below_by_stamp f e Equal h k alike =
-    let s = same_stamps (nat_cmp f.count e.count) (nat_cmp f.site e.site) h in
-    let same : f ≡ e = alike (one_stamp (stamp_of f) (stamp_of e) (nat_cmp-IsAntisymmetric f.count e.count s.0) (nat_cmp-IsAntisymmetric f.site e.site s.1)) in
+    let s = same_stamps (nat_cmp f.count e.count) (site_cmp f.site e.site) h in
+    let same : f ≡ e = alike (one_stamp (stamp_of f) (stamp_of e) (nat_cmp-IsAntisymmetric f.count e.count s.0) (slice_cmp-IsAntisymmetric nat_cmp-IsAntisymmetric f.site e.site s.1)) in
     subst (λ x. plain_below e x ≡ true) (sym same) (greater_entry_is_join.reflexive e)
 below_by_stamp f e Greater h k alike = ap (λ r. is_le (ordering_then r (body_cmp e.body f.body))) (stamps_total.antisymm (stamp_of e) (stamp_of f) ∙ ap ordering_reverse h)
 

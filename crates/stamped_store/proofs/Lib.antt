@@ -1,9 +1,12 @@
+pub mod SiteNames
 pub mod Entered
 pub mod Points
 pub mod Lifted
+pub mod GreatestsBy
 pub mod Greatests
 pub mod Showing
 pub mod Stores
 pub mod Kept
 pub mod Contents
 pub mod Deltas
+pub mod Raising

@@ -17,7 +17,8 @@ use Rattle.stamped_store.specs.EntryOrder.{entry_cmp, greater, greater_entry, pl
 use Rattle.stamped_store.specs.Stored.{value_at, taken, all_taken, joined_onto}
 use Rattle.stamped_store.specs.Greatest.{store_of}
 use Rattle.stamped_store.specs.Abstraction.{abstract_entry, abstract_entries, abstract_map, greatest_kept}
-use Rattle.stamped_store.proofs.Greatests.{store_of-push, store_of-append, store_of-entries}
+use Rattle.stamped_store.proofs.Greatests.{entry_order}
+use Rattle.stamped_store.proofs.GreatestsBy.{store_of-push, store_of-append, store_of-entries}
 
 pub plain_entry-greater : {P : Type 0} (a b : Entry P) → plain_entry (greater a b) ≡ greater_entry (plain_entry a) (plain_entry b)
 plain_entry-greater a b = elim (is_le (entry_cmp (plain_entry b) (plain_entry a))) as (λ t. plain_entry (if t then a else b) ≡ (if t then plain_entry a else plain_entry b)) [ true ↦ refl | false ↦ refl ]
@@ -79,17 +80,17 @@ module _ {K N P : Type 0} (name : K → N) (R : N → N → Ordering) where
         ∙ ap (insert (abstract_map name es) (name k)) (plain_entry-onto (value_at (by_names name R) es k) v ∙ ap (λ a. joined_onto greater_entry a (plain_entry v)) (sym (get-shown es k)))
 
     -- one value joined is one more update
-    pub shown-taken : (es : List (K × Entry P)) (k : K) (v : Entry P) → abstract_map name {R = R} (taken (by_names name R) greater es k v) ≡ store_of R (entries (abstract_map name {R = R} es) ++ (name k, plain_entry v) ∷ [])
-    shown-taken es k v = shown-taken_insert es k v ∙ sym (store_of-push o exact (abstract_map name es) (name k) (plain_entry v))
+    pub shown-taken : (es : List (K × Entry P)) (k : K) (v : Entry P) → abstract_map name {R = R} (taken (by_names name R) greater es k v) ≡ store_of entry_cmp R (entries (abstract_map name {R = R} es) ++ (name k, plain_entry v) ∷ [])
+    shown-taken es k v = shown-taken_insert es k v ∙ sym (store_of-push entry_order o exact (abstract_map name es) (name k) (plain_entry v))
 
     -- values joined in turn are as many more updates
-    pub shown-all_taken : (s es : List (K × Entry P)) → abstract_map name {R = R} (all_taken (by_names name R) greater s es) ≡ store_of R (entries (abstract_map name {R = R} s) ++ abstract_entries name es)
-    shown-all_taken s [] = sym (ap (store_of R) (append-nil (entries (abstract_map name s))) ∙ store_of-entries o exact (abstract_map name s))
+    pub shown-all_taken : (s es : List (K × Entry P)) → abstract_map name {R = R} (all_taken (by_names name R) greater s es) ≡ store_of entry_cmp R (entries (abstract_map name {R = R} s) ++ abstract_entries name es)
+    shown-all_taken s [] = sym (ap (store_of entry_cmp R) (append-nil (entries (abstract_map name s))) ∙ store_of-entries entry_order o exact (abstract_map name s))
     shown-all_taken s (e ∷ es) =
         shown-all_taken (taken (by_names name R) greater s e.0 e.1) es
-        ∙ ap (λ m. store_of R (entries m ++ abstract_entries name es)) (shown-taken s e.0 e.1)
-        ∙ store_of-append o exact (entries (abstract_map name s) ++ abstract_entry name e ∷ []) (abstract_entries name es)
-        ∙ ap (store_of R) (append_assoc (entries (abstract_map name s)) (abstract_entry name e ∷ []) (abstract_entries name es))
+        ∙ ap (λ m. store_of entry_cmp R (entries m ++ abstract_entries name es)) (shown-taken s e.0 e.1)
+        ∙ store_of-append entry_order o exact (entries (abstract_map name s) ++ abstract_entry name e ∷ []) (abstract_entries name es)
+        ∙ ap (store_of entry_cmp R) (append_assoc (entries (abstract_map name s)) (abstract_entry name e ∷ []) (abstract_entries name es))
 
     -- the entries of the store are those of the map, in the same order
     pub entries-shown : (es : List (K × Entry P)) → IsStrictlySortedBy (by_names name R) (keys_of es) → entries (abstract_map name {R = R} es) ≡ abstract_entries name es

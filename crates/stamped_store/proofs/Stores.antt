@@ -28,12 +28,12 @@ use Rattle.stamped_store.specs.declared.entry.Entry.{Entry}
 use Rattle.stamped_store.specs.Joins.{option_joined, option_below}
 use Rattle.stamped_store.specs.EntryOrder.{PlainEntry, plain_entry, entry_cmp, entry_below, greater, greater_entry}
 use Rattle.stamped_store.specs.Stored.{value_at, value_at_text, taken, all_taken, joined_onto, IsBelow}
-use Rattle.stamped_store.specs.Greatest.{greatest_count, max_count, greatest_at}
+use Rattle.stamped_store.specs.Greatest.{greatest_count, max_count}
 use Rattle.stamped_store.specs.Abstraction.{abstract_entry, abstract_entries, greatest_kept}
 use Rattle.stamped_store.specs.Store.{Store, Update, StoreEntries, kept, all_kept, first_kept, updates, store_of, first_names, plain_below, IsStoreBelow, IsStoreJoin, joined_stores, id_name, entity_name, abstract_updates, abstract_store, KeepsOtherNames, IsCounted, issue, issued}
 use Rattle.plain.proofs.Members.{Contains-none, Contains-here, Contains-there}
-use Rattle.stamped_store.proofs.Greatests.{by_place, count_le, count_of_find, greater_assoc, greater_commutes, greater_itself, greater_entry_is_join, alike, get-store_of, greatest_at-append, greatest_at-entries, store_of-append, store_of-append_right, store_of-entries, store_of-push, greatest_count-empty, greatest_count-insert, greatest_count-store_of, max_count-append}
-use Rattle.stamped_store.proofs.Lifted.{above_first, above_second, least_above}
+use Rattle.stamped_store.proofs.Greatests.{count_le, count_of_find, greater_assoc, greater_commutes, greater_itself, greatest_count-empty, greatest_count-insert, greatest_count-store_of, max_count-append, entry_order}
+use Rattle.stamped_store.proofs.GreatestsBy.{by_place, get-joined, joined_is_least, one_if_below, one_least, store_of-append, store_of-append_right, store_of-entries, store_of-push}
 use Rattle.stamped_store.proofs.Showing.{plain_entry-onto, shown-insert_entry, find-shown}
 
 -- ---- the parts
@@ -145,26 +145,26 @@ module _ {P E : Type 0} where
       ∙ ap (insert (abstract_store (kept ps es)) (Entity u)) (plain_entry-onto (value_at uid_cmp es u) v ∙ ap (λ a. joined_onto greater_entry a (plain_entry v)) (sym (get-entity ps es u)))
 
   pub shown-taken_policy : (ps : List (String Global × Entry P)) (es : List (EntityUid × Entry E)) (k : String Global) (v : Entry P) → abstract_store (kept (taken string_cmp greater ps k v) es) ≡ store_of (updates (abstract_store (kept ps es)) ++ (id_name k, plain_entry v) ∷ [])
-  shown-taken_policy ps es k v = taken_policy_insert ps es k v ∙ sym (store_of-push name_cmp-IsTotalOrder name_cmp-IsAntisymmetric (abstract_store (kept ps es)) (id_name k) (plain_entry v))
+  shown-taken_policy ps es k v = taken_policy_insert ps es k v ∙ sym (store_of-push entry_order name_cmp-IsTotalOrder name_cmp-IsAntisymmetric (abstract_store (kept ps es)) (id_name k) (plain_entry v))
 
   pub shown-taken_entity : (ps : List (String Global × Entry P)) (es : List (EntityUid × Entry E)) (u : EntityUid) (v : Entry E) → abstract_store (kept ps (taken uid_cmp greater es u v)) ≡ store_of (updates (abstract_store (kept ps es)) ++ (Entity u, plain_entry v) ∷ [])
-  shown-taken_entity ps es u v = taken_entity_insert ps es u v ∙ sym (store_of-push name_cmp-IsTotalOrder name_cmp-IsAntisymmetric (abstract_store (kept ps es)) (Entity u) (plain_entry v))
+  shown-taken_entity ps es u v = taken_entity_insert ps es u v ∙ sym (store_of-push entry_order name_cmp-IsTotalOrder name_cmp-IsAntisymmetric (abstract_store (kept ps es)) (Entity u) (plain_entry v))
 
   -- ---- many entries joined
   shown-all_policies : (ps qs : List (String Global × Entry P)) (es : List (EntityUid × Entry E)) → abstract_store (kept (all_taken string_cmp greater ps qs) es) ≡ store_of (updates (abstract_store (kept ps es)) ++ abstract_entries id_name qs)
-  shown-all_policies ps [] es = sym (ap store_of (append-nil (updates (abstract_store (kept ps es)))) ∙ store_of-entries name_cmp-IsTotalOrder name_cmp-IsAntisymmetric (abstract_store (kept ps es)))
+  shown-all_policies ps [] es = sym (ap store_of (append-nil (updates (abstract_store (kept ps es)))) ∙ store_of-entries entry_order name_cmp-IsTotalOrder name_cmp-IsAntisymmetric (abstract_store (kept ps es)))
   shown-all_policies ps (q ∷ qs) es =
       shown-all_policies (taken string_cmp greater ps q.0 q.1) qs es
       ∙ ap (λ m. store_of (updates m ++ abstract_entries id_name qs)) (shown-taken_policy ps es q.0 q.1)
-      ∙ store_of-append name_cmp-IsTotalOrder name_cmp-IsAntisymmetric (updates (abstract_store (kept ps es)) ++ abstract_entry id_name q ∷ []) (abstract_entries id_name qs)
+      ∙ store_of-append entry_order name_cmp-IsTotalOrder name_cmp-IsAntisymmetric (updates (abstract_store (kept ps es)) ++ abstract_entry id_name q ∷ []) (abstract_entries id_name qs)
       ∙ ap store_of (append_assoc (updates (abstract_store (kept ps es))) (abstract_entry id_name q ∷ []) (abstract_entries id_name qs))
 
   shown-all_entities : (ps : List (String Global × Entry P)) (es fs : List (EntityUid × Entry E)) → abstract_store (kept ps (all_taken uid_cmp greater es fs)) ≡ store_of (updates (abstract_store (kept ps es)) ++ abstract_entries entity_name fs)
-  shown-all_entities ps es [] = sym (ap store_of (append-nil (updates (abstract_store (kept ps es)))) ∙ store_of-entries name_cmp-IsTotalOrder name_cmp-IsAntisymmetric (abstract_store (kept ps es)))
+  shown-all_entities ps es [] = sym (ap store_of (append-nil (updates (abstract_store (kept ps es)))) ∙ store_of-entries entry_order name_cmp-IsTotalOrder name_cmp-IsAntisymmetric (abstract_store (kept ps es)))
   shown-all_entities ps es (f ∷ fs) =
       shown-all_entities ps (taken uid_cmp greater es f.0 f.1) fs
       ∙ ap (λ m. store_of (updates m ++ abstract_entries entity_name fs)) (shown-taken_entity ps es f.0 f.1)
-      ∙ store_of-append name_cmp-IsTotalOrder name_cmp-IsAntisymmetric (updates (abstract_store (kept ps es)) ++ abstract_entry entity_name f ∷ []) (abstract_entries entity_name fs)
+      ∙ store_of-append entry_order name_cmp-IsTotalOrder name_cmp-IsAntisymmetric (updates (abstract_store (kept ps es)) ++ abstract_entry entity_name f ∷ []) (abstract_entries entity_name fs)
       ∙ ap store_of (append_assoc (updates (abstract_store (kept ps es))) (abstract_entry entity_name f ∷ []) (abstract_entries entity_name fs))
 
   -- all entries of another store joined: the store of the updates of both
@@ -172,7 +172,7 @@ module _ {P E : Type 0} where
   shown-all_taken ps qs es fs =
       shown-all_entities (all_taken string_cmp greater ps qs) es fs
       ∙ ap (λ m. store_of (updates m ++ abstract_entries entity_name fs)) (shown-all_policies ps qs es)
-      ∙ store_of-append name_cmp-IsTotalOrder name_cmp-IsAntisymmetric (updates (abstract_store (kept ps es)) ++ abstract_entries id_name qs) (abstract_entries entity_name fs)
+      ∙ store_of-append entry_order name_cmp-IsTotalOrder name_cmp-IsAntisymmetric (updates (abstract_store (kept ps es)) ++ abstract_entries id_name qs) (abstract_entries entity_name fs)
       ∙ ap store_of (append_assoc (updates (abstract_store (kept ps es))) (abstract_entries id_name qs) (abstract_entries entity_name fs))
 
   -- ---- the order of the entries
@@ -297,7 +297,7 @@ take_both (suc n) (x ∷ xs) ys =
 -- every name but that of one more update has what it had
 pub others_kept : (s t : Store) (name : Name) (v : PlainEntry) → t ≡ store_of (updates s ++ (name, v) ∷ []) → KeepsOtherNames name s t
 others_kept s t name v e q apart =
-    ap (λ m. get m q) (e ∙ store_of-push name_cmp-IsTotalOrder name_cmp-IsAntisymmetric s name v)
+    ap (λ m. get m q) (e ∙ store_of-push entry_order name_cmp-IsTotalOrder name_cmp-IsAntisymmetric s name v)
     ∙ get-insert name_cmp-IsTotalOrder s name (joined_onto greater_entry (get s name) v) q
     ∙ elim (eq_by_cmp name_cmp q name) as (λ b. eq_by_cmp name_cmp q name ≡ b → cond b (Some (joined_onto greater_entry (get s name) v)) (get s q) ≡ get s q) [
       | true ↦ λ same. absurd (apart (name_cmp-IsAntisymmetric q name (equal_of (name_cmp q name) same)))
@@ -306,35 +306,19 @@ others_kept s t name v e q apart =
 
 -- ---- the join of stores
 pub get-joined_stores : (s t : Store) (q : Name) → get (joined_stores s t) q ≡ option_joined greater_entry (get s q) (get t q)
-get-joined_stores s t q =
-    get-store_of name_cmp-IsTotalOrder (updates s ++ updates t) q
-    ∙ greatest_at-append name_cmp-IsTotalOrder (updates s) (updates t) q
-    ∙ ap (λ a. option_joined greater_entry a (greatest_at name_cmp (updates t) q)) (greatest_at-entries name_cmp-IsTotalOrder s q)
-    ∙ ap (option_joined greater_entry (get s q)) (greatest_at-entries name_cmp-IsTotalOrder t q)
+get-joined_stores = get-joined entry_order name_cmp-IsTotalOrder name_cmp-IsAntisymmetric
 
 -- the store of the updates of both is the least store above both
 pub joined_is_join : (s t : Store) → IsStoreJoin s t (joined_stores s t)
-joined_is_join s t = record {
-  above_left = λ q. subst (λ a. option_below plain_below (get s q) a ≡ true) (sym (get-joined_stores s t q)) (above_first plain_below greater_entry greater_entry_is_join (get s q) (get t q));
-  above_right = λ q. subst (λ a. option_below plain_below (get t q) a ≡ true) (sym (get-joined_stores s t q)) (above_second plain_below greater_entry greater_entry_is_join (get s q) (get t q));
-  least = λ u h k q. subst (λ a. option_below plain_below a (get u q) ≡ true) (sym (get-joined_stores s t q)) (least_above plain_below greater_entry greater_entry_is_join (get s q) (get t q) (get u q) (h q) (k q));
-}
-
-below_both : (a b : Option PlainEntry) → option_below plain_below a b ≡ true → option_below plain_below b a ≡ true → a ≡ b
-below_both None None h k = refl
-below_both None (Some b) h k = absurd (cc)
-below_both (Some a) None h k = absurd (cc)
-below_both (Some a) (Some b) h k = ap (λ x. Some x) (alike a b h k)
+joined_is_join = joined_is_least entry_order name_cmp-IsTotalOrder name_cmp-IsAntisymmetric
 
 -- stores that are below each other are one
 pub same_if_below_both : (s t : Store) → IsStoreBelow s t → IsStoreBelow t s → s ≡ t
-same_if_below_both s t h k = same_map name_cmp-IsTotalOrder name_cmp-IsAntisymmetric s t (λ q. below_both (get s q) (get t q) (h q) (k q))
+same_if_below_both = one_if_below entry_order name_cmp-IsTotalOrder name_cmp-IsAntisymmetric
 
 -- there is one join
 pub one_join : (s t j : Store) → IsStoreJoin s t j → j ≡ joined_stores s t
-one_join s t j h =
-    let l = joined_is_join s t in
-    same_if_below_both j (joined_stores s t) (h.least (joined_stores s t) l.above_left l.above_right) (l.least j h.above_left h.above_right)
+one_join = one_least entry_order name_cmp-IsTotalOrder name_cmp-IsAntisymmetric
 
 -- the greatest count of a join
 pub greatest_count-joined : (s t : Store) → greatest_count (joined_stores s t) ≡ max (greatest_count s) (greatest_count t)
@@ -384,7 +368,7 @@ module _ {P E : Type 0} where
       ap abstract_store e
       ∙ shown-all_taken s.policies (take n o.policies) s.entities (take (n - length o.policies) o.entities)
       ∙ ap (λ us. store_of (updates (abstract_store s) ++ us)) (first_updates n o ∙ ap (take n) (sym h))
-      ∙ sym (store_of-append_right name_cmp-IsTotalOrder name_cmp-IsAntisymmetric (updates (abstract_store s)) (take n (updates (abstract_store o)))) in
+      ∙ sym (store_of-append_right entry_order name_cmp-IsTotalOrder name_cmp-IsAntisymmetric (updates (abstract_store s)) (take n (updates (abstract_store o)))) in
       subst (IsStoreJoin (abstract_store s) (first_names n (abstract_store o))) (sym path) (joined_is_join (abstract_store s) (first_names n (abstract_store o)))
 
   -- memory was refused among the policies
@@ -466,7 +450,7 @@ joined_itself s = same_at _ _ (λ q. get-joined_stores s s q ∙ joined_itself_a
 pub store_of_union : (us vs : List Update) → IsStoreJoin (store_of us) (store_of vs) (store_of (us ++ vs))
 store_of_union us vs =
     let path : joined_stores (store_of us) (store_of vs) ≡ store_of (us ++ vs) =
-    store_of-append name_cmp-IsTotalOrder name_cmp-IsAntisymmetric us (updates (store_of vs)) ∙ store_of-append_right name_cmp-IsTotalOrder name_cmp-IsAntisymmetric us vs in
+    store_of-append entry_order name_cmp-IsTotalOrder name_cmp-IsAntisymmetric us (updates (store_of vs)) ∙ store_of-append_right entry_order name_cmp-IsTotalOrder name_cmp-IsAntisymmetric us vs in
     subst (IsStoreJoin (store_of us) (store_of vs)) path (joined_is_join (store_of us) (store_of vs))
 
 -- ---- issued stamps
@@ -479,10 +463,10 @@ above_all (Some e) v h =
       | false ↦ λ over. refl
     ] refl
 
-pub issued_wins : (s : Store) (q : Name) (n : ℕ) (body : Option (List ℕ)) → get (store_of (updates s ++ (q, issued (issue s n) body) ∷ [])) q ≡ Some (issued (issue s n) body)
+pub issued_wins : (s : Store) (q : Name) (n : List ℕ) (body : Option (List ℕ)) → get (store_of (updates s ++ (q, issued (issue s n) body) ∷ [])) q ≡ Some (issued (issue s n) body)
 issued_wins s q n body =
     let v = issued (issue s n) body in
-    ap (λ m. get m q) (store_of-push name_cmp-IsTotalOrder name_cmp-IsAntisymmetric s q v)
+    ap (λ m. get m q) (store_of-push entry_order name_cmp-IsTotalOrder name_cmp-IsAntisymmetric s q v)
     ∙ get-insert name_cmp-IsTotalOrder s q (joined_onto greater_entry (get s q) v) q
     ∙ ap (λ r. cond (is_eq r) (Some (joined_onto greater_entry (get s q) v)) (get s q)) (tied_itself name_cmp-IsTotalOrder q)
     ∙ ap (λ x. Some x) (above_all (get s q) v (λ e is. let under = count_of_find name_cmp-IsTotalOrder q (updates s) e (sym (get-entries s q) ∙ is) in omega arith))

@@ -8,7 +8,7 @@ use Rattle.std.specs.declared.cmp.Ordering.{Ordering}
 use Rattle.values.specs.declared.name.Name.{Name}
 use Rattle.values.specs.Names.{name_cmp}
 use Rattle.stamped_store.specs.declared.entry.Stamp.{Stamp}
-use Rattle.stamped_store.specs.EntryOrder.{PlainEntry}
+use Rattle.stamped_store.specs.EntryOrder.{PlainEntry, site_cmp}
 use Rattle.stamped_store.specs.Stored.{value_at}
 use Rattle.stamped_store.specs.Store.{Store, updates}
 
@@ -18,7 +18,7 @@ stamp_of e = record { count = e.count; site = e.site }
 
 -- by count, then by site
 abbrev pub stamp_cmp : Stamp → Stamp → Ordering
-stamp_cmp a b = ordering_then (nat_cmp a.count b.count) (nat_cmp a.site b.site)
+stamp_cmp a b = ordering_then (nat_cmp a.count b.count) (site_cmp a.site b.site)
 
 -- names with stamps
 abbrev pub Summary : Type 0

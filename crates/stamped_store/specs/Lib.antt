@@ -1,3 +1,4 @@
+pub mod SiteNames
 pub mod Joins
 pub mod EntryOrder
 pub mod EntryJoins
@@ -8,3 +9,4 @@ pub mod Store
 pub mod Reading
 pub mod Contents
 pub mod Deltas
+pub mod Raised

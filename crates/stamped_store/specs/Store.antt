@@ -1,5 +1,5 @@
 -- The store of a site: at each name (policies before entities) at most one entry.
-use Rattle.std.specs.Prelude.{◌≡◌, ◌≢◌, ℕ, ◌+◌, ◌-◌, Bool, true, List, ◌++◌, length, take, Option, string_bytes}
+use Rattle.std.specs.Prelude.{◌≡◌, ◌≢◌, ℕ, ◌+◌, ◌-◌, Bool, List, ◌++◌, length, take, Option, string_bytes}
 use Rattle.std.specs.FinMap as map
 use Rattle.std.specs.Ordering.{is_le}
 use Rattle.std.specs.String.{string_cmp}
@@ -11,18 +11,27 @@ use Rattle.values.specs.declared.entity_uid.EntityUid.{EntityUid}
 use Rattle.values.specs.Names.{name_cmp, uid_cmp}
 use Rattle.stamped_store.specs.declared.entry.Entry.{Entry}
 use Rattle.stamped_store.specs.declared.entry.Stamp.{Stamp}
-use Rattle.stamped_store.specs.Joins.{IsLeastAbove, option_below}
-use Rattle.stamped_store.specs.EntryOrder.{PlainEntry, entry_cmp, greater}
+use Rattle.stamped_store.specs.Joins.{IsLeastAbove}
+use Rattle.stamped_store.specs.EntryOrder.{EntryAt, PlainEntry, entry_cmp, greater}
 use Rattle.stamped_store.specs.Greatest as updates_of
 use Rattle.stamped_store.specs.Stored.{all_taken}
 use Rattle.stamped_store.specs.Abstraction.{abstract_entries}
 
+-- a store at sites of this type
+abbrev pub StoreAt : Type 0 → Type 0
+StoreAt Site = map.FinMap name_cmp (EntryAt Site)
+
+-- a store at sites with names
 abbrev pub Store : Type 0
-Store = map.FinMap name_cmp PlainEntry
+Store = StoreAt (List ℕ)
 
 -- an update: a name, and an entry for it
+abbrev pub UpdateAt : Type 0 → Type 0
+UpdateAt Site = Name × EntryAt Site
+
+-- an update at a site with a name
 abbrev pub Update : Type 0
-Update = Name × PlainEntry
+Update = UpdateAt (List ℕ)
 
 -- a store as the set of its own updates, in the order of the names
 abbrev pub updates : Store → List Update
@@ -32,7 +41,11 @@ updates s = map.entries s
 -- count, then site, then body, nothing being the least body (EntryOrder). It is built one update after another
 -- (Greatest); that the entry is the greatest, whatever their order, is the law `updates_have_one_store`.
 abbrev pub store_of : List Update → Store
-store_of us = updates_of.store_of name_cmp us
+store_of us = updates_of.store_of entry_cmp name_cmp us
+
+-- each name has the greatest entry that the updates have for it, and no other name has one
+abbrev pub IsStoreOf : List Update → Store → Type 0
+IsStoreOf us s = updates_of.IsStoreOf entry_cmp us s
 
 -- the store of the first k names
 abbrev pub first_names : ℕ → Store → Store
@@ -44,7 +57,7 @@ plain_below a b = is_le (entry_cmp a b)
 
 -- each name of s is a name of t, with an entry at least as great
 abbrev pub IsStoreBelow : Store → Store → Type 0
-IsStoreBelow s t = (q : Name) → option_below plain_below (map.get s q) (map.get t q) ≡ true
+IsStoreBelow s t = updates_of.IsStoreBelow entry_cmp s t
 
 -- each name apart from this one has the entry that it had
 abbrev pub KeepsOtherNames : Name → Store → Store → Type 0
@@ -56,11 +69,11 @@ IsStoreJoin = IsLeastAbove IsStoreBelow
 
 -- the join of two stores, which is their merge: the store of the updates of both
 abbrev pub joined_stores : Store → Store → Store
-joined_stores s t = store_of (updates s ++ updates t)
+joined_stores s t = updates_of.joined_stores entry_cmp name_cmp s t
 
--- one more than the greatest count in the whole store, at the site
-abbrev pub issue : Store → ℕ → Stamp
-issue s n = record { count = updates_of.greatest_count s + 1; site = n }
+-- one more than the greatest count in the whole store, at the site of this name
+abbrev pub issue : Store → List ℕ → Stamp
+issue s site = record { count = updates_of.greatest_count s + 1; site = site }
 
 -- the entry that a local command makes: an issued stamp, and a body
 abbrev pub issued : Stamp → Option (List ℕ) → PlainEntry

@@ -6,17 +6,17 @@ ghost use Rattle.std.proofs.lemmas.Cmp.{eq_by_cmp_equiv};
 ghost use Rattle.stamped_store.specs.EntryOrder.{entry_below, greater, read_cmp};
 ghost use Rattle.stamped_store.specs.EntryJoins.{greater_is_join, read_cmp_total};
 
-use crate::Join;
+use crate::{Join, SiteName};
 use plain::Text;
 use std::cmp::Ordering;
 
-/// When and where an entry was issued: ordered by count, then by site.
+/// When and where an entry was issued: ordered by count, then by the bytes of the site's name.
 #[derive(Clone, Copy, PartialEq, Eq, PartialOrd, Ord)]
 pub struct Stamp {
     /// From 1 to 10^18.
     pub count: u64,
-    /// The number of the site, from 1.
-    pub site: u16,
+    /// The name of the site.
+    pub site: SiteName,
 }
 
 /// A text, and what it was read as. No order and no equality looks at the latter.

@@ -1,6 +1,8 @@
 //! Laws of entries, of joins and of stores, each by the contract of a function that does nothing.
-ghost use Rattle.std.specs.Prelude.{◌≡◌, ◌↔◌, ◌≤◌, ◌⊎◌, ◌++◌, ◌∷◌, [], true, ℕ, List, Option, Some, max, string_bytes};
+ghost use Rattle.std.specs.Prelude.{◌≡◌, ◌↔◌, ◌≤◌, ◌<◌, ◌⊎◌, ◌++◌, ◌∷◌, [], true, ℕ, List, Option, Some, max};
+ghost use Rattle.std.specs.Prelude.{string_bytes};
 ghost use Rattle.std.specs.Option.{option_map};
+ghost use Rattle.std.specs.Ordering.{nat_cmp};
 ghost use Rattle.std.specs.String.{string_cmp};
 ghost use Rattle.std.specs.declared.alloc.Global.{Global};
 ghost use Rattle.std.specs.declared.string.String.{String};
@@ -12,15 +14,19 @@ ghost use Rattle.values.specs.declared.entity_uid.EntityUid.{EntityUid};
 ghost use Rattle.values.specs.Names.{name_cmp, uid_cmp};
 ghost use Rattle.stamped_store.specs.Joins.{IsJoin, IsLeastAbove};
 ghost use Rattle.stamped_store.specs.EntryOrder.{PlainEntry, plain_entry, entry_cmp, greater_entry, greater};
-ghost use Rattle.stamped_store.specs.EntryOrder.{entry_below};
+ghost use Rattle.stamped_store.specs.EntryOrder.{entry_below, site_cmp};
+ghost use Rattle.stamped_store.specs.SiteNames.{SiteTestIsExact, SiteNamesAreTexts, SiteDigitsAreNames, five_digits};
 ghost use Rattle.stamped_store.specs.Stored.{IsBelowAt, joined_at, value_at, taken};
-ghost use Rattle.stamped_store.specs.Greatest.{IsStoreOf, greatest_count};
+ghost use Rattle.stamped_store.specs.Greatest.{greatest_count};
 ghost use Rattle.stamped_store.specs.Store.{Store, Update, updates, store_of, plain_below, IsStoreBelow, IsStoreJoin};
 ghost use Rattle.stamped_store.specs.Store.{joined_stores, issue, issued, policy_name, entity_name};
-ghost use Rattle.stamped_store.specs.Store.{StoreEntries, kept, all_kept, first_kept};
+ghost use Rattle.stamped_store.specs.Store.{StoreEntries, IsStoreOf, kept, all_kept, first_kept};
 ghost use Rattle.stamped_store.specs.Reading.{IsEntryRead, AreEntriesRead};
 ghost use Rattle.stamped_store.specs.Contents.{text_under, policies_of, entities_of};
 ghost use Rattle.stamped_store.specs.Deltas.{Summary, stamp_of, summary_of, is_news, delta, HaveOneEntryForAStamp};
+ghost use Rattle.stamped_store.specs.Raised.{NumberedUpdate, NumberedStore, IsNumberedStoreOf, numbered_store_of};
+ghost use Rattle.stamped_store.specs.Raised.{IsNumberedJoin, joined_numbered, numbered_updates, HaveSiteNumbers};
+ghost use Rattle.stamped_store.specs.Raised.{raise, raise_store};
 
 use crate::{Entry, Join, Readings};
 
@@ -87,7 +93,7 @@ pub fn stamps_are_issued()
     ensures reached { (s : Store) → (greatest_count s ≡ 0)
         ⊎ ((u : Update) × Contains (updates s) u × (u.1.count ≡ greatest_count s)) }
     ensures joined { (s t : Store) → greatest_count (joined_stores s t) ≡ max (greatest_count s) (greatest_count t) }
-    ensures stays { (s : Store) (name : Name) (site : ℕ) (body : Option (List ℕ))
+    ensures stays { (s : Store) (name : Name) (site : List ℕ) (body : Option (List ℕ))
         → get (store_of (updates s ++ (name, issued (issue s site) body) ∷ [])) name
         ≡ Some (issued (issue s site) body) }
 {}
@@ -132,4 +138,33 @@ pub fn readings_are_kept<P: Drop, E: Drop, R: Readings<P, E>>()
         → AreEntriesRead (R.reads_policy r) (R.reads_entity r) k
         → AreEntriesRead (R.reads_policy r) (R.reads_entity r) l
         → AreEntriesRead (R.reads_policy r) (R.reads_entity r) (all_kept k (first_kept n l)) }
+{}
+
+/// The test tells exactly the names of sites, and a name is a text. A number's five digits are a name; they are ordered
+/// as the numbers that they are of, and tell these apart.
+pub fn site_names_are_told()
+    ensures tested { SiteTestIsExact }
+    ensures texts { SiteNamesAreTexts }
+    ensures digits { SiteDigitsAreNames }
+    ensures ordered { (m n : ℕ) → m < 100000 → n < 100000
+        → site_cmp (five_digits m) (five_digits n) ≡ nat_cmp m n }
+    ensures apart { (m n : ℕ) → m < 100000 → n < 100000 → five_digits m ≡ five_digits n → m ≡ n }
+{}
+
+/// A store of sites with numbers is the one store of its updates, as a store of sites with names is, and the join of
+/// two is the least above both. Where each number is one that a site had, the store of raised updates is the raised
+/// store, which has exactly the raised updates, and the raise of a join is the join of the raised stores.
+pub fn stores_are_raised()
+    ensures greatest { (us : List NumberedUpdate) → IsNumberedStoreOf us (numbered_store_of us) }
+    ensures only { (us : List NumberedUpdate) (s : NumberedStore) → IsNumberedStoreOf us s → s ≡ numbered_store_of us }
+    ensures least { (s t : NumberedStore) → IsNumberedJoin s t (joined_numbered s t) }
+    ensures store { (us : List NumberedUpdate) → HaveSiteNumbers us
+        → store_of (raise us) ≡ raise_store (numbered_store_of us) }
+    ensures updates { (s : NumberedStore) → updates (raise_store s) ≡ raise (numbered_updates s) }
+    ensures joined { (s t : NumberedStore) → HaveSiteNumbers (numbered_updates s)
+        → HaveSiteNumbers (numbered_updates t)
+        → raise_store (joined_numbered s t) ≡ joined_stores (raise_store s) (raise_store t) }
+    ensures join { (s t j : NumberedStore) → HaveSiteNumbers (numbered_updates s)
+        → HaveSiteNumbers (numbered_updates t) → IsNumberedJoin s t j
+        → IsStoreJoin (raise_store s) (raise_store t) (raise_store j) }
 {}

@@ -10,10 +10,12 @@ mod join;
 pub mod laws;
 mod policy_store;
 mod readings;
+mod site_name;
 mod stamped;
 
 pub use entry::{Entry, ReadText, Stamp};
 pub use join::Join;
 pub use policy_store::{COUNT_MAX, PolicyStore};
 pub use readings::Readings;
+pub use site_name::{SiteName, is_site_name};
 pub use stamped::{Short, Stamped};

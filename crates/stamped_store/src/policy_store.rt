@@ -18,7 +18,7 @@ ghost use Rattle.stamped_store.specs.Store.{first_kept};
 ghost use Rattle.stamped_store.specs.Store.{policy_name, entity_name, KeepsOtherNames, IsStoreBelow, IsStoreJoin};
 ghost use Rattle.stamped_store.specs.Store.{first_names, issue};
 
-use crate::{Entry, Short, Stamp, Stamped};
+use crate::{Entry, Short, SiteName, Stamp, Stamped};
 use std::alloc::Global;
 use std::collections::btree_map::Iter;
 use std::marker::Model;
@@ -108,8 +108,8 @@ impl<P: Drop, E: Drop> PolicyStore<P, E> {
     }
 
     /// The stamp of the next local command at a site: one more than the greatest count in the whole store, and the
-    /// site's number.
-    pub fn issue(&self, site: u16) -> Stamp
+    /// site's name.
+    pub fn issue(&self, site: SiteName) -> Stamp
         requires { greatest_count (abstract_store self.now) < COUNT_MAX }
         ensures { result ≡ issue (abstract_store self.now) site }
     {

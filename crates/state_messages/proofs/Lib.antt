@@ -4,3 +4,4 @@ pub mod News
 pub mod Found
 pub mod Taking
 pub mod Outcomes
+pub mod Raised

@@ -53,7 +53,7 @@ fn entry_value<P>(alloc: Global, name: &Name, entry: &Entry<P>) -> Result<Value,
 {
     let body = body_value(alloc, &entry.body)?;
     let name = name_value(alloc, name)?;
-    json!(in alloc; {"body": body, "count": entry.stamp.count, "name": name, "site": entry.stamp.site})
+    json!(in alloc; {"body": body, "count": entry.stamp.count, "name": name, "site": entry.stamp.site.as_str()})
 }
 
 /// How the name of a stamp compares with a name.
@@ -179,7 +179,7 @@ fn message_value<P: Drop, E: Drop>(
         ≡ message_json kind.now label.now (updates (delta (abstract_store store.now) known.now))) }
 {
     let entries = entries_value(alloc, store, known)?;
-    json!(in alloc; {"entries": entries, "kind": kind, "schema": label, "version": 1u64})
+    json!(in alloc; {"entries": entries, "kind": kind, "schema": label, "version": 2u64})
 }
 
 /// A store whole, as a state under the schema of this label: compact, keys and names ascending. Where each name and

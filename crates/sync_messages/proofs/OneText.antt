@@ -10,6 +10,7 @@ use Rattle.values.specs.declared.name.Name.{Name}
 use Rattle.values.specs.declared.name.Name.TheVariants.{Policy, Entity}
 use Rattle.stamped_store.specs.declared.entry.Stamp.{Stamp}
 use Rattle.stamped_store.specs.Deltas.{Summary}
+use Rattle.stamped_store.specs.SiteNames.{SiteTestIsExact, SiteNamesAreTexts}
 use Rattle.sync_messages.specs.declared.fault.MessageFault.{MessageFault}
 use Rattle.sync_messages.specs.Summaries.{IsStamped, AreStamped, HasTexts, HaveTexts, IsWritten, name_json, stamp_json, summary_json, summary_text, summary_in}
 use Rattle.sync_messages.proofs.RoundTrip.{summary_again, depth_summary}
@@ -27,8 +28,8 @@ plain_name (Entity uid) h = (
   tt,
 )
 
-plain_stamp : (u : Name × Stamp) → IsStamped u → HasTexts u.0 → IsPlain (stamp_json u)
-plain_stamp u h texts = (
+plain_stamp : SiteNamesAreTexts → (u : Name × Stamp) → IsStamped u → HasTexts u.0 → IsPlain (stamp_json u)
+plain_stamp sites u h texts = (
   key (codes "count") refl,
   omega (arith, h.bounded),
   (refl, (refl, tt)),
@@ -36,16 +37,16 @@ plain_stamp u h texts = (
     key (codes "name") refl,
     plain_name u.0 texts,
     (refl, tt),
-    (key (codes "site") refl, omega (arith, h.small), tt, tt),
+    (key (codes "site") refl, sites u.1.site h.site, tt, tt),
   ),
 )
 
-plain_stamps : (m : Summary) → AreStamped m → HaveTexts m → ArePlain (items_of (map stamp_json m))
-plain_stamps [] h texts = tt
-plain_stamps (u ∷ m) h texts = (plain_stamp u h.0 texts.0, plain_stamps m h.1 texts.1)
+plain_stamps : SiteNamesAreTexts → (m : Summary) → AreStamped m → HaveTexts m → ArePlain (items_of (map stamp_json m))
+plain_stamps sites [] h texts = tt
+plain_stamps sites (u ∷ m) h texts = (plain_stamp sites u h.0 texts.0, plain_stamps sites m h.1 texts.1)
 
-plain_summary : (label : List ℕ) (m : Summary) → IsUtf8 label → AreStamped m → HaveTexts m → IsPlain (summary_json label m)
-plain_summary label m is h texts = (
+plain_summary : SiteNamesAreTexts → (label : List ℕ) (m : Summary) → IsUtf8 label → AreStamped m → HaveTexts m → IsPlain (summary_json label m)
+plain_summary sites label m is h texts = (
   key (codes "kind") refl,
   key (codes "summary") refl,
   (refl, (refl, (refl, tt))),
@@ -55,7 +56,7 @@ plain_summary label m is h texts = (
     (refl, (refl, tt)),
     (
       key (codes "stamps") refl,
-      plain_stamps m h texts,
+      plain_stamps sites m h texts,
       (refl, tt),
       (key (codes "version") refl, omega arith, tt, tt),
     ),
@@ -69,9 +70,9 @@ ok_is : (m n : Summary) → done m ≡ done n → m ≡ n
 unfolding done
 ok_is m n h = cc
 
-pub one_text : PathTestIsExact → CompactIsOne → (label : List ℕ) (m n : Summary) → IsUtf8 label → IsWritten m → IsWritten n → summary_text label m ≡ summary_text label n → m ≡ n
+pub one_text : PathTestIsExact → SiteTestIsExact → SiteNamesAreTexts → CompactIsOne → (label : List ℕ) (m n : Summary) → IsUtf8 label → IsWritten m → IsWritten n → summary_text label m ≡ summary_text label n → m ≡ n
 unfolding summary_text done
-one_text told compact_one label m n is h k same =
+one_text told tested sites compact_one label m n is h k same =
     let json : summary_json label m ≡ summary_json label n =
-    compact_one (summary_json label m) (summary_json label n) (plain_summary label m is h.stamped h.texts) (plain_summary label n is k.stamped k.texts) (depth_summary label m) (depth_summary label n) same in
-    ok_is m n (sym (summary_again told label m h.stamped h.ascending) ∙ ap (summary_in label) json ∙ summary_again told label n k.stamped k.ascending)
+    compact_one (summary_json label m) (summary_json label n) (plain_summary sites label m is h.stamped h.texts) (plain_summary sites label n is k.stamped k.texts) (depth_summary label m) (depth_summary label n) same in
+    ok_is m n (sym (summary_again told tested label m h.stamped h.ascending) ∙ ap (summary_in label) json ∙ summary_again told tested label n k.stamped k.ascending)

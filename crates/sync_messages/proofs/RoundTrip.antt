@@ -24,7 +24,11 @@ use Rattle.uid_json.specs.Uids.{uid_in, plain_uid_in, uid_json}
 use Rattle.stamped_store.specs.declared.entry.Stamp.{Stamp}
 use Rattle.stamped_store.specs.Deltas.{Summary, stamp_of, summary_of}
 use Rattle.stamped_store.specs.Store.{Store, Update, updates}
-use Rattle.sync_messages.specs.Summaries.{ascend, IsName, IsStamped, AreStamped, name_json, stamp_json, summary_json, policy_in, entity_in, name_in, stamped_in, stamp_in, stamps_of, stamps_in, is_id, judged, summary_in, summary_stated}
+use Rattle.stamped_store.specs.SiteNames.{SiteTestIsExact}
+use Rattle.stamped_store.specs.Raised.{IsSiteNumber}
+use Rattle.sync_messages.specs.declared.version.MessageVersion.TheVariants.{One, Two}
+use Rattle.sync_messages.specs.Summaries.{version_in, numbered_in, raised_in, named_in, ascend, IsName, IsStamped, AreStamped, name_json, stamp_json, summary_json, policy_in, entity_in, name_in, stamped_by, stamped_in, stamp_in, stamps_of, stamps_in, is_id, judged, summary_in, summary_stated}
+use Rattle.sync_messages.specs.Numbered.{NumberedStamp, HaveNumbers, raise_stamp, raise_stamps, numbered_stamp_json, numbered_summary_json}
 
 -- ---- one stamp
 uid_again : PathTestIsExact → (uid : EntityUid) → IsPath uid.type_name → uid_in (uid_json uid) ≡ Some uid
@@ -36,9 +40,9 @@ unfolding name_in policy_in entity_in
 name_again told (Policy id) h = refl
 name_again told (Entity uid) h = rw (uid_again told uid h) refl
 
-stamp_again : PathTestIsExact → (u : Name × Stamp) → IsStamped u → stamp_in (stamp_json u) ≡ Ok u
-unfolding stamp_in stamped_in
-stamp_again told u h = rw (le-leb _ _ h.numbered, le-leb _ _ h.small, name_again told u.0 h.name) refl
+stamp_again : PathTestIsExact → SiteTestIsExact → (u : Name × Stamp) → IsStamped u → stamp_in Two (stamp_json u) ≡ Ok u
+unfolding stamp_in stamped_in stamped_by named_in
+stamp_again told sites u h = rw ((sites u.1.site).1 h.site, name_again told u.0 h.name) refl
 
 id_again : (n : Name) → IsName n → is_id n ≡ true
 id_again (Policy id) h = rw (le-leb _ _ h.0, le-leb _ _ h.1) refl
@@ -49,10 +53,10 @@ unfolding judged
 judged_again k u h = rw (le-leb _ _ h.counted, le-leb _ _ h.bounded, id_again u.0 h.name) refl
 
 -- ---- all stamps
-stamps_again : PathTestIsExact → (k : ℕ) (m : Summary) → AreStamped m → each (λ i d. stamp_in d) k (list_of (items_of (map stamp_json m))) ≡ Ok m
+stamps_again : PathTestIsExact → SiteTestIsExact → (k : ℕ) (m : Summary) → AreStamped m → each (λ i d. stamp_in Two d) k (list_of (items_of (map stamp_json m))) ≡ Ok m
 unfolding each
-stamps_again told k [] h = refl
-stamps_again told k (u ∷ m) h = rw (stamp_again told u h.0, stamps_again told (suc k) m h.1) refl
+stamps_again told sites k [] h = refl
+stamps_again told sites k (u ∷ m) h = rw (stamp_again told sites u h.0, stamps_again told sites (suc k) m h.1) refl
 
 all_judged : (k : ℕ) (m : Summary) → AreStamped m → each judged k m ≡ Ok m
 unfolding each
@@ -62,13 +66,34 @@ all_judged k (u ∷ m) h = rw (judged_again k u h.0, all_judged (suc k) m h.1) r
 bytes_eq_same : (s : List ℕ) → bytes_eq s s ≡ true
 bytes_eq_same s = (bytes_eq-Decides s s).1 refl
 
-stamps_in_again : PathTestIsExact → (label : List ℕ) (m : Summary) → AreStamped m → ascend m ≡ true → stamps_in (summary_json label m) ≡ Ok m
+stamps_in_again : PathTestIsExact → SiteTestIsExact → (label : List ℕ) (m : Summary) → AreStamped m → ascend m ≡ true → stamps_in Two (summary_json label m) ≡ Ok m
 unfolding stamps_in stamps_of
-stamps_in_again told label m h up = rw (stamps_again told 0 m h, up) refl
+stamps_in_again told sites label m h up = rw (stamps_again told sites 0 m h, up) refl
 
-pub summary_again : PathTestIsExact → (label : List ℕ) (m : Summary) → AreStamped m → ascend m ≡ true → summary_in label (summary_json label m) ≡ Ok m
-unfolding summary_in
-summary_again told label m h up = rw (stamps_in_again told label m h up, bytes_eq_same label) (all_judged 0 m h)
+pub summary_again : PathTestIsExact → SiteTestIsExact → (label : List ℕ) (m : Summary) → AreStamped m → ascend m ≡ true → summary_in label (summary_json label m) ≡ Ok m
+unfolding summary_in version_in
+summary_again told sites label m h up = rw (stamps_in_again told sites label m h up, bytes_eq_same label) (all_judged 0 m h)
+
+-- ---- the same of version 1
+numbered_stamp_again : PathTestIsExact → (n : NumberedStamp) → IsSiteNumber n.1.site → IsName n.0 → stamp_in One (numbered_stamp_json n) ≡ Ok (raise_stamp n)
+unfolding stamp_in stamped_in stamped_by raised_in numbered_in
+numbered_stamp_again told n h named = rw (le-leb _ _ h.0, le-leb _ _ h.1, name_again told n.0 named) refl
+
+numbered_stamps_again : PathTestIsExact → (k : ℕ) (ns : List NumberedStamp) → HaveNumbers ns → AreStamped (raise_stamps ns)
+    → each (λ i d. stamp_in One d) k (list_of (items_of (map numbered_stamp_json ns))) ≡ Ok (raise_stamps ns)
+unfolding each
+numbered_stamps_again told k [] h s = refl
+numbered_stamps_again told k (n ∷ ns) h s = rw (numbered_stamp_again told n h.0 s.0.name, numbered_stamps_again told (suc k) ns h.1 s.1) refl
+
+numbered_stamps_in_again : PathTestIsExact → (label : List ℕ) (ns : List NumberedStamp) → HaveNumbers ns → AreStamped (raise_stamps ns) → ascend (raise_stamps ns) ≡ true
+    → stamps_in One (numbered_summary_json label ns) ≡ Ok (raise_stamps ns)
+unfolding stamps_in stamps_of
+numbered_stamps_in_again told label ns h s up = rw (numbered_stamps_again told 0 ns h s, up) refl
+
+pub numbered_again : PathTestIsExact → (label : List ℕ) (ns : List NumberedStamp) → HaveNumbers ns → AreStamped (raise_stamps ns) → ascend (raise_stamps ns) ≡ true
+    → summary_in label (numbered_summary_json label ns) ≡ Ok (raise_stamps ns)
+unfolding summary_in version_in
+numbered_again told label ns h s up = rw (numbered_stamps_in_again told label ns h s up, bytes_eq_same label) (all_judged 0 (raise_stamps ns) s)
 
 -- ---- the summary of a store ascends
 left_of : (a b : Bool) → T (a && b) → T a

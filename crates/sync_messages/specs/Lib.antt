@@ -1,3 +1,4 @@
 pub mod Faults
+pub mod Numbered
 pub mod Summaries
 pub mod inner

@@ -16,7 +16,7 @@ pub enum MessageFault {
     BadShape,
     /// A message of another schema.
     OtherSchema,
-    /// A version other than 1.
+    /// A version other than 1 and 2.
     Version,
     /// A count of 0, or over 10^18.
     CountRange(usize),

@@ -6,19 +6,26 @@ ghost use Rattle.values.specs.declared.name.Name.{Name};
 ghost use Rattle.stamped_store.specs.declared.entry.Stamp.{Stamp};
 ghost use Rattle.stamped_store.specs.Deltas.{Summary, summary_of};
 ghost use Rattle.stamped_store.specs.Store.{Store};
+ghost use Rattle.sync_messages.specs.declared.version.MessageVersion.{MessageVersion};
 ghost use Rattle.sync_messages.specs.Summaries.{ascend, AreStamped, summary_json, summary_in};
 ghost use Rattle.sync_messages.specs.Summaries.{summary_text, summary_stated, IsWritten, IsName, IsStamped};
+ghost use Rattle.sync_messages.specs.Numbered.{NumberedStamp, HaveNumbers, raise_stamps, numbered_summary_json};
 ghost use Rattle.sync_messages.specs.Summaries.{name_json, name_in, stamped_in, judged};
 
 use json_words::compact_texts_read_back;
+use stamped_store::laws::site_names_are_told;
 use uid_json::names_read_back;
 use values::paths_are_told;
 
-/// The JSON of a summary is read as this summary; what is read as a summary has names and stamps in their ranges, its
+/// The JSON of a summary is read as this summary, and the JSON of a summary of version 1 as the summary in which each
+/// site's number is replaced by its five digits; what is read as a summary has names and stamps in their ranges, its
 /// names ascending; so have the names of a store's summary; and two summaries that are written alike are one.
 pub fn summaries_read_back()
     ensures back { (label : List ℕ) (m : Summary) → AreStamped m → ascend m ≡ true
         → summary_in label (summary_json label m) ≡ Ok m }
+    ensures numbered { (label : List ℕ) (ns : List NumberedStamp) → HaveNumbers ns → AreStamped (raise_stamps ns)
+        → ascend (raise_stamps ns) ≡ true
+        → summary_in label (numbered_summary_json label ns) ≡ Ok (raise_stamps ns) }
     ensures sound { (label bytes : List ℕ) (m : Summary) → summary_stated label bytes ≡ Ok m
         → AreStamped m × (ascend m ≡ true) }
     ensures ascending { (s : Store) → ascend (summary_of s) ≡ true }
@@ -26,6 +33,7 @@ pub fn summaries_read_back()
         → summary_text label m ≡ summary_text label n → m ≡ n }
 {
     paths_are_told();
+    site_names_are_told();
     compact_texts_read_back();
     names_read_back();
 }
@@ -35,9 +43,10 @@ pub fn summaries_read_back()
 pub fn stamps_read_back()
     ensures names { (n : Name) → IsName n → name_in (name_json n) ≡ Ok n }
     ensures judged { (place : ℕ) (u : Name × Stamp) → IsStamped u → judged place u ≡ Ok u }
-    ensures sound { (place : ℕ) (d : Data) (u v : Name × Stamp) → stamped_in d ≡ Ok u → judged place u ≡ Ok v
-        → IsStamped u }
+    ensures sound { (place : ℕ) (version : MessageVersion) (d : Data) (u v : Name × Stamp)
+        → stamped_in version d ≡ Ok u → judged place u ≡ Ok v → IsStamped u }
 {
     paths_are_told();
+    site_names_are_told();
     names_read_back();
 }

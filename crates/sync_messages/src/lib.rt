@@ -8,11 +8,13 @@ mod fault;
 mod laws;
 mod reading;
 mod summary;
+mod version;
 mod writing;
 
 pub use fault::MessageFault;
 pub use laws::{stamps_read_back, summaries_read_back};
-pub use reading::{judge_stamp, number_at, read_stamped, read_summary};
+pub use reading::{judge_stamp, read_stamped, read_summary, read_version};
 pub use summary::Summary;
 pub use uid_json::uid_value;
+pub use version::MessageVersion;
 pub use writing::write_summary;

@@ -7,22 +7,23 @@ ghost use Rattle.json_words.specs.Each.{each};
 ghost use Rattle.values.specs.Names.{name_cmp};
 ghost use Rattle.sync_messages.specs.declared.fault.MessageFault.TheVariants as MessageFault;
 ghost use Rattle.sync_messages.specs.Summaries.{ascend as ascends, number_at as number_of, policy_in, entity_in};
-ghost use Rattle.sync_messages.specs.Summaries.{name_in, stamped_in, stamp_in, stamps_of, stamps_in};
+ghost use Rattle.sync_messages.specs.Summaries.{name_in, version_in, numbered_in, raised_in, named_in, site_in};
+ghost use Rattle.sync_messages.specs.Summaries.{stamped_in, stamp_in, stamps_of, stamps_in};
 ghost use Rattle.sync_messages.specs.Summaries.{is_id as has_id, judged};
 ghost use Rattle.sync_messages.specs.Summaries.{summary_in, summary_stated};
 
-use crate::{MessageFault, Summary};
+use crate::{MessageFault, MessageVersion, Summary};
 use json_words::{only_keys, read_json, text_at};
 use plain::Text;
 use serde_json::Value;
-use stamped_store::Stamp;
+use stamped_store::{SiteName, Stamp, is_site_name};
 use std::alloc::Global;
 use uid_json::read_uid;
 use values::Name;
 
 /// The whole number that an object has at a key, where it fits 64 bits without a sign; else the value has a bad shape.
 /// Takes no memory.
-pub fn number_at(value: &Value, key: &str) -> Result<u64, MessageFault>
+fn number_at(value: &Value, key: &str) -> Result<u64, MessageFault>
     ensures { AlwaysReadsAs (λ n. n) result (number_of key.now (view value.now)) }
 {
     match value.get(key) {
@@ -74,22 +75,82 @@ fn read_name(alloc: Global, value: &Value) -> Result<Name, MessageFault>
     read_entity(alloc, value)
 }
 
-/// The name and the stamp that an object states at its keys `count`, `name` and `site`, whatever other keys it has: a
-/// count of 64 bits without a sign, a site from 1 to 65,535, and a policy's id or an entity's uid. Else the value has a
-/// bad shape. Fails for memory too.
-#[tactic(auto, unfolding(crate::specs::Summaries::stamped_in))]
-pub fn read_stamped(alloc: Global, value: &Value) -> Result<(Name, Stamp), MessageFault>
-    ensures { ReadsAs MessageFault.NoMemory (λ u. u) result (stamped_in (view value.now)) }
+/// The version of a message. Another than 1 and 2 is refused for it, and a message without a whole number for a version
+/// has a bad shape. Takes no memory.
+#[tactic(auto, unfolding(crate::specs::Summaries::version_in))]
+pub fn read_version(value: &Value) -> Result<MessageVersion, MessageFault>
+    ensures { AlwaysReadsAs (λ v. v) result (version_in (view value.now)) }
 {
-    let count = number_at(value, "count")?;
+    let version = number_at(value, "version")?;
+    if version == 1 {
+        return Ok(MessageVersion::One);
+    }
+    if version == 2 {
+        return Ok(MessageVersion::Two);
+    }
+    Err(MessageFault::Version)
+}
+
+/// The number of a site, which is one from 1 to 65,535.
+#[tactic(auto, unfolding(crate::specs::Summaries::numbered_in))]
+fn read_number(value: &Value) -> Result<u16, MessageFault>
+    ensures { AlwaysReadsAs (λ n. n) result (numbered_in (view value.now)) }
+{
     let site = number_at(value, "site")?;
     if !(1 <= site && site <= 65535) {
         return Err(MessageFault::BadShape);
     }
-    let stamp = Stamp {
-        count,
-        site: site as u16,
+    Ok(site as u16)
+}
+
+/// The site whose number stands there.
+#[tactic(auto, unfolding(crate::specs::Summaries::raised_in))]
+fn read_numbered(value: &Value) -> Result<SiteName, MessageFault>
+    ensures { AlwaysReadsAs (λ n. n) result (raised_in (view value.now)) }
+{
+    let number = read_number(value)?;
+    Ok(SiteName::from_number(number))
+}
+
+/// The site whose name stands there.
+#[tactic(auto, unfolding(crate::specs::Summaries::named_in))]
+fn read_named(value: &Value) -> Result<SiteName, MessageFault>
+    ensures { AlwaysReadsAs (λ n. n) result (named_in (view value.now)) }
+{
+    let Some(site) = text_at(value, "site") else {
+        return Err(MessageFault::BadShape);
     };
+    if !is_site_name(site) {
+        return Err(MessageFault::BadShape);
+    }
+    Ok(SiteName::new(site))
+}
+
+/// The site that an object states, as the version of its message has it.
+fn read_site(version: MessageVersion, value: &Value) -> Result<SiteName, MessageFault>
+    ensures { AlwaysReadsAs (λ n. n) result (site_in version (view value.now)) }
+{
+    match version {
+        MessageVersion::One => read_numbered(value),
+        MessageVersion::Two => read_named(value),
+    }
+}
+
+/// The name and the stamp that an object states at its keys `count`, `name` and `site`, whatever other keys it has: a
+/// count of 64 bits without a sign, a site as the message's version has it, and a policy's id or an entity's uid. In
+/// version 1 a site is a number from 1 to 65,535, whose five digits are the site's name; in version 2 it is its name.
+/// Else the value has a bad shape. Fails for memory too.
+#[tactic(auto, unfolding(crate::specs::Summaries::stamped_in, crate::specs::Summaries::stamped_by))]
+pub fn read_stamped(
+    alloc: Global,
+    version: MessageVersion,
+    value: &Value,
+) -> Result<(Name, Stamp), MessageFault>
+    ensures { ReadsAs MessageFault.NoMemory (λ u. u) result (stamped_in version (view value.now)) }
+{
+    let count = number_at(value, "count")?;
+    let site = read_site(version, value)?;
+    let stamp = Stamp { count, site };
     let Some(found) = value.get("name") else {
         return Err(MessageFault::BadShape);
     };
@@ -99,21 +160,29 @@ pub fn read_stamped(alloc: Global, value: &Value) -> Result<(Name, Stamp), Messa
 
 /// A name with its stamp.
 #[tactic(auto, unfolding(crate::specs::Summaries::stamp_in))]
-fn read_stamp(alloc: Global, value: &Value) -> Result<(Name, Stamp), MessageFault>
-    ensures { ReadsAs MessageFault.NoMemory (λ u. u) result (stamp_in (view value.now)) }
+fn read_stamp(
+    alloc: Global,
+    version: MessageVersion,
+    value: &Value,
+) -> Result<(Name, Stamp), MessageFault>
+    ensures { ReadsAs MessageFault.NoMemory (λ u. u) result (stamp_in version (view value.now)) }
 {
     if !only_keys(value, &["count", "name", "site"]) {
         return Err(MessageFault::BadShape);
     }
-    read_stamped(alloc, value)
+    read_stamped(alloc, version, value)
 }
 
-fn read_each(alloc: Global, values: &[Value]) -> Result<Vec<(Name, Stamp)>, MessageFault>
-    ensures { ReadsAs MessageFault.NoMemory (λ us. us.items) result (stamps_of (items_view values.now)) }
+fn read_each(
+    alloc: Global,
+    version: MessageVersion,
+    values: &[Value],
+) -> Result<Vec<(Name, Stamp)>, MessageFault>
+    ensures { ReadsAs MessageFault.NoMemory (λ us. us.items) result (stamps_of version (items_view values.now)) }
 {
     let mut stamps = Vec::with_capacity(alloc, values.len())?;
     for value in values {
-        let stamp = read_stamp(alloc, value)?;
+        let stamp = read_stamp(alloc, version, value)?;
         stamps.push(stamp)?;
     }
     Ok(stamps)
@@ -140,8 +209,12 @@ fn ascend(stamps: &[(Name, Stamp)]) -> bool
 
 /// Stamps whose names ascend.
 #[tactic(auto, unfolding(crate::specs::Summaries::stamps_in))]
-fn read_stamps(alloc: Global, value: &Value) -> Result<Vec<(Name, Stamp)>, MessageFault>
-    ensures stamps { ReadsAs MessageFault.NoMemory (λ us. us.items) result (stamps_in (view value.now)) }
+fn read_stamps(
+    alloc: Global,
+    version: MessageVersion,
+    value: &Value,
+) -> Result<Vec<(Name, Stamp)>, MessageFault>
+    ensures stamps { ReadsAs MessageFault.NoMemory (λ us. us.items) result (stamps_in version (view value.now)) }
     ensures ascending { IfOk result (λ us. ascends us.items ≡ true) }
 {
     let Some(found) = value.get("stamps") else {
@@ -150,7 +223,7 @@ fn read_stamps(alloc: Global, value: &Value) -> Result<Vec<(Name, Stamp)>, Messa
     let Some(list) = found.as_array() else {
         return Err(MessageFault::BadShape);
     };
-    let stamps = read_each(alloc, list)?;
+    let stamps = read_each(alloc, version, list)?;
     if !ascend(&stamps) {
         return Err(MessageFault::BadShape);
     }
@@ -196,9 +269,7 @@ fn judge_all(stamps: &[(Name, Stamp)]) -> Result<(), MessageFault>
 fn read_summary_value(alloc: Global, label: &str, value: &Value) -> Result<Summary, MessageFault>
     ensures { ReadsAs MessageFault.NoMemory (λ m. m) result (summary_in label.now (view value.now)) }
 {
-    if number_at(value, "version")? != 1 {
-        return Err(MessageFault::Version);
-    }
+    let version = read_version(value)?;
     if !only_keys(value, &["kind", "schema", "stamps", "version"]) {
         return Err(MessageFault::BadShape);
     }
@@ -211,7 +282,7 @@ fn read_summary_value(alloc: Global, label: &str, value: &Value) -> Result<Summa
     let Some(schema) = text_at(value, "schema") else {
         return Err(MessageFault::BadShape);
     };
-    let stamps = read_stamps(alloc, value)?;
+    let stamps = read_stamps(alloc, version, value)?;
     if schema != label {
         return Err(MessageFault::OtherSchema);
     }
@@ -220,9 +291,10 @@ fn read_summary_value(alloc: Global, label: &str, value: &Value) -> Result<Summa
 }
 
 /// The summary that bytes are, under the schema of this label, or the first fault, in this order: bytes that are no
-/// JSON; no object with a whole-number `version`; another version; the rest of the shape, all stamps and the order of
-/// their names included; another schema; then stamp by stamp a count out of range, and a policy's id that has not 1 to
-/// 256 bytes. Fails for memory too.
+/// JSON; no object with a whole-number `version`; a version other than 1 and 2; the rest of the shape, all stamps and
+/// the order of their names included; another schema; then stamp by stamp a count out of range, and a policy's id that
+/// has not 1 to 256 bytes. In version 1 each number of a site is read as the site whose name is its five digits. Fails
+/// for memory too.
 #[tactic(auto, unfolding(crate::specs::Summaries::summary_stated))]
 pub fn read_summary(alloc: Global, label: &str, bytes: &[u8]) -> Result<Summary, MessageFault>
     ensures { ReadsAs MessageFault.NoMemory (λ m. m) result (summary_stated label.now bytes.now) }

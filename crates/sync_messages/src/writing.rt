@@ -20,14 +20,14 @@ use values::EntityUid;
 fn policy_stamp(alloc: Global, id: &str, stamp: Stamp) -> Result<Value, NoMemory>
     ensures { IfOk result (λ v. view v ≡ stamp_json (policy_name id.now, stamp)) }
 {
-    json!(in alloc; {"count": stamp.count, "name": {"policy": id}, "site": stamp.site})
+    json!(in alloc; {"count": stamp.count, "name": {"policy": id}, "site": stamp.site.as_str()})
 }
 
 fn entity_stamp(alloc: Global, uid: &EntityUid, stamp: Stamp) -> Result<Value, NoMemory>
     ensures { IfOk result (λ v. view v ≡ stamp_json (entity_name uid.now, stamp)) }
 {
     let uid = uid_value(alloc, uid)?;
-    json!(in alloc; {"count": stamp.count, "name": {"entity": uid}, "site": stamp.site})
+    json!(in alloc; {"count": stamp.count, "name": {"entity": uid}, "site": stamp.site.as_str()})
 }
 
 /// The stamps of policies.
@@ -82,7 +82,7 @@ fn summary_value<P: Drop, E: Drop>(
     ensures { IfOk result (λ v. view v ≡ summary_json label.now (summary_of (abstract_store store.now))) }
 {
     let stamps = stamps_value(alloc, store)?;
-    json!(in alloc; {"kind": "summary", "schema": label, "stamps": stamps, "version": 1u64})
+    json!(in alloc; {"kind": "summary", "schema": label, "stamps": stamps, "version": 2u64})
 }
 
 /// The summary of a store, as a message under the schema of this label: compact, keys and names ascending. Where each

@@ -1,5 +1,5 @@
 -- Pieces of lines.
-use Rattle.std.specs.Prelude.{ℕ, List, Bool, Option, Some, None, codes, decimal, if◌then◌else◌}
+use Rattle.std.specs.Prelude.{ℕ, List, ◌++◌, Bool, Option, Some, None, codes, decimal, if◌then◌else◌}
 
 abbrev pub boolean_word : Bool → List ℕ
 boolean_word value = if value then codes "true" else codes "false"
@@ -7,3 +7,7 @@ boolean_word value = if value then codes "true" else codes "false"
 abbrev pub number_or_null : Option ℕ → List ℕ
 number_or_null None = codes "null"
 number_or_null (Some n) = decimal n
+
+-- the end of a line that tells a stamp: ,"site":"00001"}
+abbrev pub site_end : List ℕ → List ℕ
+site_end site = codes ",\"site\":\"" ++ site ++ codes "\"}"

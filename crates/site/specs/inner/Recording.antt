@@ -22,20 +22,20 @@ use Rattle.site.specs.Admitted.{IsEntityUnder, IsAdmitted, entity_stated, IsNoRe
 use Rattle.site.specs.Steps.{Records, IsClockFull, most_count}
 
 -- a body is stamped and stored, or the clock is full, or memory is wanting
-abbrev pub RecordsOr : ℕ → Store → Name → Option (List ℕ) → Result Stamp SiteFault → Store → Type 0
+abbrev pub RecordsOr : List ℕ → Store → Name → Option (List ℕ) → Result Stamp SiteFault → Store → Type 0
 RecordsOr n s name body (Ok stamp) t = Records n s name body stamp t
 RecordsOr n s name body (Err fault.NoMemory) t = t ≡ s
 RecordsOr n s name body (Err fault.ClockFull) t = IsClockFull s t
 RecordsOr n s name body (Err _) t = ⊥
 
--- the next stamp at the site with number n, or none where the clock is full
-abbrev pub IsNext : ℕ → Store → Option Stamp → Type 0
+-- the next stamp at the site with name n, or none where the clock is full
+abbrev pub IsNext : List ℕ → Store → Option Stamp → Type 0
 IsNext n s (Some stamp) = (greatest_count s < most_count) × (stamp ≡ issue s n)
 IsNext n s None = greatest_count s ≡ most_count
 
 -- an entity's text is put under its uid, unless it would be on a cycle
-abbrev pub PutsUnless : {E : Type 0} → ℕ → Store → Result Bool E → EntityUid → List ℕ → Result Stamp SiteFault → Store
-    → Type 0
+abbrev pub PutsUnless : {E : Type 0} → List ℕ → Store → Result Bool E → EntityUid → List ℕ → Result Stamp SiteFault
+    → Store → Type 0
 PutsUnless n s (Ok false) uid text r t = RecordsOr n s (entity_name uid) (Some text) r t
 PutsUnless n s (Ok true) uid text r t = (r ≡ Err fault.WouldCycle) × (t ≡ s)
 PutsUnless n s (Err e) uid text r t = (r ≡ Err fault.NoMemory) × (t ≡ s)

@@ -15,8 +15,8 @@ abbrev pub TakesState : Seen → List ℕ → Seen → Type 0
 TakesState before bytes after = (us : List (SentUpdate Policy Entity)) × IsMessageOf (schema_of before) bytes us
     × (store_in after ≡ store_of (updates (store_in before) ++ abstract_updates us)) × IsSameSite before after
 
--- the site of this number and this schema, with the updates of the state, if there is one
-pub record IsBegunUnder (s : StatedSchema) (number : ℕ) (state : Option (List ℕ)) (site : Seen) : Type 0 where
+-- the site of this name and this schema, with the updates of the state, if there is one
+pub record IsBegunUnder (s : StatedSchema) (name : List ℕ) (state : Option (List ℕ)) (site : Seen) : Type 0 where
   pub schema_is : schema_of site ≡ s
-  pub number_is : site.number ≡ number
+  pub name_is : site.name ≡ name
   pub begins : BeginsWith s state (store_in site)

@@ -1,25 +1,22 @@
-use Rattle.std.proofs.Common.{ap, sym, ◌∙◌, inr}
-use Rattle.std.specs.Prelude.{refl}
+use Rattle.std.proofs.Common.{sym, subst, List, Option, MatchOption}
+use Rattle.std.specs.Prelude.{Vec}
+use Rattle.std.specs.declared.alloc.Global.{Global}
+use Rattle.std.specs.Borrow.{Bor}
 use Rattle.std.proofs.lemmas.Result.{IfOk-weaker}
+use Rattle.values.specs.declared.entity_uid.EntityUid.{EntityUid}
 use Rattle.ancestor_closure.specs.Hierarchy.{names}
+use Rattle.ancestor_closure.specs.LeastCycle.{HasNoCycle, IsLeastCycle}
 use Rattle.evaluator.specs.Operators.{world_of}
 use Rattle.authoriser.specs.Answers.{IsAnswer}
 use Rattle.authoriser.specs.Views.{named}
-use Rattle.authoriser.proofs.Judging.{acyclic, denial}
+use Rattle.authoriser.proofs.Judging.{denial}
 use Rattle.authoriser.proofs.deciding.decide.Goals as goal
 
-pub returns-then-is_none : goal.returns-then-is_none
-returns-then-is_none g c =
-    IfOk-weaker c.answer_by_policies.result _ (λ a. IsAnswer (world_of (g.L.Lookup.stored c.args.store.now) (g.L.Ancestry.parents c.args.store.now)) c.args.request.now (named c.args.policies.now) a)
-    (λ a h. inr (record {
-      acyclic = acyclic (g.L.Ancestry.parents c.args.store.now) c.in_ok-cyclic.cyclic.items c.in_ok-cyclic.ensures.all (sym c.deref.ensures.value ∙ c.if-is_none.ensures.0 refl);
-      judged = h.0;
-      outcomes = h.1;
-      answer = h.2;
-    })) c.answer_by_policies.ensures
-
-pub returns : goal.returns
-returns g c =
-    denial (world_of (g.L.Lookup.stored c.args.store.now) (g.L.Ancestry.parents c.args.store.now)) c.args.request.now (named c.args.policies.now) c.in_ok-cyclic.cyclic.items c.in_ok-cycle.cycle c.new.result c.new-2.result
-    (c.in_ok-cycle.ensures ∙ ap names c.deref-2.ensures.value) c.new.ensures c.new-2.ensures c.in_ok-cyclic.ensures.all c.in_ok-cyclic.ensures.ascending
-    (λ none. let t = c.if-is_none.ensures.1 (c.deref.ensures.value ∙ none) in cc t)
+pub returns-in-Some : goal.returns-in-Some
+returns-in-Some g c =
+    let parents = g.L.Ancestry.parents c.args.store.now in
+    let W = world_of (g.L.Lookup.stored c.args.store.now) parents in
+    let ps = named c.args.policies.now in
+    let least = subst (λ (o : Option (Vec (Bor EntityUid) Global)). MatchOption o (HasNoCycle parents) (λ found. IsLeastCycle parents (names found.items))) c.in-Some.is c.in_ok-least_cycle.ensures in
+    let named_least = subst (λ (us : List (Bor EntityUid)). IsLeastCycle parents (names us)) (sym c.deref.ensures.value) least in
+    IfOk-weaker c.denial_by_cycle.result _ (λ a. IsAnswer W c.args.request.now ps a) (λ a is. denial W c.args.request.now ps (names c.deref.result.now) a named_least is) c.denial_by_cycle.ensures

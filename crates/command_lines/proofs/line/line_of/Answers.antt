@@ -2,8 +2,8 @@ use Rattle.std.proofs.Common.{◌∙◌, ap, sym, subst, map, string_bytes}
 use Rattle.clap.specs.Words.{App, HasKind, fault_of, is_simple, is_simple_and_free, subcommand_of}
 use Rattle.command_lines.specs.Apps.{site_app}
 use Rattle.command_lines.specs.Faults.{IsFaultOf}
-use Rattle.command_lines.specs.Lines.{IsNamed}
-use Rattle.command_lines.proofs.LineLemmas.{sorted_fault}
+use Rattle.command_lines.specs.Lines.{IsNoLine}
+use Rattle.command_lines.proofs.LineLemmas.{lacking_fault, sorted_fault}
 use Rattle.command_lines.proofs.line.line_of.Goals as goal
 
 pub returns-in-Err-clause-err : goal.returns-in-Err-clause-err
@@ -23,7 +23,6 @@ pub returns-clause-err : goal.returns-clause-err
 returns-clause-err c =
     let same = c.in_ok-command.ensures.0 in
     let words = map string_bytes c.args.words.now in
-    let found = (c.in-Ok.ensures.matches (ap is_simple same)).1 ∙ ap (λ (a : App). subcommand_of a words) same in (
-      ap (λ (a : App). fault_of a words) (sym same) ∙ c.in-Ok.ensures.kinds (ap is_simple_and_free same),
-      λ line named. c.in-None.ensures line (subst (IsNamed line) (sym found) named),
-    )
+    let found = (c.in-Ok.ensures.matches (ap is_simple same)).1 ∙ ap (λ (a : App). subcommand_of a words) same in
+    let free = ap (λ (a : App). fault_of a words) (sym same) ∙ c.in-Ok.ensures.kinds (ap is_simple_and_free same) in
+    lacking_fault words _ c.lack_of.result (sym found) free c.in-None.ensures c.lack_of.ensures

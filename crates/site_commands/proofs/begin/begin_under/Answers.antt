@@ -1,4 +1,4 @@
-use Rattle.std.proofs.Common.{◌≡◌, ap, subst, sym, List, ℕ, Option, option_map, Bor, Some, IfOk, IfErr}
+use Rattle.std.proofs.Common.{◌≡◌, ◌∙◌, ap, subst, sym, List, ℕ, Option, option_map, Bor, Some, IfOk, IfErr}
 use Rattle.decision_texts.specs.Refusals.{no_memory}
 use Rattle.schema.specs.Schemas.{StatedSchema}
 use Rattle.schema.specs.Views.{schema_view}
@@ -10,10 +10,10 @@ use Rattle.site_commands.proofs.begin.begin_under.Goals as goal
 
 pub returns-in-Some-clause-begun : goal.returns-in-Some-clause-begun
 returns-in-Some-clause-begun c =
-    subst (λ (o : Option (Bor (List ℕ))). IfOk c.with_state.result (IsBegunUnder (schema_view c.args.schema) c.args.number (option_map (λ s. s.now) o)))
+    subst (λ (o : Option (Bor (List ℕ))). IfOk c.with_state.result (IsBegunUnder (schema_view c.args.schema) c.args.name (option_map (λ s. s.now) o)))
     (sym c.in-Some.is) (
-    begun_over (schema_view c.args.schema) c.args.number c.in-Some.bytes.now c.new-site.result c.with_state.result
-    (ap schema_view c.new-site.ensures.schema) c.new-site.ensures.number c.new-site.ensures.empty c.with_state.ensures.taken)
+    begun_over (schema_view c.args.schema) c.args.name c.in-Some.bytes.now c.new-site.result c.with_state.result
+    (ap schema_view c.new-site.ensures.schema) (c.new-site.ensures.name ∙ c.as_str.ensures.text) c.new-site.ensures.empty c.with_state.ensures.taken)
 
 pub returns-in-Some-clause-refused : goal.returns-in-Some-clause-refused
 returns-in-Some-clause-refused c =
@@ -25,7 +25,7 @@ returns-in-Some-clause-refused c =
 pub returns-in-None-clause-begun : goal.returns-in-None-clause-begun
 returns-in-None-clause-begun c = record {
   schema_is = ap schema_view c.new-site.ensures.schema;
-  number_is = c.new-site.ensures.number;
+  name_is = c.new-site.ensures.name ∙ c.as_str.ensures.text;
   begins =
       subst (λ (o : Option (Bor (List ℕ))). BeginsWith (schema_view c.args.schema) (option_map (λ s. s.now) o) (store_in c.new-site.result))
       (sym c.in-None.is) c.new-site.ensures.empty;

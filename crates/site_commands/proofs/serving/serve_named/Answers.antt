@@ -5,14 +5,14 @@ use Rattle.site_commands.proofs.EventLemmas.{reads_on, reads_none}
 use Rattle.site_commands.proofs.serving.serve_named.Goals as goal
 
 -- what is left to do once the state is read
-abbrev over_state : List ℕ → ℕ → List ℕ → Option ℕ → List ℕ → Course
-over_state schema number address connections state = IsServedFrom schema number (Some state) address connections
+abbrev over_state : List ℕ → List ℕ → List ℕ → Option ℕ → List ℕ → Course
+over_state schema site address connections state = IsServedFrom schema site (Some state) address connections
 
 pub returns-in-Err : goal.returns-in-Err
 returns-in-Err g c =
-    reads_none g.H.Host.does _ _ _ (over_state c.args.schema.now c.args.number c.args.address.now c.args.connections) _ c.in-Err.ensures
+    reads_none g.H.Host.does _ _ _ (over_state c.args.schema.now c.args.site c.args.address.now c.args.connections) _ c.in-Err.ensures
 
 pub returns : goal.returns
 returns g c =
-    reads_on g.H.Host.does _ _ _ _ _ (over_state c.args.schema.now c.args.number c.args.address.now c.args.connections) _ c.in-Ok.ensures
+    reads_on g.H.Host.does _ _ _ _ _ (over_state c.args.schema.now c.args.site c.args.address.now c.args.connections) _ c.in-Ok.ensures
     (rw c.deref.ensures.value at c.serve_from.ensures)

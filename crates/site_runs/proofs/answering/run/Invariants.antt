@@ -9,6 +9,6 @@ invariant-loop-input l = record {
   room : length l.inputs ≤ vec_capacity l.replies;
   count : length l.replies.items ≡ l.input-index;
   same : IsSameSite l.fn.site l.site;
-  run : Run (schema_of l.fn.site) l.fn.site.number (store_in l.fn.site) (take l.input-index l.inputs) l.replies.items
+  run : Run (schema_of l.fn.site) l.fn.site.name (store_in l.fn.site) (take l.input-index l.inputs) l.replies.items
       (store_in l.site);
 }

@@ -7,5 +7,5 @@ use Rattle.site.proofs.site.Site.holds_valid_updates.Goals as goal
 pub returns-clause-held : goal.returns-clause-held
 returns-clause-held c =
     subst (λ (v : Seen). MayBeHeld (schema_of v) (store_in v)) c.self.view_is
-    (may_be_held (schema_view c.self.inside.schema) c.self.inside.number c.self.inside.store c.self.invariant
+    (may_be_held (schema_view c.self.inside.schema) c.self.inside.name c.self.inside.store c.self.invariant
     c.policies.ensures.in_order)

@@ -1,5 +1,7 @@
 use Rattle.std.proofs.Common.{◌≡◌, List, ℕ, Some, Result, IfOk, subst, sym}
 use Rattle.std.specs.FinMap.{get}
+use Rattle.schema.specs.SchemaEntries.{SchemaEntries}
+use Rattle.schema.specs.Views.{schema_view}
 use Rattle.stamped_store.specs.Store.{policy_name, issued}
 use Rattle.site.specs.declared.fault.SiteFault.{SiteFault}
 use Rattle.site.specs.declared.outcome.Put.{Put}
@@ -16,11 +18,12 @@ returns-in-Ok-clause-puts c =
     let t = store_in c.record_policy-stamped.new.self in
     let r = c.record_policy-stamped.result in
     let is : IsJudged (schema_of s) c.args.id.now c.args.text.now j.body j.impossible =
-    subst (λ (v : Seen). IsJudged (schema_of v) c.args.id.now c.args.text.now j.body j.impossible) c.self.view_is c.in-Ok.ensures.judged in
-    let records : RecordsOr s.number (store_in s) (policy_name c.args.id.now) (Some j.body.text) r t =
-    subst (λ (id : List ℕ). RecordsOr s.number (store_in s) (policy_name id) (Some j.body.text) r t) c.in-Ok.ensures.named c.record_policy-stamped.ensures.records in
-    subst (λ (q : Result Put SiteFault). PutsPolicy (schema_of s) s.number (store_in s) c.args.id.now c.args.text.now q t) (sym c.put_of.ensures)
-    (puts_policy (schema_of s) s.number (store_in s) c.args.id.now c.args.text.now j.body j.impossible r t is records)
+    subst (λ (v : Seen). IsJudged (schema_of v) c.args.id.now c.args.text.now j.body j.impossible) c.self.view_is
+    (subst (λ (x : SchemaEntries). IsJudged (schema_view x) c.args.id.now c.args.text.now j.body j.impossible) c.get.ensures c.in-Ok.ensures.judged) in
+    let records : RecordsOr s.name (store_in s) (policy_name c.args.id.now) (Some j.body.text) r t =
+    subst (λ (id : List ℕ). RecordsOr s.name (store_in s) (policy_name id) (Some j.body.text) r t) c.in-Ok.ensures.named c.record_policy-stamped.ensures.records in
+    subst (λ (q : Result Put SiteFault). PutsPolicy (schema_of s) s.name (store_in s) c.args.id.now c.args.text.now q t) (sym c.put_of.ensures)
+    (puts_policy (schema_of s) s.name (store_in s) c.args.id.now c.args.text.now j.body j.impossible r t is records)
 
 pub returns-in-Ok-clause-stands : goal.returns-in-Ok-clause-stands
 returns-in-Ok-clause-stands c =
@@ -28,8 +31,8 @@ returns-in-Ok-clause-stands c =
     let j = c.in-Ok.judged in
     let t = store_in c.record_policy-stamped.new.self in
     let r = c.record_policy-stamped.result in
-    let records : RecordsOr s.number (store_in s) (policy_name c.args.id.now) (Some j.body.text) r t =
-    subst (λ (id : List ℕ). RecordsOr s.number (store_in s) (policy_name id) (Some j.body.text) r t) c.in-Ok.ensures.named c.record_policy-stamped.ensures.records in
+    let records : RecordsOr s.name (store_in s) (policy_name c.args.id.now) (Some j.body.text) r t =
+    subst (λ (id : List ℕ). RecordsOr s.name (store_in s) (policy_name id) (Some j.body.text) r t) c.in-Ok.ensures.named c.record_policy-stamped.ensures.records in
     subst (λ (q : Result Put SiteFault). IfOk q (λ put. get t (policy_name c.args.id.now) ≡ Some (issued put.stamp (Some c.args.text.now)))) (sym c.put_of.ensures)
     (put_stands t (policy_name c.args.id.now) j.body.text c.args.text.now j.impossible r c.in-Ok.ensures.judged.same
-    (stands c.stamps_are_issued.ensures.stays s.number (store_in s) (policy_name c.args.id.now) (Some j.body.text) r t records))
+    (stands c.stamps_are_issued.ensures.stays s.name (store_in s) (policy_name c.args.id.now) (Some j.body.text) r t records))

@@ -21,7 +21,7 @@ invariant_of-self c =
     let entry : Entry Entity = record { stamp = c.in-Some.stamp; body = c.args.body } in
     let name = entity_name c.args.uid in
     let next = c.in-Some.ensures in
-    site_after (schema_view schema) c.self.inside.number k (kept k.policies (taken uid_cmp greater k.entities c.args.uid entry))
+    site_after (schema_view schema) c.self.inside.name k (kept k.policies (taken uid_cmp greater k.entities c.args.uid entry))
     c.take_entity-taken.new.self (name, plain_entry entry) c.take_entity-taken.result c.take_entity-taken.ensures.kept
     c.take_entity-taken.ensures.ok c.take_entity-taken.ensures.err c.self.invariant
     (c.readings_stay.ensures.entity schema k c.args.uid entry c.self.invariant.held
@@ -29,4 +29,4 @@ invariant_of-self c =
     (sym (ap (λ v. v.schema) c.self.view_is)) c.requires.read))
     c.ranges_stay.ensures.joined
     (subst (λ (x : Stamp). IsStamped (name, x)) (sym next.1) (c.ranges_stay.ensures.issued (abstract_store k)
-    c.self.inside.number name c.requires.named next.0 c.self.invariant.numbered c.self.invariant.small))
+    c.self.inside.name name c.requires.named next.0 c.self.invariant.named))

@@ -15,7 +15,7 @@ invariant_of-self c =
     let schema = c.self.inside.schema in
     let k = c.self.inside.store in
     let entry = c.args.entry in
-    site_after (schema_view schema) c.self.inside.number k (kept k.policies (taken uid_cmp greater k.entities c.args.uid entry))
+    site_after (schema_view schema) c.self.inside.name k (kept k.policies (taken uid_cmp greater k.entities c.args.uid entry))
     c.take_entity-taken.new.self (entity_name c.args.uid, plain_entry entry) c.take_entity-taken.result c.take_entity-taken.ensures.kept
     c.take_entity-taken.ensures.ok c.take_entity-taken.ensures.err c.self.invariant
     (c.readings_stay.ensures.entity schema k c.args.uid entry c.self.invariant.held

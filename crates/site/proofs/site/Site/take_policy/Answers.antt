@@ -15,7 +15,7 @@ invariant_of-self c =
     let schema = c.self.inside.schema in
     let k = c.self.inside.store in
     let entry = c.args.entry in
-    site_after (schema_view schema) c.self.inside.number k (kept (taken string_cmp greater k.policies c.args.id entry) k.entities)
+    site_after (schema_view schema) c.self.inside.name k (kept (taken string_cmp greater k.policies c.args.id entry) k.entities)
     c.take_policy-taken.new.self (policy_name (string_bytes c.args.id), plain_entry entry) c.take_policy-taken.result c.take_policy-taken.ensures.kept
     c.take_policy-taken.ensures.ok c.take_policy-taken.ensures.err c.self.invariant
     (c.readings_stay.ensures.policy schema k c.args.id entry c.self.invariant.held

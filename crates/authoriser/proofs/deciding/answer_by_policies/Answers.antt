@@ -1,0 +1,16 @@
+use Rattle.std.proofs.Common.{subst}
+use Rattle.std.specs.Prelude.{◌≡◌, List, IfOk}
+use Rattle.std.proofs.lemmas.Result.{IfOk-weaker}
+use Rattle.evaluator.specs.Operators.{world_of}
+use Rattle.authoriser.specs.Answers.{PolicyOutcome, ArePolicyOutcomes, answer_by, IsAnswer}
+use Rattle.authoriser.specs.Views.{named}
+use Rattle.authoriser.proofs.Judging.{by_policies}
+use Rattle.authoriser.proofs.deciding.answer_by_policies.Goals as goal
+
+pub returns : goal.returns
+returns g c =
+    let W = world_of (g.L.Lookup.stored c.args.store.now) (g.L.Ancestry.parents c.args.store.now) in
+    let q = c.args.request.now in
+    let ps = named c.args.policies.now in
+    let told = subst (λ k. IfOk c.answer_by_known.result (λ a. (js : List PolicyOutcome) × ArePolicyOutcomes (world_of (g.L.Lookup.stored k.0) (g.L.Ancestry.parents k.0)) q ps js × (a ≡ answer_by js))) c.in_ok-known.ensures c.answer_by_known.ensures in
+    IfOk-weaker c.answer_by_known.result _ (λ a. IsAnswer W q ps a) (λ a h. by_policies W q ps a c.requires h) told

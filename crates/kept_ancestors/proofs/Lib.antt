@@ -1,0 +1,6 @@
+mod OneByOne
+mod Paths
+mod Updates
+mod Written
+mod Following
+mod Pairs

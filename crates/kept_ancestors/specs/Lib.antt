@@ -1,0 +1,3 @@
+pub mod ClosedMeaning
+pub mod Kept
+pub mod inner

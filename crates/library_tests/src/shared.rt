@@ -1,0 +1,92 @@
+//! What tests of several libraries share. A value that waits while another is made, or that is only let go, goes to a
+//! generic function: whatever it is made of is then one step of the proof.
+use plain::{NoMemory, Text};
+use std::alloc::{AllocError, Global};
+use std::cmp::Ordering;
+use std::process::Abort;
+use values::{EntityUid, TypeName};
+
+/// A value, and one that was made while it waited.
+pub(crate) fn beside<T: Drop, U>(kept: T, made: Result<U, NoMemory>) -> Result<(T, U), NoMemory> {
+    match made {
+        Ok(made) => Ok((kept, made)),
+        Err(refused) => Err(refused),
+    }
+}
+
+/// A value that was worked on, where the work was done.
+pub(crate) fn finished<T: Drop>(value: T, done: Result<(), NoMemory>) -> Result<T, NoMemory> {
+    match done {
+        Ok(()) => Ok(value),
+        Err(refused) => Err(refused),
+    }
+}
+
+/// What came of it, once nothing more is kept.
+pub(crate) fn ended<T: Drop, R>(_kept: T, came: R) -> R {
+    came
+}
+
+/// Ends the test where something does not hold.
+pub(crate) fn holds(rt: &impl Abort, truth: bool, what: &str) {
+    assert!(rt; truth, "{what}");
+}
+
+fn is_less<T: Ord>(less: &T, greater: &T) -> bool {
+    less != greater
+        && less.cmp(greater) == Ordering::Less
+        && greater.partial_cmp(less) == Some(Ordering::Greater)
+}
+
+/// The first of two is less, by each comparison.
+pub(crate) fn ascend<T: Ord + Drop>(
+    rt: &impl Abort,
+    pair: Result<(T, T), NoMemory>,
+    what: &str,
+) -> Result<(), NoMemory> {
+    let pair = pair?;
+    holds(rt, is_less(&pair.0, &pair.1), what);
+    Ok(())
+}
+
+/// What can be copied where memory may be refused.
+pub(crate) trait Copied: Sized {
+    fn copied(&self, alloc: Global) -> Result<Self, NoMemory>;
+}
+
+// A refused growth is asked for once more.
+fn copy_of<T: Copied>(alloc: Global, value: &T) -> Result<T, NoMemory> {
+    match value.copied(alloc) {
+        Ok(copy) => Ok(copy),
+        Err(_) => value.copied(alloc),
+    }
+}
+
+fn is_same<T: PartialEq + Drop>(rt: &impl Abort, copy: T, value: &T) {
+    holds(rt, copy == *value, "a copy is equal");
+}
+
+/// A copy is equal to what it was made of, which stays as it was where memory was refused.
+pub(crate) fn is_copied<T: Copied + PartialEq + Drop>(
+    rt: &impl Abort,
+    alloc: Global,
+    value: T,
+) -> Result<(), NoMemory> {
+    is_same(rt, copy_of(alloc, &value)?, &value);
+    Ok(())
+}
+
+/// A value that is there, or want of memory.
+pub(crate) fn some<T: Drop>(found: Option<T>) -> Result<T, NoMemory> {
+    match found {
+        Some(value) => Ok(value),
+        None => Err(AllocError),
+    }
+}
+
+/// The entity of this type and id.
+pub(crate) fn uid_of(alloc: Global, type_name: &str, id: &str) -> Result<EntityUid, NoMemory> {
+    let type_name = some(TypeName::parse(alloc, type_name)?)?;
+    let (type_name, id) = beside(type_name, Text::from_str(alloc, id))?;
+    Ok(EntityUid { type_name, id })
+}

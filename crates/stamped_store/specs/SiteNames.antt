@@ -1,0 +1,51 @@
+-- Names of sites. A rule of this product: 1 to 32 bytes, each an ASCII letter, a digit, `-`, `_` or `.`. So a name
+-- stands as it is in a command line, a path, a JSON text and a line of a log, and it is short enough to lie within a
+-- stamp.
+use Prim.Native.Char.{code}
+use Rattle.std.specs.Prelude.{◌≡◌, ◌↔◌, ◌≤◌, ◌<◌, ◌-◌, ℕ, Bool, true, ◌&&◌, ◌||◌, ◌==◌, nat_le}
+use Rattle.std.specs.Prelude.{List, ◌++◌, length, drop, take, replicate}
+use Rattle.std.specs.List.{list_all}
+use Rattle.std.specs.Fmt.{decimal}
+use Rattle.std.specs.Str.{IsUtf8}
+use Rattle.plain.specs.Words.{AllAre, is_word_byte}
+
+-- an ASCII letter, a digit, `_`, `-` or `.`
+unfoldable pub is_site_byte : ℕ → Bool
+is_site_byte c = is_word_byte c || ((c == code "-") || (c == code "."))
+
+pub record IsSiteName (name : List ℕ) : Type 0 where
+  pub some : 1 ≤ length name
+  pub short : length name ≤ 32
+  pub bytes : AllAre is_site_byte name
+
+-- the same, computed
+unfoldable pub is_site_name : List ℕ → Bool
+is_site_name name = (nat_le 1 (length name) && nat_le (length name) 32) && list_all is_site_byte name
+
+-- what crates above ask: the test is exact, names are texts, and (below) five digits are a name
+abbrev pub SiteTestIsExact : Type 0
+SiteTestIsExact = (name : List ℕ) → (is_site_name name ≡ true) ↔ IsSiteName name
+
+abbrev pub SiteNamesAreTexts : Type 0
+SiteNamesAreTexts = (name : List ℕ) → IsSiteName name → IsUtf8 name
+
+-- ---- the name of a site that had a number
+
+-- a number below 100,000 in decimal, with zeros in front up to five digits
+abbrev pub five_digits : ℕ → List ℕ
+five_digits n = replicate (5 - length (decimal n)) (code "0") ++ decimal n
+
+abbrev pub SiteDigitsAreNames : Type 0
+SiteDigitsAreNames = (n : ℕ) → n < 100000 → IsSiteName (five_digits n)
+
+-- ---- how a name is kept
+
+-- a name, and zeros behind it up to 32 bytes
+abbrev pub padded : List ℕ → List ℕ
+padded name = name ++ drop (length name) (replicate 32 0)
+
+-- what is always true of 32 bytes that keep a name of this length
+pub record KeepsName (bytes : List ℕ) (len : ℕ) : Type 0 where
+  pub named : IsSiteName (take len bytes)
+  pub counted : length (take len bytes) ≡ len
+  pub whole : bytes ≡ padded (take len bytes)
