@@ -7,6 +7,7 @@
 #
 # In a chain and in layers each entity has all above it in its list, so that their memory is quadratic: they are measured
 # up to 1,000 entities. An entity in the middle of a tree has what is below it written anew, a sixteenth of a sixteenth.
+# Puts at the bottom are a tenth of the entities, and 100 at least: fewer are lost beside what building them costs.
 set -euo pipefail
 source "$(dirname "${BASH_SOURCE[0]}")/counting.sh"
 measuring measures
@@ -23,10 +24,11 @@ for shape in tree chain layers; do
         [ "$shape" = tree ] || [ "$size" -le 1000 ] || continue
         none=$(counted "kept_ancestors/$shape-cyclic/0/0")
         built=$(counted "kept_ancestors/$shape-cyclic/$size/0")
+        puts=$((size > 1000 ? size / 10 : 100))
         less=$(memory "kept_ancestors/$shape-cyclic/0/0")
         more=$(memory "kept_ancestors/$shape-cyclic/$size/0")
         printf '%-7s %8s %9s %9s %9s %9s %9s %9s\n' "$shape" "$size" "$(each "$none" "$built" "$size")" \
-            "$(each_of "$shape-bottom/$size/100" "$built" 100)" "$(each_of "$shape-middle/$size/10" "$built" 10)" \
+            "$(each_of "$shape-bottom/$size/$puts" "$built" "$puts")" "$(each_of "$shape-middle/$size/10" "$built" 10)" \
             "$(each_of "$shape-is_ancestor/$size/1000" "$built" 1000)" \
             "$(each_of "$shape-least_cycle/$size/1000" "$built" 1000)" "$(each "$((less * 1024))" "$((more * 1024))" "$size")"
     done

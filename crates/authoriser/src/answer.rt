@@ -4,7 +4,7 @@ use plain::{Items, Text};
 use values::EntityUid;
 
 /// What is decided on a request.
-#[derive(Clone, Copy, PartialEq, Eq)]
+#[derive(Clone, Copy)]
 pub enum Decision {
     Allow,
     Deny,

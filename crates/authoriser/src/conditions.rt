@@ -52,7 +52,11 @@ fn outcome_of_condition<L: Lookup>(
         condition.now) }
 {
     match evaluate(alloc, condition, request, store) {
-        Ok(given) => Ok(outcome_by(&given)),
+        Ok(given) => {
+            let outcome = outcome_by(&given);
+            drop(given);
+            Ok(outcome)
+        }
         Err(fault) => Ok(Outcome::Errs(error_by(fault)?)),
     }
 }

@@ -1,6 +1,6 @@
 //! What a policy comes to on a request, and why one errs.
 /// Why a policy errs. Cedar reference guide, "Errors"; the wants of memory are none of these.
-#[derive(Clone, Copy, PartialEq, Eq)]
+#[derive(Clone, Copy)]
 pub enum PolicyError {
     /// An attribute of an entity that is not stored was asked for.
     EntityDoesNotExist,
@@ -15,7 +15,7 @@ pub enum PolicyError {
 }
 
 /// What a policy comes to on a request.
-#[derive(Clone, Copy, PartialEq, Eq)]
+#[derive(Clone, Copy)]
 pub enum Outcome {
     /// Its scope and its conditions are true.
     Satisfied,

@@ -6,10 +6,10 @@
 //! other words, and 3 where a file can't be read or a stream fails.
 #![tactic(auto)]
 
-use decision_texts::{decide_texts, error_line};
+use decision_texts::{Refusal, decide_texts, error_line};
 use std::io::Write;
 use std::process::ExitCode;
-use std::{env, fs};
+use std::{env, fs, io};
 
 /// A file could not be read, or a stream failed.
 const FAILED: u8 = 3;
@@ -17,45 +17,85 @@ const FAILED: u8 = 3;
 /// The line of a refusal for want of memory; it takes none.
 const NO_MEMORY_LINE: &[u8; 47] = b"{\"error\":{\"code\":1,\"place\":null,\"within\":null}}";
 
+fn write_line<W: Write>(out: &mut W, label: &str, line: &[u8]) -> io::Result<()> {
+    out.write_all(label.as_bytes())?;
+    out.write_all(line)?;
+    out.write_all(b"\n")
+}
+
 /// Writes a label, a line and the line's end, and gives the status of the run that ends so.
 fn tell<W: Write + Drop>(mut out: W, label: &str, line: &[u8], status: u8) -> ExitCode {
-    for text in [label.as_bytes(), line, b"\n"] {
-        if out.write_all(text).is_err() {
-            return ExitCode::from(FAILED);
+    match write_line(&mut out, label, line) {
+        Ok(()) => ExitCode::from(status),
+        Err(_) => ExitCode::from(FAILED),
+    }
+}
+
+/// Tells that a file can't be read.
+fn tell_fault(rt: &HostRuntime, name: &str) -> ExitCode {
+    tell(rt.stderr(), "fault: ", name.as_bytes(), FAILED)
+}
+
+fn tell_refusal(rt: &HostRuntime, refusal: Refusal) -> ExitCode {
+    match error_line(rt.alloc(), refusal) {
+        Ok(line) => tell(rt.stderr(), "", &line, 1),
+        Err(_) => tell(rt.stderr(), "", NO_MEMORY_LINE, 1),
+    }
+}
+
+/// Decides what the three texts hold.
+fn decide(rt: &HostRuntime, policies: &[u8], entities: &[u8], request: &[u8]) -> ExitCode {
+    match decide_texts(rt.alloc(), policies, entities, request) {
+        Ok(line) => tell(rt.stdout(), "", &line, 0),
+        Err(refusal) => tell_refusal(rt, refusal),
+    }
+}
+
+/// Reads the request, and then decides.
+fn ask(rt: &HostRuntime, policies: &[u8], entities: &[u8], request: &str) -> ExitCode {
+    match fs::read(rt, request) {
+        Ok(text) => decide(rt, policies, entities, &text),
+        Err(_) => tell_fault(rt, request),
+    }
+}
+
+/// Reads the entities, and then goes on with the request.
+fn ask_over(rt: &HostRuntime, policies: &[u8], entities: &str, request: &str) -> ExitCode {
+    match fs::read(rt, entities) {
+        Ok(text) => ask(rt, policies, &text, request),
+        Err(_) => tell_fault(rt, entities),
+    }
+}
+
+/// Reads the policies, and then goes on with the other files.
+fn ask_by(rt: &HostRuntime, policies: &str, entities: &str, request: &str) -> ExitCode {
+    match fs::read(rt, policies) {
+        Ok(text) => ask_over(rt, &text, entities, request),
+        Err(_) => tell_fault(rt, policies),
+    }
+}
+
+/// Does what the words ask for, the first of which is the program's own name.
+fn run(rt: &HostRuntime, words: &[String]) -> ExitCode {
+    match words {
+        [_, policies, entities, request] => ask_by(rt, policies, entities, request),
+        _ => {
+            tell(
+                rt.stderr(),
+                "usage: bare_decide POLICIES ENTITIES REQUEST",
+                b"",
+                2,
+            )
         }
     }
-    ExitCode::from(status)
 }
 
 fn main(rt: HostRuntime) -> ExitCode {
     let Ok(words) = env::args(&rt) else {
         return ExitCode::from(FAILED);
     };
-    let Ok(words) = words.collect::<Vec<String>>(rt.alloc()) else {
-        return ExitCode::from(FAILED);
-    };
-    let [_, policies, entities, request] = words.as_slice() else {
-        return tell(
-            rt.stderr(),
-            "usage: bare_decide POLICIES ENTITIES REQUEST",
-            b"",
-            2,
-        );
-    };
-    let Ok(policy_text) = fs::read(&rt, policies) else {
-        return tell(rt.stderr(), "fault: ", policies.as_bytes(), FAILED);
-    };
-    let Ok(entity_text) = fs::read(&rt, entities) else {
-        return tell(rt.stderr(), "fault: ", entities.as_bytes(), FAILED);
-    };
-    let Ok(request_text) = fs::read(&rt, request) else {
-        return tell(rt.stderr(), "fault: ", request.as_bytes(), FAILED);
-    };
-    match decide_texts(rt.alloc(), &policy_text, &entity_text, &request_text) {
-        Ok(line) => tell(rt.stdout(), "", &line, 0),
-        Err(refusal) => match error_line(rt.alloc(), refusal) {
-            Ok(line) => tell(rt.stderr(), "", &line, 1),
-            Err(_) => tell(rt.stderr(), "", NO_MEMORY_LINE, 1),
-        },
+    match words.collect::<Vec<String>>(rt.alloc()) {
+        Ok(words) => run(&rt, &words),
+        Err(_) => ExitCode::from(FAILED),
     }
 }

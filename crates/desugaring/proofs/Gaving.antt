@@ -1,5 +1,5 @@
 -- What is made of results that are known.
-use Rattle.std.proofs.Common.{◌≡◌, ◌∙◌, ap, Result, Ok, Err, IfOk}
+use Rattle.std.proofs.Common.{◌≡◌, ◌∙◌, ap, subst, Result, Ok, Err, IfOk}
 use Rattle.desugaring.specs.inner.Giving.{Gave}
 
 pub one : {A B E F : Type 0} (f : A → B) (a : A) (b : B) (first : Result A E) (r : Result B F) → IfOk first (λ x. x ≡ a) →
@@ -28,3 +28,8 @@ three f a b c d first second third (Err g) is also last made same = tt
 pub still : {A B E : Type 0} (whole : A → B) (now before : B) (first : Result A E) → now ≡ before → Gave first (λ a. before ≡ whole a) → Gave first (λ a. now ≡ whole a)
 still whole now before (Ok a) same was = same ∙ was
 still whole now before (Err e) same was = absurd was
+
+-- what is said of a value that was given is said of the one that it is known to be
+pub given : {A E : Type 0} (P : A → Type 0) (a : A) (r : Result A E) → IfOk r (λ x. x ≡ a) → Gave r P → P a
+given P a (Ok x) is gave = subst P is gave
+given P a (Err e) is gave = absurd gave

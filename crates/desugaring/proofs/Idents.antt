@@ -1,5 +1,5 @@
 -- The words of a path are identifiers.
-use Rattle.std.proofs.Common.{◌≡◌, ℕ, ◌+◌, ◌<◌, true, List, [], ◌∷◌, ◌++◌, length, take, get_or, map, refl, sym, ◌∙◌, ap, subst}
+use Rattle.std.proofs.Common.{◌≡◌, ℕ, ◌+◌, ◌<◌, true, false, List, [], ◌∷◌, ◌++◌, length, take, get_or, map, refl, sym, ◌∙◌, ap, subst}
 use Rattle.std.proofs.lemmas.List.{take_more, map-append}
 use denote.Ref.{Bor}
 use Rattle.plain.specs.Words.{AreIdents, IsIdent}
@@ -7,12 +7,13 @@ use Rattle.policy_tokens.specs.declared.token.TokenKind.{TokenKind}
 use Rattle.policy_tokens.specs.declared.token.TokenKind.TheVariants as k
 use Rattle.policy_tokens.specs.declared.token.Token.{Token}
 use Rattle.policy_tokens.specs.Idents.{is_ident}
-use Rattle.policy_tokens.specs.Strings.{is_string}
-use Rattle.expression_trees.specs.Patterns.{patterns}
 use Rattle.policy_tokens.specs.Lexing.{spelling_of}
 use Rattle.token_readers.specs.Grammar.{identifiers}
 use Rattle.token_readers.specs.Kinds.{only, same_kind}
 use Rattle.desugaring.proofs.Lists.{idents-more}
+
+refuted : {A : Type 0} → false ≡ true → A
+refuted e = absurd (cc)
 
 pub ident-kind : (kind : TokenKind) → identifiers kind ≡ true → is_ident kind ≡ true
 ident-kind k.Ident yes' = refl
@@ -24,12 +25,12 @@ ident-kind k.Principal yes' = refl
 ident-kind k.Action yes' = refl
 ident-kind k.Resource yes' = refl
 ident-kind k.Context yes' = refl
-ident-kind _ yes' = absurd (cc)
+ident-kind _ yes' = refuted yes'
 
 pub text-kind : (kind : TokenKind) → only k.Text kind ≡ true → kind ≡ k.Text
 unfolding same_kind
 text-kind k.Text yes' = refl
-text-kind _ yes' = absurd (cc)
+text-kind _ yes' = refuted yes'
 
 -- what texts point to
 abbrev pub shown : List (Bor (List ℕ)) → List (List ℕ)
@@ -52,8 +53,3 @@ words-more text tokens i d old new w first below was pushed is ident =
       grown ∙ ap (λ xs. xs ++ w.now ∷ []) was.0 ∙ ap (λ x. first ∷ (map (spelling_of text) (take i tokens) ++ x ∷ [])) is ∙ ap (λ xs. first ∷ xs) (sym more),
       subst AreIdents (sym grown) (idents-more (shown old) w.now was.1 ident),
     )
-
-pub pattern-kind : (kind : TokenKind) → patterns kind ≡ true → is_string kind ≡ true
-pattern-kind k.Text yes' = refl
-pattern-kind k.StarText yes' = refl
-pattern-kind _ yes' = absurd (cc)

@@ -8,13 +8,13 @@ ghost use Rattle.desugaring.specs.inner.WellFormed.{WellFormed, AllWellFormed, W
 ghost use Rattle.desugaring.specs.inner.WellFormed.{WellFormedAccess};
 
 use crate::leaves::{
-    Chain, apply, beside, boolean_literal, both, call, call_method, compare, field, has,
-    if_then_else, is, is_in, join, like, negated_literal, number_literal, record, set,
+    Chain, add, add_term, apply, boolean_literal, call, call_with_row, compare, field, has,
+    if_then_else, is, is_in, join_next, like, named, negated_literal, number_literal, record, set,
     text_literal, uid_literal, variable,
 };
 use crate::measuring::function_at;
 use crate::names::method_named;
-use crate::words::{name, sign};
+use crate::words::name;
 use expression_trees::{Access, Entry, ExprTree, Term};
 use expressions::{Expr, Named, Unary};
 use plain::{Items, NoMemory};
@@ -69,7 +69,7 @@ pub(crate) fn build_tree(alloc: Global, text: &str, tree: &ExprTree) -> Result<E
         ExprTree::IsIn(inner, path, outer) => {
             let operand = build_tree(alloc, text, inner.get());
             let ancestor = build_tree(alloc, text, outer.get());
-            is_in(alloc, text, both(operand, ancestor), path)
+            is_in(alloc, text, operand, ancestor, path)
         }
         ExprTree::And(inner, more) => {
             let first = build_tree(alloc, text, inner.get());
@@ -83,7 +83,7 @@ pub(crate) fn build_tree(alloc: Global, text: &str, tree: &ExprTree) -> Result<E
             let first = build_tree(alloc, text, test.get());
             let second = build_tree(alloc, text, consequent.get());
             let third = build_tree(alloc, text, alternative.get());
-            if_then_else(alloc, first, both(second, third))
+            if_then_else(alloc, first, second, third)
         }
     }
 }
@@ -107,8 +107,7 @@ fn build_all(alloc: Global, text: &str, trees: &[ExprTree]) -> Result<Items<Expr
 {
     let mut row = Vec::with_capacity(alloc, trees.len())?;
     for tree in trees {
-        let built = build_tree(alloc, text, tree)?;
-        row.push(built)?;
+        add(&mut row, build_tree(alloc, text, tree))?;
     }
     Ok(Items::from_vec(row))
 }
@@ -124,9 +123,8 @@ fn build_entries(
 {
     let mut row = Vec::with_capacity(alloc, entries.len())?;
     for entry in entries {
-        let key = name(alloc, text, entry.key)?;
-        let (name, value) = beside(key, build_tree(alloc, text, &entry.value))?;
-        row.push(Named { name, value })?;
+        let key = name(alloc, text, entry.key);
+        add(&mut row, named(key, build_tree(alloc, text, &entry.value)))?;
     }
     Ok(Items::from_vec(row))
 }
@@ -144,8 +142,7 @@ fn build_chain(
 {
     let mut left = first?;
     for tree in more {
-        let (kept, right) = beside(left, build_tree(alloc, text, tree))?;
-        left = join(alloc, chain, kept, right)?;
+        left = join_next(alloc, chain, left, build_tree(alloc, text, tree))?;
     }
     Ok(left)
 }
@@ -163,8 +160,12 @@ fn build_terms(
 {
     let mut left = first?;
     for term in terms {
-        let (kept, right) = beside(left, build_tree(alloc, text, &term.operand))?;
-        left = Expr::binary(alloc, sign(term.sign), kept, right)?;
+        left = add_term(
+            alloc,
+            term.sign,
+            left,
+            build_tree(alloc, text, &term.operand),
+        )?;
     }
     Ok(left)
 }
@@ -201,9 +202,13 @@ fn build_access(
     match access {
         Access::Field(key) => field(alloc, text, receiver, *key),
         Access::Method(token, arguments) => {
-            let (owner, row) = beside(receiver, build_all(alloc, text, arguments.as_slice()))?;
             let method = method_named(spelling(text, *token));
-            call_method(alloc, method, owner, row)
+            call_with_row(
+                alloc,
+                method,
+                receiver,
+                build_all(alloc, text, arguments.as_slice()),
+            )
         }
     }
 }

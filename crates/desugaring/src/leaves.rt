@@ -1,5 +1,5 @@
 //! Core expressions from their parts, and those that a single token makes.
-ghost use Rattle.std.specs.Prelude.{◌≡◌, IfOk, Ok, Some};
+ghost use Rattle.std.specs.Prelude.{◌≡◌, ◌++◌, ◌∷◌, [], IfOk, Ok, Some};
 ghost use Rattle.policy_tokens.specs.declared.token.TokenKind.TheVariants as k;
 ghost use Rattle.policy_tokens.specs.Lexing.{spelling_of};
 ghost use Rattle.expressions.specs.declared.leaf.Literal.TheVariants as literal;
@@ -10,7 +10,7 @@ ghost use Rattle.token_readers.specs.Kinds.{only};
 ghost use Rattle.expression_trees.specs.Patterns.{patterns};
 ghost use Rattle.desugaring.specs.Strings.{value_of, pattern_of};
 ghost use Rattle.desugaring.specs.Numbers.{positive, negative};
-ghost use Rattle.desugaring.specs.Meaning.{variable_of, path_name, uid_of, name_of};
+ghost use Rattle.desugaring.specs.Meaning.{variable_of, sign_of, path_name, uid_of, name_of};
 ghost use Rattle.desugaring.specs.Core as spec;
 ghost use Rattle.desugaring.specs.declared.names.Method.TheVariants as method;
 ghost use Rattle.desugaring.specs.inner.Giving.{Gave};
@@ -18,10 +18,10 @@ ghost use Rattle.desugaring.specs.inner.WellFormed.{TokenIn, KeyIn, PathIn, UidI
 
 use crate::names::Method;
 use crate::numbers;
-use crate::words::{name, path_type, pattern, string};
-use expression_trees::{Comparison, KeyTree, PathTree, UidTree};
+use crate::words::{name, path_type, pattern, sign, string};
+use expression_trees::{Comparison, KeyTree, PathTree, Sign, UidTree};
 use expressions::{Binary, Expr, Literal, Named, Unary, UnaryCall, Variable};
-use plain::{Items, NoMemory};
+use plain::{Items, NoMemory, Text};
 use policy_tokens::{Token, spelling};
 use std::alloc::Global;
 use values::EntityUid;
@@ -148,6 +148,29 @@ pub(crate) fn both<A: Drop, B: Drop>(
     Ok((left, right))
 }
 
+/// All of three.
+fn all_three<A: Drop, B: Drop, C: Drop>(
+    first: Result<A, NoMemory>,
+    second: Result<B, NoMemory>,
+    third: Result<C, NoMemory>,
+) -> Result<(A, B, C), NoMemory>
+    ensures { IfOk result
+        (λ all. Gave first (λ a. Gave second (λ b. Gave third (λ c. all ≡ (a, b, c))))) }
+{
+    let first = first?;
+    let second = second?;
+    let third = third?;
+    Ok((first, second, third))
+}
+
+/// Puts what was made behind the row.
+pub(crate) fn add<T: Drop>(row: &mut Vec<T>, made: Result<T, NoMemory>) -> Result<(), NoMemory>
+    ensures { IfOk result (λ done. Gave made (λ x. row.new.items ≡ row.old.items ++ x ∷ [])) }
+{
+    row.push(made?)?;
+    Ok(())
+}
+
 /// What was made after another value, with that value. Generic, so that what is let go where memory was refused is
 /// one step.
 pub(crate) fn beside<T: Drop, U>(kept: T, made: Result<U, NoMemory>) -> Result<(T, U), NoMemory>
@@ -160,21 +183,24 @@ pub(crate) fn beside<T: Drop, U>(kept: T, made: Result<U, NoMemory>) -> Result<(
     }
 }
 
-/// `operand is path in ancestor`, of the operand and the ancestor.
+/// `operand is path in ancestor`
 pub(crate) fn is_in(
     alloc: Global,
     text: &str,
-    pair: Result<(Expr, Expr), NoMemory>,
+    operand: Result<Expr, NoMemory>,
+    ancestor: Result<Expr, NoMemory>,
     path: &PathTree,
 ) -> Result<Expr, NoMemory>
     requires { PathIn text.now path.now }
     ensures { IfOk result
-        (λ e. Gave pair
-        (λ p. e
-        ≡ core.And (core.Unary (unary.Is (path_name text.now path.now)) p.0)
-        (core.Binary binary.In p.0 p.1))) }
+        (λ e. Gave operand
+        (λ a. Gave ancestor
+        (λ b. e
+        ≡ core.And (core.Unary (unary.Is (path_name text.now path.now)) a)
+        (core.Binary binary.In a b)))) }
 {
-    let ((operand, ancestor), type_name) = both(pair, path_type(alloc, text, path))?;
+    let type_name = path_type(alloc, text, path);
+    let (operand, ancestor, type_name) = all_three(operand, ancestor, type_name)?;
     Expr::is_in(alloc, operand, type_name, ancestor)
 }
 
@@ -190,15 +216,17 @@ pub(crate) fn apply(
     Expr::unary(alloc, operator, operand)
 }
 
-/// `if test then consequent else alternative`, of the test and the two others.
+/// `if test then consequent else alternative`
 pub(crate) fn if_then_else(
     alloc: Global,
     test: Result<Expr, NoMemory>,
-    pair: Result<(Expr, Expr), NoMemory>,
+    consequent: Result<Expr, NoMemory>,
+    alternative: Result<Expr, NoMemory>,
 ) -> Result<Expr, NoMemory>
-    ensures { IfOk result (λ e. Gave test (λ a. Gave pair (λ p. e ≡ core.If a p.0 p.1))) }
+    ensures { IfOk result
+        (λ e. Gave test (λ a. Gave consequent (λ b. Gave alternative (λ c. e ≡ core.If a b c)))) }
 {
-    let (test, (consequent, alternative)) = both(test, pair)?;
+    let (test, consequent, alternative) = all_three(test, consequent, alternative)?;
     Expr::if_then_else(alloc, test, consequent, alternative)
 }
 
@@ -207,6 +235,18 @@ pub(crate) fn set(members: Result<Items<Expr>, NoMemory>) -> Result<Expr, NoMemo
     ensures { IfOk result (λ e. Gave members (λ es. e ≡ core.Set es)) }
 {
     Ok(Expr::Set(members?))
+}
+
+/// `name: value`
+pub(crate) fn named(
+    name: Result<Text, NoMemory>,
+    value: Result<Expr, NoMemory>,
+) -> Result<Named<Expr>, NoMemory>
+    ensures { IfOk result
+        (λ f. Gave name (λ n. Gave value (λ e. f ≡ record { name = n; value = e }))) }
+{
+    let (name, value) = both(name, value)?;
+    Ok(Named { name, value })
 }
 
 /// `{fields}`
@@ -238,7 +278,7 @@ pub(crate) fn compare(
 }
 
 /// Two operands of a chain.
-pub(crate) fn join(alloc: Global, chain: Chain, left: Expr, right: Expr) -> Result<Expr, NoMemory>
+fn join(alloc: Global, chain: Chain, left: Expr, right: Expr) -> Result<Expr, NoMemory>
     ensures { IfOk result (λ e. e ≡ spec.joined_by chain left right) }
 {
     match chain {
@@ -248,8 +288,34 @@ pub(crate) fn join(alloc: Global, chain: Chain, left: Expr, right: Expr) -> Resu
     }
 }
 
+/// A chain with what was made as its next operand.
+pub(crate) fn join_next(
+    alloc: Global,
+    chain: Chain,
+    left: Expr,
+    right: Result<Expr, NoMemory>,
+) -> Result<Expr, NoMemory>
+    ensures { IfOk result (λ e. Gave right (λ b. e ≡ spec.joined_by chain left b)) }
+{
+    let (left, right) = beside(left, right)?;
+    join(alloc, chain, left, right)
+}
+
+/// A sum with what was made as its next term.
+pub(crate) fn add_term(
+    alloc: Global,
+    before: Sign,
+    left: Expr,
+    right: Result<Expr, NoMemory>,
+) -> Result<Expr, NoMemory>
+    ensures { IfOk result (λ e. Gave right (λ b. e ≡ core.Binary (sign_of before) left b)) }
+{
+    let (left, right) = beside(left, right)?;
+    Expr::binary(alloc, sign(before), left, right)
+}
+
 /// What stands in place of a call of these parts that is refused.
-fn no_call<T: Drop>(_parts: T) -> Expr
+fn no_call<T: Drop, U: Drop>(_part: T, _other: U) -> Expr
     ensures { result ≡ spec.no_call }
 {
     Expr::Literal(Literal::Boolean(false))
@@ -273,11 +339,11 @@ pub(crate) fn call(
 {
     let arguments = arguments?;
     let Some(called) = function else {
-        return Ok(no_call(arguments));
+        return Ok(no_call(arguments, ()));
     };
     match single(arguments) {
         Some(argument) => Expr::unary_call(alloc, called, argument),
-        None => Ok(no_call(())),
+        None => Ok(no_call((), ())),
     }
 }
 
@@ -291,7 +357,7 @@ fn call_with(
     ensures { IfOk result (λ e. e ≡ spec.called_with method receiver argument) }
 {
     match method {
-        Method::Alone(_) => Ok(no_call((receiver, argument))),
+        Method::Alone(_) => Ok(no_call(receiver, argument)),
         Method::Operator(operator) => Expr::binary(alloc, operator, receiver, argument),
         Method::WithArgument(called) => Expr::binary_call(alloc, called, receiver, argument),
     }
@@ -309,12 +375,12 @@ fn call_alone(
     if arguments.is_empty() {
         Expr::unary_call(alloc, called, receiver)
     } else {
-        Ok(no_call((receiver, arguments)))
+        Ok(no_call(receiver, arguments))
     }
 }
 
 /// A call of a method.
-pub(crate) fn call_method(
+fn call_method(
     alloc: Global,
     method: Option<Method>,
     receiver: Expr,
@@ -323,11 +389,24 @@ pub(crate) fn call_method(
     ensures { IfOk result (λ e. e ≡ spec.method_called method receiver arguments) }
 {
     match method {
-        None => Ok(no_call((receiver, arguments))),
+        None => Ok(no_call(receiver, arguments)),
         Some(Method::Alone(called)) => call_alone(alloc, called, receiver, arguments),
         Some(other) => match single(arguments) {
             Some(argument) => call_with(alloc, other, receiver, argument),
-            None => Ok(no_call(receiver)),
+            None => Ok(no_call(receiver, ())),
         },
     }
+}
+
+/// A call of a method, with the row of arguments that was made.
+pub(crate) fn call_with_row(
+    alloc: Global,
+    method: Option<Method>,
+    receiver: Expr,
+    arguments: Result<Items<Expr>, NoMemory>,
+) -> Result<Expr, NoMemory>
+    ensures { IfOk result (λ e. Gave arguments (λ es. e ≡ spec.method_called method receiver es)) }
+{
+    let (receiver, arguments) = beside(receiver, arguments)?;
+    call_method(alloc, method, receiver, arguments)
 }

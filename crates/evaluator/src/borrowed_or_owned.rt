@@ -86,6 +86,16 @@ impl<'a> BorrowedOrOwned<'a> {
         }
     }
 
+    /// How another value, such as a member of a set, compares with it.
+    pub(crate) fn compared_by(&self, other: &Value) -> Ordering
+        ensures { result ≡ value_cmp other.now self.now }
+    {
+        match &self.ownership {
+            Ownership::Borrowed(value) => other.as_ref().compare(value),
+            Ownership::Owned(value) => other.as_ref().compare(&value.as_ref()),
+        }
+    }
+
     /// The boolean that it is, or None where it is of another kind; takes no memory.
     pub fn as_boolean(&self) -> Option<bool>
         ensures { result ≡ boolean_in self.now }

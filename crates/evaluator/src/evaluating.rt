@@ -1,5 +1,5 @@
 //! The evaluator.
-ghost use Rattle.std.specs.Prelude.{◌≡◌, ◌≢◌, [], map, MatchResult, Ok, Err, true, false, if◌then◌else◌};
+ghost use Rattle.std.specs.Prelude.{◌≡◌, ◌≢◌, [], map, MatchResult, Ok, Err};
 ghost use Rattle.values.specs.Values.{set, record_of, values_of, fields_of};
 ghost use Rattle.values.specs.Sets.{set_list};
 ghost use Rattle.evaluator.specs.Operators.{world_of};
@@ -9,14 +9,14 @@ ghost use Rattle.evaluator.specs.inner.Computing.{and_then, as_test, truth, appl
 ghost use Rattle.evaluator.specs.inner.Computing.{apply_unary_call, apply_binary_call, field_of, has_field};
 
 use crate::borrowed_or_owned::BorrowedOrOwned;
-use crate::calls::{binary_call, unary_call};
 use crate::fault::EvalFault;
-use crate::fields::{field, has};
 use crate::laws::meanings_are_given;
 use crate::leaves::{literal_of, variable_of};
 use crate::lookup::Lookup;
-use crate::operands::boolean_of;
-use crate::operators::{binary, unary};
+use crate::steps::{
+    add_field, add_value, called_on, called_on_two, decides_and, field_in, has_in, on_operand,
+    on_operands, record_with, set_with, tested, truth_of,
+};
 use expressions::{Binary, BinaryCall, Expr, Named, Unary, UnaryCall};
 use plain::{Items, Shared, Text};
 use std::alloc::Global;
@@ -46,7 +46,8 @@ pub fn evaluate<'a, L: Lookup>(
     outcome_of(alloc, expr, request, store)
 }
 
-// The arms that hold a value are functions of their own, so that a level of the recursion takes little stack.
+// The arms that hold a value are functions of their own, so that a level of the recursion takes little stack. What is
+// made of an operand's outcome is a function outside the recursion (steps.rt), which takes the outcome whole.
 #[cycle(evaluate)]
 fn outcome_of<'a, L: Lookup>(
     alloc: Global,
@@ -67,17 +68,25 @@ fn outcome_of<'a, L: Lookup>(
             }
         }
         Expr::And(left, right) => {
-            let left = test_of(alloc, left, request, store)?;
-            second_conjunct(alloc, right, left, request, store)
+            let first = test_of(alloc, left, request, store)?;
+            if decides_and(first) {
+                truth_of(Ok(first))
+            } else {
+                last_test(alloc, right, request, store)
+            }
         }
         Expr::Or(left, right) => {
-            let left = test_of(alloc, left, request, store)?;
-            second_disjunct(alloc, right, left, request, store)
+            let first = test_of(alloc, left, request, store)?;
+            if first {
+                truth_of(Ok(first))
+            } else {
+                last_test(alloc, right, request, store)
+            }
         }
         Expr::Unary(operator, operand) => one_operand(alloc, operator, operand, request, store),
         Expr::Binary(operator, left, right) => {
             let left = outcome_of(alloc, left.get(), request, store)?;
-            second_operand(alloc, right, *operator, &left, request, store)
+            second_operand(alloc, right, *operator, left, request, store)
         }
         Expr::Field(owner, name) => field_of(alloc, owner, name, request, store),
         Expr::Has(owner, name) => has_of(alloc, owner, name, request, store),
@@ -86,7 +95,7 @@ fn outcome_of<'a, L: Lookup>(
         Expr::UnaryCall(called, operand) => one_called(alloc, *called, operand, request, store),
         Expr::BinaryCall(called, left, right) => {
             let left = outcome_of(alloc, left.get(), request, store)?;
-            second_called(alloc, right, *called, &left, request, store)
+            second_called(alloc, right, *called, left, request, store)
         }
     }
 }
@@ -103,44 +112,22 @@ fn test_of<'a, L: Lookup>(
     ensures { Answers result (as_test
         (meaning request.now (decided_world (L.stored store.now) (L.above store.now)) test.now)) }
 {
-    let given = outcome_of(alloc, test.get(), request, store)?;
-    boolean_of(&given)
+    tested(outcome_of(alloc, test.get(), request, store))
 }
 
-/// What `&&` gives behind its first operand: the second is evaluated only where that is true.
+/// What `&&` or `||` gives where its second operand decides.
 #[cycle(evaluate)]
 #[inline(never)]
-fn second_conjunct<'a, L: Lookup>(
+fn last_test<'a, L: Lookup>(
     alloc: Global,
-    right: &'a Shared<Expr>,
-    left: bool,
+    test: &'a Shared<Expr>,
     request: &'a Request,
     store: &'a L,
 ) -> Result<BorrowedOrOwned<'a>, EvalFault>
-    ensures { Answers result (if left
-        then and_then (as_test (meaning request.now (decided_world (L.stored store.now) (L.above store.now)) right.now))
-        truth else truth false) }
+    ensures { Answers result (and_then (as_test
+        (meaning request.now (decided_world (L.stored store.now) (L.above store.now)) test.now)) truth) }
 {
-    let holds = left && test_of(alloc, right, request, store)?;
-    Ok(BorrowedOrOwned::computed(Value::boolean(holds)))
-}
-
-/// What `||` gives behind its first operand: the second is evaluated only where that is false.
-#[cycle(evaluate)]
-#[inline(never)]
-fn second_disjunct<'a, L: Lookup>(
-    alloc: Global,
-    right: &'a Shared<Expr>,
-    left: bool,
-    request: &'a Request,
-    store: &'a L,
-) -> Result<BorrowedOrOwned<'a>, EvalFault>
-    ensures { Answers result (if left then truth true
-        else and_then (as_test (meaning request.now (decided_world (L.stored store.now) (L.above store.now)) right.now))
-        truth) }
-{
-    let holds = left || test_of(alloc, right, request, store)?;
-    Ok(BorrowedOrOwned::computed(Value::boolean(holds)))
+    truth_of(test_of(alloc, test, request, store))
 }
 
 /// What an operator gives on an expression's value.
@@ -157,8 +144,8 @@ fn one_operand<'a, L: Lookup>(
         (meaning request.now (decided_world (L.stored store.now) (L.above store.now)) operand.now)
         (apply_unary operator.now)) }
 {
-    let given = outcome_of(alloc, operand.get(), request, store)?;
-    Ok(BorrowedOrOwned::computed(unary(operator, &given)?))
+    let given = outcome_of(alloc, operand.get(), request, store);
+    on_operand(operator, given)
 }
 
 /// What an operator gives on a value and an expression's value.
@@ -168,15 +155,15 @@ fn second_operand<'a, L: Lookup>(
     alloc: Global,
     right: &'a Shared<Expr>,
     operator: Binary,
-    left: &BorrowedOrOwned<'_>,
+    left: BorrowedOrOwned<'a>,
     request: &'a Request,
     store: &'a L,
 ) -> Result<BorrowedOrOwned<'a>, EvalFault>
     ensures { let world = decided_world (L.stored store.now) (L.above store.now) in
-        Answers result (and_then (meaning request.now world right.now) (apply_binary world operator left.now)) }
+        Answers result (and_then (meaning request.now world right.now) (apply_binary world operator left.entry)) }
 {
-    let right = outcome_of(alloc, right.get(), request, store)?;
-    Ok(BorrowedOrOwned::computed(binary(store, operator, left, &right)?))
+    let right = outcome_of(alloc, right.get(), request, store);
+    on_operands(store, operator, left, right)
 }
 
 /// What a call gives on an expression's value.
@@ -193,8 +180,8 @@ fn one_called<'a, L: Lookup>(
         (meaning request.now (decided_world (L.stored store.now) (L.above store.now)) operand.now)
         (apply_unary_call called)) }
 {
-    let given = outcome_of(alloc, operand.get(), request, store)?;
-    Ok(BorrowedOrOwned::computed(unary_call(called, &given)?))
+    let given = outcome_of(alloc, operand.get(), request, store);
+    called_on(called, given)
 }
 
 /// What a call gives on a value and an expression's value.
@@ -204,16 +191,16 @@ fn second_called<'a, L: Lookup>(
     alloc: Global,
     right: &'a Shared<Expr>,
     called: BinaryCall,
-    left: &BorrowedOrOwned<'_>,
+    left: BorrowedOrOwned<'a>,
     request: &'a Request,
     store: &'a L,
 ) -> Result<BorrowedOrOwned<'a>, EvalFault>
     ensures { Answers result (and_then
         (meaning request.now (decided_world (L.stored store.now) (L.above store.now)) right.now)
-        (apply_binary_call called left.now)) }
+        (apply_binary_call called left.entry)) }
 {
-    let right = outcome_of(alloc, right.get(), request, store)?;
-    Ok(BorrowedOrOwned::computed(binary_call(called, left, &right)?))
+    let right = outcome_of(alloc, right.get(), request, store);
+    called_on_two(called, left, right)
 }
 
 /// A field or an attribute of an expression's value.
@@ -230,8 +217,8 @@ fn field_of<'a, L: Lookup>(
         (meaning request.now (decided_world (L.stored store.now) (L.above store.now)) owner.now)
         (field_of (decided_world (L.stored store.now) (L.above store.now)) name.now)) }
 {
-    let given = outcome_of(alloc, owner.get(), request, store)?;
-    field(alloc, store, &given, name.as_str())
+    let given = outcome_of(alloc, owner.get(), request, store);
+    field_in(alloc, store, given, name)
 }
 
 /// Whether an expression's value has a field or an attribute.
@@ -248,8 +235,8 @@ fn has_of<'a, L: Lookup>(
         (meaning request.now (decided_world (L.stored store.now) (L.above store.now)) owner.now)
         (has_field (decided_world (L.stored store.now) (L.above store.now)) name.now)) }
 {
-    let given = outcome_of(alloc, owner.get(), request, store)?;
-    Ok(BorrowedOrOwned::computed(has(store, &given, name.as_str())?))
+    let given = outcome_of(alloc, owner.get(), request, store);
+    has_in(store, given, name)
 }
 
 /// The set of what expressions give.
@@ -265,8 +252,7 @@ fn set_of<'a, L: Lookup>(
         (each (map (meaning request.now (decided_world (L.stored store.now) (L.above store.now))) members.now))
         (λ vs. Ok (set (values_of (set_list vs))))) }
 {
-    let members = evaluate_each(alloc, members, request, store)?;
-    Ok(BorrowedOrOwned::computed(Value::set(members)?))
+    set_with(evaluate_each(alloc, members, request, store))
 }
 
 /// The record of what the expressions under names give.
@@ -283,8 +269,7 @@ fn record_of<'a, L: Lookup>(
         (map (named_meaning request.now (decided_world (L.stored store.now) (L.above store.now))) fields.now)
         []) (λ done. Ok (record_of (fields_of done)))) }
 {
-    let fields = evaluate_fields(alloc, fields, request, store)?;
-    Ok(BorrowedOrOwned::computed(Value::from_record(fields)))
+    record_with(evaluate_fields(alloc, fields, request, store))
 }
 
 /// What expressions give, in order.
@@ -302,8 +287,8 @@ fn evaluate_each<'a, L: Lookup>(
 {
     let mut values = Vec::with_capacity(alloc, exprs.len())?;
     for expr in exprs.as_slice() {
-        let value = outcome_of(alloc, expr, request, store)?.into_value(alloc)?;
-        values.push(value)?;
+        let given = outcome_of(alloc, expr, request, store);
+        add_value(alloc, &mut values, given)?;
     }
     Ok(values)
 }
@@ -322,9 +307,8 @@ fn evaluate_fields<'a, L: Lookup>(
 {
     let mut record = Record::new(alloc);
     for field in fields.as_slice() {
-        let name = field.name.copy()?;
-        let value = outcome_of(alloc, &field.value, request, store)?.into_value(alloc)?;
-        record.insert(name, value)?;
+        let given = outcome_of(alloc, &field.value, request, store);
+        add_field(alloc, &mut record, &field.name, given)?;
     }
     Ok(record)
 }

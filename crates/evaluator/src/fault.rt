@@ -5,7 +5,7 @@ ghost use Rattle.evaluator.specs.declared.fault.EvalFault.TheVariants.{NoMemory}
 use std::alloc::{AllocError, AllocFailed};
 
 /// Why an expression gives no value.
-#[derive(Clone, Copy, PartialEq, Eq)]
+#[derive(Clone, Copy)]
 pub enum EvalFault {
     /// An attribute was asked of an entity that is not stored.
     EntityDoesNotExist,

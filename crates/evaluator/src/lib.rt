@@ -11,6 +11,7 @@ mod leaves;
 mod lookup;
 mod operands;
 mod operators;
+mod steps;
 
 pub use borrowed_or_owned::BorrowedOrOwned;
 pub use evaluating::evaluate;

@@ -2,7 +2,6 @@
 ghost use Rattle.std.specs.Prelude.{◌≡◌, ◌⊎◌, ◌↔◌, ◌+ℤ◌, ◌-ℤ◌, ◌*ℤ◌, int_lt, int_le, IsTrue, Contains, IfOk};
 ghost use Rattle.std.specs.Prelude.{MatchResult, Ok, Err};
 ghost use Rattle.std.specs.List.{list_all, list_any};
-ghost use Rattle.values.specs.ValueOrder.{value_cmp};
 ghost use Rattle.values.specs.Sets.{has_member};
 ghost use Rattle.ancestor_closure.specs.Hierarchy.{IsAscending, names};
 ghost use Rattle.evaluator.specs.Outcomes.{entity_in};
@@ -17,7 +16,6 @@ use crate::operands::{boolean_of, entity_of, long_of, longs_of, set_of, text_of}
 use ancestor_closure::is_among;
 use expressions::{Binary, Unary};
 use plain::NoMemory;
-use std::cmp::Ordering;
 use values::{BorrowedKind, EntityUid, Kind, Set, Value, sets_hold_their_members};
 
 /// What an operator gives on a value.
@@ -140,13 +138,6 @@ fn in_value<L: Lookup>(
     }
 }
 
-/// How a member compares with a value.
-fn compare_member(member: &Value, given: &BorrowedOrOwned<'_>) -> Ordering
-    ensures { result ≡ value_cmp member.now given.now }
-{
-    BorrowedOrOwned::borrowed(member).compare(given)
-}
-
 /// Whether a value is a member; takes no memory, and logarithmic time.
 fn is_member(members: &Set, given: &BorrowedOrOwned<'_>) -> bool
     ensures { result ≡ has_member members.now given.now }
@@ -154,7 +145,7 @@ fn is_member(members: &Set, given: &BorrowedOrOwned<'_>) -> bool
     sets_hold_their_members();
     members
         .members()
-        .binary_search_by(|member| compare_member(member, given))
+        .binary_search_by(|member| given.compared_by(member))
         .is_ok()
 }
 

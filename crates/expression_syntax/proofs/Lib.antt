@@ -5,6 +5,7 @@ pub mod Alive
 pub mod ExpressionRules
 pub mod ExpressionFirm
 pub mod ExpressionExact
+pub mod Tails
 pub mod TreeWellFormed
 pub mod ExpressionWellFormed
 pub mod Published

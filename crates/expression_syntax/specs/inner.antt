@@ -1,3 +1,5 @@
+pub mod Chains
 pub mod Included
 pub mod Nests
 pub mod Prefixes
+pub mod Tails

@@ -1,66 +1,53 @@
 //! Expressions.
 
-ghost use Rattle.std.specs.Prelude.{◌≡◌, ◌<◌, IfOk, Err};
+ghost use Rattle.std.specs.Prelude.{◌≡◌, ◌<◌, Err};
 ghost use Rattle.expression_syntax.specs.ExpressionReading as spec;
 ghost use Rattle.expression_syntax.specs.Expressions as grammar;
 ghost use Rattle.expression_syntax.specs.Expressions.{is_positive};
 ghost use Rattle.token_readers.specs.ParsesTo.{ParsesTo};
 ghost use Rattle.expression_syntax.specs.inner.Nests.{Nests};
-ghost use Rattle.expression_trees.specs.declared.tree.ExprTree.TheVariants as tree;
 ghost use Rattle.token_readers.specs.Reads.{ReadsFrontWithin};
 ghost use Rattle.token_readers.specs.declared.fault.Halt.TheVariants as halt;
 
-use crate::held::{beside, three};
+use crate::held::beside;
 use crate::primary::Reader;
 use expression_trees::ExprTree;
 use plain::Boxed;
 use policy_tokens::TokenKind;
-use std::alloc::{AllocError, Global};
+use std::alloc::Global;
 use token_readers::{Cursor, Halt};
-
-fn if_of(
-    alloc: Global,
-    test: ExprTree,
-    consequent: ExprTree,
-    alternative: ExprTree,
-) -> Result<ExprTree, AllocError>
-    ensures { IfOk result (λ e. e ≡ tree.If test consequent alternative) }
-{
-    let (test, consequent, alternative) = three(alloc, test, consequent, alternative)?;
-    Ok(ExprTree::If(test, consequent, alternative))
-}
 
 impl<F: Fn(Global, &mut Cursor<'_>, usize) -> Result<ExprTree, Halt>> Reader<F> {
     /// "else" Expr
     #[tactic(auto, unfolding(crate::specs::ExpressionReading::alternative))]
-    fn alternative(&self, tokens: &mut Cursor<'_>) -> Result<ExprTree, Halt>
+    fn alternative(&self, tokens: &mut Cursor<'_>) -> Result<Boxed<ExprTree>, Halt>
         requires { Nests self.now.levels (F.pre self.now.expr) (F.post self.now.expr) }
         ensures { ParsesTo (spec.alternative (is_positive self.now.levels)
             (spec.expr self.now.levels) tokens.old.rest.now)
             result tokens.new.rest.now }
     {
         tokens.take(TokenKind::Else)?;
-        self.inner(tokens)
+        self.boxed_inner(tokens)
     }
 
     /// "then" Expr
     #[tactic(auto, unfolding(crate::specs::ExpressionReading::consequent))]
-    fn consequent(&self, tokens: &mut Cursor<'_>) -> Result<ExprTree, Halt>
+    fn consequent(&self, tokens: &mut Cursor<'_>) -> Result<Boxed<ExprTree>, Halt>
         requires { Nests self.now.levels (F.pre self.now.expr) (F.post self.now.expr) }
         ensures { ParsesTo (spec.consequent (is_positive self.now.levels)
             (spec.expr self.now.levels) tokens.old.rest.now)
             result tokens.new.rest.now }
     {
         tokens.take(TokenKind::Then)?;
-        self.inner(tokens)
+        self.boxed_inner(tokens)
     }
 
     #[tactic(auto, unfolding(crate::specs::ExpressionReading::decided))]
     fn decided(
         &self,
         tokens: &mut Cursor<'_>,
-        test: ExprTree,
-        consequent: ExprTree,
+        test: Boxed<ExprTree>,
+        consequent: Boxed<ExprTree>,
     ) -> Result<ExprTree, Halt>
         requires { Nests self.now.levels (F.pre self.now.expr) (F.post self.now.expr) }
         ensures { ParsesTo (spec.decided (is_positive self.now.levels) (spec.expr self.now.levels)
@@ -71,11 +58,15 @@ impl<F: Fn(Global, &mut Cursor<'_>, usize) -> Result<ExprTree, Halt>> Reader<F> 
             (test, consequent),
             self.alternative(tokens),
         )?;
-        Ok(if_of(self.alloc, test, consequent, alternative)?)
+        Ok(ExprTree::If(test, consequent, alternative))
     }
 
     #[tactic(auto, unfolding(crate::specs::ExpressionReading::conditional_tail))]
-    fn conditional_tail(&self, tokens: &mut Cursor<'_>, test: ExprTree) -> Result<ExprTree, Halt>
+    fn conditional_tail(
+        &self,
+        tokens: &mut Cursor<'_>,
+        test: Boxed<ExprTree>,
+    ) -> Result<ExprTree, Halt>
         requires { Nests self.now.levels (F.pre self.now.expr) (F.post self.now.expr) }
         ensures { ParsesTo (spec.conditional_tail (is_positive self.now.levels)
             (spec.expr self.now.levels) test tokens.old.rest.now)
@@ -94,7 +85,7 @@ impl<F: Fn(Global, &mut Cursor<'_>, usize) -> Result<ExprTree, Halt>> Reader<F> 
             result tokens.new.rest.now }
     {
         tokens.take(TokenKind::If)?;
-        let test = self.inner(tokens)?;
+        let test = self.boxed_inner(tokens)?;
         self.conditional_tail(tokens, test)
     }
 

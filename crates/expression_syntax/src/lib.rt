@@ -7,9 +7,11 @@
 mod expression;
 mod held;
 mod laws;
+mod levels;
 mod operators;
 mod primary;
 mod read;
+mod relations;
 mod symbols;
 mod token_sets;
 

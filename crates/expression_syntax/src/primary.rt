@@ -101,6 +101,15 @@ impl<F: Fn(Global, &mut Cursor<'_>, usize) -> Result<ExprTree, Halt>> Reader<F> 
         (self.expr)(self.alloc, tokens, self.levels)
     }
 
+    /// An expression one level deeper, in memory of its own.
+    pub(crate) fn boxed_inner(&self, tokens: &mut Cursor<'_>) -> Result<Boxed<ExprTree>, Halt>
+        requires { Nests self.now.levels (F.pre self.now.expr) (F.post self.now.expr) }
+        ensures { ParsesTo (spec.expr self.now.levels tokens.old.rest.now) result tokens.new.rest.now }
+    {
+        let x = self.inner(tokens)?;
+        Ok(Boxed::new(self.alloc, x)?)
+    }
+
     #[tactic(auto, unfolding(crate::specs::ExpressionReading::next_argument))]
     fn next_argument(&self, tokens: &mut Cursor<'_>) -> Result<ExprTree, Halt>
         requires { Nests self.now.levels (F.pre self.now.expr) (F.post self.now.expr) }
@@ -268,9 +277,8 @@ impl<F: Fn(Global, &mut Cursor<'_>, usize) -> Result<ExprTree, Halt>> Reader<F> 
             result tokens.new.rest.now }
     {
         tokens.take(TokenKind::LParen)?;
-        let x = self.inner(tokens)?;
+        let x = self.boxed_inner(tokens)?;
         let (x, _closed) = beside(x, tokens.take(TokenKind::RParen))?;
-        let x = Boxed::new(self.alloc, x)?;
         Ok(ExprTree::Parentheses(x))
     }
 

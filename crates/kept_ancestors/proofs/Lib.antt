@@ -1,6 +1,3 @@
-mod OneByOne
-mod Paths
-mod Updates
-mod Written
-mod Following
+mod Leading
 mod Pairs
+mod Whole

@@ -12,8 +12,8 @@ use Rattle.ancestor_closure.specs.Search.{parents_of, items_or_none}
 use Rattle.ancestor_closure.specs.Decided.{is_same}
 use Rattle.ancestor_closure.specs.Deciding.{Contains-none, same_uid}
 use Rattle.kept_ancestors.specs.ClosedMeaning.{closed_entries, closed_parents}
-use Rattle.kept_ancestors.specs.Kept.{IsKeptOf, ancestors_in, children_in, ancestors_or_none, children_or_none}
-use Rattle.kept_ancestors.specs.declared.relatives.Relatives.{Relatives}
+use Rattle.ancestor_lists.specs.Lists.{IsKeptOf, ancestors_in, children_in, ancestors_or_none, children_or_none}
+use Rattle.ancestor_lists.specs.declared.relatives.Relatives.{Relatives}
 
 at_entries : (es : List (EntityUid × Vec EntityUid Global)) (q : EntityUid) → closed_parents (closed_entries es) q ≡ items_or_none (lookup (is_at (uid_cmp q)) es)
 at_entries [] q = refl

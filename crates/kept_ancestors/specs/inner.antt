@@ -1,1 +1,1 @@
-pub mod OneChange
+pub mod WholeGraph

@@ -3,15 +3,14 @@ ghost use Rattle.std.specs.Prelude.{◌≡◌, ◌↔◌, ◌⊎◌, [], Contain
 ghost use Rattle.values.specs.declared.entity_uid.EntityUid.{EntityUid as PlainUid};
 ghost use Rattle.ancestor_closure.specs.Hierarchy.{names};
 ghost use Rattle.ancestor_closure.specs.inner.Backwards.{AreChildrenAmong};
-ghost use Rattle.kept_ancestors.specs.Kept.{ancestors_in, children_in};
-ghost use Rattle.kept_ancestors.specs.inner.OneChange.{SameLists, SameChildren, IsThere, StayThere, AddsChild};
-ghost use Rattle.kept_ancestors.specs.inner.OneChange.{AreListsOf};
+ghost use Rattle.ancestor_lists.specs.Lists.{ancestors_in, children_in, SameLists, SameChildren};
+ghost use Rattle.ancestor_lists.specs.Lists.{IsThere, StayThere, AddsChild};
+ghost use Rattle.kept_ancestors.specs.inner.WholeGraph.{AreListsOf};
 
-use crate::changing::{make_room, parents_by};
-use crate::children::add_to_all;
-use crate::lists::{list_of, shared_all};
-use crate::relatives::{Relatives, shared, write_list};
 use ancestor_closure::ParentsOf;
+use ancestor_lists::{
+    Relatives, add_to_all, list_of, make_room, parents_by, shared, shared_all, write_list,
+};
 use plain::{NoMemory, Shared};
 use std::alloc::Global;
 use std::collections::{BTreeMap, BTreeSet};

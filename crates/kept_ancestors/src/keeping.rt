@@ -4,14 +4,12 @@ ghost use Rattle.ancestor_closure.specs.Hierarchy.{Parents, Above, IsAllAbove, I
 ghost use Rattle.ancestor_closure.specs.Hierarchy.{no_parents, with_parents};
 ghost use Rattle.ancestor_closure.specs.LeastCycle.{HasNoCycle, IsLeastCycle};
 ghost use Rattle.values.specs.declared.entity_uid.EntityUid.{EntityUid as PlainUid};
-ghost use Rattle.kept_ancestors.specs.Kept.{IsListOf, AreKept, AreKeptBut, ancestors_in};
+ghost use Rattle.ancestor_lists.specs.Lists.{IsListOf, ancestors_in};
+ghost use Rattle.kept_ancestors.specs.Kept.{AreKept, AreKeptBut};
 
 use crate::anew::{relatives_among, set_of};
-use crate::changing::follow;
-use crate::cycles::{are_none, members};
-use crate::lists::{is_in, lent};
-use crate::relatives::{Relatives, ancestors_at};
 use ancestor_closure::{Graph, ParentsOf, least_cycle_among, on_cycles};
+use ancestor_lists::{Relatives, ancestors_at, are_none, follow, is_in, lent, members};
 use plain::{NoMemory, Shared};
 use std::alloc::Global;
 use std::collections::{BTreeMap, BTreeSet};

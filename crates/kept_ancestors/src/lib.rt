@@ -2,13 +2,8 @@
 #![tactic(auto)]
 
 mod anew;
-mod changing;
-mod children;
 pub mod closed;
-mod cycles;
 pub mod keeping;
-mod lists;
-mod relatives;
 
 pub use closed::Closed;
 pub use keeping::KeptAncestors;

@@ -1,5 +1,5 @@
 //! Hierarchies: questions, changes, cycles, and refused memory. Each test is of any type of hierarchy.
-use crate::shared::{beside, finished, holds, uid_of};
+use crate::shared::{both, ended, finished, holds, uid_of};
 use ancestor_closure::{Ancestry, Hierarchy, Searched};
 use kept_ancestors::Closed;
 use plain::NoMemory;
@@ -7,20 +7,32 @@ use std::alloc::Global;
 use std::process::Abort;
 use values::EntityUid;
 
-// A hierarchy that begins without edges.
-trait Begun: Hierarchy + Drop {
+// A hierarchy under test.
+trait Tried: Hierarchy + Drop {
+    // One without edges.
     fn begun(alloc: Global) -> Self;
+
+    // How many lists of ancestors the last change wrote anew: 0 where none is kept.
+    fn last_touched(&self) -> usize;
 }
 
-impl Begun for Searched {
+impl Tried for Searched {
     fn begun(alloc: Global) -> Searched {
         Searched::new(alloc)
     }
+
+    fn last_touched(&self) -> usize {
+        0
+    }
 }
 
-impl Begun for Closed {
+impl Tried for Closed {
     fn begun(alloc: Global) -> Closed {
         Closed::new(alloc)
+    }
+
+    fn last_touched(&self) -> usize {
+        self.touched()
     }
 }
 
@@ -32,24 +44,17 @@ fn entity(alloc: Global, id: &str) -> Result<EntityUid, NoMemory> {
     }
 }
 
-fn push_entity(alloc: Global, list: &mut Vec<EntityUid>, id: &str) -> Result<(), NoMemory> {
-    list.push(entity(alloc, id)?)?;
-    Ok(())
-}
-
-fn push_entities(alloc: Global, list: &mut Vec<EntityUid>, written: &str) -> Result<(), NoMemory> {
-    for id in written.split(' ') {
-        if !id.is_empty() {
-            push_entity(alloc, list, id)?;
-        }
+fn push_entities(alloc: Global, list: &mut Vec<EntityUid>, ids: &str) -> Result<(), NoMemory> {
+    for id in ids.split_whitespace() {
+        list.push(entity(alloc, id)?)?;
     }
     Ok(())
 }
 
-// The entities of these ids, with a blank between.
-fn entities(alloc: Global, written: &str) -> Result<Vec<EntityUid>, NoMemory> {
+// The entities of these ids, with blanks between.
+fn entities(alloc: Global, ids: &str) -> Result<Vec<EntityUid>, NoMemory> {
     let mut list = Vec::new(alloc);
-    let done = push_entities(alloc, &mut list, written);
+    let done = push_entities(alloc, &mut list, ids);
     finished(list, done)
 }
 
@@ -60,13 +65,14 @@ fn put<H: Hierarchy>(
     child: &str,
     parents: &str,
 ) -> Result<(), NoMemory> {
-    let (parents, child) = beside(entities(alloc, parents)?, entity(alloc, child))?;
+    let (parents, child) = both(entities(alloc, parents), entity(alloc, child))?;
     hierarchy.set_parents(child, parents)
 }
 
 fn take_away<H: Hierarchy>(alloc: Global, hierarchy: &mut H, id: &str) -> Result<(), NoMemory> {
     let uid = entity(alloc, id)?;
-    hierarchy.remove(&uid)
+    let done = hierarchy.remove(&uid);
+    ended(uid, done)
 }
 
 // `CHILD in PARENT ..` gives parents; a word alone is no longer stored.
@@ -77,133 +83,183 @@ fn apply<H: Hierarchy>(alloc: Global, hierarchy: &mut H, change: &str) -> Result
     }
 }
 
-fn push_id(all: &mut String, uid: &EntityUid) -> Result<(), NoMemory> {
-    all.push_str(" ")?;
-    all.push_str(uid.id.as_str())
-}
-
-// The ids, with a blank before each.
-fn push_ids(all: &mut String, found: Vec<&EntityUid>) -> Result<(), NoMemory> {
-    for uid in &found {
-        push_id(all, uid)?;
+// These have these ids, in this order.
+fn are(found: &[&EntityUid], ids: &str) -> bool {
+    let mut ids = ids.split_whitespace();
+    for uid in found {
+        if ids.next() != Some(uid.id.as_str()) {
+            return false;
+        }
     }
-    Ok(())
+    ids.next().is_none()
 }
 
-fn push_walk<H: Ancestry>(hierarchy: &H, all: &mut String) -> Result<(), NoMemory> {
-    match hierarchy.least_cycle()? {
-        Some(found) => push_ids(all, found),
-        None => Ok(()),
+fn is_walk(found: &Option<Vec<&EntityUid>>, ids: &str) -> bool {
+    match found {
+        Some(found) => are(found.as_slice(), ids),
+        None => ids.is_empty(),
     }
 }
 
-// Those on cycles, and behind a bar the least cycle.
-fn push_cycles<H: Ancestry>(hierarchy: &H, all: &mut String) -> Result<(), NoMemory> {
-    push_ids(all, hierarchy.cyclic()?)?;
-    all.push_str(" |")?;
-    push_walk(hierarchy, all)
+// The entities above one; those on cycles, and the least cycle.
+type Told<'a> = (
+    Vec<&'a EntityUid>,
+    (Vec<&'a EntityUid>, Option<Vec<&'a EntityUid>>),
+);
+
+fn told<'a, H: Ancestry>(hierarchy: &'a H, uid: &EntityUid) -> Result<Told<'a>, NoMemory> {
+    both(
+        hierarchy.ancestors(uid),
+        both(hierarchy.cyclic(), hierarchy.least_cycle()),
+    )
+}
+
+fn is_as_told(told: &Told<'_>, above: &str, cycles: &str) -> bool {
+    let Some((cyclic, walk)) = cycles.split_once('|') else {
+        return false;
+    };
+    are(told.0.as_slice(), above) && are(told.1.0.as_slice(), cyclic) && is_walk(&told.1.1, walk)
 }
 
 // The entities above one, behind a bar those on cycles, and behind another the least cycle.
-fn push_shown<H: Ancestry>(
+fn shows<H: Ancestry>(
     hierarchy: &H,
     uid: &EntityUid,
-    all: &mut String,
-) -> Result<(), NoMemory> {
-    push_ids(all, hierarchy.ancestors(uid)?)?;
-    all.push_str(" |")?;
-    push_cycles(hierarchy, all)
+    above: &str,
+    cycles: &str,
+) -> Result<bool, NoMemory> {
+    let told = told(hierarchy, uid)?;
+    let truth = is_as_told(&told, above, cycles);
+    Ok(ended(told, truth))
+}
+
+fn walks<H: Ancestry>(hierarchy: &H, expected: &str) -> Result<bool, NoMemory> {
+    let walk = hierarchy.least_cycle()?;
+    let truth = is_walk(&walk, expected);
+    Ok(ended(walk, truth))
 }
 
 fn is_above_the_first<H: Ancestry>(
     hierarchy: &H,
     uid: &EntityUid,
-    parents: &[EntityUid],
+    others: &[EntityUid],
 ) -> Result<bool, NoMemory> {
-    match parents.first() {
+    match others.first() {
         Some(first) => hierarchy.is_ancestor(uid, first),
         None => Ok(false),
     }
 }
 
 // Whether one is above the first of some, and whether it would be on a cycle with them as its parents.
-fn push_answers<H: Hierarchy>(
+fn answered<H: Hierarchy>(
     hierarchy: &H,
     uid: &EntityUid,
-    parents: &[EntityUid],
-    all: &mut String,
-) -> Result<(), NoMemory> {
-    if is_above_the_first(hierarchy, uid, parents)? {
-        all.push_str(" above")?;
+    others: &[EntityUid],
+) -> Result<(bool, bool), NoMemory> {
+    both(
+        is_above_the_first(hierarchy, uid, others),
+        hierarchy.would_cycle(uid, others),
+    )
+}
+
+fn words_of(answer: (bool, bool)) -> &'static str {
+    match answer {
+        (true, true) => " above cycle",
+        (true, false) => " above",
+        (false, true) => " cycle",
+        (false, false) => "",
     }
-    if hierarchy.would_cycle(uid, parents)? {
-        all.push_str(" cycle")?;
+}
+
+// With a bar, what is above the one; without, what the first is to the others.
+fn is_told_of<H: Hierarchy>(
+    hierarchy: &H,
+    uid: &EntityUid,
+    others: &[EntityUid],
+    expected: &str,
+) -> Result<bool, NoMemory> {
+    match expected.split_once('|') {
+        Some((above, cycles)) => shows(hierarchy, uid, above, cycles),
+        None => Ok(words_of(answered(hierarchy, uid, others)?) == expected),
     }
-    Ok(())
 }
 
-fn push_asked<H: Hierarchy>(
-    alloc: Global,
+// Of no entity, the least cycle is told.
+fn is_told_of_all<H: Hierarchy>(
     hierarchy: &H,
-    id: &str,
-    parents: &str,
-    all: &mut String,
-) -> Result<(), NoMemory> {
-    let (uid, parents) = beside(entity(alloc, id)?, entities(alloc, parents))?;
-    push_answers(hierarchy, &uid, &parents, all)
+    asked: &[EntityUid],
+    expected: &str,
+) -> Result<bool, NoMemory> {
+    match asked.split_first() {
+        Some((uid, others)) => is_told_of(hierarchy, uid, others, expected),
+        None => walks(hierarchy, expected),
+    }
 }
 
-fn push_of<H: Ancestry>(
-    alloc: Global,
-    hierarchy: &H,
-    id: &str,
-    all: &mut String,
-) -> Result<(), NoMemory> {
-    let uid = entity(alloc, id)?;
-    push_shown(hierarchy, &uid, all)
+fn has_touched<H: Tried>(hierarchy: &H, count: &str) -> bool {
+    count.parse::<usize>().unwrap_or(0) == hierarchy.last_touched()
 }
 
-// What is asked: an entity's id; one and behind it those of parents; or nothing, for the least cycle.
-fn push_told<H: Hierarchy>(
+fn is_told<H: Tried>(
     alloc: Global,
     hierarchy: &H,
     asked: &str,
-    all: &mut String,
-) -> Result<(), NoMemory> {
-    if asked.is_empty() {
-        return push_walk(hierarchy, all);
+    expected: &str,
+) -> Result<bool, NoMemory> {
+    if asked == "touched" {
+        return Ok(has_touched(hierarchy, expected));
     }
-    match asked.split_once(' ') {
-        Some((id, parents)) => push_asked(alloc, hierarchy, id, parents, all),
-        None => push_of(alloc, hierarchy, asked, all),
+    let asked = entities(alloc, asked)?;
+    let truth = is_told_of_all(hierarchy, &asked, expected);
+    ended(asked, truth)
+}
+
+// `IDS: WHAT IS TOLD`, or `touched:COUNT`. A refused growth is asked for once more.
+fn is_row<H: Tried>(alloc: Global, hierarchy: &H, row: &str) -> Result<bool, NoMemory> {
+    let (asked, expected) = row.split_once(':').unwrap_or((row, ""));
+    match is_told(alloc, hierarchy, asked, expected) {
+        Ok(truth) => Ok(truth),
+        Err(_) => is_told(alloc, hierarchy, asked, expected),
     }
 }
 
-fn told<H: Hierarchy>(alloc: Global, hierarchy: &H, asked: &str) -> Result<String, NoMemory> {
-    let mut all = String::new(alloc);
-    let done = push_told(alloc, hierarchy, asked, &mut all);
-    finished(all, done)
-}
-
-fn is_text(rt: &impl Abort, found: String, expected: &str, what: &str) {
-    holds(rt, found.as_str() == expected, what);
-}
-
-// `ASKED: WHAT IS TOLD`; without a colon a change, or `new`, from which on nothing is stored.
-fn row<H: Begun>(
+fn row_holds<H: Tried>(
     rt: &impl Abort,
     alloc: Global,
-    hierarchy: &mut H,
+    hierarchy: &H,
     row: &str,
 ) -> Result<(), NoMemory> {
-    let Some((asked, expected)) = row.split_once(':') else {
-        return change(alloc, hierarchy, row);
-    };
-    is_text(rt, told(alloc, hierarchy, asked)?, expected, row);
+    holds(rt, is_row(alloc, hierarchy, row)?, row);
     Ok(())
 }
 
-fn change<H: Begun>(alloc: Global, hierarchy: &mut H, change: &str) -> Result<(), NoMemory> {
+// A change that was refused has changed nothing, and can be handed in again.
+fn change_again<H: Tried>(
+    rt: &impl Abort,
+    alloc: Global,
+    hierarchy: &mut H,
+    change: &str,
+    before: &str,
+) -> Result<(), NoMemory> {
+    row_holds(rt, alloc, hierarchy, before)?;
+    apply(alloc, hierarchy, change)
+}
+
+fn change_at_last<H: Tried>(
+    rt: &impl Abort,
+    alloc: Global,
+    hierarchy: &mut H,
+    change: &str,
+    before: &str,
+) -> Result<(), NoMemory> {
+    match apply(alloc, hierarchy, change) {
+        Ok(()) => Ok(()),
+        Err(_) => change_again(rt, alloc, hierarchy, change, before),
+    }
+}
+
+// A change, or `new`, from which on nothing is stored.
+fn change<H: Tried>(alloc: Global, hierarchy: &mut H, change: &str) -> Result<(), NoMemory> {
     if change == "new" {
         *hierarchy = H::begun(alloc);
         return Ok(());
@@ -211,7 +267,33 @@ fn change<H: Begun>(alloc: Global, hierarchy: &mut H, change: &str) -> Result<()
     apply(alloc, hierarchy, change)
 }
 
-fn rows_hold<H: Begun>(
+// With a colon what is told, and else a change.
+fn told_or_changed<H: Tried>(
+    rt: &impl Abort,
+    alloc: Global,
+    hierarchy: &mut H,
+    row: &str,
+) -> Result<(), NoMemory> {
+    if row.contains(':') {
+        return row_holds(rt, alloc, hierarchy, row);
+    }
+    change(alloc, hierarchy, row)
+}
+
+// `CHANGE or ROW`: where the change is refused, this row still holds, and the change is done at a second try.
+fn row<H: Tried>(
+    rt: &impl Abort,
+    alloc: Global,
+    hierarchy: &mut H,
+    row: &str,
+) -> Result<(), NoMemory> {
+    match row.split_once(" or ") {
+        Some((change, before)) => change_at_last(rt, alloc, hierarchy, change, before),
+        None => told_or_changed(rt, alloc, hierarchy, row),
+    }
+}
+
+fn rows_hold<H: Tried>(
     rt: &impl Abort,
     alloc: Global,
     hierarchy: &mut H,
@@ -223,9 +305,16 @@ fn rows_hold<H: Begun>(
     Ok(())
 }
 
+// From nothing stored.
+fn table<H: Tried>(rt: &impl Abort, alloc: Global, rows: &str) -> Result<(), NoMemory> {
+    let mut hierarchy = H::begun(alloc);
+    rows_hold(rt, alloc, &mut hierarchy, rows)
+}
+
 // Through a cycle and out of it. Then two cycles that share an entity; what leads to a cycle, and what a cycle leads
-// to, are on none. Then parents that repeat, or are not stored.
-const CHANGES: &str = "\
+// to, are on none. Then parents that repeat, or are not stored. Then, from the least entity on any cycle, a shortest
+// way round, and of these the least, item by item. At the end what is answered of u below g1, g1 below g2.
+const ROWS: &str = "\
     u in g1/u: g1 | |/\
     g1 in g2/u: g1 g2 | |/\
     g2 in g3/u: g1 g2 g3 | |/\
@@ -246,10 +335,7 @@ const CHANGES: &str = "\
     c/below: b c | |/\
     new/\
     a in c b c b/a: b c | |/\
-    x/b: | |";
-
-// From the least entity on any cycle a shortest way round, and of these the least, item by item.
-const WALKS: &str = "\
+    x/b: | |/new/\
     a in b/b in a/: a b/new/\
     a in c/c in b/b in a/: a c b/new/\
     a in b c/b in a/c in a/: a b/new/\
@@ -262,10 +348,7 @@ const WALKS: &str = "\
     a in b/b in d c/c in a/d in a/: a b c/new/\
     a in b c/b in d/d in e/e in a/c in f/f in a/: a c f/new/\
     u in a/a in u/v in u/: a u/new/\
-    a in b/b in a/b/:";
-
-// Of u below g1, g1 below g2.
-const ANSWERS: &str = "\
+    a in b/b in a/b/:/new/\
     u in g1/g1 in g2/\
     g2 u: above cycle/\
     g1 u: above cycle/\
@@ -275,154 +358,52 @@ const ANSWERS: &str = "\
     u :/\
     g2 w u: cycle";
 
-fn holds_of<H: Begun>(rt: &impl Abort, alloc: Global, rows: &str) -> Result<(), NoMemory> {
-    let mut hierarchy = H::begun(alloc);
-    rows_hold(rt, alloc, &mut hierarchy, rows)
-}
+// What is told before each change, where that is refused, and after it.
+const SURVIVED: &str = "\
+    a in b or a: | |/a: b | |/\
+    b in c or a: b | |/a: b c | |/\
+    c in a or a: b c | |/a: a b c | a b c | a b c/\
+    d in c or a: a b c | a b c | a b c/a: a b c | a b c | a b c/\
+    d or a: a b c | a b c | a b c/a: a b c | a b c | a b c/\
+    c in a d or a: a b c | a b c | a b c/a: a b c d | a b c | a b c";
 
-fn tables<H: Begun>(rt: &impl Abort, alloc: Global) -> Result<(), NoMemory> {
-    holds_of::<H>(rt, alloc, CHANGES)?;
-    holds_of::<H>(rt, alloc, WALKS)?;
-    holds_of::<H>(rt, alloc, ANSWERS)
-}
-
-// A refused growth is asked for once more.
-fn told_twice<H: Hierarchy>(alloc: Global, hierarchy: &H) -> Result<String, NoMemory> {
-    match told(alloc, hierarchy, "a") {
-        Ok(text) => Ok(text),
-        Err(_) => told(alloc, hierarchy, "a"),
-    }
-}
-
-fn are_same(rt: &impl Abort, pair: (String, String), what: &str) {
-    holds(rt, pair.0.as_str() == pair.1.as_str(), what);
-}
-
-// A change that was refused has changed nothing, and can be handed in again.
-fn put_again<H: Hierarchy>(
-    rt: &impl Abort,
-    alloc: Global,
-    hierarchy: &mut H,
-    before: String,
-    change: &str,
-) -> Result<(), NoMemory> {
-    are_same(rt, beside(before, told(alloc, hierarchy, "a"))?, change);
-    apply(alloc, hierarchy, change)
-}
-
-fn put_twice<H: Hierarchy>(
-    rt: &impl Abort,
-    alloc: Global,
-    hierarchy: &mut H,
-    change: &str,
-) -> Result<(), NoMemory> {
-    let before = told_twice(alloc, hierarchy)?;
-    match apply(alloc, hierarchy, change) {
-        Ok(()) => Ok(()),
-        Err(_) => put_again(rt, alloc, hierarchy, before, change),
-    }
-}
-
-fn put_all_twice<H: Hierarchy>(
-    rt: &impl Abort,
-    alloc: Global,
-    hierarchy: &mut H,
-    changes: &str,
-) -> Result<(), NoMemory> {
-    for change in changes.split('/') {
-        put_twice(rt, alloc, hierarchy, change)?;
-    }
-    Ok(())
-}
-
-fn survives_all<H: Hierarchy>(
-    rt: &impl Abort,
-    alloc: Global,
-    hierarchy: &mut H,
-) -> Result<(), NoMemory> {
-    put_all_twice(
-        rt,
-        alloc,
-        hierarchy,
-        "a in b/b in c/c in a/d in c/d/c in a d",
-    )?;
-    let all = told_twice(alloc, hierarchy)?;
-    is_text(rt, all, " a b c d | a b c | a b c", "all changes");
-    Ok(())
-}
-
-fn survives<H: Begun>(rt: &impl Abort, alloc: Global) -> Result<(), NoMemory> {
-    let mut hierarchy = H::begun(alloc);
-    survives_all(rt, alloc, &mut hierarchy)
-}
+// Those of its entity and of all below it, and no other.
+const TOUCHED: &str = "\
+    u in g1/g1 in g2/g2 in g3/v in g3/touched:1/g2 in/touched:3/\
+    new/u in g1/g1 in g2/g2 in g3/v in g3/g2/touched:3/\
+    new/u in g1/g1 in g2/g2 in g3/v in g3/g3 in u/touched:5/\
+    w in u/touched:1";
 
 #[test]
 fn searched(rt: HostRuntime) -> Result<(), NoMemory> {
-    tables::<Searched>(&rt, rt.alloc())
+    table::<Searched>(&rt, rt.alloc(), ROWS)
 }
 
 #[test]
 fn searched_survives_a_refused_allocation(rt: HostRuntime) -> Result<(), NoMemory> {
-    survives::<Searched>(&rt, rt.alloc())
+    table::<Searched>(&rt, rt.alloc(), SURVIVED)
 }
 
 #[test]
 fn kept(rt: HostRuntime) -> Result<(), NoMemory> {
-    tables::<Closed>(&rt, rt.alloc())
+    table::<Closed>(&rt, rt.alloc(), ROWS)
 }
 
 #[test]
 fn kept_survives_a_refused_allocation(rt: HostRuntime) -> Result<(), NoMemory> {
-    survives::<Closed>(&rt, rt.alloc())
-}
-
-// `touched COUNT`: how many lists the last change wrote anew; any other row is a change.
-fn touch(
-    rt: &impl Abort,
-    alloc: Global,
-    hierarchy: &mut Closed,
-    row: &str,
-) -> Result<(), NoMemory> {
-    let Some((_, count)) = row.split_once("touched ") else {
-        return change(alloc, hierarchy, row);
-    };
-    holds(
-        rt,
-        count.parse::<usize>().unwrap_or(0) == hierarchy.touched(),
-        row,
-    );
-    Ok(())
-}
-
-// Those of its entity and of all below it, and no other.
-const TOUCHED: &str = "\
-    u in g1/g1 in g2/g2 in g3/v in g3/touched 1/g2 in/touched 3/\
-    new/u in g1/g1 in g2/g2 in g3/v in g3/g2/touched 3/\
-    new/u in g1/g1 in g2/g2 in g3/v in g3/g3 in u/touched 5/\
-    w in u/touched 1";
-
-fn touch_all(
-    rt: &impl Abort,
-    alloc: Global,
-    hierarchy: &mut Closed,
-    rows: &str,
-) -> Result<(), NoMemory> {
-    for row in rows.split('/') {
-        touch(rt, alloc, hierarchy, row)?;
-    }
-    Ok(())
+    table::<Closed>(&rt, rt.alloc(), SURVIVED)
 }
 
 #[test]
 fn changes_touch_what_is_below(rt: HostRuntime) -> Result<(), NoMemory> {
-    let alloc = rt.alloc();
-    let mut hierarchy = Closed::new(alloc);
-    touch_all(&rt, alloc, &mut hierarchy, TOUCHED)
+    table::<Closed>(&rt, rt.alloc(), TOUCHED)
 }
 
-// One of eight entities.
+const IDS: &str = "a b c d e f u v";
+
+// One of eight entities; of a number from 8 on, none.
 fn id_of(number: u32) -> &'static str {
-    match number % 8 {
+    match number {
         0 => "a",
         1 => "b",
         2 => "c",
@@ -430,7 +411,8 @@ fn id_of(number: u32) -> &'static str {
         4 => "e",
         5 => "f",
         6 => "u",
-        _ => "v",
+        7 => "v",
+        _ => "",
     }
 }
 
@@ -439,40 +421,16 @@ fn next(chance: u32) -> u32 {
     chance.wrapping_mul(1_664_525).wrapping_add(1_013_904_223)
 }
 
-// An id with a blank before it, or nothing.
-fn push_parent(words: &mut String, number: u32) -> Result<(), NoMemory> {
-    if number % 12 < 8 {
-        words.push_str(" ")?;
-        words.push_str(id_of(number % 12))?;
-    }
-    Ok(())
-}
-
-fn push_parents(words: &mut String, chance: u32) -> Result<(), NoMemory> {
-    push_parent(words, chance >> 25)?;
-    push_parent(words, chance >> 21)?;
-    push_parent(words, chance >> 17)
-}
-
-// Behind an id: its parents, or nothing where it is no longer stored.
-fn push_change(words: &mut String, chance: u32) -> Result<(), NoMemory> {
-    if (chance >> 13) % 6 == 0 {
-        return Ok(());
-    }
-    words.push_str(" in")?;
-    push_parents(words, chance)
-}
-
-fn chosen_change(alloc: Global, chance: u32) -> Result<String, NoMemory> {
-    let mut words = String::from_str(alloc, id_of(chance >> 29))?;
-    let done = push_change(&mut words, chance);
-    finished(words, done)
-}
-
-fn chosen_question(alloc: Global, chance: u32) -> Result<String, NoMemory> {
-    let mut words = String::from_str(alloc, id_of(chance >> 29))?;
-    let done = push_parents(&mut words, chance);
-    finished(words, done)
+// An id, a word, and the ids of up to three others.
+fn chosen(alloc: Global, word: &str, chance: u32) -> Result<String, NoMemory> {
+    format!(in alloc;
+        "{}{} {} {} {}",
+        id_of(chance >> 29),
+        word,
+        id_of((chance >> 25) % 12),
+        id_of((chance >> 21) % 12),
+        id_of((chance >> 17) % 12)
+    )
 }
 
 fn apply_both<A: Hierarchy, B: Hierarchy>(
@@ -485,49 +443,91 @@ fn apply_both<A: Hierarchy, B: Hierarchy>(
     apply(alloc, other, change)
 }
 
+// One of six changes takes an entity away.
 fn change_both<A: Hierarchy, B: Hierarchy>(
     alloc: Global,
     one: &mut A,
     other: &mut B,
     chance: u32,
 ) -> Result<(), NoMemory> {
-    let change = chosen_change(alloc, chance)?;
-    apply_both(alloc, one, other, change.as_str())
+    if (chance >> 13) % 6 == 0 {
+        return apply_both(alloc, one, other, id_of(chance >> 29));
+    }
+    let change = chosen(alloc, " in", chance)?;
+    let done = apply_both(alloc, one, other, change.as_str());
+    ended(change, done)
 }
 
-// The same is told by both.
-fn is_told_alike<A: Hierarchy, B: Hierarchy>(
-    rt: &impl Abort,
-    alloc: Global,
+fn same<T: PartialEq + Drop>(
+    one: Result<T, NoMemory>,
+    other: Result<T, NoMemory>,
+) -> Result<bool, NoMemory> {
+    let (one, other) = both(one, other)?;
+    Ok(one == other)
+}
+
+// The same is told of an entity by both.
+fn shows_alike<A: Hierarchy, B: Hierarchy>(
     one: &A,
     other: &B,
-    asked: &str,
+    uid: &EntityUid,
+) -> Result<bool, NoMemory> {
+    same(told(one, uid), told(other, uid))
+}
+
+fn all_alike<A: Hierarchy, B: Hierarchy>(
+    rt: &impl Abort,
+    one: &A,
+    other: &B,
+    all: &[EntityUid],
 ) -> Result<(), NoMemory> {
-    let found = told(alloc, one, asked)?;
-    are_same(rt, beside(found, told(alloc, other, asked))?, asked);
+    for uid in all {
+        holds(rt, shows_alike(one, other, uid)?, uid.id.as_str());
+    }
     Ok(())
 }
 
 fn answers_alike<A: Hierarchy, B: Hierarchy>(
+    one: &A,
+    other: &B,
+    asked: &[EntityUid],
+) -> Result<bool, NoMemory> {
+    let Some((uid, others)) = asked.split_first() else {
+        return Ok(false);
+    };
+    same(answered(one, uid, others), answered(other, uid, others))
+}
+
+fn is_answered_alike<A: Hierarchy, B: Hierarchy>(
+    alloc: Global,
+    one: &A,
+    other: &B,
+    question: &str,
+) -> Result<bool, NoMemory> {
+    let asked = entities(alloc, question)?;
+    let alike = answers_alike(one, other, &asked);
+    ended(asked, alike)
+}
+
+fn asks_both<A: Hierarchy, B: Hierarchy>(
     rt: &impl Abort,
     alloc: Global,
     one: &A,
     other: &B,
     chance: u32,
 ) -> Result<(), NoMemory> {
-    let question = chosen_question(alloc, chance)?;
-    is_told_alike(rt, alloc, one, other, question.as_str())
+    let question = chosen(alloc, "", chance)?;
+    let alike = is_answered_alike(alloc, one, other, question.as_str());
+    is_answer(rt, question, alike)
 }
 
-fn shows_alike<A: Hierarchy, B: Hierarchy>(
+fn is_answer(
     rt: &impl Abort,
-    alloc: Global,
-    one: &A,
-    other: &B,
+    question: String,
+    alike: Result<bool, NoMemory>,
 ) -> Result<(), NoMemory> {
-    for number in 0..8 {
-        is_told_alike(rt, alloc, one, other, id_of(number))?;
-    }
+    let (question, alike) = both(Ok(question), alike)?;
+    holds(rt, alike, question.as_str());
     Ok(())
 }
 
@@ -536,11 +536,12 @@ fn step_alike<A: Hierarchy, B: Hierarchy>(
     alloc: Global,
     one: &mut A,
     other: &mut B,
+    all: &[EntityUid],
     chance: u32,
 ) -> Result<(), NoMemory> {
     change_both(alloc, one, other, chance)?;
-    shows_alike(rt, alloc, one, other)?;
-    answers_alike(rt, alloc, one, other, next(chance))
+    all_alike(rt, one, other, all)?;
+    asks_both(rt, alloc, one, other, next(chance))
 }
 
 fn steps_alike<A: Hierarchy, B: Hierarchy>(
@@ -548,29 +549,31 @@ fn steps_alike<A: Hierarchy, B: Hierarchy>(
     alloc: Global,
     one: &mut A,
     other: &mut B,
-    count: u32,
+    all: &[EntityUid],
 ) -> Result<(), NoMemory> {
     let mut chance = 1;
-    for _ in 0..count {
+    for _ in 0..2000 {
         chance = next(chance);
-        step_alike(rt, alloc, one, other, chance)?;
+        step_alike(rt, alloc, one, other, all, chance)?;
     }
     Ok(())
 }
 
-fn runs_alike<A: Begun, B: Begun>(
+fn runs_alike<A: Tried, B: Tried>(
     rt: &impl Abort,
     alloc: Global,
-    mut one: A,
-    count: u32,
+    all: &[EntityUid],
 ) -> Result<(), NoMemory> {
+    let mut one = A::begun(alloc);
     let mut other = B::begun(alloc);
-    steps_alike(rt, alloc, &mut one, &mut other, count)
+    steps_alike(rt, alloc, &mut one, &mut other, all)
 }
 
 // A long run of changes: both types are alike after each.
 #[test]
 fn kept_is_as_searched(rt: HostRuntime) -> Result<(), NoMemory> {
     let alloc = rt.alloc();
-    runs_alike::<Searched, Closed>(&rt, alloc, Searched::new(alloc), 2000)
+    let all = entities(alloc, IDS)?;
+    let came = runs_alike::<Searched, Closed>(&rt, alloc, &all);
+    ended(all, came)
 }

@@ -1,5 +1,5 @@
 //! Names and values: their orders, and copies, also where memory is refused.
-use crate::shared::{Copied, beside, finished, holds, is_copied, uid_of};
+use crate::shared::{Copied, both, ended, finished, holds, is_copied, uid_of};
 use extensions::{Decimal, IpNet};
 use plain::{NoMemory, Text};
 use std::alloc::{AllocError, Global};
@@ -39,8 +39,8 @@ fn entity(alloc: Global, id: &str) -> Result<Name, NoMemory> {
 #[test]
 fn copies_names(rt: HostRuntime) -> Result<(), NoMemory> {
     let alloc = rt.alloc();
-    is_copied(&rt, alloc, entity(alloc, "alice")?)?;
-    is_copied(&rt, alloc, policy(alloc, "zebra")?)
+    is_copied(&rt, alloc, entity(alloc, "alice"))?;
+    is_copied(&rt, alloc, policy(alloc, "zebra"))
 }
 
 fn text(alloc: Global, content: &str) -> Result<Value, NoMemory> {
@@ -81,7 +81,8 @@ fn has_both(record: &Record) -> bool {
 #[test]
 fn finds_fields(rt: HostRuntime) -> Result<(), NoMemory> {
     let record = fields(rt.alloc())?;
-    holds(&rt, has_both(&record), "fields");
+    let found = has_both(&record);
+    holds(&rt, ended(record, found), "fields");
     Ok(())
 }
 
@@ -145,18 +146,18 @@ fn value_had(alloc: Global, place: u8) -> Result<Value, NoMemory> {
 }
 
 // The greater of two.
-fn above<T: Ord + Drop>(rt: &impl Abort, pair: (T, T)) -> T {
-    let (value, next) = pair;
+fn above<T: Ord + Drop>(rt: &impl Abort, pair: Result<(T, T), NoMemory>) -> Result<T, NoMemory> {
+    let (value, next) = pair?;
     holds(rt, value < next && value != next, "they ascend");
-    next
+    Ok(next)
 }
 
 // A value is below the next one, which is equal to its copy.
 fn is_below_the_next(rt: &impl Abort, alloc: Global, place: u8) -> Result<(), NoMemory> {
-    let pair = beside(
-        value_had(alloc, place)?,
+    let pair = both(
+        value_had(alloc, place),
         value_had(alloc, place.saturating_add(1)),
-    )?;
+    );
     is_copied(rt, alloc, above(rt, pair))
 }
 
@@ -171,9 +172,8 @@ fn values_ascend_and_are_copied_under_refused_memory(rt: HostRuntime) -> Result<
 }
 
 fn asked(alloc: Global) -> Result<Request, NoMemory> {
-    let pair = beside(user(alloc, "alice")?, user(alloc, "view"))?;
-    let (pair, resource) = beside(pair, user(alloc, "photo"))?;
-    let (principal, action) = pair;
+    let pair = both(user(alloc, "alice"), user(alloc, "view"));
+    let ((principal, action), resource) = both(pair, user(alloc, "photo"))?;
     Ok(Request {
         principal,
         action,
@@ -192,5 +192,5 @@ fn request_had(alloc: Global) -> Result<Request, NoMemory> {
 #[test]
 fn requests_are_copied_under_refused_memory(rt: HostRuntime) -> Result<(), NoMemory> {
     let alloc = rt.alloc();
-    is_copied(&rt, alloc, request_had(alloc)?)
+    is_copied(&rt, alloc, request_had(alloc))
 }

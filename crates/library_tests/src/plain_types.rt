@@ -1,5 +1,5 @@
 //! Each call once with ample memory, at concrete types.
-use crate::shared::{Copied, ascend, beside, finished, holds, is_copied};
+use crate::shared::{Copied, ascend, both, finished, holds, is_copied};
 use plain::*;
 use std::alloc::Global;
 use std::process::Abort;
@@ -25,22 +25,23 @@ fn is_bob(rt: &impl Abort, later: Text) {
 #[test]
 fn texts(rt: HostRuntime) -> Result<(), NoMemory> {
     let alloc = rt.alloc();
-    let (id, later) = beside(Text::from_str(alloc, "alice")?, bob(alloc))?;
+    let (id, later) = both(Text::from_str(alloc, "alice"), bob(alloc))?;
     holds(&rt, is_alice(&id, &later), "alice");
     is_bob(&rt, later);
-    is_copied(&rt, alloc, id)
+    is_copied(&rt, alloc, Ok(id))
 }
 
-fn are_the_same(rt: &impl Abort, pair: (Text, Text)) {
-    holds(rt, pair.0.same(&pair.1), "they are the same");
+fn are_the_same(rt: &impl Abort, pair: Result<(Text, Text), NoMemory>) -> Result<(), NoMemory> {
+    let (id, copy) = pair?;
+    holds(rt, id.same(&copy), "they are the same");
+    Ok(())
 }
 
 #[test]
 fn copied_texts(rt: HostRuntime) -> Result<(), NoMemory> {
     let id = Text::from_str(rt.alloc(), "alice")?;
     let copy = id.copy();
-    are_the_same(&rt, beside(id, copy)?);
-    Ok(())
+    are_the_same(&rt, both(Ok(id), copy))
 }
 
 fn push_two(items: &mut Items<u8>, last: u8) -> Result<(), NoMemory> {
@@ -117,22 +118,22 @@ fn shares(rt: HostRuntime) -> Result<(), NoMemory> {
 fn compares_lists(rt: &impl Abort, alloc: Global) -> Result<(), NoMemory> {
     ascend(
         rt,
-        beside(Text::from_str(alloc, "alice")?, bob(alloc)),
+        both(Text::from_str(alloc, "alice"), bob(alloc)),
         "texts",
     )?;
-    ascend(rt, beside(one(alloc)?, two(alloc, 1)), "lists")
+    ascend(rt, both(one(alloc), two(alloc, 1)), "lists")
 }
 
 // What holds one value.
 fn compares_values(rt: &impl Abort, alloc: Global) -> Result<(), NoMemory> {
     ascend(
         rt,
-        beside(Boxed::new(alloc, 1u8)?, Boxed::new(alloc, 2u8)),
+        both(Boxed::new(alloc, 1u8), Boxed::new(alloc, 2u8)),
         "boxes",
     )?;
     ascend(
         rt,
-        beside(Shared::new(alloc, 1u8)?, Shared::new(alloc, 2u8)),
+        both(Shared::new(alloc, 1u8), Shared::new(alloc, 2u8)),
         "shares",
     )
 }

@@ -6,10 +6,21 @@ use std::cmp::Ordering;
 use std::process::Abort;
 use values::{EntityUid, TypeName};
 
-/// A value, and one that was made while it waited.
-pub(crate) fn beside<T: Drop, U>(kept: T, made: Result<U, NoMemory>) -> Result<(T, U), NoMemory> {
+// A value, and one that was made while it waited.
+fn beside<T: Drop, U>(kept: T, made: Result<U, NoMemory>) -> Result<(T, U), NoMemory> {
     match made {
         Ok(made) => Ok((kept, made)),
+        Err(refused) => Err(refused),
+    }
+}
+
+/// Two values, where both were made.
+pub(crate) fn both<T: Drop, U: Drop>(
+    one: Result<T, NoMemory>,
+    other: Result<U, NoMemory>,
+) -> Result<(T, U), NoMemory> {
+    match one {
+        Ok(one) => beside(one, other),
         Err(refused) => Err(refused),
     }
 }
@@ -62,23 +73,29 @@ fn copy_of<T: Copied>(alloc: Global, value: &T) -> Result<T, NoMemory> {
     }
 }
 
-fn is_same<T: PartialEq + Drop>(rt: &impl Abort, copy: T, value: &T) {
-    holds(rt, copy == *value, "a copy is equal");
+fn is_same<T: PartialEq + Drop>(
+    rt: &impl Abort,
+    pair: Result<(T, T), NoMemory>,
+) -> Result<(), NoMemory> {
+    let pair = pair?;
+    holds(rt, pair.0 == pair.1, "a copy is equal");
+    Ok(())
 }
 
 /// A copy is equal to what it was made of, which stays as it was where memory was refused.
 pub(crate) fn is_copied<T: Copied + PartialEq + Drop>(
     rt: &impl Abort,
     alloc: Global,
-    value: T,
+    made: Result<T, NoMemory>,
 ) -> Result<(), NoMemory> {
-    is_same(rt, copy_of(alloc, &value)?, &value);
-    Ok(())
+    let value = made?;
+    let copy = copy_of(alloc, &value);
+    is_same(rt, both(Ok(value), copy))
 }
 
-/// A value that is there, or want of memory.
-pub(crate) fn some<T: Drop>(found: Option<T>) -> Result<T, NoMemory> {
-    match found {
+// A value that is there, or want of memory.
+fn some<T: Drop>(found: Result<Option<T>, NoMemory>) -> Result<T, NoMemory> {
+    match found? {
         Some(value) => Ok(value),
         None => Err(AllocError),
     }
@@ -86,7 +103,7 @@ pub(crate) fn some<T: Drop>(found: Option<T>) -> Result<T, NoMemory> {
 
 /// The entity of this type and id.
 pub(crate) fn uid_of(alloc: Global, type_name: &str, id: &str) -> Result<EntityUid, NoMemory> {
-    let type_name = some(TypeName::parse(alloc, type_name)?)?;
-    let (type_name, id) = beside(type_name, Text::from_str(alloc, id))?;
+    let type_name = some(TypeName::parse(alloc, type_name));
+    let (type_name, id) = both(type_name, Text::from_str(alloc, id))?;
     Ok(EntityUid { type_name, id })
 }

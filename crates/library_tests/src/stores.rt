@@ -1,8 +1,9 @@
 //! Stores: what is looked up, and how they are joined.
-use crate::shared::{beside, ended, finished, holds, uid_of};
+use crate::shared::{both, ended, finished, holds, uid_of};
 use plain::{NoMemory, Text};
 use stamped_store::{Entry, PolicyStore, ReadText, SiteName, Stamp, Stamped, is_site_name, laws};
 use std::alloc::{AllocError, Global};
+use std::collections::btree_map::Iter;
 use std::process::Abort;
 use values::EntityUid;
 
@@ -81,54 +82,34 @@ fn done<T: Drop, E: Drop>(tried: Result<T, E>) -> Result<T, NoMemory> {
 }
 
 fn put_policy(alloc: Global, store: &mut Store, id: &str, row: Row<'_>) -> Result<(), NoMemory> {
-    let (id, entry) = beside(String::from_str(alloc, id)?, entry(alloc, row))?;
+    let (id, entry) = both(String::from_str(alloc, id), entry(alloc, row))?;
     done(store.take_policy(id, entry))
 }
 
 fn put_entity(alloc: Global, store: &mut Store, id: &str, row: Row<'_>) -> Result<(), NoMemory> {
-    let (uid, entry) = beside(uid(alloc, id)?, entry(alloc, row))?;
+    let (uid, entry) = both(uid(alloc, id), entry(alloc, row))?;
     done(store.take_entity(uid, entry))
 }
 
-fn fill_policies(
-    alloc: Global,
-    store: &mut Store,
-    row: Row<'_>,
-    ids: &str,
-) -> Result<(), NoMemory> {
-    for id in ids.split(' ') {
-        put_policy(alloc, store, id, row)?;
+// A name with `@` before it is an entity's, any other a policy's.
+fn put(alloc: Global, store: &mut Store, name: &str, row: Row<'_>) -> Result<(), NoMemory> {
+    match name.strip_prefix('@') {
+        Some(id) => put_entity(alloc, store, id, row),
+        None => put_policy(alloc, store, name, row),
+    }
+}
+
+fn fill(alloc: Global, store: &mut Store, row: Row<'_>, names: &str) -> Result<(), NoMemory> {
+    for name in names.split(' ') {
+        put(alloc, store, name, row)?;
     }
     Ok(())
 }
 
-fn fill_entities(
-    alloc: Global,
-    store: &mut Store,
-    row: Row<'_>,
-    ids: &str,
-) -> Result<(), NoMemory> {
-    for id in ids.split(' ') {
-        put_entity(alloc, store, id, row)?;
-    }
-    Ok(())
-}
-
-// Gives the store the policies and entities of these names, of one letter each, with an entry of this stamp and text.
-fn fill(
-    alloc: Global,
-    store: &mut Store,
-    row: Row<'_>,
-    policies: &str,
-    entities: &str,
-) -> Result<(), NoMemory> {
-    fill_policies(alloc, store, row, policies)?;
-    fill_entities(alloc, store, row, entities)
-}
-
-fn filled(alloc: Global, row: Row<'_>, policies: &str, entities: &str) -> Result<Store, NoMemory> {
+// A store that has at each of these names an entry of this stamp and text.
+fn filled(alloc: Global, row: Row<'_>, names: &str) -> Result<Store, NoMemory> {
     let mut store = PolicyStore::new(alloc);
-    let done = fill(alloc, &mut store, row, policies, entities);
+    let done = fill(alloc, &mut store, row, names);
     finished(store, done)
 }
 
@@ -139,7 +120,7 @@ fn merge_one(
     second: Row<'_>,
     greater: Row<'_>,
 ) -> Result<(), NoMemory> {
-    let other = filled(alloc, second, "p", "x")?;
+    let other = filled(alloc, second, "p @x")?;
     holds(rt, store.merge(other).is_ok(), "it is merged");
     holds(rt, is_of(store.get_policy("p"), greater), greater.2);
     Ok(())
@@ -164,7 +145,7 @@ fn stays(
     second: Row<'_>,
     greater: Row<'_>,
 ) -> Result<(), NoMemory> {
-    let mut store = filled(alloc, first, "p", "x")?;
+    let mut store = filled(alloc, first, "p @x")?;
     let came = merge_twice(rt, alloc, &mut store, second, greater);
     ended(store, came)
 }
@@ -209,78 +190,51 @@ fn the_greater_entry_stays(rt: HostRuntime) -> Result<(), NoMemory> {
     Ok(())
 }
 
-// 1 where the entry has count 9.
-fn joined(entry: Option<&Entry<usize>>) -> usize {
-    match entry {
-        Some(entry) => usize::from(entry.stamp.count == 9),
-        None => 0,
-    }
-}
-
-// Of these policies, how many have a stamp of count 9.
-fn joined_policies(store: &Store) -> usize {
+// How many entries have a stamp of count 9.
+fn joined<K>(entries: Iter<'_, K, Entry<usize>>) -> usize {
     let mut count: usize = 0;
-    for id in ["d", "e", "f"] {
-        count = count.saturating_add(joined(store.get_policy(id)));
+    for (_, entry) in entries {
+        count = count.saturating_add(usize::from(entry.stamp.count == 9));
     }
     count
 }
 
-fn joined_entities(store: &Store, uids: &(EntityUid, EntityUid)) -> usize {
-    joined(store.get_entity(&uids.0)).saturating_add(joined(store.get_entity(&uids.1)))
-}
-
 // Of a store whose entries have count 1, where one of three policies and two entities with count 9 was merged: exactly
 // the entries of the first names are joined.
-fn is_joined_up_to(store: &Store, uids: &(EntityUid, EntityUid), taken: usize) -> bool {
-    let policies = joined_policies(store);
+fn is_joined_up_to(store: &Store, taken: usize) -> bool {
+    let policies = joined(store.policies());
     policies == taken.min(3)
-        && joined_entities(store, uids) == taken.saturating_sub(policies)
+        && joined(store.entities()) == taken.saturating_sub(policies)
         && store.greatest_count() == if taken == 0 { 1 } else { 9 }
 }
 
-fn merge_five(
-    rt: &impl Abort,
-    alloc: Global,
-    store: &mut Store,
-    uids: &(EntityUid, EntityUid),
-) -> Result<(), NoMemory> {
-    let other = filled(alloc, (9, "2", FORBID), "d e f", "x y")?;
+fn merge_five(rt: &impl Abort, alloc: Global, store: &mut Store) -> Result<(), NoMemory> {
+    let other = filled(alloc, (9, "2", FORBID), "d e f @x @y")?;
     let taken = match store.merge(other) {
         Ok(()) => 5,
         Err(short) => short.taken,
     };
     holds(
         rt,
-        is_joined_up_to(store, uids, taken),
+        is_joined_up_to(store, taken),
         "the first names are joined",
     );
     Ok(())
 }
 
-fn merge_into(
-    rt: &impl Abort,
-    alloc: Global,
-    kept: ((EntityUid, EntityUid), Store),
-) -> Result<(), NoMemory> {
-    let (uids, mut store) = kept;
-    let came = merge_five(rt, alloc, &mut store, &uids);
-    ended((uids, store), came)
-}
-
 // Where memory is refused in a merge, exactly the entries of the first names are joined. A refusal before that ends the
 // test.
-fn merged(rt: &impl Abort, alloc: Global, policies: &str, entities: &str) -> Result<(), NoMemory> {
-    let uids = beside(uid(alloc, "x")?, uid(alloc, "y"))?;
-    let store = filled(alloc, (1, "1", PERMIT), policies, entities);
-    merge_into(rt, alloc, beside(uids, store)?)
+fn merged(rt: &impl Abort, alloc: Global, names: &str) -> Result<(), NoMemory> {
+    let mut store = filled(alloc, (1, "1", PERMIT), names)?;
+    let came = merge_five(rt, alloc, &mut store);
+    ended(store, came)
 }
 
 #[test]
 fn a_refused_merge_joins_the_first_names(rt: HostRuntime) {
     let alloc = rt.alloc();
-    let _ = merged(&rt, alloc, "a b c d e", "v");
-    let _ = merged(&rt, alloc, "a", "v w x y z");
+    let _ = merged(&rt, alloc, "a b c d e @v");
+    let _ = merged(&rt, alloc, "a @v @w @x @y @z");
 }
 
 fn is_looked_up(store: &Store, uid: &EntityUid) -> bool {
@@ -290,77 +244,72 @@ fn is_looked_up(store: &Store, uid: &EntityUid) -> bool {
         && is_text_of(store.get_entity(uid), PERMIT)
 }
 
-fn push_policies(names: &mut String, store: &Store) -> Result<(), NoMemory> {
-    for (id, _) in store.policies() {
-        names.push_str(id.as_str())?;
-    }
-    Ok(())
+// What an entry stands at.
+trait Named {
+    fn id(&self) -> &str;
 }
 
-fn push_entities(names: &mut String, store: &Store) -> Result<(), NoMemory> {
-    for (uid, _) in store.entities() {
-        names.push_str(uid.id.as_str())?;
+impl Named for String {
+    fn id(&self) -> &str {
+        self.as_str()
     }
-    Ok(())
+}
+
+impl Named for EntityUid {
+    fn id(&self) -> &str {
+        self.id.as_str()
+    }
+}
+
+// The entries stand at these ids, in this order.
+fn stand_at<K: Named>(entries: Iter<'_, K, Entry<usize>>, ids: &str) -> bool {
+    let mut ids = ids.split(' ');
+    for (name, _) in entries {
+        if ids.next() != Some(name.id()) {
+            return false;
+        }
+    }
+    ids.next().is_none()
 }
 
 // The names of both kinds, in order.
-fn push_names(names: &mut String, store: &Store) -> Result<(), NoMemory> {
-    push_policies(names, store)?;
-    push_entities(names, store)
+fn is_gone_over(store: &Store) -> bool {
+    stand_at(store.policies(), "a b") && stand_at(store.entities(), "x y")
 }
 
-fn names(alloc: Global, store: &Store) -> Result<String, NoMemory> {
-    let mut names = String::new(alloc);
-    let done = push_names(&mut names, store);
-    finished(names, done)
+fn is_asked(rt: &impl Abort, store: &Store, uid: &EntityUid) {
+    holds(rt, is_looked_up(store, uid), "look-ups");
+    holds(rt, is_gone_over(store), "the names in order");
 }
 
-fn is_gone_over(rt: &impl Abort, alloc: Global, store: &Store) -> Result<(), NoMemory> {
-    let names = names(alloc, store)?;
-    holds(rt, names.as_str() == "abxy", "the names in order");
-    Ok(())
-}
-
-fn is_asked(rt: &impl Abort, alloc: Global, kept: (EntityUid, Store)) -> Result<(), NoMemory> {
-    holds(rt, is_looked_up(&kept.1, &kept.0), "look-ups");
-    let came = is_gone_over(rt, alloc, &kept.1);
-    ended(kept, came)
-}
-
-fn stored(alloc: Global) -> Result<Store, NoMemory> {
-    filled(alloc, (4, "1", PERMIT), "b a", "y x")
-}
-
-fn stored_later(alloc: Global) -> Result<Store, NoMemory> {
-    filled(alloc, (5, "1", ""), "b a", "y x")
+fn stored(alloc: Global, count: u64, text: &str) -> Result<Store, NoMemory> {
+    filled(alloc, (count, "1", text), "b a @y @x")
 }
 
 #[test]
 fn a_store_is_looked_up_and_gone_over(rt: HostRuntime) -> Result<(), NoMemory> {
     let alloc = rt.alloc();
-    is_asked(&rt, alloc, beside(uid(alloc, "x")?, stored(alloc))?)
+    let kept = both(stored(alloc, 4, PERMIT), uid(alloc, "x"))?;
+    is_asked(&rt, &kept.0, &kept.1);
+    ended(kept, Ok(()))
 }
 
-fn is_below(rt: &impl Abort, pair: (Store, Store)) {
-    holds(
-        rt,
-        pair.0.below(&pair.1) && !pair.1.below(&pair.0),
-        "it is below",
-    );
+fn is_below(one: &Store, later: &Store) -> bool {
+    one.below(later) && !later.below(one)
 }
 
 #[test]
 fn a_store_is_below_a_later_one(rt: HostRuntime) -> Result<(), NoMemory> {
     let alloc = rt.alloc();
-    is_below(&rt, beside(stored(alloc)?, stored_later(alloc))?);
-    Ok(())
+    let kept = both(stored(alloc, 4, PERMIT), stored(alloc, 5, ""))?;
+    holds(&rt, is_below(&kept.0, &kept.1), "it is below");
+    ended(kept, Ok(()))
 }
 
 type Entries = Stamped<String, Entry<usize>>;
 
 fn put_single(alloc: Global, map: &mut Entries, key: &str, row: Row<'_>) -> Result<(), NoMemory> {
-    let (key, entry) = beside(String::from_str(alloc, key)?, entry(alloc, row))?;
+    let (key, entry) = both(String::from_str(alloc, key), entry(alloc, row))?;
     done(map.take(key, entry))
 }
 
@@ -392,8 +341,8 @@ fn merge_maps(rt: &impl Abort, pair: (Entries, Entries), q: &String) {
 }
 
 fn join_maps(rt: &impl Abort, alloc: Global, q: &String) -> Result<(), NoMemory> {
-    let left = single(alloc, "q", (2, "1", PERMIT))?;
-    merge_maps(rt, beside(left, single(alloc, "p", (3, "1", "")))?, q);
+    let left = single(alloc, "q", (2, "1", PERMIT));
+    merge_maps(rt, both(left, single(alloc, "p", (3, "1", "")))?, q);
     Ok(())
 }
 

@@ -1,5 +1,6 @@
 //! What JSON states under a schema.
 use crate::keeping::{ended, replace, told_if_kept};
+use crate::pieces::Line;
 use crate::schemas::schema_of;
 use crate::texts::compact;
 use crate::written::{bad_row, expanded, text_of};
@@ -105,33 +106,25 @@ fn context_line(alloc: Global, schema: &Schema, value: &Value) -> Result<String,
     }
 }
 
-fn push_compact(
-    alloc: Global,
-    told: &mut String,
-    value: Result<Value, NoMemory>,
-) -> Result<(), NoMemory> {
-    let text = compact(alloc, value?)?;
-    told.push_str(text.as_str())
+/// The compact text of a value that was made.
+fn made_compact(alloc: Global, value: Result<Value, NoMemory>) -> Result<String, NoMemory> {
+    compact(alloc, value?)
 }
 
-fn push_uid(alloc: Global, told: &mut String, key: &str, uid: &EntityUid) -> Result<(), NoMemory> {
-    told.push_str(key)?;
-    push_compact(alloc, told, uid_value(alloc, uid))
-}
-
-fn push_request(alloc: Global, told: &mut String, request: &Request) -> Result<(), NoMemory> {
-    push_uid(alloc, told, "{\"action\":", &request.action)?;
-    told.push_str(",\"context\":")?;
-    push_compact(alloc, told, record_json(alloc, &request.context))?;
-    push_uid(alloc, told, ",\"principal\":", &request.principal)?;
-    push_uid(alloc, told, ",\"resource\":", &request.resource)?;
-    told.push_str("}")
+fn push_uid(alloc: Global, told: &mut Line, key: &str, uid: &EntityUid) {
+    told.push(key);
+    told.push_made(made_compact(alloc, uid_value(alloc, uid)));
 }
 
 fn request_text(alloc: Global, request: &Request) -> Result<String, NoMemory> {
-    let mut told = String::new(alloc);
-    push_request(alloc, &mut told, request)?;
-    Ok(told)
+    let mut told = Line::new(alloc);
+    push_uid(alloc, &mut told, "{\"action\":", &request.action);
+    told.push(",\"context\":");
+    told.push_made(made_compact(alloc, record_json(alloc, &request.context)));
+    push_uid(alloc, &mut told, ",\"principal\":", &request.principal);
+    push_uid(alloc, &mut told, ",\"resource\":", &request.resource);
+    told.push("}");
+    told.ended()
 }
 
 fn keep_request(

@@ -25,6 +25,11 @@ pub(crate) fn finished<T: Drop>(value: T, done: Result<(), NoMemory>) -> Result<
     }
 }
 
+/// A value that is whole.
+pub(crate) fn whole<T: Drop>(value: T, is_whole: bool) -> Result<T, NoMemory> {
+    if is_whole { Ok(value) } else { Err(NoMemory) }
+}
+
 /// What came of it, once nothing more is kept.
 pub(crate) fn ended<T: Drop, R>(_kept: T, came: R) -> R {
     came

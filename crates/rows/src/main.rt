@@ -76,6 +76,7 @@ mod fetching;
 mod keeping;
 mod messages;
 mod over_bytes;
+mod pieces;
 mod schemas;
 mod streams;
 mod texts;

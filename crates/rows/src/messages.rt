@@ -1,5 +1,6 @@
 //! Messages as they are read, update by update: a state tells of each name one entry alone.
 use crate::keeping::ended;
+use crate::pieces::Line;
 use crate::schemas::schema_of;
 use crate::texts::quoted;
 use crate::written::bad_row;
@@ -12,57 +13,36 @@ use state_messages::{Update, read_message};
 use std::alloc::Global;
 use stored_texts::SchemaTexts;
 
-fn push_entry(
-    alloc: Global,
-    told: &mut String,
-    name: &str,
-    stamp: Stamp,
-    has_body: bool,
-) -> Result<(), NoMemory> {
+fn entry_told(alloc: Global, name: &str, stamp: Stamp, has_body: bool) -> Result<String, NoMemory> {
     let name = quoted(alloc, name)?;
     let body = if has_body { "text" } else { "nothing" };
     let site = stamp.site.as_str();
-    let one = format!(in alloc; "; {name} ({}, {site}) {body}", stamp.count)?;
-    told.push_str(one.as_str())
+    format!(in alloc; "; {name} ({}, {site}) {body}", stamp.count)
 }
 
-/// Adds the id of what an update is of, its stamp, and whether a text came.
-fn push_update(
-    alloc: Global,
-    told: &mut String,
-    update: &Update<Policy, Entity>,
-) -> Result<(), NoMemory> {
+/// The id of what an update is of, its stamp, and whether a text came.
+fn update_told(alloc: Global, update: &Update<Policy, Entity>) -> Result<String, NoMemory> {
     match update {
         Update::Policy { id, entry } => {
-            push_entry(alloc, told, id.as_str(), entry.stamp, entry.body.is_some())
+            entry_told(alloc, id.as_str(), entry.stamp, entry.body.is_some())
         }
         Update::Entity { uid, entry } => {
-            push_entry(
-                alloc,
-                told,
-                uid.id.as_str(),
-                entry.stamp,
-                entry.body.is_some(),
-            )
+            entry_told(alloc, uid.id.as_str(), entry.stamp, entry.body.is_some())
         }
     }
 }
 
-fn push_updates(
-    alloc: Global,
-    told: &mut String,
-    updates: &[Update<Policy, Entity>],
-) -> Result<(), NoMemory> {
-    for update in updates {
-        push_update(alloc, told, update)?;
-    }
-    Ok(())
+fn count_told(alloc: Global, count: usize) -> Result<String, NoMemory> {
+    format!(in alloc; "{count} updates")
 }
 
 fn listed(alloc: Global, updates: &[Update<Policy, Entity>]) -> Result<String, NoMemory> {
-    let mut told = format!(in alloc; "{} updates", updates.len())?;
-    push_updates(alloc, &mut told, updates)?;
-    Ok(told)
+    let mut told = Line::new(alloc);
+    told.push_made(count_told(alloc, updates.len()));
+    for update in updates {
+        told.push_made(update_told(alloc, update));
+    }
+    told.ended()
 }
 
 /// The updates of a state or a delta, or the refusal's number.

@@ -1,7 +1,8 @@
 //! Schemas.
 use crate::keeping::{ended, finished};
+use crate::pieces::Line;
 use crate::texts::quoted;
-use crate::written::{expanded, push_all};
+use crate::written::expanded;
 use plain::NoMemory;
 use schema::{CedarType, Environment, Schema, read_schema};
 use std::alloc::Global;
@@ -37,116 +38,94 @@ fn kind_of(ty: &CedarType) -> &str {
     }
 }
 
-/// The keys of a record with their types; `?` stands behind a key that is not required.
-fn push_keys(told: &mut String, ty: &CedarType) -> Result<(), NoMemory> {
-    told.push_str(" {")?;
-    if let CedarType::Record(fields) = ty {
-        for field in fields.get().as_slice() {
-            let mark = if field.2 { ":" } else { "?:" };
-            push_all(told, &[field.0.as_str(), mark, kind_of(&field.1), " "])?;
-        }
-    }
-    told.push_str("}")
+fn push_field(told: &mut Line, name: &str, ty: &CedarType, is_required: bool) {
+    let mark = if is_required { ":" } else { "?:" };
+    told.push_all(&[name, mark, kind_of(ty), " "]);
 }
 
-fn push_uid(alloc: Global, told: &mut String, uid: &EntityUid) -> Result<(), NoMemory> {
-    let id = quoted(alloc, uid.id.as_str())?;
-    push_all(told, &[" ", uid.type_name.as_str(), "::", id.as_str()])
+/// The keys of a record with their types; `?` stands behind a key that is not required.
+fn push_keys(told: &mut Line, ty: &CedarType) {
+    told.push(" {");
+    if let CedarType::Record(fields) = ty {
+        for field in fields.get().as_slice() {
+            push_field(told, field.0.as_str(), &field.1, field.2);
+        }
+    }
+    told.push("}");
+}
+
+fn push_uid(alloc: Global, told: &mut Line, uid: &EntityUid) {
+    told.push_all(&[" ", uid.type_name.as_str(), "::"]);
+    told.push_made(quoted(alloc, uid.id.as_str()));
 }
 
 /// An action, and those above it.
-fn push_action(
-    alloc: Global,
-    told: &mut String,
-    schema: &Schema,
-    uid: &EntityUid,
-) -> Result<(), NoMemory> {
-    push_uid(alloc, told, uid)?;
-    told.push_str(" below")?;
+fn push_action(alloc: Global, told: &mut Line, schema: &Schema, uid: &EntityUid) {
+    push_uid(alloc, told, uid);
+    told.push(" below");
     for one in schema.action_ancestors(uid).unwrap_or(&[]) {
-        push_uid(alloc, told, one)?;
+        push_uid(alloc, told, one);
     }
-    told.push_str(";")
+    told.push(";");
 }
 
-fn push_environment(
-    alloc: Global,
-    told: &mut String,
-    environment: &Environment,
-) -> Result<(), NoMemory> {
-    push_uid(alloc, told, &environment.place.action)?;
+fn push_environment(alloc: Global, told: &mut Line, environment: &Environment) {
+    push_uid(alloc, told, &environment.place.action);
     let principal = environment.place.principal.as_str();
     let resource = environment.place.resource.as_str();
-    push_all(told, &[" ", principal, " ", resource])?;
-    push_keys(told, environment.context.get())?;
-    told.push_str(";")
+    told.push_all(&[" ", principal, " ", resource]);
+    push_keys(told, environment.context.get());
+    told.push(";");
 }
 
 /// Which of the names may be above an entity type.
-fn push_parents(
-    told: &mut String,
-    schema: &Schema,
-    name: &TypeName,
-    names: &[TypeName],
-) -> Result<(), NoMemory> {
-    told.push_str(" below")?;
+fn push_parents(told: &mut Line, schema: &Schema, name: &TypeName, names: &[TypeName]) {
+    told.push(" below");
     for parent in names {
         if schema.may_have_parent(name, parent) {
-            push_all(told, &[" ", parent.as_str()])?;
+            told.push_all(&[" ", parent.as_str()]);
         }
     }
-    told.push_str(";")
+    told.push(";");
 }
 
-fn push_shape(told: &mut String, schema: &Schema, name: &TypeName) -> Result<(), NoMemory> {
-    push_all(told, &[" ", name.as_str()])?;
+fn push_shape(told: &mut Line, schema: &Schema, name: &TypeName) {
+    told.push_all(&[" ", name.as_str()]);
     match schema.entity_type(name) {
         Some(declared) => push_keys(told, &declared.shape),
-        None => told.push_str(" undeclared"),
+        None => told.push(" undeclared"),
     }
 }
 
-fn push_actions(alloc: Global, told: &mut String, schema: &Schema) -> Result<(), NoMemory> {
-    told.push_str("actions:")?;
+fn push_actions(alloc: Global, told: &mut Line, schema: &Schema) {
+    told.push("actions:");
     for uid in schema.actions() {
-        push_action(alloc, told, schema, uid)?;
+        push_action(alloc, told, schema, uid);
     }
-    Ok(())
 }
 
-fn push_environments(alloc: Global, told: &mut String, schema: &Schema) -> Result<(), NoMemory> {
-    told.push_str(" environments:")?;
+fn push_environments(alloc: Global, told: &mut Line, schema: &Schema) {
+    told.push(" environments:");
     for environment in schema.environments() {
-        push_environment(alloc, told, environment)?;
+        push_environment(alloc, told, environment);
     }
-    Ok(())
 }
 
-fn push_types(told: &mut String, schema: &Schema, names: &[TypeName]) -> Result<(), NoMemory> {
-    told.push_str(" types:")?;
+fn push_types(told: &mut Line, schema: &Schema, names: &[TypeName]) {
+    told.push(" types:");
     for name in names {
-        push_shape(told, schema, name)?;
-        push_parents(told, schema, name, names)?;
+        push_shape(told, schema, name);
+        push_parents(told, schema, name, names);
     }
-    Ok(())
-}
-
-fn push_parts(
-    alloc: Global,
-    told: &mut String,
-    schema: &Schema,
-    names: &[TypeName],
-) -> Result<(), NoMemory> {
-    push_actions(alloc, told, schema)?;
-    push_environments(alloc, told, schema)?;
-    push_types(told, schema, names)
 }
 
 /// Its actions, its environments, and what it has at each of the names.
 fn parts(alloc: Global, schema: &Schema, names: &[TypeName]) -> Result<String, NoMemory> {
-    let mut told = String::new(alloc);
-    push_parts(alloc, &mut told, schema, names)?;
-    Ok(told)
+    let mut told = Line::new(alloc);
+    push_actions(alloc, &mut told, schema);
+    push_environments(alloc, &mut told, schema);
+    push_types(&mut told, schema, names);
+    told.ended()
 }
 
 fn push_names(alloc: Global, names: &mut Vec<TypeName>, words: &str) -> Result<(), NoMemory> {

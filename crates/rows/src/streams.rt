@@ -3,6 +3,7 @@ ghost use Rattle.std.specs.Prelude.{◌≡◌, ℕ, List};
 ghost use Rattle.http_streams.specs.Laws.{AgreeOn, AnswersAll, HasOneAnswer, in_memory};
 ghost use Rattle.rows.specs.Counts.{asked_alike, counts};
 
+use crate::pieces::Line;
 use crate::ways::{
     FIRST_WRITE_FAILS, PLAIN, SEVENS, SLOW, Way, by_reads, reader_of, sevens_failing, writer_of,
 };
@@ -147,9 +148,8 @@ fn answered(alloc: Global, part: &[u8], whole: &Outcome) -> Result<Option<usize>
     }
 }
 
-fn push_place(alloc: Global, told: &mut String, place: usize) -> Result<(), NoMemory> {
-    let text = format!(in alloc; " {place}")?;
-    told.push_str(text.as_str())
+fn place_told(alloc: Global, place: usize) -> Result<String, NoMemory> {
+    format!(in alloc; " {place}")
 }
 
 /// Adds the places at which more is answered, where the bytes end there; `false` where less is.
@@ -157,14 +157,14 @@ fn push_steps(
     alloc: Global,
     bytes: &[u8],
     whole: &Outcome,
-    told: &mut String,
+    told: &mut Line,
 ) -> Result<bool, NoMemory> {
     let mut before = 0;
     for at in 0..bytes.len() {
         let place = at + 1;
         match answered(alloc, &bytes[..place], whole)? {
             Some(now) if now > before => {
-                push_place(alloc, told, place)?;
+                told.push_made(place_told(alloc, place));
                 before = now;
             }
             Some(now) if now == before => {}
@@ -174,29 +174,37 @@ fn push_steps(
     Ok(true)
 }
 
-fn push_statuses(told: &mut String, out: &[u8]) -> Result<(), NoMemory> {
-    for at in 0..out.len() {
-        let rest = &out[at..];
-        if rest.starts_with(b"HTTP/1.1 ".as_slice()) && rest.len() > 12 {
-            if !told.is_empty() {
-                told.push(' ')?;
-            }
-            for byte in &rest[9..12] {
-                told.push(char::from(*byte))?;
-            }
+/// Adds a status that stands at the front.
+fn push_status(told: &mut Line, rest: &[u8]) {
+    if rest.starts_with(b"HTTP/1.1 ".as_slice()) && rest.len() > 12 {
+        if !told.is_empty() {
+            told.push(" ");
         }
-        if rest.starts_with(b"Connection: close".as_slice()) {
-            told.push('!')?;
+        for byte in &rest[9..12] {
+            told.push_char(char::from(*byte));
         }
     }
-    Ok(())
+}
+
+fn push_statuses(told: &mut Line, out: &[u8]) {
+    for at in 0..out.len() {
+        let rest = &out[at..];
+        push_status(told, rest);
+        if rest.starts_with(b"Connection: close".as_slice()) {
+            told.push("!");
+        }
+    }
 }
 
 /// The statuses in what went out.
 fn statuses(alloc: Global, out: &[u8]) -> Result<String, NoMemory> {
-    let mut told = String::new(alloc);
-    push_statuses(&mut told, out)?;
-    Ok(told)
+    let mut told = Line::new(alloc);
+    push_statuses(&mut told, out);
+    told.ended()
+}
+
+fn asked_told(alloc: Global, asked: u64) -> Result<String, NoMemory> {
+    format!(in alloc; " ({asked}) at")
 }
 
 /// The statuses, how often the service was asked, and the places; `false` where the places are none.
@@ -204,18 +212,17 @@ fn push_served(
     alloc: Global,
     bytes: &[u8],
     whole: &Outcome,
-    told: &mut String,
+    told: &mut Line,
 ) -> Result<bool, NoMemory> {
-    push_statuses(told, whole.out.as_slice())?;
-    let asked = format!(in alloc; " ({}) at", whole.requests)?;
-    told.push_str(asked.as_str())?;
+    push_statuses(told, whole.out.as_slice());
+    told.push_made(asked_told(alloc, whole.requests));
     push_steps(alloc, bytes, whole, told)
 }
 
 fn told_of_steps(alloc: Global, bytes: &[u8], whole: &Outcome) -> Result<String, NoMemory> {
-    let mut told = String::new(alloc);
+    let mut told = Line::new(alloc);
     if push_served(alloc, bytes, whole, &mut told)? {
-        return Ok(told);
+        return told.ended();
     }
     String::from_str(alloc, "differs")
 }

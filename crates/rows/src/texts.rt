@@ -1,5 +1,6 @@
 //! Texts of the policy language and of JSON.
 use crate::keeping::ended;
+use crate::pieces::Line;
 use crate::written::{bad_row, text_of};
 use json_words::{read_json, write_json};
 use plain::NoMemory;
@@ -17,24 +18,23 @@ fn refused(alloc: Global, fault: ReadFault) -> Result<String, NoMemory> {
     }
 }
 
-fn push_token(alloc: Global, told: &mut String, token: Token) -> Result<(), NoMemory> {
+fn token_told(alloc: Global, token: Token) -> Result<String, NoMemory> {
     let (kind, start) = (token.kind, token.start);
-    let one = format!(in alloc; " {kind:?} {start}")?;
-    told.push_str(one.as_str())
+    format!(in alloc; " {kind:?} {start}")
 }
 
-fn push_tokens(alloc: Global, told: &mut String, found: &[Token]) -> Result<(), NoMemory> {
-    for token in found {
-        push_token(alloc, told, *token)?;
-    }
-    Ok(())
+fn count_told(alloc: Global, count: usize) -> Result<String, NoMemory> {
+    format!(in alloc; "{count}:")
 }
 
 /// How many tokens there are, and the kind and the place of each.
 fn listed(alloc: Global, found: &[Token]) -> Result<String, NoMemory> {
-    let mut told = format!(in alloc; "{}:", found.len())?;
-    push_tokens(alloc, &mut told, found)?;
-    Ok(told)
+    let mut told = Line::new(alloc);
+    told.push_made(count_told(alloc, found.len()));
+    for token in found {
+        told.push_made(token_told(alloc, *token));
+    }
+    told.ended()
 }
 
 fn lexed(alloc: Global, text: &str) -> Result<String, NoMemory> {

@@ -1,129 +1,136 @@
 //! Texts as a row writes them, and bytes as a line shows them.
+use crate::pieces::{Bytes, Line};
 use plain::NoMemory;
 use std::alloc::Global;
 
-fn push_number(alloc: Global, bytes: &mut Vec<u8>, number: u32) -> Result<(), NoMemory> {
-    let digits = format!(in alloc; "{number}")?;
-    bytes.extend_from_slice(digits.as_bytes())
+/// The digits of a number.
+fn digits(alloc: Global, number: u32) -> Result<String, NoMemory> {
+    format!(in alloc; "{number}")
 }
 
-/// A part so many times; in each `#` is how many were before it, and `+` is one more.
-fn push_numbered(
-    alloc: Global,
-    bytes: &mut Vec<u8>,
-    count: u32,
-    part: &str,
-) -> Result<(), NoMemory> {
-    for number in 0..count {
-        for byte in part.as_bytes() {
-            match *byte {
-                b'#' => push_number(alloc, bytes, number)?,
-                b'+' => push_number(alloc, bytes, number.wrapping_add(1))?,
-                other => bytes.push(other)?,
-            }
-        }
+fn push_numbered_byte(alloc: Global, bytes: &mut Bytes, byte: u8, number: u32) {
+    match byte {
+        b'#' => bytes.push_made(digits(alloc, number)),
+        b'+' => bytes.push_made(digits(alloc, number.wrapping_add(1))),
+        other => bytes.push(&[other]),
     }
-    Ok(())
+}
+
+/// A part; in it `#` is how many were before it, and `+` is one more.
+fn push_part(alloc: Global, bytes: &mut Bytes, part: &str, number: u32) {
+    for byte in part.as_bytes() {
+        push_numbered_byte(alloc, bytes, *byte, number);
+    }
+}
+
+/// A numbered part so many times.
+fn push_numbered(alloc: Global, bytes: &mut Bytes, count: u32, part: &str) {
+    for number in 0..count {
+        push_part(alloc, bytes, part, number);
+    }
+}
+
+/// A part so many times.
+fn push_repeated(bytes: &mut Bytes, count: u32, part: &str) {
+    for _ in 0..count {
+        bytes.push(part.as_bytes());
+    }
+}
+
+/// Bytes, each in two hexadecimal digits.
+fn push_hexadecimal(bytes: &mut Bytes, inside: &str) {
+    for byte in inside.split(' ') {
+        bytes.push(&[u8::from_str_radix(byte, 16).unwrap_or(0)]);
+    }
+}
+
+fn count_of(text: &str) -> u32 {
+    text.parse::<u32>().unwrap_or(0)
 }
 
 /// What stands in brackets: a part and how often it comes, numbered or not, or bytes.
-fn push_inside(alloc: Global, bytes: &mut Vec<u8>, inside: &str) -> Result<(), NoMemory> {
+fn push_inside(alloc: Global, bytes: &mut Bytes, inside: &str) {
     if let Some((count, part)) = inside.split_once('№') {
-        return push_numbered(alloc, bytes, count.parse::<u32>().unwrap_or(0), part);
+        return push_numbered(alloc, bytes, count_of(count), part);
     }
-    if let Some((count, part)) = inside.split_once('×') {
-        for _ in 0..count.parse::<u32>().unwrap_or(0) {
-            bytes.extend_from_slice(part.as_bytes())?;
-        }
-        return Ok(());
+    match inside.split_once('×') {
+        Some((count, part)) => push_repeated(bytes, count_of(count), part),
+        None => push_hexadecimal(bytes, inside),
     }
-    for byte in inside.split(' ') {
-        bytes.push(u8::from_str_radix(byte, 16).unwrap_or(0))?;
-    }
-    Ok(())
 }
 
-fn push_written(alloc: Global, bytes: &mut Vec<u8>, written: &str) -> Result<(), NoMemory> {
-    for piece in written.split('⟦') {
-        let (inside, behind) = piece.split_once('⟧').unwrap_or(("0×", piece));
-        push_inside(alloc, bytes, inside)?;
-        bytes.extend_from_slice(behind.as_bytes())?;
-    }
-    Ok(())
+/// What stands in brackets, and what stands behind them.
+fn push_piece(alloc: Global, bytes: &mut Bytes, piece: &str) {
+    let (inside, behind) = piece.split_once('⟧').unwrap_or(("0×", piece));
+    push_inside(alloc, bytes, inside);
+    bytes.push(behind.as_bytes());
 }
 
 /// The bytes that a text with brackets stands for.
 pub(crate) fn expanded(alloc: Global, written: &str) -> Result<Vec<u8>, NoMemory> {
-    let mut bytes = Vec::new(alloc);
-    push_written(alloc, &mut bytes, written)?;
-    Ok(bytes)
+    let mut bytes = Bytes::new(alloc);
+    for piece in written.split('⟦') {
+        push_piece(alloc, &mut bytes, piece);
+    }
+    bytes.ended()
 }
 
-fn push_letters(bytes: &mut Vec<u8>) -> Result<(), NoMemory> {
+fn push_letters(bytes: &mut Bytes) {
     for _ in 0..32 {
-        bytes.extend_from_slice(b"abcdefghijklmnopqrstuvwxyzabcdef")?;
+        bytes.push(b"abcdefghijklmnopqrstuvwxyzabcdef");
     }
-    Ok(())
 }
 
-fn push_escape(bytes: &mut Vec<u8>, letter: u8) -> Result<(), NoMemory> {
+fn push_escape(bytes: &mut Bytes, letter: u8) {
     match letter {
-        b'r' => bytes.extend_from_slice(b"\r"),
-        b'n' => bytes.extend_from_slice(b"\n"),
-        b't' => bytes.extend_from_slice(b"\t"),
-        b'f' => bytes.extend_from_slice(&[255]),
-        b'h' => bytes.extend_from_slice(b"h:1\r\n"),
+        b'r' => bytes.push(b"\r"),
+        b'n' => bytes.push(b"\n"),
+        b't' => bytes.push(b"\t"),
+        b'f' => bytes.push(&[255]),
+        b'h' => bytes.push(b"h:1\r\n"),
         b'k' => push_letters(bytes),
-        other => bytes.extend_from_slice(&[other]),
+        other => bytes.push(&[other]),
     }
 }
 
-fn push_unescaped(bytes: &mut Vec<u8>, written: &str) -> Result<(), NoMemory> {
-    let mut escaped = false;
-    for byte in written.as_bytes() {
-        if escaped {
-            push_escape(bytes, *byte)?;
-            escaped = false;
-        } else if *byte == b'\\' {
-            escaped = true;
-        } else {
-            bytes.extend_from_slice(&[*byte])?;
-        }
+/// Adds what a byte stands for, and tells whether the next one is escaped by it.
+fn push_unescaped(bytes: &mut Bytes, byte: u8, is_escaped: bool) -> bool {
+    if is_escaped {
+        push_escape(bytes, byte);
+        return false;
     }
-    Ok(())
+    if byte == b'\\' {
+        return true;
+    }
+    bytes.push(&[byte]);
+    false
 }
 
 /// The bytes of a stream that a text with backslashes stands for.
 pub(crate) fn unescaped(alloc: Global, written: &str) -> Result<Vec<u8>, NoMemory> {
-    let mut bytes = Vec::new(alloc);
-    push_unescaped(&mut bytes, written)?;
-    Ok(bytes)
+    let mut bytes = Bytes::new(alloc);
+    let mut is_escaped = false;
+    for byte in written.as_bytes() {
+        is_escaped = push_unescaped(&mut bytes, *byte, is_escaped);
+    }
+    bytes.ended()
 }
 
-fn push_shown(told: &mut String, bytes: &[u8]) -> Result<(), NoMemory> {
-    for byte in bytes {
-        match byte {
-            b'\r' => told.push_str("\\r")?,
-            b'\n' => told.push_str("\\n")?,
-            other => told.push(char::from(*other))?,
-        }
+fn push_shown(told: &mut Line, byte: u8) {
+    match byte {
+        b'\r' => told.push("\\r"),
+        b'\n' => told.push("\\n"),
+        other => told.push_char(char::from(other)),
     }
-    Ok(())
 }
 
 /// Bytes of a stream as a line of text.
 pub(crate) fn shown(alloc: Global, bytes: &[u8]) -> Result<String, NoMemory> {
-    let mut told = String::new(alloc);
-    push_shown(&mut told, bytes)?;
-    Ok(told)
-}
-
-/// Adds the parts, one behind the other.
-pub(crate) fn push_all(told: &mut String, parts: &[&str]) -> Result<(), NoMemory> {
-    for part in parts {
-        told.push_str(part)?;
+    let mut told = Line::new(alloc);
+    for byte in bytes {
+        push_shown(&mut told, *byte);
     }
-    Ok(())
+    told.ended()
 }
 
 /// The text of some bytes.

@@ -4,6 +4,7 @@ pub mod DecidedLemmas
 pub mod EntityLemmas
 pub mod FollowLemmas
 pub mod FoundLemmas
+pub mod GatheringLemmas
 pub mod NamingLemmas
 pub mod OnceLemmas
 pub mod OutcomeLemmas

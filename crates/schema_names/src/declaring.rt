@@ -1,5 +1,5 @@
 //! The names that a schema file declares.
-ghost use Rattle.std.specs.Prelude.{OnOk, IfOk, map};
+ghost use Rattle.std.specs.Prelude.{◌≡◌, OnOk, IfOk, map, string_bytes};
 ghost use Rattle.std.specs.Ordering.{is_eq};
 ghost use Rattle.std.specs.Str.{bytes_eq};
 ghost use Rattle.values.specs.Names.{uid_cmp};
@@ -10,12 +10,25 @@ ghost use Rattle.named_types.specs.Actions.{action_type, action_uid};
 ghost use Rattle.schema_names.specs.inner.Adding.{has_name, has_uid, Adds, AddsNamespace, Declares, any_common};
 ghost use Rattle.schema_names.specs.inner.Adding.{any_name, any_uid};
 
-use named_types::{Names, action_type, full_name};
+use crate::qualifying::uid_of;
+use named_types::{Names, full_name};
 use plain::NoMemory;
 use schema_file::{StatedAction, StatedCommon, StatedEntityType, StatedNamespace};
 use std::alloc::Global;
 use std::collections::BTreeSet;
 use values::{EntityUid, TypeName};
+
+/// The full name of a declaration, as a text of its own.
+pub(crate) fn full_text(
+    alloc: Global,
+    own: &Option<TypeName>,
+    word: &TypeName,
+) -> Result<String, NoMemory>
+    ensures { IfOk result (λ text. string_bytes text ≡ full_name own.now word.now) }
+{
+    let full = full_name(alloc, own, word)?;
+    Ok(String::from_str(alloc, full.as_str())?)
+}
 
 fn add_name(
     alloc: Global,
@@ -25,8 +38,7 @@ fn add_name(
 ) -> Result<(), NoMemory>
     ensures { OnOk result (Adds has_name (λ q. bytes_eq (full_name own.now word.now) q) declared.old declared.new) }
 {
-    let full = full_name(alloc, own, word)?;
-    let text = String::from_str(alloc, full.as_str())?;
+    let text = full_text(alloc, own, word)?;
     declared.insert(text)?;
     Ok(())
 }
@@ -70,9 +82,8 @@ fn add_action(
     ensures { OnOk result (Adds has_uid
         (λ u. is_eq (uid_cmp (action_uid (action_type own.now) action.now.id) u)) declared.old declared.new) }
 {
-    let type_name = action_type(alloc, own)?;
-    let id = action.id.copy()?;
-    declared.insert(EntityUid { type_name, id })?;
+    let uid = uid_of(alloc, own, &action.id)?;
+    declared.insert(uid)?;
     Ok(())
 }
 

@@ -1,5 +1,5 @@
 //! What several namespaces declare, in one.
-ghost use Rattle.std.specs.Prelude.{◌≡◌, ◌++◌, IfOk, map};
+ghost use Rattle.std.specs.Prelude.{◌≡◌, ◌++◌, IfOk, Ok, map};
 ghost use Rattle.schema_names.specs.Qualifying.{both, together};
 ghost use Rattle.schema_names.specs.FoundViews.{found_view};
 
@@ -17,13 +17,27 @@ fn append<T: Drop>(items: Items<T>, more: Items<T>) -> Result<Items<T>, NoMemory
     Ok(Items::from_vec(whole))
 }
 
+/// Two values, where both are there.
+fn both<A: Drop, B: Drop>(
+    first: Result<A, NoMemory>,
+    second: Result<B, NoMemory>,
+) -> Result<(A, B), NoMemory>
+    ensures first { IfOk result (λ pair. first ≡ Ok pair.0) }
+    ensures second { IfOk result (λ pair. second ≡ Ok pair.1) }
+{
+    let first = first?;
+    let second = second?;
+    Ok((first, second))
+}
+
 /// What the one declares and then what the other declares.
 fn join(first: Found, second: Found) -> Result<Found, NoMemory>
     ensures { IfOk result (λ found. found_view found ≡ both (found_view first) (found_view second)) }
 {
-    let commons = append(first.commons, second.commons)?;
-    let entity_types = append(first.entity_types, second.entity_types)?;
-    let actions = append(first.actions, second.actions)?;
+    let commons = append(first.commons, second.commons);
+    let entity_types = append(first.entity_types, second.entity_types);
+    let actions = append(first.actions, second.actions);
+    let ((commons, entity_types), actions) = both(both(commons, entity_types), actions)?;
     Ok(Found {
         commons,
         entity_types,

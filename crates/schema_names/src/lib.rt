@@ -3,6 +3,7 @@
 #![tactic(auto)]
 
 mod declaring;
+mod held;
 mod joining;
 mod laws;
 mod naming;

@@ -4,6 +4,7 @@ ghost use Rattle.json_words.specs.ReadsAs.{ReadsAs};
 ghost use Rattle.schema_types.specs.Views.{raw_view};
 ghost use Rattle.schema_types.specs.QualifiedViews.{qualified_view};
 ghost use Rattle.named_types.specs.NamesViews.{scope_of, is_action_of};
+ghost use Rattle.named_types.specs.Actions.{action_type, action_uid};
 ghost use Rattle.schema_file.specs.StatedViews.{common_view, entity_type_view, use_view, action_view, namespace_view};
 ghost use Rattle.schema_types.specs.QualifiedViews.{found_common_view};
 ghost use Rattle.schema_names.specs.FoundViews.{found_entity_type_view, found_use_view, found_action_view, found_view};
@@ -14,6 +15,7 @@ ghost use Rattle.schema_names.specs.Qualifying.{use_named, qualified_action, qua
 ghost use Rattle.schema_names.specs.Qualifying.{qualified_actions, qualified_namespace, qualified_namespaces};
 ghost use Rattle.schema_types.specs.declared.fault.SchemaFault.TheVariants as SchemaFault;
 
+use crate::held::{beside, followed_by};
 use named_types::{
     Names, action_type, declared_action, find, find_action_of_type, full_name, resolve,
 };
@@ -83,8 +85,7 @@ fn qualify_names(
 {
     let mut found = Items::new(alloc);
     for word in words {
-        let name = qualify_name(alloc, names, own, word)?;
-        found.push(name)?;
+        found = followed_by(found, qualify_name(alloc, names, own, word))?;
     }
     Ok(found)
 }
@@ -116,8 +117,8 @@ fn qualify_common(
     ensures { ReadsAs SchemaFault.NoMemory found_common_view result
         (qualified_common (scope_of names.now) own.now (common_view common.now)) }
 {
-    let ty = resolve(alloc, names, own, &common.ty)?;
     let name = full_name(alloc, own, &common.name)?;
+    let (name, ty) = beside(name, resolve(alloc, names, own, &common.ty))?;
     Ok(FoundCommon { name, ty })
 }
 
@@ -132,9 +133,11 @@ fn qualify_entity_type(
     ensures { ReadsAs SchemaFault.NoMemory found_entity_type_view result
         (qualified_entity_type (scope_of names.now) own.now (entity_type_view entity_type.now)) }
 {
-    let parents = qualify_names(alloc, names, own, entity_type.parents.as_slice())?;
-    let shape = qualify_optional(alloc, names, own, &entity_type.shape)?;
     let name = full_name(alloc, own, &entity_type.name)?;
+    let parents = qualify_names(alloc, names, own, entity_type.parents.as_slice());
+    let (name, parents) = beside(name, parents)?;
+    let shape = qualify_optional(alloc, names, own, &entity_type.shape);
+    let ((name, parents), shape) = beside((name, parents), shape)?;
     Ok(FoundEntityType {
         name,
         parents,
@@ -154,8 +157,10 @@ fn qualify_use(
         (qualified_use (scope_of names.now) own.now (use_view stated.now)) }
 {
     let principals = qualify_names(alloc, names, own, stated.principals.as_slice())?;
-    let resources = qualify_names(alloc, names, own, stated.resources.as_slice())?;
-    let context = qualify_optional(alloc, names, own, &stated.context)?;
+    let resources = qualify_names(alloc, names, own, stated.resources.as_slice());
+    let (principals, resources) = beside(principals, resources)?;
+    let context = qualify_optional(alloc, names, own, &stated.context);
+    let ((principals, resources), context) = beside((principals, resources), context)?;
     Ok(FoundUse {
         principals,
         resources,
@@ -221,10 +226,22 @@ fn qualify_parents(
 {
     let mut found = Items::new(alloc);
     for parent in parents {
-        let uid = qualify_parent(alloc, names, own, parent)?;
-        found.push(uid)?;
+        found = followed_by(found, qualify_parent(alloc, names, own, parent))?;
     }
     Ok(found)
+}
+
+/// The uid of an action of a namespace.
+pub(crate) fn uid_of(
+    alloc: Global,
+    own: &Option<TypeName>,
+    id: &Text,
+) -> Result<EntityUid, NoMemory>
+    ensures { IfOk result (λ u. u ≡ action_uid (action_type own.now) id.now) }
+{
+    let type_name = action_type(alloc, own)?;
+    let (type_name, id) = beside(type_name, id.copy())?;
+    Ok(EntityUid { type_name, id })
 }
 
 /// The action of a namespace.
@@ -238,12 +255,13 @@ fn qualify_action(
     ensures { ReadsAs SchemaFault.NoMemory found_action_view result
         (qualified_action (scope_of names.now) (is_action_of names.now) own.now (action_view action.now)) }
 {
-    let parents = qualify_parents(alloc, names, own, action.parents.as_slice())?;
-    let applies_to = qualify_optional_use(alloc, names, own, &action.applies_to)?;
-    let type_name = action_type(alloc, own)?;
-    let id = action.id.copy()?;
+    let uid = uid_of(alloc, own, &action.id)?;
+    let parents = qualify_parents(alloc, names, own, action.parents.as_slice());
+    let (uid, parents) = beside(uid, parents)?;
+    let applies_to = qualify_optional_use(alloc, names, own, &action.applies_to);
+    let ((uid, parents), applies_to) = beside((uid, parents), applies_to)?;
     Ok(FoundAction {
-        uid: EntityUid { type_name, id },
+        uid,
         parents,
         applies_to,
     })
@@ -260,8 +278,7 @@ fn qualify_commons(
 {
     let mut found = Items::new(alloc);
     for item in stated {
-        let one = qualify_common(alloc, names, own, item)?;
-        found.push(one)?;
+        found = followed_by(found, qualify_common(alloc, names, own, item))?;
     }
     Ok(found)
 }
@@ -277,8 +294,7 @@ fn qualify_entity_types(
 {
     let mut found = Items::new(alloc);
     for item in stated {
-        let one = qualify_entity_type(alloc, names, own, item)?;
-        found.push(one)?;
+        found = followed_by(found, qualify_entity_type(alloc, names, own, item))?;
     }
     Ok(found)
 }
@@ -294,8 +310,7 @@ fn qualify_actions(
 {
     let mut found = Items::new(alloc);
     for item in stated {
-        let one = qualify_action(alloc, names, own, item)?;
-        found.push(one)?;
+        found = followed_by(found, qualify_action(alloc, names, own, item))?;
     }
     Ok(found)
 }
@@ -312,8 +327,10 @@ pub(crate) fn qualify_namespace(
 {
     let own = &namespace.name;
     let commons = qualify_commons(alloc, names, own, namespace.commons.as_slice())?;
-    let entity_types = qualify_entity_types(alloc, names, own, namespace.entity_types.as_slice())?;
-    let actions = qualify_actions(alloc, names, own, namespace.actions.as_slice())?;
+    let entity_types = qualify_entity_types(alloc, names, own, namespace.entity_types.as_slice());
+    let (commons, entity_types) = beside(commons, entity_types)?;
+    let actions = qualify_actions(alloc, names, own, namespace.actions.as_slice());
+    let ((commons, entity_types), actions) = beside((commons, entity_types), actions)?;
     Ok(Found {
         commons,
         entity_types,
@@ -334,8 +351,7 @@ pub(crate) fn qualify_namespaces(
 {
     let mut found = Items::new(alloc);
     for item in stated {
-        let one = qualify_namespace(alloc, names, item)?;
-        found.push(one)?;
+        found = followed_by(found, qualify_namespace(alloc, names, item))?;
     }
     Ok(found)
 }

@@ -5,7 +5,7 @@ ghost use Rattle.std.specs.BTreeSet.{btree_set_len};
 ghost use Rattle.schema_types.specs.Views.{raw_view};
 ghost use Rattle.named_types.specs.NamesViews.{scope_of};
 ghost use Rattle.schema_file.specs.StatedViews.{common_view, entity_type_view, use_view, action_view, namespace_view};
-ghost use Rattle.schema_names.specs.Records.{common_meant, SomeIsNoRecord};
+ghost use Rattle.schema_names.specs.Records.{common_meant, is_no_record, SomeIsNoRecord};
 ghost use Rattle.schema_names.specs.Qualifying.{common_in, commons_declared};
 ghost use Rattle.schema_names.specs.inner.Adding.{has_name, Declares};
 ghost use Rattle.schema_names.specs.inner.Spreading.{means_now, IsSettled, KeepsNames, Spreads, ReportsRecords};
@@ -13,13 +13,60 @@ ghost use Rattle.schema_names.specs.inner.Spreading.{tried_one, tried_at, tried_
 ghost use Rattle.schema_names.specs.inner.Spreading.{is_record_at, is_record_in, are_shapes, are_contexts};
 ghost use Rattle.schema_names.specs.inner.Spreading.{are_records_of, are_records, MayRefuseRecords};
 
-use named_types::{Names, find, full_name, is_other};
+use crate::declaring::full_text;
+use named_types::{Names, find, is_other};
 use plain::NoMemory;
 use schema_file::{StatedAction, StatedCommon, StatedEntityType, StatedNamespace, StatedUse};
 use schema_types::{RawType, SchemaFault};
 use std::alloc::Global;
 use std::collections::{BTreeMap, BTreeSet};
 use values::TypeName;
+
+/// The common type that a type names, where it names one that is declared.
+fn find_common(
+    alloc: Global,
+    names: &Names,
+    own: &Option<TypeName>,
+    ty: &RawType,
+) -> Result<Option<TypeName>, NoMemory>
+    ensures { IfOk result (λ o. o ≡ common_meant (scope_of names.now) own.now (raw_view ty.now)) }
+{
+    match ty {
+        RawType::Common(word) | RawType::EntityOrCommon(word) => {
+            find(alloc, &names.commons, own, word)
+        }
+        RawType::Text
+        | RawType::Long
+        | RawType::Boolean
+        | RawType::Decimal
+        | RawType::Ipaddr
+        | RawType::Set(_)
+        | RawType::Record(_)
+        | RawType::Entity(_) => Ok(None),
+    }
+}
+
+/// Whether a type is no record, where it names no common type that is declared.
+fn is_no_record(
+    alloc: Global,
+    names: &Names,
+    own: &Option<TypeName>,
+    ty: &RawType,
+) -> Result<bool, NoMemory>
+    ensures { IfOk result (λ b. b ≡ is_no_record (scope_of names.now) own.now (raw_view ty.now)) }
+{
+    match ty {
+        RawType::Record(_) | RawType::Common(_) => Ok(false),
+        RawType::EntityOrCommon(word) => is_other(alloc, names, own, word),
+        RawType::Text
+        | RawType::Long
+        | RawType::Boolean
+        | RawType::Decimal
+        | RawType::Ipaddr
+        | RawType::Set(_)
+        | RawType::Entity(_) => Ok(true),
+    }
+}
 
 /// Whether a type means no record, as far as it is known which common types mean none.
 fn means_none(
@@ -32,23 +79,9 @@ fn means_none(
     ensures { IfOk result (λ b. b ≡ means_now (λ q. has_name known.now q) (scope_of names.now) own.now
         (raw_view ty.now)) }
 {
-    match ty {
-        RawType::Record(_) => Ok(false),
-        RawType::Common(word) => match find(alloc, &names.commons, own, word)? {
-            Some(name) => Ok(known.contains(name.as_str())),
-            None => Ok(false),
-        },
-        RawType::EntityOrCommon(word) => match find(alloc, &names.commons, own, word)? {
-            Some(name) => Ok(known.contains(name.as_str())),
-            None => is_other(alloc, names, own, word),
-        },
-        RawType::Text
-        | RawType::Long
-        | RawType::Boolean
-        | RawType::Decimal
-        | RawType::Ipaddr
-        | RawType::Set(_)
-        | RawType::Entity(_) => Ok(true),
+    match find_common(alloc, names, own, ty)? {
+        Some(name) => Ok(known.contains(name.as_str())),
+        None => is_no_record(alloc, names, own, ty),
     }
 }
 
@@ -63,15 +96,14 @@ fn add_if_none(
     ensures { OnOk result (Spreads (scope_of names.now)
         (common_in own.now (common_view common.now) ∷ []) known.old known.new) }
 {
-    let name = full_name(alloc, own, &common.name)?;
-    if known.contains(name.as_str()) {
-        return Ok(());
-    }
     if !means_none(alloc, names, known, own, &common.ty)? {
         return Ok(());
     }
-    let text = String::from_str(alloc, name.as_str())?;
-    known.insert(text)?;
+    let name = full_text(alloc, own, &common.name)?;
+    if known.contains(name.as_str()) {
+        return Ok(());
+    }
+    known.insert(name)?;
     Ok(())
 }
 
@@ -154,8 +186,7 @@ fn add_listed(
     stated: &StatedNamespace,
 ) -> Result<(), NoMemory> {
     for (common, item) in stated.commons.as_slice().iter().enumerate() {
-        let full = full_name(alloc, &stated.name, &item.name)?;
-        let name = String::from_str(alloc, full.as_str())?;
+        let name = full_text(alloc, &stated.name, &item.name)?;
         let last = listed.places.len();
         listed.named.insert(name, last)?;
         listed.places.push(Place { namespace, common })?;
@@ -172,29 +203,6 @@ fn list_all(alloc: Global, stated: &[StatedNamespace]) -> Result<Listed, NoMemor
         add_listed(alloc, &mut listed, namespace, item)?;
     }
     Ok(listed)
-}
-
-/// The common type that a type names, where it names one that is declared.
-fn find_common(
-    alloc: Global,
-    names: &Names,
-    own: &Option<TypeName>,
-    ty: &RawType,
-) -> Result<Option<TypeName>, NoMemory>
-    ensures { IfOk result (λ o. o ≡ common_meant (scope_of names.now) own.now (raw_view ty.now)) }
-{
-    match ty {
-        RawType::Common(word) => find(alloc, &names.commons, own, word),
-        RawType::EntityOrCommon(word) => find(alloc, &names.commons, own, word),
-        RawType::Text
-        | RawType::Long
-        | RawType::Boolean
-        | RawType::Decimal
-        | RawType::Ipaddr
-        | RawType::Set(_)
-        | RawType::Record(_)
-        | RawType::Entity(_) => Ok(None),
-    }
 }
 
 /// The place in the list of the common type that the one at a place names, where it names one.

@@ -1,6 +1,6 @@
 -- What is handed in, judged: faults as those of a site, and the one text of an entity read back.
 use Rattle.std.specs.Prelude.{◌≡◌, ◌≢◌, ◌↔◌, ℕ, List, Bool, true, false, IsTrue, Some, None, Result, Ok, IfOk, cond}
-use Rattle.std.proofs.Common.{sym, subst, refl}
+use Rattle.std.proofs.Common.{sym, subst, refl, ap, ◌∙◌}
 use Rattle.std.specs.Str.{bytes_eq, is_utf8, IsUtf8}
 use Rattle.std.proofs.lemmas.Str.{IsUtf8-from_is_utf8}
 use Rattle.std.proofs.lemmas.Slice.Eq.{bytes_eq-Decides}
@@ -8,6 +8,7 @@ use Rattle.serde_json.specs.Data.{Data}
 use Rattle.serde_json.specs.Read.{read}
 use Rattle.json_words.specs.Json.{json_of}
 use Rattle.ancestor_closure.specs.Deciding.{same_self}
+use Rattle.plain.specs.Words.{IsPath}
 use Rattle.policy_grammar.specs.declared.policy.Policy.{Policy}
 use Rattle.policy_grammar.specs.declared.fault.ReadFault.{ReadFault}
 use Rattle.policy_grammar.specs.declared.fault.ReadFault.TheVariants as reading
@@ -24,9 +25,9 @@ use Rattle.stamped_store.specs.declared.entry.ReadText.{ReadText}
 use Rattle.stored_texts.specs.Texts.{entity_of_text, ReadsEntity}
 use Rattle.site.specs.declared.fault.SiteFault.{SiteFault}
 use Rattle.site.specs.declared.fault.SiteFault.TheVariants as fault
-use Rattle.site.specs.Admitted.{IsNotAdmitted, no_policy, not_passing}
+use Rattle.site.specs.Admitted.{IsEntityUnder, IsNotAdmitted, no_policy, not_passing}
 use Rattle.site.specs.Faults.{of_reading, of_checking}
-use Rattle.site.specs.inner.Recording.{IsJudged}
+use Rattle.site.specs.inner.Recording.{IsJudged, IsStatedBy}
 
 module _ (s : StatedSchema) (id text : List ℕ) (named : IsId id) (r : SiteFault) where
   -- a text that is no policy's
@@ -102,3 +103,14 @@ judged_by {E} s id text p verdict t b impossible named is passes same read told 
       };
       told = subst (λ (q : Policy). IsTrue impossible ↔ IsImpossible s q) (sym read) both.1;
     }
+
+pub stated_by : {E : Type 0} → (s : StatedSchema) (d : Data) (e : Entity) (t : Result (List ℕ) E) (b : ReadText Entity)
+    → entity_in s d ≡ Ok e → IsPath e.uid.type_name → IfOk t (λ x. x ≡ canonical_text e)
+    → IfOk t (λ x. IsEntityUnder s e.uid x e) → b.read ≡ e → t ≡ Ok b.text → IsStatedBy s (Some d) b
+stated_by {E} s d e t b states path text reads read kept = record {
+  states = states ∙ ap Ok (sym read);
+  path = subst (λ (x : Entity). IsPath x.uid.type_name) (sym read) path;
+  canonical = subst (λ (v : Result (List ℕ) E). IfOk v (λ x. x ≡ canonical_text e)) kept text ∙ ap canonical_text (sym read);
+  reads = subst (λ (x : Entity). IsEntityUnder s x.uid b.text x) (sym read)
+      (subst (λ (v : Result (List ℕ) E). IfOk v (λ x. IsEntityUnder s e.uid x e)) kept reads);
+}

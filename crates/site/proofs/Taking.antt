@@ -1,6 +1,7 @@
 -- Updates that are taken one after the other leave the store of all of them, and what a site keeps may be read.
-use Rattle.std.specs.Prelude.{◌≡◌, ◌++◌, ◌∷◌, [], ℕ, List, Option, Some, None, string_bytes}
-use Rattle.std.proofs.Common.{sym, ap, ◌∙◌, subst, append_assoc, append-nil}
+use Rattle.std.specs.Prelude.{◌≡◌, ◌++◌, ◌∷◌, ◌<◌, [], ℕ, List, Option, Some, None, map, length, take, string_bytes}
+use Rattle.std.proofs.Common.{refl, sym, ap, ◌∙◌, subst, arith, append_assoc, append-nil, length-append}
+use Rattle.std.proofs.lemmas.List.{length-map}
 use Rattle.std.specs.declared.alloc.Global.{Global}
 use Rattle.std.specs.declared.string.String.{String}
 use Rattle.values.specs.declared.entity_uid.EntityUid.{EntityUid}
@@ -27,6 +28,21 @@ stores_more grouped s m t us vs h k =
     k ∙ ap (λ x. store_of (updates x ++ vs)) h
     ∙ grouped (updates s ++ us) vs
     ∙ ap store_of (append_assoc (updates s) us vs)
+
+-- where the next one is refused, exactly the first ones were taken
+first : {A B : Type 0} (f : A → B) (ys zs : List A) → take (length ys) (map f (ys ++ zs)) ≡ map f ys
+first f [] zs = refl
+first f (y ∷ ys) zs = ap (λ bs. f y ∷ bs) (first f ys zs)
+
+pub stores_first : {A : Type 0} (see : A → Update) (s t : Store) (k : ℕ) (ys zs us : List A) (z : A) → ys ++ z ∷ zs ≡ us
+    → k ≡ length ys → t ≡ store_of (updates s ++ map see ys)
+    → (k < length (map see us)) × (t ≡ store_of (updates s ++ take k (map see us)))
+stores_first {A} see s t k ys zs us z all count so =
+    subst (λ (vs : List A). (k < length (map see vs)) × (t ≡ store_of (updates s ++ take k (map see vs)))) all
+    (subst (λ (n : ℕ). (n < length (map see (ys ++ z ∷ zs))) × (t ≡ store_of (updates s ++ take n (map see (ys ++ z ∷ zs))))) (sym count) (
+      omega (arith, length-map (ys ++ z ∷ zs) see, length-append ys (z ∷ zs)),
+      so ∙ ap (λ (vs : List Update). store_of (updates s ++ vs)) (sym (first see ys (z ∷ zs))),
+    ))
 
 -- ---- what is read from its text may be read
 module _ (schema : StatedSchema) where

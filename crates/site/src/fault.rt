@@ -11,7 +11,7 @@ use stored_texts::CheckFault;
 use sync_messages::MessageFault;
 
 /// Why a site refuses. What is refused changes nothing.
-#[derive(Clone, Copy, PartialEq, Eq)]
+#[derive(Clone, Copy)]
 pub enum SiteFault {
     /// An allocation was refused.
     NoMemory,

@@ -3,7 +3,7 @@
 use stamped_store::Stamp;
 
 /// A policy that was put.
-#[derive(Clone, Copy, PartialEq, Eq)]
+#[derive(Clone, Copy)]
 pub struct Put {
     /// The stamp that it was given.
     pub stamp: Stamp,
@@ -12,7 +12,7 @@ pub struct Put {
 }
 
 /// What became of the updates of a message.
-#[derive(Clone, Copy, PartialEq, Eq)]
+#[derive(Clone, Copy)]
 pub enum Taken {
     /// All were taken: so many.
     All(usize),

@@ -229,7 +229,9 @@ impl Site {
     {
         let schema = self.schema.get();
         let request = stated_request(self.alloc, schema, json)?;
-        Ok(answer_under(self.alloc, schema, &self.store, &request)?)
+        let answered = answer_under(self.alloc, schema, &self.store, &request);
+        drop(request);
+        Ok(answered?)
     }
 
     // ---- commands

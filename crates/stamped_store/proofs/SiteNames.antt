@@ -36,7 +36,7 @@ unfolding is_word_byte is_digit
 word_byte_is_ascii c h = ⊎_elim (λ letter. letter_is_ascii c letter) (λ digit. let top = up_to c (code "0") (code "9") digit in omega arith)
     (or_cases (is_letter c) (is_digit c) h)
 
-site_byte_is_ascii : (c : ℕ) → is_site_byte c ≡ true → c < 128
+pub site_byte_is_ascii : (c : ℕ) → is_site_byte c ≡ true → c < 128
 unfolding is_site_byte
 site_byte_is_ascii c h = ⊎_elim (λ word. word_byte_is_ascii c word)
     (λ mark. ⊎_elim (λ dash. is_below c (code "-") (omega arith) dash) (λ dot. is_below c (code ".") (omega arith) dot)
@@ -142,21 +142,21 @@ pub five_digits_are_names : (n : ℕ) → n < 100000 → IsSiteName (five_digits
 five_digits_are_names n high = subst IsSiteName (sym (five_digits_spelled n high)) (spelled_are_names n)
 
 -- ---- the order of five digits
-less : (m n : ℕ) → m < n → nat_cmp m n ≡ Less
+pub less : (m n : ℕ) → m < n → nat_cmp m n ≡ Less
 less m n h = ap (λ t. cond t Less (cond (m == n) Equal Greater)) (lt-ltb m n h)
 
-equal : (m n : ℕ) → m ≡ n → nat_cmp m n ≡ Equal
+pub equal : (m n : ℕ) → m ≡ n → nat_cmp m n ≡ Equal
 equal m n h = ap (nat_cmp m) (sym h) ∙ tied_itself nat_cmp_total m
 
-greater : (m n : ℕ) → n < m → nat_cmp m n ≡ Greater
+pub greater : (m n : ℕ) → n < m → nat_cmp m n ≡ Greater
 greater m n h = nat_cmp_total.antisymm m n ∙ ap ordering_reverse (less n m h)
 
-then_assoc : (a b c : Ordering) → ordering_then (ordering_then a b) c ≡ ordering_then a (ordering_then b c)
+pub then_assoc : (a b c : Ordering) → ordering_then (ordering_then a b) c ≡ ordering_then a (ordering_then b c)
 then_assoc Less b c = refl
 then_assoc Equal b c = refl
 then_assoc Greater b c = refl
 
-then_equal : (a : Ordering) → ordering_then a Equal ≡ a
+pub then_equal : (a : Ordering) → ordering_then a Equal ≡ a
 then_equal Less = refl
 then_equal Equal = refl
 then_equal Greater = refl

@@ -3,7 +3,7 @@
 -- stamp.
 use Prim.Native.Char.{code}
 use Rattle.std.specs.Prelude.{◌≡◌, ◌↔◌, ◌≤◌, ◌<◌, ◌-◌, ℕ, Bool, true, ◌&&◌, ◌||◌, ◌==◌, nat_le}
-use Rattle.std.specs.Prelude.{List, ◌++◌, length, drop, take, replicate}
+use Rattle.std.specs.Prelude.{List, [], ◌∷◌, ◌++◌, ◌+◌, ◌*◌, length, drop, take, replicate}
 use Rattle.std.specs.List.{list_all}
 use Rattle.std.specs.Fmt.{decimal}
 use Rattle.std.specs.Str.{IsUtf8}
@@ -49,3 +49,14 @@ pub record KeepsName (bytes : List ℕ) (len : ℕ) : Type 0 where
   pub named : IsSiteName (take len bytes)
   pub counted : length (take len bytes) ≡ len
   pub whole : bytes ≡ padded (take len bytes)
+
+-- ---- how names are compared
+
+-- the number that bytes spell behind what was read, the first weighing most
+abbrev pub spelt : ℕ → List ℕ → ℕ
+spelt n [] = n
+spelt n (b ∷ bs) = spelt (n * 256 + b) bs
+
+-- the eight bytes from this place on, as a number
+abbrev pub word_at : ℕ → List ℕ → ℕ
+word_at at bytes = spelt 0 (take 8 (drop at bytes))

@@ -94,11 +94,14 @@ impl<P: Drop> Join for Entry<P> {
 
     ghost laws = { greater_is_join };
 
+    // At its callers, so that no entry is moved for a call.
+    #[inline(always)]
     fn below(&self, other: &Entry<P>) -> bool {
         self.cmp(other).is_le()
     }
 
     // The greater entry stays, and of two equal ones this one.
+    #[inline(always)]
     fn join(&mut self, other: Entry<P>) {
         if !other.below(self) {
             *self = other;

@@ -1,12 +1,12 @@
 //! Names of sites.
-ghost use Rattle.std.specs.Prelude.{◌≡◌, ◌↔◌, ◌+◌, ◌%◌, IsTrue, MatchOption, Some, refl};
+ghost use Rattle.std.specs.Prelude.{◌≡◌, ◌↔◌, ◌≤◌, ◌+◌, ◌%◌, IsTrue, MatchOption, Some, refl};
 ghost use Rattle.std.specs.List.{list_all};
 ghost use Rattle.std.specs.Ordering.{nat_cmp, is_eq};
 ghost use Rattle.std.specs.Cmp.{partial_equiv_from_equiv, partial_order_from_agreeing_total};
 ghost use Rattle.std.specs.Cmp.Lexicographic.{slice_cmp};
 ghost use Rattle.std.proofs.lemmas.Cmp.{eq_by_cmp_equiv, nat_list_cmp_total};
 ghost use Rattle.stamped_store.specs.SiteNames.{IsSiteName, is_site_byte, five_digits};
-ghost use Rattle.stamped_store.specs.SiteNames.{is_site_name as is_named};
+ghost use Rattle.stamped_store.specs.SiteNames.{is_site_name as is_named, padded, word_at};
 
 use plain::words::{digit, letter};
 use std::cmp::Ordering;
@@ -141,6 +141,38 @@ impl SiteName {
     }
 }
 
+// Names are compared by words of eight bytes, of which a name has four with the zeros behind it: as numbers in which
+// the first byte weighs most, these are ordered as their bytes, and no byte of a name is 0.
+impl SiteName {
+    // The eight bytes at this place, as a number.
+    fn word(&self, at: usize) -> u64
+        requires { at + 8 ≤ 32 }
+        ensures spelt { result ≡ word_at at (padded self.now) }
+        ensures named { IsSiteName self.now }
+    {
+        let bytes = &self.bytes;
+        u64::from_be_bytes([
+            bytes[at],
+            bytes[at + 1],
+            bytes[at + 2],
+            bytes[at + 3],
+            bytes[at + 4],
+            bytes[at + 5],
+            bytes[at + 6],
+            bytes[at + 7],
+        ])
+    }
+
+    // How the words of two names at this place are ordered.
+    fn word_cmp(&self, other: &SiteName, at: usize) -> Ordering
+        requires { at + 8 ≤ 32 }
+        ensures ordered { result ≡ nat_cmp (word_at at (padded self.now)) (word_at at (padded other.now)) }
+        ensures named { IsSiteName self.now × IsSiteName other.now }
+    {
+        self.word(at).cmp(&other.word(at))
+    }
+}
+
 // The digit of a number's last place, in ASCII.
 fn last_digit(number: u16) -> u8
     ensures { result ≡ 48 + number % 10 }
@@ -182,7 +214,21 @@ impl Ord for SiteName {
 
     ghost matches_eq = { λ s t. refl };
 
+    // Apart from its callers, of which most find unequal counts before they ask for this.
+    #[inline(never)]
     fn cmp(&self, other: &SiteName) -> Ordering {
-        self.as_bytes().cmp(other.as_bytes())
+        let first = self.word_cmp(other, 0);
+        if first.is_ne() {
+            return first;
+        }
+        let second = self.word_cmp(other, 8);
+        if second.is_ne() {
+            return second;
+        }
+        let third = self.word_cmp(other, 16);
+        if third.is_ne() {
+            return third;
+        }
+        self.word_cmp(other, 24)
     }
 }

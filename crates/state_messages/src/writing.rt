@@ -5,16 +5,16 @@ ghost use Rattle.serde_json.specs.Data.{array};
 ghost use Rattle.serde_json.specs.View.{view, items_of};
 ghost use Rattle.json_words.specs.Json.{json_of};
 ghost use Rattle.values.specs.Names.{name_cmp};
-ghost use Rattle.stamped_store.specs.Deltas.{delta, is_news as is_news_to};
+ghost use Rattle.stamped_store.specs.Deltas.{delta, is_news as is_news_where};
 ghost use Rattle.stamped_store.specs.EntryOrder.{plain_entry, body_bytes};
 ghost use Rattle.stamped_store.specs.Store.{abstract_store, abstract_updates, updates, id_name};
-ghost use Rattle.stamped_store.specs.Store.{entity_name};
+ghost use Rattle.stamped_store.specs.Store.{policy_name, entity_name};
 ghost use Rattle.stamped_store.specs.Stored.{value_at};
 ghost use Rattle.sync_messages.specs.Summaries.{ascend, name_json};
 ghost use Rattle.state_messages.specs.Messages.{body_json, entry_json, message_json, state_json, state_text};
 ghost use Rattle.state_messages.specs.Messages.{delta_json, delta_text, updates_stated};
 ghost use Rattle.state_messages.specs.Updates.{AreInRange};
-ghost use Rattle.state_messages.specs.inner.Writing.{news_json, all_news_json};
+ghost use Rattle.state_messages.specs.inner.Writing.{is_new, news_json, all_news_json};
 
 use crate::laws::messages_read_back;
 use json_words::write_json;
@@ -24,7 +24,7 @@ use stamped_store::{Entry, PolicyStore, ReadText, Stamp};
 use std::alloc::Global;
 use std::cmp::Ordering;
 use sync_messages::{Summary, uid_value};
-use values::Name;
+use values::{EntityUid, Name};
 
 /// A body: its text, or null.
 fn body_value<P>(alloc: Global, body: &Option<ReadText<P>>) -> Result<Value, NoMemory>
@@ -41,19 +41,19 @@ fn name_value(alloc: Global, name: &Name) -> Result<Value, NoMemory>
 {
     match name {
         Name::Policy(id) => json!(in alloc; {"policy": id.as_str()}),
-        Name::Entity(uid) => {
-            let uid = uid_value(alloc, uid)?;
-            json!(in alloc; {"entity": uid})
-        }
+        Name::Entity(uid) => json!(in alloc; {"entity": uid_value(alloc, uid)?}),
     }
 }
 
 fn entry_value<P>(alloc: Global, name: &Name, entry: &Entry<P>) -> Result<Value, NoMemory>
     ensures { IfOk result (λ v. view v ≡ entry_json (name.now, plain_entry entry.now)) }
 {
-    let body = body_value(alloc, &entry.body)?;
-    let name = name_value(alloc, name)?;
-    json!(in alloc; {"body": body, "count": entry.stamp.count, "name": name, "site": entry.stamp.site.as_str()})
+    json!(in alloc; {
+        "body": body_value(alloc, &entry.body)?,
+        "count": entry.stamp.count,
+        "name": name_value(alloc, name)?,
+        "site": entry.stamp.site.as_str()
+    })
 }
 
 /// How the name of a stamp compares with a name.
@@ -76,12 +76,20 @@ fn known_stamp(known: &[(Name, Stamp)], name: &Name) -> Option<Stamp>
 
 /// Whether an entry is news where this stamp is known.
 fn is_news<P>(known: Option<Stamp>, entry: &Entry<P>) -> bool
-    ensures { result ≡ is_news_to known (Some (plain_entry entry.now)) }
+    ensures { result ≡ is_news_where known (Some (plain_entry entry.now)) }
 {
     match known {
         None => true,
         Some(held) => held.cmp(&entry.stamp).is_lt(),
     }
+}
+
+/// Whether an entry is news to whoever knows these stamps: they have none of its name, or a smaller one.
+fn is_news_to<P>(known: &[(Name, Stamp)], name: &Name, entry: &Entry<P>) -> bool
+    requires { ascend known.now ≡ true }
+    ensures { result ≡ is_new known.now (name.now, plain_entry entry.now) }
+{
+    is_news(known_stamp(known, name), entry)
 }
 
 /// Appends an entry if it is news.
@@ -96,11 +104,43 @@ fn push_news<P>(
     ensures { OnOk result (map view items.new.items
         ≡ map view items.old.items ++ news_json known.now (name.now, plain_entry entry.now)) }
 {
-    if !is_news(known_stamp(known, name), entry) {
+    if !is_news_to(known, name, entry) {
         return Ok(());
     }
     items.push(entry_value(alloc, name, entry)?)?;
     Ok(())
+}
+
+/// Appends the entry of a policy if it is news.
+fn push_policy<P>(
+    alloc: Global,
+    items: &mut Vec<Value>,
+    known: &[(Name, Stamp)],
+    id: &str,
+    entry: &Entry<P>,
+) -> Result<(), NoMemory>
+    requires { ascend known.now ≡ true }
+    ensures { OnOk result (map view items.new.items
+        ≡ map view items.old.items ++ news_json known.now (policy_name id.now, plain_entry entry.now)) }
+{
+    let name = Name::Policy(Text::from_str(alloc, id)?);
+    push_news(alloc, items, known, &name, entry)
+}
+
+/// And that of an entity.
+fn push_entity<P>(
+    alloc: Global,
+    items: &mut Vec<Value>,
+    known: &[(Name, Stamp)],
+    uid: &EntityUid,
+    entry: &Entry<P>,
+) -> Result<(), NoMemory>
+    requires { ascend known.now ≡ true }
+    ensures { OnOk result (map view items.new.items
+        ≡ map view items.old.items ++ news_json known.now (entity_name uid.now, plain_entry entry.now)) }
+{
+    let name = Name::Entity(uid.copy()?);
+    push_news(alloc, items, known, &name, entry)
 }
 
 /// The entries of policies that are news.
@@ -115,8 +155,7 @@ fn policy_entries<P: Drop, E: Drop>(
 {
     let mut items = Vec::new(alloc);
     for (id, entry) in store.policies() {
-        let name = Name::Policy(Text::from_str(alloc, id.as_str())?);
-        push_news(alloc, &mut items, known, &name, entry)?;
+        push_policy(alloc, &mut items, known, id.as_str(), entry)?;
     }
     Ok(items)
 }
@@ -132,8 +171,7 @@ fn entity_entries<P: Drop, E: Drop>(
 {
     let mut items = Vec::new(alloc);
     for (uid, entry) in store.entities() {
-        let name = Name::Entity(uid.copy()?);
-        push_news(alloc, &mut items, known, &name, entry)?;
+        push_entity(alloc, &mut items, known, uid, entry)?;
     }
     Ok(items)
 }

@@ -45,37 +45,20 @@ fn common_boolean(left: BooleanType, right: BooleanType) -> BooleanType
 fn common_leaf<'a>(left: Leaf<'a>, right: Leaf<'a>) -> Option<Leaf<'a>>
     ensures { option_map leaf_view result ≡ common (leaf_view left.entry) (leaf_view right.entry) }
 {
-    match left {
-        Leaf::Boolean(a) => match right {
-            Leaf::Boolean(b) => Some(Leaf::Boolean(common_boolean(a, b))),
-            Leaf::Long | Leaf::Text | Leaf::Entity(_) | Leaf::Decimal | Leaf::Ipaddr => None,
-        },
-        Leaf::Long => match right {
-            Leaf::Long => Some(Leaf::Long),
-            Leaf::Boolean(_) | Leaf::Text | Leaf::Entity(_) | Leaf::Decimal | Leaf::Ipaddr => None,
-        },
-        Leaf::Text => match right {
-            Leaf::Text => Some(Leaf::Text),
-            Leaf::Boolean(_) | Leaf::Long | Leaf::Entity(_) | Leaf::Decimal | Leaf::Ipaddr => None,
-        },
-        Leaf::Entity(a) => match right {
-            Leaf::Entity(b) => {
-                if a.as_str() == b.as_str() {
-                    Some(Leaf::Entity(a))
-                } else {
-                    None
-                }
+    match (left, right) {
+        (Leaf::Boolean(a), Leaf::Boolean(b)) => Some(Leaf::Boolean(common_boolean(a, b))),
+        (Leaf::Long, Leaf::Long) => Some(Leaf::Long),
+        (Leaf::Text, Leaf::Text) => Some(Leaf::Text),
+        (Leaf::Entity(a), Leaf::Entity(b)) => {
+            if a.as_str() == b.as_str() {
+                Some(Leaf::Entity(a))
+            } else {
+                None
             }
-            Leaf::Boolean(_) | Leaf::Long | Leaf::Text | Leaf::Decimal | Leaf::Ipaddr => None,
-        },
-        Leaf::Decimal => match right {
-            Leaf::Decimal => Some(Leaf::Decimal),
-            Leaf::Boolean(_) | Leaf::Long | Leaf::Text | Leaf::Entity(_) | Leaf::Ipaddr => None,
-        },
-        Leaf::Ipaddr => match right {
-            Leaf::Ipaddr => Some(Leaf::Ipaddr),
-            Leaf::Boolean(_) | Leaf::Long | Leaf::Text | Leaf::Entity(_) | Leaf::Decimal => None,
-        },
+        }
+        (Leaf::Decimal, Leaf::Decimal) => Some(Leaf::Decimal),
+        (Leaf::Ipaddr, Leaf::Ipaddr) => Some(Leaf::Ipaddr),
+        _ => None,
     }
 }
 
@@ -114,19 +97,11 @@ pub(crate) fn common_of<'a>(
     ensures { IfOk result (λ o. option_map (λ t. static_view t) o
         ≡ common (part_view left.entry) (part_view right.entry)) }
 {
-    match left.kind() {
-        TypeKind::Leaf(a) => match right.kind() {
-            TypeKind::Leaf(b) => Ok(leaf_type(common_leaf(a, b))),
-            TypeKind::Set(_) | TypeKind::Record(_) => Ok(None),
-        },
-        TypeKind::Set(a) => match right.kind() {
-            TypeKind::Set(b) => set_of(alloc, common_of(alloc, a, b)?),
-            TypeKind::Leaf(_) | TypeKind::Record(_) => Ok(None),
-        },
-        TypeKind::Record(a) => match right.kind() {
-            TypeKind::Record(b) => common_record(alloc, a, b),
-            TypeKind::Leaf(_) | TypeKind::Set(_) => Ok(None),
-        },
+    match (left.kind(), right.kind()) {
+        (TypeKind::Leaf(a), TypeKind::Leaf(b)) => Ok(leaf_type(common_leaf(a, b))),
+        (TypeKind::Set(a), TypeKind::Set(b)) => set_of(alloc, common_of(alloc, a, b)?),
+        (TypeKind::Record(a), TypeKind::Record(b)) => common_record(alloc, a, b),
+        _ => Ok(None),
     }
 }
 

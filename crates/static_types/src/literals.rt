@@ -1,6 +1,7 @@
 //! The types of literals.
-ghost use Rattle.std.specs.Prelude.{◌≡◌, map, IfOk, OnOk};
-ghost use Rattle.typing.specs.Types.{truth_type, common_of, record_type, put_each, put_required, no_field_types};
+ghost use Rattle.std.specs.Prelude.{◌≡◌, map, option_map, IfOk};
+ghost use Rattle.typing.specs.Types.{truth_type, common, common_of, record_type};
+ghost use Rattle.typing.specs.Types.{put_each, put_required, no_field_types};
 ghost use Rattle.typing.specs.Rows.{literal_type, set_of_common, set_literal_type};
 ghost use Rattle.static_types.specs.Views.{boolean_view, static_view, Answers};
 ghost use Rattle.static_types.specs.inner.Parts.{built_view, map_fields};
@@ -36,6 +37,20 @@ pub fn literal_type<'a>(literal: &'a Literal) -> StaticType<'a>
     }
 }
 
+/// The common type of those so far and one more, where there is one.
+fn joined_with<'a>(
+    alloc: Global,
+    joined: StaticType<'a>,
+    ty: &StaticType<'a>,
+) -> Result<Option<StaticType<'a>>, NoMemory>
+    ensures { IfOk result (λ o. option_map (λ t. static_view t) o
+        ≡ common (static_view joined.entry) (static_view ty.now)) }
+{
+    let wider = common(alloc, &joined, ty);
+    drop(joined);
+    wider
+}
+
 /// The type of sets of these members, of which there is at least one.
 fn set_type_of<'a>(
     alloc: Global,
@@ -47,7 +62,7 @@ fn set_type_of<'a>(
 {
     let mut joined = first.copy()?;
     for ty in rest {
-        match common(alloc, &joined, ty)? {
+        match joined_with(alloc, joined, ty)? {
             Some(wider) => joined = wider,
             None => return Err(TypeFault::NoCommonType),
         }
@@ -72,15 +87,16 @@ pub fn set_literal_type<'a>(
 
 /// Gives a key its type, whether it had one or not.
 fn put_field<'a>(
-    map: &mut BTreeMap<&'a str, StaticType<'a>>,
+    map: BTreeMap<&'a str, StaticType<'a>>,
     key: &'a str,
     ty: StaticType<'a>,
-) -> Result<(), NoMemory>
-    ensures { OnOk result (map_fields map.new.entries
-        ≡ put_required key.now (static_view ty.entry) (map_fields map.old.entries)) }
+) -> Result<BTreeMap<&'a str, StaticType<'a>>, NoMemory>
+    ensures { IfOk result (λ m. map_fields m.entries
+        ≡ put_required key.now (static_view ty.entry) (map_fields map.entry.entries)) }
 {
-    map.insert(key, ty)?;
-    Ok(())
+    let mut map = map;
+    drop(map.insert(key, ty)?);
+    Ok(map)
 }
 
 /// The fields of a record type, all of them required.
@@ -111,10 +127,13 @@ fn typed_fields<'a>(
     for ty in types {
         match fields.get(at) {
             Some(field) => {
-                put_field(&mut map, field.name.as_str(), ty)?;
+                map = put_field(map, field.name.as_str(), ty)?;
                 at += 1;
             }
-            None => return Ok(map),
+            None => {
+                drop(ty);
+                return Ok(map);
+            }
         }
     }
     Ok(map)

@@ -36,26 +36,19 @@ fn unary_of<'a>(operator: &Unary, operand: TypeKind<'_, 'a>) -> Result<StaticTyp
     ensures row { Answers result (unary_type operator.now (kind_view operand.entry)) }
     ensures memory { TakesNoMemory result }
 {
-    match operator {
-        Unary::Not => match operand {
-            TypeKind::Leaf(Leaf::Boolean(truth)) => Ok(StaticType::boolean(turned(truth))),
-            _ => Err(TypeFault::Unexpected),
-        },
-        Unary::Negate => match operand {
-            TypeKind::Leaf(Leaf::Long) => Ok(StaticType::Leaf(Leaf::Long)),
-            _ => Err(TypeFault::Unexpected),
-        },
-        Unary::Like(_) => match operand {
-            TypeKind::Leaf(Leaf::Text) => Ok(StaticType::boolean(BooleanType::Either)),
-            _ => Err(TypeFault::Unexpected),
-        },
-        Unary::Is(name) => match operand {
-            TypeKind::Leaf(Leaf::Entity(found)) => {
-                let truth = found.as_str() == name.as_str();
-                Ok(StaticType::boolean(truth_type(truth)))
-            }
-            _ => Err(TypeFault::Unexpected),
-        },
+    match (operator, operand) {
+        (Unary::Not, TypeKind::Leaf(Leaf::Boolean(truth))) => {
+            Ok(StaticType::boolean(turned(truth)))
+        }
+        (Unary::Negate, TypeKind::Leaf(Leaf::Long)) => Ok(StaticType::Leaf(Leaf::Long)),
+        (Unary::Like(_), TypeKind::Leaf(Leaf::Text)) => {
+            Ok(StaticType::boolean(BooleanType::Either))
+        }
+        (Unary::Is(name), TypeKind::Leaf(Leaf::Entity(found))) => {
+            let truth = found.as_str() == name.as_str();
+            Ok(StaticType::boolean(truth_type(truth)))
+        }
+        _ => Err(TypeFault::Unexpected),
     }
 }
 
@@ -69,7 +62,9 @@ pub fn unary_type<'a>(
     ensures row { Answers result (unary_type operator.now (static_view operand.entry)) }
     ensures memory { TakesNoMemory result }
 {
-    unary_of(operator, Part::Built(&operand).kind())
+    let row = unary_of(operator, Part::Built(&operand).kind());
+    drop(operand);
+    row
 }
 
 /// The type of an operator's result on operands of these types, or `NoMemory`.
@@ -85,13 +80,16 @@ pub fn binary_type<'a>(
     ensures { Answers result
         (binary_type (typing_environment env.entry) operator (static_view left.entry) (static_view right.entry)) }
 {
-    binary_of(
+    let row = binary_of(
         alloc,
         env,
         operator,
         Part::Built(&left),
         Part::Built(&right),
-    )
+    );
+    drop(left);
+    drop(right);
+    row
 }
 
 fn binary_of<'a>(
@@ -104,21 +102,16 @@ fn binary_of<'a>(
     ensures { Answers result
         (binary_type (typing_environment env.entry) operator (part_view left.entry) (part_view right.entry)) }
 {
+    let (one, other) = (left.kind(), right.kind());
     match operator {
         Binary::Equal => equal_of(alloc, left, right),
-        Binary::In => in_of(env, left.kind(), right.kind()),
+        Binary::In => in_of(env, one, other),
         Binary::Less | Binary::LessOrEqual => {
-            of_numbers(
-                Leaf::Boolean(BooleanType::Either),
-                left.kind(),
-                right.kind(),
-            )
+            of_numbers(Leaf::Boolean(BooleanType::Either), one, other)
         }
-        Binary::Add | Binary::Subtract | Binary::Multiply => {
-            of_numbers(Leaf::Long, left.kind(), right.kind())
-        }
-        Binary::Contains => contains_of(alloc, left.kind(), right),
-        Binary::ContainsAll | Binary::ContainsAny => sets_of(alloc, left.kind(), right.kind()),
+        Binary::Add | Binary::Subtract | Binary::Multiply => of_numbers(Leaf::Long, one, other),
+        Binary::Contains => contains_of(alloc, one, right),
+        Binary::ContainsAll | Binary::ContainsAny => sets_of(alloc, one, other),
     }
 }
 
@@ -130,7 +123,10 @@ fn if_common<'a>(
 ) -> Result<StaticType<'a>, TypeFault>
     ensures { Answers result (if_common (common (part_view left.entry) (part_view right.entry))) }
 {
-    if common_of(alloc, left, right)?.is_some() {
+    let common = common_of(alloc, left, right)?;
+    let is_there = common.is_some();
+    drop(common);
+    if is_there {
         Ok(StaticType::boolean(BooleanType::Either))
     } else {
         Err(TypeFault::NoCommonType)
@@ -297,7 +293,16 @@ pub fn address_test_type<'a>(operand: StaticType<'a>) -> Result<StaticType<'a>, 
     ensures row { Answers result (address_test_type (static_view operand.entry)) }
     ensures memory { TakesNoMemory result }
 {
-    match Part::Built(&operand).kind() {
+    let row = address_test_of(Part::Built(&operand).kind());
+    drop(operand);
+    row
+}
+
+fn address_test_of<'a>(operand: TypeKind<'_, 'a>) -> Result<StaticType<'a>, TypeFault>
+    ensures row { Answers result (address_test_type (kind_view operand.entry)) }
+    ensures memory { TakesNoMemory result }
+{
+    match operand {
         TypeKind::Leaf(Leaf::Ipaddr) => Ok(StaticType::boolean(BooleanType::Either)),
         _ => Err(TypeFault::Unexpected),
     }
@@ -314,11 +319,14 @@ pub fn call_type<'a>(
     ensures row { Answers result (call_type called (static_view left.entry) (static_view right.entry)) }
     ensures memory { TakesNoMemory result }
 {
-    call_of(
+    let row = call_of(
         called,
         Part::Built(&left).kind(),
         Part::Built(&right).kind(),
-    )
+    );
+    drop(left);
+    drop(right);
+    row
 }
 
 fn is_decimal(kind: TypeKind<'_, '_>) -> bool

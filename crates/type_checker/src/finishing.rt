@@ -58,7 +58,10 @@ pub(crate) fn binary_typed<'a>(
 {
     let right = match right {
         Ok(right) => right,
-        Err(fault) => return Err(fault),
+        Err(fault) => {
+            drop(left);
+            return Err(fault);
+        }
     };
     typed_row(
         alloc,
@@ -79,7 +82,10 @@ pub(crate) fn call_typed<'a>(
 {
     let right = match right {
         Ok(right) => right,
-        Err(fault) => return Err(fault),
+        Err(fault) => {
+            drop(left);
+            return Err(fault);
+        }
     };
     typed_row(alloc, call_type(called, left.kind, right.kind))
 }
@@ -119,7 +125,9 @@ pub(crate) fn field_typed<'a>(
         Err(fault) => return Err(fault),
     };
     let is_known = knows(known, owner, name);
-    typed_row(alloc, field_type(env, is_known, name, &typed.kind))
+    let row = field_type(env, is_known, name, &typed.kind);
+    drop(typed);
+    typed_row(alloc, row)
 }
 
 /// Whether `has` of this type learns its pair: where it is neither known nor impossible.
@@ -188,12 +196,9 @@ pub(crate) fn has_typed<'a>(
         Err(fault) => return Err(fault),
     };
     let is_known = knows(known, owner, name);
-    has_row(
-        alloc,
-        has_type(env, is_known, name, &typed.kind),
-        owner,
-        name,
-    )
+    let row = has_type(env, is_known, name, &typed.kind);
+    drop(typed);
+    has_row(alloc, row, owner, name)
 }
 
 /// A set literal.
@@ -260,11 +265,17 @@ pub(crate) fn and_typed<'a>(
         Err(fault) => return Err(fault),
     };
     match right.kind.as_boolean() {
-        Some(truth) => Ok(Typed {
-            kind: StaticType::boolean(and_truth(left, truth)),
-            learns: right.learns,
-        }),
-        None => Err(TypeFault::Unexpected),
+        Some(truth) => {
+            drop(right.kind);
+            Ok(Typed {
+                kind: StaticType::boolean(and_truth(left, truth)),
+                learns: right.learns,
+            })
+        }
+        None => {
+            drop(right);
+            Err(TypeFault::Unexpected)
+        }
     }
 }
 
@@ -281,7 +292,10 @@ pub(crate) fn or_behind_false<'a>(
     };
     match right.kind.as_boolean() {
         Some(_) => Ok(right),
-        None => Err(TypeFault::Unexpected),
+        None => {
+            drop(right);
+            Err(TypeFault::Unexpected)
+        }
     }
 }
 
@@ -326,17 +340,28 @@ pub(crate) fn or_typed<'a>(
 {
     let right = match right {
         Ok(right) => right,
-        Err(fault) => return Err(fault),
+        Err(fault) => {
+            drop(left);
+            return Err(fault);
+        }
     };
     match right.kind.as_boolean() {
-        Some(truth) => match or_learns(alloc, truth, left, &right.learns) {
-            Ok(learns) => Ok(Typed {
-                kind: StaticType::boolean(or_truth(truth)),
-                learns,
-            }),
-            Err(_) => Err(TypeFault::NoMemory),
-        },
-        None => Err(TypeFault::Unexpected),
+        Some(truth) => {
+            let learns = or_learns(alloc, truth, left, &right.learns);
+            drop(right);
+            match learns {
+                Ok(learns) => Ok(Typed {
+                    kind: StaticType::boolean(or_truth(truth)),
+                    learns,
+                }),
+                Err(_) => Err(TypeFault::NoMemory),
+            }
+        }
+        None => {
+            drop(left);
+            drop(right);
+            Err(TypeFault::Unexpected)
+        }
     }
 }
 
@@ -387,10 +412,16 @@ pub(crate) fn branches<'a>(
 {
     let other = match other {
         Ok(other) => other,
-        Err(fault) => return Err(fault),
+        Err(fault) => {
+            drop(then);
+            return Err(fault);
+        }
     };
     let kind = branch_type(common(alloc, &then.kind, &other.kind));
-    with_both(alloc, kind, &then.learns, &other.learns)
+    let row = with_both(alloc, kind, &then.learns, &other.learns);
+    drop(then);
+    drop(other);
+    row
 }
 
 /// Puts the type of one more behind those of several.

@@ -130,12 +130,16 @@ fn second_conjunct<'a>(
         Ok(left) => match left.kind.as_boolean() {
             Some(truth) => {
                 if !is_looked_at(truth) {
+                    drop(left);
                     return Ok(plain(alloc, StaticType::boolean(BooleanType::False)));
                 }
                 let right = type_behind(alloc, right, env, known, left.learns);
                 and_typed(truth, right)
             }
-            None => Err(TypeFault::Unexpected),
+            None => {
+                drop(left);
+                Err(TypeFault::Unexpected)
+            }
         },
         Err(fault) => Err(fault),
     }
@@ -157,16 +161,24 @@ fn second_disjunct<'a>(
 {
     match left {
         Ok(left) => match left.kind.as_boolean() {
-            Some(BooleanType::True) => Ok(plain(alloc, StaticType::boolean(BooleanType::True))),
+            Some(BooleanType::True) => {
+                drop(left);
+                Ok(plain(alloc, StaticType::boolean(BooleanType::True)))
+            }
             Some(BooleanType::False) => {
+                drop(left);
                 let right = type_of(alloc, right.get(), env, known);
                 or_behind_false(right)
             }
             Some(BooleanType::Either) => {
+                drop(left.kind);
                 let right = type_of(alloc, right.get(), env, known);
                 or_typed(alloc, left.learns, right)
             }
-            None => Err(TypeFault::Unexpected),
+            None => {
+                drop(left);
+                Err(TypeFault::Unexpected)
+            }
         },
         Err(fault) => Err(fault),
     }
@@ -189,13 +201,21 @@ fn type_then<'a>(
     match test {
         Ok(test) => match test.kind.as_boolean() {
             Some(BooleanType::True) => {
+                drop(test.kind);
                 only(type_behind(alloc, consequent, env, known, test.learns))
             }
-            Some(BooleanType::False) => Ok(Then::Skipped),
+            Some(BooleanType::False) => {
+                drop(test);
+                Ok(Then::Skipped)
+            }
             Some(BooleanType::Either) => {
+                drop(test.kind);
                 both(type_behind(alloc, consequent, env, known, test.learns))
             }
-            None => Err(TypeFault::Unexpected),
+            None => {
+                drop(test);
+                Err(TypeFault::Unexpected)
+            }
         },
         Err(fault) => Err(fault),
     }

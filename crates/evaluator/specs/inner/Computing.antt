@@ -234,3 +234,12 @@ named_meaning q E f = record { name = f.name; value = meaning q E f.value }
 -- an answer is the outcome m, but where memory was refused
 abbrev pub Answers : {A : Type 0} → Result A EvalFault → Result A EvalFault → Type 0
 Answers r m = MatchResult r (λ v. m ≡ Ok v) (λ e. e ≢ NoMemory → m ≡ Err e)
+
+-- an answer to what comes next, whatever the operand's outcome m is that was answered by what was given
+abbrev pub AnswersNext : {A B : Type 0} → Result A EvalFault → (A → Result B EvalFault) → Result B EvalFault → Type 0
+AnswersNext {A} given f r = (m : Result A EvalFault) → Answers given m → Answers r (and_then m f)
+
+-- it was done with the value that was given, so that P is true of it; or an error stays
+abbrev pub AnswersInto : {A : Type 0} → EvaluationResult → (PlainValue → Type 0) → Result A EvalFault → Type 0
+AnswersInto given P r = (m : EvaluationResult) → Answers given m
+    → MatchResult r (λ _. (v : PlainValue) × (m ≡ Ok v) × P v) (λ e. e ≢ NoMemory → m ≡ Err e)

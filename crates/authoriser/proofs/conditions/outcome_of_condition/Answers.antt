@@ -10,7 +10,7 @@ returns-in-Ok g c =
     let W = world_of (g.L.Lookup.stored store) (g.L.Ancestry.parents store) in
     let q = c.args.request.now in
     let x = c.args.condition.now in
-    subst (ConditionEvaluatesTo W q x) (sym c.outcome_by.ensures) (value_comes_to W q x c.in-Ok.given c.in-Ok.ensures.given)
+    subst (ConditionEvaluatesTo W q x) (sym c.outcome_by-outcome.ensures) (value_comes_to W q x c.in-Ok.given c.in-Ok.ensures.given)
 
 pub returns-in_ok-error_by-in-Err : goal.returns-in_ok-error_by-in-Err
 returns-in_ok-error_by-in-Err g c =

@@ -1,4 +1,5 @@
-use Rattle.std.proofs.Common.{rules, refl, ◌≡◌, ◌∙◌, ◌+◌, ap, sym, subst, ℕ, List, map, drop, IfOk}
+use Rattle.std.proofs.Common.{rules, refl, ◌≡◌, ◌∙◌, ◌+◌, ◌++◌, ◌∷◌, [], ap, sym, subst, ℕ, List, map, drop, take, IfOk}
+use Rattle.std.proofs.lemmas.List.{at_drop_all}
 use Rattle.std.specs.List.{AllByRecursion, fold}
 use Rattle.expression_trees.specs.declared.tree.Access.{Access}
 use Rattle.expression_trees.specs.declared.tree.Entry.{Entry}
@@ -7,20 +8,25 @@ use Rattle.expression_trees.specs.declared.tree.ExprTree.{ExprTree, the_lemmas}
 use Rattle.expressions.specs.declared.operator.Unary.TheVariants as unary
 use Rattle.expressions.specs.declared.operator.Binary.TheVariants as binary
 use Rattle.expressions.specs.declared.expr.Expr.{Expr}
+use Rattle.expressions.specs.declared.expr.Named.{Named}
 use Rattle.expressions.specs.declared.expr.Expr.TheVariants as core
 use Rattle.desugaring.specs.Strings.{pattern_of}
 use Rattle.desugaring.specs.Meaning.{path_name, name_of, sign_of}
-use Rattle.desugaring.specs.Core.{core_of, negated, field, in_entry, in_term, in_access, added, accessed, joined_by, compared, called, function}
+use Rattle.desugaring.specs.Core.{core_of, negated, field, in_entry, in_term, in_access, added, accessed, joined_by, compared, called, method_called, function}
+use Rattle.desugaring.specs.Names.{method_of}
 use Rattle.desugaring.specs.declared.leaves.Chain.{Chain}
 use Rattle.desugaring.specs.declared.leaves.Chain.TheVariants as chain
 use Rattle.policy_tokens.specs.Lexing.{spelling_of}
 use Rattle.desugaring.specs.inner.WellFormed.{WellFormed, AllWellFormed, WellFormedEntry, WellFormedTerm, WellFormedAccess}
 use Rattle.desugaring.specs.inner.Giving.{Gave}
-use Rattle.desugaring.proofs.Lists.{all-at, stepped, taken}
-use Rattle.desugaring.proofs.Gaving.{one, two, still}
-use Rattle.desugaring.proofs.PartsOf.{of-Uid, of-Call, of-Set, of-Record, of-Member, of-Product, of-Sum, of-Compare, of-Has, of-Like, of-Is, of-IsIn, of-And, of-Or, of-If}
-use Rattle.desugaring.proofs.Cores.{core-Boolean, core-Number, core-Text, core-Variable, core-Uid, core-Call, core-Set, core-Record, core-Member, core-Not, core-Product, core-Sum, core-Compare, core-Has, core-Like, core-Is, core-IsIn, core-And, core-Or, core-If, negated-Number, negated-other}
+use Rattle.desugaring.proofs.Lists.{all-at, map_map, stepped, taken}
+use Rattle.desugaring.proofs.Gaving.{given, one, two, three, still}
+use Rattle.desugaring.proofs.PartsOf.{of-Number, of-Text, of-Uid, of-Call, of-Parentheses, of-Not, of-Minus, of-Set, of-Record, of-Member, of-Product, of-Sum, of-Compare, of-Has, of-Like, of-Is, of-IsIn, of-And, of-Or, of-If}
+use Rattle.desugaring.proofs.Cores.{core-Boolean, core-Number, core-Text, core-Variable, core-Uid, core-Call, core-Parentheses, core-Minus, core-Set, core-Record, core-Member, core-Not, core-Product, core-Sum, core-Compare, core-Has, core-Like, core-Is, core-IsIn, core-And, core-Or, core-If, negated-Number, negated-other}
 use Rattle.desugaring.proofs.build.+build.Goals as goal
+
+abbrev a_field : List ℕ → Expr → Named Expr
+a_field n e = record { name = n; value = e }
 
 abbrev chained : List ℕ → Chain → Expr → List ExprTree → Expr
 chained text by e xs = fold (joined_by by) e (map (core_of text) xs)
@@ -32,21 +38,21 @@ abbrev reached : List ℕ → Expr → List (Access (List ExprTree)) → Expr
 reached text e xs = fold (accessed text) e (map (in_access (core_of text)) xs)
 
 pub build_all-loop-tree-preserved : goal.build_all-loop-tree-preserved
-build_all-loop-tree-preserved t c = taken (core_of c.args.text.now) c.args.trees.now c.loop-tree.tree-index c.tree-item.result c.loop-tree.row.items c.push.new.self.items c.in_ok-built.built c.tree-item.is c.loop-tree-test.true c.loop-tree.invariant c.in_ok-built.ensures c.in_ok-push.ensures.items
+build_all-loop-tree-preserved t c =
+    taken (core_of c.args.text.now) c.args.trees.now c.loop-tree.tree-index c.tree-item.result c.loop-tree.row.items c.add.new.row.items (core_of c.args.text.now c.tree-item.result) c.tree-item.is c.loop-tree-test.true c.loop-tree.invariant refl
+    (given (λ x. c.add.new.row.items ≡ c.loop-tree.row.items ++ x ∷ []) (core_of c.args.text.now c.tree-item.result) c.build_tree.result c.build_tree.ensures c.in_ok-add.ensures)
 
 pub build_chain-loop-tree-preserved : goal.build_chain-loop-tree-preserved
 build_chain-loop-tree-preserved t c =
-    let right = subst (λ r. IfOk r (λ e. e ≡ core_of c.args.text.now c.tree-item.result)) c.in_ok-kept.ensures.made c.build_tree.ensures in
     still (λ a. chained c.args.text.now c.args.chain a c.args.more.now) (chained c.args.text.now c.args.chain c.in_ok-left-2.left (drop (c.loop-tree.tree-index + 1) c.args.more.now)) (chained c.args.text.now c.args.chain c.loop-tree.left (drop c.loop-tree.tree-index c.args.more.now)) c.args.first
     (stepped (chained c.args.text.now c.args.chain) (λ e x. joined_by c.args.chain e (core_of c.args.text.now x)) (λ e x xs. refl) c.args.more.now c.loop-tree.tree-index c.tree-item.result c.loop-tree.left c.in_ok-left-2.left c.tree-item.is c.loop-tree-test.true
-    (c.in_ok-left-2.ensures ∙ ap (λ e. joined_by c.args.chain e c.in_ok-kept.right) c.in_ok-kept.ensures.kept ∙ ap (joined_by c.args.chain c.loop-tree.left) right)) c.loop-tree.invariant
+    (given (λ b. c.in_ok-left-2.left ≡ joined_by c.args.chain c.loop-tree.left b) (core_of c.args.text.now c.tree-item.result) c.build_tree.result c.build_tree.ensures c.in_ok-left-2.ensures)) c.loop-tree.invariant
 
 pub build_terms-loop-term-preserved : goal.build_terms-loop-term-preserved
 build_terms-loop-term-preserved t c =
-    let right = subst (λ r. IfOk r (λ e. e ≡ core_of c.args.text.now c.term-item.result.operand)) c.in_ok-kept.ensures.made c.build_tree.ensures in
     still (λ a. summed c.args.text.now a c.args.terms.now) (summed c.args.text.now c.in_ok-left-2.left (drop (c.loop-term.term-index + 1) c.args.terms.now)) (summed c.args.text.now c.loop-term.left (drop c.loop-term.term-index c.args.terms.now)) c.args.first
     (stepped (summed c.args.text.now) (λ e x. added e (in_term (core_of c.args.text.now) x)) (λ e x xs. refl) c.args.terms.now c.loop-term.term-index c.term-item.result c.loop-term.left c.in_ok-left-2.left c.term-item.is c.loop-term-test.true
-    (c.in_ok-left-2.ensures ∙ ap (λ s. core.Binary s c.in_ok-kept.kept c.in_ok-kept.right) c.sign.ensures ∙ ap (λ e. core.Binary (sign_of c.term-item.result.sign) e c.in_ok-kept.right) c.in_ok-kept.ensures.kept ∙ ap (core.Binary (sign_of c.term-item.result.sign) c.loop-term.left) right)) c.loop-term.invariant
+    (given (λ b. c.in_ok-left-2.left ≡ core.Binary (sign_of c.term-item.result.sign) c.loop-term.left b) (core_of c.args.text.now c.term-item.result.operand) c.build_tree.result c.build_tree.ensures c.in_ok-left-2.ensures)) c.loop-term.invariant
 
 pub build_accesses-loop-access-preserved : goal.build_accesses-loop-access-preserved
 build_accesses-loop-access-preserved t c =
@@ -216,16 +222,87 @@ build_tree-returns-in-Compare t c =
 
 pub build_tree-returns-in-IsIn : goal.build_tree-returns-in-IsIn
 build_tree-returns-in-IsIn t c =
-    one (λ p. core.And (core.Unary (unary.Is (path_name c.args.text.now c.in-IsIn.path)) p.0) (core.Binary binary.In p.0 p.1)) ((core_of c.args.text.now c.in-IsIn.inner), (core_of c.args.text.now c.in-IsIn.outer)) (core_of c.args.text.now c.args.tree.now) c.both.result c.is_in.result
-    (two (λ x y. (x, y)) (core_of c.args.text.now c.in-IsIn.inner) (core_of c.args.text.now c.in-IsIn.outer) ((core_of c.args.text.now c.in-IsIn.inner), (core_of c.args.text.now c.in-IsIn.outer)) c.build_tree-operand.result c.build_tree-ancestor.result c.both.result (subst (λ y. IfOk c.build_tree-operand.result (λ e. e ≡ core_of c.args.text.now y)) c.get-in-IsIn.ensures c.build_tree-operand.ensures) (subst (λ y. IfOk c.build_tree-ancestor.result (λ e. e ≡ core_of c.args.text.now y)) c.get-in-IsIn-2.ensures c.build_tree-ancestor.ensures) c.both.ensures refl) c.is_in.ensures (sym (core-IsIn c.args.text.now c.in-IsIn.inner c.in-IsIn.path c.in-IsIn.outer) ∙ ap (core_of c.args.text.now) (sym c.in-IsIn.is))
+    two (λ a b. core.And (core.Unary (unary.Is (path_name c.args.text.now c.in-IsIn.path)) a) (core.Binary binary.In a b)) (core_of c.args.text.now c.in-IsIn.inner) (core_of c.args.text.now c.in-IsIn.outer) (core_of c.args.text.now c.args.tree.now) c.build_tree-operand.result c.build_tree-ancestor.result c.is_in.result
+    (subst (λ y. IfOk c.build_tree-operand.result (λ e. e ≡ core_of c.args.text.now y)) c.get-in-IsIn.ensures c.build_tree-operand.ensures) (subst (λ y. IfOk c.build_tree-ancestor.result (λ e. e ≡ core_of c.args.text.now y)) c.get-in-IsIn-2.ensures c.build_tree-ancestor.ensures) c.is_in.ensures (sym (core-IsIn c.args.text.now c.in-IsIn.inner c.in-IsIn.path c.in-IsIn.outer) ∙ ap (core_of c.args.text.now) (sym c.in-IsIn.is))
 
 pub build_tree-returns-in-If : goal.build_tree-returns-in-If
 build_tree-returns-in-If t c =
-    two (λ a p. core.If a p.0 p.1) (core_of c.args.text.now c.in-If.test) ((core_of c.args.text.now c.in-If.consequent), (core_of c.args.text.now c.in-If.alternative)) (core_of c.args.text.now c.args.tree.now) c.build_tree-first-in-If.result c.both-in-If.result c.if_then_else.result
-    (subst (λ y. IfOk c.build_tree-first-in-If.result (λ e. e ≡ core_of c.args.text.now y)) c.get-in-If.ensures c.build_tree-first-in-If.ensures) (two (λ x y. (x, y)) (core_of c.args.text.now c.in-If.consequent) (core_of c.args.text.now c.in-If.alternative) ((core_of c.args.text.now c.in-If.consequent), (core_of c.args.text.now c.in-If.alternative)) c.build_tree-second.result c.build_tree-third.result c.both-in-If.result (subst (λ y. IfOk c.build_tree-second.result (λ e. e ≡ core_of c.args.text.now y)) c.get-in-If-2.ensures c.build_tree-second.ensures) (subst (λ y. IfOk c.build_tree-third.result (λ e. e ≡ core_of c.args.text.now y)) c.get-in-If-3.ensures c.build_tree-third.ensures) c.both-in-If.ensures refl) c.if_then_else.ensures (sym (core-If c.args.text.now c.in-If.test c.in-If.consequent c.in-If.alternative) ∙ ap (core_of c.args.text.now) (sym c.in-If.is))
+    three core.If (core_of c.args.text.now c.in-If.test) (core_of c.args.text.now c.in-If.consequent) (core_of c.args.text.now c.in-If.alternative) (core_of c.args.text.now c.args.tree.now) c.build_tree-first-in-If.result c.build_tree-second.result c.build_tree-third.result c.if_then_else.result
+    (subst (λ y. IfOk c.build_tree-first-in-If.result (λ e. e ≡ core_of c.args.text.now y)) c.get-in-If.ensures c.build_tree-first-in-If.ensures) (subst (λ y. IfOk c.build_tree-second.result (λ e. e ≡ core_of c.args.text.now y)) c.get-in-If-2.ensures c.build_tree-second.ensures) (subst (λ y. IfOk c.build_tree-third.result (λ e. e ≡ core_of c.args.text.now y)) c.get-in-If-3.ensures c.build_tree-third.ensures) c.if_then_else.ensures (sym (core-If c.args.text.now c.in-If.test c.in-If.consequent c.in-If.alternative) ∙ ap (core_of c.args.text.now) (sym c.in-If.is))
 
 pub build_behind_minus-returns-in-Number : goal.build_behind_minus-returns-in-Number
 build_behind_minus-returns-in-Number t c = c.negated_literal.ensures ∙ sym (negated-Number c.args.text.now c.in-Number.token) ∙ ap (negated c.args.text.now) (sym c.in-Number.is)
 
 pub build_behind_minus-returns-in_default : goal.build_behind_minus-returns-in_default
 build_behind_minus-returns-in_default t c = one (core.Unary unary.Negate) (core_of c.args.text.now c.args.tree.now) (negated c.args.text.now c.args.tree.now) c.build_tree.result c.apply.result c.build_tree.ensures c.apply.ensures (sym (negated-other c.args.text.now c.args.tree.now c.in_default.not-Number))
+
+pub build_entries-loop-entry-preserved : goal.build_entries-loop-entry-preserved
+build_entries-loop-entry-preserved t c =
+    let made : Entry ExprTree → Named Expr = λ entry. field c.args.text.now (in_entry (core_of c.args.text.now) entry) in
+    let item = two (λ n e. a_field n e) (name_of c.args.text.now c.entry-item.result.key) (core_of c.args.text.now c.entry-item.result.value) (made c.entry-item.result) c.name-key.result c.build_tree.result c.named.result c.name-key.ensures c.build_tree.ensures c.named.ensures refl in
+    taken made c.args.entries.now c.loop-entry.entry-index c.entry-item.result c.loop-entry.row.items c.add.new.row.items (made c.entry-item.result) c.entry-item.is c.loop-entry-test.true
+    (c.loop-entry.invariant ∙ map_map (field c.args.text.now) (in_entry (core_of c.args.text.now)) (take c.loop-entry.entry-index c.args.entries.now)) refl
+    (given (λ x. c.add.new.row.items ≡ c.loop-entry.row.items ++ x ∷ []) (made c.entry-item.result) c.named.result item c.in_ok-add.ensures)
+    ∙ sym (map_map (field c.args.text.now) (in_entry (core_of c.args.text.now)) (take (c.loop-entry.entry-index + 1) c.args.entries.now))
+
+pub build_access-returns-in-Field : goal.build_access-returns-in-Field
+build_access-returns-in-Field t c =
+    subst (λ a. IfOk c.field.result (λ e. e ≡ accessed c.args.text.now c.args.receiver (in_access (core_of c.args.text.now) a))) (sym c.in-Field.is) c.field.ensures
+
+pub build_access-returns-in-Method : goal.build_access-returns-in-Method
+build_access-returns-in-Method t c =
+    one (λ es. method_called (method_of (spelling_of c.args.text.now c.in-Method.token)) c.args.receiver es) (map (core_of c.args.text.now) c.in-Method.arguments) (accessed c.args.text.now c.args.receiver (in_access (core_of c.args.text.now) c.args.access.now)) c.build_all.result c.call_with_row.result
+    (subst (λ ys. IfOk c.build_all.result (λ e. e ≡ map (core_of c.args.text.now) ys)) c.as_slice.ensures c.build_all.ensures)
+    (subst (λ m. IfOk c.call_with_row.result (λ e. Gave c.build_all.result (λ es. e ≡ method_called m c.args.receiver es))) (c.method_named-method.ensures ∙ ap method_of c.spelling.ensures.is) c.call_with_row.ensures)
+    (ap (λ a. accessed c.args.text.now c.args.receiver (in_access (core_of c.args.text.now) a)) (sym c.in-Method.is))
+
+pub build_tree-build_tree-requires : goal.build_tree-build_tree-requires
+build_tree-build_tree-requires t c = (search (rules, the_lemmas), subst (WellFormed c.args.text.now) (sym c.get.ensures) (of-Parentheses c.args.text.now c.args.tree.now c.in-Parentheses.inner c.in-Parentheses.is c.requires.1.1))
+
+pub build_tree-build_tree-requires-in-Not : goal.build_tree-build_tree-requires-in-Not
+build_tree-build_tree-requires-in-Not t c = (search (rules, the_lemmas), subst (WellFormed c.args.text.now) (sym c.get-in-Not.ensures) (of-Not c.args.text.now c.args.tree.now c.in-Not.inner c.in-Not.is c.requires.1.1))
+
+pub build_tree-build_behind_minus-requires : goal.build_tree-build_behind_minus-requires
+build_tree-build_behind_minus-requires t c = (search (rules, the_lemmas), subst (WellFormed c.args.text.now) (sym c.get-in-Minus.ensures) (of-Minus c.args.text.now c.args.tree.now c.in-Minus.inner c.in-Minus.is c.requires.1.1))
+
+pub build_behind_minus-build_tree-requires : goal.build_behind_minus-build_tree-requires
+build_behind_minus-build_tree-requires t c = (search (rules, the_lemmas), c.requires.1.1)
+
+pub build_all-build_tree-requires : goal.build_all-build_tree-requires
+build_all-build_tree-requires t c = (search (rules, the_lemmas), subst (WellFormed c.args.text.now) (sym c.tree-item.is) (all-at (WellFormed c.args.text.now) c.args.trees.now c.loop-tree.tree-index c.tree-item.result c.requires.1.1 c.loop-tree-test.true))
+
+pub build_chain-build_tree-requires : goal.build_chain-build_tree-requires
+build_chain-build_tree-requires t c = (search (rules, the_lemmas), subst (WellFormed c.args.text.now) (sym c.tree-item.is) (all-at (WellFormed c.args.text.now) c.args.more.now c.loop-tree.tree-index c.tree-item.result c.requires.1.1 c.loop-tree-test.true))
+
+pub build_entries-build_tree-requires : goal.build_entries-build_tree-requires
+build_entries-build_tree-requires t c = (search (rules, the_lemmas), (subst (WellFormedEntry c.args.text.now) (sym c.entry-item.is) (all-at (WellFormedEntry c.args.text.now) c.args.entries.now c.loop-entry.entry-index c.entry-item.result c.requires.1.1 c.loop-entry-test.true)).value)
+
+pub build_terms-build_tree-requires : goal.build_terms-build_tree-requires
+build_terms-build_tree-requires t c = (search (rules, the_lemmas), (subst (WellFormedTerm c.args.text.now) (sym c.term-item.is) (all-at (WellFormedTerm c.args.text.now) c.args.terms.now c.loop-term.term-index c.term-item.result c.requires.1.1 c.loop-term-test.true)).operand)
+
+pub build_entries-name-key-requires : goal.build_entries-name-key-requires
+build_entries-name-key-requires t c = (subst (WellFormedEntry c.args.text.now) (sym c.entry-item.is) (all-at (WellFormedEntry c.args.text.now) c.args.entries.now c.loop-entry.entry-index c.entry-item.result c.requires.1.1 c.loop-entry-test.true)).key
+
+pub build_tree-number_literal-requires : goal.build_tree-number_literal-requires
+build_tree-number_literal-requires t c = of-Number c.args.text.now c.args.tree.now c.in-Number.token c.in-Number.is c.requires.1.1
+
+pub build_tree-text_literal-requires : goal.build_tree-text_literal-requires
+build_tree-text_literal-requires t c = of-Text c.args.text.now c.args.tree.now c.in-Text.token c.in-Text.is c.requires.1.1
+
+pub build_behind_minus-negated_literal-requires : goal.build_behind_minus-negated_literal-requires
+build_behind_minus-negated_literal-requires t c = of-Number c.args.text.now c.args.tree.now c.in-Number.token c.in-Number.is c.requires.1.1
+
+pub build_tree-returns-in-Parentheses : goal.build_tree-returns-in-Parentheses
+build_tree-returns-in-Parentheses t c = subst (λ y. IfOk c.build_tree.result (λ e. e ≡ y)) (ap (core_of c.args.text.now) c.get.ensures ∙ sym (core-Parentheses c.args.text.now c.in-Parentheses.inner) ∙ ap (core_of c.args.text.now) (sym c.in-Parentheses.is)) c.build_tree.ensures
+
+pub build_tree-returns-in-Minus : goal.build_tree-returns-in-Minus
+build_tree-returns-in-Minus t c = subst (λ y. IfOk c.build_behind_minus.result (λ e. e ≡ y)) (ap (negated c.args.text.now) c.get-in-Minus.ensures ∙ sym (core-Minus c.args.text.now c.in-Minus.inner) ∙ ap (core_of c.args.text.now) (sym c.in-Minus.is)) c.build_behind_minus.ensures
+
+pub build_chain-returns : goal.build_chain-returns
+build_chain-returns t c = still (λ a. chained c.args.text.now c.args.chain a c.args.more.now) c.loop-tree.left (chained c.args.text.now c.args.chain c.loop-tree.left (drop c.loop-tree.tree-index c.args.more.now)) c.args.first (sym (at_drop_all (chained c.args.text.now c.args.chain c.loop-tree.left) c.args.more.now c.loop-tree.tree-index c.loop-tree-test.false)) c.loop-tree.invariant
+
+pub build_terms-returns : goal.build_terms-returns
+build_terms-returns t c = still (λ a. summed c.args.text.now a c.args.terms.now) c.loop-term.left (summed c.args.text.now c.loop-term.left (drop c.loop-term.term-index c.args.terms.now)) c.args.first (sym (at_drop_all (summed c.args.text.now c.loop-term.left) c.args.terms.now c.loop-term.term-index c.loop-term-test.false)) c.loop-term.invariant
+
+pub build_accesses-returns : goal.build_accesses-returns
+build_accesses-returns t c = still (λ a. reached c.args.text.now a c.args.accesses.now) c.loop-access.left (reached c.args.text.now c.loop-access.left (drop c.loop-access.access-index c.args.accesses.now)) c.args.receiver (sym (at_drop_all (reached c.args.text.now c.loop-access.left) c.args.accesses.now c.loop-access.access-index c.loop-access-test.false)) c.loop-access.invariant

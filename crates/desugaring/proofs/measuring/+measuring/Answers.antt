@@ -1,4 +1,5 @@
 use Rattle.std.proofs.Common.{rules, refl, ◌≡◌, ◌∙◌, ◌+◌, ap, sym, subst, map, drop, length, IfOk}
+use Rattle.std.proofs.lemmas.List.{at_drop_all}
 use Rattle.std.specs.List.{AllByRecursion, fold}
 use Rattle.expression_trees.specs.declared.tree.ExprTree.{the_lemmas}
 use Rattle.desugaring.specs.Refused.{least}
@@ -10,8 +11,8 @@ use Rattle.desugaring.specs.Measured.{measured, measured_negated}
 use Rattle.desugaring.specs.Sums.{nothing, above, beside, paired, called, with_fault, measured_all, measured_chain, measured_term, measured_entry, measured_access, measured_compared}
 use Rattle.desugaring.proofs.Lists.{all-at, stepped}
 use Rattle.desugaring.proofs.Gaving.{one, two, three, still}
-use Rattle.desugaring.proofs.PartsOf.{of-Call, of-Set, of-Record, of-Member, of-Product, of-Sum, of-Compare, of-Has, of-Like, of-Is, of-IsIn, of-And, of-Or, of-If}
-use Rattle.desugaring.proofs.MeasureLemmas.{measured-Boolean, measured-Number, measured-Text, measured-Variable, measured-Uid, measured-Call, measured-Set, measured-Record, measured-Member, measured-Not, measured-Product, measured-Sum, measured-Compare, measured-Has, measured-Like, measured-Is, measured-IsIn, measured-And, measured-Or, measured-If, measured_negated-Number, measured_negated-other}
+use Rattle.desugaring.proofs.PartsOf.{of-Number, of-Call, of-Parentheses, of-Not, of-Minus, of-Set, of-Record, of-Member, of-Product, of-Sum, of-Compare, of-Has, of-Like, of-Is, of-IsIn, of-And, of-Or, of-If}
+use Rattle.desugaring.proofs.MeasureLemmas.{measured-Boolean, measured-Number, measured-Text, measured-Variable, measured-Uid, measured-Call, measured-Parentheses, measured-Minus, measured-Set, measured-Record, measured-Member, measured-Not, measured-Product, measured-Sum, measured-Compare, measured-Has, measured-Like, measured-Is, measured-IsIn, measured-And, measured-Or, measured-If, measured_negated-Number, measured_negated-other}
 use Rattle.desugaring.proofs.measuring.+measuring.Goals as goal
 
 pub measure_tree-measure_all-requires : goal.measure_tree-measure_all-requires
@@ -198,3 +199,63 @@ measure_behind_minus-returns-in-Number t c =
 
 pub measure_behind_minus-returns-in_default : goal.measure_behind_minus-returns-in_default
 measure_behind_minus-returns-in_default t c = one above (measured c.args.text.now c.args.tree.now) (measured_negated c.args.text.now c.args.tree.now) c.measure_tree.result c.above.result c.measure_tree.ensures c.above.ensures (sym (measured_negated-other c.args.text.now c.args.tree.now c.in_default.not-Number))
+
+pub measure_tree-measure_tree-requires : goal.measure_tree-measure_tree-requires
+measure_tree-measure_tree-requires t c = (search (rules, the_lemmas), subst (WellFormed c.args.text.now) (sym c.get.ensures) (of-Parentheses c.args.text.now c.args.tree.now c.in-Parentheses.inner c.in-Parentheses.is c.requires.1.1))
+
+pub measure_tree-measure_tree-requires-in-Not : goal.measure_tree-measure_tree-requires-in-Not
+measure_tree-measure_tree-requires-in-Not t c = (search (rules, the_lemmas), subst (WellFormed c.args.text.now) (sym c.get-in-Not.ensures) (of-Not c.args.text.now c.args.tree.now c.in-Not.inner c.in-Not.is c.requires.1.1))
+
+pub measure_tree-measure_behind_minus-requires : goal.measure_tree-measure_behind_minus-requires
+measure_tree-measure_behind_minus-requires t c = (search (rules, the_lemmas), subst (WellFormed c.args.text.now) (sym c.get-in-Minus.ensures) (of-Minus c.args.text.now c.args.tree.now c.in-Minus.inner c.in-Minus.is c.requires.1.1))
+
+pub measure_behind_minus-measure_tree-requires : goal.measure_behind_minus-measure_tree-requires
+measure_behind_minus-measure_tree-requires t c = (search (rules, the_lemmas), c.requires.1.1)
+
+pub measure_all-measure_tree-requires : goal.measure_all-measure_tree-requires
+measure_all-measure_tree-requires t c = (search (rules, the_lemmas), subst (WellFormed c.args.text.now) (sym c.tree-item.is) (all-at (WellFormed c.args.text.now) c.args.trees.now c.loop-tree.tree-index c.tree-item.result c.requires.1.1 c.loop-tree-test.true))
+
+pub measure_chain-measure_tree-requires : goal.measure_chain-measure_tree-requires
+measure_chain-measure_tree-requires t c = (search (rules, the_lemmas), subst (WellFormed c.args.text.now) (sym c.tree-item.is) (all-at (WellFormed c.args.text.now) c.args.more.now c.loop-tree.tree-index c.tree-item.result c.requires.1.1 c.loop-tree-test.true))
+
+pub measure_entries-measure_tree-requires : goal.measure_entries-measure_tree-requires
+measure_entries-measure_tree-requires t c = (search (rules, the_lemmas), (subst (WellFormedEntry c.args.text.now) (sym c.entry-item.is) (all-at (WellFormedEntry c.args.text.now) c.args.entries.now c.loop-entry.entry-index c.entry-item.result c.requires.1.1 c.loop-entry-test.true)).value)
+
+pub measure_terms-measure_tree-requires : goal.measure_terms-measure_tree-requires
+measure_terms-measure_tree-requires t c = (search (rules, the_lemmas), (subst (WellFormedTerm c.args.text.now) (sym c.term-item.is) (all-at (WellFormedTerm c.args.text.now) c.args.terms.now c.loop-term.term-index c.term-item.result c.requires.1.1 c.loop-term-test.true)).operand)
+
+pub measure_tree-measure_number-requires : goal.measure_tree-measure_number-requires
+measure_tree-measure_number-requires t c = of-Number c.args.text.now c.args.tree.now c.in-Number.token c.in-Number.is c.requires.1.1
+
+pub measure_behind_minus-measure_negated_number-requires : goal.measure_behind_minus-measure_negated_number-requires
+measure_behind_minus-measure_negated_number-requires t c = of-Number c.args.text.now c.args.tree.now c.in-Number.token c.in-Number.is c.requires.1.1
+
+pub measure_tree-returns-in-Parentheses : goal.measure_tree-returns-in-Parentheses
+measure_tree-returns-in-Parentheses t c = subst (λ y. IfOk c.measure_tree.result (λ j. j ≡ y)) (ap (measured c.args.text.now) c.get.ensures ∙ sym (measured-Parentheses c.args.text.now c.in-Parentheses.inner) ∙ ap (measured c.args.text.now) (sym c.in-Parentheses.is)) c.measure_tree.ensures
+
+pub measure_tree-returns-in-Minus : goal.measure_tree-returns-in-Minus
+measure_tree-returns-in-Minus t c = subst (λ y. IfOk c.measure_behind_minus.result (λ j. j ≡ y)) (ap (measured_negated c.args.text.now) c.get-in-Minus.ensures ∙ sym (measured-Minus c.args.text.now c.in-Minus.inner) ∙ ap (measured c.args.text.now) (sym c.in-Minus.is)) c.measure_behind_minus.ensures
+
+pub measure_all-loop-tree-preserved : goal.measure_all-loop-tree-preserved
+measure_all-loop-tree-preserved t c = stepped (fold (λ j x. beside j (measured c.args.text.now x))) (λ j x. beside j (measured c.args.text.now x)) (λ j x xs. refl) c.args.trees.now c.loop-tree.tree-index c.tree-item.result c.loop-tree.row c.beside-row.result c.tree-item.is c.loop-tree-test.true (c.beside-row.ensures ∙ ap (beside c.loop-tree.row) c.in_ok-measure_tree.ensures) ∙ c.loop-tree.invariant
+
+pub measure_entries-loop-entry-preserved : goal.measure_entries-loop-entry-preserved
+measure_entries-loop-entry-preserved t c = stepped (fold (measured_entry c.args.text.now)) (measured_entry c.args.text.now) (λ j x xs. refl) c.args.entries.now c.loop-entry.entry-index c.entry-item.result c.loop-entry.row c.beside-row.result c.entry-item.is c.loop-entry-test.true (c.beside-row.ensures ∙ ap (beside c.loop-entry.row) c.in_ok-measure_tree.ensures) ∙ c.loop-entry.invariant
+
+pub measure_all-returns : goal.measure_all-returns
+measure_all-returns t c = sym (at_drop_all (fold (λ j x. beside j (measured c.args.text.now x)) c.loop-tree.row) c.args.trees.now c.loop-tree.tree-index c.loop-tree-test.false) ∙ c.loop-tree.invariant
+
+pub measure_entries-returns : goal.measure_entries-returns
+measure_entries-returns t c = sym (at_drop_all (fold (measured_entry c.args.text.now) c.loop-entry.row) c.args.entries.now c.loop-entry.entry-index c.loop-entry-test.false) ∙ c.loop-entry.invariant
+
+pub measure_chain-returns : goal.measure_chain-returns
+measure_chain-returns t c = still (λ a. measured_chain c.args.text.now a c.args.more.now) c.loop-tree.left (measured_chain c.args.text.now c.loop-tree.left (drop c.loop-tree.tree-index c.args.more.now)) c.args.first (sym (at_drop_all (measured_chain c.args.text.now c.loop-tree.left) c.args.more.now c.loop-tree.tree-index c.loop-tree-test.false)) c.loop-tree.invariant
+
+pub measure_terms-returns : goal.measure_terms-returns
+measure_terms-returns t c = still (λ a. fold (measured_term c.args.text.now) a c.args.terms.now) c.loop-term.left (fold (measured_term c.args.text.now) c.loop-term.left (drop c.loop-term.term-index c.args.terms.now)) c.args.first (sym (at_drop_all (fold (measured_term c.args.text.now) c.loop-term.left) c.args.terms.now c.loop-term.term-index c.loop-term-test.false)) c.loop-term.invariant
+
+pub measure_accesses-returns : goal.measure_accesses-returns
+measure_accesses-returns t c = still (λ a. fold (measured_access c.args.text.now) a c.args.accesses.now) c.loop-access.left (fold (measured_access c.args.text.now) c.loop-access.left (drop c.loop-access.access-index c.args.accesses.now)) c.args.receiver (sym (at_drop_all (fold (measured_access c.args.text.now) c.loop-access.left) c.args.accesses.now c.loop-access.access-index c.loop-access-test.false)) c.loop-access.invariant
+
+pub measure_access-returns-in-Field : goal.measure_access-returns-in-Field
+measure_access-returns-in-Field t c = c.above.ensures ∙ ap (measured_access c.args.text.now c.args.receiver) (sym c.in-Field.is)

@@ -2,10 +2,9 @@ use Rattle.std.proofs.Common.{◌≡◌, ◌∙◌, sym, subst, ap}
 use Rattle.std.specs.Prelude.{Contains}
 use Rattle.values.specs.declared.entity_uid.EntityUid.{EntityUid}
 use Rattle.ancestor_closure.specs.Hierarchy.{names}
-use Rattle.kept_ancestors.specs.Kept.{children_in}
-use Rattle.kept_ancestors.specs.inner.OneChange.{AddsChild, IsThere}
-use Rattle.kept_ancestors.proofs.Following.{ok_as, ok_always}
-use Rattle.kept_ancestors.proofs.OneByOne.{adds_all, adds_before}
+use Rattle.ancestor_lists.specs.Lists.{children_in, AddsChild, IsThere}
+use Rattle.std.proofs.lemmas.Result.{on_ok_weaker}
+use Rattle.kept_ancestors.proofs.Whole.{adds_all, adds_before}
 use Rattle.kept_ancestors.proofs.anew.add_edges.Goals as goal
 
 pub add_to_parents-requires : goal.add_to_parents-requires
@@ -19,7 +18,7 @@ pub returns-clause-stay : goal.returns-clause-stay
 returns-clause-stay g c = λ q h. c.add_to_parents.ensures.stay q (c.make_room.ensures.stay q h)
 
 pub returns-clause-there : goal.returns-clause-there
-returns-clause-there g c = ok_always c.add_to_parents.result (c.add_to_parents.ensures.stay c.args.uid.now c.in_ok-make_room.ensures.there)
+returns-clause-there g c = on_ok_weaker c.add_to_parents.result (λ _. c.add_to_parents.ensures.stay c.args.uid.now c.in_ok-make_room.ensures.there) c.add_to_parents.ensures.added
 
 pub returns-clause-adds : goal.returns-clause-adds
 returns-clause-adds g c =
@@ -28,7 +27,7 @@ returns-clause-adds g c =
     let same : names c.deref-2.result.now ≡ qs = ap names c.deref-2.ensures.value in
     let ch = children_in c.make_room.new.relatives in
     let ch' = children_in c.add_to_parents.new.relatives in
-    ok_as c.add_to_parents.result (λ added. adds_before ps c.args.uid.now (children_in c.args.relatives.now) ch ch' c.make_room.ensures.children
+    on_ok_weaker c.add_to_parents.result (λ added. adds_before ps c.args.uid.now (children_in c.args.relatives.now) ch ch' c.make_room.ensures.children
     (adds_all ps qs c.args.uid.now ch ch' c.in_ok-parents.ensures.all
     (subst (λ l. AddsChild l c.args.uid.now ch ch') same c.add_to_parents.ensures.adds)
     (λ x h. added x (subst (λ l. Contains l x) (sym same) h)))) c.add_to_parents.ensures.added

@@ -9,9 +9,8 @@ use Rattle.ancestor_closure.specs.Hierarchy.{names}
 use Rattle.ancestor_closure.specs.Deciding.{Contains-none}
 use Rattle.ancestor_closure.specs.inner.Backwards.{AreChildrenAmong}
 use Rattle.ancestor_closure.proofs.Members.{names-push}
-use Rattle.kept_ancestors.specs.Kept.{ancestors_or_none, children_or_none, children_in}
-use Rattle.kept_ancestors.specs.inner.OneChange.{IsThere}
-use Rattle.kept_ancestors.proofs.OneByOne.{children_more}
+use Rattle.ancestor_lists.specs.Lists.{ancestors_or_none, children_or_none, children_in, IsThere}
+use Rattle.kept_ancestors.proofs.Whole.{children_more}
 use Rattle.kept_ancestors.proofs.anew.children_among.Goals as goal
 
 pub loop-uid-init : goal.loop-uid-init

@@ -3,8 +3,7 @@ use Rattle.std.specs.Prelude.{Contains}
 use Rattle.values.specs.declared.entity_uid.EntityUid.{EntityUid}
 use Rattle.ancestor_closure.specs.Hierarchy.{names}
 use Rattle.ancestor_closure.specs.inner.Backwards.{AreChildrenAmong}
-use Rattle.kept_ancestors.specs.Kept.{ancestors_in, children_in}
-use Rattle.kept_ancestors.specs.inner.OneChange.{IsThere}
+use Rattle.ancestor_lists.specs.Lists.{ancestors_in, children_in, IsThere}
 use Rattle.kept_ancestors.proofs.anew.children_among.Given as goal
 
 abbrev pub invariant-loop-uid : goal.invariant-loop-uid

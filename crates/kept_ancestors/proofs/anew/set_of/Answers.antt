@@ -6,7 +6,7 @@ use Rattle.values.specs.Names.{uid_cmp}
 use Rattle.ancestor_closure.specs.Hierarchy.{names}
 use Rattle.ancestor_closure.specs.Deciding.{Contains-none}
 use Rattle.ancestor_closure.proofs.Members.{names-push}
-use Rattle.kept_ancestors.proofs.OneByOne.{member_more}
+use Rattle.kept_ancestors.proofs.Whole.{member_more}
 use Rattle.kept_ancestors.proofs.anew.set_of.Goals as goal
 
 pub loop-uid-init : goal.loop-uid-init

@@ -3,9 +3,9 @@ use Rattle.std.proofs.lemmas.List.{take_more, take_all}
 use Rattle.ancestor_closure.specs.Hierarchy.{names}
 use Rattle.ancestor_closure.specs.Deciding.{Contains-none}
 use Rattle.ancestor_closure.proofs.Members.{names-push}
-use Rattle.kept_ancestors.specs.Kept.{ancestors_in}
-use Rattle.kept_ancestors.specs.inner.OneChange.{AreListsOf}
-use Rattle.kept_ancestors.proofs.OneByOne.{lists_more, names_has}
+use Rattle.ancestor_lists.specs.Lists.{ancestors_in}
+use Rattle.kept_ancestors.specs.inner.WholeGraph.{AreListsOf}
+use Rattle.kept_ancestors.proofs.Whole.{lists_more, names_has}
 use Rattle.kept_ancestors.proofs.anew.write_lists.Goals as goal
 
 pub loop-uid-init : goal.loop-uid-init

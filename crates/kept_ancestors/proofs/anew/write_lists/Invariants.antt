@@ -1,7 +1,7 @@
 use Rattle.std.proofs.Common.{take}
 use Rattle.ancestor_closure.specs.Hierarchy.{names}
-use Rattle.kept_ancestors.specs.Kept.{ancestors_in}
-use Rattle.kept_ancestors.specs.inner.OneChange.{AreListsOf, SameChildren, StayThere}
+use Rattle.ancestor_lists.specs.Lists.{ancestors_in, SameChildren, StayThere}
+use Rattle.kept_ancestors.specs.inner.WholeGraph.{AreListsOf}
 use Rattle.kept_ancestors.proofs.anew.write_lists.Given as goal
 
 abbrev pub invariant-loop-uid : goal.invariant-loop-uid

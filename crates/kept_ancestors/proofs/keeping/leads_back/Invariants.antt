@@ -2,8 +2,8 @@ use Rattle.std.proofs.Common.{take}
 use Rattle.std.specs.Prelude.{Contains}
 use Rattle.values.specs.declared.entity_uid.EntityUid.{EntityUid}
 use Rattle.ancestor_closure.specs.Hierarchy.{Parents}
-use Rattle.kept_ancestors.specs.Kept.{IsListOf, ancestors_in}
-use Rattle.kept_ancestors.proofs.Paths.{Leads}
+use Rattle.ancestor_lists.specs.Lists.{IsListOf, ancestors_in}
+use Rattle.kept_ancestors.proofs.Leading.{Leads}
 use Rattle.kept_ancestors.proofs.keeping.leads_back.Given as goal
 
 -- none of the parents up to here leads back

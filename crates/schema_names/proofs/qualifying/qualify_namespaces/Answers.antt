@@ -1,30 +1,29 @@
 use Rattle.std.proofs.Common.{map, refl}
 use Rattle.std.proofs.lemmas.Result.{err_from_is_err_and}
 use Rattle.json_words.specs.Each.{each}
-use Rattle.json_words.proofs.EachLemmas.{each_fails, each_ends}
-use Rattle.schema_types.specs.declared.fault.SchemaFault.TheVariants.{NoMemory}
+use Rattle.json_words.proofs.EachLemmas.{each_ends}
 use Rattle.named_types.specs.NamesViews.{scope_of, is_action_of}
 use Rattle.schema_file.specs.StatedViews.{namespace_view}
 use Rattle.schema_names.specs.FoundViews.{found_view}
 use Rattle.schema_names.specs.Qualifying.{qualified_namespace, qualified_namespaces}
-use Rattle.json_words.proofs.EachSame.{viewed_next}
+use Rattle.schema_names.proofs.GatheringLemmas.{one_more, none_more}
 use Rattle.schema_names.proofs.qualifying.qualify_namespaces.Goals as goal
 
 pub loop-item-init : goal.loop-item-init
 unfolding each
 loop-item-init c = rw c.new-found.ensures refl
 
-pub returns-in_err-one : goal.returns-in_err-one
+pub returns-in_err-found : goal.returns-in_err-found
 unfolding qualified_namespaces
-returns-in_err-one c =
+returns-in_err-found c =
     let p = err_from_is_err_and c.from_residual.result c.from_residual.ensures.1 in
-    rw (p.1, p.2) (each_fails namespace_view (λ i x. qualified_namespace (scope_of c.args.names.now) (is_action_of c.args.names.now) x) c.args.stated.now c.loop-item.item-index c.item-item.result (map found_view c.loop-item.found) NoMemory c.in_err-one.field-0.0
-    c.loop-item-test.true c.item-item.is c.loop-item.invariant c.in_err-one.ensures)
+    rw (p.1, p.2) (none_more namespace_view found_view (λ i x. qualified_namespace (scope_of c.args.names.now) (is_action_of c.args.names.now) x) c.args.stated.now c.loop-item.item-index c.item-item.result c.loop-item.found c.qualify_namespace.result c.in_err-found.field-0.0
+    c.loop-item-test.true c.item-item.is c.loop-item.invariant c.qualify_namespace.ensures c.in_err-found.ensures.refused)
 
 pub loop-item-preserved : goal.loop-item-preserved
 loop-item-preserved c =
-    rw c.in_ok-push.ensures.ok (viewed_next namespace_view found_view (λ i x. qualified_namespace (scope_of c.args.names.now) (is_action_of c.args.names.now) x) c.args.stated.now c.loop-item.item-index c.item-item.result c.loop-item.found c.in_ok-one.one
-    c.loop-item-test.true c.item-item.is c.loop-item.invariant c.in_ok-one.ensures)
+    one_more namespace_view found_view (λ i x. qualified_namespace (scope_of c.args.names.now) (is_action_of c.args.names.now) x) c.args.stated.now c.loop-item.item-index c.item-item.result c.loop-item.found c.qualify_namespace.result c.in_ok-found.found
+    c.loop-item-test.true c.item-item.is c.loop-item.invariant c.qualify_namespace.ensures c.in_ok-found.ensures.read
 
 pub returns : goal.returns
 unfolding qualified_namespaces

@@ -1,28 +1,27 @@
 use Rattle.std.proofs.Common.{refl}
 use Rattle.std.proofs.lemmas.Result.{err_from_is_err_and}
 use Rattle.json_words.specs.Each.{each}
-use Rattle.json_words.proofs.EachLemmas.{each_next}
-use Rattle.schema_types.specs.declared.fault.SchemaFault.TheVariants.{NoMemory}
 use Rattle.named_types.specs.NamesViews.{is_action_of}
 use Rattle.schema_names.specs.Qualifying.{parent_named, parents_named}
-use Rattle.json_words.proofs.EachSame.{same_fails, same_ends}
+use Rattle.json_words.proofs.EachSame.{same_ends}
+use Rattle.schema_names.proofs.GatheringLemmas.{one_more_same, none_more_same}
 use Rattle.schema_names.proofs.qualifying.qualify_parents.Goals as goal
 
 pub loop-parent-init : goal.loop-parent-init
 unfolding each
 loop-parent-init c = rw c.new-found.ensures refl
 
-pub returns-in_err-uid : goal.returns-in_err-uid
+pub returns-in_err-found : goal.returns-in_err-found
 unfolding parents_named
-returns-in_err-uid c =
+returns-in_err-found c =
     let p = err_from_is_err_and c.from_residual.result c.from_residual.ensures.1 in
-    rw (p.1, p.2) (same_fails (λ i p. parent_named (is_action_of c.args.names.now) c.args.own.now p) c.args.parents.now c.loop-parent.parent-index c.parent-item.result c.loop-parent.found NoMemory c.in_err-uid.field-0.0
-    c.loop-parent-test.true c.parent-item.is c.loop-parent.invariant c.in_err-uid.ensures)
+    rw (p.1, p.2) (none_more_same (λ i p. parent_named (is_action_of c.args.names.now) c.args.own.now p) c.args.parents.now c.loop-parent.parent-index c.parent-item.result c.loop-parent.found c.qualify_parent.result c.in_err-found.field-0.0
+    c.loop-parent-test.true c.parent-item.is c.loop-parent.invariant c.qualify_parent.ensures c.in_err-found.ensures.refused)
 
 pub loop-parent-preserved : goal.loop-parent-preserved
 loop-parent-preserved c =
-    rw c.in_ok-push.ensures.ok (each_next (λ x. x) (λ i p. parent_named (is_action_of c.args.names.now) c.args.own.now p) c.args.parents.now c.loop-parent.parent-index c.parent-item.result c.loop-parent.found c.in_ok-uid.uid
-    c.loop-parent-test.true c.parent-item.is c.loop-parent.invariant c.in_ok-uid.ensures)
+    one_more_same (λ i p. parent_named (is_action_of c.args.names.now) c.args.own.now p) c.args.parents.now c.loop-parent.parent-index c.parent-item.result c.loop-parent.found c.qualify_parent.result c.in_ok-found.found
+    c.loop-parent-test.true c.parent-item.is c.loop-parent.invariant c.qualify_parent.ensures c.in_ok-found.ensures.read
 
 pub returns : goal.returns
 unfolding parents_named

@@ -5,4 +5,4 @@ use Rattle.static_types.proofs.literals.put_field.Goals as goal
 
 pub returns : goal.returns
 returns c =
-    ap map_fields c.in_ok-insert.ensures.entries ∙ insertion c.args.map.now.entries c.args.key c.args.ty
+    ap map_fields c.in_ok-insert.ensures.entries ∙ insertion c.args.map.entries c.args.key c.args.ty

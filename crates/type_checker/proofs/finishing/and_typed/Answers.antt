@@ -16,7 +16,7 @@ returns-in-Some c = λ env K L after a b h m g.
     let kind = c.boolean.ensures ∙ (c.and_truth.ensures ∙ ap (λ s. rows.and_type (boolean_view c.args.left) s) (sym e)) in
     (t.0, and_judged env K after a b h m t.1.1 (boolean_so c.in-Some.truth e) kind t.1.2)
 
-pub returns : goal.returns
-returns c = λ env K L after a b h m g n.
+pub returns-in-None : goal.returns-in-None
+returns-in-None c = λ env K L after a b h m g n.
     let t = behind_so env K after L b c.in-Ok.is g in
     faults.right_of_and_no_boolean a b h m t.1.1 c.in-None.ensures

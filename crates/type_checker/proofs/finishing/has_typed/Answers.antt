@@ -24,5 +24,5 @@ returns c = λ K h.
     let t = typed_so E K after a c.in-Ok.is h in
     let p : learned.Pair = (a, k) in
     let d = subst (λ M. Decides c.knows-is_known.result (Contains M p)) t.0 c.knows-is_known.ensures in
-    has_judged E K after (form.Has a k) p _ _ _ c.has_type.ensures.row c.has_row.ensures t.0
+    has_judged E K after (form.Has a k) p _ _ _ c.has_type-row.ensures.row c.has_row.ensures t.0
     (λ u e. typing.types_has a k t.1 d e) (λ m e. faults.fault_of_has a k t.1 d e)

@@ -13,7 +13,7 @@ returns-in-Some c = λ env K L after a b h g.
     let t = typed_so env K after b c.in-Ok.is g in
     (t.0, typing.or_of_false a b h t.1 (boolean_so _ c.in-Some.ensures))
 
-pub returns : goal.returns
-returns c = λ env K L after a b h g n.
+pub returns-in-None : goal.returns-in-None
+returns-in-None c = λ env K L after a b h g n.
     let t = typed_so env K after b c.in-Ok.is g in
     faults.right_of_or_no_boolean a b h rows.surely_not t.1 c.in-None.ensures

@@ -107,14 +107,14 @@ second_disjunct-returns-in-Some-Either level c = λ K a h.
     let left = subst (λ s. Types E K a s (pairs c.in-Ok.left.learns.items)) e t.1 in
     c.or_typed.ensures E K _ a b left (moved E b _ _ t.0 (at_form E _ _ _ (sym c.get-in-Some-Either.ensures) c.type_of-right-in-Some-Either.ensures))
 
-pub second_disjunct-returns-in-Ok : goal.second_disjunct-returns-in-Ok
-second_disjunct-returns-in-Ok level c = λ K a h n.
+pub second_disjunct-returns-in-None : goal.second_disjunct-returns-in-None
+second_disjunct-returns-in-None level c = λ K a h n.
     let E = typing_environment c.args.env in
     let t = typed_so E K (pairs c.args.known.now.items) a c.in-Ok.is h in
     faults.left_of_or_no_boolean a c.args.right.now t.1 c.in-None.ensures
 
-pub second_disjunct-returns : goal.second_disjunct-returns
-second_disjunct-returns level c = λ K a h n.
+pub second_disjunct-returns-in-Err : goal.second_disjunct-returns-in-Err
+second_disjunct-returns-in-Err level c = λ K a h n.
     faults.fault_left_of_or a c.args.right.now (faulty_so (typing_environment c.args.env) K (pairs c.args.known.now.items) a c.in-Err.is h n)
 
 pub type_then-returns-in-Some-True : goal.type_then-returns-in-Some-True
@@ -142,14 +142,14 @@ type_then-returns-in-Some-False level c = λ K a h.
     let e = c.in-Some-False.ensures ∙ ap boolean_view c.in-Some-False.field-0-is in
     (t.0, (_, subst (λ s. Types E K a s (pairs c.in-Ok.test.learns.items)) e t.1))
 
-pub type_then-returns-in-Ok : goal.type_then-returns-in-Ok
-type_then-returns-in-Ok level c = λ K a h n x.
+pub type_then-returns-in-None : goal.type_then-returns-in-None
+type_then-returns-in-None level c = λ K a h n x.
     let E = typing_environment c.args.env in
     let t = typed_so E K (pairs c.args.known.now.items) a c.in-Ok.is h in
     faults.test_no_boolean a c.args.consequent.now x t.1 c.in-None.ensures
 
-pub type_then-returns : goal.type_then-returns
-type_then-returns level c = λ K a h n x.
+pub type_then-returns-in-Err : goal.type_then-returns-in-Err
+type_then-returns-in-Err level c = λ K a h n x.
     faults.fault_in_test a c.args.consequent.now x
     (faulty_so (typing_environment c.args.env) K (pairs c.args.known.now.items) a c.in-Err.is h n)
 

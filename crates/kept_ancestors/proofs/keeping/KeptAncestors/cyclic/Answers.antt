@@ -2,7 +2,7 @@ use Rattle.std.proofs.Common.{◌≡◌, sym, subst}
 use Rattle.std.proofs.lemmas.Result.{IfOk-weaker}
 use Rattle.ancestor_closure.specs.Hierarchy.{Parents, AreOnCycles, IsAscending, names}
 use Rattle.kept_ancestors.specs.Kept.{AreKept}
-use Rattle.kept_ancestors.proofs.OneByOne.{no_member, none_ascends}
+use Rattle.kept_ancestors.proofs.Whole.{no_member, none_ascends}
 use Rattle.kept_ancestors.proofs.keeping.KeptAncestors.cyclic.Goals as goal
 
 pub returns-then-are_none-clause-all : goal.returns-then-are_none-clause-all

@@ -1,4 +1,4 @@
-use Rattle.kept_ancestors.proofs.Following.{err_always}
+use Rattle.kept_ancestors.proofs.Whole.{err_always}
 use Rattle.kept_ancestors.proofs.keeping.KeptAncestors.follow.Goals as goal
 
 pub follow-requires : goal.follow-requires

@@ -2,7 +2,7 @@ use Rattle.std.proofs.Common.{◌∙◌, ap, sym, subst}
 use Rattle.std.specs.Prelude.{Contains}
 use Rattle.ancestor_closure.specs.Hierarchy.{AreOnCycles, IsAscending, names}
 use Rattle.ancestor_closure.specs.Deciding.{Contains-none}
-use Rattle.kept_ancestors.proofs.OneByOne.{no_member}
+use Rattle.kept_ancestors.proofs.Whole.{no_member}
 use Rattle.kept_ancestors.proofs.keeping.KeptAncestors.least_cycle.Goals as goal
 
 pub returns-then-are_none-clause-exact : goal.returns-then-are_none-clause-exact

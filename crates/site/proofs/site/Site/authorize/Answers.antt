@@ -13,10 +13,10 @@ pub returns : goal.returns
 returns c =
     let json = Some (view c.args.json.now) in
     let q = c.in_ok-request.request in
-    let a = c.in_ok-answer_under.field-0 in
+    let a = c.in_ok-answered.field-0 in
     let k = c.self.inside.store in
     subst (λ (v : Seen). (q : Request) × IsRequestOf (schema_of v) json q × IsAnswerOver (IsPolicyUnder (schema_of v)) (IsEntityUnder (schema_of v)) (schema_of v) (store_in v) q a) c.self.view_is (
       q,
       subst (λ (x : SchemaEntries). IsRequestOf (schema_view x) json q) c.get-schema.ensures c.in_ok-request.ensures.stated,
-      subst (λ (x : SchemaEntries). IsHeld (schema_view x) k → IsAnswerOver (IsPolicyUnder (schema_view x)) (IsEntityUnder (schema_view x)) (schema_view x) (abstract_store k) q a) c.get-schema.ensures c.in_ok-answer_under.ensures c.self.invariant.held,
+      subst (λ (x : SchemaEntries). IsHeld (schema_view x) k → IsAnswerOver (IsPolicyUnder (schema_view x)) (IsEntityUnder (schema_view x)) (schema_view x) (abstract_store k) q a) c.get-schema.ensures c.in_ok-answered.ensures c.self.invariant.held,
     )

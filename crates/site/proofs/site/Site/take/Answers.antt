@@ -10,7 +10,7 @@ use Rattle.state_messages.specs.declared.update.Update.{Update}
 use Rattle.state_messages.specs.Updates.{abstract_update, abstract_updates}
 use Rattle.site.specs.Admitted.{IsValid}
 use Rattle.site.specs.Seen.{schema_of, store_in}
-use Rattle.site.proofs.Taking.{stores_none, stores_more}
+use Rattle.site.proofs.Taking.{stores_none, stores_more, stores_first}
 use Rattle.site.proofs.site.Site.take.Goals as goal
 
 pub loop-update-init : goal.loop-update-init
@@ -50,3 +50,10 @@ loop-update-preserved c =
       stored = stores_more c.updates_have_one_store.ensures.grouped s (store_in c.loop-update.self) (store_in c.take_one.new.self) (abstract_updates yielded) (abstract_update item ∷ []) i.stored (c.if-not-take_one.ensures.taken refl)
           ∙ ap (λ us. store_of (updates s ++ us)) (sym (map-append abstract_update yielded (item ∷ [])));
     }
+
+pub returns-then-not-take_one-clause-takes : goal.returns-then-not-take_one-clause-takes
+returns-then-not-take_one-clause-takes c =
+    let i = c.loop-update.invariant in
+    stores_first abstract_update (store_in c.args.self.now) (store_in c.take_one.new.self) c.loop-update.taken c.loop-update.yielded c.next.new.self.rest.items c.args.updates.items c.in-Some.update
+    (ap (λ us. c.loop-update.yielded ++ us) (sym c.in-Some.ensures.steps.0) ∙ i.rest) i.count
+    (c.if-not-take_one.ensures.refused refl ∙ i.stored)

@@ -1,0 +1,5 @@
+mod OneByOne
+mod Paths
+mod Updates
+mod Written
+mod Following

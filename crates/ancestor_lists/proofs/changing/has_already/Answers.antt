@@ -1,0 +1,19 @@
+use Rattle.std.proofs.Common.{sym, subst}
+use Rattle.std.specs.Prelude.{Contains, ◌↔◌}
+use Rattle.ancestor_closure.specs.Hierarchy.{IsAscending}
+use Rattle.ancestor_lists.specs.Lists.{ancestors_in, children_in}
+use Rattle.ancestor_lists.proofs.changing.has_already.Goals as goal
+
+pub are_in-requires : goal.are_in-requires
+are_in-requires c =
+    subst (λ l. IsAscending l) (sym c.deref.ensures.value)
+    (c.in_ok-before.ensures.ascending (subst (λ z. IsAscending (ancestors_in c.args.relatives.now z)) (sym c.in_ok-name.ensures) c.requires.list))
+
+pub returns : goal.returns
+returns c = λ yes x.
+    let m = c.args.relatives.now in
+    let before : Contains c.in_ok-before.before.items x ↔ (Contains (ancestors_in m c.args.uid.now) x × Contains (children_in m x) c.args.uid.now) =
+    subst (λ z. Contains c.in_ok-before.before.items x ↔ (Contains (ancestors_in m z) x × Contains (children_in m x) z)) c.in_ok-name.ensures (c.in_ok-before.ensures.all x) in (
+      λ h. before.0 (subst (λ l. Contains l x) c.deref.ensures.value (c.are_in.ensures c.if-not-are_in.false x h)),
+      λ h. c.are_among.ensures yes x (subst (λ l. Contains l x) (sym c.deref-2.ensures.value) (before.1 h)),
+    )

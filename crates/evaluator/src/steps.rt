@@ -1,0 +1,233 @@
+//! What forms make of what their operands gave, outside the recursion: an error stays.
+ghost use Rattle.std.specs.Prelude.{◌≡◌, ◌≢◌, ◌++◌, ◌∷◌, [], List, MatchResult, Result, Ok, Err, not};
+ghost use Rattle.values.specs.Fields.{put};
+ghost use Rattle.values.specs.Sets.{set_list};
+ghost use Rattle.values.specs.Values.{PlainValue, set, record_of, values_of, fields_of};
+ghost use Rattle.evaluator.specs.Outcomes.{boolean_in, EvaluationResult};
+ghost use Rattle.evaluator.specs.inner.Computing.{decided_world, Answers, AnswersNext, AnswersInto, demanded};
+ghost use Rattle.evaluator.specs.inner.Computing.{and_then, truth, apply_unary, apply_binary};
+ghost use Rattle.evaluator.specs.inner.Computing.{apply_unary_call, apply_binary_call, field_of, has_field};
+
+use crate::borrowed_or_owned::BorrowedOrOwned;
+use crate::calls::{binary_call, unary_call};
+use crate::fault::EvalFault;
+use crate::fields::{field, has};
+use crate::lookup::Lookup;
+use crate::operands::boolean_of;
+use crate::operators::{binary, unary};
+use expressions::{Binary, BinaryCall, Unary, UnaryCall};
+use plain::Text;
+use std::alloc::Global;
+use values::{Record, Value};
+
+/// What was given beside another value; where nothing was given, only why.
+fn beside<T: Drop, U: Drop>(kept: T, given: Result<U, EvalFault>) -> Result<(T, U), EvalFault>
+    ensures { MatchResult result (λ both. (given ≡ Ok both.1) × (both.0 ≡ kept)) (λ e. given ≡ Err e) }
+{
+    match given {
+        Ok(more) => Ok((kept, more)),
+        Err(fault) => Err(fault),
+    }
+}
+
+/// What was computed, if it was.
+fn computed<'a>(found: Result<Value, EvalFault>) -> Result<BorrowedOrOwned<'a>, EvalFault>
+    ensures { result ≡ found }
+{
+    match found {
+        Ok(value) => Ok(BorrowedOrOwned::computed(value)),
+        Err(fault) => Err(fault),
+    }
+}
+
+/// Whether the first operand of `&&` decides, so that the second is not evaluated: where it is false.
+pub(crate) fn decides_and(first: bool) -> bool
+    ensures { result ≡ not first }
+{
+    !first
+}
+
+/// What was given as a test.
+#[inline(never)]
+pub(crate) fn tested(given: Result<BorrowedOrOwned<'_>, EvalFault>) -> Result<bool, EvalFault>
+    ensures { AnswersNext given.entry (λ v. demanded (boolean_in v)) result }
+{
+    let given = given?;
+    let test = boolean_of(&given);
+    drop(given);
+    test
+}
+
+/// A truth as a value, if it was found.
+#[inline(never)]
+pub(crate) fn truth_of<'a>(found: Result<bool, EvalFault>) -> Result<BorrowedOrOwned<'a>, EvalFault>
+    ensures { result ≡ and_then found truth }
+{
+    Ok(BorrowedOrOwned::computed(Value::boolean(found?)))
+}
+
+/// What an operator gives on what its operand gave.
+#[inline(never)]
+pub(crate) fn on_operand<'a>(
+    operator: &Unary,
+    given: Result<BorrowedOrOwned<'_>, EvalFault>,
+) -> Result<BorrowedOrOwned<'a>, EvalFault>
+    ensures { AnswersNext given.entry (apply_unary operator.now) result }
+{
+    let given = given?;
+    let found = unary(operator, &given);
+    drop(given);
+    computed(found)
+}
+
+/// What an operator gives on a value and what its second operand gave.
+#[inline(never)]
+pub(crate) fn on_operands<'a, L: Lookup>(
+    store: &L,
+    operator: Binary,
+    left: BorrowedOrOwned<'_>,
+    right: Result<BorrowedOrOwned<'_>, EvalFault>,
+) -> Result<BorrowedOrOwned<'a>, EvalFault>
+    ensures { AnswersNext right.entry
+        (apply_binary (decided_world (L.stored store.now) (L.above store.now)) operator left.entry) result }
+{
+    let (left, right) = beside(left, right)?;
+    let found = binary(store, operator, &left, &right);
+    drop((left, right));
+    computed(found)
+}
+
+/// What a call gives on what its operand gave.
+#[inline(never)]
+pub(crate) fn called_on<'a>(
+    called: UnaryCall,
+    given: Result<BorrowedOrOwned<'_>, EvalFault>,
+) -> Result<BorrowedOrOwned<'a>, EvalFault>
+    ensures { AnswersNext given.entry (apply_unary_call called) result }
+{
+    let given = given?;
+    let found = unary_call(called, &given);
+    drop(given);
+    computed(found)
+}
+
+/// What a call gives on a value and what its second operand gave.
+#[inline(never)]
+pub(crate) fn called_on_two<'a>(
+    called: BinaryCall,
+    left: BorrowedOrOwned<'_>,
+    right: Result<BorrowedOrOwned<'_>, EvalFault>,
+) -> Result<BorrowedOrOwned<'a>, EvalFault>
+    ensures { AnswersNext right.entry (apply_binary_call called left.entry) result }
+{
+    let (left, right) = beside(left, right)?;
+    let found = binary_call(called, &left, &right);
+    drop((left, right));
+    computed(found)
+}
+
+/// A field or an attribute of what was given.
+#[inline(never)]
+pub(crate) fn field_in<'a, L: Lookup>(
+    alloc: Global,
+    store: &'a L,
+    given: Result<BorrowedOrOwned<'a>, EvalFault>,
+    name: &Text,
+) -> Result<BorrowedOrOwned<'a>, EvalFault>
+    ensures { AnswersNext given.entry
+        (field_of (decided_world (L.stored store.now) (L.above store.now)) name.now) result }
+{
+    let given = given?;
+    let found = field(alloc, store, &given, name.as_str());
+    drop(given);
+    found
+}
+
+/// Whether what was given has a field or an attribute.
+#[inline(never)]
+pub(crate) fn has_in<'a, L: Lookup>(
+    store: &L,
+    given: Result<BorrowedOrOwned<'_>, EvalFault>,
+    name: &Text,
+) -> Result<BorrowedOrOwned<'a>, EvalFault>
+    ensures { AnswersNext given.entry
+        (has_field (decided_world (L.stored store.now) (L.above store.now)) name.now) result }
+{
+    let given = given?;
+    let found = has(store, &given, name.as_str());
+    drop(given);
+    computed(found)
+}
+
+/// The set of what was given.
+#[inline(never)]
+pub(crate) fn set_with<'a>(
+    given: Result<Vec<Value>, EvalFault>,
+) -> Result<BorrowedOrOwned<'a>, EvalFault>
+    ensures { (m : Result (List PlainValue) EvalFault)
+        → MatchResult given (λ vs. m ≡ Ok vs.items) (λ e. e ≢ EvalFault.NoMemory → m ≡ Err e)
+        → Answers result (and_then m (λ vs. Ok (set (values_of (set_list vs))))) }
+{
+    let members = given?;
+    Ok(BorrowedOrOwned::computed(Value::set(members)?))
+}
+
+/// A record, if it was given.
+#[inline(never)]
+pub(crate) fn record_with<'a>(
+    given: Result<Record, EvalFault>,
+) -> Result<BorrowedOrOwned<'a>, EvalFault>
+    ensures { AnswersNext given (λ done. Ok (record_of (fields_of done))) result }
+{
+    match given {
+        Ok(fields) => Ok(BorrowedOrOwned::computed(Value::from_record(fields))),
+        Err(fault) => Err(fault),
+    }
+}
+
+/// The value that was given, copied where it was borrowed.
+fn value_of(
+    alloc: Global,
+    given: Result<BorrowedOrOwned<'_>, EvalFault>,
+) -> Result<Value, EvalFault>
+    ensures { (m : EvaluationResult) → Answers given.entry m → Answers result m }
+{
+    Ok(given?.into_value(alloc)?)
+}
+
+/// A name of a field of its own.
+fn copied(name: &Text) -> Result<Text, EvalFault>
+    ensures { MatchResult result (λ n. n ≡ name.now) (λ e. e ≡ EvalFault.NoMemory) }
+{
+    Ok(name.copy()?)
+}
+
+/// Puts what was given behind the values.
+#[inline(never)]
+pub(crate) fn add_value(
+    alloc: Global,
+    values: &mut Vec<Value>,
+    given: Result<BorrowedOrOwned<'_>, EvalFault>,
+) -> Result<(), EvalFault>
+    ensures { AnswersInto given.entry (λ v. values.new.items ≡ values.old.items ++ v ∷ []) result }
+{
+    let value = value_of(alloc, given)?;
+    values.push(value)?;
+    Ok(())
+}
+
+/// Puts what was given among the fields, under this name.
+#[inline(never)]
+pub(crate) fn add_field(
+    alloc: Global,
+    fields: &mut Record,
+    name: &Text,
+    given: Result<BorrowedOrOwned<'_>, EvalFault>,
+) -> Result<(), EvalFault>
+    ensures { AnswersInto given.entry (λ v. fields.new ≡ put name.now v fields.old) result }
+{
+    let value = value_of(alloc, given)?;
+    let (value, name) = beside(value, copied(name))?;
+    fields.insert(name, value)?;
+    Ok(())
+}

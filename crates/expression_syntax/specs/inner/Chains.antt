@@ -1,0 +1,10 @@
+-- How a level of operators is read: an operand, and behind it as many pieces as begin with a token of a set.
+use Rattle.std.specs.Prelude.{List}
+use Rattle.token_readers.specs.Kinds.{Kinds}
+use Rattle.token_readers.specs.Reading.{Parser, many, pure, ◌>>=◌}
+use Rattle.expression_trees.specs.declared.tree.ExprTree.{ExprTree}
+use Rattle.expression_syntax.specs.Expressions.{joined}
+
+abbrev pub chained : {A : Type 0} → Parser ExprTree → Kinds → Parser A → (ExprTree → List A → ExprTree)
+    → Parser ExprTree
+chained operand ks piece make = operand >>= (λ x. many ks piece >>= (λ more. pure (joined make x more)))

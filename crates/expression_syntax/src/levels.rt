@@ -1,0 +1,85 @@
+//! Levels of operators: an operand, and behind it as many pieces as begin with a token of a set.
+
+ghost use Rattle.std.specs.Prelude.{◌≡◌, List, IfOk};
+ghost use Rattle.token_readers.specs.ParsesTo.{ParsesTo};
+ghost use Rattle.token_readers.specs.Reading.{Parser, many};
+ghost use Rattle.expression_trees.specs.declared.tree.ExprTree as trees;
+ghost use Rattle.expression_syntax.specs.Expressions.{joined};
+ghost use Rattle.expression_syntax.specs.inner.Chains.{chained};
+
+use crate::held::beside;
+use expression_trees::ExprTree;
+use plain::{Boxed, Items};
+use std::alloc::{AllocError, Global};
+use token_readers::{Cursor, Halt, KindSet, read_many};
+
+/// A level of operators, each proved once as a chain.
+pub(crate) trait Level {
+    /// What may stand behind the first operand, again and again.
+    type Piece: Drop;
+
+    /// Whether it may be asked to read.
+    ghost can_read: { Self → Type 0 };
+
+    ghost operands: { Self → Parser trees.ExprTree };
+
+    ghost pieces: { Self → Parser Self.Piece };
+
+    ghost joins: { trees.ExprTree → List Self.Piece → trees.ExprTree };
+
+    fn operand(&self, tokens: &mut Cursor<'_>) -> Result<ExprTree, Halt>
+        requires { can_read self.now }
+        ensures { ParsesTo (operands self.now tokens.old.rest.now) result tokens.new.rest.now };
+
+    fn piece(&self, tokens: &mut Cursor<'_>) -> Result<Self::Piece, Halt>
+        requires { can_read self.now }
+        ensures { ParsesTo (pieces self.now tokens.old.rest.now) result tokens.new.rest.now };
+
+    /// The tree of an operand and the pieces behind it.
+    fn join(first: Boxed<ExprTree>, more: Items<Self::Piece>) -> ExprTree
+        ensures { result ≡ joins first more };
+}
+
+/// The pieces behind an operand, which begin with a token of the set.
+fn pieces<L: Level, S: KindSet>(
+    alloc: Global,
+    tokens: &mut Cursor<'_>,
+    level: &L,
+    set: S,
+) -> Result<Items<L::Piece>, Halt>
+    requires { L.can_read level.now }
+    ensures { ParsesTo (many (S.included set) (L.pieces level.now) tokens.old.rest.now) result tokens.new.rest.now }
+{
+    read_many(alloc, tokens, set, |tokens| level.piece(tokens))
+}
+
+/// The tree of an operand and the pieces behind it; without any, the operand itself.
+fn join<L: Level>(
+    alloc: Global,
+    first: ExprTree,
+    more: Items<L::Piece>,
+) -> Result<ExprTree, AllocError>
+    ensures { IfOk result (λ e. e ≡ joined L.joins first more) }
+{
+    match more.as_slice() {
+        [] => Ok(first),
+        _ => Ok(L::join(Boxed::new(alloc, first)?, more)),
+    }
+}
+
+/// An operand and the pieces behind it, which begin with a token of the set.
+pub(crate) fn chain<L: Level, S: KindSet>(
+    alloc: Global,
+    tokens: &mut Cursor<'_>,
+    level: &L,
+    set: S,
+) -> Result<ExprTree, Halt>
+    requires { L.can_read level.now }
+    ensures { ParsesTo (chained (L.operands level.now) (S.included set) (L.pieces level.now) L.joins
+        tokens.old.rest.now)
+        result tokens.new.rest.now }
+{
+    let first = level.operand(tokens)?;
+    let (first, more) = beside(first, pieces(alloc, tokens, level, set))?;
+    Ok(join::<L>(alloc, first, more)?)
+}

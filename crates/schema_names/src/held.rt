@@ -1,0 +1,31 @@
+//! Values that wait while others are read. Generic, so that what is let go where reading failed is one step of a proof.
+ghost use Rattle.std.specs.Prelude.{◌≡◌, ◌≢◌, ◌++◌, ◌∷◌, [], IfOk, IfErr, Ok, Err};
+
+use plain::Items;
+use schema_types::SchemaFault;
+
+/// What was read, with a value that was kept while it was.
+pub(crate) fn beside<T: Drop, U, E>(kept: T, read: Result<U, E>) -> Result<(T, U), E>
+    ensures read { IfOk result (λ both. read ≡ Ok both.1) }
+    ensures kept { IfOk result (λ both. both.0 ≡ kept) }
+    ensures refused { IfErr result (λ fault. read ≡ Err fault) }
+{
+    match read {
+        Ok(more) => Ok((kept, more)),
+        Err(fault) => Err(fault),
+    }
+}
+
+/// The items, and behind them the one that was read.
+pub(crate) fn followed_by<T: Drop>(
+    items: Items<T>,
+    read: Result<T, SchemaFault>,
+) -> Result<Items<T>, SchemaFault>
+    ensures read { IfOk result (λ more. (item : T) × (read ≡ Ok item) × (more ≡ items ++ item ∷ [])) }
+    ensures refused { IfErr result (λ fault. fault ≢ SchemaFault.NoMemory → read ≡ Err fault) }
+{
+    let item = read?;
+    let mut more = items;
+    more.push(item)?;
+    Ok(more)
+}
