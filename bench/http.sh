@@ -3,8 +3,9 @@
 #
 #   bench/http.sh memory [REQUESTS]      instructions a GET with five fields (valgrind), and requests a second
 #   bench/http.sh loopback [REQUESTS]    requests a second on one keep-alive connection, one by one and 32 sent together
-#   bench/http.sh slow                   instructions of a head of 16,384 bytes and of a body of 8,388,608, each at once
-#                                        and, but for the long body, byte by byte
+#   bench/http.sh slow                   instructions of a head of 16,384 bytes, of a body of 65,536 behind a head of
+#                                        4,096 and of one of 8,388,608, each at once and, but for the longest, byte by
+#                                        byte
 #   bench/http.sh refused FIRST LAST     serves and fetches with the FIRSTth to the LASTth allocation refused, one in
 #                                        each run
 #
@@ -87,17 +88,21 @@ row() {
 
 slow() {
     measuring stream_measures
-    local none field fields body
+    local none field fields behind body
     none=$(counted <<<"whole ")
     # A head of 16,384 bytes: one long field, or 63 fields of 256 bytes and what is left.
     field=$(python -c 'print(r"GET / HTTP/1.1\r\nh: " + "a" * 16361 + r"\r\n\r\n")')
     fields=$(python -c 'fields = ("h: " + "a" * 251 + r"\r\n") * 63 + "h: " + "a" * 233
 print(r"GET / HTTP/1.1\r\n" + fields + r"\r\n\r\n")')
+    behind=$(python -c 'head = r"PUT / HTTP/1.1\r\nContent-Length: 65536\r\nh: " + "a" * 4050
+print(head + r"\r\n\r\n" + r"\k" * 64)')
     body=$(python -c 'print(r"PUT / HTTP/1.1\r\nContent-Length: 8388608\r\n\r\n" + r"\k" * 8192)')
     echo "head of one field, at once: $(row whole "$field") instructions"
     echo "head of one field, byte by byte: $(row slow "$field")"
     echo "head of 64 fields, at once: $(row whole "$fields")"
     echo "head of 64 fields, byte by byte: $(row slow "$fields")"
+    echo "body of 65,536 bytes behind a head of 4,096, at once: $(row whole "$behind")"
+    echo "body of 65,536 bytes behind a head of 4,096, byte by byte: $(row slow "$behind")"
     echo "body of 8,388,608 bytes, at once: $(row whole "$body"), the making of its bytes and of the reply in it"
 }
 
@@ -132,5 +137,5 @@ memory) over_memory "${2:-400000}" ;;
 loopback) loopback "${2:-64000}" ;;
 slow) slow ;;
 refused) refused "${2:?the first allocation to refuse}" "${3:?the last}" ;;
-*) sed -n '2,13s/^# \{0,1\}//p' "$0" && exit 2 ;;
+*) sed -n '2,14s/^# \{0,1\}//p' "$0" && exit 2 ;;
 esac

@@ -2,8 +2,9 @@
 # Measures a site that is served over loopback: instructions (by valgrind), seconds of processor time and the greatest
 # resident memory. With TIMES=1 it counts no instructions, which takes minutes for 100,000 entities.
 #
-#   bench/site.sh authorize ["POLICIES ENTITIES" ..]    one request more, over so many policies and entities
-#                                                       (default: 10, 100 and 1,000 policies; 100 to 100,000 entities)
+#   bench/site.sh authorize ["POLICIES ENTITIES" ..]    one request more, over so many policies and entities, of which
+#                                                       the same ten policies can apply (default: 10, 1,000 and 10,000
+#                                                       policies; 100 to 100,000 entities)
 #   bench/site.sh put [COUNT ..]                        one put more of a policy, of an entity, and of a group below a
 #                                                       chain of all others, where so many are stored (default: 1,000
 #                                                       and 10,000)
@@ -45,6 +46,13 @@ def policy(n):
     return f'permit({part}, action == Action::"view", resource) when {{ {condition} }};'
 
 
+def policy_of_ten(n):
+    """Ten policies are of the group that all users are in; the others name another user."""
+    part = 'principal in Group::"g0"' if n < 10 else f'principal == User::"v{n}"'
+    condition = f"principal has age && principal.age >= {n % 10}"
+    return f'permit({part}, action == Action::"view", resource) when {{ {condition} }};'
+
+
 def stated(kind, number, attrs, above):
     """An entity with at most one group above it."""
     parents = [] if above is None else [{"id": f"g{above}", "type": "Group"}]
@@ -67,10 +75,10 @@ def entry(name, body, count):
     return {"body": body, "count": count, "name": name, "site": "00002"}
 
 
-def message(policies, entities, made_of=entity):
+def message(policies, entities, made_of=entity, worded=policy):
     """A state of so many policies and entities."""
     groups = max(1, entities // 10)
-    found = [entry({"policy": f"p{n}"}, policy(n), n + 1) for n in range(policies)]
+    found = [entry({"policy": f"p{n}"}, worded(n), n + 1) for n in range(policies)]
     for n in range(entities):
         made = made_of(n, groups)
         found.append(entry({"entity": made["uid"]}, compact(made), n + 1))
@@ -152,9 +160,9 @@ class Room:
 
 def authorize(room):
     print(f"{'policies':>9} {'entities':>9} {'M instructions a request':>25} {'ms':>9} {'KiB':>9}")
-    every = [(p, e) for e in (100, 1000, 10000, 100000) for p in (10, 100, 1000)]
+    every = [(p, e) for e in (100, 10000, 100000) for p in (10, 1000, 10000)]
     for policies, entities in [tuple(map(int, size.split())) for size in SIZES] or every:
-        room.begins_with(message(policies, entities))
+        room.begins_with(message(policies, entities, worded=policy_of_ten))
         asked = [authorizing(entities)]
         kib = room.try_out(asked)
         times, many = (3, 10) if entities > 20000 else (10, 100)

@@ -33,7 +33,7 @@ use Rattle.evaluator.specs.Operators.{World}
 use Rattle.evaluator.specs.Evaluation as rule
 use Rattle.evaluator.specs.Evaluation.{EvaluatesTo, EachEvaluatesTo, variable_value}
 use Rattle.ancestor_closure.specs.Hierarchy.{IsIn}
-use Rattle.authoriser.specs.Scopes.{IsEntityScopeTrue, IsActionScopeTrue, IsScopeTrue}
+use Rattle.scope_index.specs.Scopes.{IsEntityScopeTrue, IsActionScopeTrue, IsScopeTrue}
 use Rattle.authoriser.specs.Parts.{PartsDecide, ConditionDecides, ScopesDoNotErr, TrueScopesLeaveToConditions, OtherScopesGiveFalse}
 use Rattle.plain.proofs.Members.{Contains-here, Contains-there, Contains-cases, Contains-none}
 

@@ -1,4 +1,3 @@
-pub mod Scopes
 pub mod Answers
 pub mod Parts
 pub mod Laws

@@ -15,7 +15,7 @@ use Rattle.evaluator.specs.declared.fault.EvalFault.{EvalFault}
 use Rattle.evaluator.specs.Operators.{World}
 use Rattle.evaluator.specs.Evaluation.{EvaluatesTo, TestFails}
 use Rattle.ancestor_closure.specs.Hierarchy.{IsIn}
-use Rattle.authoriser.specs.Scopes.{IsEntityScopeTrue, IsActionScopeTrue, IsScopeTrue}
+use Rattle.scope_index.specs.Scopes.{IsEntityScopeTrue, IsActionScopeTrue, IsScopeTrue}
 
 -- the expression gives whether P holds
 abbrev pub GivesWhether : World → Request → Expr → Type 0 → Type 0

@@ -2,7 +2,7 @@
 ghost use Rattle.std.specs.Prelude.{◌↔◌, IsTrue, Contains};
 ghost use Rattle.values.specs.declared.entity_uid.EntityUid.{EntityUid};
 ghost use Rattle.ancestor_closure.specs.Hierarchy.{IsAscending, names};
-ghost use Rattle.authoriser.specs.Scopes.{IsEntityScopeTrue, IsActionScopeTrue};
+ghost use Rattle.scope_index.specs.Scopes.{IsEntityScopeTrue, IsActionScopeTrue};
 ghost use Rattle.authoriser.specs.inner.Views.{IsWithin, AreAscending, IsTrueOf};
 
 use crate::with_ancestors::{RequestAncestors, WithAncestors, is_same, is_same_type};

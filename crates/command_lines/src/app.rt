@@ -1,5 +1,5 @@
 //! The commands and their options, as clap knows them.
-ghost use Rattle.std.specs.Prelude.{◌≡◌, false, IfOk, codes};
+ghost use Rattle.std.specs.Prelude.{◌≡◌, false, Ok, IfOk, codes};
 ghost use Rattle.clap.specs.Words.{App, Rule, rule_of, new_app, with_rule, with_subcommand};
 ghost use Rattle.command_lines.specs.Apps.{value_option, value_word, number_option, demanded, site_option};
 ghost use Rattle.command_lines.specs.Apps.{check_app, decide_app, serve_app, pull_app, merge_app, site_app};
@@ -14,6 +14,31 @@ use std::alloc::Global;
 /// The greatest number of connections that can be asked for.
 pub(crate) const MOST_CONNECTIONS: u64 = 4_294_967_295;
 
+/// What was made beside a value, with that value; where nothing was made, only why. It is generic, so that the value
+/// that is let go is one step, and not one a field of it.
+fn beside<T: Drop, U>(kept: T, made: Result<U, NoMemory>) -> Result<(T, U), NoMemory>
+    ensures made { IfOk result (λ both. made ≡ Ok both.1) }
+    ensures kept { IfOk result (λ both. both.0 ≡ kept) }
+{
+    match made {
+        Ok(made) => Ok((kept, made)),
+        Err(error) => Err(error),
+    }
+}
+
+/// Both of two, or want of memory; generic as well.
+fn both<A: Drop, B: Drop>(
+    first: Result<A, NoMemory>,
+    second: Result<B, NoMemory>,
+) -> Result<(A, B), NoMemory>
+    ensures first { IfOk result (λ pair. first ≡ Ok pair.0) }
+    ensures second { IfOk result (λ pair. second ≡ Ok pair.1) }
+{
+    let first = first?;
+    let second = second?;
+    Ok((first, second))
+}
+
 /// A command with no options yet.
 fn bare<'a>(alloc: Global, name: &'a str, about: &'a str) -> Result<Command<'a>, NoMemory>
     ensures { IfOk result (IsApp (new_app name.entry.now)) }
@@ -27,7 +52,8 @@ fn with<'a>(command: Result<Command<'a>, NoMemory>, arg: Arg<'a>) -> Result<Comm
     ensures { (app : App) → (rule : Rule) → (rule_of arg.entry ≡ rule) → IfOk command.entry (IsApp app)
         → IfOk result (IsApp (with_rule app rule)) }
 {
-    command?.arg(arg)
+    let (arg, command) = beside(arg, command)?;
+    command.arg(arg)
 }
 
 /// The command with one more subcommand.
@@ -38,8 +64,8 @@ fn with_command<'a>(
     ensures { (app : App) → (under : App) → IfOk command.entry (IsApp app) → IfOk below.entry (IsApp under)
         → IfOk result (IsApp (with_subcommand app under.top)) }
 {
-    let below = below?;
-    command?.subcommand(below)
+    let (command, below) = both(command, below)?;
+    command.subcommand(below)
 }
 
 /// An option with a value.
@@ -54,14 +80,6 @@ fn value_option<'a>(alloc: Global, name: &'a str, value: &'a str, help: &'a str)
         .action(ArgAction::Set)
 }
 
-/// The same, demanded.
-fn needed_option<'a>(alloc: Global, name: &'a str, value: &'a str, help: &'a str) -> Arg<'a>
-    ensures rule { rule_of result ≡ demanded (value_option name.entry.now) }
-    ensures local { result.global ≡ false }
-{
-    value_option(alloc, name, value, help).required(true)
-}
-
 /// An option with a number within bounds.
 fn number_option<'a>(alloc: Global, name: &'a str, least: u64, most: u64, help: &'a str) -> Arg<'a>
     ensures rule { rule_of result ≡ number_option name.entry.now least most }
@@ -70,32 +88,60 @@ fn number_option<'a>(alloc: Global, name: &'a str, least: u64, most: u64, help: 
     value_option(alloc, name, "NUMBER", help).value_parser(ValueParser::unsigned(least, most))
 }
 
-/// The name of a site, demanded.
-fn site_option<'a>(alloc: Global, help: &'a str) -> Arg<'a>
-    ensures rule { rule_of result ≡ site_option }
-    ensures local { result.global ≡ false }
+/// The command with one more option that has a value, demanded.
+fn with_needed<'a>(
+    alloc: Global,
+    command: Result<Command<'a>, NoMemory>,
+    name: &'a str,
+    value: &'a str,
+    help: &'a str,
+) -> Result<Command<'a>, NoMemory>
+    ensures { (app : App) → IfOk command.entry (IsApp app)
+        → IfOk result (IsApp (with_rule app (demanded (value_option name.entry.now)))) }
 {
-    needed_option(alloc, "site", "NAME", help)
+    let option = value_option(alloc, name, value, help).required(true);
+    with(command, option)
 }
 
-/// A file that is named by its place, and demanded.
-fn value_word<'a>(alloc: Global, name: &'a str, value: &'a str, help: &'a str) -> Arg<'a>
-    ensures rule { rule_of result ≡ demanded (value_word name.entry.now) }
-    ensures local { result.global ≡ false }
+/// The command with the name of a site, demanded.
+fn with_site<'a>(
+    alloc: Global,
+    command: Result<Command<'a>, NoMemory>,
+    help: &'a str,
+) -> Result<Command<'a>, NoMemory>
+    ensures { (app : App) → IfOk command.entry (IsApp app) → IfOk result (IsApp (with_rule app site_option)) }
 {
-    Arg::new(alloc, name)
+    with_needed(alloc, command, "site", "NAME", help)
+}
+
+/// The command with the schema, demanded.
+fn with_schema<'a>(
+    alloc: Global,
+    command: Result<Command<'a>, NoMemory>,
+) -> Result<Command<'a>, NoMemory>
+    ensures { (app : App) → IfOk command.entry (IsApp app)
+        → IfOk result (IsApp (with_rule app (demanded (value_option (codes "schema"))))) }
+{
+    with_needed(alloc, command, "schema", "FILE", "The schema, as JSON")
+}
+
+/// The command with one more file that is named by its place, demanded.
+fn with_word<'a>(
+    alloc: Global,
+    command: Result<Command<'a>, NoMemory>,
+    name: &'a str,
+    value: &'a str,
+    help: &'a str,
+) -> Result<Command<'a>, NoMemory>
+    ensures { (app : App) → IfOk command.entry (IsApp app)
+        → IfOk result (IsApp (with_rule app (demanded (value_word name.entry.now)))) }
+{
+    let word = Arg::new(alloc, name)
         .value_name(value)
         .help(help)
         .action(ArgAction::Set)
-        .required(true)
-}
-
-/// The schema, demanded.
-fn schema_option<'a>(alloc: Global) -> Arg<'a>
-    ensures rule { rule_of result ≡ demanded (value_option (codes "schema")) }
-    ensures local { result.global ≡ false }
-{
-    needed_option(alloc, "schema", "FILE", "The schema, as JSON")
+        .required(true);
+    with(command, word)
 }
 
 fn check_command<'a>(alloc: Global) -> Result<Command<'a>, NoMemory>
@@ -103,24 +149,28 @@ fn check_command<'a>(alloc: Global) -> Result<Command<'a>, NoMemory>
 {
     let about = "Tells of each policy of a file whether it is accepted under a schema";
     let command = bare(alloc, "check", about);
-    let command = with(command, schema_option(alloc));
-    let policies = value_word(alloc, "policies", "POLICIES", "The policies, as text");
-    with(command, policies)
+    let command = with_schema(alloc, command);
+    with_word(
+        alloc,
+        command,
+        "policies",
+        "POLICIES",
+        "The policies, as text",
+    )
 }
 
 fn decide_command<'a>(alloc: Global) -> Result<Command<'a>, NoMemory>
     ensures { IfOk result (IsApp decide_app) }
 {
     let about = "Answers one request over a file of policies and a file of entities";
+    let request = "The request, a JSON object";
+    let entities = "The entities, a JSON array";
     let schema = value_option(alloc, "schema", "FILE", "The schema, as JSON");
-    let policies = needed_option(alloc, "policies", "FILE", "The policies, as text");
-    let entities = needed_option(alloc, "entities", "FILE", "The entities, a JSON array");
-    let request = needed_option(alloc, "request", "FILE", "The request, a JSON object");
     let command = bare(alloc, "decide", about);
     let command = with(command, schema);
-    let command = with(command, policies);
-    let command = with(command, entities);
-    with(command, request)
+    let command = with_needed(alloc, command, "policies", "FILE", "The policies, as text");
+    let command = with_needed(alloc, command, "entities", "FILE", entities);
+    with_needed(alloc, command, "request", "FILE", request)
 }
 
 fn serve_command<'a>(alloc: Global) -> Result<Command<'a>, NoMemory>
@@ -133,9 +183,9 @@ fn serve_command<'a>(alloc: Global) -> Result<Command<'a>, NoMemory>
     let name =
         "The site's name, which no other site has: 1 to 32 ASCII letters, digits, '-', '_' or '.'";
     let command = bare(alloc, "serve", about);
-    let command = with(command, schema_option(alloc));
-    let command = with(command, site_option(alloc, name));
-    let command = with(command, needed_option(alloc, "listen", "ADDRESS", address));
+    let command = with_schema(alloc, command);
+    let command = with_site(alloc, command, name);
+    let command = with_needed(alloc, command, "listen", "ADDRESS", address);
     let command = with(command, value_option(alloc, "state", "FILE", begin));
     let connections = number_option(alloc, "connections", 0, MOST_CONNECTIONS, most);
     with(command, connections)
@@ -149,11 +199,11 @@ fn pull_command<'a>(alloc: Global) -> Result<Command<'a>, NoMemory>
     let name =
         "The name of the site whose state it is, for the record alone: a pull stamps nothing";
     let command = bare(alloc, "pull", about);
-    let command = with(command, schema_option(alloc));
-    let command = with(command, site_option(alloc, name));
-    let from = needed_option(alloc, "from", "ADDRESS", "Where the other site listens");
-    let command = with(command, from);
-    with(command, needed_option(alloc, "state", "FILE", file))
+    let command = with_schema(alloc, command);
+    let command = with_site(alloc, command, name);
+    let from = "Where the other site listens";
+    let command = with_needed(alloc, command, "from", "ADDRESS", from);
+    with_needed(alloc, command, "state", "FILE", file)
 }
 
 fn merge_command<'a>(alloc: Global) -> Result<Command<'a>, NoMemory>
@@ -161,13 +211,9 @@ fn merge_command<'a>(alloc: Global) -> Result<Command<'a>, NoMemory>
 {
     let about = "Prints the state that holds what two states hold";
     let command = bare(alloc, "merge", about);
-    let command = with(command, schema_option(alloc));
-    let first = value_word(alloc, "first", "FIRST", "A state or a delta");
-    let command = with(command, first);
-    with(
-        command,
-        value_word(alloc, "second", "SECOND", "Another one"),
-    )
+    let command = with_schema(alloc, command);
+    let command = with_word(alloc, command, "first", "FIRST", "A state or a delta");
+    with_word(alloc, command, "second", "SECOND", "Another one")
 }
 
 /// The program's command, which asks for a subcommand.

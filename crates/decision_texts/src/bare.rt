@@ -5,6 +5,7 @@ ghost use Rattle.json_words.specs.ReadsAs.{ReadsAs};
 ghost use Rattle.decision_texts.specs.declared.bare.ShapeFault.TheVariants as ShapeFault;
 ghost use Rattle.decision_texts.specs.Bare.{stated_uid, is_absent_or_empty, is_bare, uids_of, parents_of, entity_of};
 
+use crate::held::beside;
 use json_words::only_keys;
 use plain::{Items, NoMemory};
 use serde_json::Value;
@@ -109,6 +110,6 @@ pub(crate) fn read_entity(alloc: Global, value: &Value) -> Result<BareEntity, Sh
     if !is_bare(value) {
         return Err(ShapeFault::BadShape);
     }
-    let parents = read_parents(alloc, value.get("parents"))?;
+    let (uid, parents) = beside(uid, read_parents(alloc, value.get("parents")))?;
     Ok(BareEntity { uid, parents })
 }

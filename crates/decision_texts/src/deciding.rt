@@ -7,6 +7,7 @@ ghost use Rattle.decision_texts.specs.Decisions.{named_policies, IsInOrder, IsDe
 ghost use Rattle.decision_texts.specs.inner.Stores.{world_held, IsAnswerIn, IsLineIn};
 
 use crate::entity_file::{read_entities, refusal_at};
+use crate::held::beside;
 use crate::lines::answer_line;
 use crate::policies::policies_in;
 use crate::refusal::Refusal;
@@ -107,10 +108,15 @@ pub fn decide_texts(
         (λ refusal. (refusal ≡ no_memory → ⊥) → IsRefused policies.now entities.now request.now refusal) }
 {
     let policies = policies_in(alloc, policies)?;
-    let store = read_entities(alloc, entities)?;
+    let (policies, store) = beside(policies, read_entities(alloc, entities))?;
     let request = match read_request(alloc, request) {
         Ok(request) => request,
-        Err(fault) => return Err(refusal_at(None, fault)),
+        Err(fault) => {
+            drop((policies, store));
+            return Err(refusal_at(None, fault));
+        }
     };
-    Ok(line_to(alloc, &policies, &store, &request)?)
+    let line = line_to(alloc, &policies, &store, &request);
+    drop((policies, store, request));
+    Ok(line?)
 }

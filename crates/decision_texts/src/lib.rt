@@ -4,6 +4,7 @@
 mod bare;
 mod deciding;
 mod entity_file;
+mod held;
 mod laws;
 mod lines;
 mod policies;

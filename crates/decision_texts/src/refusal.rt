@@ -3,9 +3,10 @@ ghost use Rattle.std.specs.Prelude.{◌≡◌, IfOk};
 ghost use Rattle.serde_json.specs.View.{view};
 ghost use Rattle.decision_texts.specs.Refusals.{no_memory, bad_shape, number_or_null, refusal_json, error_line};
 
+use crate::lines::with_value;
 use json_words::write_json;
 use plain::NoMemory;
-use serde_json::{Value, json};
+use serde_json::{Map, Value};
 use std::alloc::{AllocFailed, Global};
 
 /// Why texts are not decided.
@@ -86,9 +87,11 @@ fn parts_value(
 ) -> Result<Value, NoMemory>
     ensures { IfOk result (λ v. view v ≡ refusal_json (record { code = code; place = place; within = within })) }
 {
-    let place = number_or_null(place);
-    let within = number_or_null(within);
-    json!(in alloc; {"error": {"code": code, "place": place, "within": within}})
+    let members = with_value(alloc, Map::new(alloc), "code", number_or_null(Some(code)))?;
+    let members = with_value(alloc, members, "place", number_or_null(place))?;
+    let members = with_value(alloc, members, "within", number_or_null(within))?;
+    let members = with_value(alloc, Map::new(alloc), "error", Value::Object(members))?;
+    Ok(Value::Object(members))
 }
 
 fn refusal_value(alloc: Global, refusal: Refusal) -> Result<Value, NoMemory>

@@ -7,6 +7,7 @@ ghost use Rattle.decision_texts.specs.Requests.{NamesAt, StatesRequest, IsReques
 ghost use Rattle.decision_texts.specs.declared.bare.ShapeFault.TheVariants as ShapeFault;
 
 use crate::bare::{ShapeFault, is_absent_or_empty};
+use crate::held::beside;
 use json_words::read_json;
 use serde_json::Value;
 use std::alloc::Global;
@@ -36,9 +37,11 @@ fn request_in(alloc: Global, value: &Value) -> Result<Request, ShapeFault>
         (λ e. e ≡ ShapeFault.BadShape → (q : PlainRequest) → StatesRequest (view value.now) q → ⊥) }
 {
     let principal = read_name_at(alloc, value, "principal")?;
-    let action = read_name_at(alloc, value, "action")?;
-    let resource = read_name_at(alloc, value, "resource")?;
+    let (principal, action) = beside(principal, read_name_at(alloc, value, "action"))?;
+    let resource = read_name_at(alloc, value, "resource");
+    let ((principal, action), resource) = beside((principal, action), resource)?;
     if !is_absent_or_empty(value.get("context")) {
+        drop((principal, action, resource));
         return Err(ShapeFault::BadShape);
     }
     Ok(Request {

@@ -57,6 +57,7 @@ impl<'a> BorrowedOrOwned<'a> {
     }
 
     /// What the value is.
+    #[inline(always)]
     pub(crate) fn kind(&self) -> BorrowedKind<'_>
         ensures { of_borrowed result ≡ self.now }
     {

@@ -47,7 +47,7 @@ pub fn evaluate<'a, L: Lookup>(
 }
 
 // The arms that hold a value are functions of their own, so that a level of the recursion takes little stack. What is
-// made of an operand's outcome is a function outside the recursion (steps.rt), which takes the outcome whole.
+// made of an operand's outcome is a function outside the recursion (steps.rt), which reads the outcome where it stands.
 #[cycle(evaluate)]
 fn outcome_of<'a, L: Lookup>(
     alloc: Global,
@@ -58,8 +58,8 @@ fn outcome_of<'a, L: Lookup>(
     ensures { Answers result (meaning request.now (decided_world (L.stored store.now) (L.above store.now)) expr.now) }
 {
     match expr {
-        Expr::Literal(literal) => Ok(literal_of(literal)),
-        Expr::Variable(variable) => Ok(variable_of(*variable, request)),
+        Expr::Literal(literal) => literal_of(literal),
+        Expr::Variable(variable) => variable_of(*variable, request),
         Expr::If(test, consequent, alternative) => {
             if test_of(alloc, test, request, store)? {
                 outcome_of(alloc, consequent.get(), request, store)
@@ -112,7 +112,8 @@ fn test_of<'a, L: Lookup>(
     ensures { Answers result (as_test
         (meaning request.now (decided_world (L.stored store.now) (L.above store.now)) test.now)) }
 {
-    tested(outcome_of(alloc, test.get(), request, store))
+    let given = outcome_of(alloc, test.get(), request, store);
+    tested(&given)
 }
 
 /// What `&&` or `||` gives where its second operand decides.
@@ -145,7 +146,7 @@ fn one_operand<'a, L: Lookup>(
         (apply_unary operator.now)) }
 {
     let given = outcome_of(alloc, operand.get(), request, store);
-    on_operand(operator, given)
+    on_operand(operator, &given)
 }
 
 /// What an operator gives on a value and an expression's value.
@@ -163,7 +164,7 @@ fn second_operand<'a, L: Lookup>(
         Answers result (and_then (meaning request.now world right.now) (apply_binary world operator left.entry)) }
 {
     let right = outcome_of(alloc, right.get(), request, store);
-    on_operands(store, operator, left, right)
+    on_operands(store, operator, &left, &right)
 }
 
 /// What a call gives on an expression's value.
@@ -181,7 +182,7 @@ fn one_called<'a, L: Lookup>(
         (apply_unary_call called)) }
 {
     let given = outcome_of(alloc, operand.get(), request, store);
-    called_on(called, given)
+    called_on(called, &given)
 }
 
 /// What a call gives on a value and an expression's value.
@@ -200,7 +201,7 @@ fn second_called<'a, L: Lookup>(
         (apply_binary_call called left.entry)) }
 {
     let right = outcome_of(alloc, right.get(), request, store);
-    called_on_two(called, left, right)
+    called_on_two(called, &left, &right)
 }
 
 /// A field or an attribute of an expression's value.
@@ -218,7 +219,7 @@ fn field_of<'a, L: Lookup>(
         (field_of (decided_world (L.stored store.now) (L.above store.now)) name.now)) }
 {
     let given = outcome_of(alloc, owner.get(), request, store);
-    field_in(alloc, store, given, name)
+    field_in(alloc, store, &given, name)
 }
 
 /// Whether an expression's value has a field or an attribute.
@@ -236,7 +237,7 @@ fn has_of<'a, L: Lookup>(
         (has_field (decided_world (L.stored store.now) (L.above store.now)) name.now)) }
 {
     let given = outcome_of(alloc, owner.get(), request, store);
-    has_in(store, given, name)
+    has_in(store, &given, name)
 }
 
 /// The set of what expressions give.

@@ -1,8 +1,10 @@
-//! The values of literals and of variables.
-ghost use Rattle.std.specs.Prelude.{◌≡◌};
+//! The values of literals and of variables, each as an outcome, so that a level of the recursion holds no value of its
+//! own for them.
+ghost use Rattle.std.specs.Prelude.{◌≡◌, Ok};
 ghost use Rattle.evaluator.specs.Evaluation.{literal_value, variable_value};
 
 use crate::borrowed_or_owned::{BorrowedOrOwned, Ownership};
+use crate::fault::EvalFault;
 use expressions::{Literal, Variable};
 use values::{Request, ValueRef};
 
@@ -19,12 +21,13 @@ fn literal_ref(literal: &Literal) -> ValueRef<'_>
 }
 
 /// The value of a literal.
-pub(crate) fn literal_of(literal: &Literal) -> BorrowedOrOwned<'_>
-    ensures { result ≡ literal_value literal.now }
+#[inline(never)]
+pub(crate) fn literal_of(literal: &Literal) -> Result<BorrowedOrOwned<'_>, EvalFault>
+    ensures { result ≡ Ok (literal_value literal.now) }
 {
-    BorrowedOrOwned {
+    Ok(BorrowedOrOwned {
         ownership: Ownership::Borrowed(literal_ref(literal)),
-    }
+    })
 }
 
 /// The part of the request that a variable stands for, where it stands.
@@ -40,10 +43,14 @@ fn variable_ref(variable: Variable, request: &Request) -> ValueRef<'_>
 }
 
 /// The part of the request that a variable stands for.
-pub(crate) fn variable_of(variable: Variable, request: &Request) -> BorrowedOrOwned<'_>
-    ensures { result ≡ variable_value variable request.now }
+#[inline(never)]
+pub(crate) fn variable_of(
+    variable: Variable,
+    request: &Request,
+) -> Result<BorrowedOrOwned<'_>, EvalFault>
+    ensures { result ≡ Ok (variable_value variable request.now) }
 {
-    BorrowedOrOwned {
+    Ok(BorrowedOrOwned {
         ownership: Ownership::Borrowed(variable_ref(variable, request)),
-    }
+    })
 }

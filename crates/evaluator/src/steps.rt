@@ -1,4 +1,5 @@
-//! What forms make of what their operands gave, outside the recursion: an error stays.
+//! What forms make of what their operands gave, outside the recursion: an error stays. An outcome is read where it
+//! stands, since each function that takes one by value copies it.
 ghost use Rattle.std.specs.Prelude.{◌≡◌, ◌≢◌, ◌++◌, ◌∷◌, [], List, MatchResult, Result, Ok, Err, not};
 ghost use Rattle.values.specs.Fields.{put};
 ghost use Rattle.values.specs.Sets.{set_list};
@@ -48,18 +49,16 @@ pub(crate) fn decides_and(first: bool) -> bool
 }
 
 /// What was given as a test.
-#[inline(never)]
-pub(crate) fn tested(given: Result<BorrowedOrOwned<'_>, EvalFault>) -> Result<bool, EvalFault>
-    ensures { AnswersNext given.entry (λ v. demanded (boolean_in v)) result }
+pub(crate) fn tested(given: &Result<BorrowedOrOwned<'_>, EvalFault>) -> Result<bool, EvalFault>
+    ensures { AnswersNext given.now (λ v. demanded (boolean_in v)) result }
 {
-    let given = given?;
-    let test = boolean_of(&given);
-    drop(given);
-    test
+    match given {
+        Ok(value) => boolean_of(value),
+        Err(fault) => Err(*fault),
+    }
 }
 
 /// A truth as a value, if it was found.
-#[inline(never)]
 pub(crate) fn truth_of<'a>(found: Result<bool, EvalFault>) -> Result<BorrowedOrOwned<'a>, EvalFault>
     ensures { result ≡ and_then found truth }
 {
@@ -70,14 +69,14 @@ pub(crate) fn truth_of<'a>(found: Result<bool, EvalFault>) -> Result<BorrowedOrO
 #[inline(never)]
 pub(crate) fn on_operand<'a>(
     operator: &Unary,
-    given: Result<BorrowedOrOwned<'_>, EvalFault>,
+    given: &Result<BorrowedOrOwned<'_>, EvalFault>,
 ) -> Result<BorrowedOrOwned<'a>, EvalFault>
-    ensures { AnswersNext given.entry (apply_unary operator.now) result }
+    ensures { AnswersNext given.now (apply_unary operator.now) result }
 {
-    let given = given?;
-    let found = unary(operator, &given);
-    drop(given);
-    computed(found)
+    match given {
+        Ok(value) => computed(unary(operator, value)),
+        Err(fault) => Err(*fault),
+    }
 }
 
 /// What an operator gives on a value and what its second operand gave.
@@ -85,45 +84,45 @@ pub(crate) fn on_operand<'a>(
 pub(crate) fn on_operands<'a, L: Lookup>(
     store: &L,
     operator: Binary,
-    left: BorrowedOrOwned<'_>,
-    right: Result<BorrowedOrOwned<'_>, EvalFault>,
+    left: &BorrowedOrOwned<'_>,
+    right: &Result<BorrowedOrOwned<'_>, EvalFault>,
 ) -> Result<BorrowedOrOwned<'a>, EvalFault>
-    ensures { AnswersNext right.entry
-        (apply_binary (decided_world (L.stored store.now) (L.above store.now)) operator left.entry) result }
+    ensures { AnswersNext right.now
+        (apply_binary (decided_world (L.stored store.now) (L.above store.now)) operator left.now) result }
 {
-    let (left, right) = beside(left, right)?;
-    let found = binary(store, operator, &left, &right);
-    drop((left, right));
-    computed(found)
+    match right {
+        Ok(value) => computed(binary(store, operator, left, value)),
+        Err(fault) => Err(*fault),
+    }
 }
 
 /// What a call gives on what its operand gave.
 #[inline(never)]
 pub(crate) fn called_on<'a>(
     called: UnaryCall,
-    given: Result<BorrowedOrOwned<'_>, EvalFault>,
+    given: &Result<BorrowedOrOwned<'_>, EvalFault>,
 ) -> Result<BorrowedOrOwned<'a>, EvalFault>
-    ensures { AnswersNext given.entry (apply_unary_call called) result }
+    ensures { AnswersNext given.now (apply_unary_call called) result }
 {
-    let given = given?;
-    let found = unary_call(called, &given);
-    drop(given);
-    computed(found)
+    match given {
+        Ok(value) => computed(unary_call(called, value)),
+        Err(fault) => Err(*fault),
+    }
 }
 
 /// What a call gives on a value and what its second operand gave.
 #[inline(never)]
 pub(crate) fn called_on_two<'a>(
     called: BinaryCall,
-    left: BorrowedOrOwned<'_>,
-    right: Result<BorrowedOrOwned<'_>, EvalFault>,
+    left: &BorrowedOrOwned<'_>,
+    right: &Result<BorrowedOrOwned<'_>, EvalFault>,
 ) -> Result<BorrowedOrOwned<'a>, EvalFault>
-    ensures { AnswersNext right.entry (apply_binary_call called left.entry) result }
+    ensures { AnswersNext right.now (apply_binary_call called left.now) result }
 {
-    let (left, right) = beside(left, right)?;
-    let found = binary_call(called, &left, &right);
-    drop((left, right));
-    computed(found)
+    match right {
+        Ok(value) => computed(binary_call(called, left, value)),
+        Err(fault) => Err(*fault),
+    }
 }
 
 /// A field or an attribute of what was given.
@@ -131,32 +130,32 @@ pub(crate) fn called_on_two<'a>(
 pub(crate) fn field_in<'a, L: Lookup>(
     alloc: Global,
     store: &'a L,
-    given: Result<BorrowedOrOwned<'a>, EvalFault>,
+    given: &Result<BorrowedOrOwned<'a>, EvalFault>,
     name: &Text,
 ) -> Result<BorrowedOrOwned<'a>, EvalFault>
-    ensures { AnswersNext given.entry
+    ensures { AnswersNext given.now
         (field_of (decided_world (L.stored store.now) (L.above store.now)) name.now) result }
 {
-    let given = given?;
-    let found = field(alloc, store, &given, name.as_str());
-    drop(given);
-    found
+    match given {
+        Ok(owner) => field(alloc, store, owner, name.as_str()),
+        Err(fault) => Err(*fault),
+    }
 }
 
 /// Whether what was given has a field or an attribute.
 #[inline(never)]
 pub(crate) fn has_in<'a, L: Lookup>(
     store: &L,
-    given: Result<BorrowedOrOwned<'_>, EvalFault>,
+    given: &Result<BorrowedOrOwned<'_>, EvalFault>,
     name: &Text,
 ) -> Result<BorrowedOrOwned<'a>, EvalFault>
-    ensures { AnswersNext given.entry
+    ensures { AnswersNext given.now
         (has_field (decided_world (L.stored store.now) (L.above store.now)) name.now) result }
 {
-    let given = given?;
-    let found = has(store, &given, name.as_str());
-    drop(given);
-    computed(found)
+    match given {
+        Ok(owner) => computed(has(store, owner, name.as_str())),
+        Err(fault) => Err(*fault),
+    }
 }
 
 /// The set of what was given.
@@ -203,7 +202,6 @@ fn copied(name: &Text) -> Result<Text, EvalFault>
 }
 
 /// Puts what was given behind the values.
-#[inline(never)]
 pub(crate) fn add_value(
     alloc: Global,
     values: &mut Vec<Value>,
@@ -217,7 +215,6 @@ pub(crate) fn add_value(
 }
 
 /// Puts what was given among the fields, under this name.
-#[inline(never)]
 pub(crate) fn add_field(
     alloc: Global,
     fields: &mut Record,

@@ -10,7 +10,7 @@ use Rattle.std.proofs.lemmas.Bool.Decides.{nat_tests}
 use Rattle.std.specs.Prelude.{IsTrue}
 use Rattle.httparse.specs.Grammar.{ResponseHead, IsResponseHead, lf, print_response, ReadsResponse, NeverHasResponse, status_code}
 use Rattle.httparse.proofs.GrammarLemmas.{ReadsResponse-append, response_unique}
-use Rattle.http_framing.specs.Reply.{AdmitsReply, HasNoAdmittedReply, HasNoLength, IsBadReply, IsTooLargeReply, IsUnfinishedReply, ReadsReply, length_by, length_of}
+use Rattle.http_framing.specs.Reply.{AdmitsReply, HasNoAdmittedReply, HasNoLength, IsBadReply, IsPartOfReplyHead, IsTooLargeReply, IsUnfinishedReply, IsUnfinishedReplyBelow, StaysUnfinishedReply, ReadsReply, length_by, length_of}
 use Rattle.http_framing.specs.Fields.{announced, is_digits, is_named, values_named}
 use Rattle.http_framing.specs.declared.TheConstants.{MAX_HEAD, MAX_REPLY}
 use Rattle.httparse.specs.Spans.{name_and_value}
@@ -165,7 +165,7 @@ unless_coded : (coded : Bool) (n : ℕ) (vs : List (List ℕ)) → (if coded the
 unless_coded true n vs e = absurd (cc)
 unless_coded false n vs e = by_fits n vs e
 
-size_fits : (n : ℕ) (h : ResponseHead) → length_of h ≡ Size n → n ≤ MAX_REPLY
+pub size_fits : (n : ℕ) (h : ResponseHead) → length_of h ≡ Size n → n ≤ MAX_REPLY
 size_fits n h e =
     let ps = map name_and_value h.fields in
     unless_coded (list_any (is_named (codes "transfer-encoding")) ps) n (values_named (codes "content-length") ps) e
@@ -174,3 +174,53 @@ pub unfinished_short : (bytes : List ℕ) → IsUnfinishedReply bytes → length
 unfinished_short bytes (inl cut) =
     omega (arith, ap length cut.admits.reads.1, length-append (print_response cut.head) cut.rest, cut.admits.short, cut.short, size_fits cut.size cut.head cut.framed)
 unfinished_short bytes (inr part) = omega (arith, part.short)
+
+-- ---- a whole head says where its reply ends
+
+enough_came : {bytes rest : List ℕ} {h : ResponseHead} (size : ℕ) → AdmitsReply bytes h rest → length_of h ≡ Size size → size ≤ length rest
+    → IsUnfinishedReply bytes → ⊥
+enough_came {h = h} size a framed came (inl cut) =
+    let same = admits_unique a cut.admits in
+    let bodies : Size size ≡ Size cut.size = sym framed ∙ ap length_of same.0 ∙ cut.framed in
+    let sizes : size ≡ cut.size = cc in
+    omega (arith, cut.short, sizes, came, ap length same.1)
+enough_came {rest = rest} {h = h} size a framed came (inr part) = part.none h rest a.reads
+
+behind_head : (bytes rest more : List ℕ) (h : ResponseHead) → AdmitsReply bytes h rest
+    → length (bytes ++ more) ≡ length (print_response h) + length (rest ++ more)
+behind_head bytes rest more h a =
+    ap length (admits-append a more).reads.1 ∙ length-append (print_response h) (rest ++ more)
+
+pub cut_off_below : (bytes rest : List ℕ) (h : ResponseHead) (size needed : ℕ) → AdmitsReply bytes h rest → length_of h ≡ Size size
+    → length rest < size → needed ≡ length (print_response h) + size → IsUnfinishedReplyBelow bytes needed
+cut_off_below bytes rest h size needed a framed short is = record {
+  unfinished = inl (record { head = h; rest = rest; size = size; admits = a; framed = framed; short = short });
+  below = λ more less. inl (record {
+    head = h;
+    rest = rest ++ more;
+    size = size;
+    admits = admits-append a more;
+    framed = framed;
+    short = omega (arith, is, less, behind_head bytes rest more h a);
+  });
+  enough = λ more _ there. enough_came size (admits-append a more) framed (omega (arith, is, there, behind_head bytes rest more h a));
+}
+
+-- before that nothing is known of what is wanted
+pub part_below : (bytes : List ℕ) → IsPartOfReplyHead bytes → IsUnfinishedReplyBelow bytes 0
+part_below bytes part = record {
+  unfinished = inr part;
+  below = λ more less. absurd (omega (arith, less));
+  enough = λ more cut _ _. part.none cut.head cut.rest cut.admits.reads;
+}
+
+-- ---- while less has come than is needed
+
+pub unfinished_yet : (bytes came whole : List ℕ) (needed : ℕ) → StaysUnfinishedReply bytes needed → whole ≡ bytes ++ came → length whole < needed
+    → IsUnfinishedReply whole
+unfinished_yet bytes came whole needed stays is less = subst IsUnfinishedReply (sym is) (stays came (omega (arith, less, ap length is)))
+
+pub stays_on : (bytes came whole : List ℕ) (needed : ℕ) → StaysUnfinishedReply bytes needed → whole ≡ bytes ++ came → StaysUnfinishedReply whole needed
+stays_on bytes came whole needed stays is more less =
+    let same : whole ++ more ≡ bytes ++ (came ++ more) = ap (λ (t : List ℕ). t ++ more) is ∙ append_assoc bytes came more in
+    subst IsUnfinishedReply (sym same) (stays (came ++ more) (omega (arith, less, ap length same)))

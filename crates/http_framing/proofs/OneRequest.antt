@@ -1,16 +1,24 @@
 -- What stands at the front of some bytes is one request, one refusal, or less than a request; and it stays so when more
 -- comes. This file is meant to be imported by the crates above.
-use Rattle.std.proofs.Common.{◌≡◌, ℕ, ◌-◌, ◌<◌, ◌≤◌, ◌⊎◌, inl, inr, List, [], ◌∷◌, ◌++◌, length, drop, take, sym, ap, ◌∙◌, subst, arith, rules, append_assoc, append-nil, length-append}
+use Rattle.std.proofs.Common.{◌≡◌, ℕ, ◌+◌, ◌-◌, ◌<◌, ◌≤◌, ◌⊎◌, inl, inr, Bool, true, false, if◌then◌else◌, nat_le, codes, map, List, [], ◌∷◌, ◌++◌, length, drop, take, refl, sym, ap, ◌∙◌, subst, arith, rules, append_assoc, append-nil, length-append}
 use Rattle.std.proofs.Math.Seq.{take-append_seam, drop-append_seam}
 use Rattle.httparse.specs.Grammar.{RequestHead, lf, print_request, ReadsRequest, NeverHasRequest, IsRequestHead, is_token_byte, is_uri_byte}
 use Rattle.std.specs.Prelude.{IsTrue}
+use Rattle.std.specs.List.{list_any}
+use Rattle.std.specs.Str.Parse.{digits_value}
+use Rattle.std.proofs.lemmas.Bool.Decides.{nat_tests}
 use Rattle.std.proofs.lemmas.List.Elements.{All-cons, All-nil}
 use Rattle.std.proofs.lemmas.Str.{IsUtf8-from_ascii}
 use Rattle.std.proofs.lemmas.Str.Ascii.{IsAscii-from_all}
 use Rattle.httparse.proofs.GrammarLemmas.{ReadsRequest-append, request_unique}
+use Rattle.httparse.specs.Spans.{name_and_value}
+use Rattle.http_framing.specs.Fields.{announced, is_digits, is_named, values_named}
+use Rattle.http_framing.specs.declared.fields.Announced.TheVariants.{Size, TooLong, NoNumber}
+use Rattle.http_framing.specs.declared.TheConstants.{MAX_BODY}
 use Rattle.http_framing.specs.declared.cut.Framing.TheVariants.{Body, Refused}
-use Rattle.http_framing.specs.Request.{Admits, HasNoAdmitted, ReadsWhole, RefusesHead, IsBadHead, IsTooLarge, IsRefused, IsCutOff, IsUnfinished, framing_of}
+use Rattle.http_framing.specs.Request.{Admits, HasNoAdmitted, ReadsWhole, RefusesHead, IsBadHead, IsTooLarge, IsRefused, IsCutOff, IsPartOfHead, IsUnfinished, IsUnfinishedBelow, StaysUnfinished, framing_by, framing_by_lengths, framing_of, needs_length}
 use Rattle.http_texts.specs.declared.status.Status.{Status}
+use Rattle.http_texts.specs.declared.status.Status.TheVariants.{LengthRequired, NotImplemented}
 use Rattle.http_framing.proofs.CutLemmas.{length_head, short_front}
 
 pub Admits-append : {bytes rest : List ℕ} {h : RequestHead} → Admits bytes h rest → (more : List ℕ) → Admits (bytes ++ more) h (rest ++ more)
@@ -120,3 +128,87 @@ pub refused-append : (bytes more : List ℕ) (status : Status) → IsRefused byt
 refused-append bytes more status (inl head) =
     inl (record { head = head.head; rest = head.rest ++ more; admits = Admits-append head.admits more; framed = head.framed })
 refused-append bytes more status (inr (is, bad)) = inr (is, (bad_none bytes more bad, bad_cause bytes more bad.1))
+
+-- ---- how long a body may be
+
+if_body : (a b : Bool) (k n : ℕ) → framing_by (if a then (if b then Size k else TooLong) else NoNumber) ≡ Body n → (b ≡ true) × (k ≡ n)
+if_body true true k n e = (refl, (let same : k ≡ n = cc in same))
+if_body true false k n e = absurd (cc)
+if_body false b k n e = absurd (cc)
+
+le_of : (k most : ℕ) → nat_le k most ≡ true → k ≤ most
+le_of k most is = grind (arith, nat_tests)
+
+announced_fits : (n : ℕ) (v : List ℕ) → framing_by (announced MAX_BODY v) ≡ Body n → n ≤ MAX_BODY
+announced_fits n v e =
+    let found = if_body (is_digits v) (nat_le (digits_value 10 v) MAX_BODY) (digits_value 10 v) n e in
+    subst (λ (k : ℕ). k ≤ MAX_BODY) found.1 (le_of (digits_value 10 v) MAX_BODY found.0)
+
+unless_needed : (b : Bool) (n : ℕ) → (if b then Refused LengthRequired else Body 0) ≡ Body n → n ≤ MAX_BODY
+unless_needed true n e = absurd (cc)
+unless_needed false n e = let none : 0 ≡ n = cc in omega (arith, none)
+
+by_fits : (method : List ℕ) (n : ℕ) (vs : List (List ℕ)) → framing_by_lengths method vs ≡ Body n → n ≤ MAX_BODY
+by_fits method n [] e = unless_needed (needs_length method) n e
+by_fits method n (v ∷ []) e = announced_fits n v e
+by_fits method n (v ∷ w ∷ vs) e = absurd (cc)
+
+unless_coded : (coded : Bool) (method : List ℕ) (n : ℕ) (vs : List (List ℕ))
+    → (if coded then Refused NotImplemented else framing_by_lengths method vs) ≡ Body n → n ≤ MAX_BODY
+unless_coded true method n vs e = absurd (cc)
+unless_coded false method n vs e = by_fits method n vs e
+
+pub size_fits : (n : ℕ) (h : RequestHead) → framing_of h ≡ Body n → n ≤ MAX_BODY
+size_fits n h e =
+    let ps = map name_and_value h.fields in
+    unless_coded (list_any (is_named (codes "transfer-encoding")) ps) h.method n (values_named (codes "content-length") ps) e
+
+-- ---- a whole head says where its request ends
+
+enough_came : {bytes rest : List ℕ} {h : RequestHead} (size : ℕ) → Admits bytes h rest → framing_of h ≡ Body size → size ≤ length rest
+    → IsUnfinished bytes → ⊥
+enough_came {h = h} size a framed came (inl cut) =
+    let same = admits_unique a cut.admits in
+    let bodies : Body size ≡ Body cut.size = sym framed ∙ ap framing_of same.0 ∙ cut.framed in
+    let sizes : size ≡ cut.size = cc in
+    omega (arith, cut.short, sizes, came, ap length same.1)
+enough_came {rest = rest} {h = h} size a framed came (inr part) = part.none h rest a.reads
+
+behind_head : (bytes rest more : List ℕ) (h : RequestHead) → Admits bytes h rest
+    → length (bytes ++ more) ≡ length (print_request h) + length (rest ++ more)
+behind_head bytes rest more h a =
+    ap length (Admits-append a more).reads.1 ∙ length-append (print_request h) (rest ++ more)
+
+pub cut_off_below : (bytes rest : List ℕ) (h : RequestHead) (size needed : ℕ) → Admits bytes h rest → framing_of h ≡ Body size
+    → length rest < size → needed ≡ length (print_request h) + size → IsUnfinishedBelow bytes needed
+cut_off_below bytes rest h size needed a framed short is = record {
+  unfinished = inl (record { head = h; rest = rest; size = size; admits = a; framed = framed; short = short });
+  below = λ more less. inl (record {
+    head = h;
+    rest = rest ++ more;
+    size = size;
+    admits = Admits-append a more;
+    framed = framed;
+    short = omega (arith, is, less, behind_head bytes rest more h a);
+  });
+  enough = λ more _ there. enough_came size (Admits-append a more) framed (omega (arith, is, there, behind_head bytes rest more h a));
+}
+
+-- before that nothing is known of what is wanted
+pub part_below : (bytes : List ℕ) → IsPartOfHead bytes → IsUnfinishedBelow bytes 0
+part_below bytes part = record {
+  unfinished = inr part;
+  below = λ more less. absurd (omega (arith, less));
+  enough = λ more cut _ _. part.none cut.head cut.rest cut.admits.reads;
+}
+
+-- ---- while less has come than is needed
+
+pub unfinished_yet : (bytes came whole : List ℕ) (needed : ℕ) → StaysUnfinished bytes needed → whole ≡ bytes ++ came → length whole < needed
+    → IsUnfinished whole
+unfinished_yet bytes came whole needed stays is less = subst IsUnfinished (sym is) (stays came (omega (arith, less, ap length is)))
+
+pub stays_on : (bytes came whole : List ℕ) (needed : ℕ) → StaysUnfinished bytes needed → whole ≡ bytes ++ came → StaysUnfinished whole needed
+stays_on bytes came whole needed stays is more less =
+    let same : whole ++ more ≡ bytes ++ (came ++ more) = ap (λ (t : List ℕ). t ++ more) is ∙ append_assoc bytes came more in
+    subst IsUnfinished (sym same) (stays (came ++ more) (omega (arith, less, ap length same)))

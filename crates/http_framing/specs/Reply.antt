@@ -87,8 +87,20 @@ pub record IsReplyAt (bytes : List ℕ) (p : ReplyParts) : Type 0 where
   pub ordered : (p.body ≤ p.end) × (p.end ≤ length bytes)
   pub reads : ReadsReply bytes p.code (span_bytes bytes (record { start = p.body; end = p.end })) (drop p.end bytes)
 
+-- bytes are less than a reply, and stay so, whatever comes, while they are less than so many in all
+abbrev pub StaysUnfinishedReply : List ℕ → ℕ → Type 0
+StaysUnfinishedReply bytes needed =
+    (more : List ℕ) → length (bytes ++ more) < needed → IsUnfinishedReply (bytes ++ more)
+
+-- bytes are less than a reply, and stay so below so many; behind a whole head these are all that is wanted
+pub record IsUnfinishedReplyBelow (bytes : List ℕ) (needed : ℕ) : Type 0 where
+  pub unfinished : IsUnfinishedReply bytes
+  pub below : StaysUnfinishedReply bytes needed
+  pub enough :
+      (more : List ℕ) → IsCutOffReply bytes → needed ≤ length (bytes ++ more) → IsUnfinishedReply (bytes ++ more) → ⊥
+
 -- what stands at the front of bytes
 abbrev pub IsReplyCut : List ℕ → ReplyCut → Type 0
 IsReplyCut bytes (Variants.Whole p) = IsReplyAt bytes p
 IsReplyCut bytes Variants.Bad = IsBadReply bytes
-IsReplyCut bytes Variants.Unfinished = IsUnfinishedReply bytes
+IsReplyCut bytes (Variants.Unfinished needed) = IsUnfinishedReplyBelow bytes needed

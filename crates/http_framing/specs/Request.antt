@@ -120,8 +120,18 @@ pub record IsWholeAt (bytes : List ℕ) (p : Parts) : Type 0 where
   pub target : span_bytes bytes p.target ≡ head.target
   pub closes : p.closes ≡ closes_of head
 
+-- bytes are less than a request, and stay so, whatever comes, while they are less than so many in all
+abbrev pub StaysUnfinished : List ℕ → ℕ → Type 0
+StaysUnfinished bytes needed = (more : List ℕ) → length (bytes ++ more) < needed → IsUnfinished (bytes ++ more)
+
+-- bytes are less than a request, and stay so below so many; behind a whole head these are all that is wanted
+pub record IsUnfinishedBelow (bytes : List ℕ) (needed : ℕ) : Type 0 where
+  pub unfinished : IsUnfinished bytes
+  pub below : StaysUnfinished bytes needed
+  pub enough : (more : List ℕ) → IsCutOff bytes → needed ≤ length (bytes ++ more) → IsUnfinished (bytes ++ more) → ⊥
+
 -- what stands at the front of bytes
 abbrev pub IsCut : List ℕ → Cut → Type 0
 IsCut bytes (Cuts.Whole p) = IsWholeAt bytes p
 IsCut bytes (Cuts.Refused status) = IsRefused bytes status
-IsCut bytes Cuts.Unfinished = IsUnfinished bytes
+IsCut bytes (Cuts.Unfinished needed) = IsUnfinishedBelow bytes needed

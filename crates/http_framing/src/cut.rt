@@ -35,7 +35,9 @@ pub struct Parts {
 pub enum Cut {
     Whole(Parts),
     Refused(Status),
-    Unfinished,
+    /// Less than a request. It stays so while there are less than so many bytes, which is how many a whole head asks
+    /// for, and 0 where the head is not whole.
+    Unfinished(usize),
 }
 
 /// What one announcement comes to.
@@ -100,7 +102,7 @@ fn cut_body(buf: &[u8], seen: &[u8], headers: &[HeaderSpan], head: &RequestSpans
     let left = buf.len() - head.len;
     match framing_at(seen, headers, head.method.of(seen)) {
         Framing::Refused(status) => Cut::Refused(status),
-        Framing::Body(size) if is_cut_off(left, size) => Cut::Unfinished,
+        Framing::Body(size) if is_cut_off(left, size) => Cut::Unfinished(head.len + size),
         Framing::Body(size) => Cut::Whole(Parts {
             method: head.method,
             target: head.path,
@@ -125,7 +127,7 @@ pub fn cut_request(buf: &[u8], room: &mut [HeaderSpan]) -> Cut
             }
             cut_body(buf, seen, &room[..head.headers], &head)
         }
-        Ok(Parsed::Partial) if buf.len() <= MAX_HEAD => Cut::Unfinished,
+        Ok(Parsed::Partial) if buf.len() <= MAX_HEAD => Cut::Unfinished(0),
         Ok(Parsed::Partial) => Cut::Refused(Status::BadRequest),
         Err(_) => Cut::Refused(Status::BadRequest),
     }

@@ -26,7 +26,9 @@ pub enum ReplyCut {
     Whole(ReplyParts),
     /// They begin no reply of one length within the limits.
     Bad,
-    Unfinished,
+    /// Less than a reply. It stays so while there are less than so many bytes, which is how many a whole head asks for,
+    /// and 0 where the head is not whole.
+    Unfinished(usize),
 }
 
 /// How long the body of a reply is.
@@ -56,7 +58,7 @@ fn cut_reply_body(buf: &[u8], seen: &[u8], headers: &[HeaderSpan], head: &Respon
     match length_at(seen, headers) {
         Announced::NoNumber => ReplyCut::Bad,
         Announced::TooLong => ReplyCut::Bad,
-        Announced::Size(size) if is_cut_off(left, size) => ReplyCut::Unfinished,
+        Announced::Size(size) if is_cut_off(left, size) => ReplyCut::Unfinished(head.len + size),
         Announced::Size(size) => ReplyCut::Whole(ReplyParts {
             code: head.code,
             body: head.len,
@@ -79,7 +81,7 @@ pub fn cut_reply(buf: &[u8], room: &mut [HeaderSpan]) -> ReplyCut
             }
             cut_reply_body(buf, seen, &room[..head.headers], &head)
         }
-        Ok(Parsed::Partial) if buf.len() <= MAX_HEAD => ReplyCut::Unfinished,
+        Ok(Parsed::Partial) if buf.len() <= MAX_HEAD => ReplyCut::Unfinished(0),
         Ok(Parsed::Partial) => ReplyCut::Bad,
         Err(_) => ReplyCut::Bad,
     }

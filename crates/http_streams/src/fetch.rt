@@ -165,6 +165,7 @@ fn read_whole<R: Source>(
     ensures count { result ≢ Err FetchFault.Read → R.failed reader.new ≡ R.failed reader.old }
     ensures write { result ≢ Err FetchFault.Write }
 {
+    let mut needed = 0;
     'turns: loop {
         match read_more(reader, chunk, buffer) {
             Ok(true) => {}
@@ -172,10 +173,14 @@ fn read_whole<R: Source>(
             Err(ReadFault::Read) => return Err(FetchFault::Read),
             Err(ReadFault::NoMemory) => return Err(FetchFault::NoMemory),
         }
+        if buffer.len() < needed {
+            // a whole head told where the reply ends, so it is not read anew with each piece of the body
+            continue;
+        }
         match cut_reply(buffer, room) {
             ReplyCut::Whole(parts) => return Ok(parts),
             ReplyCut::Bad => return Err(FetchFault::BadReply),
-            ReplyCut::Unfinished => {}
+            ReplyCut::Unfinished(least) => needed = least,
         }
     }
 }

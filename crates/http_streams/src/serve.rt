@@ -5,7 +5,7 @@ ghost use Rattle.std.specs.Vec.{vec_capacity};
 ghost use Rattle.std.specs.Io.KnownBytes.{Appends, Consumes, IsAtEnd};
 ghost use Rattle.counted_devices.specs.Devices.{FailsAtLast};
 ghost use Rattle.http_texts.specs.ReplyText.{error_line, reply_text};
-ghost use Rattle.http_framing.specs.Request.{IsUnfinished, IsWholeAt};
+ghost use Rattle.http_framing.specs.Request.{IsUnfinishedBelow, IsWholeAt};
 ghost use Rattle.http_texts.specs.Status.{code};
 ghost use Rattle.http_streams.specs.Reads.{EndsByOneRead};
 ghost use Rattle.http_streams.specs.Stream.{Ends, Exchanges, Halts, KeepsUp, Rests, Serves, Stops};
@@ -110,6 +110,15 @@ fn rooms(alloc: Global) -> Result<(Vec<HeaderSpan>, Vec<u8>, Vec<u8>), AllocErro
     Ok((heads, reads, replies))
 }
 
+/// What is left of some bytes behind the whole requests at their front.
+#[derive(Clone, Copy)]
+struct Unanswered {
+    /// Where it begins.
+    at: usize,
+    /// It stays less than a request while it has less than so many bytes.
+    needed: usize,
+}
+
 /// Reads and answers by turns, in room that is there. `buffer` has what is read and not yet answered.
 fn answer_stream<S: Service, R: Source, W: Sink>(
     service: &mut S,
@@ -153,6 +162,7 @@ fn answer_stream<S: Service, R: Source, W: Sink>(
         × KeepsUp S.answers R.left R.reads service.old reader.old reader.new bytes out
         × FailsAtLast W.failed W.fails writer.old writer.new × (R.failed reader.new ≡ R.failed reader.old) }
 {
+    let mut needed = 0;
     for turn in 0..u64::MAX {
         match read_more(reader, chunk, buffer) {
             Ok(true) => {}
@@ -160,8 +170,15 @@ fn answer_stream<S: Service, R: Source, W: Sink>(
             Err(ReadFault::Read) => return Err(StreamFault::Read),
             Err(ReadFault::NoMemory) => return Err(StreamFault::NoMemory),
         }
+        if buffer.len() < needed {
+            // a whole head told where the request ends, so it is not read anew with each piece of the body
+            continue;
+        }
         match answer_all(service, writer, buffer, room, text) {
-            Ok(Some(count)) => drop_front(buffer, count),
+            Ok(Some(left)) => {
+                drop_front(buffer, left.at);
+                needed = left.needed;
+            }
             Ok(None) => return Ok(()),
             Err(_) => return Err(StreamFault::Write),
         }
@@ -228,23 +245,24 @@ fn refuse<W: Sink>(writer: &mut W, status: Status) -> Result<(), DeviceFailed>
     write_all(writer, &room[start..])
 }
 
-/// Answers the whole requests at the front of `bytes`, and says where the rest begins, or `None`
-/// where the last reply ended the stream.
+/// Answers the whole requests at the front of `bytes`, and says what is left, or `None` where the last reply ended the
+/// stream.
 fn answer_all<S: Service, W: Sink>(
     service: &mut S,
     writer: &mut W,
     bytes: &[u8],
     room: &mut [HeaderSpan],
     text: &mut Vec<u8>,
-) -> Result<Option<usize>, DeviceFailed>
+) -> Result<Option<Unanswered>, DeviceFailed>
     requires heads { MAX_HEAD ≤ length room.old }
     requires head { HEAD_ROOM ≤ vec_len text.old }
     requires room { HEAD_ROOM + REPLY_ROOM ≤ vec_capacity text.old }
     ensures head { HEAD_ROOM ≤ vec_len text.new }
     ensures room { HEAD_ROOM + REPLY_ROOM ≤ vec_capacity text.new }
-    ensures open { IfOk result (λ found. IfSome found (λ at. (at ≤ length bytes.now) × IsUnfinished (drop at bytes.now)
+    ensures open { IfOk result (λ found. IfSome found (λ left. (left.at ≤ length bytes.now)
+        × IsUnfinishedBelow (drop left.at bytes.now) left.needed
         × ((out : List ℕ) × (n : ℕ) × Appends (W.holds writer.old) (W.holds writer.new) out
-        × Serves S.answers n service.old bytes.now (drop at bytes.now) out service.new))) }
+        × Serves S.answers n service.old bytes.now (drop left.at bytes.now) out service.new))) }
     ensures closed { result ≡ Ok None → (out : List ℕ) × Appends (W.holds writer.old) (W.holds writer.new) out
         × Ends S.answers service.old bytes.now out service.new }
     ensures err { OnErr result ((out : List ℕ) × Appends (W.holds writer.old) (W.holds writer.new) out
@@ -267,7 +285,7 @@ fn answer_all<S: Service, W: Sink>(
                     Err(failed) => Err(failed),
                 };
             }
-            Cut::Unfinished => return Ok(Some(at)),
+            Cut::Unfinished(needed) => return Ok(Some(Unanswered { at, needed })),
         }
     }
 }

@@ -11,6 +11,8 @@ mod names_and_values;
 #[cfg(test)]
 mod plain_types;
 #[cfg(test)]
+mod scopes;
+#[cfg(test)]
 mod shared;
 #[cfg(test)]
 mod stores;

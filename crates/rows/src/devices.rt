@@ -11,7 +11,11 @@ use stamped_store::is_site_name;
 use std::alloc::Global;
 
 /// A site of this name with nothing stored; none where the schema or the name is none.
-fn empty_site(alloc: Global, schema: &[u8], name: &str) -> Result<Option<Site>, NoMemory> {
+pub(crate) fn empty_site(
+    alloc: Global,
+    schema: &[u8],
+    name: &str,
+) -> Result<Option<Site>, NoMemory> {
     if !is_site_name(name) {
         return Ok(None);
     }
@@ -57,7 +61,12 @@ fn told(
 }
 
 /// What goes out for a stream, in this way.
-fn served(alloc: Global, site: &mut Site, bytes: &[u8], way: Way<'_>) -> Result<String, NoMemory> {
+pub(crate) fn served(
+    alloc: Global,
+    site: &mut Site,
+    bytes: &[u8],
+    way: Way<'_>,
+) -> Result<String, NoMemory> {
     let mut reader = reader_of(way, bytes);
     let mut writer = writer_of(way, alloc);
     let fault = serve(alloc, site, &mut reader, &mut writer).err();

@@ -63,6 +63,11 @@
 //! - `site_unread`, `site_unwritten`: the same where the second read fails, of 64 bytes each, or the second write,
 //!   of 100.
 //! - `site_pieces`: the same where each read gives one byte, and each write takes 3.
+//! - `site_kept` (`kept`): whether ancestors and index stand beside its store, and how many policies its last answer
+//!   tried.
+//! - `drawable`: keeps a stream, and tells how many are kept. `site_twins NUMBER COUNT`: draws so many of these by
+//!   numbers that follow from this one, and serves each to two sites of one name, one of which has what it keeps
+//!   dropped before each; whether the same goes out, and whether some were allowed, denied, and denied for a cycle.
 //!
 //! In a text `⟦3×ab⟧` stands for `ababab`, `⟦2№a#+⟧` for `a01a12`, and `⟦0a ff⟧` for two bytes. In a text of a
 //! stream or of a reply `\r`, `\n`, `\t` and `\\` are what they are elsewhere, `\f` is the byte 255, `\k` 1,024
@@ -74,6 +79,7 @@ mod declared;
 mod devices;
 mod fetching;
 mod keeping;
+mod kept;
 mod messages;
 mod over_bytes;
 mod pieces;
@@ -96,6 +102,7 @@ use std::io;
 struct Given {
     declared: Declared,
     site: Option<Site>,
+    streams: Vec<Vec<u8>>,
 }
 
 /// What rows of a word are of.
@@ -110,6 +117,7 @@ enum Room {
     Streams,
     Fetching,
     Devices,
+    Drawable,
     None,
 }
 
@@ -130,6 +138,8 @@ fn given_room(word: &str) -> Room {
         Room::Messages
     } else if is_among(word, &["attributes", "decided_over"]) {
         Room::Attributes
+    } else if word == "drawable" {
+        Room::Drawable
     } else if word.starts_with("site_") {
         Room::Devices
     } else {
@@ -193,6 +203,7 @@ fn of_stream(
     match room {
         Room::Streams => streams::came_to(alloc, word, &bytes),
         Room::Fetching => fetching::came_to(alloc, word, &bytes),
+        Room::Drawable => kept::keep_stream(alloc, &mut given.streams, bytes),
         _ => devices::came_to(alloc, &mut given.site, word, &bytes),
     }
 }
@@ -209,7 +220,7 @@ fn in_room(
         Room::Schemas => schemas::came_to(alloc, word, text),
         Room::Attributes => attributes::came_to(alloc, &given.declared, word, text),
         Room::OverBytes => over_bytes::came_to(alloc, word, text),
-        Room::Streams | Room::Fetching | Room::Devices => {
+        Room::Streams | Room::Fetching | Room::Devices | Room::Drawable => {
             of_stream(alloc, given, room, word, text)
         }
         Room::None => bad_row(alloc),
@@ -222,6 +233,8 @@ fn came_to(alloc: Global, given: &mut Given, word: &str, text: &str) -> Result<S
     match word {
         "under" => declared::declare(alloc, &mut given.declared, text),
         "site" => devices::begin(alloc, &mut given.site, &given.declared.schema, text),
+        "site_kept" => kept::came_to(alloc, &given.site),
+        "site_twins" => kept::alike(alloc, &given.declared.schema, &given.streams, text),
         other => in_room(alloc, given, room_of(other), word, text),
     }
 }
@@ -253,6 +266,7 @@ fn print_rows(rt: &HostRuntime, text: &str) -> io::Result<()> {
     let mut given = Given {
         declared: Declared::new(rt.alloc()),
         site: None,
+        streams: Vec::new(rt.alloc()),
     };
     let printed = print_lines(rt, &mut given, text);
     ended(given, printed)

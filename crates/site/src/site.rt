@@ -30,6 +30,7 @@ use crate::judging::{CheckedPolicy, judged_policy, stated_entity, stated_request
 use crate::outcome::{Put, Taken};
 use crate::ranges::ranges_stay;
 use crate::under_schema::{answer_under, readings_stay, would_cycle};
+use accelerated_store::AcceleratedStore;
 use authoriser::Answer;
 use entities::Entity;
 use plain::{NoMemory, Shared};
@@ -50,9 +51,8 @@ use values::EntityUid;
 #[derive(Drop)]
 pub struct Site {
     alloc: Global,
-    schema: Shared<Schema>,
     name: SiteName,
-    store: PolicyStore<Policy, Entity>,
+    store: AcceleratedStore,
 }
 
 impl Model for Site {
@@ -67,9 +67,9 @@ impl Model for Site {
 
     ghost coded = { Prim.hlevel (codes, cedar.the_row.coded, value_code, expr.the_row.coded) };
 
-    ghost view = { λ a. record { schema = a.schema; name = a.name; kept = a.store } };
+    ghost view = { λ a. record { schema = a.store.schema; name = a.name; kept = a.store.kept } };
 
-    ghost invariant = { λ a. IsSite (schema_view a.schema) a.name a.store };
+    ghost invariant = { λ a. IsSite (schema_view a.store.schema) a.name a.store.kept };
 }
 
 /// The outcome of a put: its stamp, and whether the policy is impossible.
@@ -145,9 +145,8 @@ impl Site {
         ranges_stay();
         Site {
             alloc,
-            schema,
             name: SiteName::new(name),
-            store: PolicyStore::new(alloc),
+            store: AcceleratedStore::new(alloc, schema),
         }
     }
 
@@ -155,7 +154,7 @@ impl Site {
     pub fn schema(&self) -> &Schema
         ensures { result.now ≡ self.now.schema }
     {
-        self.schema.get()
+        self.store.schema()
     }
 
     /// Whoever holds a site knows by this that bytes state its schema, that each name and stamp of its store is one
@@ -165,8 +164,8 @@ impl Site {
         ensures held { MayBeHeld (schema_of self.now) (store_in self.now) }
         ensures most { most_count ≡ COUNT_MAX }
     {
-        self.schema.get().is_stated();
-        let _ = self.store.policies();
+        self.store.schema().is_stated();
+        let _ = self.store.store().policies();
     }
 
     // ---- questions
@@ -176,7 +175,7 @@ impl Site {
     pub fn get_policy(&self, id: &str) -> Option<(&str, Stamp)>
         ensures { option_map (λ f. (f.0.now, f.1)) result ≡ policy_found (store_in self.now) id.now }
     {
-        match self.store.get_policy(id) {
+        match self.store.store().get_policy(id) {
             Some(entry) => match &entry.body {
                 Some(body) => Some((body.text.as_str(), entry.stamp)),
                 None => None,
@@ -192,7 +191,7 @@ impl Site {
         ensures reads_back { IfOk result
             (λ b. updates_stated (schema_of self.now).label b.items ≡ Ok (updates (store_in self.now))) }
     {
-        write_state(self.alloc, self.schema.get().label(), &self.store)
+        write_state(self.alloc, self.store.schema().label(), self.store.store())
     }
 
     /// The names of the store with their stamps, as a message to other sites of the schema, who tell by it what is news
@@ -204,7 +203,7 @@ impl Site {
             (λ b. summary_stated (schema_of self.now).label b.items ≡ Ok (summary_of (store_in self.now))) }
     {
         ranges_stay();
-        write_summary(self.alloc, self.schema.get().label(), &self.store)
+        write_summary(self.alloc, self.store.schema().label(), self.store.store())
     }
 
     /// The part of the store that is news to whoever has this summary, as a message, which is read back as that part.
@@ -216,7 +215,12 @@ impl Site {
             ≡ Ok (updates (delta (store_in self.now) since.now))) }
     {
         ranges_stay();
-        write_delta(self.alloc, self.schema.get().label(), &self.store, since)
+        write_delta(
+            self.alloc,
+            self.store.schema().label(),
+            self.store.store(),
+            since,
+        )
     }
 
     /// The answer to the request that JSON states, over what is stored: the policies and entities that the texts of the
@@ -227,11 +231,28 @@ impl Site {
     pub fn authorize(&self, json: &Value) -> Result<Answer, SiteFault>
         ensures { Answers (schema_of self.now) (store_in self.now) (Some (view json.now)) result }
     {
-        let schema = self.schema.get();
-        let request = stated_request(self.alloc, schema, json)?;
-        let answered = answer_under(self.alloc, schema, &self.store, &request);
+        let request = stated_request(self.alloc, self.store.schema(), json)?;
+        let answered = answer_under(&self.store, &request);
         drop(request);
         Ok(answered?)
+    }
+
+    /// Whether the kept ancestors stand, and the index of policies; for tests alone.
+    pub fn standing(&self) -> (bool, bool) {
+        self.store.standing()
+    }
+
+    /// How many policies the last answer tried; for tests alone.
+    pub fn tried(&self) -> usize {
+        self.store.tried()
+    }
+
+    /// Drops what is kept beside the store, as where memory is refused for it, so that the next answers search and try
+    /// everything; for tests alone.
+    pub fn drop_kept(&mut self)
+        ensures { self.new ≡ self.old }
+    {
+        self.store.drop_kept();
     }
 
     // ---- commands
@@ -251,10 +272,10 @@ impl Site {
     {
         readings_stay();
         ranges_stay();
-        match next_stamp(&self.store, self.name) {
+        match next_stamp(self.store.store(), self.name) {
             Some(stamp) => {
                 let entry = Entry { stamp, body };
-                let taken = self.store.take_policy(id, entry);
+                let taken = self.store.record_policy(id, entry);
                 stamped(taken, &stamp)
             }
             None => refused((id, body), SiteFault::ClockFull),
@@ -276,10 +297,10 @@ impl Site {
     {
         readings_stay();
         ranges_stay();
-        match next_stamp(&self.store, self.name) {
+        match next_stamp(self.store.store(), self.name) {
             Some(stamp) => {
                 let entry = Entry { stamp, body };
-                let taken = self.store.take_entity(uid, entry);
+                let taken = self.store.record_entity(uid, entry);
                 stamped(taken, &stamp)
             }
             None => refused((uid, body), SiteFault::ClockFull),
@@ -301,7 +322,7 @@ impl Site {
         ensures same { IsSameSite self.old self.new }
     {
         stamps_are_issued();
-        match judged_policy(self.alloc, self.schema.get(), id, text) {
+        match judged_policy(self.alloc, self.store.schema(), id, text) {
             Ok(judged) => {
                 let CheckedPolicy {
                     id,
@@ -319,14 +340,14 @@ impl Site {
     fn has_policy(&self, id: &str) -> bool
         ensures { result ≡ is_some (text_under (store_in self.now) (policy_name id.now)) }
     {
-        has_text(self.store.get_policy(id))
+        has_text(self.store.store().get_policy(id))
     }
 
     /// Whether an entity has a text.
     fn has_entity(&self, uid: &EntityUid) -> bool
         ensures { result ≡ is_some (text_under (store_in self.now) (entity_name uid.now)) }
     {
-        has_text(self.store.get_entity(uid))
+        has_text(self.store.store().get_entity(uid))
     }
 
     /// Stamps and stores that a policy is taken away.
@@ -400,7 +421,7 @@ impl Site {
         ensures no { IfOk result (λ yes. yes ≡ false → MakesNoCycle (IsEntityUnder (schema_of self.now))
             (schema_of self.now) (store_in self.now) entity.now) }
     {
-        would_cycle(self.alloc, self.schema.get(), &self.store, entity)
+        would_cycle(&self.store, entity)
     }
 
     /// Puts an entity that was read, unless it would be on a cycle.
@@ -438,7 +459,7 @@ impl Site {
         ensures same { IsSameSite self.old self.new }
     {
         stamps_are_issued();
-        match stated_entity(self.alloc, self.schema.get(), json) {
+        match stated_entity(self.alloc, self.store.schema(), json) {
             Ok(stated) => {
                 let (uid, body) = stated;
                 let cycle = self.makes_cycle(&body.read);
@@ -494,12 +515,8 @@ impl Site {
         }
     }
 
-    /// Takes updates of another site in their order: each is joined at its name, where the greater entry stands. All
-    /// are counted, also those that lose. Where memory is refused, exactly the first ones are taken, and the rest is
-    /// dropped. An entity may come to be on a cycle; no update is refused for that.
-    ///
-    /// Each update is valid under the site's schema, as those are that [`state_messages::read_message`] answers.
-    pub fn take(&mut self, updates: Vec<Update<Policy, Entity>>) -> Taken
+    /// Takes updates in their order; what is kept beside the store follows each.
+    fn take_all(&mut self, updates: Vec<Update<Policy, Entity>>) -> Taken
         requires { AllByRecursion (IsValid (schema_of self.old)) updates.items }
         ensures takes { Takes (store_in self.old) (abstract_updates updates.items) result (store_in self.new) }
         ensures same { IsSameSite self.old self.new }
@@ -513,5 +530,20 @@ impl Site {
             taken += 1;
         }
         Taken::All(taken)
+    }
+
+    /// Takes updates of another site in their order: each is joined at its name, where the greater entry stands. All
+    /// are counted, also those that lose. Where memory is refused, exactly the first ones are taken, and the rest is
+    /// dropped. An entity may come to be on a cycle; no update is refused for that.
+    ///
+    /// Each update is valid under the site's schema, as those are that [`state_messages::read_message`] answers.
+    pub fn take(&mut self, updates: Vec<Update<Policy, Entity>>) -> Taken
+        requires { AllByRecursion (IsValid (schema_of self.old)) updates.items }
+        ensures takes { Takes (store_in self.old) (abstract_updates updates.items) result (store_in self.new) }
+        ensures same { IsSameSite self.old self.new }
+    {
+        let taken = self.take_all(updates);
+        self.store.rebuild();
+        taken
     }
 }

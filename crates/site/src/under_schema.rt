@@ -17,14 +17,12 @@ ghost use Rattle.stored_world.specs.Said.{IsAnswerOver, MakesCycle, MakesNoCycle
 ghost use Rattle.site.specs.Admitted.{IsPolicyUnder, IsEntityUnder};
 ghost use Rattle.site.specs.Seen.{IsHeld};
 
+use accelerated_store::AcceleratedStore;
 use authoriser::Answer;
 use entities::Entity;
 use plain::NoMemory;
 use policy_grammar::Policy;
-use schema::Schema;
-use stamped_store::PolicyStore;
 use stamped_store::laws::readings_are_kept;
-use std::alloc::Global;
 use stored_texts::SchemaTexts;
 use values::Request;
 
@@ -43,32 +41,22 @@ pub(crate) fn readings_stay()
 }
 
 /// The answer to a request over a store whose texts were read under the schema.
-pub(crate) fn answer_under(
-    alloc: Global,
-    schema: &Schema,
-    store: &PolicyStore<Policy, Entity>,
-    request: &Request,
-) -> Result<Answer, NoMemory>
-    ensures { IfOk result (λ a. IsHeld (schema_view schema.now) store.now
-        → IsAnswerOver (IsPolicyUnder (schema_view schema.now)) (IsEntityUnder (schema_view schema.now))
-        (schema_view schema.now) (abstract_store store.now) request.now a) }
+pub(crate) fn answer_under(store: &AcceleratedStore, request: &Request) -> Result<Answer, NoMemory>
+    ensures { let schema = schema_view store.now.schema in IfOk result (λ a. IsHeld schema store.now.kept
+        → IsAnswerOver (IsPolicyUnder schema) (IsEntityUnder schema) schema (abstract_store store.now.kept)
+        request.now a) }
 {
-    stored_world::answer_over::<SchemaTexts<'static>>(alloc, schema, store, request)
+    store.answer::<SchemaTexts<'static>>(request)
 }
 
 /// Whether an entity would be on a cycle once it is put into a store whose texts were read under the schema.
-pub(crate) fn would_cycle(
-    alloc: Global,
-    schema: &Schema,
-    store: &PolicyStore<Policy, Entity>,
-    entity: &Entity,
-) -> Result<bool, NoMemory>
-    ensures yes { IfOk result (λ yes. yes ≡ true → IsHeld (schema_view schema.now) store.now
-        → MakesCycle (IsEntityUnder (schema_view schema.now)) (schema_view schema.now) (abstract_store store.now)
-        entity.now) }
-    ensures no { IfOk result (λ yes. yes ≡ false → IsHeld (schema_view schema.now) store.now
-        → MakesNoCycle (IsEntityUnder (schema_view schema.now)) (schema_view schema.now) (abstract_store store.now)
-        entity.now) }
+pub(crate) fn would_cycle(store: &AcceleratedStore, entity: &Entity) -> Result<bool, NoMemory>
+    ensures yes { let schema = schema_view store.now.schema in IfOk result (λ yes. yes ≡ true
+        → IsHeld schema store.now.kept
+        → MakesCycle (IsEntityUnder schema) schema (abstract_store store.now.kept) entity.now) }
+    ensures no { let schema = schema_view store.now.schema in IfOk result (λ yes. yes ≡ false
+        → IsHeld schema store.now.kept
+        → MakesNoCycle (IsEntityUnder schema) schema (abstract_store store.now.kept) entity.now) }
 {
-    stored_world::would_cycle::<SchemaTexts<'static>>(alloc, schema, store, entity)
+    store.would_cycle::<SchemaTexts<'static>>(entity)
 }

@@ -2,7 +2,7 @@
 ghost use Rattle.std.specs.Prelude.{◌≡◌, ◌↔◌, IsTrue};
 
 use expressions::{Binary, BinaryCall, Expr, Literal, Named, Unary, UnaryCall, Variable};
-use plain::Items;
+use plain::{Items, Shared};
 use values::{EntityUid, TypeName};
 
 fn same_type(one: &TypeName, other: &TypeName) -> bool
@@ -108,26 +108,34 @@ pub(crate) fn same(one: &Expr, other: &Expr) -> bool
         (Expr::Literal(l), Expr::Literal(m)) => same_literal(l, m),
         (Expr::Variable(x), Expr::Variable(y)) => same_variable(*x, *y),
         (Expr::If(a, b, c), Expr::If(d, e, f)) => {
-            same(a.get(), d.get()) && same(b.get(), e.get()) && same(c.get(), f.get())
+            same_operand(a, d) && same_operand(b, e) && same_operand(c, f)
         }
-        (Expr::And(a, b), Expr::And(c, d)) => same(a.get(), c.get()) && same(b.get(), d.get()),
-        (Expr::Or(a, b), Expr::Or(c, d)) => same(a.get(), c.get()) && same(b.get(), d.get()),
-        (Expr::Unary(o, a), Expr::Unary(p, b)) => same_unary(o, p) && same(a.get(), b.get()),
+        (Expr::And(a, b), Expr::And(c, d)) => same_operand(a, c) && same_operand(b, d),
+        (Expr::Or(a, b), Expr::Or(c, d)) => same_operand(a, c) && same_operand(b, d),
+        (Expr::Unary(o, a), Expr::Unary(p, b)) => same_unary(o, p) && same_operand(a, b),
         (Expr::Binary(o, a, b), Expr::Binary(p, c, d)) => {
-            same_binary(*o, *p) && same(a.get(), c.get()) && same(b.get(), d.get())
+            same_binary(*o, *p) && same_operand(a, c) && same_operand(b, d)
         }
-        (Expr::Field(a, k), Expr::Field(b, l)) => k.same(l) && same(a.get(), b.get()),
-        (Expr::Has(a, k), Expr::Has(b, l)) => k.same(l) && same(a.get(), b.get()),
+        (Expr::Field(a, k), Expr::Field(b, l)) => k.same(l) && same_operand(a, b),
+        (Expr::Has(a, k), Expr::Has(b, l)) => k.same(l) && same_operand(a, b),
         (Expr::Set(xs), Expr::Set(ys)) => same_each(xs, ys),
         (Expr::Record(xs), Expr::Record(ys)) => same_fields(xs, ys),
         (Expr::UnaryCall(o, a), Expr::UnaryCall(p, b)) => {
-            same_unary_call(*o, *p) && same(a.get(), b.get())
+            same_unary_call(*o, *p) && same_operand(a, b)
         }
         (Expr::BinaryCall(o, a, b), Expr::BinaryCall(p, c, d)) => {
-            same_binary_call(*o, *p) && same(a.get(), c.get()) && same(b.get(), d.get())
+            same_binary_call(*o, *p) && same_operand(a, c) && same_operand(b, d)
         }
         _ => false,
     }
+}
+
+/// Whether two operands are equal.
+#[cycle(same)]
+fn same_operand(one: &Shared<Expr>, other: &Shared<Expr>) -> bool
+    ensures { IsTrue result ↔ (one.now ≡ other.now) }
+{
+    same(one.get(), other.get())
 }
 
 #[cycle(same)]

@@ -19,7 +19,7 @@ use Rattle.authoriser.specs.declared.outcome.PolicyError.TheVariants.{TypeError}
 use Rattle.authoriser.specs.declared.with_ancestors.WithAncestors.{WithAncestors}
 use Rattle.authoriser.specs.declared.with_ancestors.RequestAncestors.{RequestAncestors}
 use Rattle.authoriser.specs.declared.tally.Tally.{Tally}
-use Rattle.authoriser.specs.Scopes.{IsEntityScopeTrue, IsActionScopeTrue}
+use Rattle.scope_index.specs.Scopes.{IsEntityScopeTrue, IsActionScopeTrue}
 use Rattle.authoriser.specs.Answers.{PolicyOutcome, fault_of, satisfied, erring}
 
 -- the entity is `of` itself, or `of` is among the ancestors that were looked up

@@ -1,4 +1,4 @@
 use Rattle.command_lines.proofs.app.pull_command.Goals as goal
 
 pub returns : goal.returns
-returns c = c.with.ensures _ _ c.needed_option.ensures.rule (c.with-command-3.ensures _ _ c.needed_option-from.ensures.rule (c.with-command-2.ensures _ _ c.site_option.ensures.rule (c.with-command.ensures _ _ c.schema_option.ensures.rule c.bare-command.ensures)))
+returns c = c.with_needed.ensures _ (c.with_needed-command.ensures _ (c.with_site-command.ensures _ (c.with_schema-command.ensures _ c.bare-command.ensures)))

@@ -5,6 +5,7 @@ use Rattle.http_framing.specs.declared.TheConstants.{MAX_HEAD}
 use Rattle.httparse.specs.Grammar.{HasNoRequest, NeverHasRequest, MayBecomeRequest}
 use Rattle.httparse.specs.Spans.{IsRequestWithin, IsRequestOf}
 use Rattle.http_framing.proofs.CutLemmas.{none_admitted, never_more, never_none, not_exceeded, too_many}
+use Rattle.http_framing.proofs.OneRequest.{part_below}
 use Rattle.http_framing.proofs.cut.cut_request.Goals as goal
 
 pub returns-then-has_too_many : goal.returns-then-has_too_many
@@ -32,7 +33,7 @@ returns-in-Ok-Partial c =
     let whole = c.first_bytes-seen.ensures ∙ take_all MAX_HEAD c.args.buf.now c.if-buf-le-MAX_HEAD.true in
     let none : HasNoRequest seen = search rules in
     let more : MayBecomeRequest seen = search rules in
-    inr (record {
+    part_below _ (record {
       none = subst HasNoRequest whole none;
       short = c.if-buf-le-MAX_HEAD.true;
       open_still = subst MayBecomeRequest whole more;

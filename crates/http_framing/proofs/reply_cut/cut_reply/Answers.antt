@@ -5,6 +5,7 @@ use Rattle.http_framing.specs.declared.TheConstants.{MAX_HEAD}
 use Rattle.httparse.specs.Grammar.{HasNoResponse, NeverHasResponse, MayBecomeResponse}
 use Rattle.httparse.specs.Spans.{IsResponseWithin, IsResponseOf}
 use Rattle.http_framing.proofs.ReplyLemmas.{none_admitted, never_more, never_none, not_exceeded, too_many}
+use Rattle.http_framing.proofs.OneReply.{part_below}
 use Rattle.http_framing.proofs.reply_cut.cut_reply.Goals as goal
 
 pub returns-then-has_too_many : goal.returns-then-has_too_many
@@ -32,7 +33,7 @@ returns-in-Ok-Partial c =
     let whole = c.first_bytes-seen.ensures ∙ take_all MAX_HEAD c.args.buf.now c.if-buf-le-MAX_HEAD.true in
     let none : HasNoResponse seen = search rules in
     let more : MayBecomeResponse seen = search rules in
-    inr (record {
+    part_below _ (record {
       none = subst HasNoResponse whole none;
       short = c.if-buf-le-MAX_HEAD.true;
       open_still = subst MayBecomeResponse whole more;

@@ -1,5 +1,7 @@
-use Rattle.std.proofs.Common.{drop, inl, inr, sym, ◌∙◌, arith, length-drop}
+use Rattle.std.proofs.Common.{◌≤◌, drop, inl, inr, sym, ◌∙◌, arith, length-drop}
 use Rattle.http_framing.proofs.ReplyLemmas.{admitted, head_fits, length_is, whole}
+use Rattle.http_framing.specs.declared.TheConstants.{MAX_REPLY}
+use Rattle.http_framing.proofs.OneReply.{cut_off_below, size_fits}
 use Rattle.http_framing.proofs.reply_cut.cut_reply_body.Goals as goal
 
 pub overflow_sub-left : goal.overflow_sub-left
@@ -27,17 +29,21 @@ returns-in-TooLong c =
       framed = inr (sym (length_is _ _ c.requires.seen _ _ found.0 c.requires.within found.1 c.requires.count) ∙ sym c.in-TooLong.ensures);
     })
 
+pub overflow_add-result : goal.overflow_add-result
+overflow_add-result c =
+    let found = c.requires.complete in
+    let fits : c.in-Size.size ≤ MAX_REPLY = size_fits _ found.0
+    (sym (length_is _ _ c.requires.seen _ _ found.0 c.requires.within found.1 c.requires.count) ∙ sym c.in-Size.ensures) in
+    omega (arith, fits, head_fits _ _ c.requires.seen _ _ found.0 c.requires.within found.1)
+
 pub returns-in-Size : goal.returns-in-Size
 returns-in-Size c =
     let found = c.requires.complete in
-    inl (record {
-      head = found.0;
-      rest = drop c.args.head.now.len c.args.buf.now;
-      size = c.in-Size.size;
-      admits = admitted _ _ c.requires.seen _ _ found.0 c.requires.within found.1 (omega (arith, c.requires.few, c.requires.count));
-      framed = sym (length_is _ _ c.requires.seen _ _ found.0 c.requires.within found.1 c.requires.count) ∙ sym c.in-Size.ensures;
-      short = omega (arith, length-drop c.args.head.now.len c.args.buf.now, c.is_cut_off.ensures.cut c.if-is_cut_off.true);
-    })
+    cut_off_below _ (drop c.args.head.now.len c.args.buf.now) found.0 c.in-Size.size _
+    (admitted _ _ c.requires.seen _ _ found.0 c.requires.within found.1 (omega (arith, c.requires.few, c.requires.count)))
+    (sym (length_is _ _ c.requires.seen _ _ found.0 c.requires.within found.1 c.requires.count) ∙ sym c.in-Size.ensures)
+    (omega (arith, length-drop c.args.head.now.len c.args.buf.now, c.is_cut_off.ensures.cut c.if-is_cut_off.true))
+    (omega (arith, found.1.len))
 
 pub returns-in-Size-2 : goal.returns-in-Size-2
 returns-in-Size-2 c =

@@ -2,10 +2,8 @@ use Rattle.std.proofs.Common.{ℕ, List, ◌++◌, Err, length, sym, ap, ◌∙�
 use Rattle.std.specs.Prelude.{IsTrue, IsFalse}
 use Rattle.std.specs.Io.KnownBytes.{Consumes}
 use Rattle.std.proofs.KnownBytes.{Consumes-trans, Consumes-kept}
-use Rattle.http_framing.specs.Reply.{IsBadReply, IsUnfinishedReply}
-use Rattle.http_framing.specs.Reply.{IsReplyAt}
-use Rattle.http_framing.proofs.OneReply.{nothing_unfinished}
-use Rattle.http_framing.proofs.OneReply.{unfinished_short}
+use Rattle.http_framing.specs.Reply.{IsBadReply, IsReplyAt, IsUnfinishedReply, StaysUnfinishedReply}
+use Rattle.http_framing.proofs.OneReply.{nothing_unfinished, stays_on, unfinished_short, unfinished_yet}
 use Rattle.counted_devices.proofs.LastCall.{FailsAtLast-now}
 use Rattle.http_streams.proofs.fetch.read_whole.Goals as goal
 
@@ -111,11 +109,32 @@ turns-preserved g c =
       heads = search rules;
       some = search rules;
       most = search rules;
-      unfinished = subst IsUnfinishedReply c.deref.ensures.value c.in-Unfinished.ensures;
+      unfinished = subst IsUnfinishedReply c.deref.ensures.value c.in-Unfinished.ensures.unfinished;
+      below = subst (λ (t : List ℕ). StaysUnfinishedReply t c.in-Unfinished.least) c.deref.ensures.value c.in-Unfinished.ensures.below;
       count = c.in-Ok-true.ensures.count ∙ c.turns.invariant.count;
       read = subst (Consumes (g.R.Source.left c.args.reader.now) (g.R.Source.left c.read_more.new.reader)) (sym came.2)
           (Consumes-trans _ _ _ _ _ c.turns.invariant.read came.1);
     }
+
+pub turns-preserved-then-len-needed : goal.turns-preserved-then-len-needed
+turns-preserved-then-len-needed g c =
+    let came = c.in-Ok-true.ensures.ok in
+    record {
+      heads = search rules;
+      some = search rules;
+      most = search rules;
+      unfinished = unfinished_yet _ came.0 _ _ c.turns.invariant.below came.2 (omega (arith, c.if-len-needed.true, c.len.ensures));
+      below = stays_on _ came.0 _ _ c.turns.invariant.below came.2;
+      count = c.in-Ok-true.ensures.count ∙ c.turns.invariant.count;
+      read = subst (Consumes (g.R.Source.left c.args.reader.now) (g.R.Source.left c.read_more.new.reader)) (sym came.2)
+          (Consumes-trans _ _ _ _ _ c.turns.invariant.read came.1);
+    }
+
+pub turns-smaller-then-len-needed : goal.turns-smaller-then-len-needed
+turns-smaller-then-len-needed g c =
+    let came = c.in-Ok-true.ensures.ok in
+    let more : IsTrue c.in-Ok-true.field-0 = search rules in
+    omega (arith, ap length came.2, length-append c.turns.buffer.items came.0, came.3 more, unfinished_short _ c.turns.invariant.unfinished)
 
 pub turns-smaller : goal.turns-smaller
 turns-smaller g c =

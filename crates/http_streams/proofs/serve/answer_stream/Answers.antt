@@ -1,12 +1,12 @@
 use Rattle.std.proofs.Common.{◌≡◌, ℕ, List, [], ◌++◌, Ok, Err, length, drop, refl, sym, ap, ◌∙◌, subst, inl, inr, arith, rules, append-nil, length-append}
 use Rattle.std.specs.Prelude.{IsTrue, IsFalse}
 use Rattle.std.specs.Io.KnownBytes.{Consumes}
-use Rattle.http_framing.specs.Request.{IsUnfinished}
+use Rattle.http_framing.specs.Request.{IsUnfinished, StaysUnfinished}
 use Rattle.http_streams.specs.Stream.{Rests, Serves}
 use Rattle.std.proofs.KnownBytes.{Appends-trans, Consumes-trans, Consumes-kept}
 use Rattle.http_streams.proofs.StreamLemmas.{Serves-read, Serves-then, Ends-after, Rests-from, Stops-after}
 use Rattle.counted_devices.proofs.LastCall.{FailsAtLast-from, FailsAtLast-now}
-use Rattle.http_framing.proofs.OneRequest.{nothing_unfinished}
+use Rattle.http_framing.proofs.OneRequest.{nothing_unfinished, stays_on, unfinished_yet}
 use Rattle.http_streams.proofs.serve.answer_stream.Goals as goal
 
 pub loop-turn-init : goal.loop-turn-init
@@ -129,6 +129,32 @@ returns-in-Err-clause-write g c _ =
       c.in-Ok-true.ensures.count ∙ c.loop-turn.invariant.read_count,
     )
 
+pub loop-turn-preserved-then-len-needed : goal.loop-turn-preserved-then-len-needed
+loop-turn-preserved-then-len-needed g c =
+    let so_far = c.loop-turn.invariant.so_far in
+    let came = c.in-Ok-true.ensures.ok in
+    let more : IsTrue c.in-Ok-true.field-0 = search rules in
+    record {
+      heads = search rules;
+      some = search rules;
+      most = search rules;
+      head = c.loop-turn.invariant.head;
+      room = c.loop-turn.invariant.room;
+      unfinished = unfinished_yet _ came.0 _ _ c.loop-turn.invariant.below came.2 (omega (arith, c.if-len-needed.true, c.len.ensures));
+      below = stays_on _ came.0 _ _ c.loop-turn.invariant.below came.2;
+      read_count = c.in-Ok-true.ensures.count ∙ c.loop-turn.invariant.read_count;
+      write_count = c.loop-turn.invariant.write_count;
+      so_far = (
+        so_far.0 ++ came.0,
+        so_far.1,
+        so_far.2,
+        Consumes-trans _ _ _ _ _ so_far.3 came.1,
+        so_far.4,
+        Serves-read g.S.Service.answers so_far.2 _ _ _ _ _ came.0 _ so_far.5 came.2,
+        omega (arith, length-append so_far.0 came.0, came.3 more, so_far.6),
+      );
+    }
+
 pub loop-turn-preserved : goal.loop-turn-preserved
 loop-turn-preserved g c =
     let so_far = c.loop-turn.invariant.so_far in
@@ -138,14 +164,16 @@ loop-turn-preserved g c =
     let done = found.2 in
     let all = Serves-read g.S.Service.answers so_far.2 _ _ _ _ _ came.0 _ so_far.5 (c.deref.ensures.value ∙ came.2) in
     let joined = Serves-then g.S.Service.answers so_far.2 done.1 _ _ _ _ _ _ _ _ all done.3 in
-    let left : drop c.in-Ok-Some.count c.deref.result.now ≡ c.drop_front.new.bytes.items = sym (c.drop_front.ensures ∙ ap (drop c.in-Ok-Some.count) (sym c.deref.ensures.value)) in
+    let at = c.in-Ok-Some.left.at in
+    let left : drop at c.deref.result.now ≡ c.drop_front.new.bytes.items = sym (c.drop_front.ensures ∙ ap (drop at) (sym c.deref.ensures.value)) in
     record {
       heads = search rules;
       some = search rules;
       most = search rules;
       head = c.in-Ok-Some.ensures.head;
       room = c.in-Ok-Some.ensures.room;
-      unfinished = subst IsUnfinished left found.1;
+      unfinished = subst IsUnfinished left found.1.unfinished;
+      below = subst (λ (t : List ℕ). StaysUnfinished t c.in-Ok-Some.left.needed) left found.1.below;
       read_count = c.in-Ok-true.ensures.count ∙ c.loop-turn.invariant.read_count;
       write_count = c.in-Ok-Some.ensures.count ∙ c.loop-turn.invariant.write_count;
       so_far = (

@@ -4,7 +4,7 @@ use Rattle.std.specs.Vec.{vec_capacity}
 use Rattle.http_framing.specs.declared.TheConstants.{MAX_HEAD}
 use Rattle.http_streams.specs.declared.TheConstants.{MAX_READ, REPLY_ROOM}
 use Rattle.http_texts.specs.declared.reply.TheConstants.{HEAD_ROOM}
-use Rattle.http_framing.specs.Request.{IsUnfinished}
+use Rattle.http_framing.specs.Request.{IsUnfinished, StaysUnfinished}
 use Rattle.http_streams.specs.Stream.{Serves}
 use Rattle.http_streams.proofs.serve.answer_stream.Given as goal
 
@@ -16,6 +16,7 @@ invariant-loop-turn g l = record {
   head : HEAD_ROOM ≤ vec_len l.text;
   room : HEAD_ROOM + REPLY_ROOM ≤ vec_capacity l.text;
   unfinished : IsUnfinished l.buffer.items;
+  below : StaysUnfinished l.buffer.items l.needed;
   read_count : g.R.Source.failed l.reader ≡ g.R.Source.failed l.fn.reader;
   write_count : g.W.Sink.failed l.writer ≡ g.W.Sink.failed l.fn.writer;
   so_far : (bytes : List ℕ) × (out : List ℕ) × (n : ℕ)

@@ -3,10 +3,9 @@ use Rattle.serde_json.specs.View.{view}
 use Rattle.values.specs.declared.request.Request.{Request}
 use Rattle.schema.specs.SchemaEntries.{SchemaEntries}
 use Rattle.schema.specs.Views.{schema_view}
-use Rattle.stamped_store.specs.Store.{abstract_store}
 use Rattle.stored_world.specs.Said.{IsAnswerOver}
 use Rattle.site.specs.Admitted.{IsPolicyUnder, IsEntityUnder, IsRequestOf}
-use Rattle.site.specs.Seen.{Seen, schema_of, store_in, IsHeld}
+use Rattle.site.specs.Seen.{Seen, schema_of, store_in}
 use Rattle.site.proofs.site.Site.authorize.Goals as goal
 
 pub returns : goal.returns
@@ -14,9 +13,9 @@ returns c =
     let json = Some (view c.args.json.now) in
     let q = c.in_ok-request.request in
     let a = c.in_ok-answered.field-0 in
-    let k = c.self.inside.store in
+    let k = c.self.inside.store.kept in
     subst (λ (v : Seen). (q : Request) × IsRequestOf (schema_of v) json q × IsAnswerOver (IsPolicyUnder (schema_of v)) (IsEntityUnder (schema_of v)) (schema_of v) (store_in v) q a) c.self.view_is (
       q,
-      subst (λ (x : SchemaEntries). IsRequestOf (schema_view x) json q) c.get-schema.ensures c.in_ok-request.ensures.stated,
-      subst (λ (x : SchemaEntries). IsHeld (schema_view x) k → IsAnswerOver (IsPolicyUnder (schema_view x)) (IsEntityUnder (schema_view x)) (schema_view x) (abstract_store k) q a) c.get-schema.ensures c.in_ok-answered.ensures c.self.invariant.held,
+      subst (λ (x : SchemaEntries). IsRequestOf (schema_view x) json q) c.schema.ensures c.in_ok-request.ensures.stated,
+      c.in_ok-answered.ensures c.self.invariant.held,
     )

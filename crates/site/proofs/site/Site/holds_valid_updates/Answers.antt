@@ -1,4 +1,7 @@
-use Rattle.std.proofs.Common.{subst}
+use Rattle.std.proofs.Common.{subst, ◌≡◌}
+use Rattle.policy_grammar.specs.declared.policy.Policy.{Policy}
+use Rattle.entity_worlds.specs.declared.entity.Entity.{Entity}
+use Rattle.stamped_store.specs.Store.{StoreEntries, abstract_store, updates, abstract_updates}
 use Rattle.schema.specs.Views.{schema_view}
 use Rattle.site.specs.Seen.{Seen, schema_of, store_in, MayBeHeld}
 use Rattle.site.proofs.Taking.{may_be_held}
@@ -7,5 +10,6 @@ use Rattle.site.proofs.site.Site.holds_valid_updates.Goals as goal
 pub returns-clause-held : goal.returns-clause-held
 returns-clause-held c =
     subst (λ (v : Seen). MayBeHeld (schema_of v) (store_in v)) c.self.view_is
-    (may_be_held (schema_view c.self.inside.schema) c.self.inside.name c.self.inside.store c.self.invariant
-    c.policies.ensures.in_order)
+    (may_be_held (schema_view c.self.inside.store.schema) c.self.inside.name c.self.inside.store.kept c.self.invariant
+    (subst (λ (k : StoreEntries Policy Entity). updates (abstract_store k) ≡ abstract_updates k) c.store.ensures
+    c.policies.ensures.in_order))

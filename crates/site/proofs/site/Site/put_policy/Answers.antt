@@ -19,7 +19,7 @@ returns-in-Ok-clause-puts c =
     let r = c.record_policy-stamped.result in
     let is : IsJudged (schema_of s) c.args.id.now c.args.text.now j.body j.impossible =
     subst (λ (v : Seen). IsJudged (schema_of v) c.args.id.now c.args.text.now j.body j.impossible) c.self.view_is
-    (subst (λ (x : SchemaEntries). IsJudged (schema_view x) c.args.id.now c.args.text.now j.body j.impossible) c.get.ensures c.in-Ok.ensures.judged) in
+    (subst (λ (x : SchemaEntries). IsJudged (schema_view x) c.args.id.now c.args.text.now j.body j.impossible) c.schema.ensures c.in-Ok.ensures.judged) in
     let records : RecordsOr s.name (store_in s) (policy_name c.args.id.now) (Some j.body.text) r t =
     subst (λ (id : List ℕ). RecordsOr s.name (store_in s) (policy_name id) (Some j.body.text) r t) c.in-Ok.ensures.named c.record_policy-stamped.ensures.records in
     subst (λ (q : Result Put SiteFault). PutsPolicy (schema_of s) s.name (store_in s) c.args.id.now c.args.text.now q t) (sym c.put_of.ensures)

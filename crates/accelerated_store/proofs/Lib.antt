@@ -1,0 +1,9 @@
+mod Follows
+mod Found
+mod Read
+mod Skipping
+mod Suffice
+mod Answered
+pub mod WorldSeen
+pub mod AncestorsFollow
+mod Standing

@@ -1,0 +1,52 @@
+-- What the code sees of a store and a schema is the world that they say.
+use Rattle.std.proofs.Common.{◌≡◌, ◌∙◌, refl, ap, sym, subst, List}
+use Rattle.std.specs.Prelude.{Result, IfOk}
+use Rattle.values.specs.declared.request.Request.{Request}
+use Rattle.policy_grammar.specs.declared.policy.Policy.{Policy}
+use Rattle.ancestor_closure.specs.Hierarchy.{Parents}
+use Rattle.kept_ancestors.specs.declared.keeping.KeptAncestors.{KeptAncestors}
+use Rattle.kept_ancestors.specs.Kept.{AreKept}
+use Rattle.evaluator.specs.Operators.{World, world_of}
+use Rattle.authoriser.specs.declared.answer.Answer.{Answer}
+use Rattle.authoriser.specs.Answers.{NamedPolicy, IsAnswer}
+use Rattle.schema.specs.SchemaEntries.{SchemaEntries}
+use Rattle.schema.specs.Views.{schema_view}
+use Rattle.entity_worlds.specs.declared.entity.Entity.{Entity}
+use Rattle.entity_worlds.specs.Entities.{EntityMap, attributes_of, parents_of}
+use Rattle.entity_store.specs.Entities.{entities_under}
+use Rattle.stamped_store.specs.Store.{StoreEntries}
+use Rattle.stored_world.specs.declared.stored_entities.StoredEntities.{StoredEntities}
+use Rattle.stored_world.specs.Said.{data_in, world_under}
+use Rattle.stored_world.specs.TextsRead.{entity_at}
+use Rattle.accelerated_store.specs.Kept.{edges_under, AreKeptOf, AreAncestorsOf}
+
+abbrev pub Seen : Type 0
+Seen = StoredEntities × SchemaEntries
+
+-- the entities that the code asks about, and the edges among them
+abbrev pub asked : Seen → EntityMap
+asked w = entities_under w.1 (data_in (entity_at w.0.store.now.entities))
+
+abbrev pub edges_seen : Seen → Parents
+edges_seen w u = parents_of (asked w u)
+
+abbrev pub world_seen : Seen → World
+world_seen w = world_of (λ u. attributes_of (asked w u)) (edges_seen w)
+
+module _ (w : Seen) (s : StoredEntities) (schema : SchemaEntries) (k : StoreEntries Policy Entity)
+    (is_seen : w ≡ (s, schema)) (is_kept : s.store.now ≡ k) where
+  pub edges_are : edges_seen w ≡ edges_under (schema_view schema) k.entities
+  edges_are =
+      ap edges_seen is_seen ∙ ap (λ (l : StoreEntries Policy Entity). edges_under (schema_view schema) l.entities) is_kept
+
+  pub world_is_kept : (held : KeptAncestors) → AreAncestorsOf (schema_view schema) k.entities held
+      → AreKeptOf (edges_seen w) (edges_seen w) held
+  world_is_kept held h =
+      record { same = refl; kept = subst (λ (p : Parents). AreKept p held) (sym edges_are) h }
+
+  pub decided : {E : Type 0} (result : Result Answer E) (q : Request) (ps : List NamedPolicy)
+      → IfOk result (IsAnswer (world_seen w) q ps)
+      → IfOk result (IsAnswer (world_under (schema_view schema) (entity_at k.entities)) q ps)
+  decided result q ps h =
+      subst (λ (l : StoreEntries Policy Entity). IfOk result (IsAnswer (world_under (schema_view schema) (entity_at l.entities)) q ps))
+      is_kept (subst (λ (v : Seen). IfOk result (IsAnswer (world_seen v) q ps)) is_seen h)

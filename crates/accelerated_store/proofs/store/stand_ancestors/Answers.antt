@@ -1,0 +1,15 @@
+use Rattle.std.proofs.Common.{subst, sym}
+use Rattle.std.specs.Prelude.{Option}
+use Rattle.std.specs.Option.{IfSome}
+use Rattle.kept_ancestors.specs.declared.keeping.KeptAncestors.{KeptAncestors}
+use Rattle.schema.specs.Views.{schema_view}
+use Rattle.accelerated_store.specs.Kept.{AreAncestorsOf}
+use Rattle.accelerated_store.proofs.Standing.{if_made}
+use Rattle.accelerated_store.proofs.store.stand_ancestors.Goals as goal
+
+pub returns-then-is_none : goal.returns-then-is_none
+returns-then-is_none c =
+    subst (λ (o : Option KeptAncestors). IfSome o (AreAncestorsOf (schema_view c.args.schema.now) c.args.store.now.entities))
+    (sym c.ok.ensures.value)
+    (if_made (AreAncestorsOf (schema_view c.args.schema.now) c.args.store.now.entities) c.ancestors_of.result
+    c.ancestors_of.ensures)

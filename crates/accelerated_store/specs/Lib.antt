@@ -1,0 +1,4 @@
+pub mod Candidates
+pub mod Indexed
+pub mod Kept
+pub mod Seen

@@ -1,0 +1,23 @@
+-- What contracts see of a store with what is kept beside it: a schema, and the entries of the store.
+use Rattle.std.specs.Option.{IfSome}
+use Rattle.std.specs.Prelude.{Option}
+use Rattle.policy_grammar.specs.declared.policy.Policy.{Policy}
+use Rattle.kept_ancestors.specs.declared.keeping.KeptAncestors.{KeptAncestors}
+use Rattle.schema.specs.SchemaEntries as kept_schema
+use Rattle.schema.specs.Schemas.{StatedSchema}
+use Rattle.scope_index.specs.Keys.{Keys}
+use Rattle.entity_worlds.specs.declared.entity.Entity.{Entity}
+use Rattle.stamped_store.specs.Store.{StoreEntries}
+use Rattle.accelerated_store.specs.Indexed.{AreIndexed}
+use Rattle.accelerated_store.specs.Kept.{AreAncestorsOf}
+
+pub record SeenStore : Type 0 where
+  pub schema : kept_schema.SchemaEntries
+  pub kept : StoreEntries Policy Entity
+
+-- where the index stands it has exactly the store's policies, each by its scope; where the ancestors stand they are
+-- those of the store's entities and the schema's actions
+pub record AreBeside (schema : StatedSchema) (k : StoreEntries Policy Entity) (index : Option Keys)
+    (ancestors : Option KeptAncestors) : Type 0 where
+  pub index_is : IfSome index (AreIndexed k.policies)
+  pub ancestors_are : IfSome ancestors (AreAncestorsOf schema k.entities)

@@ -1,0 +1,176 @@
+//! The answer to a request over a store, by the index of its policies.
+ghost use Rattle.std.specs.Prelude.{◌≡◌, IfOk, IfSome};
+ghost use Rattle.evaluator.specs.Operators.{world_of};
+ghost use Rattle.authoriser.specs.Answers.{IsAnswer};
+ghost use Rattle.authoriser.specs.Views.{named};
+ghost use Rattle.schema.specs.Views.{schema_view};
+ghost use Rattle.stamped_store.specs.Store.{updates, abstract_store, abstract_updates};
+ghost use Rattle.stored_world.specs.Said.{world_under};
+ghost use Rattle.stored_world.specs.TextsRead.{policies_read, entity_at};
+ghost use Rattle.accelerated_store.specs.Indexed.{AreIndexed};
+ghost use Rattle.accelerated_store.specs.Candidates.{AreCandidates, Ascend};
+ghost use Rattle.accelerated_store.specs.Kept.{AreAncestorsOf};
+
+use crate::kept_world::KeptWorld;
+use crate::laws::candidates_suffice;
+use crate::offering::offered;
+use authoriser::{Answer, decide};
+use entity_store::{Entity, world_under};
+use evaluator::Lookup;
+use kept_ancestors::KeptAncestors;
+use plain::NoMemory;
+use policy_grammar::Policy;
+use schema::Schema;
+use scope_index::ScopeIndex;
+use stamped_store::PolicyStore;
+use std::alloc::Global;
+use std::cell::Cell;
+use stored_world::{StoredEntities, policies_in};
+use values::Request;
+
+/// What a store keeps is in the order of its names. Does nothing.
+pub(crate) fn is_in_order(store: &PolicyStore<Policy, Entity>)
+    ensures { updates (abstract_store store.now) ≡ abstract_updates store.now }
+{
+    let _policies = store.policies();
+}
+
+/// The answer where every policy is tried.
+fn answer_over_all<L: Lookup>(
+    alloc: Global,
+    store: &PolicyStore<Policy, Entity>,
+    request: &Request,
+    lookup: &L,
+    tried: &Cell<usize>,
+) -> Result<Answer, NoMemory>
+    ensures { IfOk result (IsAnswer (world_of (L.stored lookup.now) (L.parents lookup.now)) request.now
+        (policies_read store.now.policies)) }
+{
+    let policies = policies_in(alloc, store)?;
+    tried.set(policies.len());
+    decide(alloc, &policies, request, lookup)
+}
+
+/// The answer where only these policies are tried, which are all that the request may meet.
+fn answer_over_candidates<L: Lookup>(
+    alloc: Global,
+    store: &PolicyStore<Policy, Entity>,
+    policies: &[(&str, &Policy)],
+    request: &Request,
+    lookup: &L,
+    tried: &Cell<usize>,
+) -> Result<Answer, NoMemory>
+    requires candidates { AreCandidates (L.parents lookup.now) request.now (policies_read store.now.policies)
+        (named policies.now) }
+    requires ascending { Ascend (named policies.now) }
+    ensures { IfOk result (IsAnswer (world_of (L.stored lookup.now) (L.parents lookup.now)) request.now
+        (policies_read store.now.policies)) }
+{
+    is_in_order(store);
+    candidates_suffice();
+    tried.set(policies.len());
+    decide(alloc, policies, request, lookup)
+}
+
+/// The answer by an index: over the policies that it offers, where memory suffices to list them, else over all.
+fn answer_by_index<L: Lookup>(
+    alloc: Global,
+    store: &PolicyStore<Policy, Entity>,
+    index: &ScopeIndex,
+    request: &Request,
+    lookup: &L,
+    tried: &Cell<usize>,
+) -> Result<Answer, NoMemory>
+    requires { AreIndexed store.now.policies index.now }
+    ensures { IfOk result (IsAnswer (world_of (L.stored lookup.now) (L.parents lookup.now)) request.now
+        (policies_read store.now.policies)) }
+{
+    match offered(alloc, store, index, request, lookup) {
+        Ok(policies) => { answer_over_candidates(alloc, store, &policies, request, lookup, tried) }
+        Err(_) => answer_over_all(alloc, store, request, lookup, tried),
+    }
+}
+
+/// The answer to a request over a store, by whatever tells its entities, and by the index where there is one.
+///
+/// `tried` is set to the number of policies that were handed to [`decide`], of which no contract speaks. Errors:
+/// `NoMemory` alone.
+pub(crate) fn answer_by<L: Lookup>(
+    alloc: Global,
+    store: &PolicyStore<Policy, Entity>,
+    index: &Option<ScopeIndex>,
+    request: &Request,
+    lookup: &L,
+    tried: &Cell<usize>,
+) -> Result<Answer, NoMemory>
+    requires { IfSome index.now (AreIndexed store.now.policies) }
+    ensures { IfOk result (IsAnswer (world_of (L.stored lookup.now) (L.parents lookup.now)) request.now
+        (policies_read store.now.policies)) }
+{
+    match index {
+        Some(index) => answer_by_index(alloc, store, index, request, lookup, tried),
+        None => answer_over_all(alloc, store, request, lookup, tried),
+    }
+}
+
+/// The answer to a request over what stands beside the texts of a store, the hierarchy searched in place.
+fn answer_by_world(
+    alloc: Global,
+    schema: &Schema,
+    store: &PolicyStore<Policy, Entity>,
+    index: &Option<ScopeIndex>,
+    request: &Request,
+    tried: &Cell<usize>,
+) -> Result<Answer, NoMemory>
+    requires { IfSome index.now (AreIndexed store.now.policies) }
+    ensures { IfOk result (IsAnswer (world_under (schema_view schema.now) (entity_at store.now.entities)) request.now
+        (policies_read store.now.policies)) }
+{
+    let entities = StoredEntities::of(store);
+    let world = world_under(alloc, &entities, schema);
+    answer_by(alloc, store, index, request, &world, tried)
+}
+
+/// The same by the ancestors that are kept: nothing is searched where there is no cycle.
+fn answer_by_ancestors(
+    alloc: Global,
+    schema: &Schema,
+    store: &PolicyStore<Policy, Entity>,
+    index: &Option<ScopeIndex>,
+    ancestors: &KeptAncestors,
+    request: &Request,
+    tried: &Cell<usize>,
+) -> Result<Answer, NoMemory>
+    requires index { IfSome index.now (AreIndexed store.now.policies) }
+    requires ancestors { AreAncestorsOf (schema_view schema.now) store.now.entities ancestors.now }
+    ensures { IfOk result (IsAnswer (world_under (schema_view schema.now) (entity_at store.now.entities)) request.now
+        (policies_read store.now.policies)) }
+{
+    let entities = StoredEntities::of(store);
+    let world = world_under(alloc, &entities, schema);
+    let kept = KeptWorld::new(&world, ancestors);
+    answer_by(alloc, store, index, request, &kept, tried)
+}
+
+/// The answer to a request over what stands beside the texts of a store, by what is kept beside it.
+pub(crate) fn answer_by_kept(
+    alloc: Global,
+    schema: &Schema,
+    store: &PolicyStore<Policy, Entity>,
+    index: &Option<ScopeIndex>,
+    ancestors: &Option<KeptAncestors>,
+    request: &Request,
+    tried: &Cell<usize>,
+) -> Result<Answer, NoMemory>
+    requires index { IfSome index.now (AreIndexed store.now.policies) }
+    requires ancestors { IfSome ancestors.now (AreAncestorsOf (schema_view schema.now) store.now.entities) }
+    ensures { IfOk result (IsAnswer (world_under (schema_view schema.now) (entity_at store.now.entities)) request.now
+        (policies_read store.now.policies)) }
+{
+    match ancestors {
+        Some(ancestors) => {
+            answer_by_ancestors(alloc, schema, store, index, ancestors, request, tried)
+        }
+        None => answer_by_world(alloc, schema, store, index, request, tried),
+    }
+}

@@ -1,0 +1,18 @@
+//! A store of stamped texts with what makes its answers quick beside it: an index of its policies by their scopes, and
+//! the ancestors of its entities.
+//!
+//! A request is answered over those policies alone whose scope it may meet, and nothing is searched where the hierarchy
+//! has no cycle. Either is dropped where memory is refused for it, and changes no answer: then every policy is tried,
+//! or the hierarchy is searched in place.
+#![tactic(auto)]
+
+mod ancestors;
+mod answering;
+mod index;
+mod kept_world;
+mod laws;
+mod offering;
+mod store;
+
+pub use laws::candidates_suffice;
+pub use store::AcceleratedStore;

@@ -1,0 +1,3 @@
+mod Filing
+mod Meeting
+mod Offering

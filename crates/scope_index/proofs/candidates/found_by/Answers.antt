@@ -1,0 +1,11 @@
+use Rattle.std.proofs.Common.{ap}
+use Rattle.scope_index.specs.Keys.{texts}
+use Rattle.scope_index.proofs.Offering.{offered_in_all}
+use Rattle.scope_index.proofs.candidates.found_by.Goals as goal
+
+pub returns : goal.returns
+returns g c =
+    offered_in_all (g.A.Ancestry.parents c.args.ancestry.now) c.args.request.now c.args.buckets.now
+    (texts c.new-found.result.keys) (texts c.offer_unbound.new.found.keys) (texts c.offer_above.new.found.keys)
+    (texts c.offer_above-2.new.found.keys) (ap texts c.new-found.ensures.empty)
+    c.in_ok-offer_unbound.ensures c.in_ok-offer_above.ensures c.in_ok-offer_above-2.ensures

@@ -1,0 +1,13 @@
+//! Policies found by the scope: those that a request may meet, without a look at the others.
+//!
+//! A policy whose scope names an entity for the principal (or else for the resource) is found by that entity and by
+//! those below it; every other policy is offered to each request.
+#![tactic(auto)]
+
+mod buckets;
+mod candidates;
+mod entries;
+mod index;
+mod index_key;
+
+pub use index::ScopeIndex;
