@@ -78,6 +78,11 @@ printf '[{"uid":{"type":"Staff","id":"eve"},"attrs":{"ward":"north"}},{"uid":{"t
 wants "an entity without its ward" 1 '{"error":{"code":34,"place":1,"within":null}}' 2 decide --schema schema.json --policies policies.cedar --entities "$broken/staff.json" --request ben_reads.json
 printf '%s' '{"principal":"Staff::\"ben\"","action":"Action::\"chart\"","resource":"Chart::\"c1\""}' >"$broken/chart.json"
 wants "an action that applies to nothing" 1 '{"error":{"code":39,"place":null,"within":null}}' 2 "${decide[@]}" --request "$broken/chart.json"
+# A script of two sites, with a message that is lost and one that comes late.
+wants "a message is lost, one comes late" 0 "$(cat lost_and_late_lines.txt)" 1 drill --schema schema.json --sites 2 lost_and_late.jsonl
+printf '{"site":3,"do":"offer"}' >"$broken/third.jsonl"
+wants "a script with a third site of two" 1 '{"error":{"code":30,"place":0,"within":null}}' 2 drill --schema schema.json --sites 2 "$broken/third.jsonl"
+wants "no site" 2 "" 2 drill --schema schema.json --sites 0 lost_and_late.jsonl
 
 [ $failed = 0 ] && echo "examples: as they should be"
 exit $failed

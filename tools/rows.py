@@ -20,10 +20,19 @@ import time
 sys.dont_write_bytecode = True  # the tables' tools leave nothing beside them
 
 import row_commands
+import row_drills
+import row_hostile
 import row_sites
+import row_sound
 
 TOP = os.path.dirname(os.path.dirname(os.path.abspath(__file__)))
-KINDS = {**row_commands.KINDS, **row_sites.KINDS}
+KINDS = {
+    **row_commands.KINDS,
+    **row_drills.KINDS,
+    **row_hostile.KINDS,
+    **row_sites.KINDS,
+    **row_sound.KINDS,
+}
 # how many characters of a text are shown
 SHOWN = 200
 # a row that takes so many seconds hangs, and those below it would, too

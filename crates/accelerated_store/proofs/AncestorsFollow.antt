@@ -16,7 +16,8 @@ use Rattle.stamped_store.specs.Stored.{taken}
 use Rattle.stamped_store.proofs.Points.{others_kept}
 use Rattle.stored_world.specs.Said.{data_of}
 use Rattle.stored_world.specs.TextsRead.{entity_at, entity_read}
-use Rattle.accelerated_store.specs.Kept.{EntityEntries, edges_under, AreAncestorsOf, AreAncestorsBut}
+use Rattle.accelerated_store.specs.Kept.{EntityEntries, edges_under, AreAncestorsOf}
+use Rattle.accelerated_store.specs.inner.Following.{AreAncestorsBut}
 
 not_tied : (uid q : EntityUid) → is_eq (uid_cmp uid q) ≡ false → uid_cmp q uid ≢ Equal
 not_tied uid q apart same =

@@ -24,11 +24,12 @@ use Rattle.scope_index.specs.Keys.{Keys, key_at, index_key}
 use Rattle.stamped_store.specs.declared.entry.Entry.{Entry}
 use Rattle.stamped_store.specs.EntryOrder.{greater}
 use Rattle.stamped_store.specs.Stored.{value_at_text, taken}
-use Rattle.accelerated_store.specs.Indexed.{PolicyEntries, policy_in, due_key, AreIndexed, AreIndexedBut, noted}
+use Rattle.accelerated_store.specs.Indexed.{PolicyEntries, policy_in, due_key, AreIndexed}
+use Rattle.accelerated_store.specs.inner.Following.{AreIndexedBut, noted}
 
 -- ---- another id has what it had
 
-is_at_bytes : (q b : List ℕ) (t : Bool) → bytes_eq b q ≡ t → is_eq (text_cmp q b) ≡ t
+pub is_at_bytes : (q b : List ℕ) (t : Bool) → bytes_eq b q ≡ t → is_eq (text_cmp q b) ≡ t
 is_at_bytes q b t h = is_eq-slice_cmp q b ∙ turned q b t h
   where
     turned : (q b : List ℕ) (t : Bool) → bytes_eq b q ≡ t → bytes_eq q b ≡ t
@@ -40,7 +41,7 @@ is_at_bytes q b t h = is_eq-slice_cmp q b ∙ turned q b t h
         not_same true e =
             let yes : bytes_eq b q ≡ true = (bytes_eq-Decides b q).1 (sym ((bytes_eq-Decides q b).0 e)) in absurd (cc (yes, h))
 
-at_other : {V : Type 0} (es : List (String Global × V)) (k : String Global) (v : V) (q : List ℕ)
+pub at_other : {V : Type 0} (es : List (String Global × V)) (k : String Global) (v : V) (q : List ℕ)
     → is_eq (text_cmp q (string_bytes k)) ≡ false → value_at_text (insert_entry string_cmp es k v) q ≡ value_at_text es q
 at_other [] k v q apart = ap (λ b. cond b (Some v) None) apart
 at_other (e ∷ es) k v q apart =

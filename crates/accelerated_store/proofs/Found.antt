@@ -12,7 +12,7 @@ use Rattle.scope_index.specs.Keys.{texts}
 use Rattle.authoriser.specs.Answers.{NamedPolicy}
 use Rattle.authoriser.specs.Views.{named}
 use Rattle.accelerated_store.specs.Indexed.{PolicyEntries, policy_at}
-use Rattle.accelerated_store.specs.Candidates.{found_at, found_under}
+use Rattle.accelerated_store.specs.inner.Offering.{found_at, found_under}
 
 ids_of : List NamedPolicy → List (List ℕ)
 ids_of ps = map (λ (p : NamedPolicy). p.id) ps

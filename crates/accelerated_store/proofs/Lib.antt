@@ -7,3 +7,4 @@ mod Answered
 pub mod WorldSeen
 pub mod AncestorsFollow
 mod Standing
+mod Stays

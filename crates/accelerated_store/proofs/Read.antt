@@ -25,7 +25,8 @@ use Rattle.scope_index.specs.Scopes.{IsScopeTrue}
 use Rattle.authoriser.specs.Answers.{NamedPolicy}
 use Rattle.stored_world.specs.TextsRead.{policy_read, policies_read}
 use Rattle.accelerated_store.specs.Indexed.{PolicyEntries, policy_in, policy_at, AreIndexed}
-use Rattle.accelerated_store.specs.Candidates.{found_at, found_under, AreCandidates}
+use Rattle.accelerated_store.specs.Candidates.{AreCandidates}
+use Rattle.accelerated_store.specs.inner.Offering.{found_at, found_under}
 use Rattle.accelerated_store.proofs.Found.{one_in, rest_in, first_in, found_is, is_found}
 
 same_read : (id : List ℕ) (b : Option (ReadText Policy)) → policy_read id b ≡ found_at id (option_map (λ t. t.read) b)

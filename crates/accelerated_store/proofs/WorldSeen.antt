@@ -18,7 +18,8 @@ use Rattle.stamped_store.specs.Store.{StoreEntries}
 use Rattle.stored_world.specs.declared.stored_entities.StoredEntities.{StoredEntities}
 use Rattle.stored_world.specs.Said.{data_in, world_under}
 use Rattle.stored_world.specs.TextsRead.{entity_at}
-use Rattle.accelerated_store.specs.Kept.{edges_under, AreKeptOf, AreAncestorsOf}
+use Rattle.accelerated_store.specs.Kept.{edges_under, AreAncestorsOf}
+use Rattle.accelerated_store.specs.inner.Following.{AreKeptOf}
 
 abbrev pub Seen : Type 0
 Seen = StoredEntities × SchemaEntries

@@ -1,26 +1,14 @@
 -- Policies that may be left out of an answer by their scopes.
-use Rattle.std.specs.Prelude.{◌↔◌, ℕ, List, [], ◌∷◌, map, Contains, Bool, Option, Some, None}
-use Rattle.std.specs.List.{flat_map}
+use Rattle.std.specs.Prelude.{◌↔◌, List, map, Contains, Bool}
 use Rattle.values.specs.declared.entity_uid.EntityUid.{EntityUid}
 use Rattle.values.specs.declared.request.Request.{Request}
 use Rattle.ancestor_closure.specs.Hierarchy.{Parents}
 use Rattle.ancestor_closure.specs.Decided.{Decides}
-use Rattle.policy_grammar.specs.declared.policy.Policy.{Policy}
 use Rattle.scope_index.specs.Scopes.{IsScopeTrue}
 use Rattle.evaluator.specs.Operators.{World}
 use Rattle.authoriser.specs.declared.answer.Answer.{Answer}
 use Rattle.authoriser.specs.Answers.{NamedPolicy, IsAnswer}
 use Rattle.authoriser.specs.Laws.{AreIdsAscending}
-use Rattle.accelerated_store.specs.Indexed.{PolicyEntries, policy_at}
-
--- the policy under an id, if there is one
-abbrev pub found_at : List ℕ → Option Policy → List NamedPolicy
-found_at id None = []
-found_at id (Some p) = record { id = id; policy = p } ∷ []
-
--- the policies under these ids, in their order
-abbrev pub found_under : PolicyEntries → List (List ℕ) → List NamedPolicy
-found_under es ids = flat_map (λ id. found_at id (policy_at es id)) ids
 
 -- qs are some of the policies ps, and none is missing whose scope is true of the request
 pub record AreCandidates (parents : Parents) (q : Request) (ps qs : List NamedPolicy) : Type 0 where

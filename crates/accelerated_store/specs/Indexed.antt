@@ -1,6 +1,5 @@
 -- When an index is the one of a store's policies.
-use Rattle.std.specs.Prelude.{◌≡◌, ℕ, List, Option, Some, None, false, option_map, option_and_then}
-use Rattle.std.specs.Str.{bytes_eq}
+use Rattle.std.specs.Prelude.{◌≡◌, ℕ, List, Option, option_map, option_and_then}
 use Rattle.std.specs.declared.alloc.Global.{Global}
 use Rattle.std.specs.declared.string.String.{String}
 use Rattle.policy_grammar.specs.declared.policy.Policy.{Policy}
@@ -27,12 +26,3 @@ due_key es id = option_map (λ p. index_key p.scope) (policy_at es id)
 -- the index has exactly the policies of these entries, each by its scope
 abbrev pub AreIndexed : PolicyEntries → Keys → Type 0
 AreIndexed es keys = (id : List ℕ) → key_at keys id ≡ due_key es id
-
--- the same at every id but one
-abbrev pub AreIndexedBut : List ℕ → PolicyEntries → Keys → Type 0
-AreIndexedBut id es keys = (q : List ℕ) → bytes_eq id q ≡ false → key_at keys q ≡ due_key es q
-
--- the key that is due once an entry was looked at, where it was this before
-abbrev pub noted : Option Policy → Option IndexKey → Option IndexKey
-noted None before = before
-noted (Some p) before = Some (index_key p.scope)

@@ -1,5 +1,5 @@
 //! The ancestors that are kept beside a store: made anew, and following a change of an entity.
-ghost use Rattle.std.specs.Prelude.{◌≡◌, ◌↔◌, ◌++◌, ◌∷◌, [], IsTrue, IfOk, IfErr, IfSome, OnOk, OnErr};
+ghost use Rattle.std.specs.Prelude.{◌≡◌, ◌↔◌, ◌⊎◌, ◌++◌, ◌∷◌, [], None, IsTrue, IfOk, IfErr, IfSome, OnOk, OnErr};
 ghost use Rattle.values.specs.Names.{uid_cmp};
 ghost use Rattle.ancestor_closure.specs.Hierarchy.{IsOnCycle};
 ghost use Rattle.schema.specs.Schemas.{StatedSchema};
@@ -7,11 +7,15 @@ ghost use Rattle.schema.specs.Views.{schema_view};
 ghost use Rattle.stamped_store.specs.EntryOrder.{plain_entry, greater};
 ghost use Rattle.stamped_store.specs.Store.{abstract_store, store_of, updates, kept};
 ghost use Rattle.stamped_store.specs.Store.{entity_name, KeepsOtherNames};
-ghost use Rattle.stamped_store.specs.Stored.{taken};
+ghost use Rattle.stamped_store.specs.Stored.{taken, value_at};
 ghost use Rattle.stored_world.specs.Said.{parents_with};
 ghost use Rattle.stored_world.specs.TextsRead.{entity_at};
-ghost use Rattle.accelerated_store.specs.Kept.{EntityEntries, AreAncestorsOf, AreAncestorsBut};
+ghost use Rattle.accelerated_store.specs.Kept.{EntityEntries, AreAncestorsOf};
+ghost use Rattle.accelerated_store.specs.inner.Following.{AreAncestorsBut};
+ghost use Rattle.accelerated_store.specs.inner.Staying.{Stays};
 
+use crate::pace::Pace;
+use crate::staying::stays;
 use entity_store::{Entity, world_under};
 use kept_ancestors::KeptAncestors;
 use plain::NoMemory;
@@ -23,25 +27,28 @@ use stored_world::StoredEntities;
 use values::EntityUid;
 
 /// The ancestors of all entities of a store, made anew: one search for each entity and each action. Errors: `NoMemory`
-/// alone.
+/// alone, also where there would be too many.
 pub(crate) fn ancestors_of(
     alloc: Global,
     schema: &Schema,
     store: &PolicyStore<Policy, Entity>,
+    pace: &mut Pace,
 ) -> Result<KeptAncestors, NoMemory>
     ensures { IfOk result (AreAncestorsOf (schema_view schema.now) store.now.entities) }
 {
     let entities = StoredEntities::of(store);
     let world = world_under(alloc, &entities, schema);
-    KeptAncestors::of_graph(alloc, &world)
+    KeptAncestors::of_graph(alloc, &world, &mut pace.room)
 }
 
-/// Has what is kept follow a store after one entity changed. Where memory is refused, it is right no more.
+/// Has what is kept follow a store after one entity changed. Where memory is refused, or there would be too many, it is
+/// right no more.
 fn follow_store(
     alloc: Global,
     ancestors: &mut KeptAncestors,
     schema: &Schema,
     store: &PolicyStore<Policy, Entity>,
+    pace: &mut Pace,
     uid: &EntityUid,
 ) -> Result<(), NoMemory>
     requires { AreAncestorsBut uid.now (schema_view schema.now) store.now.entities ancestors.old }
@@ -49,33 +56,54 @@ fn follow_store(
 {
     let entities = StoredEntities::of(store);
     let world = world_under(alloc, &entities, schema);
-    ancestors.follow(&world, uid)
+    ancestors.follow(&world, uid, &mut pace.room)
 }
 
 /// The ancestors of a store, where they were right before one entity changed; none where there were none, or memory is
-/// refused: a refused change leaves them right for the store before.
-pub(crate) fn followed(
+/// refused: a refused change leaves them right for the store before. They are let go, too, where following a message
+/// has come to more than making them anew behind it.
+fn followed(
     alloc: Global,
     ancestors: Option<KeptAncestors>,
     schema: &Schema,
     store: &PolicyStore<Policy, Entity>,
+    pace: &mut Pace,
     uid: &EntityUid,
 ) -> Option<KeptAncestors>
     requires { IfSome ancestors (AreAncestorsBut uid.now (schema_view schema.now) store.now.entities) }
     ensures { IfSome result (AreAncestorsOf (schema_view schema.now) store.now.entities) }
 {
     let mut ancestors = ancestors?;
-    follow_store(alloc, &mut ancestors, schema, store, uid).ok()?;
+    follow_store(alloc, &mut ancestors, schema, store, pace, uid).ok()?;
+    if pace.is_dear(store.entities().len()) {
+        return None;
+    }
     Some(ancestors)
 }
 
-/// Joins an entry at an entity's uid, and has what is kept follow. Where memory is refused for the entry, nothing
-/// changes; where it is refused for the ancestors, these are dropped, and the change stands.
-pub(crate) fn take_entity(
+/// Whether what is kept needs not follow once an entry was joined: none is, or what is stored stays.
+fn needs_nothing(
+    store: &PolicyStore<Policy, Entity>,
+    ancestors: &Option<KeptAncestors>,
+    uid: &EntityUid,
+    entry: &Entry<Entity>,
+) -> bool
+    ensures { IsTrue result
+        → (ancestors.now ≡ None) ⊎ Stays (value_at uid_cmp store.now.entities uid.now) entry.now }
+{
+    if ancestors.is_none() {
+        return true;
+    }
+    stays(store.get_entity(uid), entry)
+}
+
+/// Joins an entry at an entity's uid, and has what is kept follow.
+fn take_and_follow(
     alloc: Global,
     schema: &Schema,
     store: &mut PolicyStore<Policy, Entity>,
     ancestors: &mut Option<KeptAncestors>,
+    pace: &mut Pace,
     uid: EntityUid,
     entry: Entry<Entity>,
 ) -> Result<(), (EntityUid, Entry<Entity>)>
@@ -94,10 +122,39 @@ pub(crate) fn take_entity(
     store.take_entity(uid, entry)?;
     let before = ancestors.take();
     *ancestors = match name {
-        Ok(name) => followed(alloc, before, schema, store, &name),
+        Ok(name) => followed(alloc, before, schema, store, pace, &name),
         Err(_) => None,
     };
     Ok(())
+}
+
+/// Joins an entry at an entity's uid, and has what is kept follow. Where memory is refused for the entry, nothing
+/// changes; where it is refused for the ancestors, these are dropped, and the change stands.
+pub(crate) fn take_entity(
+    alloc: Global,
+    schema: &Schema,
+    store: &mut PolicyStore<Policy, Entity>,
+    ancestors: &mut Option<KeptAncestors>,
+    pace: &mut Pace,
+    uid: EntityUid,
+    entry: Entry<Entity>,
+) -> Result<(), (EntityUid, Entry<Entity>)>
+    requires { IfSome ancestors.old (AreAncestorsOf (schema_view schema.now) store.old.entities) }
+    ensures followed { IfSome ancestors.new (AreAncestorsOf (schema_view schema.now) store.new.entities) }
+    ensures ok { OnOk result (abstract_store store.new
+        ≡ store_of (updates (abstract_store store.old) ++ (entity_name uid, plain_entry entry) ∷ [])) }
+    ensures others { OnOk result
+        (KeepsOtherNames (entity_name uid) (abstract_store store.old) (abstract_store store.new)) }
+    ensures kept { OnOk result
+        (store.new ≡ kept store.old.policies (taken uid_cmp greater store.old.entities uid entry)) }
+    ensures refused { IfErr result (λ pair. pair ≡ (uid, entry)) }
+    ensures err { OnErr result (store.new ≡ store.old) }
+{
+    pace.pass();
+    if needs_nothing(store, ancestors, &uid, &entry) {
+        return store.take_entity(uid, entry);
+    }
+    take_and_follow(alloc, schema, store, ancestors, pace, uid, entry)
 }
 
 /// Whether an entity is on a cycle once its edges are those that it states: two look-ups for each parent, and no

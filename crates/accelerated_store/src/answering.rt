@@ -14,6 +14,7 @@ ghost use Rattle.accelerated_store.specs.Kept.{AreAncestorsOf};
 use crate::kept_world::KeptWorld;
 use crate::laws::candidates_suffice;
 use crate::offering::offered;
+use crate::tries::Tries;
 use authoriser::{Answer, decide};
 use entity_store::{Entity, world_under};
 use evaluator::Lookup;
@@ -24,7 +25,6 @@ use schema::Schema;
 use scope_index::ScopeIndex;
 use stamped_store::PolicyStore;
 use std::alloc::Global;
-use std::cell::Cell;
 use stored_world::{StoredEntities, policies_in};
 use values::Request;
 
@@ -41,13 +41,13 @@ fn answer_over_all<L: Lookup>(
     store: &PolicyStore<Policy, Entity>,
     request: &Request,
     lookup: &L,
-    tried: &Cell<usize>,
+    tries: &Tries,
 ) -> Result<Answer, NoMemory>
     ensures { IfOk result (IsAnswer (world_of (L.stored lookup.now) (L.parents lookup.now)) request.now
         (policies_read store.now.policies)) }
 {
     let policies = policies_in(alloc, store)?;
-    tried.set(policies.len());
+    tries.begin(policies.len());
     decide(alloc, &policies, request, lookup)
 }
 
@@ -58,7 +58,7 @@ fn answer_over_candidates<L: Lookup>(
     policies: &[(&str, &Policy)],
     request: &Request,
     lookup: &L,
-    tried: &Cell<usize>,
+    tries: &Tries,
 ) -> Result<Answer, NoMemory>
     requires candidates { AreCandidates (L.parents lookup.now) request.now (policies_read store.now.policies)
         (named policies.now) }
@@ -68,48 +68,51 @@ fn answer_over_candidates<L: Lookup>(
 {
     is_in_order(store);
     candidates_suffice();
-    tried.set(policies.len());
+    tries.begin(policies.len());
     decide(alloc, policies, request, lookup)
 }
 
-/// The answer by an index: over the policies that it offers, where memory suffices to list them, else over all.
+/// The answer by an index: over the policies that it offers, where these may be fewer than all and memory suffices to
+/// list them, else over all.
 fn answer_by_index<L: Lookup>(
     alloc: Global,
     store: &PolicyStore<Policy, Entity>,
     index: &ScopeIndex,
     request: &Request,
     lookup: &L,
-    tried: &Cell<usize>,
+    tries: &Tries,
 ) -> Result<Answer, NoMemory>
     requires { AreIndexed store.now.policies index.now }
     ensures { IfOk result (IsAnswer (world_of (L.stored lookup.now) (L.parents lookup.now)) request.now
         (policies_read store.now.policies)) }
 {
+    if !tries.is_bound() {
+        return answer_over_all(alloc, store, request, lookup, tries);
+    }
     match offered(alloc, store, index, request, lookup) {
-        Ok(policies) => { answer_over_candidates(alloc, store, &policies, request, lookup, tried) }
-        Err(_) => answer_over_all(alloc, store, request, lookup, tried),
+        Ok(policies) => { answer_over_candidates(alloc, store, &policies, request, lookup, tries) }
+        Err(_) => answer_over_all(alloc, store, request, lookup, tries),
     }
 }
 
 /// The answer to a request over a store, by whatever tells its entities, and by the index where there is one.
 ///
-/// `tried` is set to the number of policies that were handed to [`decide`], of which no contract speaks. Errors:
-/// `NoMemory` alone.
+/// `tries` is told the number of policies that are handed to [`decide`]. Errors: `NoMemory` alone.
 pub(crate) fn answer_by<L: Lookup>(
     alloc: Global,
     store: &PolicyStore<Policy, Entity>,
     index: &Option<ScopeIndex>,
     request: &Request,
     lookup: &L,
-    tried: &Cell<usize>,
+    tries: &Tries,
 ) -> Result<Answer, NoMemory>
     requires { IfSome index.now (AreIndexed store.now.policies) }
     ensures { IfOk result (IsAnswer (world_of (L.stored lookup.now) (L.parents lookup.now)) request.now
         (policies_read store.now.policies)) }
 {
     match index {
-        Some(index) => answer_by_index(alloc, store, index, request, lookup, tried),
-        None => answer_over_all(alloc, store, request, lookup, tried),
+        Some(index) => answer_by_index(alloc, store, index, request, lookup, tries),
+        None => answer_over_all(alloc, store, request, lookup, tries),
     }
 }
 
@@ -120,7 +123,7 @@ fn answer_by_world(
     store: &PolicyStore<Policy, Entity>,
     index: &Option<ScopeIndex>,
     request: &Request,
-    tried: &Cell<usize>,
+    tries: &Tries,
 ) -> Result<Answer, NoMemory>
     requires { IfSome index.now (AreIndexed store.now.policies) }
     ensures { IfOk result (IsAnswer (world_under (schema_view schema.now) (entity_at store.now.entities)) request.now
@@ -128,7 +131,7 @@ fn answer_by_world(
 {
     let entities = StoredEntities::of(store);
     let world = world_under(alloc, &entities, schema);
-    answer_by(alloc, store, index, request, &world, tried)
+    answer_by(alloc, store, index, request, &world, tries)
 }
 
 /// The same by the ancestors that are kept: nothing is searched where there is no cycle.
@@ -139,7 +142,7 @@ fn answer_by_ancestors(
     index: &Option<ScopeIndex>,
     ancestors: &KeptAncestors,
     request: &Request,
-    tried: &Cell<usize>,
+    tries: &Tries,
 ) -> Result<Answer, NoMemory>
     requires index { IfSome index.now (AreIndexed store.now.policies) }
     requires ancestors { AreAncestorsOf (schema_view schema.now) store.now.entities ancestors.now }
@@ -149,7 +152,7 @@ fn answer_by_ancestors(
     let entities = StoredEntities::of(store);
     let world = world_under(alloc, &entities, schema);
     let kept = KeptWorld::new(&world, ancestors);
-    answer_by(alloc, store, index, request, &kept, tried)
+    answer_by(alloc, store, index, request, &kept, tries)
 }
 
 /// The answer to a request over what stands beside the texts of a store, by what is kept beside it.
@@ -160,7 +163,7 @@ pub(crate) fn answer_by_kept(
     index: &Option<ScopeIndex>,
     ancestors: &Option<KeptAncestors>,
     request: &Request,
-    tried: &Cell<usize>,
+    tries: &Tries,
 ) -> Result<Answer, NoMemory>
     requires index { IfSome index.now (AreIndexed store.now.policies) }
     requires ancestors { IfSome ancestors.now (AreAncestorsOf (schema_view schema.now) store.now.entities) }
@@ -169,8 +172,8 @@ pub(crate) fn answer_by_kept(
 {
     match ancestors {
         Some(ancestors) => {
-            answer_by_ancestors(alloc, schema, store, index, ancestors, request, tried)
+            answer_by_ancestors(alloc, schema, store, index, ancestors, request, tries)
         }
-        None => answer_by_world(alloc, schema, store, index, request, tried),
+        None => answer_by_world(alloc, schema, store, index, request, tries),
     }
 }

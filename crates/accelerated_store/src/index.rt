@@ -1,14 +1,18 @@
 //! How an index follows a store.
-ghost use Rattle.std.specs.Prelude.{◌≡◌, ℕ, List, cond, IfOk, IfSome, OnOk, OnErr, IfErr, ◌++◌, ◌∷◌, [], string_bytes};
+ghost use Rattle.std.specs.Prelude.{◌≡◌, ◌⊎◌, ℕ, List, None, cond, IsTrue, IfOk, IfSome, OnOk, OnErr, IfErr};
+ghost use Rattle.std.specs.Prelude.{◌++◌, ◌∷◌, [], string_bytes};
 ghost use Rattle.std.specs.Option.{option_copied};
 ghost use Rattle.std.specs.String.{string_cmp};
 ghost use Rattle.std.specs.Str.{bytes_eq};
 ghost use Rattle.scope_index.specs.Keys.{key_at};
 ghost use Rattle.stamped_store.specs.EntryOrder.{plain_entry, greater};
 ghost use Rattle.stamped_store.specs.Store.{abstract_store, store_of, updates, kept, policy_name, KeepsOtherNames};
-ghost use Rattle.stamped_store.specs.Stored.{taken};
-ghost use Rattle.accelerated_store.specs.Indexed.{policy_at, policy_in, AreIndexed, AreIndexedBut, noted};
+ghost use Rattle.stamped_store.specs.Stored.{taken, value_at_text};
+ghost use Rattle.accelerated_store.specs.Indexed.{policy_at, policy_in, AreIndexed};
+ghost use Rattle.accelerated_store.specs.inner.Following.{AreIndexedBut, noted};
+ghost use Rattle.accelerated_store.specs.inner.Staying.{Stays};
 
+use crate::staying::stays;
 use entity_store::Entity;
 use plain::NoMemory;
 use policy_grammar::Policy;
@@ -90,9 +94,23 @@ pub(crate) fn index_of(
     Ok(index)
 }
 
-/// Joins an entry at a policy's id, and has the index follow. Where memory is refused for the entry, nothing changes;
-/// where it is refused for the index, that is dropped, and the change stands.
-pub(crate) fn take_policy(
+/// Whether the index needs not follow once an entry was joined: none stands, or what is stored stays.
+fn needs_nothing(
+    store: &PolicyStore<Policy, Entity>,
+    index: &Option<ScopeIndex>,
+    id: &str,
+    entry: &Entry<Policy>,
+) -> bool
+    ensures { IsTrue result → (index.now ≡ None) ⊎ Stays (value_at_text store.now.policies id.now) entry.now }
+{
+    if index.is_none() {
+        return true;
+    }
+    stays(store.get_policy(id), entry)
+}
+
+/// Joins an entry at a policy's id, and has the index follow.
+fn take_and_follow(
     alloc: Global,
     store: &mut PolicyStore<Policy, Entity>,
     index: &mut Option<ScopeIndex>,
@@ -118,4 +136,30 @@ pub(crate) fn take_policy(
         Err(_) => None,
     };
     Ok(())
+}
+
+/// Joins an entry at a policy's id, and has the index follow. Where memory is refused for the entry, nothing changes;
+/// where it is refused for the index, that is dropped, and the change stands.
+pub(crate) fn take_policy(
+    alloc: Global,
+    store: &mut PolicyStore<Policy, Entity>,
+    index: &mut Option<ScopeIndex>,
+    id: String,
+    entry: Entry<Policy>,
+) -> Result<(), (String, Entry<Policy>)>
+    requires { IfSome index.old (AreIndexed store.old.policies) }
+    ensures indexed { IfSome index.new (AreIndexed store.new.policies) }
+    ensures ok { OnOk result (abstract_store store.new
+        ≡ store_of (updates (abstract_store store.old) ++ (policy_name (string_bytes id), plain_entry entry) ∷ [])) }
+    ensures others { OnOk result
+        (KeepsOtherNames (policy_name (string_bytes id)) (abstract_store store.old) (abstract_store store.new)) }
+    ensures kept { OnOk result
+        (store.new ≡ kept (taken string_cmp greater store.old.policies id entry) store.old.entities) }
+    ensures refused { IfErr result (λ pair. pair ≡ (id, entry)) }
+    ensures err { OnErr result (store.new ≡ store.old) }
+{
+    if needs_nothing(store, index, id.as_str(), &entry) {
+        return store.take_policy(id, entry);
+    }
+    take_and_follow(alloc, store, index, id, entry)
 }

@@ -2,7 +2,7 @@
 ghost use Rattle.std.specs.Prelude.{◌≡◌, ◌↔◌, IsTrue, IsOk, IfOk, MatchOption};
 ghost use Rattle.ancestor_closure.specs.Hierarchy.{Above, AreOnCycles, IsAscending, names};
 ghost use Rattle.ancestor_closure.specs.LeastCycle.{HasNoCycle, IsLeastCycle};
-ghost use Rattle.accelerated_store.specs.Kept.{AreKeptOf};
+ghost use Rattle.accelerated_store.specs.inner.Following.{AreKeptOf};
 
 use ancestor_closure::{Ancestry, Graph};
 use evaluator::Lookup;
@@ -20,7 +20,7 @@ pub(crate) struct KeptWorld<'a, W: Lookup + Graph> {
 }
 
 impl<'a, W: Lookup + Graph> Model for KeptWorld<'a, W> {
-    ghost use Rattle.accelerated_store.specs.Kept.{AreKeptOf};
+    ghost use Rattle.accelerated_store.specs.inner.Following.{AreKeptOf};
 
     ghost Value = { W };
 

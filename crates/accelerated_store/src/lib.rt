@@ -12,7 +12,10 @@ mod index;
 mod kept_world;
 mod laws;
 mod offering;
+mod pace;
+mod staying;
 mod store;
+mod tries;
 
 pub use laws::candidates_suffice;
 pub use store::AcceleratedStore;

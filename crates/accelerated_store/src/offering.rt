@@ -4,7 +4,8 @@ ghost use Rattle.authoriser.specs.Views.{named};
 ghost use Rattle.scope_index.specs.Keys.{texts};
 ghost use Rattle.stored_world.specs.TextsRead.{policies_read};
 ghost use Rattle.accelerated_store.specs.Indexed.{AreIndexed};
-ghost use Rattle.accelerated_store.specs.Candidates.{AreCandidates, Ascend, found_under};
+ghost use Rattle.accelerated_store.specs.Candidates.{AreCandidates, Ascend};
+ghost use Rattle.accelerated_store.specs.inner.Offering.{found_under};
 
 use crate::index::policy_under;
 use ancestor_closure::Ancestry;

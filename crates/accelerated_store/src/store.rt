@@ -20,6 +20,8 @@ ghost use Rattle.accelerated_store.specs.Seen.{AreBeside};
 use crate::ancestors::{ancestors_of, take_entity, would_cycle_by};
 use crate::answering::{answer_by_kept, is_in_order};
 use crate::index::{index_of, take_policy};
+use crate::pace::Pace;
+use crate::tries::Tries;
 use ancestor_closure::ParentsOf;
 use authoriser::Answer;
 use entity_store::{Entity, world_under};
@@ -30,7 +32,6 @@ use schema::Schema;
 use scope_index::ScopeIndex;
 use stamped_store::{Entry, PolicyStore, Readings};
 use std::alloc::Global;
-use std::cell::Cell;
 use std::marker::Model;
 use stored_world::StoredEntities;
 use values::{EntityUid, Request};
@@ -43,7 +44,8 @@ pub struct AcceleratedStore {
     store: PolicyStore<Policy, Entity>,
     index: Option<ScopeIndex>,
     ancestors: Option<KeptAncestors>,
-    tried: Cell<usize>,
+    pace: Pace,
+    tries: Tries,
 }
 
 impl Model for AcceleratedStore {
@@ -74,18 +76,21 @@ fn stand_index(alloc: Global, store: &PolicyStore<Policy, Entity>, index: &mut O
     }
 }
 
-/// Makes the ancestors anew where they were dropped, if memory suffices.
+/// Makes the ancestors anew where they were dropped, if memory suffices, and there are not too many.
 fn stand_ancestors(
     alloc: Global,
     schema: &Schema,
     store: &PolicyStore<Policy, Entity>,
     ancestors: &mut Option<KeptAncestors>,
+    pace: &mut Pace,
 )
     requires { IfSome ancestors.old (AreAncestorsOf (schema_view schema.now) store.now.entities) }
     ensures { IfSome ancestors.new (AreAncestorsOf (schema_view schema.now) store.now.entities) }
 {
-    if ancestors.is_none() {
-        *ancestors = ancestors_of(alloc, schema, store).ok();
+    let entities = store.entities().len();
+    if pace.begin(ancestors.is_some(), entities) {
+        *ancestors = ancestors_of(alloc, schema, store, pace).ok();
+        pace.end(entities);
     }
 }
 
@@ -96,12 +101,13 @@ fn stand(
     store: &PolicyStore<Policy, Entity>,
     index: &mut Option<ScopeIndex>,
     ancestors: &mut Option<KeptAncestors>,
+    pace: &mut Pace,
 )
     requires { AreBeside (schema_view schema.now) store.now index.old ancestors.old }
     ensures { AreBeside (schema_view schema.now) store.now index.new ancestors.new }
 {
     stand_index(alloc, store, index);
-    stand_ancestors(alloc, schema, store, ancestors);
+    stand_ancestors(alloc, schema, store, ancestors, pace);
 }
 
 /// Whether an entity is on a cycle of a graph in which its edges are those that it states.
@@ -146,8 +152,8 @@ fn would_cycle_by_kept(
 }
 
 impl AcceleratedStore {
-    /// The empty store under a schema, with its index. Its ancestors, those of the schema's actions, are made by the
-    /// first [`Self::rebuild`]. Takes no memory.
+    /// The empty store under a schema, with its index. Its ancestors, those of the schema's actions, take memory, and
+    /// are made by the first [`Self::record_policy`], [`Self::record_entity`] or [`Self::rebuild`]. Takes no memory.
     pub fn new(alloc: Global, schema: Shared<Schema>) -> Self
         ensures { result ≡ record { schema = schema; kept = kept [] [] } }
     {
@@ -157,7 +163,8 @@ impl AcceleratedStore {
             store: PolicyStore::new(alloc),
             index: Some(ScopeIndex::new(alloc)),
             ancestors: None,
-            tried: Cell::new(0),
+            pace: Pace::new(),
+            tries: Tries::new(),
         }
     }
 
@@ -193,12 +200,14 @@ impl AcceleratedStore {
         ensures err { OnErr result (self.new.kept ≡ self.old.kept) }
         ensures same { self.new.schema ≡ self.old.schema }
     {
+        self.tries.note(&entry);
         take_policy(self.alloc, &mut self.store, &mut self.index, id, entry)
     }
 
     /// Joins an entry at an entity's uid. Every other name keeps its entry. Where memory is refused for the entry, uid
     /// and entry come back and nothing changes; where it is refused for the ancestors, these are dropped, and the entry
-    /// stands.
+    /// stands. They are dropped, too, where there would be too many, and once following updates has cost more than
+    /// making them anew: then [`Self::rebuild`] does so behind the last one.
     pub fn take_entity(
         &mut self,
         uid: EntityUid,
@@ -220,6 +229,7 @@ impl AcceleratedStore {
             self.schema.get(),
             &mut self.store,
             &mut self.ancestors,
+            &mut self.pace,
             uid,
             entry,
         )
@@ -242,12 +252,14 @@ impl AcceleratedStore {
         ensures err { OnErr result (self.new.kept ≡ self.old.kept) }
         ensures same { self.new.schema ≡ self.old.schema }
     {
+        self.tries.note(&entry);
         stand(
             self.alloc,
             self.schema.get(),
             &self.store,
             &mut self.index,
             &mut self.ancestors,
+            &mut self.pace,
         );
         take_policy(self.alloc, &mut self.store, &mut self.index, id, entry)
     }
@@ -275,18 +287,21 @@ impl AcceleratedStore {
             &self.store,
             &mut self.index,
             &mut self.ancestors,
+            &mut self.pace,
         );
         take_entity(
             self.alloc,
             self.schema.get(),
             &mut self.store,
             &mut self.ancestors,
+            &mut self.pace,
             uid,
             entry,
         )
     }
 
-    /// Makes anew what was dropped, where memory suffices: once, whatever is refused. No entry changes.
+    /// Makes anew what was dropped, where memory suffices: once, whatever is refused. No entry changes. It is meant for
+    /// the end of a message. Ancestors that were too many are tried again after as many changes as there are entities.
     pub fn rebuild(&mut self)
         ensures { self.new ≡ self.old }
     {
@@ -296,6 +311,7 @@ impl AcceleratedStore {
             &self.store,
             &mut self.index,
             &mut self.ancestors,
+            &mut self.pace,
         );
     }
 
@@ -312,7 +328,7 @@ impl AcceleratedStore {
             &self.index,
             &self.ancestors,
             request,
-            &self.tried,
+            &self.tries,
         )
     }
 
@@ -366,7 +382,8 @@ impl AcceleratedStore {
         self.would_cycle_by_kept(entity)
     }
 
-    /// Drops what is kept beside the store, as where memory is refused for it; for tests alone. No entry changes.
+    /// Drops what is kept beside the store, as where memory is refused for it; for tests alone, which can't have memory
+    /// refused. No entry changes.
     pub fn drop_kept(&mut self)
         ensures { self.new ≡ self.old }
     {
@@ -381,6 +398,6 @@ impl AcceleratedStore {
 
     /// How many policies the last answer tried; for tests alone.
     pub fn tried(&self) -> usize {
-        self.tried.get()
+        self.tries.tried()
     }
 }

@@ -17,6 +17,7 @@ use crate::children::{add_to_all, entity_and_below, take_from_all};
 use crate::cycles::{enter_all, leave_all};
 use crate::lists::{are_among, are_in, lists_of, shared_all, write_all};
 use crate::relatives::{Relatives, ancestors_at, is_child, release, release_all, reserve, shared};
+use crate::room::Room;
 use ancestor_closure::{ParentsOf, listed};
 use plain::{NoMemory, Shared};
 use std::alloc::Global;
@@ -153,6 +154,7 @@ fn planned<G: ParentsOf>(
     relatives: &BTreeMap<EntityUid, Relatives>,
     uid: &EntityUid,
     parents: &[&EntityUid],
+    room: &mut Room,
 ) -> Result<Change, NoMemory>
     requires all { (x : PlainUid) → Contains (names parents.now) x ↔ Contains (G.parents graph.now uid.now) x }
     requires ascending { IsAscending (names parents.now) }
@@ -163,7 +165,7 @@ fn planned<G: ParentsOf>(
     let before = parents_before(alloc, relatives, &name)?;
     let after = shared_all(alloc, relatives, parents)?;
     let entities = entity_and_below(alloc, relatives, uid)?;
-    let lists = lists_of(alloc, graph, relatives, &entities)?;
+    let lists = lists_of(alloc, graph, relatives, &entities, room)?;
     Ok(Change {
         uid: name,
         before,
@@ -246,6 +248,7 @@ fn make<G: ParentsOf>(
     cyclic: &mut BTreeSet<Shared<EntityUid>>,
     uid: &EntityUid,
     parents: &[&EntityUid],
+    room: &mut Room,
 ) -> Result<usize, NoMemory>
     requires all { (x : PlainUid) → Contains (names parents.now) x ↔ Contains (G.parents graph.now uid.now) x }
     requires ascending { IsAscending (names parents.now) }
@@ -259,7 +262,7 @@ fn make<G: ParentsOf>(
         IsKeptOf before (ancestors_in relatives.old) (children_in relatives.old) cyclic.old.keys →
         IsKeptOf before (ancestors_in relatives.new) (children_in relatives.new) cyclic.new.keys) }
 {
-    let change = planned(alloc, graph, relatives, uid, parents)?;
+    let change = planned(alloc, graph, relatives, uid, parents, room)?;
     let touched = change.entities.len();
     match begin(relatives, cyclic, &change) {
         Ok(()) => {
@@ -281,6 +284,7 @@ fn make_with_room<G: ParentsOf>(
     cyclic: &mut BTreeSet<Shared<EntityUid>>,
     uid: &EntityUid,
     parents: &[&EntityUid],
+    room: &mut Room,
 ) -> Result<usize, NoMemory>
     requires all { (x : PlainUid) → Contains (names parents.now) x ↔ Contains (G.parents graph.now uid.now) x }
     requires ascending { IsAscending (names parents.now) }
@@ -293,7 +297,7 @@ fn make_with_room<G: ParentsOf>(
         IsKeptOf before (ancestors_in relatives.new) (children_in relatives.new) cyclic.new.keys) }
 {
     make_room(alloc, relatives, uid, parents)?;
-    make(alloc, graph, relatives, cyclic, uid, parents)
+    make(alloc, graph, relatives, cyclic, uid, parents, room)
 }
 
 // Whether an entity with these parents has none, and has no ancestors.
@@ -332,13 +336,15 @@ fn has_already(
 }
 
 /// Has what is kept follow a change of one entity's parents, by the graph after it, and answers how many lists were
-/// written anew. Where memory is refused, it is right for each graph that it was right for.
+/// written anew. Where memory is refused, or there is no room for the lists, it is right for each graph that it was
+/// right for.
 pub fn follow<G: ParentsOf>(
     alloc: Global,
     graph: &G,
     relatives: &mut BTreeMap<EntityUid, Relatives>,
     cyclic: &mut BTreeSet<Shared<EntityUid>>,
     uid: &EntityUid,
+    room: &mut Room,
 ) -> Result<usize, NoMemory>
     requires { IsKeptBut uid.now (G.parents graph.now)
         (ancestors_in relatives.old) (children_in relatives.old) cyclic.old.keys }
@@ -352,10 +358,11 @@ pub fn follow<G: ParentsOf>(
     if has_none(relatives, uid, &parents) {
         return Ok(0);
     }
+    room.look(ancestors_at(relatives, uid).len());
     if has_already(alloc, relatives, uid, &parents)? {
         return Ok(0);
     }
-    let touched = make_with_room(alloc, graph, relatives, cyclic, uid, &parents);
+    let touched = make_with_room(alloc, graph, relatives, cyclic, uid, &parents, room);
     release(relatives, uid);
     release_all(relatives, &parents);
     touched

@@ -7,9 +7,11 @@ mod children;
 mod cycles;
 mod lists;
 mod relatives;
+mod room;
 
 pub use changing::{follow, make_room, parents_by};
 pub use children::add_to_all;
 pub use cycles::{are_none, members};
-pub use lists::{is_in, lent, list_of, shared_all};
+pub use lists::{is_in, lent, list_within, shared_all};
 pub use relatives::{Relatives, ancestors_at, shared, write_list};
+pub use room::Room;

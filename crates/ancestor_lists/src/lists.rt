@@ -8,7 +8,8 @@ ghost use Rattle.ancestor_closure.specs.Hierarchy.{IsAscending, names};
 ghost use Rattle.ancestor_lists.specs.Lists.{IsListOf, ancestors_in, SameChildren, IsThere};
 ghost use Rattle.ancestor_lists.specs.inner.OneChange.{firsts, written};
 
-use crate::relatives::{Relatives, shared, write_list};
+use crate::relatives::{Relatives, ancestors_at, shared, write_list};
+use crate::room::Room;
 use ancestor_closure::{ParentsOf, ancestors_of, is_among};
 use plain::{NoMemory, Shared};
 use std::alloc::Global;
@@ -85,8 +86,8 @@ pub fn shared_all(
     Ok(all)
 }
 
-/// The ancestors of an entity, by a search.
-pub fn list_of<G: ParentsOf>(
+// The ancestors of an entity, by a search.
+fn list_of<G: ParentsOf>(
     alloc: Global,
     graph: &G,
     relatives: &BTreeMap<EntityUid, Relatives>,
@@ -98,17 +99,33 @@ pub fn list_of<G: ParentsOf>(
     shared_all(alloc, relatives, &found)
 }
 
+/// The ancestors of an entity, by a search, where there is room for them in the place of those that are kept of it.
+pub fn list_within<G: ParentsOf>(
+    alloc: Global,
+    graph: &G,
+    relatives: &BTreeMap<EntityUid, Relatives>,
+    uid: &EntityUid,
+    room: &mut Room,
+) -> Result<Vec<Shared<EntityUid>>, NoMemory>
+    ensures { IfOk result (λ all. IsListOf (G.parents graph.now) uid.now all.items) }
+{
+    let list = list_of(alloc, graph, relatives, uid)?;
+    room.write(ancestors_at(relatives, uid).len(), list.len())?;
+    Ok(list)
+}
+
 // An entity with its ancestors.
 fn with_list<G: ParentsOf>(
     alloc: Global,
     graph: &G,
     relatives: &BTreeMap<EntityUid, Relatives>,
     uid: &Shared<EntityUid>,
+    room: &mut Room,
 ) -> Result<(Shared<EntityUid>, Vec<Shared<EntityUid>>), NoMemory>
     ensures { IfOk result (λ e. (e.0 ≡ uid.now) × IsListOf (G.parents graph.now) uid.now e.1.items) }
 {
     let name = uid.share()?;
-    let list = list_of(alloc, graph, relatives, uid.get())?;
+    let list = list_within(alloc, graph, relatives, uid.get(), room)?;
     Ok((name, list))
 }
 
@@ -118,6 +135,7 @@ pub(crate) fn lists_of<G: ParentsOf>(
     graph: &G,
     relatives: &BTreeMap<EntityUid, Relatives>,
     entities: &[Shared<EntityUid>],
+    room: &mut Room,
 ) -> Result<Vec<(Shared<EntityUid>, Vec<Shared<EntityUid>>)>, NoMemory>
     ensures of { IfOk result (λ lists. firsts lists.items ≡ entities.now) }
     ensures right { IfOk result (λ lists. (q : PlainUid) (list : PlainVec PlainUid PlainGlobal) →
@@ -125,7 +143,7 @@ pub(crate) fn lists_of<G: ParentsOf>(
 {
     let mut lists = Vec::new(alloc);
     for entity in entities {
-        lists.push(with_list(alloc, graph, relatives, entity)?)?;
+        lists.push(with_list(alloc, graph, relatives, entity, room)?)?;
     }
     Ok(lists)
 }

@@ -1,10 +1,10 @@
 -- From what clap's getters say to the command line.
-use Rattle.std.proofs.Common.{◌≡◌, ◌<◌, ◌∙◌, ◌⊎◌, inl, inr, ℕ, Bool, true, false, Option, Some, None, option_map, refl, List, sym, ap, arith, [], ◌∷◌, codes, if◌then◌else◌, subst}
+use Rattle.std.proofs.Common.{◌≡◌, ◌<◌, ◌≤◌, ◌∙◌, ◌⊎◌, inl, inr, ℕ, Bool, true, false, Option, Some, None, option_map, refl, List, sym, ap, arith, [], ◌∷◌, codes, if◌then◌else◌, subst}
 use Rattle.stamped_store.specs.SiteNames.{IsSiteName}
 use Rattle.clap.specs.Words.{Row, Text, HasKind, first_of, fault_of, kind_of, subcommand_of, subcommand_rows_of, subcommand_name_of}
 use Rattle.command_lines.specs.declared.line.Line.{Line}
-use Rattle.command_lines.specs.declared.line.Line.TheVariants.{Check, Decide, Serve, Pull, Merge}
-use Rattle.command_lines.specs.Lines.{IsLineOf, IsGiven, IsGivenSite, IsGivenNoSite, IsGivenNumber, MayBeGivenNumber, IsNumberIn, IsNoLine, IsOfNoSite}
+use Rattle.command_lines.specs.declared.line.Line.TheVariants.{Check, Decide, Serve, Pull, Merge, Drill}
+use Rattle.command_lines.specs.Lines.{IsLineOf, IsGiven, IsGivenSite, IsGivenNoSite, IsGivenNumber, MayBeGivenNumber, IsNumberIn, IsNoLine, IsOfNoSite, IsNamed, HasSites}
 use Rattle.clap.specs.declared.error.Error.{Error}
 use Rattle.clap.specs.declared.error.ErrorKind.{ErrorKind}
 use Rattle.clap.specs.declared.error.ErrorKind.TheVariants.{OutOfMemory}
@@ -43,12 +43,13 @@ met_is m name rows result e f =
 
 -- of another word there is no command
 pub unknown_word : (word : Text) (rows : List Row) → ¬ (word ≡ codes "check") → ¬ (word ≡ codes "decide")
-    → ¬ (word ≡ codes "serve") → ¬ (word ≡ codes "pull") → ¬ (word ≡ codes "merge") → (line : Line) → IsLineOf word rows line → ⊥
-unknown_word word rows a b c d e (Check schema policies) is = a (sym is.0)
-unknown_word word rows a b c d e (Decide schema policies entities request) is = b (sym is.0)
-unknown_word word rows a b c d e (Serve schema site listen state connections) is = c (sym is.0)
-unknown_word word rows a b c d e (Pull schema site from state) is = d (sym is.0)
-unknown_word word rows a b c d e (Merge schema first second) is = e (sym is.0)
+    → ¬ (word ≡ codes "serve") → ¬ (word ≡ codes "pull") → ¬ (word ≡ codes "merge") → ¬ (word ≡ codes "drill") → (line : Line) → IsLineOf word rows line → ⊥
+unknown_word word rows a b c d e f (Check schema policies) is = a (sym is.0)
+unknown_word word rows a b c d e f (Decide schema policies entities request) is = b (sym is.0)
+unknown_word word rows a b c d e f (Serve schema site listen state connections) is = c (sym is.0)
+unknown_word word rows a b c d e f (Pull schema site from state) is = d (sym is.0)
+unknown_word word rows a b c d e f (Merge schema first second) is = e (sym is.0)
+unknown_word word rows a b c d e f (Drill schema sites script) is = f (sym is.0)
 
 -- something was given, and is no such thing
 none_given : (rows : List Row) (id text : Text) → first_of id rows ≡ None → IsGiven rows id text → ⊥
@@ -68,6 +69,14 @@ unlike a b s t f g which e = by_order which
     by_order : (a < b) ⊎ (b < a) → ⊥
     by_order (inl less) = absurd (omega (arith, less, same))
     by_order (inr less) = absurd (omega (arith, less, same))
+
+-- two that share the first letter differ where their second letters do
+abbrev tail_of : Text → Text
+tail_of [] = []
+tail_of (letter ∷ letters) = letters
+
+unlike_behind : (a b : ℕ) (s t : Text) → first_letter (tail_of s) ≡ a → first_letter (tail_of t) ≡ b → (a < b) ⊎ (b < a) → s ≡ t → ⊥
+unlike_behind a b s t f g which e = unlike a b (tail_of s) (tail_of t) f g which (ap tail_of e)
 
 check_is_no_decide : codes "check" ≡ codes "decide" → ⊥
 check_is_no_decide = unlike 99 100 (codes "check") (codes "decide") refl refl (inl (omega arith))
@@ -129,6 +138,21 @@ merge_is_no_serve = unlike 109 115 (codes "merge") (codes "serve") refl refl (in
 merge_is_no_pull : codes "merge" ≡ codes "pull" → ⊥
 merge_is_no_pull = unlike 109 112 (codes "merge") (codes "pull") refl refl (inl (omega arith))
 
+check_is_no_drill : codes "check" ≡ codes "drill" → ⊥
+check_is_no_drill = unlike 99 100 (codes "check") (codes "drill") refl refl (inl (omega arith))
+
+decide_is_no_drill : codes "decide" ≡ codes "drill" → ⊥
+decide_is_no_drill = unlike_behind 101 114 (codes "decide") (codes "drill") refl refl (inl (omega arith))
+
+serve_is_no_drill : codes "serve" ≡ codes "drill" → ⊥
+serve_is_no_drill = unlike 115 100 (codes "serve") (codes "drill") refl refl (inr (omega arith))
+
+pull_is_no_drill : codes "pull" ≡ codes "drill" → ⊥
+pull_is_no_drill = unlike 112 100 (codes "pull") (codes "drill") refl refl (inr (omega arith))
+
+merge_is_no_drill : codes "merge" ≡ codes "drill" → ⊥
+merge_is_no_drill = unlike 109 100 (codes "merge") (codes "drill") refl refl (inr (omega arith))
+
 -- ---- what a command of each word has
 
 module _ (rows : List Row) where
@@ -139,6 +163,7 @@ module _ (rows : List Row) where
   of_check (Serve schema site listen state connections) is = absurd (serve_is_no_check is.0)
   of_check (Pull schema site from state) is = absurd (pull_is_no_check is.0)
   of_check (Merge schema first second) is = absurd (merge_is_no_check is.0)
+  of_check (Drill schema sites script) is = absurd (check_is_no_drill (sym is.0))
 
   of_decide : (line : Line) → IsLineOf (codes "decide") rows line → ((text : Text) × IsGiven rows (codes "policies") text)
       × ((text : Text) × IsGiven rows (codes "entities") text)
@@ -148,6 +173,7 @@ module _ (rows : List Row) where
   of_decide (Serve schema site listen state connections) is = absurd (serve_is_no_decide is.0)
   of_decide (Pull schema site from state) is = absurd (pull_is_no_decide is.0)
   of_decide (Merge schema first second) is = absurd (merge_is_no_decide is.0)
+  of_decide (Drill schema sites script) is = absurd (decide_is_no_drill (sym is.0))
 
   of_serve : (line : Line) → IsLineOf (codes "serve") rows line → ((text : Text) × IsGiven rows (codes "schema") text)
       × ((text : Text) × IsGivenSite rows text)
@@ -158,6 +184,7 @@ module _ (rows : List Row) where
   of_serve (Serve schema site listen state connections) is = ((schema.now, is.1.0), (site, is.1.1), (listen.now, is.1.2), (connections, is.1.4))
   of_serve (Pull schema site from state) is = absurd (pull_is_no_serve is.0)
   of_serve (Merge schema first second) is = absurd (merge_is_no_serve is.0)
+  of_serve (Drill schema sites script) is = absurd (serve_is_no_drill (sym is.0))
 
   of_pull : (line : Line) → IsLineOf (codes "pull") rows line → ((text : Text) × IsGiven rows (codes "schema") text)
       × ((text : Text) × IsGivenSite rows text)
@@ -168,6 +195,7 @@ module _ (rows : List Row) where
   of_pull (Serve schema site listen state connections) is = absurd (serve_is_no_pull is.0)
   of_pull (Pull schema site from state) is = ((schema.now, is.1.0), (site, is.1.1), (from.now, is.1.2), (state.now, is.1.3))
   of_pull (Merge schema first second) is = absurd (merge_is_no_pull is.0)
+  of_pull (Drill schema sites script) is = absurd (pull_is_no_drill (sym is.0))
 
   of_merge : (line : Line) → IsLineOf (codes "merge") rows line → ((text : Text) × IsGiven rows (codes "schema") text)
       × ((text : Text) × IsGiven rows (codes "first") text)
@@ -177,6 +205,17 @@ module _ (rows : List Row) where
   of_merge (Serve schema site listen state connections) is = absurd (serve_is_no_merge is.0)
   of_merge (Pull schema site from state) is = absurd (pull_is_no_merge is.0)
   of_merge (Merge schema first second) is = ((schema.now, is.1.0), (first.now, is.1.1), (second.now, is.1.2))
+  of_merge (Drill schema sites script) is = absurd (merge_is_no_drill (sym is.0))
+
+  of_drill : (line : Line) → IsLineOf (codes "drill") rows line → ((text : Text) × IsGiven rows (codes "schema") text)
+      × ((number : ℕ) × IsGivenNumber rows (codes "sites") 1 64 number)
+      × ((text : Text) × IsGiven rows (codes "script") text)
+  of_drill (Check schema policies) is = absurd (check_is_no_drill is.0)
+  of_drill (Decide schema policies entities request) is = absurd (decide_is_no_drill is.0)
+  of_drill (Serve schema site listen state connections) is = absurd (serve_is_no_drill is.0)
+  of_drill (Pull schema site from state) is = absurd (pull_is_no_drill is.0)
+  of_drill (Merge schema first second) is = absurd (merge_is_no_drill is.0)
+  of_drill (Drill schema sites script) is = ((schema.now, is.1.0), (sites, is.1.1), (script.now, is.1.2))
 
   -- and so no command of that word lacks it
   pub check_lacks_schema : first_of (codes "schema") rows ≡ None → IsNone (IsLineOf (codes "check") rows)
@@ -227,6 +266,15 @@ module _ (rows : List Row) where
   pub merge_lacks_second : first_of (codes "second") rows ≡ None → IsNone (IsLineOf (codes "merge") rows)
   merge_lacks_second none line is = none_given rows (codes "second") (of_merge line is).2.0 none (of_merge line is).2.1
 
+  pub drill_lacks_schema : first_of (codes "schema") rows ≡ None → IsNone (IsLineOf (codes "drill") rows)
+  drill_lacks_schema none line is = none_given rows (codes "schema") (of_drill line is).0.0 none (of_drill line is).0.1
+
+  pub drill_lacks_sites : IsNone (IsGivenNumber rows (codes "sites") 1 64) → IsNone (IsLineOf (codes "drill") rows)
+  drill_lacks_sites none line is = none (of_drill line is).1.0 (of_drill line is).1.1
+
+  pub drill_lacks_script : first_of (codes "script") rows ≡ None → IsNone (IsLineOf (codes "drill") rows)
+  drill_lacks_script none line is = none_given rows (codes "script") (of_drill line is).2.0 none (of_drill line is).2.1
+
 -- ---- the site
 module _ (rows : List Row) where
   same_site : {t u : Text} → first_of (codes "site") rows ≡ Some t → first_of (codes "site") rows ≡ Some u → t ≡ u
@@ -264,6 +312,24 @@ module _ (rows : List Row) (id : Text) (least most : ℕ) where
   pub no_number_if_given : (text : Text) → first_of id rows ≡ Some text → IsNone (IsNumberIn least most text) → IsNone (MayBeGivenNumber rows id least most)
   no_number_if_given text is none None lacks = absurd cc
   no_number_if_given text is none (Some number) given = no_number text is none number given
+
+-- what was given lies in its bounds
+in_bounds : (rows : List Row) (id : Text) (least most number : ℕ) → IsGivenNumber rows id least most number
+    → (least ≤ number) × (number ≤ most)
+in_bounds rows id least most number given =
+    let same = given.2.1 in
+    let low = given.2.0.2 in
+    let high = given.2.0.3 in
+    (omega (arith, same, low), omega (arith, same, high))
+
+pub named_sites : (line : Line) (named : Option (Text × List Row)) → IsNamed line named → HasSites line
+named_sites line None is = absurd is
+named_sites (Check schema policies) (Some named) is = tt
+named_sites (Decide schema policies entities request) (Some named) is = tt
+named_sites (Serve schema site listen state connections) (Some named) is = tt
+named_sites (Pull schema site from state) (Some named) is = tt
+named_sites (Merge schema first second) (Some named) is = tt
+named_sites (Drill schema sites script) (Some named) is = in_bounds named.1 (codes "sites") 1 64 sites is.1.1
 
 -- ---- faults
 

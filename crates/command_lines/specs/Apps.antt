@@ -52,11 +52,16 @@ abbrev pub merge_app : App
 merge_app = with_rule (with_rule (with_rule (new_app (codes "merge")) (demanded (value_option (codes "schema"))))
     (demanded (value_word (codes "first")))) (demanded (value_word (codes "second")))
 
+-- drill --schema FILE --sites NUMBER SCRIPT
+abbrev pub drill_app : App
+drill_app = with_rule (with_rule (with_rule (new_app (codes "drill")) (demanded (value_option (codes "schema"))))
+    (demanded (number_option (codes "sites") 1 64))) (demanded (value_word (codes "script")))
+
 abbrev pub asks_for_command : App → App
 asks_for_command a = record a { top = record a.top { subcommand_required = true } }
 
 -- all of them
 abbrev pub site_app : App
-site_app = with_subcommand (with_subcommand (with_subcommand (with_subcommand (with_subcommand
+site_app = with_subcommand (with_subcommand (with_subcommand (with_subcommand (with_subcommand (with_subcommand
     (asks_for_command (new_app (codes "cedar_site"))) check_app.top) decide_app.top) serve_app.top) pull_app.top)
-    merge_app.top
+    merge_app.top) drill_app.top

@@ -1,10 +1,10 @@
 -- Which command the words are, with what was given for each of its options.
-use Rattle.std.specs.Prelude.{◌≡◌, ℕ, List, Option, None, Some, option_map, codes}
+use Rattle.std.specs.Prelude.{◌≡◌, ◌≤◌, ℕ, List, Option, None, Some, option_map, codes}
 use Rattle.std.specs.Str.Parse.{digits_value, without_leading_plus}
 use Rattle.clap.specs.Words.{Row, Text, IsUnsignedIn, first_of, subcommand_of}
 use Rattle.stamped_store.specs.SiteNames.{IsSiteName}
 use Rattle.command_lines.specs.declared.line.Line.{Line}
-use Rattle.command_lines.specs.declared.line.Line.TheVariants.{Check, Decide, Serve, Pull, Merge}
+use Rattle.command_lines.specs.declared.line.Line.TheVariants.{Check, Decide, Serve, Pull, Merge, Drill}
 use Rattle.command_lines.specs.Apps.{site_app}
 
 -- the word of a command
@@ -14,6 +14,7 @@ word_of (Decide schema policies entities request) = codes "decide"
 word_of (Serve schema site listen state connections) = codes "serve"
 word_of (Pull schema site from state) = codes "pull"
 word_of (Merge schema first second) = codes "merge"
+word_of (Drill schema sites script) = codes "drill"
 
 -- what was given for this is the text
 abbrev pub IsGiven : List Row → Text → Text → Type 0
@@ -66,6 +67,15 @@ HasTexts rows (Merge schema first second) =
     IsGiven rows (codes "schema") schema.now
     × IsGiven rows (codes "first") first.now
     × IsGiven rows (codes "second") second.now
+HasTexts rows (Drill schema sites script) =
+    IsGiven rows (codes "schema") schema.now
+    × IsGivenNumber rows (codes "sites") 1 64 sites
+    × IsGiven rows (codes "script") script.now
+
+-- a script is played at 1 to 64 sites
+abbrev pub HasSites : Line → Type 0
+HasSites (Drill schema sites script) = (1 ≤ sites) × (sites ≤ 64)
+HasSites _ = Unit {0}
 
 -- the command of this word, with these options
 abbrev pub IsLineOf : Text → List Row → Line → Type 0

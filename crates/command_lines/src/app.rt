@@ -2,7 +2,8 @@
 ghost use Rattle.std.specs.Prelude.{◌≡◌, false, Ok, IfOk, codes};
 ghost use Rattle.clap.specs.Words.{App, Rule, rule_of, new_app, with_rule, with_subcommand};
 ghost use Rattle.command_lines.specs.Apps.{value_option, value_word, number_option, demanded, site_option};
-ghost use Rattle.command_lines.specs.Apps.{check_app, decide_app, serve_app, pull_app, merge_app, site_app};
+ghost use Rattle.command_lines.specs.Apps.{check_app, decide_app, serve_app, pull_app, merge_app, drill_app};
+ghost use Rattle.command_lines.specs.Apps.{site_app};
 ghost use Rattle.command_lines.specs.Apps.{asks_for_command};
 ghost use Rattle.command_lines.specs.inner.Known.{IsApp};
 
@@ -13,6 +14,9 @@ use std::alloc::Global;
 
 /// The greatest number of connections that can be asked for.
 pub(crate) const MOST_CONNECTIONS: u64 = 4_294_967_295;
+
+/// The greatest number of sites that a script can be played at.
+pub(crate) const MOST_SITES: u64 = 64;
 
 /// What was made beside a value, with that value; where nothing was made, only why. It is generic, so that the value
 /// that is let go is one step, and not one a field of it.
@@ -216,6 +220,19 @@ fn merge_command<'a>(alloc: Global) -> Result<Command<'a>, NoMemory>
     with_word(alloc, command, "second", "SECOND", "Another one")
 }
 
+fn drill_command<'a>(alloc: Global) -> Result<Command<'a>, NoMemory>
+    ensures { IfOk result (IsApp drill_app) }
+{
+    let about = "Plays a script of events at sites of one run, and prints what comes of each";
+    let count = "How many sites there are, 1 to 64; the script names them by their numbers";
+    let script = "The script: one event a line, each a JSON object";
+    let command = bare(alloc, "drill", about);
+    let command = with_schema(alloc, command);
+    let sites = number_option(alloc, "sites", 1, MOST_SITES, count).required(true);
+    let command = with(command, sites);
+    with_word(alloc, command, "script", "SCRIPT", script)
+}
+
 /// The program's command, which asks for a subcommand.
 fn top_command<'a>(alloc: Global) -> Result<Command<'a>, NoMemory>
     ensures { IfOk result (IsApp (asks_for_command (new_app (codes "cedar_site")))) }
@@ -234,5 +251,6 @@ pub(crate) fn command<'a>(alloc: Global) -> Result<Command<'a>, NoMemory>
     let command = with_command(command, decide_command(alloc));
     let command = with_command(command, serve_command(alloc));
     let command = with_command(command, pull_command(alloc));
-    with_command(command, merge_command(alloc))
+    let command = with_command(command, merge_command(alloc));
+    with_command(command, drill_command(alloc))
 }

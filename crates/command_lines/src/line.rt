@@ -3,14 +3,14 @@ ghost use Rattle.std.specs.Prelude.{◌≡◌, ◌↔◌, IsTrue, [], IfOk, IfEr
 ghost use Rattle.std.specs.Prelude.{string_bytes, codes};
 ghost use Rattle.clap.specs.Words.{fault_of, found_of, rows_of, subcommand_rows_of};
 ghost use Rattle.command_lines.specs.Apps.{site_app};
-ghost use Rattle.command_lines.specs.Lines.{IsLineOf, IsNamed, IsNoLine, IsOfNoSite, Says};
+ghost use Rattle.command_lines.specs.Lines.{HasSites, IsLineOf, IsNamed, IsNoLine, IsOfNoSite, Says};
 ghost use Rattle.command_lines.specs.Faults.{IsFaultOf};
 ghost use Rattle.command_lines.specs.inner.Lacking.{IsNone};
 ghost use Rattle.command_lines.specs.inner.Sorting.{IsLackOf};
 
 use crate::app::command;
 use crate::fault::{LineFault, sorted};
-use crate::options::{connections_in, has_no_site, option_text, site_in};
+use crate::options::{connections_in, has_no_site, option_text, site_in, sites_in};
 use clap::ArgMatches;
 use stamped_store::SiteName;
 use std::alloc::Global;
@@ -52,6 +52,12 @@ pub enum Line<'a> {
         schema: &'a str,
         first: &'a str,
         second: &'a str,
+    },
+    /// Play a script at so many sites, 1 to 64: the names of a schema's file and of the script.
+    Drill {
+        schema: &'a str,
+        sites: u16,
+        script: &'a str,
     },
 }
 
@@ -172,6 +178,27 @@ fn merge_in<'a>(options: &ArgMatches<'a>) -> Option<Line<'a>>
     })
 }
 
+/// `drill`, if it has both of its files, and its number of sites lies in its bounds.
+fn drill_in<'a>(options: &ArgMatches<'a>) -> Option<Line<'a>>
+    ensures { MatchOption result (IsNone (IsLineOf (codes "drill") (rows_of (found_of options.now))))
+        (IsLineOf (codes "drill") (rows_of (found_of options.now))) }
+{
+    let Some(schema) = option_text(options, "schema") else {
+        return None;
+    };
+    let Some(sites) = sites_in(options) else {
+        return None;
+    };
+    let Some(script) = option_text(options, "script") else {
+        return None;
+    };
+    Some(Line::Drill {
+        schema,
+        sites,
+        script,
+    })
+}
+
 /// The command of this name, if it has all of its options.
 fn named_line<'a>(name: &str, options: &ArgMatches<'a>) -> Option<Line<'a>>
     ensures { MatchOption result (IsNone (IsLineOf name.now (rows_of (found_of options.now))))
@@ -191,6 +218,9 @@ fn named_line<'a>(name: &str, options: &ArgMatches<'a>) -> Option<Line<'a>>
     }
     if name == "merge" {
         return merge_in(options);
+    }
+    if name == "drill" {
+        return drill_in(options);
     }
     None
 }
@@ -230,10 +260,11 @@ fn lack_of(matches: &ArgMatches<'_>) -> LineFault
 /// The command that the words give, the first of which is the program's own name.
 ///
 /// It has every option that it demands, `--site` with a site's name (1 to 32 bytes, each an ASCII letter, a digit, `-`,
-/// `_` or `.`), taken as it stands, and `--connections`, where it is given, from 0 to 4,294,967,295. Words that are no
-/// command answer why; that `--site` has another text is told after every other fault.
+/// `_` or `.`), taken as it stands, `--sites` from 1 to 64, and `--connections`, where it is given, from 0 to
+/// 4,294,967,295. Words that are no command answer why; that `--site` has another text is told after every other fault.
 pub fn line_of<'a>(alloc: Global, words: &'a [String]) -> Result<Line<'a>, LineFault>
     ensures ok { IfOk result (Says (map string_bytes words.entry.now)) }
+    ensures sites { IfOk result HasSites }
     ensures taken { OnOk result (fault_of site_app (map string_bytes words.entry.now) ≡ []) }
     ensures err { IfErr result (IsFaultOf (map string_bytes words.entry.now)) }
 {

@@ -1,10 +1,10 @@
 //! What was given for each option.
 ghost use Rattle.std.specs.Prelude.{◌≡◌, ◌↔◌, IsTrue, Some, None, MatchOption, option_map, codes};
 ghost use Rattle.clap.specs.Words.{first_of, found_of, rows_of};
-ghost use Rattle.command_lines.specs.Lines.{IsNumberIn, MayBeGivenNumber, IsGivenSite, IsGivenNoSite};
+ghost use Rattle.command_lines.specs.Lines.{IsNumberIn, IsGivenNumber, MayBeGivenNumber, IsGivenSite, IsGivenNoSite};
 ghost use Rattle.command_lines.specs.inner.Lacking.{IsNone};
 
-use crate::app::MOST_CONNECTIONS;
+use crate::app::{MOST_CONNECTIONS, MOST_SITES};
 use clap::ArgMatches;
 use stamped_store::{SiteName, is_site_name};
 
@@ -57,6 +57,21 @@ pub(crate) fn connections_in(options: &ArgMatches<'_>) -> Option<Option<u32>>
     };
     match number_in(text, 0, MOST_CONNECTIONS) {
         Some(number) => Some(Some(number as u32)),
+        None => None,
+    }
+}
+
+/// How many sites there are to be; `None` where what was given is no such number.
+pub(crate) fn sites_in(options: &ArgMatches<'_>) -> Option<u16>
+    ensures { MatchOption result
+        (IsNone (IsGivenNumber (rows_of (found_of options.now)) (codes "sites") 1 64))
+        (IsGivenNumber (rows_of (found_of options.now)) (codes "sites") 1 64) }
+{
+    let Some(text) = option_text(options, "sites") else {
+        return None;
+    };
+    match number_in(text, 1, MOST_SITES) {
+        Some(number) => Some(number as u16),
         None => None,
     }
 }

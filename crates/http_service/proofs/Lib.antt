@@ -1,3 +1,4 @@
 pub mod Carried
 pub mod RunLemmas
 pub mod Dealt
+pub mod OneReply

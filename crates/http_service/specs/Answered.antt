@@ -1,6 +1,7 @@
 -- What is answered to a request, and what it leaves of the site. Rules of this product.
 use Rattle.std.specs.Prelude.{◌≡◌, ◌⊎◌, ℕ, List, Ok, Err, option_map}
 use Rattle.http_texts.specs.declared.status.Status.{Status}
+use Rattle.site_runs.specs.passed_on.schema.{IsStated}
 use Rattle.service_replies.specs.passed_on.site.{Seen, schema_of, store_in, IsSameSite}
 use Rattle.service_replies.specs.passed_on.site_SiteFault_variants as fault
 use Rattle.site_runs.specs.Runs.{Step}
@@ -45,9 +46,6 @@ abbrev pub answers_over : Routed → List ℕ → List ℕ → List ℕ → Stat
 answers_over old method target body status line new =
     answers old.site.now method target body status line new.site.now × (new.site.ghost_name ≡ old.site.ghost_name)
 
--- sites of one schema and name with equal stores: requests tell no difference
+-- sites of one schema, which some bytes state, and of one name, with equal stores: requests tell no difference
 abbrev pub IsAlike : Seen → Seen → Type 0
-IsAlike a b = IsSameSite a b × (store_in b ≡ store_in a)
-
-abbrev pub is_alike_over : Routed → Routed → Type 0
-is_alike_over a b = IsAlike a.site.now b.site.now
+IsAlike a b = IsStated a.schema × IsSameSite a b × (store_in b ≡ store_in a)

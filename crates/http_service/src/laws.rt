@@ -1,11 +1,20 @@
 //! Laws of streams over a site.
-ghost use Rattle.std.specs.Prelude.{ℕ, List};
+ghost use Rattle.std.specs.Prelude.{◌≡◌, ℕ, List};
+ghost use Rattle.http_texts.specs.declared.status.Status.{Status};
+ghost use Rattle.http_streams.specs.Laws.{AgreeOn, AnswersAll, BeginsAnswer, HasOneAnswer, StopsIn, in_memory};
 ghost use Rattle.http_streams.specs.Stream.{Ends, Rests, Stops};
 ghost use Rattle.service_replies.specs.passed_on.site.{Seen};
-ghost use Rattle.http_service.specs.Answered.{answers};
+ghost use Rattle.site_runs.specs.declared.input.Input.{Input};
+ghost use Rattle.site_runs.specs.declared.reply.Reply.{Reply};
+ghost use Rattle.site_runs.specs.passed_on.schema.{IsStated};
+ghost use Rattle.site_runs.specs.Right.{IsHarmlessReply};
+ghost use Rattle.http_service.specs.Asked.{hands};
+ghost use Rattle.http_service.specs.Answered.{IsAlike, Replies, answers, told};
 ghost use Rattle.http_service.specs.Streams.{LeavesRun};
 
-use site_runs::runs_leave_what_they_took;
+use crate::routed::Stated;
+use http_streams::laws::{begins_answer, one_answer};
+use site_runs::{inputs_have_one_outcome, runs_go_right, runs_leave_what_they_took};
 
 /// However a stream of requests ends, the site goes on by a run of the inputs that the requests ask for, in their
 /// order: so its store is that of the updates that it had and of those that it took.
@@ -15,4 +24,40 @@ pub fn streams_leave_runs()
     ensures stops { (old new : Seen) (bytes out : List ℕ) → Stops answers old bytes out new → LeavesRun old bytes new }
 {
     runs_leave_what_they_took();
+}
+
+/// Sites of one schema, of one name and with equal stores answer each request by the same status and the same body, and
+/// hold equal stores afterwards, want of memory (503) aside.
+pub fn requests_have_one_reply()
+    ensures { HasOneAnswer (in_memory answers) IsAlike }
+{
+    inputs_have_one_outcome();
+}
+
+/// However a stream of requests is cut into reads, the same bytes go out, and the site holds the same store, want of
+/// memory (503) aside; and what went out before a read or a write failed, or memory was refused, is a beginning of
+/// these bytes. The one corner: a stream that ends inside a request target whose bytes are no UTF-8 may get the reply
+/// 400 or nothing. That an answer is one in memory, or a 503 stands in it, is `http_streams::laws::in_memory_or_503`.
+pub fn cuts_make_no_difference()
+    ensures whole { (old old2 new new2 : Seen) (stream out more : List ℕ) → IsAlike old old2
+        → AnswersAll (in_memory answers) old stream out new → AnswersAll (in_memory answers) old2 stream more new2
+        → AgreeOn (in_memory answers) IsAlike old old2 stream out more new new2 }
+    ensures broken { (old old2 new new2 : Seen) (stream out more : List ℕ) → IsAlike old old2
+        → StopsIn (in_memory answers) old stream out new → AnswersAll (in_memory answers) old2 stream more new2
+        → BeginsAnswer (in_memory answers) old2 stream out more new2 }
+{
+    requests_have_one_reply();
+    one_answer::<Stated>();
+    begins_answer::<Stated>();
+}
+
+/// What a request that is handed to a site is replied tells of no error of type, of attribute or of an extension
+/// function: it is the reply of one step, in whose answer a policy errs since an entity is not stored, or since a
+/// number leaves its bounds.
+pub fn served_answers_go_right()
+    ensures { (old new : Seen) (input : Input) (status : Status) (line : List ℕ) → IsStated old.schema
+        → Replies old (hands input) status line new
+        → (reply : Reply) × IsHarmlessReply reply × ((status, line) ≡ told reply) }
+{
+    runs_go_right();
 }

@@ -9,7 +9,9 @@ mod laws;
 mod routed;
 mod serving;
 
-pub use laws::streams_leave_runs;
+pub use laws::{
+    cuts_make_no_difference, requests_have_one_reply, served_answers_go_right, streams_leave_runs,
+};
 pub use routed::Routed;
 pub use serving::serve;
 pub use site_runs::{Site, SiteFault, Taken, take_bytes};

@@ -6,20 +6,23 @@ ghost use Rattle.http_texts.specs.declared.status.Status.{Status};
 
 use http_texts::status::Status;
 
-/// A state that answers requests.
-pub trait Service {
+/// States in which requests have answers: what laws of streams speak of, with no code.
+pub trait Answers {
     // In a state, a method, a target and a body may be answered by a status and a body, which leaves a state.
     ghost answers: { Self → List ℕ → List ℕ → List ℕ → Status → List ℕ → Self → Type 0 };
 
     // Two states of which requests tell no difference. Where this isn't given, they are equal.
     ghost same: { Self → Self → Type 0 } = { λ one other. one ≡ other };
+}
 
+/// A state that answers requests.
+pub trait Service: Answers {
     /// Appends the body of the reply to `text`, and answers its status. There is room for a short reply, so that
     /// it takes no memory; where memory is refused for a longer one, a short reply can still say so. The text keeps
     /// its memory, for the next reply.
     fn call(&mut self, method: &[u8], target: &[u8], body: &[u8], text: &mut Vec<u8>) -> Status
         requires room { vec_len text.old + REPLY_ROOM ≤ vec_capacity text.old }
         ensures reply { (reply : List ℕ) × (text.new.items ≡ text.old.items ++ reply)
-            × answers self.old method.now target.now body.now result reply self.new }
+            × Self.answers self.old method.now target.now body.now result reply self.new }
         ensures kept { vec_capacity text.old ≤ vec_capacity text.new };
 }

@@ -9,7 +9,7 @@ ghost use Rattle.kept_ancestors.specs.inner.WholeGraph.{AreListsOf};
 
 use ancestor_closure::ParentsOf;
 use ancestor_lists::{
-    Relatives, add_to_all, list_of, make_room, parents_by, shared, shared_all, write_list,
+    Relatives, Room, add_to_all, list_within, make_room, parents_by, shared, shared_all, write_list,
 };
 use plain::{NoMemory, Shared};
 use std::alloc::Global;
@@ -76,6 +76,7 @@ fn write_lists<G: ParentsOf>(
     graph: &G,
     relatives: &mut BTreeMap<EntityUid, Relatives>,
     uids: &[&EntityUid],
+    room: &mut Room,
 ) -> Result<(), NoMemory>
     requires lists { (q : PlainUid) → ancestors_in relatives.old q ≡ [] }
     requires there { (q : PlainUid) → Contains (names uids.now) q → IsThere relatives.old q }
@@ -83,23 +84,24 @@ fn write_lists<G: ParentsOf>(
     ensures children { SameChildren relatives.old relatives.new }
 {
     for uid in uids {
-        let list = list_of(alloc, graph, relatives, uid)?;
+        let list = list_within(alloc, graph, relatives, uid, room)?;
         write_list(relatives, uid, list);
     }
     Ok(())
 }
 
-/// The ancestors and children by the edges of these entities.
+/// The ancestors and children by the edges of these entities, where there is room for them.
 pub(crate) fn relatives_among<G: ParentsOf>(
     alloc: Global,
     graph: &G,
     uids: &[&EntityUid],
+    room: &mut Room,
 ) -> Result<BTreeMap<EntityUid, Relatives>, NoMemory>
     ensures lists { IfOk result (λ m. AreListsOf (G.parents graph.now) (names uids.now) (ancestors_in m)) }
     ensures children { IfOk result (λ m. AreChildrenAmong (names uids.now) (G.parents graph.now) (children_in m)) }
 {
     let mut relatives = children_among(alloc, graph, uids)?;
-    write_lists(alloc, graph, &mut relatives, uids)?;
+    write_lists(alloc, graph, &mut relatives, uids, room)?;
     Ok(relatives)
 }
 

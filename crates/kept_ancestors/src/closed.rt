@@ -10,6 +10,7 @@ ghost use Rattle.kept_ancestors.specs.ClosedMeaning.{closed_parents, closed_abov
 
 use crate::keeping::KeptAncestors;
 use ancestor_closure::{Ancestry, Changed, Hierarchy, ParentsOf};
+use ancestor_lists::Room;
 use plain::NoMemory;
 use std::alloc::Global;
 use std::collections::BTreeMap;
@@ -107,7 +108,8 @@ fn follow_change(
         uid,
         parents,
     };
-    kept.follow(&changed, uid)
+    let mut room = Room::new(usize::MAX);
+    kept.follow(&changed, uid, &mut room)
 }
 
 // Gives an entity these parents.

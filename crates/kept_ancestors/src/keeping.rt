@@ -9,7 +9,7 @@ ghost use Rattle.kept_ancestors.specs.Kept.{AreKept, AreKeptBut};
 
 use crate::anew::{relatives_among, set_of};
 use ancestor_closure::{Graph, ParentsOf, least_cycle_among, on_cycles};
-use ancestor_lists::{Relatives, ancestors_at, are_none, follow, is_in, lent, members};
+use ancestor_lists::{Relatives, Room, ancestors_at, are_none, follow, is_in, lent, members};
 use plain::{NoMemory, Shared};
 use std::alloc::Global;
 use std::collections::{BTreeMap, BTreeSet};
@@ -69,12 +69,12 @@ impl KeptAncestors {
         }
     }
 
-    /// Of a whole graph, made anew: one search for each stored entity.
-    pub fn of_graph<G: Graph>(alloc: Global, graph: &G) -> Result<Self, NoMemory>
+    /// Of a whole graph, made anew: one search for each stored entity. Errors: `NoMemory`, also where there is no room.
+    pub fn of_graph<G: Graph>(alloc: Global, graph: &G, room: &mut Room) -> Result<Self, NoMemory>
         ensures { IfOk result (λ kept. AreKept (G.parents graph.now) kept) }
     {
         let uids = graph.stored_uids(alloc)?;
-        let relatives = relatives_among(alloc, graph, &uids)?;
+        let relatives = relatives_among(alloc, graph, &uids, room)?;
         let found = on_cycles(alloc, graph)?;
         let cyclic = set_of(alloc, &relatives, &found)?;
         Ok(KeptAncestors {
@@ -86,8 +86,14 @@ impl KeptAncestors {
     }
 
     /// Follows a change of one entity's parents, by the graph after it. Only that entity and those below it are looked
-    /// at. Where memory is refused, what is kept is right for the graph before the change, as it was.
-    pub fn follow<G: ParentsOf>(&mut self, graph: &G, uid: &EntityUid) -> Result<(), NoMemory>
+    /// at. Where memory is refused, or there is no room, what is kept is right for the graph before the change, as it
+    /// was.
+    pub fn follow<G: ParentsOf>(
+        &mut self,
+        graph: &G,
+        uid: &EntityUid,
+        room: &mut Room,
+    ) -> Result<(), NoMemory>
         requires { AreKeptBut uid.now (G.parents graph.now) self.old }
         ensures ok { OnOk result (AreKept (G.parents graph.now) self.new) }
         ensures err { OnErr result ((before : Parents) → AreKept before self.old → AreKept before self.new) }
@@ -98,6 +104,7 @@ impl KeptAncestors {
             &mut self.relatives,
             &mut self.cyclic,
             uid,
+            room,
         )?;
         Ok(())
     }

@@ -5,5 +5,6 @@ mod anew;
 pub mod closed;
 pub mod keeping;
 
+pub use ancestor_lists::Room;
 pub use closed::Closed;
 pub use keeping::KeptAncestors;

@@ -11,6 +11,8 @@ use Rattle.sync_messages.specs.declared.fault.MessageFault.{MessageFault}
 use Rattle.state_messages.specs.Messages.{state_text}
 use Rattle.state_messages.specs.declared.update.Update.{Update as SentUpdate}
 use Rattle.state_messages.specs.Updates.{IsRefused, abstract_updates}
+use Rattle.state_messages.specs.Bodies.{TextsHaveOneOutcome}
+use Rattle.stored_texts.specs.Laws.{PoliciesHaveOneReading, EntitiesHaveOneReading}
 use Rattle.stored_texts.specs.Texts.{ReadsPolicy, RefusesPolicy, ReadsEntity, RefusesEntity}
 use Rattle.decision_texts.specs.declared.refusal.Refusal.{Refusal}
 use Rattle.policy_checks.specs.Refusals.{schema_refusal}
@@ -29,6 +31,14 @@ pub record Laws (s : StatedSchema) : Type 0 where
       → IsFaultOf s bytes f → ⊥
   pub some : (bytes : List ℕ) → ((us : List (SentUpdate Policy Entity)) × IsMessageOf s bytes us)
       ⊎ ((f : MessageFault) × IsFaultOf s bytes f)
+
+-- under a schema each text has one outcome
+pub texts_are_one : (s : StatedSchema) → PoliciesHaveOneReading → EntitiesHaveOneReading
+    → TextsHaveOneOutcome (λ (id : List ℕ). ReadsPolicy s) (λ (id : List ℕ). RefusesPolicy s) (ReadsEntity s) (RefusesEntity s)
+texts_are_one s policies entities = record {
+  policies = λ id text. (policies s text).0;
+  entities = λ uid text. (entities s uid text).0;
+}
 
 -- ---- two messages under a schema
 module _ (s : StatedSchema) (laws : Laws s) where

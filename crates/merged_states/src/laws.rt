@@ -1,12 +1,15 @@
 //! Laws of merged states; the functions do nothing.
 ghost use Rattle.std.specs.Prelude.{ℕ, List};
 ghost use Rattle.schema_types.specs.declared.fault.SchemaFault.{SchemaFault};
+ghost use Rattle.schema.specs.SchemaEntries.{SchemaEntries as SchemaKept};
 ghost use Rattle.schema.specs.Schemas.{IsSchemaOf, RefusedFor};
 ghost use Rattle.schema.specs.Views.{schema_view};
 ghost use Rattle.merged_states.specs.Outcomes.{HaveOneOutcome, OrderDoesNotMatter, RepeatsDoNotMatter};
 ghost use Rattle.merged_states.specs.Outcomes.{GroupsDoNotMatter};
 
-use schema::{Schema, bytes_have_one_outcome};
+use entities::Entity;
+use policy_grammar::Policy;
+use schema::bytes_have_one_outcome;
 use stamped_store::laws::updates_have_one_store;
 use state_messages::messages_have_one_outcome;
 use stored_texts::{SchemaTexts, stored_texts_have_one_reading};
@@ -22,14 +25,14 @@ pub fn order_and_repeats_do_not_matter()
     bytes_have_one_outcome();
 }
 
-/// That the texts of a schema and of two messages come to exactly one thing: a state or a refusal. It is said of the
-/// bytes that state the schema at hand, and of those that state none.
-pub fn merges_have_one_outcome(schema: &Schema)
-    ensures stated { (bytes f g : List ℕ) → IsSchemaOf bytes (schema_view schema.now) → HaveOneOutcome bytes f g }
+/// That the texts of a schema and of two messages come to exactly one thing: a state or a refusal. It is said of bytes
+/// that state a schema, as it is kept, and of those that state none.
+pub fn merges_have_one_outcome()
+    ensures stated { (bytes f g : List ℕ) (schema : SchemaKept) → IsSchemaOf bytes (schema_view schema)
+        → HaveOneOutcome bytes f g }
     ensures unstated { (bytes f g : List ℕ) (fault : SchemaFault) → RefusedFor bytes fault → HaveOneOutcome bytes f g }
 {
-    let texts = SchemaTexts::under(schema);
     bytes_have_one_outcome();
-    messages_have_one_outcome(&texts);
+    messages_have_one_outcome::<Policy, Entity, SchemaTexts<'static>>();
     stored_texts_have_one_reading();
 }

@@ -22,6 +22,17 @@ pub(crate) fn came_to(alloc: Global, site: &Option<Site>) -> Result<String, NoMe
     }
 }
 
+/// Drops what the site keeps beside its store.
+pub(crate) fn let_go(alloc: Global, site: &mut Option<Site>) -> Result<String, NoMemory> {
+    match site {
+        Some(site) => {
+            site.drop_kept();
+            String::from_str(alloc, "dropped")
+        }
+        None => String::from_str(alloc, "no site"),
+    }
+}
+
 /// Keeps a stream for scripts to be drawn from.
 pub(crate) fn keep_stream(
     alloc: Global,
@@ -47,17 +58,29 @@ struct Seen {
     allowed: bool,
     denied: bool,
     on_cycle: bool,
+    erring: bool,
+    refused_cycle: bool,
 }
+
+const NOTHING_SEEN: Seen = Seen {
+    allowed: false,
+    denied: false,
+    on_cycle: false,
+    erring: false,
+    refused_cycle: false,
+};
 
 impl Seen {
     fn note(&mut self, out: &str) {
         self.allowed = self.allowed | out.contains("\"decision\":\"Allow\"");
         self.on_cycle = self.on_cycle | out.contains("\"cycle\":[{");
         self.denied = self.denied | out.contains("\"cycle\":[],\"decision\":\"Deny\"");
+        self.erring = self.erring | out.contains("\"errors\":[{");
+        self.refused_cycle = self.refused_cycle | out.contains("\"code\":61,");
     }
 
     fn all(self) -> bool {
-        self.allowed & self.denied & self.on_cycle
+        self.allowed & self.denied & self.on_cycle & self.erring & self.refused_cycle
     }
 }
 
@@ -95,26 +118,62 @@ fn twins_of(keeping: Option<Site>, searching: Option<Site>) -> Option<Twins> {
     }
 }
 
-/// Draws so many streams, and has both sites answer each: the first place at which they differ, or how it ended.
+/// So many streams are drawn for two sites that begin empty. A message has counts that no command comes to before it,
+/// and each that wins raises those of the commands behind it: so updates of messages win about half of the time.
+const DRAWN: usize = 30;
+
+/// Draws streams, and has both sites answer each: whether they did alike.
 fn drawn_alike(
     alloc: Global,
     streams: &[Vec<u8>],
     twins: &mut Twins,
+    number: &mut u64,
+    seen: &mut Seen,
+) -> Result<bool, NoMemory> {
+    for _ in 0..DRAWN {
+        let at = drawn(number, streams.len());
+        if let Some(stream) = streams.get(at) {
+            if !twins.answer_alike(alloc, stream, seen)? {
+                return Ok(false);
+            }
+        }
+    }
+    Ok(true)
+}
+
+/// Whether two sites that begin empty answer alike.
+fn begin_alike(
+    alloc: Global,
+    schema: &[u8],
+    streams: &[Vec<u8>],
+    number: &mut u64,
+    seen: &mut Seen,
+) -> Result<bool, NoMemory> {
+    let keeping = empty_site(alloc, schema, "00001")?;
+    let searching = empty_site(alloc, schema, "00001")?;
+    match twins_of(keeping, searching) {
+        Some(twins) => {
+            let mut twins = twins;
+            let alike = drawn_alike(alloc, streams, &mut twins, number, seen);
+            ended(twins, alike)
+        }
+        None => Ok(false),
+    }
+}
+
+/// Begins so many times: the first time at which the sites differ, or how it ended.
+fn all_alike(
+    alloc: Global,
+    schema: &[u8],
+    streams: &[Vec<u8>],
     number: u64,
     count: usize,
 ) -> Result<String, NoMemory> {
     let mut number = number;
-    let mut seen = Seen {
-        allowed: false,
-        denied: false,
-        on_cycle: false,
-    };
-    for place in 0..count {
-        let at = drawn(&mut number, streams.len());
-        if let Some(stream) = streams.get(at) {
-            if !twins.answer_alike(alloc, stream, &mut seen)? {
-                return format!(in alloc; "differs at {place}");
-            }
+    let mut seen = NOTHING_SEEN;
+    for time in 0..count {
+        if !begin_alike(alloc, schema, streams, &mut number, &mut seen)? {
+            return format!(in alloc; "differ at {time}");
         }
     }
     String::from_str(
@@ -127,7 +186,8 @@ fn drawn_alike(
     )
 }
 
-/// What a row of `site_twins` comes to, over the streams that were kept: its text is a number, and how many are drawn.
+/// What a row of `site_twins` comes to, over the streams that were kept: its text is a number, and how often the sites
+/// begin.
 pub(crate) fn alike(
     alloc: Global,
     schema: &[u8],
@@ -138,14 +198,5 @@ pub(crate) fn alike(
     let (Ok(number), Ok(count)) = (number.parse::<u64>(), count.parse::<usize>()) else {
         return bad_row(alloc);
     };
-    let keeping = empty_site(alloc, schema, "00001")?;
-    let searching = empty_site(alloc, schema, "00001")?;
-    match twins_of(keeping, searching) {
-        Some(twins) => {
-            let mut twins = twins;
-            let told = drawn_alike(alloc, streams, &mut twins, number, count);
-            ended(twins, told)
-        }
-        None => String::from_str(alloc, "no site"),
-    }
+    all_alike(alloc, schema, streams, number, count)
 }

@@ -64,10 +64,11 @@
 //!   of 100.
 //! - `site_pieces`: the same where each read gives one byte, and each write takes 3.
 //! - `site_kept` (`kept`): whether ancestors and index stand beside its store, and how many policies its last answer
-//!   tried.
-//! - `drawable`: keeps a stream, and tells how many are kept. `site_twins NUMBER COUNT`: draws so many of these by
-//!   numbers that follow from this one, and serves each to two sites of one name, one of which has what it keeps
-//!   dropped before each; whether the same goes out, and whether some were allowed, denied, and denied for a cycle.
+//!   tried. `site_drop`: has the site drop both, as where memory is refused for them.
+//! - `drawable`: keeps a stream, and tells how many are kept. `site_twins NUMBER COUNT`: so many times two sites of one
+//!   name begin empty; 30 of these streams are drawn by numbers that follow from this one, and each is served to both,
+//!   of which one drops what it keeps before each. Whether the same goes out, and whether there were replies of each
+//!   kind: allowed, denied, denied for a cycle, with a policy that errs, and a put that is refused for a cycle.
 //!
 //! In a text `⟦3×ab⟧` stands for `ababab`, `⟦2№a#+⟧` for `a01a12`, and `⟦0a ff⟧` for two bytes. In a text of a
 //! stream or of a reply `\r`, `\n`, `\t` and `\\` are what they are elsewhere, `\f` is the byte 255, `\k` 1,024
@@ -234,6 +235,7 @@ fn came_to(alloc: Global, given: &mut Given, word: &str, text: &str) -> Result<S
         "under" => declared::declare(alloc, &mut given.declared, text),
         "site" => devices::begin(alloc, &mut given.site, &given.declared.schema, text),
         "site_kept" => kept::came_to(alloc, &given.site),
+        "site_drop" => kept::let_go(alloc, &mut given.site),
         "site_twins" => kept::alike(alloc, &given.declared.schema, &given.streams, text),
         other => in_room(alloc, given, room_of(other), word, text),
     }

@@ -11,7 +11,7 @@ use crate::written::shown;
 use counted_devices::devices::{Sink, Source};
 use http_streams::laws::one_answer;
 use http_streams::serve::{StreamFault, serve};
-use http_streams::service::Service;
+use http_streams::service::{Answers, Service};
 use http_texts::status::Status;
 use plain::NoMemory;
 use std::alloc::Global;
@@ -35,11 +35,13 @@ impl Counter {
     }
 }
 
-impl Service for Counter {
+impl Answers for Counter {
     ghost answers = { counts };
 
     ghost same = { asked_alike };
+}
 
+impl Service for Counter {
     fn call(&mut self, method: &[u8], target: &[u8], body: &[u8], text: &mut Vec<u8>) -> Status {
         self.requests = self.requests.saturating_add(1);
         let said = if body.is_empty() { target } else { body };

@@ -1,5 +1,6 @@
 -- What contracts see of a site: its schema, its name, and what it keeps.
--- A rule of this product: a store of stamped texts is all that a site keeps, each text beside what it was read as.
+-- A rule of this product: a site is a store of stamped texts, each beside what it was read as. What else it keeps, an
+-- index of its policies and the ancestors of its entities, changes no answer, and contracts do not see it.
 use Rattle.std.specs.Prelude.{◌≡◌, ℕ, List}
 use Rattle.policy_grammar.specs.declared.policy.Policy.{Policy}
 use Rattle.schema.specs.SchemaEntries as kept_schema

@@ -20,6 +20,7 @@ ghost use Rattle.stored_world.specs.Said.{MakesCycle, MakesNoCycle};
 ghost use Rattle.sync_messages.specs.Summaries.{summary_text, summary_stated, IsName, IsStamped};
 ghost use Rattle.state_messages.specs.Messages.{state_text, delta_text, updates_stated};
 ghost use Rattle.state_messages.specs.Updates.{abstract_update, abstract_updates};
+ghost use Rattle.typed_readings.specs.Answers.{ErrsHarmlessly};
 ghost use Rattle.site.specs.Admitted.{IsPolicyUnder, IsEntityUnder, IsValid, entity_stated};
 ghost use Rattle.site.specs.Seen.{schema_of, store_in, IsSameSite, MayBeHeld};
 ghost use Rattle.site.specs.Steps.{PutsPolicy, PutsEntity, Deletes, Takes, Answers, policy_found, most_count};
@@ -43,6 +44,7 @@ use state_messages::{Update, write_delta, write_state};
 use std::alloc::Global;
 use std::marker::Model;
 use sync_messages::{Summary, write_summary};
+use typed_readings::stored_answers_go_right;
 use values::EntityUid;
 
 /// A site: a schema, a name, and a store of stamped texts, each kept with what it was read as under the schema.
@@ -224,14 +226,21 @@ impl Site {
     }
 
     /// The answer to the request that JSON states, over what is stored: the policies and entities that the texts of the
-    /// store are read as, and the actions of the schema.
+    /// store are read as, and the actions of the schema. No policy errs in it for a type, an attribute or an extension
+    /// function.
     ///
-    /// Refused where the JSON states no request under the schema (63, with the refusal's own number inside). Tries
-    /// every policy, and searches the hierarchy for cycles: linear in the store. Changes nothing.
+    /// Refused where the JSON states no request under the schema (63, with the refusal's own number inside). Tries the
+    /// policies whose scope names no entity, or one that the request finds, and looks up who is above whom. Where the
+    /// index does not stand, it tries every policy; where the ancestors do not, it searches the hierarchy for cycles:
+    /// linear in the store. Changes nothing.
     pub fn authorize(&self, json: &Value) -> Result<Answer, SiteFault>
-        ensures { Answers (schema_of self.now) (store_in self.now) (Some (view json.now)) result }
+        ensures answers { Answers (schema_of self.now) (store_in self.now) (Some (view json.now)) result }
+        ensures right { IfOk result ErrsHarmlessly }
     {
-        let request = stated_request(self.alloc, self.store.schema(), json)?;
+        stored_answers_go_right();
+        let schema = self.store.schema();
+        schema.is_stated();
+        let request = stated_request(self.alloc, schema, json)?;
         let answered = answer_under(&self.store, &request);
         drop(request);
         Ok(answered?)
@@ -448,7 +457,9 @@ impl Site {
     ///
     /// Refused in this order: the JSON states no entity under the schema (30 to 38); the entity would be on a cycle
     /// once it is put (61), whatever cycles of others there are; no stamp is left (62). What is refused changes
-    /// nothing, nor does want of memory. Asking for a cycle is linear in what is above the entity.
+    /// nothing, nor does want of memory. Asking for a cycle takes two look-ups for each parent, and where the kept
+    /// ancestors do not stand a search that is linear in what is above the entity. Where the parents are others than
+    /// before, the ancestors of all below the entity are written anew.
     pub fn put_entity(&mut self, json: &Value) -> Result<Stamp, SiteFault>
         ensures puts { PutsEntity (schema_of self.old) self.old.name (store_in self.old) (Some (view json.now)) result
             (store_in self.new) }
@@ -515,7 +526,8 @@ impl Site {
         }
     }
 
-    /// Takes updates in their order; what is kept beside the store follows each.
+    /// Takes updates in their order. What is kept beside the store follows each, as long as that costs less than making
+    /// it anew.
     fn take_all(&mut self, updates: Vec<Update<Policy, Entity>>) -> Taken
         requires { AllByRecursion (IsValid (schema_of self.old)) updates.items }
         ensures takes { Takes (store_in self.old) (abstract_updates updates.items) result (store_in self.new) }
@@ -534,7 +546,8 @@ impl Site {
 
     /// Takes updates of another site in their order: each is joined at its name, where the greater entry stands. All
     /// are counted, also those that lose. Where memory is refused, exactly the first ones are taken, and the rest is
-    /// dropped. An entity may come to be on a cycle; no update is refused for that.
+    /// dropped. An entity may come to be on a cycle; no update is refused for that. What was dropped beside the store
+    /// is made anew behind the updates.
     ///
     /// Each update is valid under the site's schema, as those are that [`state_messages::read_message`] answers.
     pub fn take(&mut self, updates: Vec<Update<Policy, Entity>>) -> Taken

@@ -6,8 +6,9 @@ use Rattle.decision_texts.specs.Decisions as bare
 use Rattle.schema_decisions.specs.Decisions as typed
 use Rattle.schema_decisions.specs.passed_on.policy_checks_Checks as checks
 use Rattle.pulled_states.specs.passed_on.merged_states_Merges as merges
+use Rattle.drill_scripts.specs.Drills as drills
 use Rattle.command_lines.specs.declared.line.Line.{Line}
-use Rattle.command_lines.specs.declared.line.Line.TheVariants.{Check, Decide, Serve, Pull, Merge}
+use Rattle.command_lines.specs.declared.line.Line.TheVariants.{Check, Decide, Serve, Pull, Merge, Drill}
 use Rattle.command_lines.specs.declared.fault.LineFault.{LineFault}
 use Rattle.command_lines.specs.Apps.{site_app}
 use Rattle.command_lines.specs.Faults.{IsFaultOf}
@@ -37,6 +38,11 @@ abbrev pub AreMerged : List ℕ → List ℕ → List ℕ → Course
 AreMerged schema first second =
     IsLineOrRefusal (merges.IsMerged schema first second) (merges.AreRefused schema first second)
 
+-- what a script comes to at so many sites is told
+abbrev pub IsDrilledOrRefused : ℕ → List ℕ → List ℕ → Course
+IsDrilledOrRefused sites schema script =
+    IsLineOrRefusal (drills.IsDrilled sites schema script) (drills.IsRefused sites schema script)
+
 -- the files of these names are read, first the schema, if one is named, then the policies, then the entities, then the
 -- request; and then what they held is judged
 abbrev pub IsDecideRun : Option (List ℕ) → List ℕ → List ℕ → List ℕ → Course
@@ -60,6 +66,11 @@ IsMergeRun schema_name first_name second_name =
     Reads second_name (λ second.
     AreMerged schema first second)))
 
+-- first the schema, then the script
+abbrev pub IsDrillRun : ℕ → List ℕ → List ℕ → Course
+IsDrillRun sites schema_name script_name =
+    Reads schema_name (λ schema. Reads script_name (λ script. IsDrilledOrRefused sites schema script))
+
 -- the command is carried out; the name that a pull is given changes nothing of it
 abbrev pub IsLineRun : Line → Course
 IsLineRun (Check schema policies) = IsCheckRun schema.now policies.now
@@ -69,6 +80,7 @@ IsLineRun (Serve schema site listen state connections) =
     IsServeRun schema.now site (option_map (λ s. s.now) state) listen.now connections
 IsLineRun (Pull schema site from state) = IsPullRun schema.now from.now state.now
 IsLineRun (Merge schema first second) = IsMergeRun schema.now first.now second.now
+IsLineRun (Drill schema sites script) = IsDrillRun sites schema.now script.now
 
 -- the words are a command, which is carried out; or they are none, and that is told
 abbrev pub IsRun : List Text → Course

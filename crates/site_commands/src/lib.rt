@@ -4,6 +4,7 @@
 mod begin;
 mod commands;
 mod device;
+mod drills;
 mod host;
 mod program;
 mod reading;

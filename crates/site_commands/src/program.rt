@@ -1,10 +1,12 @@
 //! A run, from the words of the command line to the status.
 ghost use Rattle.std.specs.Prelude.{map, string_bytes};
 ghost use Rattle.std.specs.Process.{exit_status};
+ghost use Rattle.command_lines.specs.Lines.{HasSites};
 ghost use Rattle.site_commands.specs.Events.{Runs};
 ghost use Rattle.site_commands.specs.Runs.{IsLineRun, IsRun};
 
 use crate::commands::{run_check, run_decide};
+use crate::drills::run_drill;
 use crate::host::Host;
 use crate::report::report_words;
 use crate::serving::run_serve;
@@ -15,6 +17,7 @@ use std::process::ExitCode;
 
 /// Carries out a command. The name that `pull` is given is for the record alone: nothing is stamped.
 fn run_line<H: Host>(alloc: Global, host: &mut H, line: &Line<'_>) -> ExitCode
+    requires { HasSites line.now }
     ensures { Runs H.does host.old host.new (λ events. IsLineRun line.now events (exit_status result)) }
 {
     match line {
@@ -43,11 +46,16 @@ fn run_line<H: Host>(alloc: Global, host: &mut H, line: &Line<'_>) -> ExitCode
             first,
             second,
         } => run_merge(alloc, host, schema, first, second),
+        Line::Drill {
+            schema,
+            sites,
+            script,
+        } => run_drill(alloc, host, schema, *sites, script),
     }
 }
 
 /// Does what the words ask for, the first of which is the program's own name: checks policies, decides one request,
-/// serves a site, pulls from one, merges two states, writes help, or what is wrong with the words.
+/// serves a site, pulls from one, merges two states, plays a script, writes help, or what is wrong with the words.
 ///
 /// The status is 0 for an answer or help, 1 for a refusal, also of one policy among those that are checked, 2 for words
 /// that are no command, and 3 where a file can't be read or written, the network fails, or a stream does.

@@ -1,3 +1,4 @@
 pub mod RunLemmas
 pub mod OneOutcome
 pub mod SomeOutcome
+pub mod RightRuns

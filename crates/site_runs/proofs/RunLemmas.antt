@@ -10,7 +10,8 @@ use Rattle.schema.specs.Schemas.{StatedSchema}
 use Rattle.stamped_store.specs.Store.{Store, Update, updates, store_of, policy_name, entity_name}
 use Rattle.state_messages.specs.declared.update.Update.{Update as SentUpdate}
 use Rattle.state_messages.specs.Updates.{AreInRange, abstract_updates, IsMessage, IsRefused, IsUpdateRead}
-use Rattle.site.specs.passed_on.stored_texts.{RefusesPolicy, RefusesEntity}
+use Rattle.site.specs.passed_on.stored_texts.{RefusesPolicy, RefusesEntity, PoliciesHaveOneReading, EntitiesHaveOneReading}
+use Rattle.state_messages.specs.Bodies.{TextsHaveOneOutcome}
 use Rattle.sync_messages.specs.declared.fault.MessageFault.{MessageFault}
 use Rattle.schema.specs.Views.{schema_view}
 use Rattle.site.specs.declared.fault.SiteFault.{SiteFault}
@@ -195,6 +196,14 @@ same_step a b m n s i r t e f h =
 -- the texts of a schema, as what says what texts are read as
 abbrev pub texts_of : SchemaEntries → SchemaTexts
 texts_of schema = record { schema = record { ref_ptr = (0, 0); now = schema } }
+
+-- under a schema each text has one outcome
+pub texts_are_one : (w : StatedSchema) → PoliciesHaveOneReading → EntitiesHaveOneReading
+    → TextsHaveOneOutcome (IsPolicyUnder w) (λ (id : List ℕ). RefusesPolicy w) (IsEntityUnder w) (RefusesEntity w)
+texts_are_one w policies entities = record {
+  policies = λ id text. (policies w text).0;
+  entities = λ uid text. (entities w uid text).0;
+}
 
 after_run : AreStores → (schema : StatedSchema) (us : List Update) (t : Store) → HoldsAfter schema us t
     → t ≡ store_of us

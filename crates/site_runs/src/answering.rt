@@ -7,13 +7,16 @@ ghost use Rattle.stamped_store.specs.Deltas.{summary_of};
 ghost use Rattle.stamped_store.specs.Store.{store_of, updates};
 ghost use Rattle.sync_messages.specs.Summaries.{summary_text};
 ghost use Rattle.state_messages.specs.Messages.{state_text};
+ghost use Rattle.typed_readings.specs.Answers.{ErrsHarmlessly};
 ghost use Rattle.site.specs.Admitted.{IsValid};
 ghost use Rattle.site.specs.Seen.{schema_of, store_in, IsSameSite};
 ghost use Rattle.site.specs.Steps.{PutsEntity, Answers};
 ghost use Rattle.site_runs.specs.Runs.{IsMessageOf, IsNoMessageOf, TakesMessage, Finds, Writes, WritesDelta};
+ghost use Rattle.site_runs.specs.Right.{AreHarmlessReplies};
 ghost use Rattle.site_runs.specs.Runs.{Step, Run, took};
 
 use crate::input::Input;
+use crate::laws::runs_go_right;
 use crate::reply::{Found, Reply};
 use authoriser::Answer;
 use entities::{Entity, EntityFault};
@@ -76,11 +79,13 @@ pub fn take_bytes(alloc: Global, site: &mut Site, bytes: &[u8]) -> Result<Taken,
     }
 }
 
-/// The answer to the request that bytes state: JSON in UTF-8.
+/// The answer to the request that bytes state: JSON in UTF-8. No policy errs in it for a type, an attribute or an
+/// extension function.
 ///
 /// Refused as [`Site::authorize`] refuses; bytes that are no JSON have not a request's form (63, with 30 inside).
 pub fn authorize_bytes(alloc: Global, site: &Site, bytes: &[u8]) -> Result<Answer, SiteFault>
-    ensures { Answers (schema_of site.now) (store_in site.now) (json_of bytes.now) result }
+    ensures answers { Answers (schema_of site.now) (store_in site.now) (json_of bytes.now) result }
+    ensures right { IfOk result ErrsHarmlessly }
 {
     match read_json(alloc, bytes) {
         Ok(Some(json)) => site.authorize(&json),
@@ -154,7 +159,8 @@ fn apply(alloc: Global, site: &mut Site, input: &Input) -> Reply
 }
 
 /// Answers inputs in their order, each with its reply. The store is then that of the updates that the site had and of
-/// those that it took: what its commands were given a stamp for, and what the messages held.
+/// those that it took: what its commands were given a stamp for, and what the messages held. In no answer does a policy
+/// err for a type, an attribute or an extension function.
 ///
 /// Fails where there is no memory for the list of replies; then nothing was done. Other wants of memory are replies,
 /// and the inputs behind them are answered all the same.
@@ -163,10 +169,13 @@ pub fn run(alloc: Global, site: &mut Site, inputs: &[Input]) -> Result<Vec<Reply
         replies.items (store_in site.new)) }
     ensures store { IfOk result (λ replies. store_in site.new
         ≡ store_of (updates (store_in site.old) ++ took (schema_of site.old) inputs.now replies.items)) }
+    ensures right { IfOk result (λ replies. AreHarmlessReplies replies.items) }
     ensures same { IsSameSite site.old site.new }
     ensures err { OnErr result (site.new ≡ site.old) }
 {
     updates_have_one_store();
+    runs_go_right();
+    site.schema().is_stated();
     let mut replies = Vec::with_capacity(alloc, inputs.len())?;
     for input in inputs {
         let reply = apply(alloc, site, input);

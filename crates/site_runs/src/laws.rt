@@ -10,17 +10,18 @@ ghost use Rattle.site.specs.passed_on.stored_world.{IsAnswerOver};
 ghost use Rattle.state_messages.specs.Messages.{state_text};
 ghost use Rattle.site.specs.Admitted.{IsPolicyUnder, IsEntityUnder};
 ghost use Rattle.site_runs.specs.Outcomes.{InputsHaveAnOutcome, InputsHaveOneOutcome};
+ghost use Rattle.site_runs.specs.Right.{RunsGoRight};
 ghost use Rattle.site_runs.specs.Runs.{HoldsAfter};
 
 use ancestor_closure::laws::paths_are_decided;
-use entities::requests_have_one_outcome;
-use policy_grammar::texts_have_one_reading;
-use schema::Schema;
+use entities::{Entity, requests_have_one_outcome};
+use policy_grammar::{Policy, texts_have_one_reading};
 use site::{
     SchemaTexts, requests_have_one_answer, stored_texts_have_one_reading, stores_have_one_reading,
 };
 use stamped_store::laws::{contents_are_told, stamps_are_issued, updates_have_one_store};
 use state_messages::messages_have_one_outcome;
+use typed_readings::stored_answers_go_right;
 use validator::policies_have_one_outcome;
 
 /// Sites of one schema that had and took equal sets of updates hold equal stores, whatever their names, and in
@@ -46,17 +47,17 @@ pub fn equal_updates_leave_equal_stores()
     requests_have_one_answer::<SchemaTexts<'static>>();
 }
 
-/// Each input to a site has exactly one outcome wherever memory suffices, over any store that a site of the schema may
-/// hold: one reply and one store behind it. So nothing is refused but for a cause that is told, and nothing is told for
-/// two causes: a command that is valid is refused for an absent name, a cycle or a full clock alone, a message of valid
-/// updates never.
-pub fn inputs_have_one_outcome(schema: &Schema)
-    ensures some { InputsHaveAnOutcome (schema_view schema.now) }
-    ensures one { InputsHaveOneOutcome (schema_view schema.now) }
+/// Under each schema that bytes state and a site keeps, each input to a site has exactly one outcome wherever memory
+/// suffices, over any store that a site of the schema may hold: one reply and one store behind it. So nothing is
+/// refused but for a cause that is told, and nothing is told for two causes: a command that is valid is refused for
+/// an absent name, a cycle or a full clock alone, a message of valid updates never.
+pub fn inputs_have_one_outcome()
+    ensures some { (bytes : List ℕ) (schema : SchemaKept) → IsSchemaOf bytes (schema_view schema)
+        → InputsHaveAnOutcome (schema_view schema) }
+    ensures one { (bytes : List ℕ) (schema : SchemaKept) → IsSchemaOf bytes (schema_view schema)
+        → InputsHaveOneOutcome (schema_view schema) }
 {
-    schema.is_stated();
-    let texts = SchemaTexts::under(schema);
-    messages_have_one_outcome(&texts);
+    messages_have_one_outcome::<Policy, Entity, SchemaTexts<'static>>();
     texts_have_one_reading();
     policies_have_one_outcome();
     stored_texts_have_one_reading();
@@ -67,4 +68,13 @@ pub fn inputs_have_one_outcome(schema: &Schema)
     stamps_are_issued();
     contents_are_told();
     paths_are_decided();
+}
+
+/// No reply of a run tells of an error of type, of attribute or of an extension function: in an answer a policy errs
+/// since an entity is not stored, or since a number leaves its bounds. What is replied to requests of HTTP is of such
+/// runs, each of one step (`http_service::served_answers_go_right`).
+pub fn runs_go_right()
+    ensures { RunsGoRight }
+{
+    stored_answers_go_right();
 }

@@ -16,7 +16,7 @@ pub use answering::{
 };
 pub use entities::EntityFault;
 pub use input::Input;
-pub use laws::{equal_updates_leave_equal_stores, inputs_have_one_outcome};
+pub use laws::{equal_updates_leave_equal_stores, inputs_have_one_outcome, runs_go_right};
 pub use leaving::runs_leave_what_they_took;
 pub use reply::{Found, Reply};
 pub use site::{Put, Site, SiteFault, Taken};

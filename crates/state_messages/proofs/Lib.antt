@@ -1,6 +1,7 @@
 pub mod Written
-pub mod Known
+pub mod ReadBack
 pub mod News
+pub mod Walking
 pub mod Found
 pub mod Taking
 pub mod Outcomes

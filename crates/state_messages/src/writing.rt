@@ -1,28 +1,30 @@
 //! Writing a state or a delta.
-ghost use Rattle.std.specs.Prelude.{◌≡◌, ◌++◌, true, Some, Ok, IfOk, OnOk, map};
+ghost use Rattle.std.specs.Prelude.{◌≡◌, ◌++◌, [], true, Some, Ok, IfOk, OnOk, map};
 ghost use Rattle.std.specs.declared.cmp.Ordering.{Ordering};
 ghost use Rattle.serde_json.specs.Data.{array};
 ghost use Rattle.serde_json.specs.View.{view, items_of};
 ghost use Rattle.json_words.specs.Json.{json_of};
+ghost use Rattle.values.specs.declared.name.Name.{Name};
 ghost use Rattle.values.specs.Names.{name_cmp};
 ghost use Rattle.stamped_store.specs.Deltas.{delta, is_news as is_news_where};
 ghost use Rattle.stamped_store.specs.EntryOrder.{plain_entry, body_bytes};
-ghost use Rattle.stamped_store.specs.Store.{abstract_store, abstract_updates, updates, id_name};
-ghost use Rattle.stamped_store.specs.Store.{policy_name, entity_name};
+ghost use Rattle.stamped_store.specs.Store.{abstract_store, updates, id_name, entity_name};
 ghost use Rattle.stamped_store.specs.Stored.{value_at};
 ghost use Rattle.sync_messages.specs.Summaries.{ascend, name_json};
 ghost use Rattle.state_messages.specs.Messages.{body_json, entry_json, message_json, state_json, state_text};
 ghost use Rattle.state_messages.specs.Messages.{delta_json, delta_text, updates_stated};
 ghost use Rattle.state_messages.specs.Updates.{AreInRange};
-ghost use Rattle.state_messages.specs.inner.Writing.{is_new, news_json, all_news_json};
+ghost use Rattle.state_messages.specs.inner.Walking.{IsFrom, IsWalked};
+ghost use Rattle.state_messages.specs.inner.Writing.{news_by};
 
 use crate::laws::messages_read_back;
 use json_words::write_json;
-use plain::{NoMemory, Text};
+use plain::NoMemory;
 use serde_json::{Value, json};
 use stamped_store::{Entry, PolicyStore, ReadText, Stamp};
 use std::alloc::Global;
 use std::cmp::Ordering;
+use std::collections::btree_map::Iter;
 use sync_messages::{Summary, uid_value};
 use values::{EntityUid, Name};
 
@@ -36,42 +38,80 @@ fn body_value<P>(alloc: Global, body: &Option<ReadText<P>>) -> Result<Value, NoM
     }
 }
 
-fn name_value(alloc: Global, name: &Name) -> Result<Value, NoMemory>
-    ensures { IfOk result (λ v. view v ≡ name_json name.now) }
-{
-    match name {
-        Name::Policy(id) => json!(in alloc; {"policy": id.as_str()}),
-        Name::Entity(uid) => json!(in alloc; {"entity": uid_value(alloc, uid)?}),
+/// How a name is lent by a store: a policy's id or an entity's uid. It is compared and written as the name that it is,
+/// and no [`Name`] is made of it.
+trait Lent {
+    /// The name.
+    ghost named: { Self → Name };
+
+    /// How a name compares with this one.
+    fn compare(&self, other: &Name) -> Ordering
+        ensures { result ≡ name_cmp other.now (named self.now) };
+
+    /// The name as JSON.
+    fn value(&self, alloc: Global) -> Result<Value, NoMemory>
+        ensures { IfOk result (λ v. view v ≡ name_json (named self.now)) };
+}
+
+impl Lent for String {
+    ghost named = { id_name };
+
+    fn compare(&self, other: &Name) -> Ordering {
+        match other {
+            Name::Policy(id) => id.as_str().cmp(self.as_str()),
+            Name::Entity(_) => Ordering::Greater,
+        }
+    }
+
+    fn value(&self, alloc: Global) -> Result<Value, NoMemory> {
+        json!(in alloc; {"policy": self.as_str()})
     }
 }
 
-fn entry_value<P>(alloc: Global, name: &Name, entry: &Entry<P>) -> Result<Value, NoMemory>
-    ensures { IfOk result (λ v. view v ≡ entry_json (name.now, plain_entry entry.now)) }
+impl Lent for EntityUid {
+    ghost named = { entity_name };
+
+    fn compare(&self, other: &Name) -> Ordering {
+        match other {
+            Name::Policy(_) => Ordering::Less,
+            Name::Entity(uid) => uid.cmp(self),
+        }
+    }
+
+    fn value(&self, alloc: Global) -> Result<Value, NoMemory> {
+        json!(in alloc; {"entity": uid_value(alloc, self)?})
+    }
+}
+
+fn entry_value<N: Lent, P>(alloc: Global, name: &N, entry: &Entry<P>) -> Result<Value, NoMemory>
+    ensures { IfOk result (λ v. view v ≡ entry_json (N.named name.now, plain_entry entry.now)) }
 {
     json!(in alloc; {
         "body": body_value(alloc, &entry.body)?,
         "count": entry.stamp.count,
-        "name": name_value(alloc, name)?,
+        "name": name.value(alloc)?,
         "site": entry.stamp.site.as_str()
     })
 }
 
-/// How the name of a stamp compares with a name.
-fn compare(held: &(Name, Stamp), name: &Name) -> Ordering
-    ensures { result ≡ name_cmp held.now.0 name.now }
-{
-    held.0.cmp(name)
-}
-
-/// The stamp of a name, by binary search.
-fn known_stamp(known: &[(Name, Stamp)], name: &Name) -> Option<Stamp>
+/// What is left of ascending stamps from a name on, and the stamp of this name.
+fn from_name<'a, N: Lent>(
+    known: &'a [(Name, Stamp)],
+    name: &N,
+) -> (&'a [(Name, Stamp)], Option<Stamp>)
     requires { ascend known.now ≡ true }
-    ensures { result ≡ value_at name_cmp known.now name.now }
+    ensures left { IsFrom (N.named name.now) known.now result.0.now }
+    ensures stamp { result.1 ≡ value_at name_cmp known.now (N.named name.now) }
 {
-    let Ok(place) = known.binary_search_by(|held| compare(held, name)) else {
-        return None;
-    };
-    Some(known[place].1)
+    let mut left = known;
+    while let Some((first, others)) = left.split_first() {
+        match name.compare(&first.0) {
+            Ordering::Less => left = others,
+            Ordering::Equal => return (left, Some(first.1)),
+            Ordering::Greater => return (left, None),
+        }
+    }
+    (left, None)
 }
 
 /// Whether an entry is news where this stamp is known.
@@ -84,99 +124,46 @@ fn is_news<P>(known: Option<Stamp>, entry: &Entry<P>) -> bool
     }
 }
 
-/// Whether an entry is news to whoever knows these stamps: they have none of its name, or a smaller one.
-fn is_news_to<P>(known: &[(Name, Stamp)], name: &Name, entry: &Entry<P>) -> bool
-    requires { ascend known.now ≡ true }
-    ensures { result ≡ is_new known.now (name.now, plain_entry entry.now) }
-{
-    is_news(known_stamp(known, name), entry)
-}
-
-/// Appends an entry if it is news.
-fn push_news<P>(
+/// Appends an entry if it is news where this stamp is known.
+fn push_news<N: Lent, P>(
     alloc: Global,
     items: &mut Vec<Value>,
-    known: &[(Name, Stamp)],
-    name: &Name,
+    known: Option<Stamp>,
+    name: &N,
     entry: &Entry<P>,
 ) -> Result<(), NoMemory>
-    requires { ascend known.now ≡ true }
     ensures { OnOk result (map view items.new.items
-        ≡ map view items.old.items ++ news_json known.now (name.now, plain_entry entry.now)) }
+        ≡ map view items.old.items ++ news_by known (N.named name.now, plain_entry entry.now)) }
 {
-    if !is_news_to(known, name, entry) {
+    if !is_news(known, entry) {
         return Ok(());
     }
     items.push(entry_value(alloc, name, entry)?)?;
     Ok(())
 }
 
-/// Appends the entry of a policy if it is news.
-fn push_policy<P>(
+/// Appends those of ascending entries that are news, and tells what is left of the stamps behind their names.
+fn push_all<'a, N: Lent + Drop, P: Drop>(
     alloc: Global,
     items: &mut Vec<Value>,
-    known: &[(Name, Stamp)],
-    id: &str,
-    entry: &Entry<P>,
-) -> Result<(), NoMemory>
+    entries: Iter<'_, N, Entry<P>>,
+    known: &'a [(Name, Stamp)],
+) -> Result<&'a [(Name, Stamp)], NoMemory>
     requires { ascend known.now ≡ true }
-    ensures { OnOk result (map view items.new.items
-        ≡ map view items.old.items ++ news_json known.now (policy_name id.now, plain_entry entry.now)) }
+    ensures ascending { IfOk result (λ left. ascend left.now ≡ true) }
+    ensures walked { IfOk result (λ left. IsWalked N.named known.now left.now (map view items.old.items)
+        (map view items.new.items) entries.entry entries.entry []) }
 {
-    let name = Name::Policy(Text::from_str(alloc, id)?);
-    push_news(alloc, items, known, &name, entry)
-}
-
-/// And that of an entity.
-fn push_entity<P>(
-    alloc: Global,
-    items: &mut Vec<Value>,
-    known: &[(Name, Stamp)],
-    uid: &EntityUid,
-    entry: &Entry<P>,
-) -> Result<(), NoMemory>
-    requires { ascend known.now ≡ true }
-    ensures { OnOk result (map view items.new.items
-        ≡ map view items.old.items ++ news_json known.now (entity_name uid.now, plain_entry entry.now)) }
-{
-    let name = Name::Entity(uid.copy()?);
-    push_news(alloc, items, known, &name, entry)
-}
-
-/// The entries of policies that are news.
-fn policy_entries<P: Drop, E: Drop>(
-    alloc: Global,
-    store: &PolicyStore<P, E>,
-    known: &[(Name, Stamp)],
-) -> Result<Vec<Value>, NoMemory>
-    requires { ascend known.now ≡ true }
-    ensures news { IfOk result (λ vs. map view vs.items ≡ all_news_json id_name known.now store.now.policies) }
-    ensures in_order { updates (abstract_store store.now) ≡ abstract_updates store.now }
-{
-    let mut items = Vec::new(alloc);
-    for (id, entry) in store.policies() {
-        push_policy(alloc, &mut items, known, id.as_str(), entry)?;
+    let mut left = known;
+    for (name, entry) in entries {
+        let (from, stamp) = from_name(left, name);
+        left = from;
+        push_news(alloc, items, stamp, name, entry)?;
     }
-    Ok(items)
+    Ok(left)
 }
 
-/// And those of entities.
-fn entity_entries<P: Drop, E: Drop>(
-    alloc: Global,
-    store: &PolicyStore<P, E>,
-    known: &[(Name, Stamp)],
-) -> Result<Vec<Value>, NoMemory>
-    requires { ascend known.now ≡ true }
-    ensures { IfOk result (λ vs. map view vs.items ≡ all_news_json entity_name known.now store.now.entities) }
-{
-    let mut items = Vec::new(alloc);
-    for (uid, entry) in store.entities() {
-        push_entity(alloc, &mut items, known, uid, entry)?;
-    }
-    Ok(items)
-}
-
-/// The entries of a store that are news, in the order of the names.
+/// The entries of a store that are news, in the order of the names: one walk over the names of both.
 fn all_entries<P: Drop, E: Drop>(
     alloc: Global,
     store: &PolicyStore<P, E>,
@@ -186,9 +173,9 @@ fn all_entries<P: Drop, E: Drop>(
     ensures { IfOk result (λ vs. map view vs.items
         ≡ map entry_json (updates (delta (abstract_store store.now) known.now))) }
 {
-    let mut items = policy_entries(alloc, store, known)?;
-    let mut entities = entity_entries(alloc, store, known)?;
-    items.append(&mut entities)?;
+    let mut items = Vec::new(alloc);
+    let left = push_all(alloc, &mut items, store.policies(), known)?;
+    push_all(alloc, &mut items, store.entities(), left)?;
     Ok(items)
 }
 
@@ -238,8 +225,8 @@ pub fn write_state<P: Drop, E: Drop>(
 }
 
 /// The part of a store that is news to whoever has this summary, as a delta under the schema of this label: the entries
-/// whose names have no stamp there or a smaller one. Written, and read back, as a state is. Looks each name up in
-/// logarithmic time. Fails for memory alone.
+/// whose names have no stamp there or a smaller one. Written, and read back, as a state is. One walk over the names of
+/// both, which takes memory for what is news alone. Fails for memory alone.
 pub fn write_delta<P: Drop, E: Drop>(
     alloc: Global,
     label: &str,

@@ -1,5 +1,6 @@
 pub mod Ascending
 pub mod RoundTrip
+pub mod CompactUtf8
 pub mod OneText
 pub mod Sound
 pub mod Raised

@@ -1,10 +1,10 @@
--- Two summaries of one text are one.
-use Rattle.std.proofs.Common.{◌≡◌, ◌∙◌, ℕ, List, [], ◌∷◌, map, Result, Ok, true, refl, sym, ap, arith}
+-- A summary's text is read as the summary, and two summaries of one text are one.
+use Rattle.std.proofs.Common.{◌≡◌, ◌∙◌, ℕ, List, [], ◌∷◌, map, Result, Ok, refl, sym, ap, arith}
 use Rattle.std.specs.Prelude.{codes}
 use Rattle.std.specs.Str.{IsUtf8}
-use Rattle.json_words.specs.Plain.{IsPlain, ArePlain, CompactIsOne}
-use Rattle.json_words.proofs.AsciiLemmas.{are_ascii, ascii_is_utf8}
+use Rattle.json_words.specs.Plain.{IsPlain, ArePlain, CompactIsOne, CompactReadsBack}
 use Rattle.serde_json.specs.View.{items_of}
+use Rattle.serde_json.specs.Written.{compact_text}
 use Rattle.values.specs.Paths.{PathTestIsExact}
 use Rattle.values.specs.declared.name.Name.{Name}
 use Rattle.values.specs.declared.name.Name.TheVariants.{Policy, Entity}
@@ -12,32 +12,29 @@ use Rattle.stamped_store.specs.declared.entry.Stamp.{Stamp}
 use Rattle.stamped_store.specs.Deltas.{Summary}
 use Rattle.stamped_store.specs.SiteNames.{SiteTestIsExact, SiteNamesAreTexts}
 use Rattle.sync_messages.specs.declared.fault.MessageFault.{MessageFault}
-use Rattle.sync_messages.specs.Summaries.{IsStamped, AreStamped, HasTexts, HaveTexts, IsWritten, name_json, stamp_json, summary_json, summary_text, summary_in}
-use Rattle.sync_messages.proofs.RoundTrip.{summary_again, depth_summary}
+use Rattle.sync_messages.specs.Summaries.{IsStamped, AreStamped, HasTexts, HaveTexts, IsWritten, name_json, stamp_json, summary_json, summary_text, summary_in, summary_stated}
+use Rattle.sync_messages.proofs.CompactUtf8.{key_is_utf8, json_again}
+use Rattle.sync_messages.proofs.RoundTrip.{summary_again, depth_summary, stated_back}
 
--- of a key in the source, at `refl`
-key : (s : List ℕ) → are_ascii s ≡ true → IsUtf8 s
-key s plain = ascii_is_utf8 s plain
-
-plain_name : (n : Name) → HasTexts n → IsPlain (name_json n)
-plain_name (Policy id) h = (key (codes "policy") refl, h, tt, tt)
+pub plain_name : (n : Name) → HasTexts n → IsPlain (name_json n)
+plain_name (Policy id) h = (key_is_utf8 (codes "policy") refl, h, tt, tt)
 plain_name (Entity uid) h = (
-  key (codes "entity") refl,
-  (key (codes "id") refl, h.1, (refl, tt), (key (codes "type") refl, h.0, tt, tt)),
+  key_is_utf8 (codes "entity") refl,
+  (key_is_utf8 (codes "id") refl, h.1, (refl, tt), (key_is_utf8 (codes "type") refl, h.0, tt, tt)),
   tt,
   tt,
 )
 
 plain_stamp : SiteNamesAreTexts → (u : Name × Stamp) → IsStamped u → HasTexts u.0 → IsPlain (stamp_json u)
 plain_stamp sites u h texts = (
-  key (codes "count") refl,
+  key_is_utf8 (codes "count") refl,
   omega (arith, h.bounded),
   (refl, (refl, tt)),
   (
-    key (codes "name") refl,
+    key_is_utf8 (codes "name") refl,
     plain_name u.0 texts,
     (refl, tt),
-    (key (codes "site") refl, sites u.1.site h.site, tt, tt),
+    (key_is_utf8 (codes "site") refl, sites u.1.site h.site, tt, tt),
   ),
 )
 
@@ -47,21 +44,29 @@ plain_stamps sites (u ∷ m) h texts = (plain_stamp sites u h.0 texts.0, plain_s
 
 plain_summary : SiteNamesAreTexts → (label : List ℕ) (m : Summary) → IsUtf8 label → AreStamped m → HaveTexts m → IsPlain (summary_json label m)
 plain_summary sites label m is h texts = (
-  key (codes "kind") refl,
-  key (codes "summary") refl,
+  key_is_utf8 (codes "kind") refl,
+  key_is_utf8 (codes "summary") refl,
   (refl, (refl, (refl, tt))),
   (
-    key (codes "schema") refl,
+    key_is_utf8 (codes "schema") refl,
     is,
     (refl, (refl, tt)),
     (
-      key (codes "stamps") refl,
+      key_is_utf8 (codes "stamps") refl,
       plain_stamps sites m h texts,
       (refl, tt),
-      (key (codes "version") refl, omega arith, tt, tt),
+      (key_is_utf8 (codes "version") refl, omega arith, tt, tt),
     ),
   ),
 )
+
+pub text_again : PathTestIsExact → SiteTestIsExact → SiteNamesAreTexts → CompactReadsBack → (label : List ℕ) (m : Summary) → IsUtf8 label → IsWritten m
+    → summary_stated label (summary_text label m) ≡ Ok m
+unfolding summary_text
+text_again told tested sites back label m is h =
+    let json = summary_json label m in
+    stated_back label (compact_text json) m json refl (json_again back json (plain_summary sites label m is h.stamped h.texts))
+    (summary_again told tested label m h.stamped h.ascending)
 
 done : Summary → Result Summary MessageFault
 done m = Ok m

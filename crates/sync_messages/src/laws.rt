@@ -19,7 +19,8 @@ use values::paths_are_told;
 
 /// The JSON of a summary is read as this summary, and the JSON of a summary of version 1 as the summary in which each
 /// site's number is replaced by its five digits; what is read as a summary has names and stamps in their ranges, its
-/// names ascending; so have the names of a store's summary; and two summaries that are written alike are one.
+/// names ascending; so have the names of a store's summary; the text of a summary that may be written is read as this
+/// summary, and two summaries that are written alike are one.
 pub fn summaries_read_back()
     ensures back { (label : List ℕ) (m : Summary) → AreStamped m → ascend m ≡ true
         → summary_in label (summary_json label m) ≡ Ok m }
@@ -29,6 +30,8 @@ pub fn summaries_read_back()
     ensures sound { (label bytes : List ℕ) (m : Summary) → summary_stated label bytes ≡ Ok m
         → AreStamped m × (ascend m ≡ true) }
     ensures ascending { (s : Store) → ascend (summary_of s) ≡ true }
+    ensures text { (label : List ℕ) (m : Summary) → IsUtf8 label → IsWritten m
+        → summary_stated label (summary_text label m) ≡ Ok m }
     ensures one_text { (label : List ℕ) (m n : Summary) → IsUtf8 label → IsWritten m → IsWritten n
         → summary_text label m ≡ summary_text label n → m ≡ n }
 {

@@ -2,3 +2,4 @@ pub mod Values
 pub mod Readings
 pub mod Worlds
 pub mod Stored
+pub mod Answers

@@ -25,7 +25,7 @@ module _ (s : StatedSchema) (wf : IsWellFormed s) (entities : EntityMap) (us : L
   all_listed : HaveAllParents (closed_world s entities).parents (s.actions ++ us)
   all_listed b a h = listed_at b a (s.ancestors b) (entities b) refl refl h
 
-mapped : {A B : Type 0} (f : A → B) (xs : List A) (x : A) → Contains xs x → Contains (map f xs) (f x)
+pub mapped : {A B : Type 0} (f : A → B) (xs : List A) (x : A) → Contains xs x → Contains (map f xs) (f x)
 mapped f [] x h = Contains-none x h
 mapped {B = B} f (w ∷ xs) x h = elim (Contains-cases w xs x h) [
   | inl e ↦ subst (λ (z : B). Contains (f w ∷ map f xs) z) (ap f e) (Contains-here (f w) (map f xs))

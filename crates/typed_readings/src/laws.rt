@@ -2,9 +2,11 @@
 ghost use Rattle.typed_readings.specs.Laws.{ValuesAreOfTheirTypes, RecordsAreOfTheirTypes};
 ghost use Rattle.typed_readings.specs.Laws.{EntitiesAreOfTheirTypes, RequestsAreOfAnEnvironment};
 ghost use Rattle.typed_readings.specs.Worlds.{WhatIsReadConforms, WhatIsStoredGoesRight};
+ghost use Rattle.typed_readings.specs.Answers.{StoredPoliciesGoRight, StoredAnswersGoRight};
 
 use ancestor_closure::laws::paths_are_decided;
 use schema::stated_schemas_are_well_formed;
+use stamped_store::laws::contents_are_told;
 use static_types::{action_types_are_told, entities_read_back};
 use typing::parents_tell_ancestors;
 use validator::passing_policies_go_right;
@@ -44,4 +46,15 @@ pub fn what_is_stored_goes_right()
     what_is_read_conforms();
     paths_are_decided();
     passing_policies_go_right();
+}
+
+/// That over a store, once each of its texts was read under the schema, each policy gives a boolean, or errs since an
+/// entity is not stored or since a number leaves its bounds, and is never true where it is impossible; so no answer
+/// over the store tells of an error of type, of attribute or of an extension function.
+pub fn stored_answers_go_right()
+    ensures policies { StoredPoliciesGoRight }
+    ensures answers { StoredAnswersGoRight }
+{
+    what_is_stored_goes_right();
+    contents_are_told();
 }

@@ -2,4 +2,4 @@
 pub use Rattle.stored_texts.specs.Texts.{RefusesPolicy, RefusesEntity, no_policy, not_passing}
 unfoldable pub use Rattle.stored_texts.specs.Texts.{entity_of_text}
 pub use Rattle.stored_texts.specs.declared.texts.SchemaTexts.{SchemaTexts}
-pub use Rattle.stored_texts.specs.Laws.{PoliciesHaveOneReading}
+pub use Rattle.stored_texts.specs.Laws.{PoliciesHaveOneReading, EntitiesHaveOneReading}

@@ -1,21 +1,8 @@
-use Rattle.std.proofs.Common.{ap, sym, subst, Option}
-use Rattle.std.specs.Prelude.{IfSome}
-use Rattle.kept_ancestors.specs.declared.keeping.KeptAncestors.{KeptAncestors}
-use Rattle.policy_grammar.specs.declared.policy.Policy.{Policy}
 use Rattle.schema.specs.Views.{schema_view}
-use Rattle.entity_worlds.specs.declared.entity.Entity.{Entity}
-use Rattle.stamped_store.specs.Store.{StoreEntries}
-use Rattle.accelerated_store.specs.Kept.{AreAncestorsOf}
-use Rattle.accelerated_store.proofs.AncestorsFollow.{right_elsewhere}
+use Rattle.accelerated_store.proofs.Stays.{ancestors_stay}
 use Rattle.accelerated_store.proofs.ancestors.take_entity.Goals as goal
 
-pub followed-requires : goal.followed-requires
-followed-requires c =
-    right_elsewhere (schema_view c.args.schema.now) c.args.store.now.entities c.take_entity.new.self.entities c.args.uid c.args.entry
-    (ap (λ k. k.entities) c.in_ok-take_entity.ensures.kept) c.in-Ok.name c.in-Ok.ensures c.take-before.result
-    (subst (λ (o : Option KeptAncestors). IfSome o (AreAncestorsOf (schema_view c.args.schema.now) c.args.store.now.entities)) (sym c.take-before.ensures.value) c.requires)
-
-pub returns-in_err-take_entity-clause-followed : goal.returns-in_err-take_entity-clause-followed
-returns-in_err-take_entity-clause-followed c =
-    subst (λ (k : StoreEntries Policy Entity). IfSome c.args.ancestors.now (AreAncestorsOf (schema_view c.args.schema.now) k.entities))
-    (sym c.in_err-take_entity.ensures.err) c.requires
+pub returns-then-needs_nothing-clause-followed : goal.returns-then-needs_nothing-clause-followed
+returns-then-needs_nothing-clause-followed c =
+    ancestors_stay (schema_view c.args.schema.now) c.take_entity.result c.take_entity.new.self c.args.store.now c.args.uid c.args.entry
+    c.take_entity.ensures.kept c.take_entity.ensures.err c.args.ancestors.now (c.needs_nothing.ensures c.if-needs_nothing.true) c.requires

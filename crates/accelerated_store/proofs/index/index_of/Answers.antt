@@ -8,7 +8,8 @@ use Rattle.policy_grammar.specs.declared.policy.Policy.{Policy}
 use Rattle.stamped_store.specs.declared.entry.Entry.{Entry}
 use Rattle.std.specs.Str.{bytes_eq}
 use Rattle.scope_index.specs.Keys.{key_at}
-use Rattle.accelerated_store.specs.Indexed.{policy_in, noted, AreIndexed, PolicyEntries}
+use Rattle.accelerated_store.specs.Indexed.{policy_in, AreIndexed, PolicyEntries}
+use Rattle.accelerated_store.specs.inner.Following.{noted}
 use Rattle.accelerated_store.proofs.Follows.{one_entry_more, pushed, still_rest}
 use Rattle.accelerated_store.proofs.index.index_of.Goals as goal
 

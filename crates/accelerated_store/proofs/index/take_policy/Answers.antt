@@ -1,13 +1,13 @@
-use Rattle.std.proofs.Common.{◌∙◌, ap, sym, subst, Option}
-use Rattle.std.specs.Prelude.{IfSome}
-use Rattle.scope_index.specs.Keys.{Keys}
-use Rattle.accelerated_store.specs.Indexed.{AreIndexed}
-use Rattle.accelerated_store.proofs.Follows.{right_elsewhere}
+use Rattle.std.proofs.Common.{◌⊎◌, ◌≡◌, None, List, subst}
+use Rattle.std.specs.Prelude.{ℕ}
+use Rattle.stamped_store.specs.Stored.{value_at_text}
+use Rattle.accelerated_store.specs.inner.Staying.{Stays}
+use Rattle.accelerated_store.proofs.Stays.{index_stays}
 use Rattle.accelerated_store.proofs.index.take_policy.Goals as goal
 
-pub followed-requires : goal.followed-requires
-followed-requires c =
-    right_elsewhere c.args.store.now.policies c.take_policy.new.self.policies c.args.id c.args.entry
-    (ap (λ k. k.policies) c.in_ok-take_policy.ensures.kept) c.as_str-in-Ok.result.now
-    (c.as_str-in-Ok.ensures.value ∙ c.in-Ok.ensures.ok ∙ c.as_str.ensures.value) c.take-before.result
-    (subst (λ (o : Option Keys). IfSome o (AreIndexed c.args.store.now.policies)) (sym c.take-before.ensures.value) c.requires)
+pub returns-then-needs_nothing-clause-indexed : goal.returns-then-needs_nothing-clause-indexed
+returns-then-needs_nothing-clause-indexed c =
+    index_stays c.take_policy.result c.take_policy.new.self c.args.store.now c.args.id c.args.entry
+    c.take_policy.ensures.kept c.take_policy.ensures.err c.args.index.now
+    (subst (λ (b : List ℕ). (c.args.index.now ≡ None) ⊎ Stays (value_at_text c.args.store.now.policies b) c.args.entry)
+    c.as_str.ensures.value (c.needs_nothing.ensures c.if-needs_nothing.true)) c.requires

@@ -2,7 +2,8 @@ use Rattle.std.proofs.Common.{◌∙◌, ap, sym, subst, List}
 use Rattle.authoriser.specs.Answers.{NamedPolicy}
 use Rattle.authoriser.specs.Views.{named}
 use Rattle.scope_index.specs.Keys.{texts}
-use Rattle.accelerated_store.specs.Candidates.{found_under, Ascend}
+use Rattle.accelerated_store.specs.Candidates.{Ascend}
+use Rattle.accelerated_store.specs.inner.Offering.{found_under}
 use Rattle.accelerated_store.proofs.Found.{found_rise}
 use Rattle.accelerated_store.proofs.Read.{candidates_are}
 use Rattle.accelerated_store.proofs.offering.offered.Goals as goal

@@ -6,7 +6,7 @@ use Rattle.std.proofs.lemmas.List.{take_more}
 use Rattle.scope_index.specs.Keys.{texts}
 use Rattle.authoriser.specs.Views.{named}
 use Rattle.accelerated_store.specs.Indexed.{policy_at}
-use Rattle.accelerated_store.specs.Candidates.{found_under}
+use Rattle.accelerated_store.specs.inner.Offering.{found_under}
 use Rattle.accelerated_store.proofs.Found.{more_found, none_more}
 use Rattle.accelerated_store.proofs.offering.policies_under.Goals as goal
 use Rattle.accelerated_store.proofs.offering.policies_under.Goals.{in-Some+in_ok-push, in_default}

@@ -1,7 +1,7 @@
 use Rattle.std.proofs.Common.{◌≡◌, take}
 use Rattle.scope_index.specs.Keys.{texts}
 use Rattle.authoriser.specs.Views.{named}
-use Rattle.accelerated_store.specs.Candidates.{found_under}
+use Rattle.accelerated_store.specs.inner.Offering.{found_under}
 use Rattle.accelerated_store.proofs.offering.policies_under.Given as goal
 
 -- the policies under the ids so far

@@ -7,8 +7,8 @@ use Rattle.accelerated_store.specs.Kept.{AreAncestorsOf}
 use Rattle.accelerated_store.proofs.Standing.{if_made}
 use Rattle.accelerated_store.proofs.store.stand_ancestors.Goals as goal
 
-pub returns-then-is_none : goal.returns-then-is_none
-returns-then-is_none c =
+pub returns-then-begin : goal.returns-then-begin
+returns-then-begin c =
     subst (λ (o : Option KeptAncestors). IfSome o (AreAncestorsOf (schema_view c.args.schema.now) c.args.store.now.entities))
     (sym c.ok.ensures.value)
     (if_made (AreAncestorsOf (schema_view c.args.schema.now) c.args.store.now.entities) c.ancestors_of.result

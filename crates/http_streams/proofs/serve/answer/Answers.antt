@@ -22,7 +22,7 @@ returns-in-Ok-clause-ok g c =
     let text = sent _ _ _ said.0 c.finish-start.result 160 _ _ c.deref.ensures.value head (short _ _ 160 c.truncate.ensures.items (omega (arith, c.requires.head, c.args.text.now.ok.0))) in (
       _,
       c.in-Ok.ensures.ok,
-      exchanged g.S.Service.answers c.args.bytes.now c.args.parts.now _ _ c.call-status.result said.0 _ c.requires.whole
+      exchanged g.S.Answers.answers c.args.bytes.now c.args.parts.now _ _ c.call-status.result said.0 _ c.requires.whole
           c.of-method.ensures c.of-target.ensures said.2 text,
     )
 
@@ -40,7 +40,7 @@ returns-in-Err-clause-err g c =
         inl (
           drop c.args.parts.now.end c.args.bytes.now,
           c.args.parts.now.closes,
-          exchanged g.S.Service.answers c.args.bytes.now c.args.parts.now _ _ c.call-status.result said.0 (went.0 ++ went.1) c.requires.whole
+          exchanged g.S.Answers.answers c.args.bytes.now c.args.parts.now _ _ c.call-status.result said.0 (went.0 ++ went.1) c.requires.whole
               c.of-method.ensures c.of-target.ensures said.2 (sym went.3 ∙ text),
         ),
       ),

@@ -10,7 +10,7 @@ abbrev pub invariant-requests : goal.invariant-requests
 invariant-requests g l =
     (l.at ≤ length l.bytes)
     × ((out : List ℕ) × (n : ℕ) × Appends (g.W.Sink.holds l.fn.writer) (g.W.Sink.holds l.writer) out
-    × Serves g.S.Service.answers n l.fn.service l.bytes (drop l.at l.bytes) out l.service)
+    × Serves g.S.Answers.answers n l.fn.service l.bytes (drop l.at l.bytes) out l.service)
     × (g.W.Sink.failed l.writer ≡ g.W.Sink.failed l.fn.writer)
     × (HEAD_ROOM ≤ vec_len l.text)
     × (HEAD_ROOM + REPLY_ROOM ≤ vec_capacity l.text)

@@ -24,8 +24,8 @@ returns-in-Ok-false-clause-ok g c =
       Consumes-trans _ _ _ _ _ so_far.3 read,
       so_far.4,
       inl (
-        subst (λ (t : List ℕ). Rests g.S.Service.answers c.args.service.now t so_far.1 c.loop-turn.service) (sym (append-nil so_far.0))
-            (Rests-from g.S.Service.answers so_far.2 _ _ _ _ _ so_far.5 c.loop-turn.invariant.unfinished),
+        subst (λ (t : List ℕ). Rests g.S.Answers.answers c.args.service.now t so_far.1 c.loop-turn.service) (sym (append-nil so_far.0))
+            (Rests-from g.S.Answers.answers so_far.2 _ _ _ _ _ so_far.5 c.loop-turn.invariant.unfinished),
         end.1,
         record {
           between = c.loop-turn.reader;
@@ -47,7 +47,7 @@ returns-in-Err-Read-clause-read g c _ =
       so_far.1,
       Consumes-kept _ _ _ _ so_far.3 c.in-Err-Read.ensures.lost.0,
       so_far.4,
-      Rests-from g.S.Service.answers so_far.2 _ _ _ _ _ so_far.5 c.loop-turn.invariant.unfinished,
+      Rests-from g.S.Answers.answers so_far.2 _ _ _ _ _ so_far.5 c.loop-turn.invariant.unfinished,
       inl (FailsAtLast-now g.R.Source.failed g.R.Source.fails c.loop-turn.invariant.read_count failure.0 failure.1),
       c.loop-turn.invariant.write_count,
     )
@@ -60,7 +60,7 @@ returns-in-Err-NoMemory-clause-memory g c _ =
       so_far.1,
       Consumes-kept _ _ _ _ so_far.3 c.in-Err-NoMemory.ensures.lost.0,
       so_far.4,
-      Rests-from g.S.Service.answers so_far.2 _ _ _ _ _ so_far.5 c.loop-turn.invariant.unfinished,
+      Rests-from g.S.Answers.answers so_far.2 _ _ _ _ _ so_far.5 c.loop-turn.invariant.unfinished,
       ap g.R.Source.failed unread ∙ c.loop-turn.invariant.read_count,
       c.loop-turn.invariant.write_count,
     )
@@ -70,19 +70,19 @@ returns-in-Ok-None-clause-ok g c =
     let so_far = c.loop-turn.invariant.so_far in
     let came = c.in-Ok-true.ensures.ok in
     let done = c.in-Ok-None.ensures.closed (ap Ok c.in-Ok-None.field-0-is) in
-    let all = Serves-read g.S.Service.answers so_far.2 _ _ _ _ _ came.0 _ so_far.5 (c.deref.ensures.value ∙ came.2) in (
+    let all = Serves-read g.S.Answers.answers so_far.2 _ _ _ _ _ came.0 _ so_far.5 (c.deref.ensures.value ∙ came.2) in (
       so_far.0 ++ came.0,
       so_far.1 ++ done.0,
       Consumes-trans _ _ _ _ _ so_far.3 came.1,
       Appends-trans _ _ _ _ _ so_far.4 done.1,
       inr (
-        Ends-after g.S.Service.answers so_far.2 _ _ _ _ _ _ _ all done.2,
+        Ends-after g.S.Answers.answers so_far.2 _ _ _ _ _ _ _ all done.2,
         record {
           front = so_far.0;
           sent = so_far.1;
           more = done.0;
           state = c.loop-turn.service;
-          answered = Rests-from g.S.Service.answers so_far.2 _ _ _ _ _ so_far.5 c.loop-turn.invariant.unfinished;
+          answered = Rests-from g.S.Answers.answers so_far.2 _ _ _ _ _ so_far.5 c.loop-turn.invariant.unfinished;
           read = record {
             between = c.loop-turn.reader;
             room = _;
@@ -102,18 +102,18 @@ returns-in-Err-clause-write g c _ =
     let so_far = c.loop-turn.invariant.so_far in
     let came = c.in-Ok-true.ensures.ok in
     let done = c.in-Err.ensures.err in
-    let all = Serves-read g.S.Service.answers so_far.2 _ _ _ _ _ came.0 _ so_far.5 (c.deref.ensures.value ∙ came.2) in (
+    let all = Serves-read g.S.Answers.answers so_far.2 _ _ _ _ _ came.0 _ so_far.5 (c.deref.ensures.value ∙ came.2) in (
       so_far.0 ++ came.0,
       so_far.1 ++ done.0,
       Consumes-trans _ _ _ _ _ so_far.3 came.1,
       Appends-trans _ _ _ _ _ so_far.4 done.1,
-      Stops-after g.S.Service.answers so_far.2 _ _ _ _ _ _ _ all done.2,
+      Stops-after g.S.Answers.answers so_far.2 _ _ _ _ _ _ _ all done.2,
       record {
         front = so_far.0;
         sent = so_far.1;
         more = done.0;
         state = c.loop-turn.service;
-        answered = Rests-from g.S.Service.answers so_far.2 _ _ _ _ _ so_far.5 c.loop-turn.invariant.unfinished;
+        answered = Rests-from g.S.Answers.answers so_far.2 _ _ _ _ _ so_far.5 c.loop-turn.invariant.unfinished;
         read = record {
           between = c.loop-turn.reader;
           room = _;
@@ -150,7 +150,7 @@ loop-turn-preserved-then-len-needed g c =
         so_far.2,
         Consumes-trans _ _ _ _ _ so_far.3 came.1,
         so_far.4,
-        Serves-read g.S.Service.answers so_far.2 _ _ _ _ _ came.0 _ so_far.5 came.2,
+        Serves-read g.S.Answers.answers so_far.2 _ _ _ _ _ came.0 _ so_far.5 came.2,
         omega (arith, length-append so_far.0 came.0, came.3 more, so_far.6),
       );
     }
@@ -162,8 +162,8 @@ loop-turn-preserved g c =
     let more : IsTrue c.in-Ok-true.field-0 = search rules in
     let found = rw c.in-Ok-Some.field-0-is at c.in-Ok-Some.ensures.open in
     let done = found.2 in
-    let all = Serves-read g.S.Service.answers so_far.2 _ _ _ _ _ came.0 _ so_far.5 (c.deref.ensures.value ∙ came.2) in
-    let joined = Serves-then g.S.Service.answers so_far.2 done.1 _ _ _ _ _ _ _ _ all done.3 in
+    let all = Serves-read g.S.Answers.answers so_far.2 _ _ _ _ _ came.0 _ so_far.5 (c.deref.ensures.value ∙ came.2) in
+    let joined = Serves-then g.S.Answers.answers so_far.2 done.1 _ _ _ _ _ _ _ _ all done.3 in
     let at = c.in-Ok-Some.left.at in
     let left : drop at c.deref.result.now ≡ c.drop_front.new.bytes.items = sym (c.drop_front.ensures ∙ ap (drop at) (sym c.deref.ensures.value)) in
     record {
@@ -182,7 +182,7 @@ loop-turn-preserved g c =
         joined.0,
         Consumes-trans _ _ _ _ _ so_far.3 came.1,
         Appends-trans _ _ _ _ _ so_far.4 done.2,
-        subst (λ (t : List ℕ). Serves g.S.Service.answers joined.0 c.args.service.now (so_far.0 ++ came.0) t (so_far.1 ++ done.0) c.answer_all.new.service) left joined.1,
+        subst (λ (t : List ℕ). Serves g.S.Answers.answers joined.0 c.args.service.now (so_far.0 ++ came.0) t (so_far.1 ++ done.0) c.answer_all.new.service) left joined.1,
         omega (arith, length-append so_far.0 came.0, came.3 more, so_far.6),
       );
     }

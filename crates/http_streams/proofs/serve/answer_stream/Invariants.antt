@@ -22,6 +22,6 @@ invariant-loop-turn g l = record {
   so_far : (bytes : List ℕ) × (out : List ℕ) × (n : ℕ)
       × Consumes (g.R.Source.left l.fn.reader) (g.R.Source.left l.reader) bytes
       × Appends (g.W.Sink.holds l.fn.writer) (g.W.Sink.holds l.writer) out
-      × Serves g.S.Service.answers n l.fn.service bytes l.buffer.items out l.service
+      × Serves g.S.Answers.answers n l.fn.service bytes l.buffer.items out l.service
       × (l.turn ≤ length bytes);
 }

@@ -6,4 +6,4 @@ use Rattle.http_streams.proofs.serve.serve.Goals as goal
 
 pub returns-in_default-clause-memory : goal.returns-in_default-clause-memory
 returns-in_default-clause-memory g c _ =
-    ([], [], Consumes-nil _, Appends-nil _, Rests-from g.S.Service.answers 0 _ _ _ _ _ (Serves-none g.S.Service.answers _ []) nothing_unfinished, refl, refl)
+    ([], [], Consumes-nil _, Appends-nil _, Rests-from g.S.Answers.answers 0 _ _ _ _ _ (Serves-none g.S.Answers.answers _ []) nothing_unfinished, refl, refl)

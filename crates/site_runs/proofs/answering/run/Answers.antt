@@ -1,7 +1,8 @@
 use Rattle.std.proofs.Common.{◌≡◌, ◌+◌, ◌++◌, ◌∷◌, [], sym, ap, ◌∙◌, subst, List, length, take, arith, length-append}
 use Rattle.std.proofs.Math.Seq.{take-length}
 use Rattle.std.proofs.lemmas.List.{take_more}
-use Rattle.schema.specs.Views.{schema_view}
+use Rattle.schema.specs.SchemaEntries.{SchemaEntries}
+use Rattle.schema.specs.Views.{schema_view, IsStated}
 use Rattle.site.specs.Seen.{schema_of, store_in}
 use Rattle.site_runs.specs.declared.input.Input.{Input}
 use Rattle.site_runs.specs.declared.reply.Reply.{Reply}
@@ -50,5 +51,18 @@ returns-clause-store c =
     } in
     let all : c.loop-input.input-index ≡ length inputs = omega arith in
     run_took law a n s inputs c.loop-input.replies.items (store_in c.loop-input.site)
+    (subst (λ (is : List Input). Run a n s is c.loop-input.replies.items (store_in c.loop-input.site))
+    (ap (λ k. take k inputs) all ∙ take-length inputs) i.run)
+
+pub returns-clause-right : goal.returns-clause-right
+returns-clause-right c =
+    let i = c.loop-input.invariant in
+    let inputs = c.args.inputs.now in
+    let a = schema_of c.args.site.now in
+    let n = c.args.site.now.name in
+    let s = store_in c.args.site.now in
+    let all : c.loop-input.input-index ≡ length inputs = omega arith in
+    let is = subst (λ (x : SchemaEntries). IsStated x) c.schema.ensures c.is_stated.ensures in
+    c.runs_go_right.ensures is.0 a is.1 n s inputs c.loop-input.replies.items (store_in c.loop-input.site)
     (subst (λ (is : List Input). Run a n s is c.loop-input.replies.items (store_in c.loop-input.site))
     (ap (λ k. take k inputs) all ∙ take-length inputs) i.run)

@@ -1,21 +1,18 @@
-use Rattle.std.proofs.Common.{subst}
-use Rattle.schema.specs.SchemaEntries.{SchemaEntries}
 use Rattle.schema.specs.Views.{schema_view}
-use Rattle.site_runs.proofs.RunLemmas.{texts_of}
+use Rattle.site_runs.proofs.RunLemmas.{texts_of, texts_are_one}
 use Rattle.site_runs.proofs.OneOutcome.{MessagesAreOne, LawsOfOne, one_step}
-use Rattle.site_runs.proofs.SomeOutcome.{LawsOfStores, LawsOfSome, ReadsOrRefuses, some_step}
+use Rattle.site_runs.proofs.SomeOutcome.{LawsOfStores, LawsOfSome, some_step}
 use Rattle.site_runs.proofs.laws.inputs_have_one_outcome.Goals as goal
 
 pub returns-clause-one : goal.returns-clause-one
-returns-clause-one c = λ n s i r q t u h k.
-    let schema = c.args.schema.now in
+returns-clause-one c = λ bytes schema stated n s i r q t u h k.
     let w = schema_view schema in
-    let stated = c.is_stated.ensures in
-    let messages : MessagesAreOne w = subst (λ (x : SchemaEntries). MessagesAreOne (schema_view x)) c.under-texts.ensures (record {
-      updates = c.messages_have_one_outcome.ensures.updates (schema_view c.under-texts.result.schema.now).label;
-      fault = c.messages_have_one_outcome.ensures.fault (schema_view c.under-texts.result.schema.now).label;
-      apart = c.messages_have_one_outcome.ensures.apart (schema_view c.under-texts.result.schema.now).label;
-    }) in
+    let one = texts_are_one w c.stored_texts_have_one_reading.ensures.policies c.stored_texts_have_one_reading.ensures.entities in
+    let messages : MessagesAreOne w = record {
+      updates = c.messages_have_one_outcome.ensures.updates (texts_of schema) one w.label;
+      fault = c.messages_have_one_outcome.ensures.fault (texts_of schema) one w.label;
+      apart = c.messages_have_one_outcome.ensures.apart (texts_of schema) one w.label;
+    } in
     let law : LawsOfOne w = record {
       texts = c.texts_have_one_reading.ensures.policy;
       checks = c.policies_have_one_outcome.ensures.one;
@@ -26,18 +23,16 @@ returns-clause-one c = λ n s i r q t u h k.
       one_request = c.requests_have_one_outcome.ensures.one_request;
       asked_or_not = c.requests_have_one_outcome.ensures.not_both;
       one_refusal = c.requests_have_one_outcome.ensures.one_refusal;
-      one_answer = λ m p a b. c.requests_have_one_answer.ensures.one (texts_of schema) stated.0 w m p a b stated.1
+      one_answer = λ m p a b. c.requests_have_one_answer.ensures.one (texts_of schema) bytes w m p a b stated
           (λ name text p x f g. (c.stored_texts_have_one_reading.ensures.policies w text).0.value p x f g)
           (λ uid text p x f g. (c.stored_texts_have_one_reading.ensures.entities w uid text).0.value p x f g);
     } in
     one_step w law n s i r q t u h.step h.whole k.step k.whole
 
 pub returns-clause-some : goal.returns-clause-some
-returns-clause-some c = λ n s i held.
-    let schema = c.args.schema.now in
+returns-clause-some c = λ bytes schema stated n s i held.
     let w = schema_view schema in
-    let stated = c.is_stated.ensures in
-    let told = schema_view c.under-texts.result.schema.now in
+    let one = texts_are_one w c.stored_texts_have_one_reading.ensures.policies c.stored_texts_have_one_reading.ensures.entities in
     let stores : LawsOfStores = record {
       greatest = c.updates_have_one_store.ensures.greatest;
       own = c.updates_have_one_store.ensures.own;
@@ -49,14 +44,13 @@ returns-clause-some c = λ n s i held.
       apart = c.policies_have_one_outcome.ensures.apart;
       texts = c.stored_texts_have_one_reading.ensures.policies;
       stores = stores;
-      bytes = stated.0;
-      is_schema = stated.1;
+      bytes = bytes;
+      is_schema = stated;
       paths = c.paths_are_decided.ensures;
-      messages = λ bytes. subst (λ (x : SchemaEntries). ReadsOrRefuses (schema_view x) bytes) c.under-texts.ensures
-          (c.messages_have_one_outcome.ensures.some
-          (λ id text. (c.stored_texts_have_one_reading.ensures.policies told text).1)
-          (λ uid text. (c.stored_texts_have_one_reading.ensures.entities told uid text).1) told.label bytes);
+      messages = λ text. c.messages_have_one_outcome.ensures.some (texts_of schema) one
+          (λ id text. (c.stored_texts_have_one_reading.ensures.policies w text).1)
+          (λ uid text. (c.stored_texts_have_one_reading.ensures.entities w uid text).1) w.label text;
       asks = c.requests_have_one_outcome.ensures.some;
-      answers = λ m ps es q a b. c.requests_have_one_answer.ensures.some (texts_of schema) stated.0 w m ps es q stated.1 a b;
+      answers = λ m ps es q a b. c.requests_have_one_answer.ensures.some (texts_of schema) bytes w m ps es q stated a b;
     } in
     some_step w law n s i held

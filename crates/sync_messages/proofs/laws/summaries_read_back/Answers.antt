@@ -1,4 +1,4 @@
-use Rattle.sync_messages.proofs.OneText.{one_text}
+use Rattle.sync_messages.proofs.OneText.{one_text, text_again}
 use Rattle.sync_messages.proofs.RoundTrip.{summary_again, numbered_again, summary_ascends}
 use Rattle.sync_messages.proofs.Sound.{read_stamped}
 use Rattle.sync_messages.proofs.laws.summaries_read_back.Goals as goal
@@ -15,6 +15,10 @@ returns-clause-ascending c = summary_ascends
 pub returns-clause-one_text : goal.returns-clause-one_text
 returns-clause-one_text c = one_text c.paths_are_told.ensures.paths c.site_names_are_told.ensures.tested
     c.site_names_are_told.ensures.texts c.compact_texts_read_back.ensures.one
+
+pub returns-clause-text : goal.returns-clause-text
+returns-clause-text c = text_again c.paths_are_told.ensures.paths c.site_names_are_told.ensures.tested
+    c.site_names_are_told.ensures.texts c.compact_texts_read_back.ensures.back
 
 pub returns-clause-sound : goal.returns-clause-sound
 returns-clause-sound c = read_stamped (record {

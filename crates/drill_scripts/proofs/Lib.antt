@@ -1,0 +1,4 @@
+pub mod Depths
+pub mod EndedLines
+pub mod ScriptSteps
+pub mod Splitting

@@ -1,0 +1,6 @@
+pub mod Drills
+pub mod Lines
+pub mod Said
+pub mod Scripts
+pub mod Told
+pub mod inner

@@ -1,0 +1,12 @@
+//! Scripts of events, played at sites of one run: read whole, played, and told line by line.
+#![tactic(auto)]
+
+mod drilling;
+mod made;
+mod one_line;
+mod split;
+mod telling;
+mod whole;
+
+pub use decision_texts::Refusal;
+pub use drilling::drill_text;

@@ -1,0 +1,152 @@
+-- A request has one reply from sites that are alike, want of memory aside.
+use Rattle.std.proofs.Common.{◌≡◌, ◌≢◌, ◌⊎◌, ℕ, List, Result, Ok, Err, refl, sym, ap, ◌∙◌, subst, inl, inr}
+use Rattle.http_texts.specs.declared.status.Status.{Status}
+use Rattle.http_texts.specs.declared.status.Status.TheVariants.{ServiceUnavailable}
+use Rattle.http_streams.specs.Laws.{HasOneAnswer, in_memory}
+use Rattle.site_runs.specs.passed_on.entities.{StatedSchema, schema_view}
+use Rattle.site_runs.specs.passed_on.schema.{SchemaEntries, IsSchemaOf, IsStated}
+use Rattle.service_replies.specs.passed_on.stamped_store.{Store}
+use Rattle.service_replies.specs.passed_on.site.{Seen, SiteFault, schema_of, store_in, IsSameSite}
+use Rattle.site.specs.declared.fault.SiteFault.TheVariants as fault
+use Rattle.service_replies.specs.Replies.{fault_reply}
+use Rattle.site.specs.declared.outcome.Taken.TheVariants.{All, Short}
+use Rattle.site_runs.specs.declared.input.Input.{Input}
+use Rattle.site_runs.specs.declared.reply.Reply.{Reply}
+use Rattle.site_runs.specs.declared.reply.Reply.TheVariants as reply
+use Rattle.site_runs.specs.Outcomes.{IsWhole, InputsHaveOneOutcome}
+use Rattle.site_runs.specs.Runs.{Step}
+use Rattle.service_routes.specs.Routes.{route_stated}
+use Rattle.http_service.specs.Asked.{Asked, asked, hands, refused, unserved}
+use Rattle.http_service.specs.Answered.{IsAlike, Replies, answers, told}
+
+-- ---- memory sufficed where the status does not say that it did not
+
+is_whole : (r : Reply) → (told r).0 ≢ ServiceUnavailable → IsWhole r
+is_whole (reply.Put (Ok x)) h = tt
+is_whole (reply.Put (Err fault.NoMemory)) h = h refl
+is_whole (reply.Put (Err (fault.Policy f))) h = tt
+is_whole (reply.Put (Err (fault.Check f))) h = tt
+is_whole (reply.Put (Err (fault.Entity f))) h = tt
+is_whole (reply.Put (Err (fault.Message f))) h = tt
+is_whole (reply.Put (Err fault.NotThere)) h = tt
+is_whole (reply.Put (Err fault.WouldCycle)) h = tt
+is_whole (reply.Put (Err fault.ClockFull)) h = tt
+is_whole (reply.Put (Err (fault.Request f))) h = tt
+is_whole (reply.Stamped (Ok x)) h = tt
+is_whole (reply.Stamped (Err fault.NoMemory)) h = h refl
+is_whole (reply.Stamped (Err (fault.Policy f))) h = tt
+is_whole (reply.Stamped (Err (fault.Check f))) h = tt
+is_whole (reply.Stamped (Err (fault.Entity f))) h = tt
+is_whole (reply.Stamped (Err (fault.Message f))) h = tt
+is_whole (reply.Stamped (Err fault.NotThere)) h = tt
+is_whole (reply.Stamped (Err fault.WouldCycle)) h = tt
+is_whole (reply.Stamped (Err fault.ClockFull)) h = tt
+is_whole (reply.Stamped (Err (fault.Request f))) h = tt
+is_whole (reply.Taken (Ok (All k))) h = tt
+is_whole (reply.Taken (Ok (Short k))) h = h refl
+is_whole (reply.Taken (Err fault.NoMemory)) h = h refl
+is_whole (reply.Taken (Err (fault.Policy f))) h = tt
+is_whole (reply.Taken (Err (fault.Check f))) h = tt
+is_whole (reply.Taken (Err (fault.Entity f))) h = tt
+is_whole (reply.Taken (Err (fault.Message f))) h = tt
+is_whole (reply.Taken (Err fault.NotThere)) h = tt
+is_whole (reply.Taken (Err fault.WouldCycle)) h = tt
+is_whole (reply.Taken (Err fault.ClockFull)) h = tt
+is_whole (reply.Taken (Err (fault.Request f))) h = tt
+is_whole (reply.Answered (Ok x)) h = tt
+is_whole (reply.Answered (Err fault.NoMemory)) h = h refl
+is_whole (reply.Answered (Err (fault.Policy f))) h = tt
+is_whole (reply.Answered (Err (fault.Check f))) h = tt
+is_whole (reply.Answered (Err (fault.Entity f))) h = tt
+is_whole (reply.Answered (Err (fault.Message f))) h = tt
+is_whole (reply.Answered (Err fault.NotThere)) h = tt
+is_whole (reply.Answered (Err fault.WouldCycle)) h = tt
+is_whole (reply.Answered (Err fault.ClockFull)) h = tt
+is_whole (reply.Answered (Err (fault.Request f))) h = tt
+is_whole (reply.Found (Ok x)) h = tt
+is_whole (reply.Found (Err fault.NoMemory)) h = h refl
+is_whole (reply.Found (Err (fault.Policy f))) h = tt
+is_whole (reply.Found (Err (fault.Check f))) h = tt
+is_whole (reply.Found (Err (fault.Entity f))) h = tt
+is_whole (reply.Found (Err (fault.Message f))) h = tt
+is_whole (reply.Found (Err fault.NotThere)) h = tt
+is_whole (reply.Found (Err fault.WouldCycle)) h = tt
+is_whole (reply.Found (Err fault.ClockFull)) h = tt
+is_whole (reply.Found (Err (fault.Request f))) h = tt
+is_whole (reply.Written (Ok x)) h = tt
+is_whole (reply.Written (Err fault.NoMemory)) h = h refl
+is_whole (reply.Written (Err (fault.Policy f))) h = tt
+is_whole (reply.Written (Err (fault.Check f))) h = tt
+is_whole (reply.Written (Err (fault.Entity f))) h = tt
+is_whole (reply.Written (Err (fault.Message f))) h = tt
+is_whole (reply.Written (Err fault.NotThere)) h = tt
+is_whole (reply.Written (Err fault.WouldCycle)) h = tt
+is_whole (reply.Written (Err fault.ClockFull)) h = tt
+is_whole (reply.Written (Err (fault.Request f))) h = tt
+
+-- ---- one request
+
+abbrev Line : Type 0
+Line = Status × List ℕ
+
+abbrev line : Status → List ℕ → Line
+line status text = (status, text)
+
+abbrev HaveOneOutcome : Type 0
+HaveOneOutcome = (bytes : List ℕ) (schema : SchemaEntries) → IsSchemaOf bytes (schema_view schema)
+    → InputsHaveOneOutcome (schema_view schema)
+
+told_whole : (r : Reply) (line : Line) → line ≡ told r → line.0 ≢ ServiceUnavailable → IsWhole r
+told_whole r line is h = is_whole r (λ e. h (ap (λ (l : Line). l.0) is ∙ e))
+
+-- a step of the one site is a step of the other
+step_of : (a b : Seen) (i : Input) (r : Reply) (t : Store) → IsSameSite a b → store_in b ≡ store_in a
+    → Step (schema_of b) b.name (store_in b) i r t → Step (schema_of a) a.name (store_in a) i r t
+step_of a b i r t same store h =
+    subst (λ (s : Store). Step (schema_of a) a.name s i r t) store
+    (subst (λ (n : List ℕ). Step (schema_of a) n (store_in b) i r t) same.1
+    (subst (λ (k : StatedSchema). Step k b.name (store_in b) i r t) (ap schema_view same.0) h))
+
+still_alike : (old old2 new new2 : Seen) → IsAlike old old2 → IsSameSite old new → IsSameSite old2 new2
+    → store_in new ≡ store_in new2 → IsAlike new new2
+still_alike old old2 new new2 alike one two stores = (
+  subst (λ (k : SchemaEntries). IsStated k) (sym one.0) alike.0,
+  (two.0 ∙ alike.1.0 ∙ sym one.0, two.1 ∙ alike.1.1 ∙ sym one.1),
+  sym stores,
+)
+
+unchanged : (old new : Seen) → new ≡ old → IsSameSite old new
+unchanged old new h = (ap (λ (a : Seen). a.schema) h, ap (λ (a : Seen). a.name) h)
+
+alike_after : (old old2 new new2 : Seen) → IsAlike old old2 → new ≡ old → new2 ≡ old2 → IsAlike new new2
+alike_after old old2 new new2 alike one two =
+    still_alike old old2 new new2 alike (unchanged old new one) (unchanged old2 new2 two)
+    (ap store_in one ∙ sym alike.2 ∙ sym (ap store_in two))
+
+refused_line : (f : SiteFault) (line : Line) → (line ≡ fault_reply f) ⊎ (line ≡ fault_reply fault.NoMemory)
+    → line.0 ≢ ServiceUnavailable → line ≡ fault_reply f
+refused_line f line (inl is) h = is
+refused_line f line (inr is) h = absurd (h (ap (λ (l : Line). l.0) is))
+
+one_of : HaveOneOutcome → (a : Asked) (old old2 : Seen) (st st2 : Status) (x x2 : List ℕ) (new new2 : Seen)
+    → IsAlike old old2 → Replies old a st x new → st ≢ ServiceUnavailable
+    → Replies old2 a st2 x2 new2 → st2 ≢ ServiceUnavailable → (line st x ≡ line st2 x2) × IsAlike new new2
+one_of law (hands i) old old2 st st2 x x2 new new2 alike h some k some2 =
+    let one = law alike.0.0 old.schema alike.0.1 old.name (store_in old) i h.0 k.0 (store_in new) (store_in new2)
+    (record { step = h.1; whole = told_whole h.0 (st, x) h.3 some })
+    (record {
+      step = step_of old old2 i k.0 (store_in new2) alike.1 alike.2 k.1;
+      whole = told_whole k.0 (st2, x2) k.3 some2;
+    }) in
+    (h.3 ∙ ap told one.0 ∙ sym k.3, still_alike old old2 new new2 alike h.2 k.2 one.1)
+one_of law (refused f) old old2 st st2 x x2 new new2 alike h some k some2 = (
+  refused_line f (st, x) h.0 some ∙ sym (refused_line f (st2, x2) k.0 some2),
+  alike_after old old2 new new2 alike h.1 k.1,
+)
+one_of law (unserved s) old old2 st st2 x x2 new new2 alike h some k some2 =
+    (h.0 ∙ sym k.0, alike_after old old2 new new2 alike h.1 k.1)
+
+pub one_reply : HaveOneOutcome → HasOneAnswer (in_memory answers) IsAlike
+one_reply law old old2 m t b st st2 x x2 new new2 alike h k =
+    let one = one_of law (asked (route_stated m t) b) old old2 st st2 x x2 new new2 alike h.0 h.1 k.0 k.1 in
+    (ap (λ (l : Line). l.0) one.0, ap (λ (l : Line). l.1) one.0, one.1)

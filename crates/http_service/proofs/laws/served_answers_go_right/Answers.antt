@@ -1,0 +1,11 @@
+use Rattle.std.proofs.Common.{[], ◌∷◌, refl}
+use Rattle.service_replies.specs.passed_on.site.{schema_of, store_in}
+use Rattle.http_service.proofs.laws.served_answers_go_right.Goals as goal
+
+pub returns : goal.returns
+returns c old new input status line stated h = (
+  h.0,
+  (c.runs_go_right.ensures stated.0 (schema_of old) stated.1 old.name (store_in old) (input ∷ []) (h.0 ∷ []) (store_in new)
+      (store_in new, h.1, refl)).0,
+  h.3,
+)

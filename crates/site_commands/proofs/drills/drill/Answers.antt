@@ -1,0 +1,17 @@
+use Rattle.std.proofs.Common.{inl}
+use Rattle.std.specs.Process.{exit_status}
+use Rattle.drill_scripts.specs.Drills.{IsDrilled, IsRefused}
+use Rattle.site_commands.proofs.EventLemmas.{runs_as}
+use Rattle.site_commands.proofs.RefusalLemmas.{line_refused}
+use Rattle.site_commands.proofs.drills.drill.Goals as goal
+
+pub returns-in-Ok : goal.returns-in-Ok
+returns-in-Ok g c =
+    runs_as g.H.Host.does _ _ _ _ (λ events told. inl (c.in-Ok.lines.items, c.in-Ok.ensures.drilled, told)) (rw (c.deref.ensures.value) at c.report_answer.ensures)
+
+pub returns-in-Err : goal.returns-in-Err
+returns-in-Err g c =
+    runs_as g.H.Host.does _ _ _ _ (
+    line_refused (IsRefused c.args.sites c.args.schema.now c.args.script.now) (IsDrilled c.args.sites c.args.schema.now c.args.script.now) c.in-Err.refusal
+    (exit_status c.report_refusal.result) c.in-Err.ensures.refused)
+    c.report_refusal.ensures

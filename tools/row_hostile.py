@@ -1,0 +1,313 @@
+"""Rows of hostile use: what a served site makes of random and mutated bytes, and what memory it holds behind them.
+
+Each input is made from the row's number alone, by mutating texts that are valid, so that a row is the same each time.
+A site has to answer each, by a status of its route and a line that says why, or to close the connection; it must not
+end, nor change by anything that it did not answer with 200. Used by tools/rows.py.
+"""
+import contextlib
+import json
+import random
+import socket
+
+from row_commands import Commands, compact
+from row_sites import BAD_ROW, Served, connected, policy_path, request
+
+SCHEMA = compact(
+    {
+        "": {
+            "commonTypes": {"Name": {"type": "String"}},
+            "entityTypes": {
+                "User": {
+                    "memberOfTypes": ["Group"],
+                    "shape": {
+                        "type": "Record",
+                        "attributes": {"name": {"type": "Name"}, "age": {"type": "Long", "required": False}},
+                    },
+                },
+                "Group": {"memberOfTypes": ["Group"]},
+                "Doc": {},
+            },
+            "actions": {
+                "view": {
+                    "appliesTo": {
+                        "principalTypes": ["User"],
+                        "resourceTypes": ["Doc"],
+                        "context": {"type": "Record", "attributes": {"src": {"type": "Extension", "name": "ipaddr"}}},
+                    }
+                }
+            },
+        }
+    }
+).encode()
+POLICIES = (
+    b"permit(principal, action, resource);",
+    b'forbid(principal == User::"u", action, resource) unless { principal has age && principal.age > 3 };',
+    b'@id("p") permit(principal in Group::"g", action == Action::"view", resource is Doc) when { context.src == ip("::1") };',
+    b'permit(principal is User, action in [Action::"view"], resource) when { ["a", "b"].contains(principal.name) };',
+    b'permit(principal, action, resource) when { if principal.name like "a*\\*" then true else 1 + 2 * 3 < -4 };',
+    b"// a comment\npermit(principal, action, resource) when { {a: 1, \"b\": {}} == {a: 1} };",
+)
+ENTITIES = (
+    b'{"uid":{"type":"User","id":"u"},"attrs":{"name":"u","age":9},"parents":[{"type":"Group","id":"g"}]}',
+    b'{"uid":{"type":"Group","id":"g"},"attrs":{},"parents":[{"type":"Group","id":"h"}]}',
+    b'{"uid":{"type":"Doc","id":"\\u00e9\\ud83d\\ude00"}}',
+    b'{"uid":{"__entity":{"type":"User","id":"v"}},"attrs":{"name":""},"parents":[],"tags":{}}',
+)
+REQUESTS = (
+    b'{"principal":"User::\\"u\\"","action":"Action::\\"view\\"","resource":"Doc::\\"d\\"","context":{"src":"10.1.2.3"}}',
+    b'{"principal":{"type":"User","id":"u"},"action":{"type":"Action","id":"view"},"resource":{"type":"Doc","id":"d"},'
+    b'"context":{"src":{"__extn":{"fn":"ip","arg":"::1/64"}}}}',
+)
+HEADS = (
+    b"GET /v1/state HTTP/1.1\r\nHost: a\r\nAccept: */*\r\n\r\n",
+    b"PUT /v1/policies/p HTTP/1.1\r\nContent-Length: 36\r\n\r\npermit(principal, action, resource);",
+    b"DELETE /v1/policies/p%20q HTTP/1.0\r\nConnection: keep-alive\r\n\r\n",
+    b'POST /v1/authorize HTTP/1.1\r\nContent-Length: 2\r\nConnection: close\r\n\r\n{}GET /v1/summary HTTP/1.1\r\n\r\n',
+)
+# what may be inserted anywhere: words and marks of the languages, and bytes that are none
+PARTS = (
+    b"permit", b"principal", b"(", b")", b"[", b"]", b"{", b"}", b",", b";", b'"', b"\\", b"\\u{110000}", b"::", b"&&", b"==", b"-",
+    b"9223372036854775808", b"null", b"true", b"1e9", b"0.5", b":", b"\r\n", b"\n", b" ", b"\t", b"%", b"%ff", b"Content-Length: ",
+    b"Transfer-Encoding: chunked\r\n", b"HTTP/1.1", b"\x00", b"\x7f", b"\x80", b"\xc3", b"\xe2\x82", b"\xf0\x9f\x98\x80", b"\xff",
+    b"\xed\xa0\x80", b'"uid"', b'"version":3', b'"count":0', b'"site":""', b"__entity", b"__extn",
+)  # fmt: skip
+# so many inputs go out together, and the site's state is compared behind them
+TOGETHER = 64
+# what a route may refuse for
+POLICY_CODES = {*range(10, 20), *range(40, 47), 62}
+ENTITY_CODES = {*range(30, 39), 61, 62}
+MESSAGE_CODES = set(range(50, 58))
+
+
+def mutated(chance, samples):
+    """One of the samples, changed at up to six places."""
+    text = bytearray(chance.choice(samples))
+    for _ in range(chance.randint(1, 6)):
+        at, end = sorted(chance.randint(0, len(text)) for _ in range(2))
+        end = min(end, at + chance.randint(1, 12))
+        match chance.randint(0, 6):
+            case 0:
+                text[at:end] = b""
+            case 1:
+                text[at:at] = chance.choice(PARTS)
+            case 2:
+                text[at:end] = chance.choice(PARTS)
+            case 3:
+                text[at:at] = text[at:end] * chance.randint(1, 20)
+            case 4:
+                text[at:at] = bytes([chance.randint(0, 255)])
+            case 5 if text:
+                text[chance.randrange(len(text))] ^= 1 << chance.randint(0, 7)
+            case _:
+                other = chance.choice(samples)
+                text[at:] = other[chance.randint(0, len(other)) :]
+    return bytes(text)
+
+
+def greatest(state):
+    """The greatest count in a state."""
+    return max((it["count"] for it in json.loads(state)["entries"]), default=0)
+
+
+def resident(site):
+    """How many kB of memory a site holds."""
+    with open(f"/proc/{site.process.pid}/status", encoding="ascii") as file:
+        return next(int(line.split()[1]) for line in file if line.startswith("VmRSS:"))
+
+
+class Hostile(Served):
+    """Rows of hostile use.
+
+    - `policies SEED COUNT`, `entities ..`, `requests ..`, `states ..`, `summaries ..`: bodies, each of them answered.
+    - `streams SEED COUNT`: the bytes of connections, from their first byte on.
+    - `renamed COUNT`, `repeated COUNT`: so many policies are put and taken away, each of another name, or all of one;
+      it comes to whether the site then holds no more than one that took these deletions alone, and 256 kB.
+    - `connections COUNT`: so many connections with one request each; whether the site holds 256 kB more behind them.
+    """
+
+    def __init__(self, program, room):
+        super().__init__(program, room)
+        self.site = None
+
+    def came_to(self, word, text):
+        numbers = [int(it) for it in text.split()]
+        if self.site is not None:
+            self.site.end()
+        self.site = self.begin(SCHEMA)
+        match word, numbers:
+            case ("policies" | "entities" | "requests" | "states" | "summaries"), [seed, count]:
+                return self.bodies(word, random.Random(seed), count)
+            case "streams", [seed, count]:
+                return self.streams(random.Random(seed), count)
+            case "renamed", [count]:
+                names = [f"p{it}" for it in range(count)]
+                return self.held(count, names, names)
+            case "repeated", [count]:
+                return self.held(count, ["p"] * count, [])
+            case "connections", [count]:
+                return self.connections(count)
+        return BAD_ROW
+
+    # ---- bodies
+
+    def bodies(self, word, chance, count):
+        """Hands in bodies, so many together, and compares the state behind them."""
+        made = {
+            "policies": (POLICIES, POLICY_CODES, self.policy),
+            "entities": (ENTITIES, ENTITY_CODES, lambda _, body: request("PUT", "/v1/entities", body)),
+            "requests": (REQUESTS, {63}, lambda _, body: request("POST", "/v1/authorize", body)),
+            "states": (self.states(), MESSAGE_CODES, lambda _, body: request("POST", "/v1/merge", body)),
+            "summaries": (self.summaries(), MESSAGE_CODES, lambda _, body: request("POST", "/v1/delta", body)),
+        }
+        samples, codes, asking = made[word]
+        for begin in range(0, count, TOGETHER):
+            bodies = [mutated(chance, samples) for _ in range(min(TOGETHER, count - begin))]
+            fault = self.answered(word, codes, bodies, [asking(chance, body) for body in bodies])
+            if fault:
+                return f"behind {begin}: {fault}"
+        return f"{count} answered"
+
+    @staticmethod
+    def policy(chance, body):
+        """Puts a policy under one of a few names."""
+        return request("PUT", policy_path(f"p{chance.randint(0, 9)}"), body)
+
+    def answered(self, word, codes, bodies, requests):
+        """What is wrong with the replies to these, or with the state behind them; nothing if nothing is."""
+        before = self.site.state().body
+        replies = self.site.asked(requests)
+        after = self.site.state().body
+        for body, reply in zip(bodies, replies):
+            if not reply.is_given and reply.json["error"]["code"] not in codes:
+                return f"{body!r} is answered {reply.status} {reply.text}"
+        given = sum(reply.is_given for reply in replies)
+        is_change = word in ("policies", "entities")
+        if is_change and greatest(after) != greatest(before) + given:
+            return f"{given} were answered 200, and the counts went from {greatest(before)} to {greatest(after)}"
+        if (not is_change and (word != "states" or not given)) and after != before:
+            return "the state is another"
+        return None
+
+    def filled(self):
+        """Stores some policies and entities."""
+        for number, text in enumerate(POLICIES[:2]):
+            self.site.ask("PUT", policy_path(f"p{number}"), text)
+        for text in ENTITIES[:3]:
+            self.site.ask("PUT", "/v1/entities", text)
+        self.site.ask("DELETE", policy_path("p1"))
+
+    def states(self):
+        self.filled()
+        return (self.site.state().body, self.site.state().body.replace(b'"state"', b'"delta"', 1))
+
+    def summaries(self):
+        self.filled()
+        return (self.site.ask("GET", "/v1/summary").body,)
+
+    # ---- connections
+
+    def streams(self, chance, count):
+        """Opens connections, each with bytes of its own; none may end the site, or leave it waiting."""
+        for number in range(count):
+            data = mutated(chance, HEADS)
+            came = self.stream(data)
+            if came and not came.startswith(b"HTTP/1.1 "):
+                return f"{number}: {data!r} is answered {came!r}"
+            if self.site.process.poll() is not None:
+                return f"{number}: {data!r} ended the site"
+        return f"{count} answered or closed"
+
+    def stream(self, data):
+        """What comes over a connection that these bytes are sent on. It may be closed before all of them are read."""
+        came = b""
+        with connected(self.site.port) as link:
+            with contextlib.suppress(ConnectionError):
+                link.sendall(data)
+                link.shutdown(socket.SHUT_WR)
+                while part := link.recv(65536):
+                    came += part
+        return came
+
+    # ---- memory
+
+    def held(self, count, names, others):
+        """Puts and takes away policies: what the site holds more, and what these deletions alone take, in kB."""
+        self.put_and_take(["warm"] * 200)
+        before = resident(self.site)
+        self.put_and_take(names)
+        more = resident(self.site) - before
+        most = self.taken_alone(others) + 256
+        return f"{count} put and taken away" if more <= most else f"{more} kB more, where {most} may be"
+
+    def taken_alone(self, names):
+        """What another site holds more once it took deletions of these names from a message, in kB."""
+        if not names:
+            return 0
+        site = self.begin(SCHEMA)
+        label, before = json.loads(site.state().body)["schema"], resident(site)
+        for begin in range(0, len(names), 1000):
+            entries = [
+                {"body": None, "count": 1, "name": {"policy": name}, "site": "2"} for name in names[begin : begin + 1000]
+            ]
+            message = {"entries": entries, "kind": "delta", "schema": label, "version": 2}
+            if not site.ask("POST", "/v1/merge", json.dumps(message).encode()).is_given:
+                raise ValueError("a message of deletions is refused")
+        more = resident(site) - before
+        site.end()
+        return more
+
+    def put_and_take(self, names):
+        """Each policy is put and then taken away, many requests together."""
+        for begin in range(0, len(names), TOGETHER):
+            asked = []
+            for name in names[begin : begin + TOGETHER]:
+                asked += [request("PUT", policy_path(name), POLICIES[0]), request("DELETE", policy_path(name))]
+            if not all(reply.is_given for reply in self.site.asked(asked)):
+                raise ValueError("a policy was not put or not taken away")
+
+    def connections(self, count):
+        """Opens connections one after another, with one request each."""
+        self.connect(100)
+        before = resident(self.site)
+        self.connect(count)
+        more = resident(self.site) - before
+        return f"{count} connections" if more <= 256 else f"{more} kB more"
+
+    def connect(self, count):
+        for _ in range(count):
+            with connected(self.site.port) as link:
+                link.sendall(request("GET", "/v1/summary"))
+                if not link.recv(65536).startswith(b"HTTP/1.1 200 OK\r\n"):
+                    raise ValueError("a connection is not answered")
+
+
+class HostileFiles(Commands):
+    """`schemas SEED COUNT`, `files SEED COUNT`: mutated schemas, and mutated files of policies, that `check` is given.
+
+    Each is read, or refused by one line with a code of its kind and status 1.
+    """
+
+    CODES = {"schemas": set(range(20, 26)), "files": set(range(10, 20))}
+
+    def came_to(self, word, text):
+        if word not in self.CODES:
+            return BAD_ROW
+        seed, count = (int(it) for it in text.split())
+        chance = random.Random(seed)
+        for number in range(count):
+            schema = mutated(chance, (SCHEMA,)) if word == "schemas" else SCHEMA
+            policies = b"\n".join(mutated(chance, POLICIES) for _ in range(3)) if word == "files" else b""
+            self.cedar.lay(schema=schema, policies=policies)
+            ran = self.cedar.run("check", "--schema", "schema", "policies")
+            if not self.is_right(word, ran):
+                return f"{number}: {schema if word == 'schemas' else policies!r}: {ran.whole()}"
+        return f"{count} judged"
+
+    def is_right(self, word, ran):
+        """Whether a run ended as it should: with an answer, or with one refusal."""
+        if ran.faults:
+            return ran.status == 1 and not ran.answers and json.loads(ran.faults)["error"]["code"] in self.CODES[word]
+        return ran.status in (0, 1)
+
+
+KINDS = {"hostile": Hostile, "hostile_files": HostileFiles}
