@@ -119,6 +119,8 @@ class Hostile(Served):
     """Rows of hostile use.
 
     - `policies SEED COUNT`, `entities ..`, `requests ..`, `states ..`, `summaries ..`: bodies, each of them answered.
+    - `cut_states`: a state that ends at each byte before its last; whether each is refused as no JSON, and nothing
+      of it is taken.
     - `streams SEED COUNT`: the bytes of connections, from their first byte on.
     - `renamed COUNT`, `repeated COUNT`: so many policies are put and taken away, each of another name, or all of one;
       it comes to whether the site then holds no more than one that took these deletions alone, and 256 kB.
@@ -139,6 +141,8 @@ class Hostile(Served):
                 return self.bodies(word, random.Random(seed), count)
             case "streams", [seed, count]:
                 return self.streams(random.Random(seed), count)
+            case "cut_states", []:
+                return self.cut_states()
             case "renamed", [count]:
                 names = [f"p{it}" for it in range(count)]
                 return self.held(count, names, names)
@@ -203,6 +207,19 @@ class Hostile(Served):
     def summaries(self):
         self.filled()
         return (self.site.ask("GET", "/v1/summary").body,)
+
+    def cut_states(self):
+        """Hands in the beginnings of a state to a site with nothing stored."""
+        self.filled()
+        state = self.site.state().body
+        self.site.end()
+        self.site = self.begin(SCHEMA)
+        nothing = self.site.state().body
+        for end in range(len(state) - 1):
+            reply = self.site.ask("POST", "/v1/merge", state[:end])
+            if reply.status != 422 or reply.refusal() != "50 - -":
+                return f"cut at {end}: {reply.status} {reply.text}"
+        return "each is no JSON" if self.site.state().body == nothing else "something was taken"
 
     # ---- connections
 
