@@ -11,7 +11,8 @@ pub trait Answers {
     // In a state, a method, a target and a body may be answered by a status and a body, which leaves a state.
     ghost answers: { Self → List ℕ → List ℕ → List ℕ → Status → List ℕ → Self → Type 0 };
 
-    // Two states of which requests tell no difference. Where this isn't given, they are equal.
+    // States that laws take as the same: that requests tell no difference of them is a premise there. Where this isn't
+    // given, they are equal ones.
     ghost same: { Self → Self → Type 0 } = { λ one other. one ≡ other };
 }
 

@@ -27,6 +27,7 @@ returns-in-Ok-false-clause-ended g c _ =
       record {
         between = c.turns.reader;
         room = _;
+        some = c.turns.invariant.some;
         last = came.0;
         before = subst (Consumes (g.R.Source.left c.args.reader.now) (g.R.Source.left c.turns.reader)) (sym same) c.turns.invariant.read;
         call = came.6;
@@ -71,6 +72,7 @@ returns-in-Whole-clause-ok g c =
       record {
         between = c.turns.reader;
         room = _;
+        some = c.turns.invariant.some;
         last = came.0;
         before = c.turns.invariant.read;
         call = came.6;
@@ -94,6 +96,7 @@ returns-in-Bad-clause-bad g c _ =
       record {
         between = c.turns.reader;
         room = _;
+        some = c.turns.invariant.some;
         last = came.0;
         before = c.turns.invariant.read;
         call = came.6;
