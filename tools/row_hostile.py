@@ -1,8 +1,10 @@
 """Rows of hostile use: what a served site makes of random and mutated bytes, and what memory it holds behind them.
 
-Each input is made from the row's number alone, by mutating texts that are valid, so that a row is the same each time.
-A site has to answer each, by a status of its route and a line that says why, or to close the connection; it must not
-end, nor change by anything that it did not answer with 200. Used by tools/rows.py.
+Each input is made from the row's number alone, out of texts that are valid: a fifth of the inputs are these as they
+are, most others are changed at one place or a few, so that a row is the same each time. A site has to answer each body,
+by 200 or a code of its route, and what then stands otherwise in its state has a stamp that it answered with 200, or that
+a message did which it answered so. It has to answer the bytes of a connection, or to close it, and not to end. Used by
+tools/rows.py.
 """
 import contextlib
 import json
@@ -45,7 +47,7 @@ POLICIES = (
     b'@id("p") permit(principal in Group::"g", action == Action::"view", resource is Doc) when { context.src == ip("::1") };',
     b'permit(principal is User, action in [Action::"view"], resource) when { ["a", "b"].contains(principal.name) };',
     b'permit(principal, action, resource) when { if principal.name like "a*\\*" then true else 1 + 2 * 3 < -4 };',
-    b"// a comment\npermit(principal, action, resource) when { {a: 1, \"b\": {}} == {a: 1} };",
+    b"// a comment\npermit(principal, action, resource) when { {a: 1, \"b\": true} == {a: 2, \"b\": false} };",
 )
 ENTITIES = (
     b'{"uid":{"type":"User","id":"u"},"attrs":{"name":"u","age":9},"parents":[{"type":"Group","id":"g"}]}',
@@ -80,9 +82,9 @@ MESSAGE_CODES = set(range(50, 58))
 
 
 def mutated(chance, samples):
-    """One of the samples, changed at up to six places."""
+    """One of the samples, as it is or changed at up to six places."""
     text = bytearray(chance.choice(samples))
-    for _ in range(chance.randint(1, 6)):
+    for _ in range(chance.choice((0, 1, 1, 2, chance.randint(3, 6)))):
         at, end = sorted(chance.randint(0, len(text)) for _ in range(2))
         end = min(end, at + chance.randint(1, 12))
         match chance.randint(0, 6):
@@ -109,6 +111,24 @@ def greatest(state):
     return max((it["count"] for it in json.loads(state)["entries"]), default=0)
 
 
+def entries_of(state):
+    """The entries of a state by their names."""
+    return {compact(it["name"]): it for it in json.loads(state)["entries"]}
+
+
+def stamps_changed(before, after):
+    """The stamps of what stands otherwise in a state than in one before; a name that is gone has none."""
+    old, new = entries_of(before), entries_of(after)
+    changed = {(it["count"], it["site"]) for name, it in new.items() if old.get(name) != it}
+    return changed | {None for name in old if name not in new}
+
+
+def stamps_sent(message):
+    """The stamps of a message that was taken. In version 1 a site is a number, which stands for five digits."""
+    entries = json.loads(message)["entries"]
+    return {(it["count"], it["site"] if isinstance(it["site"], str) else f"{it['site']:05}") for it in entries}
+
+
 def resident(site):
     """How many kB of memory a site holds."""
     with open(f"/proc/{site.process.pid}/status", encoding="ascii") as file:
@@ -129,7 +149,7 @@ class Hostile(Served):
 
     def __init__(self, program, room):
         super().__init__(program, room)
-        self.site = None
+        self.site, self.accepted = None, 0
 
     def came_to(self, word, text):
         numbers = [int(it) for it in text.split()]
@@ -164,11 +184,15 @@ class Hostile(Served):
             "summaries": (self.summaries(), MESSAGE_CODES, lambda _, body: request("POST", "/v1/delta", body)),
         }
         samples, codes, asking = made[word]
+        self.accepted = 0
         for begin in range(0, count, TOGETHER):
             bodies = [mutated(chance, samples) for _ in range(min(TOGETHER, count - begin))]
             fault = self.answered(word, codes, bodies, [asking(chance, body) for body in bodies])
             if fault:
                 return f"behind {begin}: {fault}"
+        # where nearly all are refused, or none is, the row tries less than it says
+        if not count // 10 < self.accepted < count // 2:
+            return f"{self.accepted} of {count} accepted"
         return f"{count} answered"
 
     @staticmethod
@@ -184,21 +208,24 @@ class Hostile(Served):
         for body, reply in zip(bodies, replies):
             if not reply.is_given and reply.json["error"]["code"] not in codes:
                 return f"{body!r} is answered {reply.status} {reply.text}"
-        given = sum(reply.is_given for reply in replies)
-        is_change = word in ("policies", "entities")
-        if is_change and greatest(after) != greatest(before) + given:
-            return f"{given} were answered 200, and the counts went from {greatest(before)} to {greatest(after)}"
-        if (not is_change and (word != "states" or not given)) and after != before:
-            return "the state is another"
-        return None
+        taken = [(body, reply) for body, reply in zip(bodies, replies) if reply.is_given]
+        self.accepted += len(taken)
+        allowed = set()
+        if word in ("policies", "entities"):
+            allowed = {(reply.json["count"], reply.json["site"]) for _, reply in taken}
+            if greatest(after) != greatest(before) + len(taken):
+                return f"{len(taken)} were answered 200, and the counts went from {greatest(before)} to {greatest(after)}"
+        elif word == "states":
+            allowed = set().union(*(stamps_sent(body) for body, _ in taken))
+        others = stamps_changed(before, after) - allowed
+        return f"what was not answered 200 stands in the state: {others}" if others else None
 
     def filled(self):
         """Stores some policies and entities."""
-        for number, text in enumerate(POLICIES[:2]):
-            self.site.ask("PUT", policy_path(f"p{number}"), text)
-        for text in ENTITIES[:3]:
-            self.site.ask("PUT", "/v1/entities", text)
-        self.site.ask("DELETE", policy_path("p1"))
+        asked = [request("PUT", policy_path(f"p{number}"), text) for number, text in enumerate(POLICIES)]
+        asked += [request("PUT", "/v1/entities", text) for text in ENTITIES]
+        if not all(reply.is_given for reply in self.site.asked([*asked, request("DELETE", policy_path("p1"))])):
+            raise ValueError("a text that is to be mutated is refused")
 
     def states(self):
         self.filled()

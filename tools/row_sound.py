@@ -72,11 +72,17 @@ class Sound(Served):
         """Stores an entity, or takes it away."""
         entity = ENTITIES[name]
         if stands and name not in self.standing:
-            self.site.ask("PUT", "/v1/entities", json.dumps(entity).encode())
+            self.given(self.site.ask("PUT", "/v1/entities", json.dumps(entity).encode()))
             self.standing.add(name)
         if not stands and name in self.standing:
-            self.site.ask("POST", "/v1/entities/delete", json.dumps(entity["uid"]).encode())
+            self.given(self.site.ask("POST", "/v1/entities/delete", json.dumps(entity["uid"]).encode()))
             self.standing.remove(name)
+
+    @staticmethod
+    def given(reply):
+        """Sees that a change was made, since the row would else be of another store."""
+        if not reply.is_given:
+            raise ValueError(f"an entity is not stored or taken away: {reply.refusal()}")
 
     def faults(self, answer):
         """What an answer has that it may not have."""
