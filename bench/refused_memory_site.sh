@@ -3,7 +3,9 @@
 # whose wanted replies stand there. An input whose reply tells of refused memory has changed nothing, or has taken
 # exactly as many updates as it says; one whose connection ended without a reply has changed nothing. Each is then
 # handed in once more: that reply, and all behind it, are those of a run with ample memory. Where the program lacks
-# memory before it listens, it ends with an error.
+# memory before it listens, it ends with an error. Behind the rows stands one more put: once it is answered, an answer
+# asks for memory as often as in a run with ample memory, so that what is kept beside the store stands again, where
+# memory was refused for it.
 #
 #   bench/refused_memory_site.sh [FIRST LAST]     (default: from the 1st allocation to the last one)
 #
@@ -17,8 +19,10 @@ trap 'rm -rf "$folder"' EXIT
 refusing "$folder"
 python - "$program" "$folder" "$top/rows/sites.txt" "${1:-1}" "${2:-1000000}" <<'P'
 import json
+import mmap
 import os
 import re
+import struct
 import sys
 from row_sites import Reply, input_of
 from row_texts import rows_of
@@ -29,6 +33,8 @@ HEADING = "\n# each allocation refused"
 KINDS = ("replies refused", "messages cut short", "connections ended", "ends with an error", "not noticed")
 # how often a run is begun again whose port another program has taken
 PORTS = 20
+# what is put behind the rows
+ONE_MORE = 'put_policy z permit(principal in Group::"g", action, resource);'
 
 
 def inputs():
@@ -66,6 +72,29 @@ def state_with(state, message, count):
     return f"{len(text.encode())} bytes {text}"
 
 
+class Asked:
+    """How often the program asked for memory, as bench/refuse.c counts."""
+
+    def __init__(self):
+        with open(f"{FOLDER}/asked", "w+b") as file:
+            file.write(bytes(8))
+            file.flush()
+            self.memory = mmap.mmap(file.fileno(), 8)
+
+    def begin(self):
+        """Counts from nought."""
+        self.memory[:] = bytes(8)
+
+    def by(self, client, text):
+        """What an input comes to, and how often it asks; once more, since a connection keeps what it asked for."""
+        client.told(text)
+        before, came = self.now(), client.told(text)
+        return came, self.now() - before
+
+    def now(self):
+        return struct.unpack("q", self.memory)[0]
+
+
 class Client:
     """Hands inputs to a site, over one connection while it is kept."""
 
@@ -101,57 +130,79 @@ def short_of(came, text, state):
 
 
 def served(client, rows):
-    """What came of the refused allocation at a site that listens; fails where something was lost."""
-    state, kind = None, "not noticed"
+    """What came of the refused allocation at a site that listens, and how often each answer asked for memory.
+
+    Fails where something was lost.
+    """
+    state, kind, asked = None, "not noticed", []
     for row in rows:
         if row.text == "state":
             state = row.expected
-        came = client.told(row.text)
+        before, came = ASKED.now(), client.told(row.text)
+        if row.text.startswith("authorize "):
+            asked.append(ASKED.now() - before)
         if came != row.expected:
             assert kind == "not noticed", f"{row.text[:200]} came to {came}, too"
             kind, left = short_of(came, row.text, state)
             now, again = client.told("state"), client.told(row.text)
             assert now == left, f"{row.text[:200]} left {now}"
             assert again == row.expected, f"{row.text[:200]} came to {again} once more"
-    return kind
+    return kind, asked
 
 
-def kind_of(site, rows):
-    """What came of the refused allocation."""
+def behind(client, rows):
+    """What one more put comes to, and an answer behind it, and how often that asks for memory."""
+    question = [row.text for row in rows if row.text.startswith("authorize ")][-1]
+    return client.told(ONE_MORE), ASKED.by(client, question)
+
+
+def kind_of(site, rows, number):
+    """What came of the refused allocation, and what came behind the rows; no kind where it is none of the rows'."""
     if not site.listens:
         status, _ = site.ended()
         assert status > 0, f"the program ended with status {status}"
-        return "ends with an error"
+        return "ends with an error", None
     client = Client(site.port)
     try:
-        return served(client, rows)
+        kind, asked = served(client, rows)
+        return (kind, (asked, behind(client, rows))) if number <= ASKED.now() else (None, None)
     finally:
         client.close()
 
 
 def tried(number, rows):
-    """The kind of the run with this allocation refused; None where the program asks for fewer."""
-    how = {"env": {**os.environ, "LD_PRELOAD": f"{FOLDER}/refuse.so", "REFUSED": str(number)}}
+    """The kind of the run with this allocation refused, and what came behind the rows; no kind where none was."""
+    variables = {"LD_PRELOAD": f"{FOLDER}/refuse.so", "REFUSED": str(number), "ASKED": f"{FOLDER}/asked"}
     for _ in range(PORTS):
-        with Served([PROGRAM], FOLDER, **how) as site:
-            kind = kind_of(site, rows)
+        ASKED.begin()
+        with Served([PROGRAM], FOLDER, env={**os.environ, **variables}) as site:
+            kind, left = kind_of(site, rows, number)
             told = site.told()
-        if "refused\n" in told:
-            return kind
-        if kind == "not noticed":
-            return None
+        if kind != "ends with an error" or "refused\n" in told:
+            return kind, left
     raise AssertionError(f"the program does not listen: {told}")
 
 
-count, kinds, rows = 0, dict.fromkeys(KINDS, 0), inputs()
-for number in range(FIRST, LAST + 1):
-    try:
-        kind = tried(number, rows)
-    except (AssertionError, ValueError, KeyError) as fault:
-        sys.exit(f"allocation {number}: {fault}")
-    if kind is None:
-        break
-    kinds[kind] += 1
-    count += 1
-print(f"{count} allocations refused in turn, nothing lost:", ", ".join(f"{it} {kind}" for kind, it in kinds.items()))
+def all_tried(rows, kinds):
+    """Has each allocation refused in turn. Gives in how many runs, none of whose replies tells of it, some answer was
+    found otherwise than with ample memory, so without what is kept beside the store."""
+    dropped, (_, ample) = 0, tried(0, rows)
+    for number in range(FIRST, LAST + 1):
+        try:
+            kind, left = tried(number, rows)
+            assert left is None or left[1] == ample[1], f"behind the rows came {left[1]}, where {ample[1]} is right"
+        except (AssertionError, ValueError, KeyError) as fault:
+            sys.exit(f"allocation {number}: {fault}")
+        if kind is None:
+            break
+        kinds[kind] += 1
+        dropped += kind == "not noticed" and left[0] != ample[0]
+    return dropped
+
+
+ASKED, kinds = Asked(), dict.fromkeys(KINDS, 0)
+dropped = all_tried(inputs(), kinds)
+told = ", ".join(f"{it} {kind}" for kind, it in kinds.items())
+print(f"{sum(kinds.values())} allocations refused in turn, nothing lost: {told}")
+print(f"{dropped} of those not noticed had what is kept beside the store dropped, till a later change")
 P

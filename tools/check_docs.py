@@ -3,14 +3,14 @@
 
     tools/check_docs.py
 
-- Each crate of crates.txt that is no test and measures nothing stands in README.md's list and has a part in docs/proved.md, and no other does; each is
-  named in docs/definitions.md or docs/surface.md.
-- The reading list of docs/definitions.md is what tools/reading_list.py prints; of the twelve files before it each is one of that list, with its lines.
+- Each crate of crates.txt that is no test and measures nothing stands in README.md's table and, in bold, in docs/proved.md, and no other does.
+- docs/surface.md and docs/definitions.md are what tools/made_docs.py makes of the sources.
+- The reading list of docs/reading.md is what tools/reading_list.py prints; of the twelve files before it each is one of that list, with its lines.
 - Each file of docs/, bench/, tools/, examples/, rows/ and of a crate's src/, specs/ and proofs/ that a document names by its path from the top is there;
   so is, below a heading that names crates, each path that begins with specs/, proofs/, src/, must-fail/ or wrong-bodies/, in one of these crates.
 - The numbers of crates that README.md, docs/CONTRIBUTING.md and docs/proving.md tell of the two programs are those that crates.txt gives, and the number
   of all crates that docs/proving.md tells; each crate's must-fail edits are as many as its row there says.
-- Each such crate is in README.md's picture of the layers, and stands on crates of layers below, or to its right in its own.
+- Each such crate stands on crates of layers below, or to its right in its own, as README.md's table has them.
 - README.md has at most 120 lines; no line of a document, but for tables and code, has over 100 characters.
 - Lines of specs/ and src/ have at most 120 characters, but for those of LONG.
 - docs/codes.md has a row for each number that an arm of a `fn code` of the code gives, and for each that a body is refused with (`BodyFault::Refused`);
@@ -23,6 +23,9 @@ import subprocess
 import sys
 
 TOP = os.path.dirname(os.path.dirname(os.path.abspath(__file__)))
+sys.path.insert(0, f"{TOP}/tools")
+import made_docs  # noqa: E402
+
 BESIDE = re.compile(r"_tests$|^rows$")
 # statuses that are told of no refusal, or beside a code of the site
 BESIDE_CODES = {"200", "409", "422", "503"}
@@ -51,17 +54,19 @@ def crates():
     return [it[0] for it in lines if it]
 
 
+def layers():
+    """The crates of each row of README.md's table, highest first."""
+    rows = re.findall(r"(?m)^\| \w+ \| ([^|]*) \|", text_of("README.md").partition("## How it is built")[2])
+    return [names for names in (re.findall(r"`(\w+)`", row) for row in rows) if names]
+
+
 def about_crates():
     product = {it for it in crates() if not BESIDE.search(it)}
-    # a line of the list may be of several crates: - `one`, `two`: what they are
-    heads = re.findall(r"(?m)^(?:\| |- )((?:`\w+`(?:, )?)+)[ :]", text_of("README.md"))
-    table = {it for head in heads for it in re.findall(r"`(\w+)`", head)}
-    proved = set(re.findall(r"(?m)^## `(\w+)`", text_of("docs/proved.md")))
+    table = {it for layer in layers() for it in layer}
+    proved = set(re.findall(r"\*\*`(\w+)`\*\*", text_of("docs/proved.md")))
     for name, found in (("README.md", table), ("docs/proved.md", proved)):
         yield from (f"{name} has nothing of the crate {it}" for it in sorted(product - found))
         yield from (f"{name} has {it}, which crates.txt has not" for it in sorted(found - product))
-    described = text_of("docs/definitions.md") + text_of("docs/surface.md")
-    yield from (f"docs/definitions.md and docs/surface.md have nothing of {it}" for it in sorted(product) if f"`{it}`" not in described)
 
 
 def about_paths():
@@ -81,20 +86,13 @@ def about_paths():
 
 
 def about_layers():
-    picture = text_of("README.md").partition("## How it is built")[2].split("```")[1]
-    order = [[]]
-    for line in picture.strip("\n").split("\n"):
-        layer, words = line[:12].strip(), re.findall(r"\w+", line[12:])
-        order = [*order, words] if layer else [*order[:-1], [*order[-1], *words]]
     # a crate's place: lower layers are less, and in a layer those to the right
-    place = {name: (-height, -at) for height, layer in enumerate(order) for at, name in enumerate(layer)}
+    place = {name: (-height, -at) for height, layer in enumerate(layers()) for at, name in enumerate(layer)}
     for line in text_of("crates.txt").split("\n"):
         name, _, named = line.partition("#")[0].partition(":")
         for other in named.split():
             if name in place and other in place and place[other] >= place[name]:
-                yield f"README.md: {name} stands on {other}, which its picture has above it or to its left"
-    product = {it for it in crates() if not BESIDE.search(it)}
-    yield from (f"README.md's picture lacks {it}" for it in sorted(product - set(place)))
+                yield f"README.md: {name} stands on {other}, which its table has above it or to its left"
 
 
 def below(name, libraries, found=None):
@@ -165,27 +163,29 @@ def about_codes():
 
 
 def about_reading():
-    ran = subprocess.run([sys.executable, f"{TOP}/tools/reading_list.py", "--check", f"{TOP}/docs/definitions.md"], capture_output=True, text=True, check=False)
+    ran = subprocess.run([sys.executable, f"{TOP}/tools/reading_list.py", "--check", f"{TOP}/docs/reading.md"], capture_output=True, text=True, check=False)
     if ran.returncode:
         yield (ran.stdout or ran.stderr).strip()
 
 
 def about_twelve():
-    text = text_of("docs/definitions.md")
-    chosen = text.partition("<!-- twelve files -->")[2].partition("<!-- end of the twelve files -->")[0]
-    listed = text.partition("<!-- reading list -->")[2]
-    rows = re.findall(r"(?m)^\| (crates/\S+) \| (\d+) \|", chosen)
+    chosen, _, behind = text_of("docs/reading.md").partition("<!-- twelve files -->")[2].partition("<!-- end of the twelve files -->")
+    listed = {}
+    for crate, names in re.findall(r"(?m)^- `(\w+)`: (.*(?:\n  .*)*)", behind.partition("<!-- reading list -->")[2]):
+        listed[crate] = re.findall(r"([\w/]+) \d+", names)
+    rows = re.findall(r"(?m)^\| (crates/(\w+)/specs/(\S+)\.antt) \| (\d+) \|", chosen)
     if len(rows) != 12:
-        yield f"docs/definitions.md has {len(rows)} files in place of twelve"
-    for path, lines in rows:
-        if f"| {path} |" not in listed:
+        yield f"docs/reading.md has {len(rows)} files in place of twelve"
+    for path, crate, name, lines in rows:
+        if name not in listed.get(crate, ()):
             yield f"{path}, one of the twelve files, is none of the reading list"
-        if text_of(path).count("\n") != int(lines):
+        elif text_of(path).count("\n") != int(lines):
             yield f"{path} has {text_of(path).count(chr(10))} lines, not {lines}"
 
 
 def main():
-    found = [*about_crates(), *about_layers(), *about_paths(), *about_numbers(), *about_lines(), *about_long_lines(), *about_codes(), *about_reading(), *about_twelve()]
+    found = [*about_crates(), *about_layers(), *about_paths(), *about_numbers(), *about_lines(), *about_long_lines(), *about_codes()]
+    found += [*made_docs.stale(), *about_reading(), *about_twelve()]
     print("\n".join(found) or "documents: as they should be")
     return 1 if found else 0
 

@@ -7,12 +7,15 @@ Without words it starts at the contract of the program's runs, `site_commands::r
 `SystemHost` means by them. It walks names: from those that the contract cites to those that their definitions cite, over the `use` lines of specs/, and
 leaves out what no definition on the way names (lemmas, helpers of proofs). A file counts with the lines of those of its definitions that are reached, and
 of the comments above them. Types and traits that are declared in code count with their file. Of std and the ported libraries it follows nothing: it tells
-which of them are cited. With --names it prints the reached names of each file; --check FILE compares what it prints with what stands in a document between
-the lines `<!-- reading list -->` and `<!-- end of the reading list -->`. Standard library alone.
+which of them are cited. It prints of each crate its files with their lines, and the files that declare types. With --names it prints a table, with the
+reached names of each file; --check FILE compares what it prints with what stands in a document between the lines `<!-- reading list -->` and
+`<!-- end of the reading list -->`. Standard library alone.
 """
+import itertools
 import os
 import re
 import sys
+import textwrap
 
 TOP = os.path.dirname(os.path.dirname(os.path.abspath(__file__)))
 START = "site_commands"
@@ -204,22 +207,36 @@ def lowest_first(walk):
     return sorted([*sorted({*walk.types} - {*behind}), *behind], key=lambda path: crates.index(os.path.relpath(path, TOP).split("/")[1]))
 
 
-def listed(walk, names):
-    """What is printed: how much there is, and a row a file, highest first."""
-    rows, total = [], 0
+def rows_of(walk):
+    """The files, highest first, each with its lines (none where it declares types) and the names that are reached."""
     for path in reversed(lowest_first(walk)):
-        short = os.path.relpath(path, TOP)
         if path in walk.reached:
-            lines = len(set().union(*walk.reached[path].values()))
-            told = ", ".join(sorted(walk.reached[path])) if names else ""
+            yield os.path.relpath(path, TOP), len(set().union(*walk.reached[path].values())), sorted(walk.reached[path])
         else:
-            lines, told = 0, ", ".join(sorted(walk.types[path]))
-        total += lines
-        rows.append(f"| {short} | {lines or 'types'} | {told} |" if names else f"| {short} | {lines or 'types'} |")
-    head = ["| file | lines | names |", "|---|---|---|"] if names else ["| file | lines |", "|---|---|"]
-    count = f"{len(walk.reached)} files of specs/, {total} lines of definitions; {len(rows) - len(walk.reached)} files that declare types."
-    libraries = [f"Cited, and not listed: {', '.join(sorted(walk.libraries))}."] if walk.libraries else []
-    return [count, *libraries, "", *head, *rows]
+            yield os.path.relpath(path, TOP), 0, sorted(walk.types[path])
+
+
+def by_crate(rows):
+    """An item of a list for each crate: its files of specs/ with their lines, and those that declare types."""
+    for crate, group in itertools.groupby(rows, lambda row: row[0].split("/")[1]):
+        group = [(path.split("/", 3)[3].rsplit(".", 1)[0], lines) for path, lines, _ in group]
+        specs = ", ".join(f"{name} {lines}" for name, lines in group if lines)
+        types = ", ".join(name for name, lines in group if not lines)
+        text = "; types: ".join(it for it in (specs, types) if it) if specs else f"types: {types}"
+        yield from textwrap.wrap(f"- `{crate}`: {text}", 100, subsequent_indent="  ", break_long_words=False, break_on_hyphens=False)
+
+
+def listed(walk, names):
+    """What is printed: how much there is, and the files, highest first."""
+    rows = list(rows_of(walk))
+    count = f"{len(walk.reached)} files of specs/, {sum(lines for _, lines, _ in rows)} lines of definitions; {len(rows) - len(walk.reached)} files that declare types."
+    libraries = textwrap.wrap(f"Cited, and not listed: {', '.join(sorted(walk.libraries))}.", 100) if walk.libraries else []
+    if names:
+        shown = ["| file | lines | names |", "|---|---|---|"]
+        shown += [f"| {path} | {lines or 'types'} | {', '.join(told)} |" for path, lines, told in rows]
+    else:
+        shown = by_crate(rows)
+    return [count, *libraries, "", *shown]
 
 
 def main(words):

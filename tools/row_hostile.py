@@ -12,7 +12,7 @@ import random
 import socket
 
 from row_commands import Commands, compact
-from row_sites import BAD_ROW, Served, connected, policy_path, request
+from row_sites import BAD_ROW, Served, connected, label_of, message, policy_path, request
 
 SCHEMA = compact(
     {
@@ -75,6 +75,8 @@ PARTS = (
 )  # fmt: skip
 # so many inputs go out together, and the site's state is compared behind them
 TOGETHER = 64
+# so many deletions stand in a message
+DELETED = 1000
 # what a route may refuse for
 POLICY_CODES = {*range(10, 20), *range(40, 47), 62}
 ENTITY_CODES = {*range(30, 39), 61, 62}
@@ -135,6 +137,23 @@ def resident(site):
         return next(int(line.split()[1]) for line in file if line.startswith("VmRSS:"))
 
 
+def user(name):
+    """The uid of a user."""
+    return {"id": name, "type": "User"}
+
+
+def policy_pair(name):
+    """What puts a policy of this name, and what takes it away."""
+    return request("PUT", policy_path(name), POLICIES[0]), request("DELETE", policy_path(name))
+
+
+def entity_pair(name):
+    """What puts a user of this name into a group, and what takes it away."""
+    entity = {"attrs": {"name": name}, "parents": [{"id": "g", "type": "Group"}], "uid": user(name)}
+    put = request("PUT", "/v1/entities", compact(entity).encode())
+    return put, request("POST", "/v1/entities/delete", compact(user(name)).encode())
+
+
 class Hostile(Served):
     """Rows of hostile use.
 
@@ -142,8 +161,9 @@ class Hostile(Served):
     - `cut_states`: a state that ends at each byte before its last; whether each is refused as no JSON, and nothing
       of it is taken.
     - `streams SEED COUNT`: the bytes of connections, from their first byte on.
-    - `renamed COUNT`, `repeated COUNT`: so many policies are put and taken away, each of another name, or all of one;
-      it comes to whether the site then holds no more than one that took these deletions alone, and 256 kB.
+    - `renamed COUNT`, `repeated COUNT`, `entities_renamed COUNT`: so many policies, or entities, are put and taken away,
+      each of another name, or all of one; it comes to whether the site then holds no more than one that took these
+      deletions alone, and 256 kB.
     - `connections COUNT`: so many connections with one request each; whether the site holds 256 kB more behind them.
     """
 
@@ -165,9 +185,12 @@ class Hostile(Served):
                 return self.cut_states()
             case "renamed", [count]:
                 names = [f"p{it}" for it in range(count)]
-                return self.held(count, names, names)
+                return self.held(policy_pair, names, [{"policy": name} for name in names])
             case "repeated", [count]:
-                return self.held(count, ["p"] * count, [])
+                return self.held(policy_pair, ["p"] * count, [])
+            case "entities_renamed", [count]:
+                names = [f"u{it}" for it in range(count)]
+                return self.held(entity_pair, names, [{"entity": user(name)} for name in names])
             case "connections", [count]:
                 return self.connections(count)
         return BAD_ROW
@@ -242,7 +265,7 @@ class Hostile(Served):
         self.site.end()
         self.site = self.begin(SCHEMA)
         nothing = self.site.state().body
-        for end in range(len(state) - 1):
+        for end in range(len(state)):
             reply = self.site.ask("POST", "/v1/merge", state[:end])
             if reply.status != 422 or reply.refusal() != "50 - -":
                 return f"cut at {end}: {reply.status} {reply.text}"
@@ -274,40 +297,40 @@ class Hostile(Served):
 
     # ---- memory
 
-    def held(self, count, names, others):
-        """Puts and takes away policies: what the site holds more, and what these deletions alone take, in kB."""
-        self.put_and_take(["warm"] * 200)
+    def held(self, pair, names, others):
+        """Puts and takes away: what the site holds more, and what deletions of the others alone take, in kB."""
+        self.put_and_take(pair, ["warm"] * 200)
         before = resident(self.site)
-        self.put_and_take(names)
+        self.put_and_take(pair, names)
         more = resident(self.site) - before
         most = self.taken_alone(others) + 256
-        return f"{count} put and taken away" if more <= most else f"{more} kB more, where {most} may be"
+        return f"{len(names)} put and taken away" if more <= most else f"{more} kB more, where {most} may be"
 
     def taken_alone(self, names):
-        """What another site holds more once it took deletions of these names from a message, in kB."""
-        if not names:
-            return 0
+        """What another site holds more once it took deletions of these names from messages, in kB."""
         site = self.begin(SCHEMA)
-        label, before = json.loads(site.state().body)["schema"], resident(site)
-        for begin in range(0, len(names), 1000):
-            entries = [
-                {"body": None, "count": 1, "name": {"policy": name}, "site": "2"} for name in names[begin : begin + 1000]
-            ]
-            message = {"entries": entries, "kind": "delta", "schema": label, "version": 2}
-            if not site.ask("POST", "/v1/merge", json.dumps(message).encode()).is_given:
-                raise ValueError("a message of deletions is refused")
+        label = label_of(site)
+        self.take_away(site, label, [{"policy": "warm"}] * DELETED)
+        before = resident(site)
+        for begin in range(0, len(names), DELETED):
+            self.take_away(site, label, names[begin : begin + DELETED])
         more = resident(site) - before
         site.end()
         return more
 
-    def put_and_take(self, names):
-        """Each policy is put and then taken away, many requests together."""
+    @staticmethod
+    def take_away(site, label, names):
+        """Has a site take deletions of these names from a message."""
+        entries = [{"body": None, "count": 1, "name": name, "site": "2"} for name in names]
+        if not site.ask("POST", "/v1/merge", message("delta", label, entries=entries)).is_given:
+            raise ValueError("a message of deletions is refused")
+
+    def put_and_take(self, pair, names):
+        """Each is put and then taken away, many requests together."""
         for begin in range(0, len(names), TOGETHER):
-            asked = []
-            for name in names[begin : begin + TOGETHER]:
-                asked += [request("PUT", policy_path(name), POLICIES[0]), request("DELETE", policy_path(name))]
-            if not all(reply.is_given for reply in self.site.asked(asked)):
-                raise ValueError("a policy was not put or not taken away")
+            asked = [asking for name in names[begin : begin + TOGETHER] for asking in pair(name)]
+            if self.site.given(asked) != len(asked):
+                raise ValueError("what was put or taken away was refused")
 
     def connections(self, count):
         """Opens connections one after another, with one request each."""

@@ -5,6 +5,7 @@ over one connection that is kept, but where the bytes of a connection are what a
 by the number of the refusal, its place and the number inside, `-` where there is none. Used by tools/rows.py.
 """
 import json
+import os
 import re
 import select
 import socket
@@ -37,10 +38,11 @@ class NotBegun(Exception):
 
 
 class Processes:
-    """The processes that a table has started. Once they are ended none is started any more."""
+    """The processes that a table has started, with these variables. Once they are ended none is started any more."""
 
-    def __init__(self):
+    def __init__(self, **variables):
         self.lock, self.running, self.is_over = threading.Lock(), set(), False
+        self.environment = {**os.environ, **variables}
 
     def start(self, words):
         """Starts a process."""
@@ -48,7 +50,8 @@ class Processes:
             if self.is_over:
                 raise RuntimeError("the table is at its end")
             pipe = subprocess.PIPE
-            process = subprocess.Popen(words, stdin=subprocess.DEVNULL, stdout=pipe, stderr=pipe)
+            how = {"stdin": subprocess.DEVNULL, "stdout": pipe, "stderr": pipe, "env": self.environment}
+            process = subprocess.Popen(words, **how)
             self.running.add(process)
         return process
 
@@ -154,6 +157,11 @@ def request(method, path, body=None):
     return f"{method} {path} HTTP/1.1\r\n".encode() + length + b"\r\n" + (body or b"")
 
 
+# a request that is answered by 404 wherever it goes, and what its reply ends in
+NOWHERE = request("GET", "/nowhere")
+NOT_FOUND = b'{"error":{"code":404,"place":null,"within":null}}'
+
+
 def policy_path(policy):
     """The path of a policy, by the bytes of its id."""
     return "/v1/policies/" + urllib.parse.quote(policy, safe="")
@@ -193,6 +201,21 @@ class Site:
             if name.lower() == b"content-length":
                 length = int(value)
         return Reply(int(first[1]), self.incoming.read(length))
+
+    def given(self, requests):
+        """How many of these requests, which go out together, are answered by 200.
+
+        It is told by the bytes that come, in less time than replies are read one by one.
+        """
+        self.asked([])
+        self.link.sendall(b"".join([*requests, NOWHERE]))
+        came = bytearray()
+        while not came.endswith(NOT_FOUND):
+            part = self.incoming.read1(65536)
+            if not part:
+                raise ConnectionError("the site has ended the connection")
+            came += part
+        return came.count(b"HTTP/1.1 200 OK\r\n")
 
     def ask(self, method, path, body=None):
         """The reply to one request."""

@@ -1,6 +1,6 @@
 -- Edges by `memberOf` lead as far as edges to all that is above an action, and no cycle goes through an action.
 use Rattle.std.proofs.Common.{◌≡◌, List, [], ◌∷◌, Option, Some, None, Bool, true, false, refl, subst, inl, inr}
-use Rattle.std.specs.Prelude.{Contains, IsSome, ◌⊎◌, option_map, if◌then◌else◌}
+use Rattle.std.specs.Prelude.{Contains, IsSome, ◌⊎◌, ◌↔◌, option_map, if◌then◌else◌}
 use Rattle.std.specs.Ordering.{is_eq}
 use Rattle.values.specs.declared.entity_uid.EntityUid.{EntityUid}
 use Rattle.values.specs.Names.{uid_cmp}
@@ -13,6 +13,7 @@ use Rattle.schema.specs.WellFormed.{IsWellFormed}
 use Rattle.entity_worlds.specs.Entities.{EntityMap, parents_of, attributes_of, action_or}
 use Rattle.entity_store.specs.Laws.{stated_world, closed_world}
 use Rattle.entity_store.specs.Alike.{LeadAlike, HaveSameCycles}
+use Rattle.entity_store.proofs.PutLemmas.{cycles_alike}
 
 -- ---- what has a parent by `memberOf` is a declared action
 
@@ -88,6 +89,11 @@ module _ (s : FoundSchema) (v : StatedSchema) (answers : Answers s v) (entities 
 
   pub lead_alike : LeadAlike P Q
   lead_alike a b = ((λ above. (above.0, path b above.0 a above.1)), (λ above. jumps b above.0 a above.1))
+
+  -- ---- once the edges from u are these, it is on a cycle in both or in neither
+
+  pub puts_alike : (u : EntityUid) (ps : List EntityUid) → IsOnCycle (with_parents P u ps) u ↔ IsOnCycle (with_parents Q u ps) u
+  puts_alike = cycles_alike P Q edge jump
 
   -- ---- the same cycles are in both, since none goes through an action
 

@@ -1,3 +1,4 @@
+mod PutLemmas
 mod ActionLemmas
 mod AlikeLemmas
 mod ApartLemmas

@@ -1,11 +1,11 @@
 -- What is true of the definitions: an action has as parents all that is above it by `memberOf`, and that is no matter:
 -- over the edges by `memberOf` alone the same entities are above one another, each expression gives the same, and each
--- answer is the same, since no cycle goes through an action.
-use Rattle.std.specs.Prelude.{◌≡◌, ℕ, List, Option, None, Ok, option_map}
+-- answer is the same, since no cycle goes through an action; and the same entity makes a cycle once it is put.
+use Rattle.std.specs.Prelude.{◌≡◌, ◌↔◌, ℕ, List, Option, None, Ok, option_map}
 use Rattle.serde_json.specs.Data.{Data}
 use Rattle.values.specs.declared.entity_uid.EntityUid.{EntityUid}
 use Rattle.values.specs.Fields.{Field}
-use Rattle.ancestor_closure.specs.Hierarchy.{Parents}
+use Rattle.ancestor_closure.specs.Hierarchy.{Parents, IsOnCycle, with_parents}
 use Rattle.ancestor_closure.specs.LeastCycle.{HasNoCycle}
 use Rattle.evaluator.specs.Operators.{World, world_of}
 use Rattle.schema_names.specs.Qualifying.{FoundSchema}
@@ -47,6 +47,13 @@ MemberOfGivesAlike = (bytes : List ℕ) (v : StatedSchema) (stated : IsSchemaOf 
 abbrev pub MemberOfAnswersAlike : Type 0
 MemberOfAnswersAlike = (bytes : List ℕ) (v : StatedSchema) (stated : IsSchemaOf bytes v) (entities : EntityMap)
     → AnswerAlike (stated_world stated.named v entities) (closed_world v entities)
+
+-- and once the edges from one entity are these, whatever it is, it is on a cycle in both or in neither
+abbrev pub MemberOfPutsAlike : Type 0
+MemberOfPutsAlike = (bytes : List ℕ) (v : StatedSchema) (stated : IsSchemaOf bytes v) (entities : EntityMap)
+    (u : EntityUid) (parents : List EntityUid)
+    → IsOnCycle (with_parents (stated_world stated.named v entities).parents u parents) u
+    ↔ IsOnCycle (with_parents (closed_world v entities).parents u parents) u
 
 -- no entity that is read under a schema is an action of it, so that what is kept and the actions are apart
 abbrev pub NoEntityIsAnAction : Type 0

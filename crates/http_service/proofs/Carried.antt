@@ -1,176 +1,119 @@
--- What is said of routes over a borrowed site is said of the site, and the borrow stays the same.
-use Rattle.std.proofs.Common.{◌≡◌, ◌⊎◌, ℕ, zero, suc, Option, Bool, true, false, Result, Ok, Err, OnOk, List, ◌++◌, refl, ap, ◌∙◌, inl, inr}
-use Rattle.std.specs.Io.KnownBytes.{Appends, Consumes, IsAtEnd}
-use Rattle.http_streams.specs.Reads.{EndsByOneRead}
-use Rattle.http_streams.specs.Stream.{Answering, Closes, Ends, Exchanges, Halts, KeepsUp, Rests, Serves, Stops}
-use Rattle.service_replies.specs.passed_on.site.{Seen}
-use Rattle.http_service.specs.Streams.{LeavesRun}
-use Rattle.http_service.specs.declared.routed.Routed.{Routed}
+-- What is said of routes over a borrowed site is said of the site in the midst of its run, and the borrow stays the
+-- same; and what is said of a site in its run is said of the site.
+use Rattle.std.proofs.Common.{◌≡◌, ℕ, Option, Result, List, [], ◌∷◌, ◌++◌, refl, sym, ap, ◌∙◌, subst}
+use Rattle.http_texts.specs.declared.status.Status.{Status}
+use Rattle.http_streams.specs.Serving.{IsAnswered}
 use Rattle.http_streams.specs.declared.serve.StreamFault.{StreamFault}
-use Rattle.http_streams.specs.declared.serve.StreamFault.TheVariants as fault
-use Rattle.http_service.specs.Answered.{answers, answers_over}
+use Rattle.http_streams.proofs.Simulated.{answered}
+use Rattle.site_runs.specs.passed_on.entities.{schema_view}
+use Rattle.service_replies.specs.passed_on.site.{Seen, schema_of, store_in, IsSameSite}
+use Rattle.site_runs.specs.Runs.{Run}
+use Rattle.site_runs.proofs.RunLemmas.{run_push, same_step}
+use Rattle.service_routes.specs.Routes.{route_stated}
+use Rattle.http_service.specs.Asked.{Asked, asked, hands, refused, unserved}
+use Rattle.http_service.specs.Answered.{Replies, answers_over}
+use Rattle.http_service.specs.Serving.{Served, unasked, Continues, continues_run, IsServed}
+use Rattle.http_service.specs.declared.routed.Routed.{Routed}
+use Rattle.http_service.proofs.RunLemmas.{RunsTake}
 
-abbrev Same : Routed → Routed → Type 0
-Same old new = new.site.ghost_name ≡ old.site.ghost_name
+-- ---- the run that a stream makes so far, from the site that it began with
 
-exchanges : (old : Routed) (bytes : List ℕ) (last : Bool) (out : List ℕ) (new : Routed) (rest : List ℕ)
-    → Exchanges answers_over old bytes last out new rest
-    → Exchanges answers old.site.now bytes last out new.site.now rest × Same old new
-exchanges old bytes last out new rest h = (
-  record {
-    head = h.head;
-    body = h.body;
-    status = h.status;
-    text = h.text;
-    reads = h.reads;
-    answered = h.answered.0;
-    last_is = h.last_is;
-    out_is = h.out_is;
-  },
-  h.answered.1,
-)
+pub record Running (first : Seen) (v : Served) : Type 0 where
+  pub run : Run (schema_of first) first.name (store_in first) v.inputs v.replies (store_in v.site)
+  pub same : IsSameSite first v.site
 
-serves : (n : ℕ) (old : Routed) (bytes rest out : List ℕ) (new : Routed) → Serves answers_over n old bytes rest out new
-    → Serves answers n old.site.now bytes rest out new.site.now × Same old new
-serves zero old bytes rest out new h =
-    ((h.0, h.1, ap (λ (r : Routed). r.site.now) h.2), ap (λ (r : Routed). r.site.ghost_name) h.2)
-serves (suc n) old bytes rest out new h =
-    let one = exchanges old bytes false h.2 h.0 h.1 h.4 in
-    let more = serves n h.0 h.1 rest h.3 new h.5 in
-    ((h.0.site.now, h.1, h.2, h.3, one.0, more.0, h.6), more.1 ∙ one.1)
+unchanged : (old new : Seen) → new ≡ old → IsSameSite old new
+unchanged old new h = (ap (λ (a : Seen). a.schema) h, ap (λ (a : Seen). a.name) h)
 
-closes : (old : Routed) (bytes out : List ℕ) (new : Routed) → Closes answers_over old bytes out new
-    → Closes answers old.site.now bytes out new.site.now × Same old new
-closes old bytes out new (inl h) =
-    let one = exchanges old bytes true out new h.0 h.1 in (inl (h.0, one.0), one.1)
-closes old bytes out new (inr h) =
-    (inr (h.0, h.1, h.2, ap (λ (r : Routed). r.site.now) h.3), ap (λ (r : Routed). r.site.ghost_name) h.3)
+same_then : (a b c : Seen) → IsSameSite a b → IsSameSite b c → IsSameSite a c
+same_then a b c h k = (k.0 ∙ h.0, k.1 ∙ h.1)
 
-pub rests : (old : Routed) (bytes out : List ℕ) (new : Routed) → Rests answers_over old bytes out new
-    → Rests answers old.site.now bytes out new.site.now × Same old new
-rests old bytes out new h =
-    let all = serves h.count old bytes h.rest out new h.serves in
-    (record { count = h.count; rest = h.rest; serves = all.0; unfinished = h.unfinished }, all.1)
-
-pub ends : (old : Routed) (bytes out : List ℕ) (new : Routed) → Ends answers_over old bytes out new
-    → Ends answers old.site.now bytes out new.site.now × Same old new
-ends old bytes out new h =
-    let all = serves h.count old bytes h.rest h.before h.mid h.serves in
-    let last = closes h.mid h.rest h.last new h.closes in (
-      record {
-        count = h.count;
-        mid = h.mid.site.now;
-        rest = h.rest;
-        before = h.before;
-        last = h.last;
-        serves = all.0;
-        closes = last.0;
-        joined = h.joined;
-      },
-      last.1 ∙ all.1,
-    )
-
-halts : (old : Routed) (bytes out : List ℕ) (new : Routed) → Halts answers_over old bytes out new
-    → Halts answers old.site.now bytes out new.site.now × Same old new
-halts old bytes out new (back, some, inl h) =
-    let one = exchanges old bytes h.1 (out ++ back) new h.0 h.2 in
-    ((back, some, inl (h.0, h.1, one.0)), one.1)
-halts old bytes out new (back, some, inr h) = (
-  (back, some, inr (h.0, h.1, h.2, ap (λ (r : Routed). r.site.now) h.3)),
-  ap (λ (r : Routed). r.site.ghost_name) h.3,
-)
-
-pub stops : (old : Routed) (bytes out : List ℕ) (new : Routed) → Stops answers_over old bytes out new
-    → Stops answers old.site.now bytes out new.site.now × Same old new
-stops old bytes out new h =
-    let all = serves h.count old bytes h.rest h.before h.mid h.serves in
-    let last = halts h.mid h.rest h.last new h.halts in (
-      record {
-        count = h.count;
-        mid = h.mid.site.now;
-        rest = h.rest;
-        before = h.before;
-        last = h.last;
-        serves = all.0;
-        halts = last.0;
-        joined = h.joined;
-      },
-      last.1 ∙ all.1,
-    )
-
-pub keeps_up : {R : Type 0} {left : R → Option (List ℕ)} {reads : R → ℕ → List ℕ → R → Type 0} (old : Routed)
-    (first last : R) (bytes out : List ℕ) → KeepsUp answers_over left reads old first last bytes out
-    → KeepsUp answers left reads old.site.now first last bytes out
-keeps_up old first last bytes out h = record {
-  front = h.front;
-  sent = h.sent;
-  more = h.more;
-  state = h.state.site.now;
-  answered = (rests old h.front h.sent h.state h.answered).0;
-  read = h.read;
-  joined = h.joined;
+no_step : (first : Seen) (v : Served) (new : Seen) → Running first v → new ≡ v.site
+    → Running first (record { site = new; inputs = v.inputs; replies = v.replies })
+no_step first v new h e = record {
+  run = subst (λ (s : Seen). Run (schema_of first) first.name (store_in first) v.inputs v.replies (store_in s)) (sym e) h.run;
+  same = same_then first v.site new h.same (unchanged v.site new e);
 }
 
--- each outcome of a stream is one of these
-pub by_result : (P : Type 0) (r : Result (Unit {0}) StreamFault) → OnOk r P → (r ≡ Err fault.Read → P)
-    → (r ≡ Err fault.NoMemory → P) → (r ≡ Err fault.Write → P) → P
-by_result P (Ok a) ok read memory write = ok
-by_result P (Err fault.Read) ok read memory write = read refl
-by_result P (Err fault.Write) ok read memory write = write refl
-by_result P (Err fault.NoMemory) ok read memory write = memory refl
+one_request : (first : Seen) (a : Asked) (v : Served) (new : Seen) (status : Status) (line : List ℕ) → Running first v
+    → Replies v.site a status line new
+    → (w : Served) × Continues v a status line w × Running first w × (w.site ≡ new)
+one_request first (hands i) v new status line so_far h = (
+  record { site = new; inputs = v.inputs ++ i ∷ []; replies = v.replies ++ h.0 ∷ [] },
+  (h.0, h.1, h.2, h.3, refl, refl),
+  record {
+    run = run_push (schema_of first) first.name (store_in first) v.inputs v.replies (store_in v.site) i h.0 (store_in new)
+        so_far.run (same_step (schema_of v.site) (schema_of first) v.site.name first.name (store_in v.site) i h.0
+        (store_in new) (ap schema_view so_far.same.0) so_far.same.1 h.1);
+    same = same_then first v.site new so_far.same h.2;
+  },
+  refl,
+)
+one_request first (refused f) v new status line so_far h = (
+  record { site = new; inputs = v.inputs; replies = v.replies },
+  (h, refl, refl),
+  no_step first v new so_far h.1,
+  refl,
+)
+one_request first (unserved s) v new status line so_far h = (
+  record { site = new; inputs = v.inputs; replies = v.replies },
+  (h, refl, refl),
+  no_step first v new so_far h.1,
+  refl,
+)
 
-pub on_ok : {P Q : Type 0} → (P → Q) → (r : Result (Unit {0}) StreamFault) → OnOk r P → OnOk r Q
-on_ok f (Ok a) h = f h
-on_ok f (Err e) h = tt
+-- a borrowed site, and a run so far that came to it
+record Carries (start r : Routed) (v : Served) : Type 0 where
+  pub site : v.site ≡ r.site.now
+  pub running : Running start.site.now v
+  pub borrow : r.site.ghost_name ≡ start.site.ghost_name
 
--- a stream that was answered to its end
-abbrev Whole : {S R W : Type 0} (says : Answering S) (left : R → Option (List ℕ))
-    (reads : R → ℕ → List ℕ → R → Type 0) (holds : W → Option (List ℕ)) (first last : R) (before after : W)
-    (old new : S) → Type 0
-Whole says left reads holds first last before after old new =
-    (bytes : List ℕ) × (out : List ℕ) × Consumes (left first) (left last) bytes
-    × Appends (holds before) (holds after) out
-    × ((Rests says old bytes out new × IsAtEnd (left last) × EndsByOneRead left reads first last bytes bytes)
-    ⊎ (Ends says old bytes out new × KeepsUp says left reads old first last bytes out))
+carry_on : (start a b : Routed) (x : Served) (m t body : List ℕ) (status : Status) (line : List ℕ) → Carries start a x
+    → answers_over a m t body status line b
+    → (y : Served) × continues_run x m t body status line y × Carries start b y
+carry_on start a b x m t body status line carries h =
+    let asks = asked (route_stated m t) body in
+    let one = one_request start.site.now asks x b.site.now status line carries.running
+    (subst (λ (s : Seen). Replies s asks status line b.site.now) (sym carries.site) h.0) in
+    (one.0, one.1, record { site = one.3; running = one.2; borrow = h.1 ∙ carries.borrow })
 
-pub all_ok : {R W : Type 0} (left : R → Option (List ℕ)) (reads : R → ℕ → List ℕ → R → Type 0)
-    (holds : W → Option (List ℕ)) (first last : R) (before after : W) (old new : Routed)
-    (r : Result (Unit {0}) StreamFault) → OnOk r (Whole answers_over left reads holds first last before after old new)
-    → OnOk r (Whole answers left reads holds first last before after old.site.now new.site.now)
-all_ok left reads holds first last before after old new (Ok a) (bytes, out, read, written, inl x) =
-    (bytes, out, read, written, inl ((rests old bytes out new x.0).0, x.1, x.2))
-all_ok left reads holds first last before after old new (Ok a) (bytes, out, read, written, inr x) =
-    (bytes, out, read, written, inr ((ends old bytes out new x.0).0, keeps_up old first last bytes out x.1))
-all_ok left reads holds first last before after old new (Err e) h = tt
+carried_first : (start : Routed) → Carries start start (unasked start.site.now)
+carried_first start = record {
+  site = refl;
+  running = record { run = refl; same = (refl, refl) };
+  borrow = refl;
+}
 
--- what was read, and the run that is left by it
-abbrev pub Leaves : {R : Type 0} (left : R → Option (List ℕ)) (first last : R) (old new : Seen) → Type 0
-Leaves left first last old new = (bytes : List ℕ) × Consumes (left first) (left last) bytes × LeavesRun old bytes new
+-- ---- a call
 
--- the laws of runs
-pub record RunLaws : Type 0 where
-  pub rests : (old new : Seen) (bytes out : List ℕ) → Rests answers old bytes out new → LeavesRun old bytes new
-  pub ends : (old new : Seen) (bytes out : List ℕ) → Ends answers old bytes out new → LeavesRun old bytes new
-  pub stops : (old new : Seen) (bytes out : List ℕ) → Stops answers old bytes out new → LeavesRun old bytes new
-
-pub whole_leaves : {R W : Type 0} (left : R → Option (List ℕ)) (reads : R → ℕ → List ℕ → R → Type 0)
-    (holds : W → Option (List ℕ)) (first last : R) (before after : W) (old new : Routed) → RunLaws
-    → (r : Result (Unit {0}) StreamFault) → OnOk r (Whole answers_over left reads holds first last before after old new)
-    → OnOk r (Leaves left first last old.site.now new.site.now)
-whole_leaves left reads holds first last before after old new laws (Ok a) (bytes, out, read, written, inl x) =
-    (bytes, read, laws.rests old.site.now new.site.now bytes out (rests old bytes out new x.0).0)
-whole_leaves left reads holds first last before after old new laws (Ok a) (bytes, out, read, written, inr x) =
-    (bytes, read, laws.ends old.site.now new.site.now bytes out (ends old bytes out new x.0).0)
-whole_leaves left reads holds first last before after old new laws (Err e) h = tt
-
-pub rest_leaves : {R : Type 0} (left : R → Option (List ℕ)) (first last : R) (old new : Routed) (bytes out : List ℕ)
-    → RunLaws → Consumes (left first) (left last) bytes → Rests answers_over old bytes out new
-    → Leaves left first last old.site.now new.site.now
-rest_leaves left first last old new bytes out laws read h =
-    (bytes, read, laws.rests old.site.now new.site.now bytes out (rests old bytes out new h).0)
-
-pub stop_leaves : {R : Type 0} (left : R → Option (List ℕ)) (first last : R) (old new : Routed) (bytes out : List ℕ)
-    → RunLaws → Consumes (left first) (left last) bytes → Stops answers_over old bytes out new
-    → Leaves left first last old.site.now new.site.now
-stop_leaves left first last old new bytes out laws read h =
-    (bytes, read, laws.stops old.site.now new.site.now bytes out (stops old bytes out new h).0)
+module _ {R W : Type 0} (left : R → Option (List ℕ)) (read_failures : R → ℕ) (reads : R → ℕ → List ℕ → R → Type 0)
+    (read_fails : R → R → Type 0) (holds : W → Option (List ℕ)) (write_failures : W → ℕ)
+    (write_fails : W → W → Type 0) where
+  -- over a borrowed site
+  pub served : RunsTake → (first last : R) (before after : W) (old new : Routed)
+      (result : Result (Unit {0}) StreamFault)
+      → IsAnswered answers_over left read_failures reads read_fails holds write_failures write_fails first last before
+      after old new result
+      → IsServed left read_failures reads read_fails holds write_failures write_fails first last before after
+      old.site.now new.site.now result
+      × (new.site.ghost_name ≡ old.site.ghost_name)
+  served law first last before after old new result h =
+      let all = answered answers_over continues_run (Carries old) (carry_on old) left read_failures reads read_fails
+      holds write_failures write_fails first last before after old new (unasked old.site.now) result
+      (carried_first old) h in
+      let start = old.site.now in
+      let ran = subst (λ (s : Seen). Running start (record { site = s; inputs = all.0.inputs; replies = all.0.replies }))
+      all.2.site all.2.running in (
+        record {
+          inputs = all.0.inputs;
+          replies = all.0.replies;
+          answered = subst (λ (s : Seen). IsAnswered continues_run left read_failures reads read_fails holds
+              write_failures write_fails first last before after (unasked start)
+              (record { site = s; inputs = all.0.inputs; replies = all.0.replies }) result) all.2.site all.1;
+          run = ran.run;
+          store = law (schema_of start) start.name (store_in start) all.0.inputs all.0.replies (store_in new.site.now)
+              ran.run;
+          same = ran.same;
+        },
+        all.2.borrow,
+      )

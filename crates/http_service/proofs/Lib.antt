@@ -1,4 +1,5 @@
 pub mod Carried
+pub mod ServedLemmas
 pub mod RunLemmas
 pub mod Dealt
 pub mod OneReply

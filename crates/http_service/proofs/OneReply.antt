@@ -1,5 +1,5 @@
 -- A request has one reply from sites that are alike, want of memory aside.
-use Rattle.std.proofs.Common.{◌≡◌, ◌≢◌, ◌⊎◌, ℕ, List, Result, Ok, Err, refl, sym, ap, ◌∙◌, subst, inl, inr}
+use Rattle.std.proofs.Common.{◌≡◌, ◌≢◌, ◌⊎◌, ℕ, List, Ok, Err, refl, sym, ap, ◌∙◌, subst, inl, inr}
 use Rattle.http_texts.specs.declared.status.Status.{Status}
 use Rattle.http_texts.specs.declared.status.Status.TheVariants.{ServiceUnavailable}
 use Rattle.http_streams.specs.Laws.{HasOneAnswer, in_memory}

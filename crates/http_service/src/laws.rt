@@ -1,7 +1,9 @@
 //! Laws of streams over a site.
-ghost use Rattle.std.specs.Prelude.{◌≡◌, ℕ, List};
+ghost use Rattle.std.specs.Prelude.{◌≡◌, ℕ, List, Result};
+ghost use Rattle.std.specs.Io.KnownBytes.{Consumes};
 ghost use Rattle.http_texts.specs.declared.status.Status.{Status};
 ghost use Rattle.http_streams.specs.Laws.{AgreeOn, AnswersAll, BeginsAnswer, HasOneAnswer, StopsIn, in_memory};
+ghost use Rattle.http_streams.specs.Serving.{IsAnswered};
 ghost use Rattle.http_streams.specs.Stream.{Ends, Rests, Stops};
 ghost use Rattle.service_replies.specs.passed_on.site.{Seen};
 ghost use Rattle.site_runs.specs.declared.input.Input.{Input};
@@ -10,10 +12,13 @@ ghost use Rattle.site_runs.specs.passed_on.schema.{IsStated};
 ghost use Rattle.site_runs.specs.Right.{IsHarmlessReply};
 ghost use Rattle.http_service.specs.Asked.{hands};
 ghost use Rattle.http_service.specs.Answered.{IsAlike, Replies, answers, told};
-ghost use Rattle.http_service.specs.Streams.{LeavesRun};
+ghost use Rattle.http_service.specs.Serving.{IsServed};
+ghost use Rattle.http_service.specs.Streams.{AskFor, LeavesRun};
 
 use crate::routed::Stated;
+use counted_devices::devices::{Sink, Source};
 use http_streams::laws::{begins_answer, one_answer};
+use http_streams::serve::StreamFault;
 use site_runs::{inputs_have_one_outcome, runs_go_right, runs_leave_what_they_took};
 
 /// However a stream of requests ends, the site goes on by a run of the inputs that the requests ask for, in their
@@ -22,6 +27,25 @@ pub fn streams_leave_runs()
     ensures rests { (old new : Seen) (bytes out : List ℕ) → Rests answers old bytes out new → LeavesRun old bytes new }
     ensures ends { (old new : Seen) (bytes out : List ℕ) → Ends answers old bytes out new → LeavesRun old bytes new }
     ensures stops { (old new : Seen) (bytes out : List ℕ) → Stops answers old bytes out new → LeavesRun old bytes new }
+{
+    runs_leave_what_they_took();
+}
+
+/// What is said of a call that served a site (`IsServed`), in parts. `answered`: each request that was read is answered
+/// by the site as it then was, what was written are these replies, and the stream ended as the result says. `asked`:
+/// the inputs of the run are those that the first requests of what was read ask for. `run`: so the site's store is that
+/// of the updates that it had and of those that it took.
+pub fn served_streams_are_answered<R: Source, W: Sink>()
+    ensures answered { (first last : R) (before after : W) (old new : Seen) (result : Result (Unit {0}) StreamFault)
+        → IsServed R.left R.failed R.reads R.fails W.holds W.failed W.fails first last before after old new result
+        → IsAnswered answers R.left R.failed R.reads R.fails W.holds W.failed W.fails first last before after old new
+        result }
+    ensures asked { (first last : R) (before after : W) (old new : Seen) (result : Result (Unit {0}) StreamFault)
+        (h : IsServed R.left R.failed R.reads R.fails W.holds W.failed W.fails first last before after old new result)
+        → (count : ℕ) × (rest : List ℕ) × AskFor count h.answered.bytes rest h.inputs }
+    ensures run { (first last : R) (before after : W) (old new : Seen) (result : Result (Unit {0}) StreamFault)
+        → IsServed R.left R.failed R.reads R.fails W.holds W.failed W.fails first last before after old new result
+        → (bytes : List ℕ) × Consumes (R.left first) (R.left last) bytes × LeavesRun old bytes new }
 {
     runs_leave_what_they_took();
 }

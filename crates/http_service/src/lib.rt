@@ -10,7 +10,8 @@ mod routed;
 mod serving;
 
 pub use laws::{
-    cuts_make_no_difference, requests_have_one_reply, served_answers_go_right, streams_leave_runs,
+    cuts_make_no_difference, requests_have_one_reply, served_answers_go_right,
+    served_streams_are_answered, streams_leave_runs,
 };
 pub use routed::Routed;
 pub use serving::serve;

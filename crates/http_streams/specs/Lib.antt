@@ -1,3 +1,4 @@
 pub mod Reads
 pub mod Stream
+pub mod Serving
 pub mod Laws

@@ -2,13 +2,13 @@
 ghost use Rattle.std.specs.Prelude.{◌≡◌, ◌≤◌, ◌<◌, ◌+◌, ◌⊎◌, ℕ, List, ◌++◌, [], true, Err, length, drop, Ok};
 ghost use Rattle.std.specs.Prelude.{None, OnOk, OnErr, IfOk, IfSome, vec_len};
 ghost use Rattle.std.specs.Vec.{vec_capacity};
-ghost use Rattle.std.specs.Io.KnownBytes.{Appends, Consumes, IsAtEnd};
+ghost use Rattle.std.specs.Io.KnownBytes.{Appends};
 ghost use Rattle.counted_devices.specs.Devices.{FailsAtLast};
 ghost use Rattle.http_texts.specs.ReplyText.{error_line, reply_text};
 ghost use Rattle.http_framing.specs.Request.{IsUnfinishedBelow, IsWholeAt};
 ghost use Rattle.http_texts.specs.Status.{code};
-ghost use Rattle.http_streams.specs.Reads.{EndsByOneRead};
-ghost use Rattle.http_streams.specs.Stream.{Ends, Exchanges, Halts, KeepsUp, Rests, Serves, Stops};
+ghost use Rattle.http_streams.specs.Serving.{IsAnswered};
+ghost use Rattle.http_streams.specs.Stream.{Ends, Exchanges, Halts, Serves, Stops};
 ghost use Rattle.http_streams.specs.declared.TheConstants.{REPLY_ROOM};
 
 use crate::MAX_READ;
@@ -38,48 +38,17 @@ pub enum StreamFault {
 
 /// Answers each whole request of the stream in order, before it reads on, and ends at the end of the
 /// input or after a reply that ends the stream.
+///
+/// What was written is the replies to what was read, however it ends. Memory is asked for before bytes are read, and
+/// no reply takes any but what the service asks.
 pub fn serve<S: Service, R: Source, W: Sink>(
     alloc: Global,
     service: &mut S,
     reader: &mut R,
     writer: &mut W,
 ) -> Result<(), StreamFault>
-    // What was written is the replies to what was read. The input is at its end, as the last read told, or the last
-    // reply ended the stream and nothing was read behind it.
-    ensures ok { OnOk result ((bytes : List ℕ) × (out : List ℕ)
-        × Consumes (R.left reader.old) (R.left reader.new) bytes
-        × Appends (W.holds writer.old) (W.holds writer.new) out
-        × ((Rests S.answers service.old bytes out service.new × IsAtEnd (R.left reader.new)
-        × EndsByOneRead R.left R.reads reader.old reader.new bytes bytes)
-        ⊎ (Ends S.answers service.old bytes out service.new
-        × KeepsUp S.answers R.left R.reads service.old reader.old reader.new bytes out))) }
-    ensures count { OnOk result
-        ((R.failed reader.new ≡ R.failed reader.old) × (W.failed writer.new ≡ W.failed writer.old)) }
-
-    // After a read that failed, which was the last, the bytes till then are answered; or `u64::MAX` bytes came.
-    ensures read { result ≡ Err StreamFault.Read → (bytes : List ℕ) × (out : List ℕ)
-        × Consumes (R.left reader.old) (R.left reader.new) bytes
-        × Appends (W.holds writer.old) (W.holds writer.new) out
-        × Rests S.answers service.old bytes out service.new
-        × (FailsAtLast R.failed R.fails reader.old reader.new ⊎ (u64.MAX ≤ length bytes))
-        × (W.failed writer.new ≡ W.failed writer.old) }
-
-    // After want of memory all that was read is answered: memory is asked for before bytes are read, and no reply
-    // takes any.
-    ensures memory { result ≡ Err StreamFault.NoMemory → (bytes : List ℕ) × (out : List ℕ)
-        × Consumes (R.left reader.old) (R.left reader.new) bytes
-        × Appends (W.holds writer.old) (W.holds writer.new) out
-        × Rests S.answers service.old bytes out service.new
-        × (R.failed reader.new ≡ R.failed reader.old) × (W.failed writer.new ≡ W.failed writer.old) }
-
-    // After a write that failed, which was the last, some requests are answered, and of one more reply a first part
-    // may have gone out. All that had come before the last read was answered.
-    ensures write { result ≡ Err StreamFault.Write → (bytes : List ℕ) × (out : List ℕ)
-        × Consumes (R.left reader.old) (R.left reader.new) bytes
-        × Appends (W.holds writer.old) (W.holds writer.new) out
-        × Stops S.answers service.old bytes out service.new
-        × KeepsUp S.answers R.left R.reads service.old reader.old reader.new bytes out
-        × FailsAtLast W.failed W.fails writer.old writer.new × (R.failed reader.new ≡ R.failed reader.old) }
+    ensures { IsAnswered S.answers R.left R.failed R.reads R.fails W.holds W.failed W.fails reader.old reader.new
+        writer.old writer.new service.old service.new result }
 {
     let Ok((mut room, mut chunk, mut text)) = rooms(alloc) else {
         return Err(StreamFault::NoMemory);
@@ -135,32 +104,8 @@ fn answer_stream<S: Service, R: Source, W: Sink>(
     requires head { HEAD_ROOM ≤ vec_len text.old }
     requires room { HEAD_ROOM + REPLY_ROOM ≤ vec_capacity text.old }
     requires empty { buffer.old.items ≡ [] }
-    ensures ok { OnOk result ((bytes : List ℕ) × (out : List ℕ)
-        × Consumes (R.left reader.old) (R.left reader.new) bytes
-        × Appends (W.holds writer.old) (W.holds writer.new) out
-        × ((Rests S.answers service.old bytes out service.new × IsAtEnd (R.left reader.new)
-        × EndsByOneRead R.left R.reads reader.old reader.new bytes bytes)
-        ⊎ (Ends S.answers service.old bytes out service.new
-        × KeepsUp S.answers R.left R.reads service.old reader.old reader.new bytes out))) }
-    ensures count { OnOk result
-        ((R.failed reader.new ≡ R.failed reader.old) × (W.failed writer.new ≡ W.failed writer.old)) }
-    ensures read { result ≡ Err StreamFault.Read → (bytes : List ℕ) × (out : List ℕ)
-        × Consumes (R.left reader.old) (R.left reader.new) bytes
-        × Appends (W.holds writer.old) (W.holds writer.new) out
-        × Rests S.answers service.old bytes out service.new
-        × (FailsAtLast R.failed R.fails reader.old reader.new ⊎ (u64.MAX ≤ length bytes))
-        × (W.failed writer.new ≡ W.failed writer.old) }
-    ensures memory { result ≡ Err StreamFault.NoMemory → (bytes : List ℕ) × (out : List ℕ)
-        × Consumes (R.left reader.old) (R.left reader.new) bytes
-        × Appends (W.holds writer.old) (W.holds writer.new) out
-        × Rests S.answers service.old bytes out service.new
-        × (R.failed reader.new ≡ R.failed reader.old) × (W.failed writer.new ≡ W.failed writer.old) }
-    ensures write { result ≡ Err StreamFault.Write → (bytes : List ℕ) × (out : List ℕ)
-        × Consumes (R.left reader.old) (R.left reader.new) bytes
-        × Appends (W.holds writer.old) (W.holds writer.new) out
-        × Stops S.answers service.old bytes out service.new
-        × KeepsUp S.answers R.left R.reads service.old reader.old reader.new bytes out
-        × FailsAtLast W.failed W.fails writer.old writer.new × (R.failed reader.new ≡ R.failed reader.old) }
+    ensures { IsAnswered S.answers R.left R.failed R.reads R.fails W.holds W.failed W.fails reader.old reader.new
+        writer.old writer.new service.old service.new result }
 {
     let mut needed = 0;
     for turn in 0..u64::MAX {

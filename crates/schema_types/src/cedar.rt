@@ -1,5 +1,7 @@
 //! Types written out.
-ghost use Rattle.std.specs.Prelude.{◌≡◌, IfOk};
+ghost use Rattle.std.specs.Prelude.{◌≡◌, IfOk, IfErr};
+ghost use Rattle.schema_types.specs.Cedar.{HoldsOthers};
+ghost use Rattle.schema_types.specs.CedarViews.{cedar_view};
 
 use plain::{Items, NoMemory, Shared, Text};
 use values::TypeName;
@@ -27,8 +29,12 @@ pub enum CedarType {
 
 impl CedarType {
     /// The same type, or `NoMemory`; memory is taken for the name of an entity type alone.
+    ///
+    /// A set or a record is `NoMemory` only where what is inside it has as many holders as can be counted; a primitive
+    /// type and one of an extension never are.
     pub fn copy(&self) -> Result<CedarType, NoMemory>
-        ensures { IfOk result (λ ty. ty ≡ self.now) }
+        ensures same { IfOk result (λ ty. ty ≡ self.now) }
+        ensures memory { IfErr result (λ e. HoldsOthers (cedar_view self.now)) }
     {
         match self {
             CedarType::Text => Ok(CedarType::Text),

@@ -1,7 +1,7 @@
 //! A site: a store of stamped texts under one schema, changed by its own commands and by messages, and asked.
 //!
 //! The store is the only owner of policies and entities. Answers come from what stands beside its texts, as these were
-//! read, and the hierarchy is searched in place.
+//! read, by an index of the policies and the ancestors that it keeps; no contract speaks of these two.
 #![tactic(auto)]
 
 mod fault;
@@ -17,4 +17,6 @@ pub use schema::{Schema, read_schema};
 pub use site::Site;
 pub use stamped_store::is_site_name;
 pub use stored_texts::{SchemaTexts, stored_texts_have_one_reading};
-pub use stored_world::{requests_have_one_answer, stores_have_one_reading};
+pub use stored_world::{
+    requests_have_one_answer, stored_actions_answer_alike, stores_have_one_reading,
+};

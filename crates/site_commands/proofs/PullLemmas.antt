@@ -1,42 +1,84 @@
--- What a pull comes to, from what was pulled or why nothing was.
-use Rattle.std.proofs.Common.{◌≡◌, ◌≢◌, ◌⊎◌, inl, inr, ℕ, List, Option, refl}
+-- What a pull comes to, from what came over the connection.
+use Rattle.std.proofs.Common.{◌≡◌, ◌≢◌, ◌⊎◌, inl, inr, ℕ, List, ◌∷◌, Option, Result, Ok, Err, IfOk, OnErr, refl}
 use Rattle.schema.specs.Schemas.{StatedSchema}
 use Rattle.stamped_store.specs.Store.{Store}
 use Rattle.decision_texts.specs.declared.refusal.Refusal.{Refusal}
 use Rattle.decision_texts.specs.Refusals.{no_memory}
+use Rattle.counted_devices.specs.declared.devices.Source.{Ghosts as Source}
+use Rattle.counted_devices.specs.declared.devices.Sink.{Ghosts as Sink}
 use Rattle.pulled_states.specs.passed_on.merged_states.{IsMessageRefused}
 use Rattle.pulled_states.specs.declared.fault.NetworkFault.{NetworkFault}
+use Rattle.pulled_states.specs.declared.fault.NetworkFault.TheVariants as network
 use Rattle.pulled_states.specs.declared.fault.PullFault.{PullFault}
 use Rattle.pulled_states.specs.declared.fault.PullFault.TheVariants.{Network, Refused}
-use Rattle.pulled_states.specs.Requests.{IsReady}
+use Rattle.pulled_states.specs.declared.pulling.Pulled.{Pulled}
+use Rattle.pulled_states.specs.Requests.{IsReady, request_for}
+use Rattle.pulled_states.specs.Exchanges.{IsBegun, IsUnanswered}
 use Rattle.pulled_states.specs.Pulls.{IsPulled, IsRefusedFirst}
-use Rattle.site_commands.specs.Events.{Event}
-use Rattle.site_commands.specs.Reports.{IsAnswerReported, IsMemoryReported, taken_line}
-use Rattle.site_commands.specs.Courses.{Stores}
-use Rattle.site_commands.specs.Pulling.{IsPulledOver, IsPullRefused, texts, message}
-use Rattle.site_commands.specs.inner.Ways.{IsPullFaultReported}
-use Rattle.site_commands.proofs.RefusalLemmas.{refused_for}
+use Rattle.site_commands.specs.declared.device.Link.{Link}
+use Rattle.site_commands.specs.Events.{Event, closed, Runs}
+use Rattle.site_commands.specs.Pulling.{NoReadFailed, NoWriteFailed, IsAsked, IsNotMoreThanAsked, IsPullRefused, IsPull, IsPulledOver, IsPullTold}
 
-module _ (schema : List ℕ) (state : Option (List ℕ)) (address name : List ℕ) where
-  -- a state that was pulled is kept
-  pub kept : (s : StatedSchema) (m : Store) (body text : List ℕ) (taken : ℕ) → IsReady schema state s m → IsPulled s m body text taken
-      → (events : List Event) (end : ℕ) → Stores name text (IsAnswerReported (taken_line taken)) events end ⊎ IsMemoryReported events end
-      → IsPulledOver schema state address name events end
-  kept s m body text taken ready pulled events end (inl stores) = inl (s, m, body, text, taken, ready, pulled, stores)
-  kept s m body text taken ready pulled events end (inr memory) = inr (inr (inr memory))
+same_link : {R W : Type 0} (a b : Link R W) → a.reader ≡ b.reader → a.writer ≡ b.writer → a ≡ b
+same_link a b r w = λ i. record { reader = r i; writer = w i }
 
-  -- what was refused
-  pub refused_as : (A B : Type 0) (C : StatedSchema → Store → List ℕ → Type 0) (r : Refusal) → (IsRefusedFirst schema state r × A × B)
-      ⊎ ((s : StatedSchema) × (m : Store) × (body : List ℕ) × IsReady schema state s m × C s m body × IsMessageRefused s body r)
-      → IsPullRefused schema state r
-  refused_as A B C r (inl first) = texts first.0
-  refused_as A B C r (inr later) = message later.0 later.1 later.2 later.3 later.5
+module _ {R W : Type 0} (reader : Source R) (writer : Sink W) (schema : List ℕ) (state : Option (List ℕ)) (address : List ℕ)
+    (link left : Link R W) where
+  asked_at_most : ((left.reader ≡ link.reader) × (left.writer ≡ link.writer)) ⊎ ((s : StatedSchema) × (m : Store)
+      × IsReady schema state s m
+      × IsBegun reader.left writer.holds (request_for address s m) link.reader left.reader link.writer left.writer)
+      → IsNotMoreThanAsked reader writer schema state address link left
+  asked_at_most (inl same) = inl (same_link left link same.0 same.1)
+  asked_at_most (inr begun) = inr begun
 
-  -- a fault is told
-  pub faulted : (fault : PullFault) → ((r : Refusal) → fault ≡ Refused r → r ≢ no_memory → IsPullRefused schema state r)
-      → ((f : NetworkFault) → fault ≡ Network f → (s : StatedSchema) × (m : Store) × IsReady schema state s m)
-      → (events : List Event) (end : ℕ) → IsPullFaultReported address fault events end → IsPulledOver schema state address name events end
-  faulted (Network f) refused network events end told =
-      let ready = network f refl in inr (inl (ready.0, ready.1, ready.2, told))
-  faulted (Refused r) refused network events end told =
-      inr (inr (refused_for (IsPullRefused schema state) r end (refused r refl) events told))
+  refused_as : (r : Refusal) → (IsRefusedFirst schema state r × (left.reader ≡ link.reader) × (left.writer ≡ link.writer))
+      ⊎ ((s : StatedSchema) × (m : Store) × (body : List ℕ) × IsReady schema state s m
+      × IsAsked reader writer (request_for address s m) link body left × IsMessageRefused s body r)
+      → IsPullRefused reader writer schema state address r link left
+  refused_as r (inl first) = inl (first.0, same_link left link first.1 first.2)
+  refused_as r (inr later) = inr later
+
+  -- what came of it, from the outcome
+  pub pull_as : (came : Result Pulled PullFault)
+      → IfOk came (λ p. (s : StatedSchema) × (m : Store) × (body : List ℕ) × IsReady schema state s m
+      × IsAsked reader writer (request_for address s m) link body left × IsPulled s m body p.state.items p.taken)
+      → ((r : Refusal) → came ≡ Err (Refused r) → r ≢ no_memory
+      → (IsRefusedFirst schema state r × (left.reader ≡ link.reader) × (left.writer ≡ link.writer))
+      ⊎ ((s : StatedSchema) × (m : Store) × (body : List ℕ) × IsReady schema state s m
+      × IsAsked reader writer (request_for address s m) link body left × IsMessageRefused s body r))
+      → ((f : NetworkFault) → came ≡ Err (Network f) → (s : StatedSchema) × (m : Store) × IsReady schema state s m
+      × IsUnanswered reader.left reader.reads reader.failed reader.fails writer.holds writer.failed writer.fails
+      (request_for address s m) link.reader left.reader link.writer left.writer f)
+      → OnErr came (((left.reader ≡ link.reader) × (left.writer ≡ link.writer)) ⊎ ((s : StatedSchema) × (m : Store)
+      × IsReady schema state s m
+      × IsBegun reader.left writer.holds (request_for address s m) link.reader left.reader link.writer left.writer))
+      → (came ≢ Err (Network network.Read) → NoReadFailed reader writer link left)
+      → (came ≢ Err (Network network.Write) → NoWriteFailed reader writer link left)
+      → IsPull reader writer schema state address link came left
+  pull_as (Ok p) pulled refused network err reads writes = (
+    pulled.0,
+    pulled.1,
+    pulled.2,
+    pulled.3,
+    pulled.4,
+    pulled.5,
+    reads (λ e. absurd cc),
+    writes (λ e. absurd cc),
+  )
+  pull_as (Err (Refused r)) pulled refused network err reads writes = (
+    λ other. refused_as r (refused r refl other),
+    asked_at_most err,
+    reads (λ e. absurd cc),
+    writes (λ e. absurd cc),
+  )
+  pull_as (Err (Network f)) pulled refused network err reads writes =
+      let n = network f refl in
+      (n.0, n.1, n.2, n.3, λ other. reads (λ e. other cc), λ other. writes (λ e. other cc))
+
+  -- the connection is let go, and what came of the pull is told
+  pub pulled_over : {H : Type 0} (does : H → Event (Link R W) → H → Type 0) (old next new : H) (name : List ℕ)
+      (came : Result Pulled PullFault) (end : ℕ) → IsPull reader writer schema state address link came left → does old (closed left) next
+      → Runs does next new (λ events. IsPullTold address name came events end)
+      → Runs does old new (λ events. IsPulledOver reader writer schema state address name link events end)
+  pulled_over does old next new name came end pull gone told =
+      (closed left ∷ told.0, (next, gone, told.1), (came, left, pull, (told.0, refl, told.2)))

@@ -29,8 +29,8 @@ by_parts r (inl c) (inl p) (inl w) = inl (made_of r c p w)
 is_no_memory : (r : Refusal) → (r ≡ no_memory) ⊎ (r ≡ no_memory → ⊥)
 is_no_memory r = by_parts r (one_or r.code) (none_or r.place) (none_or r.within)
 
-module _ (Refused : Refusal → Type 0) where
-  told_as : (refusal : Refusal) (events : List Event) (end : ℕ) → (refusal ≡ no_memory) ⊎ (refusal ≡ no_memory → ⊥)
+module _ {L : Type 0} (Refused : Refusal → Type 0) where
+  told_as : (refusal : Refusal) (events : List (Event L)) (end : ℕ) → (refusal ≡ no_memory) ⊎ (refusal ≡ no_memory → ⊥)
       → ((refusal ≡ no_memory → ⊥) → Refused refusal) → IsRefusalReported refusal events end ⊎ IsMemoryReported events end
       → IsRefusedFor Refused events end
   told_as refusal events end which due (inr told) = inr told
@@ -39,11 +39,11 @@ module _ (Refused : Refusal → Type 0) where
 
   -- what texts are refused for is told, or that memory was refused
   pub refused_for : (refusal : Refusal) (end : ℕ) → ((refusal ≡ no_memory → ⊥) → Refused refusal)
-      → (events : List Event) → IsRefusalReported refusal events end ⊎ IsMemoryReported events end → IsRefusedFor Refused events end
+      → (events : List (Event L)) → IsRefusalReported refusal events end ⊎ IsMemoryReported events end → IsRefusedFor Refused events end
   refused_for refusal end due events told = told_as refusal events end (is_no_memory refusal) due told
 
   -- and where a line could have been
   pub line_refused : (Decided : List ℕ → Type 0) (refusal : Refusal) (end : ℕ) → ((refusal ≡ no_memory → ⊥) → Refused refusal)
-      → (events : List Event) → IsRefusalReported refusal events end ⊎ IsMemoryReported events end
+      → (events : List (Event L)) → IsRefusalReported refusal events end ⊎ IsMemoryReported events end
       → IsLineOrRefusal Decided Refused events end
   line_refused Decided refusal end due events told = inr (refused_for refusal end due events told)

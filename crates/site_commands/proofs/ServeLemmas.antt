@@ -1,6 +1,9 @@
 -- Connections that are served one after another, and what a site begins with.
-use Rattle.std.proofs.Common.{◌≡◌, ◌∙◌, inr, ℕ, ◌+◌, ◌<◌, ◌≤◌, Bool, List, [], ◌∷◌, ◌++◌, map, length, Option, None, Some, Result, Ok, Err, IfOk, IfErr}
-use Rattle.std.proofs.Common.{refl, sym, ap, subst, arith}
+use Rattle.std.proofs.Common.{◌≡◌, ◌∙◌, inl, inr, ℕ, zero, suc, ◌+◌, List, [], ◌∷◌, ◌++◌, length, Option, None, Some, Result, Ok, Err}
+use Rattle.std.proofs.Common.{IfOk, IfErr, refl, sym, ap, subst, arith, append_assoc, append-nil}
+use Rattle.counted_devices.specs.declared.devices.Source.{Ghosts as Source}
+use Rattle.counted_devices.specs.declared.devices.Sink.{Ghosts as Sink}
+use Rattle.http_streams.specs.declared.serve.StreamFault.{StreamFault}
 use Rattle.decision_texts.specs.declared.refusal.Refusal.{Refusal}
 use Rattle.decision_texts.specs.Refusals.{no_memory}
 use Rattle.schema.specs.Schemas.{StatedSchema, IsSchemaOf}
@@ -14,64 +17,80 @@ use Rattle.http_service.specs.passed_on.site_runs.{Seen, schema_of, store_in}
 use Rattle.http_service.specs.passed_on.site_runs.{SiteFault}
 use Rattle.http_service.specs.passed_on.site_runs.{NoMemory, Policy, Check as Unfit, Entity, Message, NotThere, WouldCycle, ClockFull, Request}
 use Rattle.http_service.specs.passed_on.site_runs.{IsMessageOf, IsNoMessageOf}
-use Rattle.site_commands.specs.Events.{Event, accepted, Does, Runs}
+use Rattle.site_commands.specs.declared.device.Link.{Link}
+use Rattle.site_commands.specs.Events.{Event, accepted, closed, served, Does, Runs}
 use Rattle.site_commands.specs.Beginning.{BeginsWith, IsBegun, IsNotBegun, IsStateRefused, site_refusal}
-use Rattle.site_commands.specs.Serving.{IsServed, AreChained, AreServed}
+use Rattle.site_commands.specs.Serving.{IsServedOver, IsNextServed, AreServed}
 use Rattle.site_commands.specs.inner.Begun.{IsBegunUnder, TakesState}
-use Rattle.site_commands.specs.inner.Served.{IsServedNext}
 
 -- ---- connections
 
--- the site that the last connection left
-abbrev pub last_left : Seen → List (Bool × Seen) → Seen
-last_left site [] = site
-last_left site (c ∷ cs) = last_left c.1 cs
+module _ {R W : Type 0} (reader : Source R) (writer : Sink W) where
+  served_on : (n : ℕ) (old mid new : Seen) (events more : List (Event (Link R W))) → AreServed reader writer n old events mid
+      → IsNextServed reader writer mid more new → AreServed reader writer (suc n) old (events ++ more) new
+  served_on zero old mid new events more so next = (
+    more,
+    [],
+    new,
+    subst (λ (s : Seen). IsNextServed reader writer s more new) so.1 next,
+    (refl, refl),
+    ap (λ (es : List (Event (Link R W))). es ++ more) so.0 ∙ sym (append-nil more),
+  )
+  served_on (suc n) old mid new events more so next = (
+    so.0,
+    so.1 ++ more,
+    so.2,
+    so.3,
+    served_on n so.2 mid new so.1 more so.4 next,
+    ap (λ (es : List (Event (Link R W))). es ++ more) so.5 ∙ append_assoc so.0 so.1 more,
+  )
 
-abbrev pub came : List (Bool × Seen) → List Event
-came cs = map (λ c. accepted c.0) cs
+suc_is : (n : ℕ) → suc n ≡ n + 1
+suc_is n = omega arith
 
-abbrev pub IsServedSoFar : {H : Type 0} → (H → Event → H → Type 0) → H → H → Seen → Seen → ℕ → Type 0
-IsServedSoFar does old new before after n = (cs : List (Bool × Seen)) × AreChained before cs × (last_left before cs ≡ after) × (length cs ≡ n)
-    × Does does (came cs) old new
+module _ {L H : Type 0} (does : H → Event L → H → Type 0) where
+  does_append : (xs ys : List (Event L)) (old mid new : H) → Does does xs old mid → Does does ys mid new → Does does (xs ++ ys) old new
+  does_append [] ys old mid new first second = subst (λ (h : H). Does does ys h new) first second
+  does_append (x ∷ xs) ys old mid new first second = (first.0, first.1, does_append xs ys first.0 mid new first.2 second)
 
-chain_on : (site : Seen) (cs : List (Bool × Seen)) (done : Bool) (after : Seen) → AreChained site cs → IsServed (last_left site cs) done after
-    → AreChained site (cs ++ (done, after) ∷ [])
-chain_on site [] done after chained served = (served, tt)
-chain_on site (c ∷ cs) done after chained served = (chained.0, chain_on c.1 cs done after chained.1 served)
+module _ {R W H : Type 0} (does : H → Event (Link R W) → H → Type 0) (reader : Source R) (writer : Sink W) where
+  -- so many connections were served, from one site to another
+  abbrev pub IsServedSoFar : H → H → Seen → Seen → ℕ → Type 0
+  IsServedSoFar old new before after n = Runs does old new (λ events. AreServed reader writer n before events after)
 
-last_on : (site : Seen) (cs : List (Bool × Seen)) (done : Bool) (after : Seen) → last_left site (cs ++ (done, after) ∷ []) ≡ after
-last_on site [] done after = refl
-last_on site (c ∷ cs) done after = last_on c.1 cs done after
+  -- a connection came, was served and let go
+  pub next_served : (old mid last new : H) (before after : Seen) (link left : Link R W) (end : Result (Unit {0}) StreamFault)
+      → does old (accepted (Some link)) mid → IsServedOver reader writer before link end left after → does mid (closed left) last
+      → does last (served end) new → Runs does old new (λ events. IsNextServed reader writer before events after)
+  next_served old mid last new before after link left end came answered gone noted = (
+    accepted (Some link) ∷ closed left ∷ served end ∷ [],
+    (mid, came, (last, gone, (new, noted, refl))),
+    inl (link, left, end, refl, answered),
+  )
 
-length_on : (cs : List (Bool × Seen)) (c : Bool × Seen) → length (cs ++ c ∷ []) ≡ length cs + 1
-length_on [] c = refl
-length_on (x ∷ cs) c = let e = length_on cs c in omega (arith, e)
-
-module _ {H : Type 0} (does : H → Event → H → Type 0) where
-  does_on : (old mid new : H) (cs : List (Bool × Seen)) (done : Bool) (after : Seen) → Does does (came cs) old mid → does mid (accepted done) new
-      → Does does (came (cs ++ (done, after) ∷ [])) old new
-  does_on old mid new [] done after run step = (new, subst (λ (h : H). does h (accepted done) new) run step, refl)
-  does_on old mid new (c ∷ cs) done after run step = (run.0, run.1, does_on run.0 mid new cs done after run.2 step)
+  -- one failed before it stood
+  pub next_lost : (old new : H) (site : Seen) → does old (accepted None) new
+      → Runs does old new (λ events. IsNextServed reader writer site events site)
+  next_lost old new site failed = (accepted None ∷ [], (new, failed, refl), inr (refl, refl))
 
   -- none yet
-  pub none_served : (old : H) (site : Seen) → IsServedSoFar does old old site site 0
-  none_served old site = ([], tt, refl, refl, refl)
+  pub none_served : (old : H) (site : Seen) → IsServedSoFar old old site site 0
+  none_served old site = ([], refl, (refl, refl))
 
   -- one more
-  pub one_served : (old mid new : H) (before between after : Seen) (n : ℕ) → IsServedSoFar does old mid before between n
-      → IsServedNext does mid new between after → IsServedSoFar does old new before after (n + 1)
+  pub one_served : (old mid new : H) (before between after : Seen) (n : ℕ) → IsServedSoFar old mid before between n
+      → Runs does mid new (λ events. IsNextServed reader writer between events after) → IsServedSoFar old new before after (n + 1)
   one_served old mid new before between after n so next = (
-    so.0 ++ (next.0, after) ∷ [],
-    chain_on before so.0 next.0 after so.1 (subst (λ (s : Seen). IsServed s next.0 after) (sym so.2) next.2),
-    last_on before so.0 next.0 after,
-    length_on so.0 (next.0, after) ∙ ap (λ (k : ℕ). k + 1) so.3,
-    does_on old mid new so.0 next.0 after so.4 next.1,
+    so.0 ++ next.0,
+    does_append does so.0 next.0 old mid new so.1 next.1,
+    subst (λ (k : ℕ). AreServed reader writer k before (so.0 ++ next.0) after) (suc_is n)
+        (served_on reader writer n before between after so.0 next.0 so.2 next.2),
   )
 
   -- all of them
-  pub all_served : (old new : H) (before after : Seen) (n most : ℕ) → n ≡ most → IsServedSoFar does old new before after n
-      → Runs does old new (λ events. AreServed most before events)
-  all_served old new before after n most is so = (came so.0, so.4, (so.0, so.1, so.3 ∙ is, refl))
+  pub all_served : (old new : H) (before after : Seen) (n most : ℕ) → n ≡ most → IsServedSoFar old new before after n
+      → IsServedSoFar old new before after most
+  all_served old new before after n most is so = subst (λ (k : ℕ). IsServedSoFar old new before after k) is so
 
 -- ---- what a site begins with
 

@@ -10,72 +10,77 @@ use Rattle.site_commands.specs.Reports.{ended, IsAnswerReported, IsRefusalReport
 use Rattle.site_commands.specs.Reports.{IsFailureReported}
 
 -- how a run goes on: what it does from here, and the status that it ends with
-abbrev pub Course : Type 1
-Course = List Event → ℕ → Type 0
+abbrev pub Course : Type 0 → Type 1
+Course L = List (Event L) → ℕ → Type 0
 
--- what this is refused for is told, or that memory was refused
-abbrev pub IsRefusedFor : (Refusal → Type 0) → Course
-IsRefusedFor Refused events end =
-    ((refusal : Refusal) × Refused refusal × IsRefusalReported refusal events end) ⊎ IsMemoryReported events end
+module _ {L : Type 0} where
+  -- what this is refused for is told, or that memory was refused
+  abbrev pub IsRefusedFor : (Refusal → Type 0) → Course L
+  IsRefusedFor Refused events end =
+      ((refusal : Refusal) × Refused refusal × IsRefusalReported refusal events end) ⊎ IsMemoryReported events end
 
--- a line that is so is told, or the refusal
-abbrev pub IsLineOrRefusal : (List ℕ → Type 0) → (Refusal → Type 0) → Course
-IsLineOrRefusal Decided Refused events end =
-    ((line : List ℕ) × Decided line × IsAnswerReported line events end) ⊎ IsRefusedFor Refused events end
+  -- a line that is so is told, or the refusal
+  abbrev pub IsLineOrRefusal : (List ℕ → Type 0) → (Refusal → Type 0) → Course L
+  IsLineOrRefusal Decided Refused events end =
+      ((line : List ℕ) × Decided line × IsAnswerReported line events end) ⊎ IsRefusedFor Refused events end
 
--- a file was read, and the run goes on with what it held; where it was not, that is told and the run ends
-abbrev pub GoesOnWith : List ℕ → (List ℕ → Course) → Result (List ℕ) FileFault → Course
-GoesOnWith name goes_on (Ok bytes) = goes_on bytes
-GoesOnWith name goes_on (Err fault) = IsFileReported name fault
+  -- a file was read, and the run goes on with what it held; where it was not, that is told and the run ends
+  abbrev pub GoesOnWith : List ℕ → (List ℕ → Course L) → Result (List ℕ) FileFault → Course L
+  GoesOnWith name goes_on (Ok bytes) = goes_on bytes
+  GoesOnWith name goes_on (Err fault) = IsFileReported name fault
 
-abbrev pub Reads : List ℕ → (List ℕ → Course) → Course
-Reads name goes_on events end = (came : Result (List ℕ) FileFault) × (rest : List Event)
-    × (events ≡ read name came ∷ rest) × GoesOnWith name goes_on came rest end
+  abbrev pub Reads : List ℕ → (List ℕ → Course L) → Course L
+  Reads name goes_on events end = (came : Result (List ℕ) FileFault) × (rest : List (Event L))
+      × (events ≡ read name came ∷ rest) × GoesOnWith name goes_on came rest end
 
--- the same with a file that need not be named
-abbrev pub ReadsIfNamed : Option (List ℕ) → (Option (List ℕ) → Course) → Course
-ReadsIfNamed None goes_on = goes_on None
-ReadsIfNamed (Some name) goes_on = Reads name (λ bytes. goes_on (Some bytes))
+  -- the same with a file that need not be named
+  abbrev pub ReadsIfNamed : Option (List ℕ) → (Option (List ℕ) → Course L) → Course L
+  ReadsIfNamed None goes_on = goes_on None
+  ReadsIfNamed (Some name) goes_on = Reads name (λ bytes. goes_on (Some bytes))
 
--- the same with a file that need not be there
-abbrev pub GoesOnIfThere : List ℕ → (Option (List ℕ) → Course) → Result (List ℕ) FileFault → Course
-GoesOnIfThere name goes_on (Ok bytes) = goes_on (Some bytes)
-GoesOnIfThere name goes_on (Err file.Missing) = goes_on None
-GoesOnIfThere name goes_on (Err file.Failed) = IsFileReported name file.Failed
-GoesOnIfThere name goes_on (Err file.NoMemory) = IsFileReported name file.NoMemory
+  -- the same with a file that need not be there
+  abbrev pub GoesOnIfThere : List ℕ → (Option (List ℕ) → Course L) → Result (List ℕ) FileFault → Course L
+  GoesOnIfThere name goes_on (Ok bytes) = goes_on (Some bytes)
+  GoesOnIfThere name goes_on (Err file.Missing) = goes_on None
+  GoesOnIfThere name goes_on (Err file.Failed) = IsFileReported name file.Failed
+  GoesOnIfThere name goes_on (Err file.NoMemory) = IsFileReported name file.NoMemory
 
-abbrev pub ReadsIfThere : List ℕ → (Option (List ℕ) → Course) → Course
-ReadsIfThere name goes_on events end = (came : Result (List ℕ) FileFault) × (rest : List Event)
-    × (events ≡ read name came ∷ rest) × GoesOnIfThere name goes_on came rest end
+  abbrev pub ReadsIfThere : List ℕ → (Option (List ℕ) → Course L) → Course L
+  ReadsIfThere name goes_on events end = (came : Result (List ℕ) FileFault) × (rest : List (Event L))
+      × (events ≡ read name came ∷ rest) × GoesOnIfThere name goes_on came rest end
 
--- a file is written, and the run goes on; where it was not, that is told and the run ends
-abbrev pub GoesOnWritten : List ℕ → Course → Result (Unit {0}) FileFault → Course
-GoesOnWritten name goes_on (Ok done) = goes_on
-GoesOnWritten name goes_on (Err fault) = IsFileReported name fault
+  -- a file is written, and the run goes on; where it was not, that is told and the run ends
+  abbrev pub GoesOnWritten : List ℕ → Course L → Result (Unit {0}) FileFault → Course L
+  GoesOnWritten name goes_on (Ok done) = goes_on
+  GoesOnWritten name goes_on (Err fault) = IsFileReported name fault
 
-abbrev pub Stores : List ℕ → List ℕ → Course → Course
-Stores name bytes goes_on events end = (came : Result (Unit {0}) FileFault) × (rest : List Event)
-    × (events ≡ stored name bytes came ∷ rest) × GoesOnWritten name goes_on came rest end
+  abbrev pub Stores : List ℕ → List ℕ → Course L → Course L
+  Stores name bytes goes_on events end = (came : Result (Unit {0}) FileFault) × (rest : List (Event L))
+      × (events ≡ stored name bytes came ∷ rest) × GoesOnWritten name goes_on came rest end
 
--- a connection is opened, and the run goes on; where it could not be, that is told and the run ends
-abbrev pub GoesOnConnected : List ℕ → Course → Bool → Course
-GoesOnConnected address goes_on true = goes_on
-GoesOnConnected address goes_on false = IsFailureReported address
+  -- a connection is opened, and the run goes on over it; where none could be, that is told and the run ends
+  abbrev pub GoesOnConnected : List ℕ → (L → Course L) → Option L → Course L
+  GoesOnConnected address goes_on (Some link) = goes_on link
+  GoesOnConnected address goes_on None = IsFailureReported address
 
-abbrev pub Connects : List ℕ → Course → Course
-Connects address goes_on events end = (done : Bool) × (rest : List Event)
-    × (events ≡ connected address done ∷ rest) × GoesOnConnected address goes_on done rest end
+  abbrev pub Connects : List ℕ → (L → Course L) → Course L
+  Connects address goes_on events end = (came : Option L) × (rest : List (Event L))
+      × (events ≡ connected address came ∷ rest) × GoesOnConnected address goes_on came rest end
 
--- an address is listened at, and the run goes on; where it could not be, that is told and the run ends
-abbrev pub Listens : List ℕ → Course → Course
-Listens address goes_on events end = (done : Bool) × (rest : List Event)
-    × (events ≡ listened address done ∷ rest) × GoesOnConnected address goes_on done rest end
+  -- an address is listened at, and the run goes on; where it could not be, that is told and the run ends
+  abbrev pub GoesOnListening : List ℕ → Course L → Bool → Course L
+  GoesOnListening address goes_on true = goes_on
+  GoesOnListening address goes_on false = IsFailureReported address
 
--- a line goes to standard output, and the run goes on; where the stream failed it ends with 3
-abbrev pub GoesOnAnnounced : Course → Bool → Course
-GoesOnAnnounced goes_on true events end = goes_on events end
-GoesOnAnnounced goes_on false events end = (events ≡ []) × (end ≡ 3)
+  abbrev pub Listens : List ℕ → Course L → Course L
+  Listens address goes_on events end = (done : Bool) × (rest : List (Event L))
+      × (events ≡ listened address done ∷ rest) × GoesOnListening address goes_on done rest end
 
-abbrev pub Announces : List ℕ → Course → Course
-Announces line goes_on events end = (done : Bool) × (rest : List Event)
-    × (events ≡ wrote Answers (ended line) done ∷ rest) × GoesOnAnnounced goes_on done rest end
+  -- a line goes to standard output, and the run goes on; where the stream failed it ends with 3
+  abbrev pub GoesOnAnnounced : Course L → Bool → Course L
+  GoesOnAnnounced goes_on true events end = goes_on events end
+  GoesOnAnnounced goes_on false events end = (events ≡ []) × (end ≡ 3)
+
+  abbrev pub Announces : List ℕ → Course L → Course L
+  Announces line goes_on events end = (done : Bool) × (rest : List (Event L))
+      × (events ≡ wrote Answers (ended line) done ∷ rest) × GoesOnAnnounced goes_on done rest end

@@ -1,43 +1,88 @@
 -- What a run is that pulls from another site. A rule of this product: the files are read and the connection is opened
 -- before anything is judged, and the state's file is written last, where nothing was refused.
-use Rattle.std.specs.Prelude.{◌⊎◌, ℕ, List, Option}
+use Rattle.std.specs.Prelude.{◌≡◌, ◌≢◌, ◌⊎◌, ℕ, List, ◌∷◌, Option, Result, Ok, Err}
 use Rattle.schema.specs.Schemas.{StatedSchema}
 use Rattle.stamped_store.specs.Store.{Store}
 use Rattle.decision_texts.specs.declared.refusal.Refusal.{Refusal}
+use Rattle.decision_texts.specs.Refusals.{no_memory}
+use Rattle.counted_devices.specs.declared.devices.Source.{Ghosts as Source}
+use Rattle.counted_devices.specs.declared.devices.Sink.{Ghosts as Sink}
+use Rattle.pulled_states.specs.declared.fault.NetworkFault.TheVariants as network
+use Rattle.pulled_states.specs.declared.fault.PullFault.{PullFault}
+use Rattle.pulled_states.specs.declared.fault.PullFault.TheVariants.{Network, Refused}
+use Rattle.pulled_states.specs.declared.pulling.Pulled.{Pulled}
 use Rattle.pulled_states.specs.passed_on.merged_states.{IsMessageRefused}
-use Rattle.pulled_states.specs.Requests.{IsReady}
+use Rattle.pulled_states.specs.Requests.{IsReady, request_for}
+use Rattle.pulled_states.specs.Exchanges.{IsAnswered, IsBegun, IsUnanswered}
 use Rattle.pulled_states.specs.Pulls.{IsPulled, IsRefusedFirst}
-use Rattle.site_commands.specs.Reports.{IsAnswerReported, IsFailureReported, taken_line}
-use Rattle.site_commands.specs.Courses.{Course, Reads, ReadsIfThere, Connects, Stores, IsRefusedFor}
+use Rattle.site_commands.specs.declared.device.Link.{Link}
+use Rattle.site_commands.specs.Events.{Event, closed}
+use Rattle.site_commands.specs.Reports.{IsAnswerReported, IsFailureReported, IsMemoryReported, IsRefusalReported}
+use Rattle.site_commands.specs.Reports.{taken_line}
+use Rattle.site_commands.specs.Courses.{Course, Reads, ReadsIfThere, Connects, Stores}
 
--- the texts are refused, or the message that came
-pub data IsPullRefused (schema : List ℕ) (state : Option (List ℕ)) (refusal : Refusal) : Type 0 where
-  texts : IsRefusedFirst schema state refusal → IsPullRefused schema state refusal
-  message : (s : StatedSchema) → (m : Store) → (body : List ℕ) → IsReady schema state s m
-      → IsMessageRefused s body refusal → IsPullRefused schema state refusal
+-- what came of a pull is told: the new state is written, and then how many updates came, where there is memory for that
+-- line; or the address where the network failed; or why texts or message were refused
+abbrev pub IsPullTold : {L : Type 0} → List ℕ → List ℕ → Result Pulled PullFault → Course L
+IsPullTold address name (Ok pulled) events end =
+    Stores name pulled.state.items (IsAnswerReported (taken_line pulled.taken)) events end ⊎ IsMemoryReported events end
+IsPullTold address name (Err (Network fault)) events end = IsFailureReported address events end
+IsPullTold address name (Err (Refused refusal)) events end = IsRefusalReported refusal events end
+    ⊎ IsMemoryReported events end
 
--- a message came and was joined into what the state holds: the new state is written, and then told how many updates
--- came
-abbrev pub IsTaken : List ℕ → Option (List ℕ) → List ℕ → Course
-IsTaken schema state name events end = (s : StatedSchema) × (m : Store) × (body text : List ℕ) × (taken : ℕ)
-    × IsReady schema state s m × IsPulled s m body text taken
-    × Stores name text (IsAnswerReported (taken_line taken)) events end
+module _ {R W : Type 0} (reader : Source R) (writer : Sink W) where
+  -- no read failed
+  abbrev pub NoReadFailed : Link R W → Link R W → Type 0
+  NoReadFailed link left = reader.failed left.reader ≡ reader.failed link.reader
 
--- the texts are read, and the network failed, or its reply is none of status 200
-abbrev pub IsUnanswered : List ℕ → Option (List ℕ) → List ℕ → Course
-IsUnanswered schema state address events end = (s : StatedSchema) × (m : Store) × IsReady schema state s m
-    × IsFailureReported address events end
+  -- no write failed
+  abbrev pub NoWriteFailed : Link R W → Link R W → Type 0
+  NoWriteFailed link left = writer.failed left.writer ≡ writer.failed link.writer
 
--- over the connection
-abbrev pub IsPulledOver : List ℕ → Option (List ℕ) → List ℕ → List ℕ → Course
-IsPulledOver schema state address name events end =
-    IsTaken schema state name events end ⊎ IsUnanswered schema state address events end
-    ⊎ IsRefusedFor (IsPullRefused schema state) events end
+  -- over a connection this request was written, and what was read begins with a reply of status 200 and this body
+  abbrev pub IsAsked : List ℕ → Link R W → List ℕ → Link R W → Type 0
+  IsAsked request link body left =
+      IsAnswered reader.left reader.reads writer.holds request link.reader left.reader link.writer left.writer 200 body
 
--- first the schema, then the state, if there is one; then the connection
-abbrev pub IsPullRun : List ℕ → List ℕ → List ℕ → Course
-IsPullRun schema_name address state_name =
-    Reads schema_name (λ schema.
-    ReadsIfThere state_name (λ state.
-    Connects address (
-    IsPulledOver schema state address state_name)))
+  -- nothing was read or written; or of the request for what is news to the state a first part was written, or all of it
+  abbrev pub IsNotMoreThanAsked : List ℕ → Option (List ℕ) → List ℕ → Link R W → Link R W → Type 0
+  IsNotMoreThanAsked schema state address link left = (left ≡ link)
+      ⊎ ((s : StatedSchema) × (m : Store) × IsReady schema state s m
+      × IsBegun reader.left writer.holds (request_for address s m) link.reader left.reader link.writer left.writer)
+
+  -- the texts are refused, and nothing was read or written; or the request was, and the message that came is refused
+  abbrev pub IsPullRefused : List ℕ → Option (List ℕ) → List ℕ → Refusal → Link R W → Link R W → Type 0
+  IsPullRefused schema state address refusal link left = (IsRefusedFirst schema state refusal × (left ≡ link))
+      ⊎ ((s : StatedSchema) × (m : Store) × (body : List ℕ) × IsReady schema state s m
+      × IsAsked (request_for address s m) link body left × IsMessageRefused s body refusal)
+
+  -- What came of a pull over a connection: the request for what is news to the state was written, and the message that
+  -- came in reply was joined; or texts or message are refused, or memory was; or no reply of status 200 came.
+  abbrev pub IsPull : List ℕ → Option (List ℕ) → List ℕ → Link R W → Result Pulled PullFault → Link R W → Type 0
+  IsPull schema state address link (Ok pulled) left = (s : StatedSchema) × (m : Store) × (body : List ℕ)
+      × IsReady schema state s m × IsAsked (request_for address s m) link body left
+      × IsPulled s m body pulled.state.items pulled.taken
+      × NoReadFailed link left × NoWriteFailed link left
+  IsPull schema state address link (Err (Refused refusal)) left =
+      (refusal ≢ no_memory → IsPullRefused schema state address refusal link left)
+      × IsNotMoreThanAsked schema state address link left
+      × NoReadFailed link left × NoWriteFailed link left
+  IsPull schema state address link (Err (Network fault)) left = (s : StatedSchema) × (m : Store)
+      × IsReady schema state s m
+      × IsUnanswered reader.left reader.reads reader.failed reader.fails writer.holds writer.failed writer.fails
+      (request_for address s m) link.reader left.reader link.writer left.writer fault
+      × (fault ≢ network.Read → NoReadFailed link left)
+      × (fault ≢ network.Write → NoWriteFailed link left)
+
+  -- what is news is pulled over the connection that was opened, which is let go, and what came of it is told
+  abbrev pub IsPulledOver : List ℕ → Option (List ℕ) → List ℕ → List ℕ → Link R W → Course (Link R W)
+  IsPulledOver schema state address name link events end = (came : Result Pulled PullFault) × (left : Link R W)
+      × IsPull schema state address link came left
+      × ((rest : List (Event (Link R W))) × (events ≡ closed left ∷ rest) × IsPullTold address name came rest end)
+
+  -- first the schema, then the state, if there is one; then the connection
+  abbrev pub IsPullRun : List ℕ → List ℕ → List ℕ → Course (Link R W)
+  IsPullRun schema_name address state_name =
+      Reads schema_name (λ schema.
+      ReadsIfThere state_name (λ state.
+      Connects address (IsPulledOver schema state address state_name)))

@@ -13,77 +13,82 @@ use Rattle.command_lines.specs.declared.fault.LineFault.{LineFault}
 use Rattle.command_lines.specs.Apps.{site_app}
 use Rattle.command_lines.specs.Faults.{IsFaultOf}
 use Rattle.command_lines.specs.Lines.{Says}
+use Rattle.counted_devices.specs.declared.devices.Source.{Ghosts as Source}
+use Rattle.counted_devices.specs.declared.devices.Sink.{Ghosts as Sink}
+use Rattle.site_commands.specs.declared.device.Link.{Link}
 use Rattle.site_commands.specs.Reports.{AreLinesReported, IsFaultReported}
 use Rattle.site_commands.specs.Courses.{Course, Reads, ReadsIfNamed, IsRefusedFor, IsLineOrRefusal}
 use Rattle.site_commands.specs.Pulling.{IsPullRun}
 use Rattle.site_commands.specs.Serving.{IsServeRun}
 
--- the line of the answer over three texts is told, or over four, the schema's among them
-abbrev pub IsJudged : Option (List ℕ) → List ℕ → List ℕ → List ℕ → Course
-IsJudged None policies entities request =
-    IsLineOrRefusal (bare.IsDecided policies entities request) (bare.IsRefused policies entities request)
-IsJudged (Some schema) policies entities request =
-    IsLineOrRefusal (typed.IsDecided schema policies entities request)
-    (typed.IsRefused schema policies entities request)
+module _ {L : Type 0} where
+  -- the line of the answer over three texts is told, or over four, the schema's among them
+  abbrev pub IsJudged : Option (List ℕ) → List ℕ → List ℕ → List ℕ → Course L
+  IsJudged None policies entities request =
+      IsLineOrRefusal (bare.IsDecided policies entities request) (bare.IsRefused policies entities request)
+  IsJudged (Some schema) policies entities request =
+      IsLineOrRefusal (typed.IsDecided schema policies entities request)
+      (typed.IsRefused schema policies entities request)
 
--- the lines of policies under a schema are told
-abbrev pub AreChecked : List ℕ → List ℕ → Course
-AreChecked schema policies events end =
-    ((text : List ℕ) × (some_refused : Bool) × checks.IsChecked schema policies text some_refused
-    × AreLinesReported text some_refused events end)
-    ⊎ IsRefusedFor (checks.IsRefused schema policies) events end
+  -- the lines of policies under a schema are told
+  abbrev pub AreChecked : List ℕ → List ℕ → Course L
+  AreChecked schema policies events end =
+      ((text : List ℕ) × (some_refused : Bool) × checks.IsChecked schema policies text some_refused
+      × AreLinesReported text some_refused events end)
+      ⊎ IsRefusedFor (checks.IsRefused schema policies) events end
 
--- the state that holds what two messages hold is told
-abbrev pub AreMerged : List ℕ → List ℕ → List ℕ → Course
-AreMerged schema first second =
-    IsLineOrRefusal (merges.IsMerged schema first second) (merges.AreRefused schema first second)
+  -- the state that holds what two messages hold is told
+  abbrev pub AreMerged : List ℕ → List ℕ → List ℕ → Course L
+  AreMerged schema first second =
+      IsLineOrRefusal (merges.IsMerged schema first second) (merges.AreRefused schema first second)
 
--- what a script comes to at so many sites is told
-abbrev pub IsDrilledOrRefused : ℕ → List ℕ → List ℕ → Course
-IsDrilledOrRefused sites schema script =
-    IsLineOrRefusal (drills.IsDrilled sites schema script) (drills.IsRefused sites schema script)
+  -- what a script comes to at so many sites is told
+  abbrev pub IsDrilledOrRefused : ℕ → List ℕ → List ℕ → Course L
+  IsDrilledOrRefused sites schema script =
+      IsLineOrRefusal (drills.IsDrilled sites schema script) (drills.IsRefused sites schema script)
 
--- the files of these names are read, first the schema, if one is named, then the policies, then the entities, then the
--- request; and then what they held is judged
-abbrev pub IsDecideRun : Option (List ℕ) → List ℕ → List ℕ → List ℕ → Course
-IsDecideRun schema_name policies_name entities_name request_name =
-    ReadsIfNamed schema_name (λ schema.
-    Reads policies_name (λ policies.
-    Reads entities_name (λ entities.
-    Reads request_name (λ request.
-    IsJudged schema policies entities request))))
+  -- the files of these names are read, first the schema, if one is named, then the policies, then the entities, then
+  -- the request; and then what they held is judged
+  abbrev pub IsDecideRun : Option (List ℕ) → List ℕ → List ℕ → List ℕ → Course L
+  IsDecideRun schema_name policies_name entities_name request_name =
+      ReadsIfNamed schema_name (λ schema.
+      Reads policies_name (λ policies.
+      Reads entities_name (λ entities.
+      Reads request_name (λ request.
+      IsJudged schema policies entities request))))
 
--- first the schema, then the policies
-abbrev pub IsCheckRun : List ℕ → List ℕ → Course
-IsCheckRun schema_name policies_name =
-    Reads schema_name (λ schema. Reads policies_name (λ policies. AreChecked schema policies))
+  -- first the schema, then the policies
+  abbrev pub IsCheckRun : List ℕ → List ℕ → Course L
+  IsCheckRun schema_name policies_name =
+      Reads schema_name (λ schema. Reads policies_name (λ policies. AreChecked schema policies))
 
--- first the schema, then the two states
-abbrev pub IsMergeRun : List ℕ → List ℕ → List ℕ → Course
-IsMergeRun schema_name first_name second_name =
-    Reads schema_name (λ schema.
-    Reads first_name (λ first.
-    Reads second_name (λ second.
-    AreMerged schema first second)))
+  -- first the schema, then the two states
+  abbrev pub IsMergeRun : List ℕ → List ℕ → List ℕ → Course L
+  IsMergeRun schema_name first_name second_name =
+      Reads schema_name (λ schema.
+      Reads first_name (λ first.
+      Reads second_name (λ second.
+      AreMerged schema first second)))
 
--- first the schema, then the script
-abbrev pub IsDrillRun : ℕ → List ℕ → List ℕ → Course
-IsDrillRun sites schema_name script_name =
-    Reads schema_name (λ schema. Reads script_name (λ script. IsDrilledOrRefused sites schema script))
+  -- first the schema, then the script
+  abbrev pub IsDrillRun : ℕ → List ℕ → List ℕ → Course L
+  IsDrillRun sites schema_name script_name =
+      Reads schema_name (λ schema. Reads script_name (λ script. IsDrilledOrRefused sites schema script))
 
--- the command is carried out; the name that a pull is given changes nothing of it
-abbrev pub IsLineRun : Line → Course
-IsLineRun (Check schema policies) = IsCheckRun schema.now policies.now
-IsLineRun (Decide schema policies entities request) =
-    IsDecideRun (option_map (λ s. s.now) schema) policies.now entities.now request.now
-IsLineRun (Serve schema site listen state connections) =
-    IsServeRun schema.now site (option_map (λ s. s.now) state) listen.now connections
-IsLineRun (Pull schema site from state) = IsPullRun schema.now from.now state.now
-IsLineRun (Merge schema first second) = IsMergeRun schema.now first.now second.now
-IsLineRun (Drill schema sites script) = IsDrillRun sites schema.now script.now
+module _ {R W : Type 0} (reader : Source R) (writer : Sink W) where
+  -- the command is carried out; the name that a pull is given changes nothing of it
+  abbrev pub IsLineRun : Line → Course (Link R W)
+  IsLineRun (Check schema policies) = IsCheckRun schema.now policies.now
+  IsLineRun (Decide schema policies entities request) =
+      IsDecideRun (option_map (λ s. s.now) schema) policies.now entities.now request.now
+  IsLineRun (Serve schema site listen state connections) =
+      IsServeRun reader writer schema.now site (option_map (λ s. s.now) state) listen.now connections
+  IsLineRun (Pull schema site from state) = IsPullRun reader writer schema.now from.now state.now
+  IsLineRun (Merge schema first second) = IsMergeRun schema.now first.now second.now
+  IsLineRun (Drill schema sites script) = IsDrillRun sites schema.now script.now
 
--- the words are a command, which is carried out; or they are none, and that is told
-abbrev pub IsRun : List Text → Course
-IsRun words events end =
-    ((line : Line) × Says words line × (fault_of site_app words ≡ []) × IsLineRun line events end)
-    ⊎ ((fault : LineFault) × IsFaultOf words fault × IsFaultReported fault events end)
+  -- the words are a command, which is carried out; or they are none, and that is told
+  abbrev pub IsRun : List Text → Course (Link R W)
+  IsRun words events end =
+      ((line : Line) × Says words line × (fault_of site_app words ≡ []) × IsLineRun line events end)
+      ⊎ ((fault : LineFault) × IsFaultOf words fault × IsFaultReported fault events end)

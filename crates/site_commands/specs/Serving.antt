@@ -1,48 +1,55 @@
 -- What a run is that serves a site. A rule of this product: schema and state are judged before anything of the network
--- is used; connections come one after another, and each is served from what the one before left.
-use Rattle.std.specs.Prelude.{◌≡◌, ◌⊎◌, ℕ, Bool, true, false, List, [], ◌∷◌, ◌++◌, map, length, Option, None, Some}
+-- is used; connections come one after another, and each is served, over itself, from what the one before left.
+use Rattle.std.specs.Prelude.{◌≡◌, ◌⊎◌, ℕ, zero, suc, List, [], ◌∷◌, ◌++◌, Option, None, Some, Result}
 use Rattle.std.specs.Prelude.{codes}
+use Rattle.counted_devices.specs.declared.devices.Source.{Ghosts as Source}
+use Rattle.counted_devices.specs.declared.devices.Sink.{Ghosts as Sink}
+use Rattle.http_streams.specs.declared.serve.StreamFault.{StreamFault}
 use Rattle.http_service.specs.passed_on.site_runs.{Seen}
-use Rattle.http_service.specs.Streams.{LeavesRun}
-use Rattle.site_commands.specs.Events.{Event, accepted}
+use Rattle.http_service.specs.Serving.{IsServed}
+use Rattle.site_commands.specs.declared.device.Link.{Link}
+use Rattle.site_commands.specs.Events.{Event, accepted, closed, served}
 use Rattle.site_commands.specs.Courses.{Course, Reads, ReadsIfNamed, Listens, Announces, IsRefusedFor}
 use Rattle.site_commands.specs.Beginning.{IsBegun, IsNotBegun}
 
--- a connection came, and the site went on by a run of what its requests ask for; or it failed before it stood, and the
--- site stays
-abbrev pub IsServed : Seen → Bool → Seen → Type 0
-IsServed old true new = (bytes : List ℕ) × LeavesRun old bytes new
-IsServed old false new = new ≡ old
-
--- connections one after another: of each whether it stood, and the site that it left
-abbrev pub AreChained : Seen → List (Bool × Seen) → Type 0
-AreChained site [] = Unit {0}
-AreChained site (c ∷ cs) = IsServed site c.0 c.1 × AreChained c.1 cs
-
--- so many connections are served, and nothing else is done
-abbrev pub AreServed : ℕ → Seen → List Event → Type 0
-AreServed most site events = (cs : List (Bool × Seen)) × AreChained site cs × (length cs ≡ most)
-    × (events ≡ map (λ c. accepted c.0) cs)
-
--- and then the run ends with 0
-abbrev pub AreAllServed : ℕ → Seen → Course
-AreAllServed most site events end = AreServed most site events × (end ≡ 0)
-
--- the number that is given; where none is, no run comes to the end of it
+-- the number of connections that is given; where none is, no run comes to the end of it
 abbrev pub most_of : Option ℕ → ℕ
 most_of None = 18446744073709551615
 most_of (Some number) = number
 
--- the site begins, says where it listens once it does, and serves; or the texts are refused
-abbrev pub IsServedFrom : List ℕ → List ℕ → Option (List ℕ) → List ℕ → Option ℕ → Course
-IsServedFrom schema name state address connections events end =
-    ((site : Seen) × IsBegun schema name state site
-    × Listens address (Announces (codes "listening " ++ address) (AreAllServed (most_of connections) site)) events end)
-    ⊎ IsRefusedFor (IsNotBegun schema state) events end
+module _ {R W : Type 0} (reader : Source R) (writer : Sink W) where
+  -- a connection that came was served by the site: what was read was answered, and its serving ended so
+  abbrev pub IsServedOver : Seen → Link R W → Result (Unit {0}) StreamFault → Link R W → Seen → Type 0
+  IsServedOver old link end left new = IsServed reader.left reader.failed reader.reads reader.fails writer.holds
+      writer.failed writer.fails link.reader left.reader link.writer left.writer old new end
 
--- first the schema, then the state, if one is named
-abbrev pub IsServeRun : List ℕ → List ℕ → Option (List ℕ) → List ℕ → Option ℕ → Course
-IsServeRun schema_name name state_name address connections =
-    Reads schema_name (λ schema.
-    ReadsIfNamed state_name (λ state.
-    IsServedFrom schema name state address connections))
+  -- one connection came, was served, over itself, and let go; or it failed before it stood, and the site stays
+  abbrev pub IsNextServed : Seen → List (Event (Link R W)) → Seen → Type 0
+  IsNextServed old events new = ((link left : Link R W) × (end : Result (Unit {0}) StreamFault)
+      × (events ≡ accepted (Some link) ∷ closed left ∷ served end ∷ []) × IsServedOver old link end left new)
+      ⊎ ((events ≡ accepted None ∷ []) × (new ≡ old))
+
+  -- so many connections one after another, each served from the site that the one before left
+  abbrev pub AreServed : ℕ → Seen → List (Event (Link R W)) → Seen → Type 0
+  AreServed zero old events new = (events ≡ []) × (new ≡ old)
+  AreServed (suc n) old events new = (first rest : List (Event (Link R W))) × (mid : Seen)
+      × IsNextServed old first mid × AreServed n mid rest new × (events ≡ first ++ rest)
+
+  -- so many are served, nothing else is done, and then the run ends with 0
+  abbrev pub AreAllServed : ℕ → Seen → Course (Link R W)
+  AreAllServed most site events end = ((last : Seen) × AreServed most site events last) × (end ≡ 0)
+
+  -- the site begins, says where it listens once it does, and serves; or the texts are refused
+  abbrev pub IsServedFrom : List ℕ → List ℕ → Option (List ℕ) → List ℕ → Option ℕ → Course (Link R W)
+  IsServedFrom schema name state address connections events end =
+      ((site : Seen) × IsBegun schema name state site
+      × Listens address (Announces (codes "listening " ++ address) (AreAllServed (most_of connections) site)) events
+      end)
+      ⊎ IsRefusedFor (IsNotBegun schema state) events end
+
+  -- first the schema, then the state, if one is named
+  abbrev pub IsServeRun : List ℕ → List ℕ → Option (List ℕ) → List ℕ → Option ℕ → Course (Link R W)
+  IsServeRun schema_name name state_name address connections =
+      Reads schema_name (λ schema.
+      ReadsIfNamed state_name (λ state.
+      IsServedFrom schema name state address connections))

@@ -1,11 +1,14 @@
 //! What a run needs of the machine that it runs on: files, two streams and connections.
-ghost use Rattle.std.specs.Prelude.{◌++◌, Ok, Err, MatchResult, is_ok};
-ghost use Rattle.site_commands.specs.Events.{Event, accepted, connected, listened, printed, read, stored, wrote};
+ghost use Rattle.std.specs.Prelude.{◌++◌, Ok, Err, Some, None, MatchResult, is_ok};
+ghost use Rattle.site_commands.specs.declared.device.Link.{Link};
+ghost use Rattle.site_commands.specs.Events.{Event, accepted, closed, connected, listened, printed, read, served};
+ghost use Rattle.site_commands.specs.Events.{stored, wrote};
 ghost use Rattle.site_commands.specs.Reports.{ended};
 
 use crate::device::{FileFault, Link, NetworkFailed, Stream, StreamFailed};
 use command_lines::LineFault;
 use counted_devices::devices::{Sink, Source};
+use http_streams::serve::StreamFault;
 
 /// A machine with files, two streams and connections.
 pub trait Host {
@@ -19,7 +22,7 @@ pub trait Host {
     type Listener: Drop;
 
     // This may happen in the first state, and leaves the second.
-    ghost does: { Self → Event → Self → Type 0 };
+    ghost does: { Self → Event (Link Self.Reader Self.Writer) → Self → Type 0 };
 
     /// The bytes of a file.
     fn read(&mut self, name: &str) -> Result<Vec<u8>, FileFault>
@@ -40,7 +43,8 @@ pub trait Host {
 
     /// Opens a connection to whoever listens at an address.
     fn connect(&mut self, address: &str) -> Result<Link<Self::Reader, Self::Writer>, NetworkFailed>
-        ensures { does self.old (connected address.now (is_ok result)) self.new };
+        ensures { MatchResult result (λ link. does self.old (connected address.now (Some link)) self.new)
+            (λ failed. does self.old (connected address.now None) self.new) };
 
     /// Listens at an address.
     fn listen(&mut self, address: &str) -> Result<Self::Listener, NetworkFailed>
@@ -51,5 +55,14 @@ pub trait Host {
         &mut self,
         listener: &Self::Listener,
     ) -> Result<Link<Self::Reader, Self::Writer>, NetworkFailed>
-        ensures { does self.old (accepted (is_ok result)) self.new };
+        ensures { MatchResult result (λ link. does self.old (accepted (Some link)) self.new)
+            (λ failed. does self.old (accepted None) self.new) };
+
+    /// Lets a connection go.
+    fn close(&mut self, link: Link<Self::Reader, Self::Writer>)
+        ensures { does self.old (closed link) self.new };
+
+    /// Takes note of how the serving of a connection ended.
+    fn note_served(&mut self, end: Result<(), StreamFault>)
+        ensures { does self.old (served end) self.new };
 }

@@ -18,7 +18,8 @@ use std::process::ExitCode;
 /// Carries out a command. The name that `pull` is given is for the record alone: nothing is stamped.
 fn run_line<H: Host>(alloc: Global, host: &mut H, line: &Line<'_>) -> ExitCode
     requires { HasSites line.now }
-    ensures { Runs H.does host.old host.new (λ events. IsLineRun line.now events (exit_status result)) }
+    ensures { Runs H.does host.old host.new (λ events.
+        IsLineRun H.Reader.Source H.Writer.Sink line.now events (exit_status result)) }
 {
     match line {
         Line::Check { schema, policies } => run_check(alloc, host, schema, policies),
@@ -60,7 +61,8 @@ fn run_line<H: Host>(alloc: Global, host: &mut H, line: &Line<'_>) -> ExitCode
 /// The status is 0 for an answer or help, 1 for a refusal, also of one policy among those that are checked, 2 for words
 /// that are no command, and 3 where a file can't be read or written, the network fails, or a stream does.
 pub fn run<H: Host>(alloc: Global, host: &mut H, words: &[String]) -> ExitCode
-    ensures { Runs H.does host.old host.new (λ events. IsRun (map string_bytes words.now) events (exit_status result)) }
+    ensures { Runs H.does host.old host.new (λ events.
+        IsRun H.Reader.Source H.Writer.Sink (map string_bytes words.now) events (exit_status result)) }
 {
     match line_of(alloc, words) {
         Ok(line) => run_line(alloc, host, &line),

@@ -1,10 +1,11 @@
 //! A site that is served, one connection after another.
-ghost use Rattle.std.specs.Prelude.{◌≡◌, ◌++◌, true, option_map, codes};
+ghost use Rattle.std.specs.Prelude.{◌≡◌, ◌++◌, option_map, codes};
 ghost use Rattle.std.specs.Process.{exit_status};
 ghost use Rattle.site_commands.specs.Events.{Runs};
 ghost use Rattle.site_commands.specs.Courses.{Announces, Listens};
-ghost use Rattle.site_commands.specs.Serving.{AreServed, AreAllServed, IsServed, IsServedFrom, IsServeRun, most_of};
-ghost use Rattle.site_commands.specs.inner.Served.{IsServeNamed, IsServeUnder, IsServedNext};
+ghost use Rattle.site_commands.specs.Serving.{AreServed, AreAllServed, IsNextServed, IsServedOver, IsServedFrom};
+ghost use Rattle.site_commands.specs.Serving.{IsServeRun, most_of};
+ghost use Rattle.site_commands.specs.inner.Served.{IsServeNamed, IsServeUnder};
 
 use crate::begin::begin;
 use crate::device::{Link, NetworkFailed, Stream};
@@ -13,23 +14,33 @@ use crate::reading::read_file;
 use crate::report::{ANSWERED, report_failure, report_refusal, status_of};
 use counted_devices::devices::{Sink, Source};
 use http_service::{Site, serve};
+use http_streams::serve::StreamFault;
 use stamped_store::SiteName;
 use std::alloc::Global;
 use std::process::ExitCode;
 
-/// Answers what comes over a connection. However it ends, the site has gone on by a run.
-fn serve_link<R: Source, W: Sink>(alloc: Global, site: &mut Site, link: &mut Link<R, W>)
-    ensures { IsServed site.old true site.new }
+/// Answers what comes over a connection, as `serve` says, and returns how that ended.
+fn serve_link<R: Source, W: Sink>(
+    alloc: Global,
+    site: &mut Site,
+    link: &mut Link<R, W>,
+) -> Result<(), StreamFault>
+    ensures { IsServedOver R.Source W.Sink site.old link.old result link.new site.new }
 {
-    let _ = serve(alloc, site, &mut link.reader, &mut link.writer);
+    serve(alloc, site, &mut link.reader, &mut link.writer)
 }
 
-/// Waits for a connection and answers what comes over it. A fault of a connection ends that one alone.
+/// Waits for a connection, answers what comes over it, and lets it go. A fault of a connection ends that one alone.
 fn serve_next<H: Host>(alloc: Global, host: &mut H, listener: &H::Listener, site: &mut Site)
-    ensures { IsServedNext H.does host.old host.new site.old site.new }
+    ensures { Runs H.does host.old host.new
+        (λ events. IsNextServed H.Reader.Source H.Writer.Sink site.old events site.new) }
 {
     match host.accept(listener) {
-        Ok(mut link) => serve_link(alloc, site, &mut link),
+        Ok(mut link) => {
+            let end = serve_link(alloc, site, &mut link);
+            host.close(link);
+            host.note_served(end);
+        }
         Err(NetworkFailed) => {}
     }
 }
@@ -42,7 +53,8 @@ fn serve_all<H: Host>(
     site: &mut Site,
     most: u64,
 )
-    ensures { Runs H.does host.old host.new (λ events. AreServed most site.old events) }
+    ensures { Runs H.does host.old host.new
+        (λ events. AreServed H.Reader.Source H.Writer.Sink most site.old events site.new) }
 {
     let mut served = 0;
     while served < most {
@@ -69,7 +81,8 @@ fn serve_to_end<H: Host>(
     mut site: Site,
     most: u64,
 ) -> ExitCode
-    ensures { Runs H.does host.old host.new (λ events. AreAllServed most site events (exit_status result)) }
+    ensures { Runs H.does host.old host.new
+        (λ events. AreAllServed H.Reader.Source H.Writer.Sink most site events (exit_status result)) }
 {
     serve_all(alloc, host, listener, &mut site, most);
     status_of(Ok(()), ANSWERED)
@@ -85,7 +98,7 @@ fn serve_listening<H: Host>(
     most: u64,
 ) -> ExitCode
     ensures { Runs H.does host.old host.new (λ events. Announces (codes "listening " ++ address.now)
-        (AreAllServed most site) events (exit_status result)) }
+        (AreAllServed H.Reader.Source H.Writer.Sink most site) events (exit_status result)) }
 {
     let place = address.as_bytes();
     match host.write_line(Stream::Answers, "listening ", place) {
@@ -97,7 +110,8 @@ fn serve_listening<H: Host>(
 /// Listens at an address, and then serves.
 fn serve_at<H: Host>(alloc: Global, host: &mut H, site: Site, address: &str, most: u64) -> ExitCode
     ensures { Runs H.does host.old host.new (λ events. Listens address.now
-        (Announces (codes "listening " ++ address.now) (AreAllServed most site)) events (exit_status result)) }
+        (Announces (codes "listening " ++ address.now) (AreAllServed H.Reader.Source H.Writer.Sink most site)) events
+        (exit_status result)) }
 {
     match host.listen(address) {
         Ok(listener) => serve_listening(alloc, host, &listener, site, address, most),
@@ -116,8 +130,8 @@ fn serve_from<H: Host>(
     connections: Option<u32>,
 ) -> ExitCode
     ensures { Runs H.does host.old host.new (λ events.
-        IsServedFrom schema.now site (option_map (λ s. s.now) state.entry) address.now connections events
-        (exit_status result)) }
+        IsServedFrom H.Reader.Source H.Writer.Sink schema.now site (option_map (λ s. s.now) state.entry) address.now
+        connections events (exit_status result)) }
 {
     match begin(alloc, schema, site, state) {
         Ok(site) => serve_at(alloc, host, site, address, most_of(connections)),
@@ -136,8 +150,8 @@ fn serve_under<H: Host>(
     connections: Option<u32>,
 ) -> ExitCode
     ensures { Runs H.does host.old host.new (λ events.
-        IsServeUnder site (option_map (λ s. s.now) state.entry) address.now connections schema.now events
-        (exit_status result)) }
+        IsServeUnder H.Reader.Source H.Writer.Sink site (option_map (λ s. s.now) state.entry) address.now connections
+        schema.now events (exit_status result)) }
 {
     match state {
         Some(name) => serve_named(alloc, host, schema, site, name, address, connections),
@@ -156,7 +170,8 @@ fn serve_named<H: Host>(
     connections: Option<u32>,
 ) -> ExitCode
     ensures { Runs H.does host.old host.new (λ events.
-        IsServeNamed site name.now address.now connections schema.now events (exit_status result)) }
+        IsServeNamed H.Reader.Source H.Writer.Sink site name.now address.now connections schema.now events
+        (exit_status result)) }
 {
     let state = match read_file(host, name) {
         Ok(bytes) => bytes,
@@ -185,8 +200,8 @@ pub(crate) fn run_serve<H: Host>(
     connections: Option<u32>,
 ) -> ExitCode
     ensures { Runs H.does host.old host.new (λ events.
-        IsServeRun schema.now site (option_map (λ s. s.now) state.entry) address.now connections events
-        (exit_status result)) }
+        IsServeRun H.Reader.Source H.Writer.Sink schema.now site (option_map (λ s. s.now) state.entry) address.now
+        connections events (exit_status result)) }
 {
     let schema = match read_file(host, schema) {
         Ok(bytes) => bytes,

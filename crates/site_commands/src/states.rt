@@ -5,14 +5,15 @@ ghost use Rattle.site_commands.specs.Events.{Runs};
 ghost use Rattle.site_commands.specs.Reports.{taken_line};
 ghost use Rattle.site_commands.specs.Runs.{AreMerged, IsMergeRun};
 ghost use Rattle.site_commands.specs.Courses.{Connects, Stores};
-ghost use Rattle.site_commands.specs.Pulling.{IsPulledOver, IsPullRun};
+ghost use Rattle.site_commands.specs.Pulling.{IsPull, IsPulledOver, IsPullRun, IsPullTold};
 ghost use Rattle.site_commands.specs.Reports.{IsAnswerReported, IsMemoryReported};
-ghost use Rattle.site_commands.specs.inner.Ways.{IsMergeUnder, IsPullUnder, IsPullFaultReported};
+ghost use Rattle.site_commands.specs.inner.Ways.{IsMergeUnder, IsPullUnder};
 
 use crate::device::{Link, NetworkFailed};
 use crate::host::Host;
 use crate::reading::{read_file, read_if_there};
 use crate::report::{report_answer, report_failure, report_file, report_memory, report_refusal};
+use counted_devices::devices::{Sink, Source};
 use plain::NoMemory;
 use pulled_states::{PullFault, Pulled, merge_texts, pull_over};
 use std::alloc::Global;
@@ -110,23 +111,46 @@ fn lent(state: &Option<Vec<u8>>) -> Option<&[u8]>
     }
 }
 
-/// Tells why nothing was pulled.
-fn report_pull_fault<H: Host>(
+/// Tells what came of a pull: writes the new state, or tells why there is none.
+fn tell_pull<H: Host>(
     alloc: Global,
     host: &mut H,
     address: &str,
-    fault: PullFault,
+    name: &str,
+    came: Result<Pulled, PullFault>,
 ) -> ExitCode
     ensures { Runs H.does host.old host.new
-        (λ events. IsPullFaultReported address.now fault events (exit_status result)) }
+        (λ events. IsPullTold address.now name.now came events (exit_status result)) }
 {
-    match fault {
-        PullFault::Network(_) => report_failure(host, address),
-        PullFault::Refused(refusal) => report_refusal(alloc, host, refusal),
+    match came {
+        Ok(pulled) => keep(alloc, host, name, &pulled),
+        Err(PullFault::Network(_)) => report_failure(host, address),
+        Err(PullFault::Refused(refusal)) => report_refusal(alloc, host, refusal),
     }
 }
 
 /// Pulls over a connection that stands.
+fn pull_link<R: Source, W: Sink>(
+    alloc: Global,
+    schema: &[u8],
+    state: Option<&[u8]>,
+    asked: &[u8],
+    link: &mut Link<R, W>,
+) -> Result<Pulled, PullFault>
+    ensures { IsPull R.Source W.Sink schema.now (option_map (λ s. s.now) state.entry) asked.now link.old result
+        link.new }
+{
+    pull_over(
+        alloc,
+        schema,
+        state,
+        asked,
+        &mut link.reader,
+        &mut link.writer,
+    )
+}
+
+/// Pulls over a connection that stands, lets it go, and tells what came of it.
 fn pull<H: Host>(
     alloc: Global,
     host: &mut H,
@@ -134,25 +158,16 @@ fn pull<H: Host>(
     state: Option<&[u8]>,
     address: &str,
     name: &str,
-    link: &mut Link<H::Reader, H::Writer>,
+    mut link: Link<H::Reader, H::Writer>,
 ) -> ExitCode
-    ensures { Runs H.does host.old host.new
-        (λ events. IsPulledOver schema.now (option_map (λ s. s.now) state.entry) address.now name.now events
-        (exit_status result)) }
+    ensures { Runs H.does host.old host.new (λ events.
+        IsPulledOver H.Reader.Source H.Writer.Sink schema.now (option_map (λ s. s.now) state.entry) address.now
+        name.now link events (exit_status result)) }
 {
     let asked = address.as_bytes();
-    let came = pull_over(
-        alloc,
-        schema,
-        state,
-        asked,
-        &mut link.reader,
-        &mut link.writer,
-    );
-    match came {
-        Ok(pulled) => keep(alloc, host, name, &pulled),
-        Err(fault) => report_pull_fault(alloc, host, address, fault),
-    }
+    let came = pull_link(alloc, schema, state, asked, &mut link);
+    host.close(link);
+    tell_pull(alloc, host, address, name, came)
 }
 
 /// Opens a connection to an address, and then pulls over it.
@@ -165,11 +180,11 @@ fn pull_from<H: Host>(
     name: &str,
 ) -> ExitCode
     ensures { Runs H.does host.old host.new (λ events. Connects address.now
-        (IsPulledOver schema.now (option_map (λ s. s.now) state.entry) address.now name.now) events
-        (exit_status result)) }
+        (IsPulledOver H.Reader.Source H.Writer.Sink schema.now (option_map (λ s. s.now) state.entry) address.now
+        name.now) events (exit_status result)) }
 {
     match host.connect(address) {
-        Ok(mut link) => pull(alloc, host, schema, state, address, name, &mut link),
+        Ok(link) => pull(alloc, host, schema, state, address, name, link),
         Err(NetworkFailed) => report_failure(host, address),
     }
 }
@@ -183,7 +198,8 @@ fn pull_under<H: Host>(
     name: &str,
 ) -> ExitCode
     ensures { Runs H.does host.old host.new
-        (λ events. IsPullUnder address.now name.now schema.now events (exit_status result)) }
+        (λ events. IsPullUnder H.Reader.Source H.Writer.Sink address.now name.now schema.now events
+        (exit_status result)) }
 {
     let state = match read_if_there(host, name) {
         Ok(found) => found,
@@ -202,7 +218,8 @@ pub(crate) fn run_pull<H: Host>(
     name: &str,
 ) -> ExitCode
     ensures { Runs H.does host.old host.new
-        (λ events. IsPullRun schema.now address.now name.now events (exit_status result)) }
+        (λ events. IsPullRun H.Reader.Source H.Writer.Sink schema.now address.now name.now events
+        (exit_status result)) }
 {
     let schema = match read_file(host, schema) {
         Ok(bytes) => bytes,

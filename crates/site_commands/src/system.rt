@@ -1,13 +1,14 @@
 //! The machine of the system.
 ghost use Rattle.std.specs.Prelude.{◌++◌, OnOk};
 ghost use Rattle.std.specs.Io.KnownBytes.{Appends};
-ghost use Rattle.site_commands.specs.Events.{Changes};
+ghost use Rattle.site_commands.specs.Events.{Changes, closed};
 ghost use Rattle.site_commands.specs.Reports.{ended};
 
 use crate::device::{FileFault, Link, NetworkFailed, Stream, StreamFailed};
 use crate::host::Host;
 use command_lines::LineFault;
 use counted_devices::devices::Counted;
+use http_streams::serve::StreamFault;
 use std::fs::{File, Files, OpenFile};
 use std::io::{ErrorKind, Write};
 use std::net::{Net, OpenListener, OpenStream, TcpListener, TcpStream};
@@ -147,4 +148,13 @@ impl<R: Files + Net + AllocGlobal, O: Write, E: Write> Host for SystemHost<'_, R
             Err(_) => Err(NetworkFailed),
         }
     }
+
+    fn close(&mut self, link: Link<Self::Reader, Self::Writer>)
+        ensures { Changes O.contents E.contents self.old.answers self.old.faults (closed link) self.new.answers
+            self.new.faults }
+    {
+        drop(link);
+    }
+
+    fn note_served(&mut self, _end: Result<(), StreamFault>) {}
 }

@@ -4,3 +4,4 @@ pub mod EntityLemmas
 pub mod UidLemmas
 pub mod AnsweringLemmas
 pub mod OneAnswer
+pub mod ByMemberOfLemmas

@@ -1,4 +1,5 @@
 pub mod Said
+pub mod ByMemberOf
 pub mod TextsRead
 pub mod Listed
 pub mod inner

@@ -46,8 +46,8 @@ abbrev pub data_in : (EntityUid → Option Entity) → EntityMap
 data_in entities uid = option_map data_of (entities uid)
 
 -- A World, as evaluation asks for it: the attributes of these entities, and the parents of these and of the schema's
--- actions. All that is above an action stands as its parents; that the parents that `memberOf` states would lead to the
--- same answers is a law of entity_store.
+-- actions. All that is above an action stands as its parents; that the parents that its `memberOf` states would lead to
+-- the same answers, and to the same cycles, is a law of this crate (specs/ByMemberOf.antt).
 abbrev pub world_under : StatedSchema → (EntityUid → Option Entity) → World
 world_under schema entities = world_in (with_actions schema.ancestors (data_in entities))
 

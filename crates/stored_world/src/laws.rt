@@ -10,9 +10,11 @@ ghost use Rattle.entity_worlds.specs.declared.entity.Entity.{Entity as PlainEnti
 ghost use Rattle.stamped_store.specs.Store.{Store, policy_name, entity_name};
 ghost use Rattle.stamped_store.specs.Contents.{text_under};
 ghost use Rattle.stored_world.specs.Said.{ArePolicies, AreEntities, HaveOneReading, IsAnswerOver};
+ghost use Rattle.stored_world.specs.ByMemberOf.{StoredActionsAnswerAlike, StoredActionsCycleAlike};
+ghost use Rattle.stored_world.specs.ByMemberOf.{StoredActionsAllowAlike};
 
 use authoriser::answers_are_lawful;
-use entity_store::Entity;
+use entity_store::{Entity, actions_may_be_closed};
 use policy_grammar::Policy;
 use stamped_store::Readings;
 use stamped_store::laws::contents_are_told;
@@ -52,4 +54,15 @@ pub fn requests_have_one_answer<R: Readings<Policy, Entity>>()
 {
     answers_are_lawful();
     contents_are_told();
+}
+
+/// Under a schema that bytes state, an answer over a store is one over the world in which each action has as parents
+/// what its `memberOf` states, and no more, and the other way round; and an entity makes a cycle once it is put, or
+/// none, exactly where it does so there. Whatever texts may be read as, and whatever uid the entity has.
+pub fn stored_actions_answer_alike<R: Readings<Policy, Entity>>()
+    ensures answers { (r : R) → StoredActionsAnswerAlike (R.reads_policy r) (R.reads_entity r) }
+    ensures cycles { (r : R) → StoredActionsCycleAlike (R.reads_entity r) }
+    ensures no_cycles { (r : R) → StoredActionsAllowAlike (R.reads_entity r) }
+{
+    actions_may_be_closed();
 }

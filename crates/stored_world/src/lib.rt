@@ -8,6 +8,6 @@ mod laws;
 mod policies;
 mod stored_entities;
 
-pub use laws::{requests_have_one_answer, stores_have_one_reading};
+pub use laws::{requests_have_one_answer, stored_actions_answer_alike, stores_have_one_reading};
 pub use policies::policies_in;
 pub use stored_entities::StoredEntities;

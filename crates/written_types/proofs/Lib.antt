@@ -4,3 +4,4 @@ pub mod Rounds
 pub mod Sizes
 pub mod Tables
 pub mod WholeLemmas
+mod Named

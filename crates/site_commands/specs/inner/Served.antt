@@ -1,18 +1,16 @@
 -- What is left of a run that serves, once the schema is read, and one connection of it.
-use Rattle.std.specs.Prelude.{ℕ, Bool, List, Option, Some}
-use Rattle.http_service.specs.passed_on.site_runs.{Seen}
-use Rattle.site_commands.specs.Events.{Event, accepted}
+use Rattle.std.specs.Prelude.{ℕ, List, Option, Some}
+use Rattle.counted_devices.specs.declared.devices.Source.{Ghosts as Source}
+use Rattle.counted_devices.specs.declared.devices.Sink.{Ghosts as Sink}
+use Rattle.site_commands.specs.declared.device.Link.{Link}
 use Rattle.site_commands.specs.Courses.{Course, Reads, ReadsIfNamed}
-use Rattle.site_commands.specs.Serving.{IsServed, IsServedFrom}
+use Rattle.site_commands.specs.Serving.{IsServedFrom}
 
-abbrev pub IsServeNamed : List ℕ → List ℕ → List ℕ → Option ℕ → List ℕ → Course
-IsServeNamed name state_name address connections schema =
-    Reads state_name (λ state. IsServedFrom schema name (Some state) address connections)
+module _ {R W : Type 0} (reader : Source R) (writer : Sink W) where
+  abbrev pub IsServeNamed : List ℕ → List ℕ → List ℕ → Option ℕ → List ℕ → Course (Link R W)
+  IsServeNamed name state_name address connections schema =
+      Reads state_name (λ state. IsServedFrom reader writer schema name (Some state) address connections)
 
-abbrev pub IsServeUnder : List ℕ → Option (List ℕ) → List ℕ → Option ℕ → List ℕ → Course
-IsServeUnder name state_name address connections schema =
-    ReadsIfNamed state_name (λ state. IsServedFrom schema name state address connections)
-
--- the next connection came and was served
-abbrev pub IsServedNext : {H : Type 0} → (H → Event → H → Type 0) → H → H → Seen → Seen → Type 0
-IsServedNext does old new before after = (done : Bool) × does old (accepted done) new × IsServed before done after
+  abbrev pub IsServeUnder : List ℕ → Option (List ℕ) → List ℕ → Option ℕ → List ℕ → Course (Link R W)
+  IsServeUnder name state_name address connections schema =
+      ReadsIfNamed state_name (λ state. IsServedFrom reader writer schema name state address connections)

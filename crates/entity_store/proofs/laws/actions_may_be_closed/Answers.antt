@@ -4,7 +4,7 @@ use Rattle.values.specs.Fields.{Field}
 use Rattle.evaluator.specs.Operators.{world_of}
 use Rattle.entity_store.specs.Laws.{stated_world, closed_world}
 use Rattle.entity_store.specs.Alike.{GiveAlike, AnswerAlike}
-use Rattle.entity_store.proofs.ActionLemmas.{lead_alike, same_cycles, same_stored}
+use Rattle.entity_store.proofs.ActionLemmas.{lead_alike, same_cycles, same_stored, puts_alike}
 use Rattle.entity_store.proofs.AlikeLemmas.{give_alike, answer_alike}
 use Rattle.entity_store.proofs.laws.actions_may_be_closed.Goals as goal
 
@@ -25,3 +25,6 @@ returns-clause-answers c bytes v stated entities =
     subst (λ (stored : EntityUid → Option (List Field)). AnswerAlike one (world_of stored other.parents)) (same_stored stated.named v stated.answers entities)
     (answer_alike one.stored one.parents other.parents (lead_alike stated.named v stated.answers entities)
     (same_cycles stated.named v stated.answers entities (c.stated_schemas_are_well_formed.ensures bytes v stated)))
+
+pub returns-clause-puts : goal.returns-clause-puts
+returns-clause-puts c bytes v stated entities u parents = puts_alike stated.named v stated.answers entities u parents

@@ -12,72 +12,122 @@ use Rattle.http_streams.proofs.serve.answer_stream.Goals as goal
 pub loop-turn-init : goal.loop-turn-init
 loop-turn-init g c = search (rules, nothing_unfinished)
 
-pub returns-in-Ok-false-clause-ok : goal.returns-in-Ok-false-clause-ok
-returns-in-Ok-false-clause-ok g c =
+pub returns-in-Ok-false : goal.returns-in-Ok-false
+returns-in-Ok-false g c =
     let so_far = c.loop-turn.invariant.so_far in
     let came = c.in-Ok-false.ensures.ok in
     let none : IsFalse c.in-Ok-false.field-0 = search rules in
     let end = came.4 none in
-    let read = subst (Consumes (g.R.Source.left c.loop-turn.reader) (g.R.Source.left c.read_more.new.reader)) end.0 came.1 in (
-      so_far.0 ++ [],
-      so_far.1,
-      Consumes-trans _ _ _ _ _ so_far.3 read,
-      so_far.4,
-      inl (
-        subst (λ (t : List ℕ). Rests g.S.Answers.answers c.args.service.now t so_far.1 c.loop-turn.service) (sym (append-nil so_far.0))
-            (Rests-from g.S.Answers.answers so_far.2 _ _ _ _ _ so_far.5 c.loop-turn.invariant.unfinished),
-        end.1,
-        record {
-          between = c.loop-turn.reader;
-          room = _;
-          some = c.loop-turn.invariant.some;
-          last = [];
-          before = subst (Consumes (g.R.Source.left c.args.reader.now) (g.R.Source.left c.loop-turn.reader)) (sym (append-nil so_far.0)) so_far.3;
-          call = subst (λ (t : List ℕ). g.R.Source.reads c.loop-turn.reader (length c.loop-turn.chunk) t c.read_more.new.reader) end.0 came.6;
-          short = omega arith;
-          joined = sym (append-nil (so_far.0 ++ []));
-        },
-      ),
-    )
+    let read = subst (Consumes (g.R.Source.left c.loop-turn.reader) (g.R.Source.left c.read_more.new.reader)) end.0 came.1 in
+    record {
+      bytes = so_far.0 ++ [];
+      out = so_far.1;
+      read = Consumes-trans _ _ _ _ _ so_far.3 read;
+      written = so_far.4;
+      ended = (
+        inl (
+          subst (λ (t : List ℕ). Rests g.S.Answers.answers c.args.service.now t so_far.1 c.loop-turn.service) (sym (append-nil so_far.0))
+              (Rests-from g.S.Answers.answers so_far.2 _ _ _ _ _ so_far.5 c.loop-turn.invariant.unfinished),
+          end.1,
+          record {
+            between = c.loop-turn.reader;
+            room = _;
+            some = c.loop-turn.invariant.some;
+            last = [];
+            before = subst (Consumes (g.R.Source.left c.args.reader.now) (g.R.Source.left c.loop-turn.reader)) (sym (append-nil so_far.0)) so_far.3;
+            call = subst (λ (t : List ℕ). g.R.Source.reads c.loop-turn.reader (length c.loop-turn.chunk) t c.read_more.new.reader) end.0 came.6;
+            short = omega arith;
+            joined = sym (append-nil (so_far.0 ++ []));
+          },
+        ),
+        c.in-Ok-false.ensures.count ∙ c.loop-turn.invariant.read_count,
+        c.loop-turn.invariant.write_count,
+      );
+    }
 
-pub returns-in-Err-Read-clause-read : goal.returns-in-Err-Read-clause-read
-returns-in-Err-Read-clause-read g c _ =
+pub returns-in-Err-Read : goal.returns-in-Err-Read
+returns-in-Err-Read g c =
     let so_far = c.loop-turn.invariant.so_far in
-    let failure = c.in-Err-Read.ensures.read (ap Err c.in-Err-Read.field-0-is) in (
-      so_far.0,
-      so_far.1,
-      Consumes-kept _ _ _ _ so_far.3 c.in-Err-Read.ensures.lost.0,
-      so_far.4,
-      Rests-from g.S.Answers.answers so_far.2 _ _ _ _ _ so_far.5 c.loop-turn.invariant.unfinished,
-      inl (FailsAtLast-now g.R.Source.failed g.R.Source.fails c.loop-turn.invariant.read_count failure.0 failure.1),
-      c.loop-turn.invariant.write_count,
-    )
+    let failure = c.in-Err-Read.ensures.read (ap Err c.in-Err-Read.field-0-is) in
+    record {
+      bytes = so_far.0;
+      out = so_far.1;
+      read = Consumes-kept _ _ _ _ so_far.3 c.in-Err-Read.ensures.lost.0;
+      written = so_far.4;
+      ended = (
+        Rests-from g.S.Answers.answers so_far.2 _ _ _ _ _ so_far.5 c.loop-turn.invariant.unfinished,
+        inl (FailsAtLast-now g.R.Source.failed g.R.Source.fails c.loop-turn.invariant.read_count failure.0 failure.1),
+        c.loop-turn.invariant.write_count,
+      );
+    }
 
-pub returns-in-Err-NoMemory-clause-memory : goal.returns-in-Err-NoMemory-clause-memory
-returns-in-Err-NoMemory-clause-memory g c _ =
+pub returns-in-Err-NoMemory : goal.returns-in-Err-NoMemory
+returns-in-Err-NoMemory g c =
     let so_far = c.loop-turn.invariant.so_far in
-    let unread = c.in-Err-NoMemory.ensures.memory (ap Err c.in-Err-NoMemory.field-0-is) in (
-      so_far.0,
-      so_far.1,
-      Consumes-kept _ _ _ _ so_far.3 c.in-Err-NoMemory.ensures.lost.0,
-      so_far.4,
-      Rests-from g.S.Answers.answers so_far.2 _ _ _ _ _ so_far.5 c.loop-turn.invariant.unfinished,
-      ap g.R.Source.failed unread ∙ c.loop-turn.invariant.read_count,
-      c.loop-turn.invariant.write_count,
-    )
+    let unread = c.in-Err-NoMemory.ensures.memory (ap Err c.in-Err-NoMemory.field-0-is) in
+    record {
+      bytes = so_far.0;
+      out = so_far.1;
+      read = Consumes-kept _ _ _ _ so_far.3 c.in-Err-NoMemory.ensures.lost.0;
+      written = so_far.4;
+      ended = (
+        Rests-from g.S.Answers.answers so_far.2 _ _ _ _ _ so_far.5 c.loop-turn.invariant.unfinished,
+        ap g.R.Source.failed unread ∙ c.loop-turn.invariant.read_count,
+        c.loop-turn.invariant.write_count,
+      );
+    }
 
-pub returns-in-Ok-None-clause-ok : goal.returns-in-Ok-None-clause-ok
-returns-in-Ok-None-clause-ok g c =
+pub returns-in-Ok-None : goal.returns-in-Ok-None
+returns-in-Ok-None g c =
     let so_far = c.loop-turn.invariant.so_far in
     let came = c.in-Ok-true.ensures.ok in
     let done = c.in-Ok-None.ensures.closed (ap Ok c.in-Ok-None.field-0-is) in
-    let all = Serves-read g.S.Answers.answers so_far.2 _ _ _ _ _ came.0 _ so_far.5 (c.deref.ensures.value ∙ came.2) in (
-      so_far.0 ++ came.0,
-      so_far.1 ++ done.0,
-      Consumes-trans _ _ _ _ _ so_far.3 came.1,
-      Appends-trans _ _ _ _ _ so_far.4 done.1,
-      inr (
-        Ends-after g.S.Answers.answers so_far.2 _ _ _ _ _ _ _ all done.2,
+    let all = Serves-read g.S.Answers.answers so_far.2 _ _ _ _ _ came.0 _ so_far.5 (c.deref.ensures.value ∙ came.2) in
+    record {
+      bytes = so_far.0 ++ came.0;
+      out = so_far.1 ++ done.0;
+      read = Consumes-trans _ _ _ _ _ so_far.3 came.1;
+      written = Appends-trans _ _ _ _ _ so_far.4 done.1;
+      ended = (
+        inr (
+          Ends-after g.S.Answers.answers so_far.2 _ _ _ _ _ _ _ all done.2,
+          record {
+            front = so_far.0;
+            sent = so_far.1;
+            more = done.0;
+            state = c.loop-turn.service;
+            answered = Rests-from g.S.Answers.answers so_far.2 _ _ _ _ _ so_far.5 c.loop-turn.invariant.unfinished;
+            read = record {
+              between = c.loop-turn.reader;
+              room = _;
+              some = c.loop-turn.invariant.some;
+              last = came.0;
+              before = so_far.3;
+              call = came.6;
+              short = omega (arith, came.5, c.loop-turn.invariant.most);
+              joined = refl;
+            };
+            joined = refl;
+          },
+        ),
+        c.in-Ok-true.ensures.count ∙ c.loop-turn.invariant.read_count,
+        c.in-Ok-None.ensures.count ∙ c.loop-turn.invariant.write_count,
+      );
+    }
+
+pub returns-in-Err : goal.returns-in-Err
+returns-in-Err g c =
+    let so_far = c.loop-turn.invariant.so_far in
+    let came = c.in-Ok-true.ensures.ok in
+    let done = c.in-Err.ensures.err in
+    let all = Serves-read g.S.Answers.answers so_far.2 _ _ _ _ _ came.0 _ so_far.5 (c.deref.ensures.value ∙ came.2) in
+    record {
+      bytes = so_far.0 ++ came.0;
+      out = so_far.1 ++ done.0;
+      read = Consumes-trans _ _ _ _ _ so_far.3 came.1;
+      written = Appends-trans _ _ _ _ _ so_far.4 done.1;
+      ended = (
+        Stops-after g.S.Answers.answers so_far.2 _ _ _ _ _ _ _ all done.2,
         record {
           front = so_far.0;
           sent = so_far.1;
@@ -96,41 +146,10 @@ returns-in-Ok-None-clause-ok g c =
           };
           joined = refl;
         },
-      ),
-    )
-
-pub returns-in-Err-clause-write : goal.returns-in-Err-clause-write
-returns-in-Err-clause-write g c _ =
-    let so_far = c.loop-turn.invariant.so_far in
-    let came = c.in-Ok-true.ensures.ok in
-    let done = c.in-Err.ensures.err in
-    let all = Serves-read g.S.Answers.answers so_far.2 _ _ _ _ _ came.0 _ so_far.5 (c.deref.ensures.value ∙ came.2) in (
-      so_far.0 ++ came.0,
-      so_far.1 ++ done.0,
-      Consumes-trans _ _ _ _ _ so_far.3 came.1,
-      Appends-trans _ _ _ _ _ so_far.4 done.1,
-      Stops-after g.S.Answers.answers so_far.2 _ _ _ _ _ _ _ all done.2,
-      record {
-        front = so_far.0;
-        sent = so_far.1;
-        more = done.0;
-        state = c.loop-turn.service;
-        answered = Rests-from g.S.Answers.answers so_far.2 _ _ _ _ _ so_far.5 c.loop-turn.invariant.unfinished;
-        read = record {
-          between = c.loop-turn.reader;
-          room = _;
-          some = c.loop-turn.invariant.some;
-          last = came.0;
-          before = so_far.3;
-          call = came.6;
-          short = omega (arith, came.5, c.loop-turn.invariant.most);
-          joined = refl;
-        };
-        joined = refl;
-      },
-      FailsAtLast-from g.W.Sink.failed g.W.Sink.fails c.loop-turn.invariant.write_count c.in-Err.ensures.write,
-      c.in-Ok-true.ensures.count ∙ c.loop-turn.invariant.read_count,
-    )
+        FailsAtLast-from g.W.Sink.failed g.W.Sink.fails c.loop-turn.invariant.write_count c.in-Err.ensures.write,
+        c.in-Ok-true.ensures.count ∙ c.loop-turn.invariant.read_count,
+      );
+    }
 
 pub loop-turn-preserved-then-len-needed : goal.loop-turn-preserved-then-len-needed
 loop-turn-preserved-then-len-needed g c =

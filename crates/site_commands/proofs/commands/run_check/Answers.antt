@@ -5,7 +5,7 @@ use Rattle.site_commands.proofs.EventLemmas.{reads_on, reads_none}
 use Rattle.site_commands.proofs.commands.run_check.Goals as goal
 
 -- what is left to do once the schema is read
-abbrev over_schema : List ℕ → List ℕ → Course
+abbrev over_schema : {L : Type 0} → List ℕ → List ℕ → Course L
 over_schema policies schema = Reads policies (AreChecked schema)
 
 pub returns-in-Err : goal.returns-in-Err

@@ -5,10 +5,10 @@ use Rattle.site_commands.proofs.EventLemmas.{reads_on, reads_none}
 use Rattle.site_commands.proofs.commands.run_over.Goals as goal
 
 -- what is left to do once the entities are read, and once the policies are
-abbrev over_both : Option (List ℕ) → List ℕ → List ℕ → List ℕ → Course
+abbrev over_both : {L : Type 0} → Option (List ℕ) → List ℕ → List ℕ → List ℕ → Course L
 over_both schema request policies entities = Reads request (IsJudged schema policies entities)
 
-abbrev over_policies : Option (List ℕ) → List ℕ → List ℕ → List ℕ → Course
+abbrev over_policies : {L : Type 0} → Option (List ℕ) → List ℕ → List ℕ → List ℕ → Course L
 over_policies schema entities request policies = Reads entities (over_both schema request policies)
 
 -- what a schema holds, if there is one

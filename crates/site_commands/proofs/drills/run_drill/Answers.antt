@@ -5,7 +5,7 @@ use Rattle.site_commands.proofs.EventLemmas.{reads_on, reads_none}
 use Rattle.site_commands.proofs.drills.run_drill.Goals as goal
 
 -- what is left to do once the schema is read
-abbrev over_schema : ℕ → List ℕ → List ℕ → Course
+abbrev over_schema : {L : Type 0} → ℕ → List ℕ → List ℕ → Course L
 over_schema sites script schema = Reads script (IsDrilledOrRefused sites schema)
 
 pub returns-in-Err : goal.returns-in-Err

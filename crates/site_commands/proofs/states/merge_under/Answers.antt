@@ -5,7 +5,7 @@ use Rattle.site_commands.proofs.EventLemmas.{reads_on, reads_none}
 use Rattle.site_commands.proofs.states.merge_under.Goals as goal
 
 -- what is left to do once the first is read
-abbrev over_first : List ℕ → List ℕ → List ℕ → Course
+abbrev over_first : {L : Type 0} → List ℕ → List ℕ → List ℕ → Course L
 over_first schema second first = Reads second (AreMerged schema first)
 
 pub returns-in-Err : goal.returns-in-Err

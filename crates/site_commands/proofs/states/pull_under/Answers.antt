@@ -1,17 +1,20 @@
 use Rattle.std.proofs.Common.{ℕ, List, Option, option_map}
+use Rattle.counted_devices.specs.declared.devices.Source.{Ghosts as Source}
+use Rattle.counted_devices.specs.declared.devices.Sink.{Ghosts as Sink}
+use Rattle.site_commands.specs.declared.device.Link.{Link}
 use Rattle.site_commands.specs.Courses.{Course, Connects}
 use Rattle.site_commands.specs.Pulling.{IsPulledOver}
 use Rattle.site_commands.proofs.EventLemmas.{there_on, there_none}
 use Rattle.site_commands.proofs.states.pull_under.Goals as goal
 
 -- what is left to do once the state is read
-abbrev over_state : List ℕ → List ℕ → List ℕ → Option (List ℕ) → Course
-over_state schema address name state = Connects address (IsPulledOver schema state address name)
+abbrev over_state : {R W : Type 0} → Source R → Sink W → List ℕ → List ℕ → List ℕ → Option (List ℕ) → Course (Link R W)
+over_state reader writer schema address name state = Connects address (IsPulledOver reader writer schema state address name)
 
 pub returns-in-Err : goal.returns-in-Err
-returns-in-Err g c = there_none g.H.Host.does _ _ _ (over_state c.args.schema.now c.args.address.now c.args.name.now) _ c.in-Err.ensures
+returns-in-Err g c = there_none g.H.Host.does _ _ _ (over_state g.H.Reader.Source g.H.Writer.Sink c.args.schema.now c.args.address.now c.args.name.now) _ c.in-Err.ensures
 
 pub returns : goal.returns
 returns g c =
     there_on g.H.Host.does _ _ _ _ (option_map (λ bytes. bytes.items) c.in-Ok.found)
-    (over_state c.args.schema.now c.args.address.now c.args.name.now) _ c.in-Ok.ensures (rw c.lent.ensures at c.pull_from.ensures)
+    (over_state g.H.Reader.Source g.H.Writer.Sink c.args.schema.now c.args.address.now c.args.name.now) _ c.in-Ok.ensures (rw c.lent.ensures at c.pull_from.ensures)

@@ -1,0 +1,61 @@
+/* Has one read or one write on a connection fail, of a program that this library is loaded before (LD_PRELOAD), and
+   lets no read or write of a connection move more than so many bytes. What is to fail, and what came of it, stands in
+   the file that the variable FAILING names, which whoever started the program changes while it runs. */
+#define _GNU_SOURCE
+#include <errno.h>
+#include <fcntl.h>
+#include <stdint.h>
+#include <stdlib.h>
+#include <sys/mman.h>
+#include <sys/socket.h>
+#include <sys/syscall.h>
+#include <unistd.h>
+
+static volatile struct plan {
+    /* what is asked: the numbers of the calls that fail, from 1 on, and the most bytes of a call; 0 is none */
+    int64_t failing_read, failing_write, most_read, most_written;
+    /* what came of it since a connection was accepted: calls; bytes that were given, by the last read too, and taken;
+       whether a call failed, and how many came behind it */
+    int64_t reads, writes, given, given_last, taken, failed, later;
+    /* the first bytes that were taken: a peer may get fewer, where the connection is reset */
+    unsigned char out[8192];
+} *plan;
+
+__attribute__((constructor)) static void share(void) {
+    const char *name = getenv("FAILING");
+    int file = name ? open(name, O_RDWR | O_CLOEXEC) : -1;
+    plan = mmap(NULL, sizeof *plan, PROT_READ | PROT_WRITE, MAP_SHARED, file, 0);
+    if (plan == MAP_FAILED) _exit(126);
+    close(file);
+}
+
+static size_t least(size_t size, int64_t most) { return most && (size_t)most < size ? (size_t)most : size; }
+
+static int fails(int64_t number, int64_t failing, int fault) {
+    plan->later += plan->failed;
+    if (number != failing) return 0;
+    plan->failed = 1;
+    errno = fault;
+    return 1;
+}
+
+ssize_t recv(int from, void *to, size_t size, int flags) {
+    if (fails(++plan->reads, plan->failing_read, ECONNRESET)) return -1;
+    ssize_t got = syscall(SYS_recvfrom, from, to, least(size, plan->most_read), flags, NULL, NULL);
+    if (got >= 0) plan->given_last = got, plan->given += got;
+    return got;
+}
+
+ssize_t send(int to, const void *bytes, size_t size, int flags) {
+    if (fails(++plan->writes, plan->failing_write, EPIPE)) return -1;
+    ssize_t put = syscall(SYS_sendto, to, bytes, least(size, plan->most_written), flags, NULL, 0);
+    for (ssize_t at = 0; at < put; at++, plan->taken++)
+        if (plan->taken < (int64_t)sizeof plan->out) plan->out[plan->taken] = ((const unsigned char *)bytes)[at];
+    return put;
+}
+
+int accept4(int listener, struct sockaddr *address, socklen_t *length, int flags) {
+    int link = syscall(SYS_accept4, listener, address, length, flags);
+    plan->reads = plan->writes = plan->given = plan->given_last = plan->taken = plan->failed = plan->later = 0;
+    return link;
+}

@@ -1,0 +1,158 @@
+-- What a served site is said to be, in parts: each request is answered by the site, and the inputs are those asked for.
+use Rattle.std.proofs.Common.{◌≡◌, ℕ, zero, suc, Bool, true, false, Option, Result, Ok, Err, List, [], ◌++◌, refl, sym, ap, ◌∙◌, subst, inl, inr, append-nil, append_assoc}
+use Rattle.std.specs.Io.KnownBytes.{Consumes}
+use Rattle.http_texts.specs.declared.status.Status.{Status}
+use Rattle.http_streams.specs.Stream.{Closes, Ends, Exchanges, Halts, Rests, Serves, Stops}
+use Rattle.http_streams.specs.Serving.{EndsAs, IsAnswered}
+use Rattle.http_streams.specs.declared.serve.StreamFault.{StreamFault}
+use Rattle.http_streams.specs.declared.serve.StreamFault.TheVariants as fault
+use Rattle.http_streams.proofs.Simulated.{answered}
+use Rattle.service_replies.specs.passed_on.site.{Seen}
+use Rattle.site_runs.specs.declared.input.Input.{Input}
+use Rattle.service_routes.specs.Routes.{route_stated}
+use Rattle.http_service.specs.Asked.{Asked, asked, hands, refused, unserved}
+use Rattle.http_service.specs.Answered.{Replies, answers}
+use Rattle.http_service.specs.Streams.{inputs_of, AskFor, LeavesRun}
+use Rattle.http_service.specs.Serving.{Served, unasked, Continues, continues_run, IsServed}
+use Rattle.http_service.proofs.RunLemmas.{RunsTake, rests_run, ends_run, stops_run}
+
+-- ---- each request is answered by the site
+
+replied : (a : Asked) (v w : Served) (status : Status) (line : List ℕ) → Continues v a status line w
+    → Replies v.site a status line w.site
+replied (hands i) v w status line h = (h.0, h.1, h.2, h.3)
+replied (refused f) v w status line h = h.0
+replied (unserved s) v w status line h = h.0
+
+one_answer : (v w : Served) (s : Seen) (m t body : List ℕ) (status : Status) (line : List ℕ) → v.site ≡ s
+    → continues_run v m t body status line w → (u : Seen) × answers s m t body status line u × (w.site ≡ u)
+one_answer v w s m t body status line is h =
+    let a = asked (route_stated m t) body in
+    (w.site, subst (λ (x : Seen). Replies x a status line w.site) is (replied a v w status line h), refl)
+
+-- ---- the inputs are those that the requests ask for
+
+-- bytes begin with requests that ask for the inputs between two moments
+record Asks (v : Served) (bytes : List ℕ) (w : Served) : Type 0 where
+  pub count : ℕ
+  pub rest : List ℕ
+  pub inputs : List Input
+  pub asks : AskFor count bytes rest inputs
+  pub joined : w.inputs ≡ v.inputs ++ inputs
+
+asks_none : (v w : Served) (bytes : List ℕ) → w ≡ v → Asks v bytes w
+asks_none v w bytes e = record {
+  count = 0;
+  rest = bytes;
+  inputs = [];
+  asks = (refl, refl);
+  joined = ap (λ (x : Served). x.inputs) e ∙ sym (append-nil v.inputs);
+}
+
+handed : (a : Asked) (v w : Served) (status : Status) (line : List ℕ) → Continues v a status line w
+    → w.inputs ≡ v.inputs ++ inputs_of a
+handed (hands i) v w status line h = h.4
+handed (refused f) v w status line h = h.1 ∙ sym (append-nil v.inputs)
+handed (unserved s) v w status line h = h.1 ∙ sym (append-nil v.inputs)
+
+asks_more : (v m w : Served) (bytes after : List ℕ) (last : Bool) (out : List ℕ)
+    → Exchanges continues_run v bytes last out m after → Asks m after w → Asks v bytes w
+asks_more v m w bytes after last out h k =
+    let a = asked (route_stated h.head.method h.head.target) h.body in
+    let took = handed a v m h.status h.text h.answered in
+    record {
+      count = suc k.count;
+      rest = k.rest;
+      inputs = inputs_of a ++ k.inputs;
+      asks = (h.head, h.body, after, k.inputs, h.reads, refl, k.asks);
+      joined = k.joined ∙ ap (λ (is : List Input). is ++ k.inputs) took ∙ append_assoc v.inputs (inputs_of a) k.inputs;
+    }
+
+asks_then : (n : ℕ) (v m w : Served) (bytes rest out : List ℕ) → Serves continues_run n v bytes rest out m
+    → Asks m rest w → Asks v bytes w
+asks_then zero v m w bytes rest out h k =
+    subst (λ (b : List ℕ). Asks v b w) (sym h.0) (subst (λ (x : Served). Asks x rest w) h.2 k)
+asks_then (suc n) v m w bytes rest out h k =
+    asks_more v h.0 w bytes h.1 false h.2 h.4 (asks_then n h.0 m w h.1 rest h.3 h.5 k)
+
+asks_closes : (v w : Served) (bytes out : List ℕ) → Closes continues_run v bytes out w → Asks v bytes w
+asks_closes v w bytes out (inl h) = asks_more v w w bytes h.0 true out h.1 (asks_none w w h.0 refl)
+asks_closes v w bytes out (inr h) = asks_none v w bytes h.3
+
+asks_halts : (v w : Served) (bytes out : List ℕ) → Halts continues_run v bytes out w → Asks v bytes w
+asks_halts v w bytes out (back, some, inl h) =
+    asks_more v w w bytes h.0 h.1 (out ++ back) h.2 (asks_none w w h.0 refl)
+asks_halts v w bytes out (back, some, inr h) = asks_none v w bytes h.3
+
+asks_rests : (v w : Served) (bytes out : List ℕ) → Rests continues_run v bytes out w → Asks v bytes w
+asks_rests v w bytes out h = asks_then h.count v w w bytes h.rest out h.serves (asks_none w w h.rest refl)
+
+asks_ends : (v w : Served) (bytes out : List ℕ) → Ends continues_run v bytes out w → Asks v bytes w
+asks_ends v w bytes out h =
+    asks_then h.count v h.mid w bytes h.rest h.before h.serves (asks_closes h.mid w h.rest h.last h.closes)
+
+asks_stops : (v w : Served) (bytes out : List ℕ) → Stops continues_run v bytes out w → Asks v bytes w
+asks_stops v w bytes out h =
+    asks_then h.count v h.mid w bytes h.rest h.before h.serves (asks_halts h.mid w h.rest h.last h.halts)
+
+-- ---- a call
+
+module _ {R W : Type 0} (left : R → Option (List ℕ)) (read_failures : R → ℕ) (reads : R → ℕ → List ℕ → R → Type 0)
+    (read_fails : R → R → Type 0) (holds : W → Option (List ℕ)) (write_failures : W → ℕ)
+    (write_fails : W → W → Type 0) where
+  abbrev Called : R → R → W → W → Seen → Seen → Result (Unit {0}) StreamFault → Type 0
+  Called = IsServed left read_failures reads read_fails holds write_failures write_fails
+
+  pub site_answers : (first last : R) (before after : W) (old new : Seen) (result : Result (Unit {0}) StreamFault)
+      → Called first last before after old new result
+      → IsAnswered answers left read_failures reads read_fails holds write_failures write_fails first last before after
+      old new result
+  site_answers first last before after old new result h =
+      let v : Served = record { site = new; inputs = h.inputs; replies = h.replies } in
+      let all = answered continues_run answers (λ (x : Served) (s : Seen). x.site ≡ s) one_answer left read_failures reads
+      read_fails holds write_failures write_fails first last before after (unasked old) v old result refl h.answered
+      in
+      subst (λ (s : Seen). IsAnswered answers left read_failures reads read_fails holds write_failures write_fails first
+      last before after old s result) (sym all.2) all.1
+
+  leaves_as : RunsTake → (first last : R) (before after : W) (old new : Seen) (bytes out : List ℕ)
+      (result : Result (Unit {0}) StreamFault)
+      → EndsAs answers left read_failures reads read_fails holds write_failures write_fails first last before after old
+      new bytes out result
+      → LeavesRun old bytes new
+  leaves_as law first last before after old new bytes out (Ok done) (inl h, read, written) =
+      rests_run law old new bytes out h.0
+  leaves_as law first last before after old new bytes out (Ok done) (inr h, read, written) =
+      ends_run law old new bytes out h.0
+  leaves_as law first last before after old new bytes out (Err fault.Read) h = rests_run law old new bytes out h.0
+  leaves_as law first last before after old new bytes out (Err fault.NoMemory) h = rests_run law old new bytes out h.0
+  leaves_as law first last before after old new bytes out (Err fault.Write) h = stops_run law old new bytes out h.0
+
+  pub run_left : RunsTake → (first last : R) (before after : W) (old new : Seen)
+      (result : Result (Unit {0}) StreamFault) → Called first last before after old new result
+      → (bytes : List ℕ) × Consumes (left first) (left last) bytes × LeavesRun old bytes new
+  run_left law first last before after old new result h =
+      let all = site_answers first last before after old new result h in (
+        all.bytes,
+        all.read,
+        leaves_as law first last before after old new all.bytes all.out result all.ended,
+      )
+
+  asks_as : (first last : R) (before after : W) (v w : Served) (bytes out : List ℕ)
+      (result : Result (Unit {0}) StreamFault)
+      → EndsAs continues_run left read_failures reads read_fails holds write_failures write_fails first last before after
+      v w bytes out result
+      → Asks v bytes w
+  asks_as first last before after v w bytes out (Ok done) (inl h, read, written) = asks_rests v w bytes out h.0
+  asks_as first last before after v w bytes out (Ok done) (inr h, read, written) = asks_ends v w bytes out h.0
+  asks_as first last before after v w bytes out (Err fault.Read) h = asks_rests v w bytes out h.0
+  asks_as first last before after v w bytes out (Err fault.NoMemory) h = asks_rests v w bytes out h.0
+  asks_as first last before after v w bytes out (Err fault.Write) h = asks_stops v w bytes out h.0
+
+  pub inputs_asked : (first last : R) (before after : W) (old new : Seen) (result : Result (Unit {0}) StreamFault)
+      (h : Called first last before after old new result)
+      → (count : ℕ) × (rest : List ℕ) × AskFor count h.answered.bytes rest h.inputs
+  inputs_asked first last before after old new result h =
+      let v : Served = record { site = new; inputs = h.inputs; replies = h.replies } in
+      let all = asks_as first last before after (unasked old) v h.answered.bytes h.answered.out result h.answered.ended in
+      (all.count, all.rest, subst (λ (is : List Input). AskFor all.count h.answered.bytes all.rest is) (sym all.joined) all.asks)

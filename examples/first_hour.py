@@ -1,0 +1,165 @@
+#!/usr/bin/env python3
+"""Types what README.md and docs/operating.md show, block by block and in order, and sees that each command does what the page says.
+
+    PROGRAM=FILE examples/first_hour.py
+
+A block is what a page has indented by four spaces; those that begin with a command are typed into one shell a page, in a copy of
+examples/. `cedar_site` is the program that PROGRAM names, ports are free ones, a site that is served goes to the background and
+ends before the next one begins, and what waits in a loop is done once. Each command has to end with status 0, and what WANTED
+tells of a block has to be printed by it. The last line is `N passed, M failed`. It needs bash and curl: where there is none it
+says so. Standard library alone.
+"""
+import os
+import re
+import shutil
+import socket
+import subprocess
+import sys
+import tempfile
+import time
+
+TOP = os.path.dirname(os.path.dirname(os.path.abspath(__file__)))
+PROGRAM = os.path.abspath(os.environ.get("PROGRAM", f"{TOP}/crates/cedar_site/out/cedar_site"))
+# a page, where its shell begins, and what stands there that the page takes as given
+PAGES = (
+    ("README.md", ".", ""),
+    ("docs/operating.md", "clinic", "other=http://127.0.0.1:7000"),
+)
+TYPED = re.compile(r"(cd|cedar_site|\.\./\.\./cedar_site|curl|while) |\w+=http")
+# what a block is given that the page has not made, and what it prints in this order, by its first words
+GIVEN = {"cedar_site merge": "cp kept.json a.json; cp kept.json b.json"}
+WANTED = {
+    "cd examples/photos": [r'\{"cycle":\[\],"decision":"Allow","errors":\[\],"reason":\["family-sees-summer"\]\}'],
+    "cd ../clinic": ["listening ", r'\{"taken":1\}'],
+    "cedar_site serve": ["listening "],
+    "at=": [r'"count":1,.*"site":"1"', "permit", r'"decision":', r'"kind":"state"', r'\{"taken":0\}'],
+    "curl -sSf $at/v1/summary": [r'\{"taken":0\}'],
+    "cedar_site serve --schema schema.json --site 1 --listen 127.0.0.1:7000 &": [
+        "listening ", "listening ", r'\{"taken":1\}', r'\{"taken":0\}', r"(?P<sum>[0-9a-f]{64})", r"(?P=sum)"],
+    "while": [r'\{"taken":\d+\}'],
+    "cedar_site drill": [r'"decision"|"stamp"|"count"'],
+}
+END = "==== end of a block"
+
+
+def free_port():
+    """A port of 127.0.0.1 that nobody listens at."""
+    with socket.socket() as it:
+        it.bind(("127.0.0.1", 0))
+        return it.getsockname()[1]
+
+
+def blocks_of(page):
+    """The blocks of a page that begin with a command, as they stand."""
+    with open(f"{TOP}/{page}", encoding="utf-8") as file:
+        text = file.read()
+    found = re.findall(r"(?m)(?:^(?:    .*)?\n)*^    .*\n", text)
+    blocks = [re.sub(r"(?m)^    ", "", it).strip("\n") for it in found]
+    return [it for it in blocks if TYPED.match(it) and " SCHEMA " not in it]
+
+
+def of_block(table, block):
+    """What a table has at a block: at the longest beginning of it."""
+    fits = [it for it in table if block.startswith(it)]
+    return table[max(fits, key=len)] if fits else None
+
+
+def is_listening(port):
+    with socket.socket() as it:
+        return it.connect_ex(("127.0.0.1", port)) == 0
+
+
+class Shell:
+    """One shell, which tells each command that fails."""
+
+    def __init__(self, folder, room, given):
+        self.ports = {"7000": str(free_port()), "7001": str(free_port())}
+        path = f"{room}:{os.environ['PATH']}"
+        self.process = subprocess.Popen(
+            ["bash", "--norc"], cwd=folder, env={**os.environ, "PATH": path}, text=True, bufsize=1,
+            stdin=subprocess.PIPE, stdout=subprocess.PIPE, stderr=subprocess.STDOUT)
+        self.type("set -E -o pipefail; trap 'echo FAILED: $BASH_COMMAND' ERR; " + given)
+
+    def type(self, text):
+        """Types a text, and gives what it printed."""
+        for page_port, port in self.ports.items():
+            text = text.replace(f"127.0.0.1:{page_port}", f"127.0.0.1:{port}")
+        self.process.stdin.write(f"{text}\necho; echo '{END}'\n")
+        said = []
+        for line in self.process.stdout:
+            if line.strip() == END:
+                break
+            said.append(line)
+        return "".join(said)
+
+    def wait_for(self, block):
+        """Waits until the sites that a block serves listen."""
+        for page_port in re.findall(r"serve .*--listen 127\.0\.0\.1:(\d+)", block):
+            for _ in range(200):
+                if is_listening(int(self.ports[page_port])):
+                    break
+                time.sleep(0.05)
+
+    def end_sites(self):
+        self.type("for job in $(jobs -p); do kill $job; wait $job 2>/dev/null || true; done 2>/dev/null")
+
+    def end(self):
+        self.end_sites()
+        self.process.stdin.close()
+        self.process.wait(10)
+
+
+def as_typed(block):
+    """The commands of a block as they are typed here: sites in the background, loops once, and each site awaited."""
+    text = block.replace("../../cedar_site", "cedar_site").replace("cedar_site --unproved", "cedar_site")
+    text = text.replace("while sleep 10; do", "for once in 1; do")
+    return re.sub(r"(?m)^(cedar_site serve [^&\n]*[^&\s])$", r"\1 &", text)
+
+
+def parts_of(block):
+    """A block in two: what serves sites, and what is typed once they listen."""
+    lines = as_typed(block).split("\n")
+    last = max([at for at, line in enumerate(lines) if line.startswith("cedar_site serve")], default=-1)
+    return "\n".join(lines[:last + 1]), "\n".join(lines[last + 1:])
+
+
+def tried(shell, block):
+    """What went wrong with a block, or nothing."""
+    serving, rest = parts_of(block)
+    if serving:
+        shell.end_sites()
+    said = shell.type("\n".join(it for it in (of_block(GIVEN, block), serving) if it))
+    shell.wait_for(block)
+    said += shell.type(rest)
+    wanted = "(?s)" + ".*?".join(of_block(WANTED, block) or [])
+    if "FAILED" in said or not re.search(wanted, said):
+        return said
+    return None
+
+
+def main():
+    missing = [it for it in ("bash", "curl", "sha256sum", "timeout") if shutil.which(it) is None]
+    if missing:
+        print(f"first hour: left out, since there is no {missing[0]}")
+        print("0 passed, 0 failed")
+        return 0
+    passed = failed = 0
+    with tempfile.TemporaryDirectory() as room:
+        os.mkdir(f"{room}/bin")
+        os.symlink(PROGRAM, f"{room}/bin/cedar_site")
+        for page, start, given in PAGES:
+            shutil.copytree(f"{TOP}/examples", f"{room}/{page}/examples")
+            folder = f"{room}/{page}" if start == "." else f"{room}/{page}/examples/{start}"
+            shell = Shell(folder, f"{room}/bin", given)
+            for block in blocks_of(page):
+                wrong = tried(shell, block)
+                passed, failed = passed + (wrong is None), failed + (wrong is not None)
+                if wrong is not None:
+                    print(f"{page}: {block}\ncame to\n{wrong}")
+            shell.end()
+    print(f"{passed} passed, {failed} failed")
+    return 1 if failed else 0
+
+
+if __name__ == "__main__":
+    sys.exit(main())
