@@ -12,6 +12,7 @@ says so. Standard library alone.
 import os
 import re
 import shutil
+import signal
 import socket
 import subprocess
 import sys
@@ -40,6 +41,8 @@ WANTED = {
     "cedar_site drill": [r'"decision"|"stamp"|"count"'],
 }
 END = "==== end of a block"
+# what hangs is ended, and has failed
+MOST_SECONDS = 240
 
 
 def free_port():
@@ -87,9 +90,11 @@ class Shell:
         self.process.stdin.write(f"{text}\necho; echo '{END}'\n")
         said = []
         for line in self.process.stdout:
-            if line.strip() == END:
+            # a site in the background may be in the midst of a line
+            front, end, behind = line.partition(END)
+            said.append(front + behind)
+            if end:
                 break
-            said.append(line)
         return "".join(said)
 
     def wait_for(self, block):
@@ -138,6 +143,7 @@ def tried(shell, block):
 
 
 def main():
+    signal.alarm(MOST_SECONDS)
     missing = [it for it in ("bash", "curl", "sha256sum", "timeout") if shutil.which(it) is None]
     if missing:
         print(f"first hour: left out, since there is no {missing[0]}")

@@ -48,12 +48,13 @@ SURFACE = """# Public calls
 
 Made from the sources by `tools/made_docs.py`: to change it, change a doc comment there.
 
-What each crate gives to the crates above it, lowest first (README.md has the layers). An item
-stands with the first clause of its doc comment, methods below their type or trait; the source has
-the rest, and the contract. What takes memory may answer want of it (number 1), in its result;
-that a refusal was real no contract can say. `new` and `copy` make a first or another value, `code`
-and `place` tell a refusal (docs/codes.md). *Data* has no calls of its own; a *law* is a function
-that does nothing, and its contract is the law (docs/proved.md).
+What each crate gives to the crates above it, by the rooms of crates.txt. In the crate that a room
+has its name of, an item stands with the first clause of its doc comment, methods below their type
+or trait; in the other parts of a room items stand by name. The source has the rest, and the
+contract. What takes memory may answer want of it (number 1), in its result; that a refusal was real
+no contract can say. `new` and `copy` make a first or another value, `code` and `place` tell a
+refusal (docs/codes.md). *Data* has no calls of its own; a *law* is a function that does nothing,
+and its contract is the law (docs/proved.md).
 """
 
 DEFINITIONS = """# Definitions
@@ -192,15 +193,33 @@ def lines_of(item):
         yield from wrapped(f"- `{part.name}`: {clause(part.says)}", 1)
 
 
+def rooms():
+    """The names of the rooms of crates.txt."""
+    return re.findall(r"(?m)^# ---- (\w+):", text_of("crates.txt"))
+
+
+def named_shortly(item):
+    """An item by its name, with those of its methods that are not usual ones."""
+    methods = [it.name for it in item.parts if it.name not in PLAIN]
+    return f"`{item.name}`" + (f" ({quoted(methods)})" if methods else "")
+
+
+def calls_of(items, is_room):
+    """The lines of what a crate gives out, but for data and laws."""
+    if is_room:
+        for item in items:
+            yield from lines_of(item)
+    elif items:
+        yield from wrapped(f"- {', '.join(map(named_shortly, items))}")
+
+
 def surface():
-    lines = [SURFACE]
+    lines, named = [SURFACE], rooms()
     for crate in map(Crate, products()):
         lines += [f"## `{crate.name}`", "", *textwrap.wrap(f"{clause(crate.says)}.", WIDTH, break_on_hyphens=False), ""]
         plain = [it for it in crate.items if it.kind in ("struct", "enum", "type") and not it.parts]
         laws = [it for it in crate.items if it.kind == "law"]
-        for item in crate.items:
-            if item not in plain and item not in laws:
-                lines += lines_of(item)
+        lines += calls_of([it for it in crate.items if it not in plain and it not in laws], crate.name in named)
         lines += wrapped(named_only("data", plain)) + wrapped(named_only("laws", laws))
         if crate.items:
             lines.append("")
