@@ -1,5 +1,5 @@
 #!/usr/bin/env python3
-"""Types what README.md and docs/operating.md show, block by block and in order, and sees that each command does what the page says.
+"""Types what README.md, docs/operating.md and examples/tinytodo/README.md show, block by block and in order, and sees that each command does what the page says.
 
     PROGRAM=FILE examples/first_hour.py
 
@@ -25,8 +25,9 @@ PROGRAM = os.path.abspath(os.environ.get("PROGRAM", f"{TOP}/crates/cedar_site/ou
 PAGES = (
     ("README.md", ".", ""),
     ("docs/operating.md", "clinic", "other=http://127.0.0.1:7000"),
+    ("examples/tinytodo/README.md", "tinytodo", ""),
 )
-TYPED = re.compile(r"(cd|cedar_site|\.\./\.\./cedar_site|curl|while) |\w+=http")
+TYPED = re.compile(r"(cd|cedar_site (check|decide|serve|pull|merge|drill)|curl|while) |\w+=http")
 # what a block is given that the page has not made, and what it prints in this order, by its first words
 GIVEN = {"cedar_site merge": "cp kept.json a.json; cp kept.json b.json"}
 WANTED = {
@@ -38,6 +39,7 @@ WANTED = {
     "cedar_site serve --schema schema.json --site 1 --listen 127.0.0.1:7000 &": [
         "listening ", "listening ", r'\{"taken":1\}', r'\{"taken":0\}', r"(?P<sum>[0-9a-f]{64})", r"(?P=sum)"],
     "while": [r'\{"taken":\d+\}'],
+    "cedar_site check --schema schema.json policies.cedar\ncedar_site decide": [r'"decision":"Deny".*"reason":\["interns"\]'],
     "cedar_site drill": [r'"decision"|"stamp"|"count"'],
 }
 END = "==== end of a block"

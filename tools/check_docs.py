@@ -3,15 +3,16 @@
 
     tools/check_docs.py
 
-- Each crate of crates.txt that is no test and measures nothing stands in README.md's table and, in bold, in docs/proved.md, and no other does.
-- docs/surface.md and docs/definitions.md are what tools/made_docs.py makes of the sources.
-- The reading list of docs/reading.md is what tools/reading_list.py prints; of the twelve files before it each is one of that list, with its lines.
+- README.md's picture has the rooms of crates.txt; in crates.txt each crate stands on crates before it, and in the picture on its own room or on those of
+  rows below it, but for those of ACROSS.
+- Each crate of crates.txt that is no test and measures nothing stands, in bold, in docs/proved.md, and no other does; so does each law by its name.
+- docs/definitions.md is what tools/made_docs.py makes of the sources.
+- Of the twelve files of docs/reading.md each is one that the whole program's contract rests on, with its lines; so many files and lines as it says are.
 - Each file of docs/, bench/, tools/, examples/, rows/ and of a crate's src/, specs/ and proofs/ that a document names by its path from the top is there;
   so is, below a heading that names crates, each path that begins with specs/, proofs/, src/, must-fail/ or wrong-bodies/, in one of these crates.
-- The numbers of crates that README.md, docs/CONTRIBUTING.md and docs/proving.md tell of the two programs are those that crates.txt gives, and the number
-  of all crates that docs/proving.md tells; each crate's must-fail edits are as many as its row there says.
-- Each such crate stands on crates of layers below, or to its right in its own, as README.md's table has them.
-- README.md has at most 120 lines; no line of a document, but for tables and code, has over 100 characters.
+- The numbers of crates that README.md and docs/proving.md tell of the two programs are those that crates.txt gives, and the number of all crates that
+  docs/proving.md tells; each crate's must-fail edits are as many as its row in tools/last_run.md says.
+- README.md has at most 90 lines, all documents together at most MOST_BYTES; no line of a document, but for tables and code, has over 100 characters.
 - Lines of specs/ and src/ have at most 120 characters, but for those of LONG.
 - docs/codes.md has a row for each number that an arm of a `fn code` of the code gives, and for each that a body is refused with (`BodyFault::Refused`);
   of the statuses of HTTP for those that stand in the place of a code. That a row says what the number means is for a reader.
@@ -19,7 +20,6 @@ Standard library alone.
 """
 import os
 import re
-import subprocess
 import sys
 
 TOP = os.path.dirname(os.path.dirname(os.path.abspath(__file__)))
@@ -31,6 +31,10 @@ BESIDE = re.compile(r"_tests$|^rows$")
 BESIDE_CODES = {"200", "409", "422", "503"}
 INSIDE = re.compile(r"(?<![\w/.])((?:specs|proofs|src|must-fail|wrong-bodies)/[\w./-]*\w)(?![\w*])")
 NAMED = re.compile(r"(?<![\w/.])((?:docs|bench|tools|examples|rows)/[\w./-]*\w|crates/\w+/(?:src|specs|proofs)/[\w/]+\.\w+)")
+
+# what the small program reads stands on names and entities, of the room that its own room is below
+ACROSS = {"decision_texts"}
+MOST_BYTES = 152_000
 
 # lines of specs/ and src/ that are longer: texts that are printed or read, and attributes, which stand on one line
 LONG = {
@@ -54,19 +58,39 @@ def crates():
     return [it[0] for it in lines if it]
 
 
-def layers():
-    """The crates of each row of README.md's table, highest first."""
-    rows = re.findall(r"(?m)^\| \w+ \| ([^|]*) \|", text_of("README.md").partition("## How it is built")[2])
-    return [names for names in (re.findall(r"`(\w+)`", row) for row in rows) if names]
+def rows_of_rooms():
+    """The rooms of each row of README.md's picture, highest first."""
+    known = {name for name, _, _ in made_docs.rooms()} - {"ground", "tests"}
+    rows = ([it for it in re.split(r" {2,}", line.strip()) if it in known] for line in text_of("README.md").split("\n") if re.match(r"    \w+ ", line))
+    return [it for it in rows if it]
+
+
+def about_rooms():
+    rows = rows_of_rooms()
+    shown, known = [it for row in rows for it in row], [name for name, _, _ in made_docs.rooms() if name not in ("ground", "tests")]
+    if sorted(shown) != sorted(known):
+        yield f"README.md's picture has {', '.join(shown)}, and crates.txt {', '.join(known)}"
+    row_of = {name: -number for number, row in enumerate(rows) for name in row}
+    room_of = {crate: name for name, _, names in made_docs.rooms() for crate in names}
+    before = set()
+    for line in text_of("crates.txt").split("\n"):
+        name, _, named = line.partition("#")[0].partition(":")
+        for other in named.split():
+            if other in crates() and other not in before and name.strip() not in ACROSS:
+                yield f"crates.txt: {name} stands on {other}, which is not before it"
+            low, high = room_of.get(other), room_of.get(name.strip())
+            if low in row_of and high in row_of and low != high and row_of[low] >= row_of[high] and name.strip() not in ACROSS:
+                yield f"README.md: {name} stands on {other}, which its picture has not below it"
+        before.add(name.strip())
 
 
 def about_crates():
-    product = {it for it in crates() if not BESIDE.search(it)}
-    table = {it for layer in layers() for it in layer}
-    proved = set(re.findall(r"\*\*`(\w+)`\*\*", text_of("docs/proved.md")))
-    for name, found in (("README.md", table), ("docs/proved.md", proved)):
-        yield from (f"{name} has nothing of the crate {it}" for it in sorted(product - found))
-        yield from (f"{name} has {it}, which crates.txt has not" for it in sorted(found - product))
+    product, text = {it for it in crates() if not BESIDE.search(it)}, text_of("docs/proved.md")
+    proved = set(re.findall(r"\*\*`?(\w+)`?\*\*", text))
+    yield from (f"docs/proved.md has nothing of the crate {it}" for it in sorted(product - proved))
+    yield from (f"docs/proved.md has {it}, which crates.txt has not" for it in sorted(proved - product))
+    words = set(re.findall(r"\w+", text))
+    yield from (f"docs/proved.md has nothing of the law {crate}::{name}" for crate, name in made_docs.laws() if name not in words)
 
 
 def about_paths():
@@ -85,16 +109,6 @@ def about_paths():
                     yield f"{name} names {path} of {part.partition(chr(10))[0]}, which is not there"
 
 
-def about_layers():
-    # a crate's place: lower layers are less, and in a layer those to the right
-    place = {name: (-height, -at) for height, layer in enumerate(layers()) for at, name in enumerate(layer)}
-    for line in text_of("crates.txt").split("\n"):
-        name, _, named = line.partition("#")[0].partition(":")
-        for other in named.split():
-            if name in place and other in place and place[other] >= place[name]:
-                yield f"README.md: {name} stands on {other}, which its table has above it or to its left"
-
-
 def below(name, libraries, found=None):
     """The crates that one stands on, and itself."""
     found = set() if found is None else found
@@ -110,27 +124,28 @@ def about_numbers():
     libraries = {name.split()[0]: named.split() for name, _, named in lines if name.strip()}
     bare, whole = len(below("bare_decide", libraries)), len(below("cedar_site", libraries))
     wanted = (
-        ("README.md", f"here `bare_decide`: {bare} crates"),
-        ("README.md", f"builds the whole program: {whole} crates"),
-        ("docs/CONTRIBUTING.md", f"program is not built: {bare} crates, none of schemas"),
-        ("docs/CONTRIBUTING.md", f"builds `cedar_site`: {whole} crates"),
-        ("docs/proving.md", f"Today's {len(libraries)} crates and programs"),
+        ("README.md", f"`bare_decide`: {bare} crates"),
+        ("README.md", f"the whole program: {whole} crates"),
+        ("docs/proving.md", f"All {len(libraries)} crates and programs"),
         ("docs/proving.md", f"(`bare_decide`) stands on {bare} crates, the whole program on {whole}"),
     )
     for name, words in wanted:
         if words not in " ".join(text_of(name).split()):
             yield f"{name} does not say: {words}"
-    rows = dict(re.findall(r"(?m)^\| `(\w+)` \| [^|]*\| (\d*)", text_of("docs/proving.md")))
+    rows = dict(re.findall(r"(?m)^\| `(\w+)` \| [^|]*\| (\d*)", text_of("tools/last_run.md")))
     for name in libraries:
         folder = f"{TOP}/crates/{name}/must-fail"
         edits = len([it for it in os.listdir(folder) if it.endswith(".edit")]) if os.path.isdir(folder) else 0
         if rows.get(name) != str(edits or ""):
-            yield f"docs/proving.md: {name} has {edits} edits, and its row says {rows.get(name)}"
+            yield f"tools/last_run.md: {name} has {edits} edits, and its row says {rows.get(name)}"
 
 
 def about_lines():
-    if text_of("README.md").count("\n") > 120:
-        yield "README.md has over 120 lines"
+    if text_of("README.md").count("\n") > 90:
+        yield "README.md has over 90 lines"
+    size = sum(os.path.getsize(f"{TOP}/{name}") for name in documents())
+    if size > MOST_BYTES:
+        yield f"all documents have {size} bytes together, over {MOST_BYTES}"
     for name in documents():
         is_code = False
         for number, line in enumerate(text_of(name).split("\n"), 1):
@@ -163,29 +178,23 @@ def about_codes():
 
 
 def about_reading():
-    ran = subprocess.run([sys.executable, f"{TOP}/tools/reading_list.py", "--check", f"{TOP}/docs/reading.md"], capture_output=True, text=True, check=False)
-    if ran.returncode:
-        yield (ran.stdout or ran.stderr).strip()
-
-
-def about_twelve():
-    chosen, _, behind = text_of("docs/reading.md").partition("<!-- twelve files -->")[2].partition("<!-- end of the twelve files -->")
-    listed = {}
-    for crate, names in re.findall(r"(?m)^- `(\w+)`: (.*(?:\n  .*)*)", behind.partition("<!-- reading list -->")[2]):
-        listed[crate] = re.findall(r"([\w/]+) \d+", names)
-    rows = re.findall(r"(?m)^\| (crates/(\w+)/specs/(\S+)\.antt) \| (\d+) \|", chosen)
+    text, (files, types) = text_of("docs/reading.md"), made_docs.reached()
+    count = f"{sum(map(len, files.values()))} files of specs/, {sum(sum(it.values()) for it in files.values())} lines of definitions"
+    if f"{count}; {sum(map(len, types.values()))} files that declare types" not in " ".join(text.split()):
+        yield f"docs/reading.md does not say: {count}; {sum(map(len, types.values()))} files that declare types"
+    rows = re.findall(r"(?m)^\| (crates/(\w+)/specs/\S+\.antt) \| (\d+) \|", text)
     if len(rows) != 12:
         yield f"docs/reading.md has {len(rows)} files in place of twelve"
-    for path, crate, name, lines in rows:
-        if name not in listed.get(crate, ()):
-            yield f"{path}, one of the twelve files, is none of the reading list"
+    for path, crate, lines in rows:
+        if f"{TOP}/{path}" not in files.get(crate, ()):
+            yield f"{path}, one of the twelve files, is none that the whole program's contract rests on"
         elif text_of(path).count("\n") != int(lines):
             yield f"{path} has {text_of(path).count(chr(10))} lines, not {lines}"
 
 
 def main():
-    found = [*about_crates(), *about_layers(), *about_paths(), *about_numbers(), *about_lines(), *about_long_lines(), *about_codes()]
-    found += [*made_docs.stale(), *about_reading(), *about_twelve()]
+    found = [*about_rooms(), *about_crates(), *about_paths(), *about_numbers(), *about_lines(), *about_long_lines(), *about_codes()]
+    found += [*made_docs.stale(), *about_reading()]
     print("\n".join(found) or "documents: as they should be")
     return 1 if found else 0
 

@@ -1,15 +1,15 @@
 #!/usr/bin/env python3
-"""Makes docs/surface.md and docs/definitions.md from the sources, so that they say what the sources say.
+"""Makes docs/definitions.md from the sources, so that it says what the sources say, and tells what they give out.
 
-    tools/made_docs.py [--check | --missing]
+    tools/made_docs.py [--check | --missing | --laws | --calls [CRATE ..] | --where NAME]
 
-docs/surface.md: of each crate of crates.txt that is no test what it is, and what its lib.rt gives out: types and traits
-with their public methods, functions and constants, each with the first clause of its doc comment; and laws, which are
-functions that do nothing, by name. docs/definitions.md: of each file of specs/ outside specs/inner the first sentence
-of its head comment, its public source, and those of its names that a public contract cites, with the relations and
-types that files of other crates do. With --check nothing is written: it prints what differs, and ends with status 1
+docs/definitions.md: of each file of specs/ outside specs/inner the first clause of its head comment, its public source,
+those of its names that a public contract cites, and how many of its lines the contract of the whole program rests on,
+as tools/reading_list.py counts them. With --check nothing is written: it prints what differs, and ends with status 1
 where something does. With --missing it prints what is given out without a doc comment, and which files of specs/ have
-no head comment. Standard library alone.
+no head comment; with --laws the laws, which are functions that do nothing; with --calls what crates give out: types and
+traits with their public methods, functions and constants, each with the first clause of its doc comment; with --where
+NAME the files of specs/ that define a name. Standard library alone.
 """
 import itertools
 import os
@@ -28,11 +28,10 @@ TESTS = re.compile(r"_tests$|^rows$")
 ITEM = re.compile(r"^pub (?:const )?(?P<kind>fn|struct|enum|trait|const|type) (?P<name>\w+)")
 METHOD = re.compile(r"^    (?P<pub>pub )?(?:const )?fn (?P<name>\w+)")
 IMPL = re.compile(r"^impl(?:<.*?>)? (?:(?P<trait>[\w:]+)(?:<.*>)? for )?(?P<type>\w+)")
-# a method stands by its name alone where it has one of these, or where its clause is no longer
-SHORT, LONG = 46, 60
-PLAIN = {"new", "copy", "len", "is_empty", "iter", "get", "as_str", "as_bytes", "as_slice", "code", "place", "within"}
+# the most characters of a first clause that is told whole
+LONG = 44
 
-STANDARD = re.compile(r"(?:RFC|FIPS) [\d-]+(?:, sections? [\d., and]*\d)?")
+STANDARD = re.compile(r"(?:RFC|FIPS) [\d-]+(?:, sections? [\d., andto]*\d)?")
 # how sources are named in short
 SHORTER = (
     (r"(\"[^\"]*\")|\([^()]*\)", r"\1"),
@@ -41,32 +40,28 @@ SHORTER = (
     (r"Cedar reference guide(?: 4\.0)?", "guide"),
     (r'"Grammar specification for Cedar policy syntax"', '"Grammar"'),
     (r'"Entities and context: JSON format"', '"JSON format"'),
+    (r"; [^;]*\brules? of this product\b[^;]*", "; in part ours"),
+    (r'guide, (?=")', ""),
+    (r"cedar-spec (?=\w+/)", ""),
+    (r", sections? (?=\d)", " §"),
     (r" +(?=[,;.)]| |$)", ""),
 )
 
-SURFACE = """# Public calls
-
-Made from the sources by `tools/made_docs.py`: to change it, change a doc comment there.
-
-What each crate gives to the crates above it, by the rooms of crates.txt. In the crate that a room
-has its name of, an item stands with the first clause of its doc comment, methods below their type
-or trait; in the other parts of a room items stand by name. The source has the rest, and the
-contract. What takes memory may answer want of it (number 1), in its result; that a refusal was real
-no contract can say. `new` and `copy` make a first or another value, `code` and `place` tell a
-refusal (docs/codes.md). *Data* has no calls of its own; a *law* is a function that does nothing,
-and its contract is the law (docs/proved.md).
-"""
-
-DEFINITIONS = """# Definitions
+DEFINITIONS = """# Definitions, in the order in which to read them
 
 Made from the sources by `tools/made_docs.py`: to change it, change a head comment there.
 
-The files of specs/, lowest crate first: what each defines, its public source, and those of its
-names that a public contract, or a file of another crate, cites; the file has the others, and which
-of its rules are this product's. docs/reading.md says where a reader begins, and lists what the
-whole program's contract rests on. What no public contract rests on stands in specs/inner, and not
-here. *Guide* is the Cedar reference guide 4.0; *cedar-spec* its formal model, by files below
-cedar-lean/Cedar; *ours*: a rule of this product, for which no public source is named.
+The files of specs/, highest crate first, each with what it defines, in short, and its source.
+**With a number**, and with its relations that a public contract cites (or functions, where there
+are none): the contract of a whole run, `site_commands::run`, rests on so many of its lines
+(docs/reading.md); these stand in the order in which a reader meets their names, and behind *types*
+the files of src/ whose types they name.
+**Without one**: of laws (docs/proved.md), and of what code shows to contracts; only those that have
+a public source. `tools/made_docs.py --where NAME` tells of any name.
+
+In brackets: *in quotes alone*, a heading of the Cedar reference guide 4.0; *with a slash*, a file
+below cedar-lean/Cedar of its formal model cedar-spec; *in part ours*: a rule of this product too.
+What has no bracket is one. What no public contract rests on stands in specs/inner, and not here.
 """
 
 
@@ -176,54 +171,30 @@ def wrapped(text, depth=0):
 
 
 def quoted(names):
-    return ", ".join(f"`{it}`" for it in names)
-
-
-def named_only(word, items):
-    """One item of a list for several that stand by their names."""
-    return f"- {word}: {quoted(it.name for it in items)}" if items else ""
-
-
-def lines_of(item):
-    """The lines of an item: beside its name the methods that stand by name, below it the others."""
-    told = [it for it in item.parts if len(clause(it.says)) >= SHORT and it.name not in PLAIN and it.kind != "law"]
-    named = quoted(it.name for it in item.parts if it not in told)
-    yield from wrapped(f"- `{item.name}`{f' ({named})' if named else ''}{f' = {item.value}' if item.value else ''}: {clause(item.says)}")
-    for part in told:
-        yield from wrapped(f"- `{part.name}`: {clause(part.says)}", 1)
+    return f"`{' '.join(names)}`" if names else ""
 
 
 def rooms():
-    """The names of the rooms of crates.txt."""
-    return re.findall(r"(?m)^# ---- (\w+):", text_of("crates.txt"))
+    """The rooms of crates.txt, lowest first: the name of each, what it is for, and its crates."""
+    for part in re.split(r"(?m)^# ---- ", text_of("crates.txt"))[1:]:
+        name, _, what = part.partition("\n")[0].partition(": ")
+        yield name, what, [it for it in re.findall(r"(?m)^(\w+):", part.partition("\n")[2]) if not TESTS.search(it)]
 
 
-def named_shortly(item):
-    """An item by its name, with those of its methods that are not usual ones."""
-    methods = [it.name for it in item.parts if it.name not in PLAIN]
-    return f"`{item.name}`" + (f" ({quoted(methods)})" if methods else "")
+def calls(names):
+    """The lines that tell what crates give out, but for laws: each item with the first clause of its doc comment."""
+    for crate in map(Crate, names or products()):
+        yield f"{crate.name}: {clause(crate.says, 120)}"
+        for item in crate.items:
+            if item.kind != "law":
+                yield f"  {item.name}{f' = {item.value}' if item.value else ''}: {clause(item.says, 120)}"
+                yield from (f"    {it.name}: {clause(it.says, 120)}" for it in item.parts if it.kind != "law")
 
 
-def calls_of(items, is_room):
-    """The lines of what a crate gives out, but for data and laws."""
-    if is_room:
-        for item in items:
-            yield from lines_of(item)
-    elif items:
-        yield from wrapped(f"- {', '.join(map(named_shortly, items))}")
-
-
-def surface():
-    lines, named = [SURFACE], rooms()
+def laws():
+    """The laws, each with the name of its crate."""
     for crate in map(Crate, products()):
-        lines += [f"## `{crate.name}`", "", *textwrap.wrap(f"{clause(crate.says)}.", WIDTH, break_on_hyphens=False), ""]
-        plain = [it for it in crate.items if it.kind in ("struct", "enum", "type") and not it.parts]
-        laws = [it for it in crate.items if it.kind == "law"]
-        lines += calls_of([it for it in crate.items if it not in plain and it not in laws], crate.name in named)
-        lines += wrapped(named_only("data", plain)) + wrapped(named_only("laws", laws))
-        if crate.items:
-            lines.append("")
-    return "\n".join(lines).rstrip("\n") + "\n"
+        yield from ((crate.name, it.name) for item in crate.items for it in [item, *item.parts] if it.kind == "law")
 
 
 def defined_at(walk, crate, module, name):
@@ -244,25 +215,15 @@ def modules_of(crate, folder=r"inner|formers|passed_on"):
 
 
 def cited_names(walk):
-    """Of each file of specs/ the names that public contracts cite, and the relations and types that files of other
-    crates do."""
+    """Of each file of specs/ the names that public contracts cite."""
     cited = {}
-
-    def cite(*words):
-        found = defined_at(walk, *words)
-        if found:
-            cited.setdefault(found[0], set()).add(found[1])
-
     for crate in reading_list.crates_in_order():
         for text, imports in public_specs.public_texts(crate, public_specs.given_out(crate)):
             words = set(reading_list.WORD.findall(re.sub(r"(?m)--.*$", "", text)))
             for shown, (at, module, name) in imports.items():
-                if name and shown in words:
-                    cite(at, module, name)
-        for _, module in modules_of(crate):
-            for at, other, name in walk.module(crate, module).imports.values():
-                if at != crate and name and name[:1].isupper():
-                    cite(at, other, name)
+                found = name and shown in words and defined_at(walk, at, module, name)
+                if found:
+                    cited.setdefault(found[0], set()).add(found[1])
     return cited
 
 
@@ -282,21 +243,61 @@ def head_of(path):
     return " ".join(re.match(r"(?:--.*\n)*", text_of(os.path.relpath(path, TOP)))[0].replace("--", "").split())
 
 
+def reached():
+    """Of each crate the files of specs/ that the whole program's contract rests on, in the order in which a reader meets
+    them, each with how many of its lines; and the files of src/ whose types these name."""
+    walk = reading_list.Walk()
+    reading_list.whole(walk)
+    files, types = {}, {}
+    for path, lines, _ in reading_list.rows_of(walk):
+        crate, name = path.split("/")[1], path.split("/", 3)[3].rsplit(".", 1)[0]
+        if lines:
+            files.setdefault(crate, {})[f"{TOP}/{path}"] = lines
+        else:
+            types.setdefault(crate, []).append(name)
+    return files, types
+
+
+def told_of(head):
+    """What is told of a file of specs/ by its head comment: its first clause, in short, and its source."""
+    told = clause(head)
+    named = source(head, told)
+    if len(told) > LONG:
+        told = re.split(r", (?!of |or )(?![^(]*\))", told)[0]
+    return re.sub(r", sections? (?=\d)", " §", f"{told} ({named})" if named not in ("", "ours") else told)
+
+
+def names_of(walk, crate, path, module, cited):
+    """The names of a file of specs/ that public contracts cite, in the order of the file: of relations and types, or else
+    of functions."""
+    items, names = walk.module(crate, module).items, cited.get(path, ())
+    return quoted(sorted([it for it in names if it[:1].isupper()] or names, key=lambda it: (min(items[it][0]), items[it][1].find(it), it)))
+
+
+def where(name):
+    """The files of specs/ that define a name, each with what is told of it."""
+    walk = reading_list.Walk()
+    for crate in products():
+        for path, module in modules_of(crate, "passed_on"):
+            if name in walk.module(crate, module).items:
+                yield f"{os.path.relpath(path, TOP)}: {told_of(head_of(path))}"
+
+
 def definitions():
     walk = reading_list.Walk()
-    cited, lines = cited_names(walk), [DEFINITIONS]
-    for crate in products():
-        files = list(modules_of(crate))
-        lines += [f"## `{crate}`", ""] if files else []
-        for path, module in files:
-            items, head = walk.module(crate, module).items, head_of(path)
-            # in the order of the file
-            names = sorted(cited.get(path, ()), key=lambda it: (min(items[it][0]), items[it][1].find(it), it))
-            told = clause(head, 80)
-            told += f" ({source(head, told)})" if source(head, told) else ""
-            lines += wrapped(f"- {module}: {told}.{f' {quoted(names)}' if names else ''}")
-        if files:
-            lines.append("")
+    cited, (files, types), lines = cited_names(walk), reached(), [DEFINITIONS]
+    for crate in reversed(products()):
+        modules = dict(modules_of(crate))
+        counted = {it: lines for it, lines in files.get(crate, {}).items() if it in modules}
+        named = f"types: {', '.join(types[crate])}" if crate in types else ""
+        others = [it for it in modules if it not in counted and source(head_of(it), "") not in ("", "ours")]
+        told = [*counted, *others]
+        lines += [f"## `{crate}`{'; ' if named else ''}{named}", ""] if told else []
+        for path, number in counted.items():
+            names = names_of(walk, crate, path, modules[path], cited)
+            lines += wrapped(f"- {modules[path]} {number}: {told_of(head_of(path))}. {names}".rstrip())
+        lines += itertools.chain(*(wrapped(f"- {modules[it]}: {told_of(head_of(it))}.") for it in others))
+        lines += [""] if told else []
     return "\n".join(lines).rstrip("\n") + "\n"
 
 
@@ -309,7 +310,7 @@ def missing():
         yield from (f"{crate.name}, specs/{module}" for path, module in modules_of(crate.name) if not head_of(path))
 
 
-MADE = (("docs/surface.md", surface), ("docs/definitions.md", definitions))
+MADE = (("docs/definitions.md", definitions),)
 
 
 def stale():
@@ -325,6 +326,12 @@ def stale():
 def main(words):
     if "--missing" in words:
         print("\n".join(missing()))
+    elif "--calls" in words:
+        print("\n".join(calls(words[1:])))
+    elif "--where" in words:
+        print("\n".join(where(words[-1])))
+    elif "--laws" in words:
+        print("\n".join(f"{crate}::{name}" for crate, name in laws()))
     elif "--check" in words:
         found = list(stale())
         print("\n".join(found) or "made documents: as the sources say")

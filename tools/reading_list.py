@@ -1,15 +1,15 @@
 #!/usr/bin/env python3
 """Lists the definitions that a contract rests on: which files of specs/ a reader has to believe, highest first, with their lines.
 
-    tools/reading_list.py [--names] [--check FILE] [CRATE MODULE NAME ..]
+    tools/reading_list.py [--names] [CRATE MODULE NAME ..]
 
 Without words it starts at the contract of the program's runs, `site_commands::run`, and at what it is over: the clauses of the trait `Host`, and what
 `SystemHost` means by them. It walks names: from those that the contract cites to those that their definitions cite, over the `use` lines of specs/, and
 leaves out what no definition on the way names (lemmas, helpers of proofs). A file counts with the lines of those of its definitions that are reached, and
 of the comments above them. Types and traits that are declared in code count with their file. Of std and the ported libraries it follows nothing: it tells
-which of them are cited. It prints of each crate its files with their lines, and the files that declare types. With --names it prints a table, with the
-reached names of each file; --check FILE compares what it prints with what stands in a document between the lines `<!-- reading list -->` and
-`<!-- end of the reading list -->`. Standard library alone.
+which of them are cited. It prints of each crate its files
+with their lines, and the files that declare types; docs/definitions.md is made with these numbers (tools/made_docs.py). With --names it prints a table,
+with the reached names of each file. Standard library alone.
 """
 import itertools
 import os
@@ -191,6 +191,14 @@ def crates_in_order():
         return [it.split(":")[0].split()[0] for it in file if it.partition("#")[0].strip()]
 
 
+def whole(walk):
+    """What the contract of the whole program rests on."""
+    for file, name in OVER:
+        walk.visit_code(START, file, name)
+    for module, name in CITED:
+        walk.visit(START, module, name)
+
+
 def lowest_first(walk):
     """The files, by crate and in a crate each behind those that it cites; what declares types goes before."""
     crates, behind, seen = crates_in_order(), [], set()
@@ -241,28 +249,15 @@ def listed(walk, names):
 
 def main(words):
     names = "--names" in words
-    check = words[words.index("--check") + 1] if "--check" in words else None
-    rest = [it for it in words if it not in ("--names", "--check", check)]
+    rest = [it for it in words if it != "--names"]
     walk = Walk()
     if rest:
         for name in rest[2:]:
             walk.visit(rest[0], rest[1], name)
     else:
-        for file, name in OVER:
-            walk.visit_code(START, file, name)
-        for module, name in CITED:
-            walk.visit(START, module, name)
-    lines = listed(walk, names)
-    if check:
-        with open(check, encoding="utf-8") as file:
-            inside = file.read().partition("<!-- reading list -->")[2].partition("<!-- end of the reading list -->")[0]
-        if inside.strip().split("\n") != lines:
-            print(f"{check}: its reading list is not what the imports say (tools/reading_list.py prints it)")
-            return 1
-        return 0
-    print("\n".join(lines))
-    return 0
+        whole(walk)
+    print("\n".join(listed(walk, names)))
 
 
 if __name__ == "__main__":
-    sys.exit(main(sys.argv[1:]))
+    main(sys.argv[1:])

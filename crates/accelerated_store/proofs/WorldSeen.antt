@@ -12,7 +12,7 @@ use Rattle.authoriser.specs.Answers.{NamedPolicy, IsAnswer}
 use Rattle.schema.specs.SchemaEntries.{SchemaEntries}
 use Rattle.schema.specs.Views.{schema_view}
 use Rattle.entity_worlds.specs.declared.entity.Entity.{Entity}
-use Rattle.entity_worlds.specs.Entities.{EntityMap, attributes_of, parents_of}
+use Rattle.entity_worlds.specs.Entities.{EntityMap, attributes_of, kept_parents}
 use Rattle.entity_store.specs.Entities.{entities_under}
 use Rattle.stamped_store.specs.Store.{StoreEntries}
 use Rattle.stored_world.specs.declared.stored_entities.StoredEntities.{StoredEntities}
@@ -29,7 +29,7 @@ abbrev pub asked : Seen → EntityMap
 asked w = entities_under w.1 (data_in (entity_at w.0.store.now.entities))
 
 abbrev pub edges_seen : Seen → Parents
-edges_seen w u = parents_of (asked w u)
+edges_seen w u = kept_parents (asked w u)
 
 abbrev pub world_seen : Seen → World
 world_seen w = world_of (λ u. attributes_of (asked w u)) (edges_seen w)

@@ -1,4 +1,5 @@
 -- Policies that may be left out of an answer by their scopes.
+-- Source: Cedar reference guide 4.0, "Authorization": a policy whose scope is false is neither satisfied nor erring.
 use Rattle.std.specs.Prelude.{◌↔◌, List, map, Contains, Bool}
 use Rattle.values.specs.declared.entity_uid.EntityUid.{EntityUid}
 use Rattle.values.specs.declared.request.Request.{Request}

@@ -27,7 +27,7 @@ use Rattle.policy_grammar.specs.declared.policy.ActionScope.TheVariants as actio
 use Rattle.policy_grammar.specs.declared.policy.Scope.{Scope}
 use Rattle.policy_grammar.specs.declared.policy.Policy.{Policy}
 use Rattle.policy_grammar.specs.Whole.{entity_literal, is_equal, is_in, entity_part, action_part, expression_of}
-use Rattle.evaluator.specs.Outcomes.{IsTruthOf, holds, fails, entity_in}
+use Rattle.evaluator.specs.Outcomes.{IsTruthOf, holds, fails, entity_uid_in}
 use Rattle.evaluator.specs.Operators as op
 use Rattle.evaluator.specs.Operators.{World}
 use Rattle.evaluator.specs.Evaluation as rule
@@ -41,8 +41,8 @@ use Rattle.plain.proofs.Members.{Contains-here, Contains-there, Contains-cases, 
 same_entity : (u v : EntityUid) → entity u ≡ entity v → u ≡ v
 same_entity u v e = cc
 
-no_entity : (v : PlainValue) (u : EntityUid) → entity u ≡ v → entity_in v ≡ None → ⊥
-no_entity v u same none = let some = ap entity_in same in cc
+no_entity : (v : PlainValue) (u : EntityUid) → entity u ≡ v → entity_uid_in v ≡ None → ⊥
+no_entity v u same none = let some = ap entity_uid_in same in cc
 
 into_values : (us : List EntityUid) (u : EntityUid) → Contains us u → Contains (map entity us) (entity u)
 into_values [] u c = Contains-none u c
@@ -60,7 +60,7 @@ from_values (w ∷ us) v c = elim (Contains-cases (entity w) (map entity us) v c
 
 -- values that are all entities, or one among them that is none
 abbrev AllEntities : List PlainValue → Type 0
-AllEntities vs = ((us : List EntityUid) × (vs ≡ map entity us)) ⊎ ((v : PlainValue) × Contains vs v × (entity_in v ≡ None))
+AllEntities vs = ((us : List EntityUid) × (vs ≡ map entity us)) ⊎ ((v : PlainValue) × Contains vs v × (entity_uid_in v ≡ None))
 
 one_more : (v : PlainValue) (vs : List PlainValue) → AllEntities vs → AllEntities (v ∷ vs)
 one_more (entity u) vs (inl h) = inl (u ∷ h.0, ap (λ ws. entity u ∷ ws) h.1)

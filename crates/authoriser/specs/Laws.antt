@@ -1,4 +1,5 @@
 -- What a reader of policies may rely on, as laws over the definition of answers: of a world, a request and policies.
+-- Source: Cedar reference guide 4.0, "Authorization". A rule of this product: ids ascend by their bytes.
 use Rattle.std.specs.Prelude.{◌≡◌, ◌↔◌, ℕ, List, [], ◌∷◌, ◌++◌, map, Contains, Bool, false}
 use Rattle.std.specs.List.{filter}
 use Rattle.std.specs.List.Sorted.{IsStrictlySortedBy}

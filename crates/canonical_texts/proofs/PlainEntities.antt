@@ -27,8 +27,8 @@ use Rattle.entity_worlds.specs.UidSets.{put_uid, uid_set}
 use Rattle.entities.specs.declared.fault.EntityFault.TheVariants.{BadShape, TagsLeftOut}
 use Rattle.entities.specs.declared.stated.StatedEntity.{StatedEntity}
 use Rattle.entities.specs.Faults.{told}
-use Rattle.entities.specs.Stated.{stated_uid, uids_of, parents_of, has_objects, is_absent_or_empty, or_empty, stated_in}
-use Rattle.entities.specs.Entities.{shape_of, attributes_in, parents_fit, parents_in, entity_in}
+use Rattle.entities.specs.Stated.{stated_uid, uids_of, stated_parents, has_objects, is_absent_or_empty, or_empty, stated_in}
+use Rattle.entities.specs.Entities.{shape_of, attributes_in, parents_fit, parents_in, entity_stated_in}
 use Rattle.entities.specs.Canonical.{canonical_json}
 use Rattle.canonical_texts.specs.Texts.{HaveUtf8}
 use Rattle.canonical_texts.proofs.Steps.{carried, some_of}
@@ -69,7 +69,7 @@ array_is (array es) ds e = cc
 array_is (object ms) ds e = absurd cc
 
 parents_plain : (found : Option Data) (us : List EntityUid) → ((d : Data) → found ≡ Some d → IsClean d)
-    → parents_of found ≡ Ok us → HavePlainNames us
+    → stated_parents found ≡ Ok us → HavePlainNames us
 unfolding uids_of
 parents_plain None us h e = carried HavePlainNames [] us e tt
 parents_plain (Some d) us h e =
@@ -100,7 +100,7 @@ record IsStatedPlainly (stated : StatedEntity) : Type 0 where
 stated_plain : (d : Data) (stated : StatedEntity) → IsClean d → stated_in d ≡ Ok stated → IsStatedPlainly stated
 unfolding stated_in
 stated_plain d stated h e =
-    let parents = parents_of (get (codes "parents") d) in
+    let parents = stated_parents (get (codes "parents") d) in
     let a = bind_ok (or_fault BadShape (get (codes "uid") d))
     (λ name. stated_uid name >>= λ uid. demand BadShape (has_objects d) >>= λ objects. parents >>= λ ps.
     Ok (record { uid = uid; parents = ps })) stated e in
@@ -148,9 +148,9 @@ whole e attrs parents uid = (
   (ascii_is_utf8 (codes "parents") refl, parents, (refl, tt), (ascii_is_utf8 (codes "uid") refl, uid, tt, tt)),
 )
 
-pub canonical_plain : (s : StatedSchema) (d : Data) (e : Entity) → IsClean d → entity_in s d ≡ Ok e
+pub canonical_plain : (s : StatedSchema) (d : Data) (e : Entity) → IsClean d → entity_stated_in s d ≡ Ok e
     → IsPlain (canonical_json e)
-unfolding entity_in
+unfolding entity_stated_in
 canonical_plain s d e h read =
     let a = bind_ok (stated_in d) (λ stated. attributes_in s stated.uid.type_name d
     >>= λ attrs. parents_in s stated.uid stated.parents

@@ -1,11 +1,12 @@
 -- Laws of the canonical texts of entities.
+-- A rule of this product.
 use Rattle.std.specs.Prelude.{◌≡◌, ℕ, List, Some, Ok}
 use Rattle.serde_json.specs.Data.{Data}
 use Rattle.json_words.specs.Json.{json_of}
 use Rattle.schema.specs.Schemas.{StatedSchema}
 use Rattle.schema.specs.WellFormed.{IsWellFormed}
 use Rattle.entity_worlds.specs.declared.entity.Entity.{Entity}
-use Rattle.entities.specs.Entities.{entity_in}
+use Rattle.entities.specs.Entities.{entity_stated_in}
 use Rattle.entities.specs.Canonical.{canonical_json, canonical_text}
 use Rattle.canonical_texts.specs.Texts.{HasUtf8}
 
@@ -17,7 +18,7 @@ JsonTextsAreUtf8 = (bytes : List ℕ) (d : Data) → json_of bytes ≡ Some d �
 pub record IsReadFrom (s : StatedSchema) (bytes : List ℕ) (e : Entity) : Type 0 where
   pub json : Data
   pub stands : json_of bytes ≡ Some json
-  pub states : entity_in s json ≡ Ok e
+  pub states : entity_stated_in s json ≡ Ok e
 
 -- Whatever bytes an entity was read from, its canonical text is its canonical JSON,
 abbrev pub CanonicalTextsAreJson : Type 0

@@ -1,4 +1,5 @@
 -- Readers and writers that count their failures.
+-- A rule of this product.
 use Rattle.std.specs.Prelude.{◌≡◌, ℕ, ◌+◌, ◌-◌, ◌^◌, ◌<◌, ◌⊎◌, min, Result, Ok, Err}
 
 -- a reader or writer, and how often it failed

@@ -1,4 +1,5 @@
 -- Devices over memory, and the plan that each keeps.
+-- A rule of this product.
 use Rattle.std.specs.Prelude.{◌≡◌, ◌≢◌, ℕ, ◌-◌, ◌^◌, min, max, Option, Some, List, [], ◌∷◌, ◌++◌, length, take}
 use Rattle.counted_devices.specs.Devices.{counted}
 

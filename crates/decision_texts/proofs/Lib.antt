@@ -1,6 +1,5 @@
 pub mod DecidedLemmas
 pub mod EntitiesLemmas
-pub mod LineLemmas
 pub mod NameLemmas
 pub mod OrderLemmas
 pub mod OutcomeLemmas

@@ -18,7 +18,7 @@ use Rattle.decision_texts.specs.Refusals.{bad_shape}
 use Rattle.decision_texts.specs.Bare.{is_absent_or_empty, entities_of}
 use Rattle.decision_texts.specs.Requests.{NamesAt, StatesRequest, IsRequestText, IsNoRequestText}
 use Rattle.decision_texts.specs.Lines.{answer_line}
-use Rattle.decision_texts.specs.Decisions.{ArePoliciesOf, world_in, named_policies, IsDecided, IsRefused}
+use Rattle.decision_texts.specs.Decisions.{ArePoliciesOf, world_in, named_policies, IsDecided, IsDecisionRefused}
 use Rattle.decision_texts.specs.Outcomes.{LineOrRefusal}
 use Rattle.decision_texts.proofs.NameLemmas.{some_order}
 use Rattle.decision_texts.proofs.PolicyTexts.{PoliciesOrNone, policies_or_none}
@@ -78,7 +78,7 @@ request_or_none laws request = json_or_none laws (json_of request)
 
 module _ (laws : Laws) (policies entities request : List ℕ) where
   abbrev Outcome : Type 0
-  Outcome = ((line : List ℕ) × IsDecided policies entities request line) ⊎ ((refusal : Refusal) × IsRefused policies entities request refusal)
+  Outcome = ((line : List ℕ) × IsDecided policies entities request line) ⊎ ((refusal : Refusal) × IsDecisionRefused policies entities request refusal)
 
   answered : (names : List (List ℕ)) (cores : List Policy) → ArePoliciesOf policies names cores → (stored : List BareEntity) → entities_of entities ≡ Ok stored →
       (asked : Request) → IsRequestText request asked → (line : List ℕ) × IsDecided policies entities request line

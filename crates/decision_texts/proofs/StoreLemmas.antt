@@ -13,7 +13,7 @@ use Rattle.ancestor_closure.specs.Decided.{is_same, HaveAllParents}
 use Rattle.evaluator.specs.Operators.{world_of}
 use Rattle.entity_worlds.specs.declared.entity.Entity.{Entity}
 use Rattle.entity_worlds.specs.declared.data.EntityData.{EntityData}
-use Rattle.entity_worlds.specs.Entities.{attributes_of, parents_of}
+use Rattle.entity_worlds.specs.Entities.{attributes_of, kept_parents}
 use Rattle.entity_worlds.specs.Keeping.{Entries, kept_in, Puts}
 use Rattle.entity_worlds.specs.Keeping.{data_of as data_in}
 use Rattle.decision_texts.specs.declared.bare.BareEntity.{BareEntity}
@@ -105,13 +105,13 @@ attributes_stated : (es : List BareEntity) (q : EntityUid) → attributes_of (st
 attributes_stated [] q = refl
 attributes_stated (e ∷ es) q = attributes_if (is_same e.uid q) (list_any (λ x. is_same x.uid q) es) e (stated_at es q) (attributes_stated es q)
 
-parents_if : (b : Bool) (e : BareEntity) (qs : List EntityUid) (o : Option EntityData) → parents_of o ≡ qs → parents_of (if b then Some (data_of e) else o) ≡ (if b then e.parents else qs)
+parents_if : (b : Bool) (e : BareEntity) (qs : List EntityUid) (o : Option EntityData) → kept_parents o ≡ qs → kept_parents (if b then Some (data_of e) else o) ≡ (if b then e.parents else qs)
 parents_if true e qs o h = refl
 parents_if false e qs o h = h
 
-parents_stated : (es : List BareEntity) (q : EntityUid) → parents_of (stated_at es q) ≡ parents_in es q
+parents_stated : (es : List BareEntity) (q : EntityUid) → kept_parents (stated_at es q) ≡ parents_in es q
 parents_stated [] q = refl
 parents_stated (e ∷ es) q = parents_if (is_same e.uid q) e (parents_in es q) (stated_at es q) (parents_stated es q)
 
 pub held_world : (store : Entries) (es : List BareEntity) → Holds store es → world_held store ≡ world_in es
-held_world store es held = λ i. world_of (λ q. (ap attributes_of (held q) ∙ attributes_stated es q) i) (λ q. (ap parents_of (held q) ∙ parents_stated es q) i)
+held_world store es held = λ i. world_of (λ q. (ap attributes_of (held q) ∙ attributes_stated es q) i) (λ q. (ap kept_parents (held q) ∙ parents_stated es q) i)

@@ -33,9 +33,9 @@ is_absent_or_empty (Some d) = has_only [] d
 unfoldable pub uids_of : Items → Result (List EntityUid) ShapeFault
 uids_of ds = each (λ i d. stated_uid d) 0 (list_of ds)
 
-abbrev pub parents_of : Option Data → Result (List EntityUid) ShapeFault
-parents_of None = Ok []
-parents_of (Some d) = do
+abbrev pub stated_parents : Option Data → Result (List EntityUid) ShapeFault
+stated_parents None = Ok []
+stated_parents (Some d) = do
   ds ← or_fault BadShape (as_array d)
   uids_of ds
 
@@ -49,7 +49,7 @@ entity_of d = do
   name ← or_fault BadShape (get (codes "uid") d)
   uid ← stated_uid name
   bare ← demand BadShape (is_bare d)
-  parents ← parents_of (get (codes "parents") d)
+  parents ← stated_parents (get (codes "parents") d)
   Ok (record { uid = uid; parents = parents })
 
 -- whether this states an entity of that uid

@@ -117,8 +117,8 @@ pub record IsRequestRefused (policies entities request : List ℕ) (refusal : Re
   pub none : IsNoRequestText request
   pub is : refusal ≡ bad_shape None
 
-abbrev pub IsRefused : List ℕ → List ℕ → List ℕ → Refusal → Type 0
-IsRefused policies entities request refusal =
+abbrev pub IsDecisionRefused : List ℕ → List ℕ → List ℕ → Refusal → Type 0
+IsDecisionRefused policies entities request refusal =
     ArePoliciesRefused policies refusal
     ⊎ AreEntitiesRefused policies entities refusal
     ⊎ IsRequestRefused policies entities request refusal

@@ -3,7 +3,8 @@ ghost use Rattle.std.specs.Prelude.{◌≡◌, option_map};
 ghost use Rattle.serde_json.specs.View.{view, items_view};
 ghost use Rattle.json_words.specs.ReadsAs.{ReadsAs};
 ghost use Rattle.decision_texts.specs.declared.bare.ShapeFault.TheVariants as ShapeFault;
-ghost use Rattle.decision_texts.specs.Bare.{stated_uid, is_absent_or_empty, is_bare, uids_of, parents_of, entity_of};
+ghost use Rattle.decision_texts.specs.Bare.{stated_uid, is_absent_or_empty, is_bare, uids_of, stated_parents};
+ghost use Rattle.decision_texts.specs.Bare.{entity_of};
 
 use crate::held::beside;
 use json_words::only_keys;
@@ -70,7 +71,8 @@ fn read_uids(alloc: Global, values: &[Value]) -> Result<Items<EntityUid>, ShapeF
 }
 
 fn read_parents(alloc: Global, parents: Option<&Value>) -> Result<Items<EntityUid>, ShapeFault>
-    ensures { ReadsAs ShapeFault.NoMemory (λ us. us) result (parents_of (option_map (λ v. view v.now) parents.entry)) }
+    ensures { ReadsAs ShapeFault.NoMemory (λ us. us) result
+        (stated_parents (option_map (λ v. view v.now) parents.entry)) }
 {
     match parents {
         None => Ok(Items::new(alloc)),

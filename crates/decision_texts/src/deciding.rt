@@ -3,7 +3,7 @@ ghost use Rattle.std.specs.Prelude.{◌≡◌, map, string_bytes, IfOk, IfErr};
 ghost use Rattle.authoriser.specs.Answers.{IsAnswer};
 ghost use Rattle.authoriser.specs.Views.{named};
 ghost use Rattle.decision_texts.specs.Refusals.{no_memory};
-ghost use Rattle.decision_texts.specs.Decisions.{named_policies, IsInOrder, IsDecided, IsRefused};
+ghost use Rattle.decision_texts.specs.Decisions.{named_policies, IsInOrder, IsDecided, IsDecisionRefused};
 ghost use Rattle.decision_texts.specs.inner.Stores.{world_held, IsAnswerIn, IsLineIn};
 
 use crate::entity_file::{read_entities, refusal_at};
@@ -105,7 +105,7 @@ pub fn decide_texts(
 ) -> Result<Vec<u8>, Refusal>
     ensures decided { IfOk result (λ line. IsDecided policies.now entities.now request.now line.items) }
     ensures refused { IfErr result
-        (λ refusal. (refusal ≡ no_memory → ⊥) → IsRefused policies.now entities.now request.now refusal) }
+        (λ refusal. (refusal ≡ no_memory → ⊥) → IsDecisionRefused policies.now entities.now request.now refusal) }
 {
     let policies = policies_in(alloc, policies)?;
     let (policies, store) = beside(policies, read_entities(alloc, entities))?;

@@ -1,18 +1,16 @@
-//! The line of an answer, and that of a refusal.
-ghost use Rattle.std.specs.Prelude.{◌≡◌, IfOk};
-ghost use Rattle.serde_json.specs.Data.{string, put as with_member};
-ghost use Rattle.serde_json.specs.View.{view, members_view};
+//! The line of an answer, written token by token.
+ghost use Rattle.std.specs.Prelude.{◌≡◌, IfOk, OnOk};
+ghost use Rattle.serde_json.specs.Data.{string};
+ghost use Rattle.uid_json.specs.Tokens.{Adds, tokens_of};
 ghost use Rattle.uid_json.specs.Uids.{uid_json};
-ghost use Rattle.decision_texts.specs.Lines.{decision_word, error_word, erring_json, each_json, under_keys};
+ghost use Rattle.decision_texts.specs.Lines.{decision_word, error_word, erring_json, each_json};
 ghost use Rattle.decision_texts.specs.Lines.{answer_json, answer_line};
 
-use crate::held::beside;
 use authoriser::{Answer, Decision, ErringPolicy, PolicyError};
-use json_words::write_json;
+use json::Writer;
 use plain::{NoMemory, Text};
-use serde_json::{Map, Value, put};
 use std::alloc::Global;
-use uid_json::uid_value;
+use uid_json::write_uid;
 use values::EntityUid;
 
 fn decision_word(decision: Decision) -> &'static str
@@ -36,108 +34,73 @@ fn error_word(error: PolicyError) -> &'static str
     }
 }
 
-fn erring_value(alloc: Global, erring: &ErringPolicy) -> Result<Value, NoMemory>
-    ensures { IfOk result (λ v. view v ≡ erring_json erring.now) }
+/// `{"error":"typeError","policy":"policy0"}`
+fn write_erring(out: &mut Writer, erring: &ErringPolicy) -> Result<(), NoMemory>
+    ensures { OnOk result (Adds out.old out.new (tokens_of (erring_json erring.now))) }
 {
-    let members = with_text(alloc, Map::new(alloc), "error", error_word(erring.error))?;
-    let members = with_text(alloc, members, "policy", erring.policy.as_str())?;
-    Ok(Value::Object(members))
+    out.begin_object()?;
+    out.key("error")?;
+    out.string(error_word(erring.error))?;
+    out.key("policy")?;
+    out.string(erring.policy.as_str())?;
+    out.end_object()?;
+    Ok(())
 }
 
-fn cycle_value(alloc: Global, uids: &[EntityUid]) -> Result<Value, NoMemory>
-    ensures { IfOk result (λ v. view v ≡ each_json uid_json uids.now) }
+fn write_cycle(out: &mut Writer, uids: &[EntityUid]) -> Result<(), NoMemory>
+    ensures { OnOk result (Adds out.old out.new (tokens_of (each_json uid_json uids.now))) }
 {
-    let mut items = Vec::new(alloc);
+    out.begin_array()?;
     for uid in uids {
-        items.push(uid_value(alloc, uid)?)?;
+        write_uid(out, uid)?;
     }
-    Ok(Value::Array(items))
+    out.end_array()?;
+    Ok(())
 }
 
-fn errors_value(alloc: Global, errors: &[ErringPolicy]) -> Result<Value, NoMemory>
-    ensures { IfOk result (λ v. view v ≡ each_json erring_json errors.now) }
+fn write_errors(out: &mut Writer, errors: &[ErringPolicy]) -> Result<(), NoMemory>
+    ensures { OnOk result (Adds out.old out.new (tokens_of (each_json erring_json errors.now))) }
 {
-    let mut items = Vec::new(alloc);
+    out.begin_array()?;
     for erring in errors {
-        items.push(erring_value(alloc, erring)?)?;
+        write_erring(out, erring)?;
     }
-    Ok(Value::Array(items))
+    out.end_array()?;
+    Ok(())
 }
 
-fn reason_value(alloc: Global, ids: &[Text]) -> Result<Value, NoMemory>
-    ensures { IfOk result (λ v. view v ≡ each_json (λ id. string id) ids.now) }
+fn write_reason(out: &mut Writer, ids: &[Text]) -> Result<(), NoMemory>
+    ensures { OnOk result (Adds out.old out.new (tokens_of (each_json (λ id. string id) ids.now))) }
 {
-    let mut items = Vec::new(alloc);
+    out.begin_array()?;
     for id in ids {
-        items.push(Value::try_from_str(alloc, id.as_str())?)?;
+        out.string(id.as_str())?;
     }
-    Ok(Value::Array(items))
+    out.end_array()?;
+    Ok(())
 }
 
-/// The members with one more.
-pub(crate) fn with_value(
-    alloc: Global,
-    members: Map<String, Value>,
-    key: &str,
-    value: Value,
-) -> Result<Map<String, Value>, NoMemory>
-    ensures { IfOk result
-        (λ m. members_view m.entries ≡ with_member key.now (view value) (members_view members.entries)) }
+fn write_answer(out: &mut Writer, answer: &Answer) -> Result<(), NoMemory>
+    ensures { OnOk result (Adds out.old out.new (tokens_of (answer_json answer.now))) }
 {
-    let mut members = members;
-    let done = put(&mut members, alloc, key, value);
-    let (members, _done) = beside(members, done)?;
-    Ok(members)
-}
-
-/// The members with one more, which is a text.
-fn with_text(
-    alloc: Global,
-    members: Map<String, Value>,
-    key: &str,
-    text: &str,
-) -> Result<Map<String, Value>, NoMemory>
-    ensures { IfOk result
-        (λ m. members_view m.entries ≡ with_member key.now (string text.now) (members_view members.entries)) }
-{
-    let (members, value) = beside(members, Value::try_from_str(alloc, text))?;
-    with_value(alloc, members, key, value)
-}
-
-/// The parts of an answer, each under its key. The parts that come later wait beside the members so far.
-fn under_keys(
-    alloc: Global,
-    cycle: Value,
-    decision: &str,
-    errors: Value,
-    reason: Value,
-) -> Result<Value, NoMemory>
-    ensures { IfOk result (λ v. view v ≡ under_keys (view cycle) decision.now (view errors) (view reason)) }
-{
-    let members = with_value(alloc, Map::new(alloc), "cycle", cycle);
-    let (rest, members) = beside((errors, reason), members)?;
-    let members = with_text(alloc, members, "decision", decision);
-    let ((errors, reason), members) = beside(rest, members)?;
-    let members = with_value(alloc, members, "errors", errors);
-    let (reason, members) = beside(reason, members)?;
-    let members = with_value(alloc, members, "reason", reason)?;
-    Ok(Value::Object(members))
-}
-
-fn answer_value(alloc: Global, answer: &Answer) -> Result<Value, NoMemory>
-    ensures { IfOk result (λ v. view v ≡ answer_json answer.now) }
-{
-    let cycle = cycle_value(alloc, answer.cycle.as_slice())?;
-    let (cycle, errors) = beside(cycle, errors_value(alloc, answer.errors.as_slice()))?;
-    let reason = reason_value(alloc, answer.reason.as_slice());
-    let ((cycle, errors), reason) = beside((cycle, errors), reason)?;
-    under_keys(alloc, cycle, decision_word(answer.decision), errors, reason)
+    out.begin_object()?;
+    out.key("cycle")?;
+    write_cycle(out, answer.cycle.as_slice())?;
+    out.key("decision")?;
+    out.string(decision_word(answer.decision))?;
+    out.key("errors")?;
+    write_errors(out, answer.errors.as_slice())?;
+    out.key("reason")?;
+    write_reason(out, answer.reason.as_slice())?;
+    out.end_object()?;
+    Ok(())
 }
 
 /// The line of an answer, without its line end: `{"cycle":[],"decision":"Allow","errors":[],"reason":["policy0"]}`.
 pub fn answer_line(alloc: Global, answer: &Answer) -> Result<Vec<u8>, NoMemory>
     ensures { IfOk result (λ b. b.items ≡ answer_line answer.now) }
 {
-    let value = answer_value(alloc, answer)?;
-    write_json(alloc, &value)
+    let mut out = Writer::new(Vec::new(alloc));
+    write_answer(&mut out, answer)?;
+    Ok(out.into_inner())
 }

@@ -1,12 +1,13 @@
 //! Refusals: their code, their place, and their line.
 ghost use Rattle.std.specs.Prelude.{◌≡◌, IfOk};
-ghost use Rattle.serde_json.specs.View.{view};
+ghost use Rattle.serde_json.specs.Data.{put as with_member};
+ghost use Rattle.serde_json.specs.View.{view, members_view};
 ghost use Rattle.decision_texts.specs.Refusals.{no_memory, bad_shape, number_or_null, refusal_json, error_line};
 
-use crate::lines::with_value;
+use crate::held::beside;
 use json_words::write_json;
 use plain::NoMemory;
-use serde_json::{Map, Value};
+use serde_json::{Map, Value, put};
 use std::alloc::{AllocFailed, Global};
 
 /// Why texts are not decided.
@@ -76,6 +77,22 @@ fn number_or_null(number: Option<u64>) -> Value
         Some(number) => Value::from(number),
         None => Value::Null,
     }
+}
+
+/// The members with one more.
+fn with_value(
+    alloc: Global,
+    members: Map<String, Value>,
+    key: &str,
+    value: Value,
+) -> Result<Map<String, Value>, NoMemory>
+    ensures { IfOk result
+        (λ m. members_view m.entries ≡ with_member key.now (view value) (members_view members.entries)) }
+{
+    let mut members = members;
+    let done = put(&mut members, alloc, key, value);
+    let (members, _done) = beside(members, done)?;
+    Ok(members)
 }
 
 /// The JSON of a refusal with these parts.

@@ -24,7 +24,7 @@ use expressions::{Binary, Expr, Literal, Named, Unary, UnaryCall, Variable};
 use plain::{Items, NoMemory, Text};
 use policy_tokens::{Token, spelling};
 use std::alloc::Global;
-use values::EntityUid;
+use values::{EntityUid, SharedText};
 
 /// How the operands of a chain are joined.
 #[derive(Clone, Copy)]
@@ -80,7 +80,7 @@ pub(crate) fn uid_literal(alloc: Global, text: &str, tree: &UidTree) -> Result<E
     ensures { IfOk result (λ e. e ≡ core.Literal (literal.Entity (uid_of text.now tree.now))) }
 {
     let type_name = path_type(alloc, text, &tree.path)?;
-    let id = string(alloc, text, tree.id)?;
+    let id = SharedText::from_text(alloc, string(alloc, text, tree.id)?)?;
     Ok(Expr::Literal(Literal::Entity(EntityUid { type_name, id })))
 }
 

@@ -40,6 +40,6 @@ pub record IsDrilled (n : ℕ) (schema script text : List ℕ) : Type 0 where
   pub out : IsPlayedOut stated n events text
 
 -- the schema is refused, or under it the script
-abbrev pub IsRefused : ℕ → List ℕ → List ℕ → Refusal → Type 0
-IsRefused n schema script refusal = IsSchemaRefused schema refusal
+abbrev pub IsDrillRefused : ℕ → List ℕ → List ℕ → Refusal → Type 0
+IsDrillRefused n schema script refusal = IsSchemaRefused schema refusal
     ⊎ ((stated : StatedSchema) × IsSchemaOf schema stated × IsScriptRefused n script refusal)

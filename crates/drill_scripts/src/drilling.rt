@@ -2,7 +2,7 @@
 ghost use Rattle.std.specs.Prelude.{◌≤◌, ◌≡◌, IfOk, IfErr};
 ghost use Rattle.decision_texts.specs.Refusals.{no_memory};
 ghost use Rattle.schema.specs.Views.{schema_view};
-ghost use Rattle.drill_scripts.specs.Drills.{IsDrilled, IsPlayedOut, IsRefused};
+ghost use Rattle.drill_scripts.specs.Drills.{IsDrilled, IsPlayedOut, IsDrillRefused};
 ghost use Rattle.drill_scripts.specs.Scripts.{IsScriptRefused};
 ghost use Rattle.drill_scripts.specs.inner.Under.{IsDrilledUnder};
 
@@ -64,7 +64,7 @@ pub fn drill_text(
 ) -> Result<Vec<u8>, Refusal>
     requires { (1 ≤ count) × (count ≤ 64) }
     ensures drilled { IfOk result (λ text. IsDrilled count schema.now script.now text.items) }
-    ensures refused { IfErr result (λ r. (r ≡ no_memory → ⊥) → IsRefused count schema.now script.now r) }
+    ensures refused { IfErr result (λ r. (r ≡ no_memory → ⊥) → IsDrillRefused count schema.now script.now r) }
 {
     let schema = schema_in(alloc, schema)?;
     let schema = Shared::new(alloc, schema)?;

@@ -28,8 +28,8 @@ use Rattle.entities.specs.declared.fault.EntityFault.TheVariants.{BadShape, Acti
 use Rattle.entities.specs.declared.stated.StatedEntity.{StatedEntity}
 use Rattle.entity_worlds.specs.declared.entity.Entity.{Entity}
 use Rattle.entities.specs.Faults.{told}
-use Rattle.entities.specs.Stated.{stated_uid, uids_of, parents_of, has_objects, is_absent_or_empty, or_empty, stated_in}
-use Rattle.entities.specs.Entities.{is_action_type, shape_of, attributes_in, parent_fits, parents_fit, parents_in, entity_in}
+use Rattle.entities.specs.Stated.{stated_uid, uids_of, stated_parents, has_objects, is_absent_or_empty, or_empty, stated_in}
+use Rattle.entities.specs.Entities.{is_action_type, shape_of, attributes_in, parent_fits, parents_fit, parents_in, entity_stated_in}
 use Rattle.entity_worlds.specs.UidSets.{uid_set}
 use Rattle.entities.specs.Canonical.{canonical_json}
 use Rattle.entities.specs.Laws.{CanonicalIsRead, CanonicalNests, CanonicalIsOne, ParentsAscend}
@@ -106,7 +106,7 @@ uids_back : (us : List EntityUid) → AllByRecursion NameReadsBack us → uids_o
 unfolding uids_of
 uids_back us all = ap (λ (l : List Data). each (λ i d. stated_uid d) 0 l) (list_again (map uid_json us)) ∙ each_back us 0 all
 
-parents_back : Below → (found : Option Data) (us : List EntityUid) → parents_of found ≡ Ok us → AllByRecursion NameReadsBack us
+parents_back : Below → (found : Option Data) (us : List EntityUid) → stated_parents found ≡ Ok us → AllByRecursion NameReadsBack us
 unfolding uids_of
 parents_back below None us e = subst (AllByRecursion NameReadsBack) (ok_is [] us e) tt
 parents_back below (Some d) us e =
@@ -124,10 +124,10 @@ form_of : Below → (d : Data) (stated : StatedEntity) → stated_in d ≡ Ok st
 unfolding stated_in
 form_of below d stated e =
     let a = bind_ok (or_fault BadShape (get (codes "uid") d))
-    (λ name. stated_uid name >>= λ uid. demand BadShape (has_objects d) >>= λ objects. parents_of (get (codes "parents") d) >>= λ parents. Ok (record { uid = uid; parents = parents })) stated e in
-    let b = bind_ok (stated_uid a.0) (λ uid. demand BadShape (has_objects d) >>= λ objects. parents_of (get (codes "parents") d) >>= λ parents. Ok (record { uid = uid; parents = parents })) stated a.2 in
-    let c = bind_ok (demand BadShape (has_objects d)) (λ objects. parents_of (get (codes "parents") d) >>= λ parents. Ok (record { uid = b.0; parents = parents })) stated b.2 in
-    let p = bind_ok (parents_of (get (codes "parents") d)) (λ parents. Ok (record { uid = b.0; parents = parents })) stated c.2 in
+    (λ name. stated_uid name >>= λ uid. demand BadShape (has_objects d) >>= λ objects. stated_parents (get (codes "parents") d) >>= λ parents. Ok (record { uid = uid; parents = parents })) stated e in
+    let b = bind_ok (stated_uid a.0) (λ uid. demand BadShape (has_objects d) >>= λ objects. stated_parents (get (codes "parents") d) >>= λ parents. Ok (record { uid = uid; parents = parents })) stated a.2 in
+    let c = bind_ok (demand BadShape (has_objects d)) (λ objects. stated_parents (get (codes "parents") d) >>= λ parents. Ok (record { uid = b.0; parents = parents })) stated b.2 in
+    let p = bind_ok (stated_parents (get (codes "parents") d)) (λ parents. Ok (record { uid = b.0; parents = parents })) stated c.2 in
     subst (Form d) (ok_is (record { uid = b.0; parents = p.0 }) stated p.2) (record { name = name_back below a.0 b.0 b.1; parents = parents_back below (get (codes "parents") d) p.0 p.1 })
 
 form_step : (e : Entity) → NameReadsBack e.uid → uids_of (items_of (map uid_json e.parents)) ≡ Ok e.parents
@@ -187,8 +187,8 @@ record Parts (s : StatedSchema) (d : Data) (e : Entity) : Type 0 where
   parents : parents_in s stated.uid stated.parents ≡ Ok e.parents
   uid_is : stated.uid ≡ e.uid
 
-parts_of : (s : StatedSchema) (d : Data) (e : Entity) → entity_in s d ≡ Ok e → Parts s d e
-unfolding entity_in
+parts_of : (s : StatedSchema) (d : Data) (e : Entity) → entity_stated_in s d ≡ Ok e → Parts s d e
+unfolding entity_stated_in
 parts_of s d e read =
     let a = bind_ok (stated_in d) (λ stated. attributes_in s stated.uid.type_name d >>= λ attrs. parents_in s stated.uid stated.parents >>= λ parents.
     Ok (record { uid = stated.uid; attrs = attrs; parents = parents })) e read in
@@ -205,8 +205,8 @@ parts_of s d e read =
 
 entity_step : (s : StatedSchema) (e : Entity) → stated_in (canonical_json e) ≡ Ok (record { uid = e.uid; parents = e.parents })
     → attributes_in s e.uid.type_name (canonical_json e) ≡ Ok e.attrs → parents_in s e.uid e.parents ≡ Ok e.parents
-    → entity_in s (canonical_json e) ≡ Ok e
-unfolding entity_in
+    → entity_stated_in s (canonical_json e) ≡ Ok e
+unfolding entity_stated_in
 entity_step s e form attrs parents = rw (form, attrs, parents) refl
 
 -- what checking parents consists of
@@ -255,7 +255,7 @@ canonical_is_read below s d e read =
 
 pub canonical_is_one : Below → CanonicalIsOne
 canonical_is_one below s d other e f x y same =
-    ok_is e f (sym (canonical_is_read below s d e x) ∙ ap (λ (j : Data). entity_in s j) same ∙ canonical_is_read below s other f y)
+    ok_is e f (sym (canonical_is_read below s d e x) ∙ ap (λ (j : Data). entity_stated_in s j) same ∙ canonical_is_read below s other f y)
 
 -- ---- depth
 

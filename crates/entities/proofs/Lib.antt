@@ -1,6 +1,7 @@
 mod ActionTypeLemmas
 mod CanonicalLemmas
 mod EntityLemmas
+mod HalvesLemmas
 mod ParentLemmas
 mod RequestLemmas
 mod RequestOrRefusal

@@ -12,7 +12,7 @@ use Rattle.serde_json.specs.Data.{Data}
 use Rattle.values.specs.Fields.{Field}
 use Rattle.entities.specs.declared.stated.StatedEntity.{StatedEntity}
 use Rattle.entities.specs.Stated.{stated_in}
-use Rattle.entities.specs.Entities.{parent_fits, parents_fit, parents_in, attributes_in, entity_in}
+use Rattle.entities.specs.Entities.{parent_fits, parents_fit, parents_in, attributes_in, entity_stated_in}
 
 pub fit_goes : (s : StatedSchema) (uid : EntityUid) (vs : List EntityUid) (i : ℕ) (p : EntityUid) (total : Result ⊤ EntityFault) → i < length vs → p ≡ get_or vs i p
     → parent_fits s uid p ≡ Ok tt → total ≡ parents_fit s uid (drop i vs) → total ≡ parents_fit s uid (drop (i + 1) vs)
@@ -30,6 +30,6 @@ fit_ends s uid vs n total le so_far = so_far ∙ ap (parents_fit s uid) (drop_al
 
 -- an entity whose parents are refused is refused as they are
 pub parents_stop : (s : StatedSchema) (d : Data) (stated : StatedEntity) (attrs : List Field) (f : EntityFault)
-    → stated_in d ≡ Ok stated → attributes_in s stated.uid.type_name d ≡ Ok attrs → Fails NoMemory f (parents_in s stated.uid stated.parents) → Fails NoMemory f (entity_in s d)
-unfolding entity_in
+    → stated_in d ≡ Ok stated → attributes_in s stated.uid.type_name d ≡ Ok attrs → Fails NoMemory f (parents_in s stated.uid stated.parents) → Fails NoMemory f (entity_stated_in s d)
+unfolding entity_stated_in
 parents_stop s d stated attrs f form attributed fails = λ other. rw (form, attributed, fails other) refl

@@ -60,8 +60,8 @@ parents_in s uid ps = do
 
 -- The entity that JSON states, or its first fault: first of its form, then of its type, its tags, its attributes and
 -- its parents.
-unfoldable pub entity_in : StatedSchema → Data → Result Entity EntityFault
-entity_in s d = do
+unfoldable pub entity_stated_in : StatedSchema → Data → Result Entity EntityFault
+entity_stated_in s d = do
   stated ← stated_in d
   attrs ← attributes_in s stated.uid.type_name d
   parents ← parents_in s stated.uid stated.parents

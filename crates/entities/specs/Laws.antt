@@ -9,7 +9,7 @@ use Rattle.schema.specs.Schemas.{StatedSchema}
 use Rattle.schema.specs.WellFormed.{IsActionType, IsWellFormed}
 use Rattle.entities.specs.declared.fault.EntityFault.{EntityFault}
 use Rattle.entity_worlds.specs.declared.entity.Entity.{Entity}
-use Rattle.entities.specs.Entities.{is_action_type, entity_in}
+use Rattle.entities.specs.Entities.{is_action_type, entity_stated_in}
 use Rattle.entities.specs.Requests.{StatesRequest, RequestRefused}
 use Rattle.entities.specs.Canonical.{canonical_json}
 use Rattle.entity_worlds.specs.UidSets.{uid_set}
@@ -24,22 +24,23 @@ ActionTypeTestIsExact = (name : List ℕ) → IsTrue (is_action_type name) ↔ I
 
 -- the one JSON of an entity that was read is read as that entity
 abbrev pub CanonicalIsRead : Type 0
-CanonicalIsRead = (s : StatedSchema) (d : Data) (e : Entity) → entity_in s d ≡ Ok e
-    → entity_in s (canonical_json e) ≡ Ok e
+CanonicalIsRead = (s : StatedSchema) (d : Data) (e : Entity) → entity_stated_in s d ≡ Ok e
+    → entity_stated_in s (canonical_json e) ≡ Ok e
 
 -- it nests within what is read, since no shape of a schema that bytes state is too large
 abbrev pub CanonicalNests : Type 0
-CanonicalNests = (s : StatedSchema) (d : Data) (e : Entity) → IsWellFormed s → entity_in s d ≡ Ok e
+CanonicalNests = (s : StatedSchema) (d : Data) (e : Entity) → IsWellFormed s → entity_stated_in s d ≡ Ok e
     → depth (canonical_json e) ≤ max_depth
 
 -- two entities that were read and have one JSON are one
 abbrev pub CanonicalIsOne : Type 0
-CanonicalIsOne = (s : StatedSchema) (d other : Data) (e f : Entity) → entity_in s d ≡ Ok e → entity_in s other ≡ Ok f
+CanonicalIsOne = (s : StatedSchema) (d other : Data) (e f : Entity) → entity_stated_in s d ≡ Ok e
+    → entity_stated_in s other ≡ Ok f
     → canonical_json e ≡ canonical_json f → e ≡ f
 
 -- the parents of an entity ascend, each once
 abbrev pub ParentsAscend : Type 0
-ParentsAscend = (s : StatedSchema) (d : Data) (e : Entity) → entity_in s d ≡ Ok e → IsAscending e.parents
+ParentsAscend = (s : StatedSchema) (d : Data) (e : Entity) → entity_stated_in s d ≡ Ok e → IsAscending e.parents
 
 -- uids in order are those that they were made of
 abbrev pub SetsHoldTheirMembers : Type 0

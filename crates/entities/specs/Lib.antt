@@ -5,4 +5,5 @@ pub mod Contexts
 pub mod Requests
 pub mod Canonical
 pub mod Laws
+pub mod inner
 pub mod passed_on

@@ -35,9 +35,9 @@ stated_uid d = or_fault BadShape (uid_in d)
 unfoldable pub uids_of : Items → Result (List EntityUid) EntityFault
 uids_of ds = each (λ i d. stated_uid d) 0 (list_of ds)
 
-abbrev pub parents_of : Option Data → Result (List EntityUid) EntityFault
-parents_of None = Ok []
-parents_of (Some d) = do
+abbrev pub stated_parents : Option Data → Result (List EntityUid) EntityFault
+stated_parents None = Ok []
+stated_parents (Some d) = do
   ds ← or_fault BadShape (as_array d)
   uids_of ds
 
@@ -51,5 +51,5 @@ stated_in d = do
   name ← or_fault BadShape (get (codes "uid") d)
   uid ← stated_uid name
   objects ← demand BadShape (has_objects d)
-  parents ← parents_of (get (codes "parents") d)
+  parents ← stated_parents (get (codes "parents") d)
   Ok (record { uid = uid; parents = parents })

@@ -8,7 +8,7 @@ ghost use Rattle.typed_values.specs.Typing.{record_in};
 ghost use Rattle.entities.specs.declared.fault.EntityFault.TheVariants as EntityFault;
 ghost use Rattle.entities.specs.Faults.{told};
 ghost use Rattle.entities.specs.Stated.{or_empty};
-ghost use Rattle.entities.specs.Entities.{is_action_type, shape_of, attributes_in, entity_in};
+ghost use Rattle.entities.specs.Entities.{is_action_type, shape_of, attributes_in, entity_stated_in};
 
 use crate::fault::EntityFault;
 use crate::parents::checked_parents;
@@ -84,9 +84,10 @@ fn read_attributes(
 /// The first fault is told: that the value has not this form; the entity's type is an action's, or not declared; it has
 /// tags; of the attributes, ascending by key, that one is not declared or its value of another type; that a required
 /// one is missing; of the parents, in their order, that one is the entity itself or of a type that it may not have.
-#[tactic(auto, unfolding(crate::specs::Entities::entity_in))]
+#[tactic(auto, unfolding(crate::specs::Entities::entity_stated_in))]
 pub fn read_entity(alloc: Global, schema: &Schema, value: &Value) -> Result<Entity, EntityFault>
-    ensures { ReadsAs EntityFault.NoMemory (λ e. e) result (entity_in (schema_view schema.now) (view value.now)) }
+    ensures { ReadsAs EntityFault.NoMemory (λ e. e) result
+        (entity_stated_in (schema_view schema.now) (view value.now)) }
 {
     let StatedEntity { uid, parents } = read_stated(alloc, value)?;
     let attrs = read_attributes(alloc, schema, &uid.type_name, value)?;

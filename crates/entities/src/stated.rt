@@ -3,7 +3,7 @@ ghost use Rattle.std.specs.Prelude.{◌≡◌, option_map};
 ghost use Rattle.serde_json.specs.View.{view, items_view};
 ghost use Rattle.json_words.specs.ReadsAs.{ReadsAs};
 ghost use Rattle.entities.specs.declared.fault.EntityFault.TheVariants as EntityFault;
-ghost use Rattle.entities.specs.Stated.{stated_uid, uids_of, parents_of, is_absent_or_object, is_absent_or_empty};
+ghost use Rattle.entities.specs.Stated.{stated_uid, uids_of, stated_parents, is_absent_or_object, is_absent_or_empty};
 ghost use Rattle.entities.specs.Stated.{has_objects, stated_in};
 
 use crate::fault::EntityFault;
@@ -42,7 +42,8 @@ fn read_uids(alloc: Global, values: &[Value]) -> Result<Items<EntityUid>, Entity
 }
 
 fn read_parents(alloc: Global, parents: Option<&Value>) -> Result<Items<EntityUid>, EntityFault>
-    ensures { ReadsAs EntityFault.NoMemory (λ us. us) result (parents_of (option_map (λ v. view v.now) parents.entry)) }
+    ensures { ReadsAs EntityFault.NoMemory (λ us. us) result
+        (stated_parents (option_map (λ v. view v.now) parents.entry)) }
 {
     match parents {
         None => Ok(Items::new(alloc)),

@@ -10,7 +10,7 @@ use Rattle.schema_names.specs.Qualifying.{FoundAction, FoundSchema}
 use Rattle.schema.specs.Schemas.{StatedSchema, Answers, IsAction, action_parents}
 use Rattle.schema.specs.Schemas.{with_actions as with_action_parents}
 use Rattle.schema.specs.WellFormed.{IsWellFormed}
-use Rattle.entity_worlds.specs.Entities.{EntityMap, parents_of, attributes_of, action_or}
+use Rattle.entity_worlds.specs.Entities.{EntityMap, kept_parents, attributes_of, action_or}
 use Rattle.entity_store.specs.Laws.{stated_world, closed_world}
 use Rattle.entity_store.specs.Alike.{LeadAlike, HaveSameCycles}
 use Rattle.entity_store.proofs.PutLemmas.{cycles_alike}
@@ -46,7 +46,7 @@ module _ (s : FoundSchema) (v : StatedSchema) (answers : Answers s v) (entities 
 
   -- an edge by `memberOf` is an edge to what is above
   edge_at : (b c : EntityUid) (o : Option (List EntityUid)) → v.ancestors b ≡ o
-      → Contains (parents_of (action_or (option_map (λ above. action_parents s b) o) (entities b))) c → Contains (parents_of (action_or o (entities b))) c
+      → Contains (kept_parents (action_or (option_map (λ above. action_parents s b) o) (entities b))) c → Contains (kept_parents (action_or o (entities b))) c
   edge_at b c None e h = h
   edge_at b c (Some us) e h = ((answers.ancestors b us e).2 c).1 ([], h)
 
@@ -59,7 +59,7 @@ module _ (s : FoundSchema) (v : StatedSchema) (answers : Answers s v) (entities 
 
   -- and an edge to what is above is a path by `memberOf`
   stays_at : (b c : EntityUid) (o : Option (List EntityUid)) → IsSome o → Contains (action_parents s b) c
-      → Contains (parents_of (action_or (option_map (λ above. action_parents s b) o) (entities b))) c
+      → Contains (kept_parents (action_or (option_map (λ above. action_parents s b) o) (entities b))) c
   stays_at b c None some h = cc some
   stays_at b c (Some us) some h = h
 
@@ -70,13 +70,13 @@ module _ (s : FoundSchema) (v : StatedSchema) (answers : Answers s v) (entities 
   climbs b [] a h = stays b a h
   climbs b (c ∷ cs) a h = (stays b c h.0, climbs c cs a h.1)
 
-  jump_at : (b c : EntityUid) (o : Option (List EntityUid)) → v.ancestors b ≡ o → Contains (parents_of (action_or o (entities b))) c
-      → (o ≡ None → Contains (parents_of (entities b)) c → Contains (P b) c) → Above P c b
+  jump_at : (b c : EntityUid) (o : Option (List EntityUid)) → v.ancestors b ≡ o → Contains (kept_parents (action_or o (entities b))) c
+      → (o ≡ None → Contains (kept_parents (entities b)) c → Contains (P b) c) → Above P c b
   jump_at b c None e h same = ([], same refl h)
   jump_at b c (Some us) e h same = let above = ((answers.ancestors b us e).2 c).0 h in (above.0, climbs b above.0 c above.1)
 
-  kept_at : (b c : EntityUid) (o : Option (List EntityUid)) → o ≡ None → Contains (parents_of (entities b)) c
-      → Contains (parents_of (action_or (option_map (λ above. action_parents s b) o) (entities b))) c
+  kept_at : (b c : EntityUid) (o : Option (List EntityUid)) → o ≡ None → Contains (kept_parents (entities b)) c
+      → Contains (kept_parents (action_or (option_map (λ above. action_parents s b) o) (entities b))) c
   kept_at b c None e h = h
   kept_at b c (Some us) e h = absurd (cc)
 
@@ -103,7 +103,7 @@ module _ (s : FoundSchema) (v : StatedSchema) (answers : Answers s v) (entities 
     some_of (Some us) some = (us, refl)
 
     its_own : (b c : EntityUid) (us : List EntityUid) → v.ancestors b ≡ Some us → Contains (Q b) c → Contains us c
-    its_own b c us e h = subst (λ (o : Option (List EntityUid)). Contains (parents_of (action_or o (entities b))) c) e h
+    its_own b c us e h = subst (λ (o : Option (List EntityUid)). Contains (kept_parents (action_or o (entities b))) c) e h
 
     -- what is above an action is among its ancestors
     within : (b : EntityUid) (us : List EntityUid) → v.ancestors b ≡ Some us → (cs : List EntityUid) (a : EntityUid) → Path Q b cs a → Contains us a
@@ -123,7 +123,7 @@ module _ (s : FoundSchema) (v : StatedSchema) (answers : Answers s v) (entities 
     -- the edges of a cycle are those of entities that are kept
     kept_edge : (b c : EntityUid) → IsOnCycle Q b → Contains (Q b) c → Contains (P b) c
     kept_edge b c on h =
-        kept_at b c (v.ancestors b) (no_action b on) (subst (λ (o : Option (List EntityUid)). Contains (parents_of (action_or o (entities b))) c) (no_action b on) h)
+        kept_at b c (v.ancestors b) (no_action b on) (subst (λ (o : Option (List EntityUid)). Contains (kept_parents (action_or o (entities b))) c) (no_action b on) h)
 
     on_walk : (b : EntityUid) (cs : List EntityUid) (a : EntityUid) → Above Q b a → Path Q b cs a → Path P b cs a
     on_walk b [] a round h = kept_edge b a (Above-joined Q b a b ([], h) round) h

@@ -16,7 +16,7 @@ use Rattle.entity_worlds.specs.declared.entity.Entity.{Entity}
 use Rattle.entities.specs.declared.stated.StatedEntity.{StatedEntity}
 use Rattle.entities.specs.Faults.{told}
 use Rattle.entities.specs.Stated.{stated_in, is_absent_or_empty, or_empty}
-use Rattle.entities.specs.Entities.{is_action_type, shape_of, attributes_in, parents_in, entity_in}
+use Rattle.entities.specs.Entities.{is_action_type, shape_of, attributes_in, parents_in, entity_stated_in}
 use Rattle.entities.specs.Laws.{ActionTypeTestIsExact}
 use Rattle.entity_store.specs.Laws.{NoEntityIsAnAction}
 
@@ -43,8 +43,8 @@ attributes_typed s name d fs h =
     let a = bound (shape_of s name) (λ (t : Cedar). demand TagsLeftOut (is_absent_or_empty (get (codes "tags") d)) >>= λ (x : ⊤). told (record_in t (or_empty (get (codes "attrs") d)))) fs h in
     shape_typed s name a.0 a.1
 
-entity_typed : (s : StatedSchema) (d : Data) (e : Entity) → entity_in s d ≡ Ok e → is_action_type e.uid.type_name ≡ false
-unfolding entity_in
+entity_typed : (s : StatedSchema) (d : Data) (e : Entity) → entity_stated_in s d ≡ Ok e → is_action_type e.uid.type_name ≡ false
+unfolding entity_stated_in
 entity_typed s d e h =
     let one = bound (stated_in d) (λ (stated : StatedEntity). attributes_in s stated.uid.type_name d >>= λ (attrs : List Field). parents_in s stated.uid stated.parents >>= λ (parents : List EntityUid). Ok (record { uid = stated.uid; attrs = attrs; parents = parents })) e h in
     let two = bound (attributes_in s one.0.uid.type_name d) (λ (attrs : List Field). parents_in s one.0.uid one.0.parents >>= λ (parents : List EntityUid). Ok (record { uid = one.0.uid; attrs = attrs; parents = parents })) e one.2 in

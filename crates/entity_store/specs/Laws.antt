@@ -11,7 +11,7 @@ use Rattle.evaluator.specs.Operators.{World, world_of}
 use Rattle.schema_names.specs.Qualifying.{FoundSchema}
 use Rattle.schema.specs.Schemas.{StatedSchema, IsSchemaOf, action_parents}
 use Rattle.entity_worlds.specs.declared.entity.Entity.{Entity}
-use Rattle.entities.specs.Entities.{entity_in}
+use Rattle.entities.specs.Entities.{entity_stated_in}
 use Rattle.entity_worlds.specs.Entities.{EntityMap, Actions, with_actions, world_in}
 use Rattle.entity_store.specs.Alike.{LeadAlike, HaveSameCycles, GiveAlike, AnswerAlike}
 
@@ -58,4 +58,4 @@ MemberOfPutsAlike = (bytes : List ℕ) (v : StatedSchema) (stated : IsSchemaOf b
 -- no entity that is read under a schema is an action of it, so that what is kept and the actions are apart
 abbrev pub NoEntityIsAnAction : Type 0
 NoEntityIsAnAction = (bytes : List ℕ) (v : StatedSchema) → IsSchemaOf bytes v → (d : Data) (e : Entity)
-    → entity_in v d ≡ Ok e → v.ancestors e.uid ≡ None
+    → entity_stated_in v d ≡ Ok e → v.ancestors e.uid ≡ None

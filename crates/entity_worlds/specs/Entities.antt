@@ -20,13 +20,13 @@ attributes_of None = None
 attributes_of (Some e) = Some e.attrs
 
 -- its parents; what is no entity has none
-abbrev pub parents_of : Option EntityData → List EntityUid
-parents_of None = []
-parents_of (Some e) = e.parents
+abbrev pub kept_parents : Option EntityData → List EntityUid
+kept_parents None = []
+kept_parents (Some e) = e.parents
 
 -- the attributes of each entity and the parents of each, as evaluation asks for them
 abbrev pub world_in : EntityMap → World
-world_in entities = world_of (λ u. attributes_of (entities u)) (λ u. parents_of (entities u))
+world_in entities = world_of (λ u. attributes_of (entities u)) (λ u. kept_parents (entities u))
 
 -- these are the uids under which something is kept
 abbrev pub AreListed : EntityMap → List EntityUid → Type 0

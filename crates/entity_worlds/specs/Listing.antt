@@ -12,7 +12,7 @@ use Rattle.ancestor_closure.specs.Deciding.{Contains-here, Contains-there, Conta
 use Rattle.ancestor_closure.specs.Deciding.{same_self, decided}
 use Rattle.entity_worlds.specs.UidSets.{put_uid, uid_set}
 use Rattle.entity_worlds.specs.declared.data.EntityData.{EntityData}
-use Rattle.entity_worlds.specs.Entities.{EntityMap, AreListed, parents_of, Actions, AreActions, action_or}
+use Rattle.entity_worlds.specs.Entities.{EntityMap, AreListed, kept_parents, Actions, AreActions, action_or}
 use Rattle.entity_worlds.specs.Entities.{with_actions, no_actions, uids_with}
 
 -- ---- the keys of entries are what something is found under
@@ -105,12 +105,12 @@ module _ {X : Type 0} where
 
 -- ---- each entity with parents is listed
 
-kept_with_parents : (o : Option EntityData) (a : EntityUid) → Contains (parents_of o) a → IsSome o
+kept_with_parents : (o : Option EntityData) (a : EntityUid) → Contains (kept_parents o) a → IsSome o
 kept_with_parents None a h = Contains-none a h
 kept_with_parents (Some e) a h = refl
 
 action_or_kept : (actions : Option (List EntityUid)) (o : Option EntityData) (a : EntityUid)
-    → Contains (parents_of (action_or actions o)) a → IsSome actions ⊎ IsSome o
+    → Contains (kept_parents (action_or actions o)) a → IsSome actions ⊎ IsSome o
 action_or_kept None o a h = inr (kept_with_parents o a h)
 action_or_kept (Some ps) o a h = inl refl
 
@@ -120,12 +120,12 @@ module _ (actions : Actions) (declared : List EntityUid) (are : AreActions actio
   listed_with u (inl h) = set_has (declared ++ us) u (in_first declared us u ((are u).1 h))
   listed_with u (inr h) = set_has (declared ++ us) u (in_second declared us u ((listed u).1 h))
 
-  pub all_listed : HaveAllParents (λ u. parents_of (with_actions actions entities u)) (uids_with declared us)
+  pub all_listed : HaveAllParents (λ u. kept_parents (with_actions actions entities u)) (uids_with declared us)
   all_listed b a h = listed_with b (action_or_kept (actions b) (entities b) a h)
 
-  pub all_decided : Decides (λ u. parents_of (with_actions actions entities u))
-      (reaches (λ u. parents_of (with_actions actions entities u)) (uids_with declared us))
-  all_decided = decided (λ u. parents_of (with_actions actions entities u)) (uids_with declared us) all_listed
+  pub all_decided : Decides (λ u. kept_parents (with_actions actions entities u))
+      (reaches (λ u. kept_parents (with_actions actions entities u)) (uids_with declared us))
+  all_decided = decided (λ u. kept_parents (with_actions actions entities u)) (uids_with declared us) all_listed
 
 -- ---- none is an action where nothing is declared
 

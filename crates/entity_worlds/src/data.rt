@@ -1,4 +1,4 @@
-//! What is kept of an entity.
+//! What is kept of an entity (cedar-spec, cedar-lean/Cedar/Spec/Entities.lean, `EntityData`).
 
 use plain::Items;
 use values::{EntityUid, Record};

@@ -1,4 +1,4 @@
-//! An entity.
+//! An entity (Cedar reference guide 4.0, "Entities and context").
 
 use plain::Items;
 use values::{EntityUid, Record};

@@ -2,7 +2,7 @@
 ghost use Rattle.std.specs.Prelude.{◌≡◌, List, IfOk, option_map};
 ghost use Rattle.values.specs.declared.entity_uid.EntityUid.{EntityUid};
 ghost use Rattle.ancestor_closure.specs.Hierarchy.{IsAscending, names};
-ghost use Rattle.entity_worlds.specs.Entities.{EntityMap, AreListed, attributes_of, parents_of};
+ghost use Rattle.entity_worlds.specs.Entities.{EntityMap, AreListed, attributes_of, kept_parents};
 
 use plain::NoMemory;
 use std::alloc::Global;
@@ -22,7 +22,7 @@ pub trait EntitySource {
 
     /// Lends the parents of an entity; an empty slice where it is not kept. Takes no memory.
     fn parents_at(&self, uid: &EntityUid) -> &[EntityUid]
-        ensures { result.now ≡ parents_of (kept self.now uid.now) };
+        ensures { result.now ≡ kept_parents (kept self.now uid.now) };
 
     /// Lists the uids of the entities that are kept, ascending.
     fn kept_uids(&self, alloc: Global) -> Result<Vec<&EntityUid>, NoMemory>

@@ -1,7 +1,7 @@
 //! The entities that requests are decided over.
 ghost use Rattle.std.specs.Prelude.{◌≡◌, Option, Some, None, option_map};
 ghost use Rattle.ancestor_closure.specs.Decided.{reaches};
-ghost use Rattle.entity_worlds.specs.Entities.{with_actions, uids_with, attributes_of, parents_of};
+ghost use Rattle.entity_worlds.specs.Entities.{with_actions, uids_with, attributes_of, kept_parents};
 ghost use Rattle.entity_worlds.specs.Listing.{all_listed, all_decided};
 
 use crate::actions::ActionSource;
@@ -60,7 +60,7 @@ impl<'a, S: EntitySource, A: ActionSource + Drop> World<'a, S, A> {
 }
 
 impl<S: EntitySource, A: ActionSource + Drop> ParentsOf for World<'_, S, A> {
-    ghost parents = { λ w u. parents_of (with_actions (A.declared w.1) (S.kept w.0) u) };
+    ghost parents = { λ w u. kept_parents (with_actions (A.declared w.1) (S.kept w.0) u) };
 
     fn parents_of(&self, uid: &EntityUid) -> &[EntityUid] {
         match self.action(uid) {
@@ -82,9 +82,9 @@ impl<S: EntitySource, A: ActionSource + Drop> Graph for World<'_, S, A> {
 }
 
 impl<S: EntitySource, A: ActionSource + Drop> Ancestry for World<'_, S, A> {
-    ghost parents = { λ w u. parents_of (with_actions (A.declared w.1) (S.kept w.0) u) };
+    ghost parents = { λ w u. kept_parents (with_actions (A.declared w.1) (S.kept w.0) u) };
 
-    ghost above = { λ w. reaches (λ u. parents_of (with_actions (A.declared w.1) (S.kept w.0) u))
+    ghost above = { λ w. reaches (λ u. kept_parents (with_actions (A.declared w.1) (S.kept w.0) u))
         (uids_with (A.uids w.1) (S.uids w.0)) };
 
     ghost above_is = { λ w.

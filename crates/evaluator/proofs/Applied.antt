@@ -28,7 +28,7 @@ use Rattle.expressions.specs.declared.operator.BinaryCall.TheVariants as two
 use Rattle.evaluator.specs.declared.fault.EvalFault.TheVariants.{AttrDoesNotExist, TypeError, ExtensionError}
 use Rattle.extensions.specs.Decided.{Decided, told}
 use Rattle.extensions.specs.TextsDecided.{decimal_text_decided, network_text_decided, in_either_decided, within_decided}
-use Rattle.evaluator.specs.Outcomes.{EvaluationResult, IsTruthOf, boolean_in, long_in, text_in, entity_in, members_in, fields_in, decimal_in, network_in}
+use Rattle.evaluator.specs.Outcomes.{EvaluationResult, IsTruthOf, boolean_in, long_in, text_in, entity_uid_in, members_in, record_fields_in, decimal_in, network_in}
 use Rattle.ancestor_closure.specs.Hierarchy.{IsIn}
 use Rattle.evaluator.specs.Operators as rule
 use Rattle.evaluator.specs.Operators.{World, UnaryGives, BinaryGives, FieldGives, HasGives, UnaryCallGives, BinaryCallGives, NumbersGive, TakesNumbers, TakesSets, IsTested, TakesAddress, AreCompared, TakesDecimals}
@@ -86,7 +86,7 @@ unary_exists (Like pattern) v = text_cases (λ v. UnaryGives (Like pattern) v (a
     (λ v e. other (λ t. truth (is_match pattern t)) (UnaryGives (Like pattern) v) (text_in v) e (rule.like_of_other e)) v
 unary_exists (Is name) v = entity_cases (λ v. UnaryGives (Is name) v (apply_unary (Is name) v))
     (λ u. rule.is_entity (tells_test (bytes_eq u.type_name name) (bytes_eq-Decides u.type_name name)))
-    (λ v e. other (λ u. truth (bytes_eq u.type_name name)) (UnaryGives (Is name) v) (entity_in v) e (rule.is_of_other e)) v
+    (λ v e. other (λ u. truth (bytes_eq u.type_name name)) (UnaryGives (Is name) v) (entity_uid_in v) e (rule.is_of_other e)) v
 
 pub unary_is : (op : Unary) (v : PlainValue) (r : EvaluationResult) → UnaryGives op v r → apply_unary op v ≡ r
 unary_is _ _ _ rule.negation = refl
@@ -96,7 +96,7 @@ unary_is _ _ _ (rule.opposite_of_other {v} e) = other_is (λ z. bounded (neg_ℤ
 unary_is _ _ _ (rule.like_text {pattern} {t} {r} h) = test_is (is_match pattern t) (is_match-Decides pattern t) r h
 unary_is _ _ _ (rule.like_of_other {pattern} {v} e) = other_is (λ t. truth (is_match pattern t)) (text_in v) e
 unary_is _ _ _ (rule.is_entity {name} {u} {r} h) = test_is (bytes_eq u.type_name name) (bytes_eq-Decides u.type_name name) r h
-unary_is _ _ _ (rule.is_of_other {name} {v} e) = other_is (λ u. truth (bytes_eq u.type_name name)) (entity_in v) e
+unary_is _ _ _ (rule.is_of_other {name} {v} e) = other_is (λ u. truth (bytes_eq u.type_name name)) (entity_uid_in v) e
 
 -- ---- calls with one operand
 
@@ -213,9 +213,9 @@ binary_call_is _ _ _ _ (rule.no_addresses {v} {w} h) = others_are (λ x y. truth
 
 -- ---- lists of entities
 
-pub all_entities : (vs : List PlainValue) → ((us : List EntityUid) × (vs ≡ map entity us)) ⊎ ((v : PlainValue) × Contains vs v × (entity_in v ≡ None))
+pub all_entities : (vs : List PlainValue) → ((us : List EntityUid) × (vs ≡ map entity us)) ⊎ ((v : PlainValue) × Contains vs v × (entity_uid_in v ≡ None))
 all_entities [] = inl ([], refl)
-all_entities (v ∷ vs) = entity_cases (λ v. ((us : List EntityUid) × (v ∷ vs ≡ map entity us)) ⊎ ((w : PlainValue) × Contains (v ∷ vs) w × (entity_in w ≡ None)))
+all_entities (v ∷ vs) = entity_cases (λ v. ((us : List EntityUid) × (v ∷ vs ≡ map entity us)) ⊎ ((w : PlainValue) × Contains (v ∷ vs) w × (entity_uid_in w ≡ None)))
     (λ u. elim (all_entities vs) [
       | inl h ↦ inl (u ∷ h.0, ap (λ ws. entity u ∷ ws) h.1)
       | inr h ↦ inr (h.0, Contains-there (entity u) vs h.0 h.1, h.2)
@@ -234,11 +234,11 @@ module _ (W : World) (above : EntityUid → EntityUid → Bool) (D : Decides W.p
   members_are a [] = refl
   members_are a (u ∷ us) = ap (λ r. and_then r (λ rest. Ok (is_in E a u || rest))) (members_are a us)
 
-  mixed_are : (a : EntityUid) (vs : List PlainValue) (v : PlainValue) → Contains vs v → entity_in v ≡ None → in_members E a vs ≡ Err TypeError
+  mixed_are : (a : EntityUid) (vs : List PlainValue) (v : PlainValue) → Contains vs v → entity_uid_in v ≡ None → in_members E a vs ≡ Err TypeError
   mixed_are a [] v c e = absurd (Contains-none v c)
   mixed_are a (w ∷ vs) v c e = elim (Contains-cases w vs v c) [
-    | inl same ↦ ap (λ o. and_then (demanded o) (λ b. and_then (in_members E a vs) (λ rest. Ok (is_in E a b || rest)))) (ap entity_in same ∙ e)
-    | inr m ↦ ap (λ r. and_then (demanded (entity_in w)) (λ b. and_then r (λ rest. Ok (is_in E a b || rest)))) (mixed_are a vs v m e) ∙ fault_anyway (entity_in w)
+    | inl same ↦ ap (λ o. and_then (demanded o) (λ b. and_then (in_members E a vs) (λ rest. Ok (is_in E a b || rest)))) (ap entity_uid_in same ∙ e)
+    | inr m ↦ ap (λ r. and_then (demanded (entity_uid_in w)) (λ b. and_then r (λ rest. Ok (is_in E a b || rest)))) (mixed_are a vs v m e) ∙ fault_anyway (entity_uid_in w)
   ]
 
   some_iff : (a : EntityUid) (us : List EntityUid) → IsTrue (list_any (is_in E a) us) ↔ ((u : EntityUid) × Contains us u × IsIn W.parents a u)
@@ -265,7 +265,7 @@ module _ (W : World) (above : EntityUid → EntityUid → Bool) (D : Decides W.p
   in_exists a (decimal z) = rule.in_other refl refl
   in_exists a (ipaddr n) = rule.in_other refl refl
 
-  in_other_is : (a : EntityUid) (w : PlainValue) → entity_in w ≡ None → members_in w ≡ None → in_value E a w ≡ Err TypeError
+  in_other_is : (a : EntityUid) (w : PlainValue) → entity_uid_in w ≡ None → members_in w ≡ None → in_value E a w ≡ Err TypeError
   in_other_is a (entity b) e f = absurd (cc)
   in_other_is a (set vs) e f = absurd (cc)
   in_other_is a (boolean b) e f = refl
@@ -292,7 +292,7 @@ module _ (W : World) (above : EntityUid → EntityUid → Bool) (D : Decides W.p
   pub binary_exists : LawsBelow → (op : Binary) (v w : PlainValue) → BinaryGives W op v w (apply_binary E op v w)
   binary_exists L ops.Equal v w = rule.equal (tells_test (is_eq (value_cmp v w)) (value_eq_iff v w))
   binary_exists L ops.In v w = entity_cases (λ v. BinaryGives W ops.In v w (apply_binary E ops.In v w)) (λ a. in_exists a w)
-      (λ v e. other (λ a. in_value E a w) (BinaryGives W ops.In v w) (entity_in v) e (rule.other_in e)) v
+      (λ v e. other (λ a. in_value E a w) (BinaryGives W ops.In v w) (entity_uid_in v) e (rule.other_in e)) v
   binary_exists L ops.Less v w = numbers_exist ops.Less (λ x y. truth (int_lt x y)) tt (λ x y. rule.of_numbers (tells_test (int_lt x y) (int_lt_iff x y))) v w
   binary_exists L ops.LessOrEqual v w = numbers_exist ops.LessOrEqual (λ x y. truth (int_le x y)) tt (λ x y. rule.of_numbers (tells_test (int_le x y) (int_le_iff x y))) v w
   binary_exists L ops.Add v w = numbers_exist ops.Add (λ x y. bounded (x +ℤ y)) tt (λ x y. rule.of_numbers (comes_bounded (x +ℤ y))) v w
@@ -335,7 +335,7 @@ module _ (W : World) (above : EntityUid → EntityUid → Bool) (D : Decides W.p
   binary_is L _ _ _ _ (rule.in_set {a} {vs} {r} us e h) = in_set_is a (list_of vs) us e ∙ test_is (list_any (is_in E a) us) (some_iff a us) r h
   binary_is L _ _ _ _ (rule.in_mixed_set {a} {vs} v c e) = ap (λ r. and_then r truth) (mixed_are a (list_of vs) v c e)
   binary_is L _ _ _ _ (rule.in_other {a} {w} e f) = in_other_is a w e f
-  binary_is L _ _ _ _ (rule.other_in {v} {w} e) = other_is (λ a. in_value E a w) (entity_in v) e
+  binary_is L _ _ _ _ (rule.other_in {v} {w} e) = other_is (λ a. in_value E a w) (entity_uid_in v) e
   binary_is L _ _ _ _ (rule.contains {vs} {w} {r} h) = test_is (has_member (list_of vs) w) (L.told (list_of vs) w) r h
   binary_is L _ _ _ _ (rule.other_contains {v} {w} e) = other_is (λ x. truth (has_member x w)) (members_in v) e
   binary_is L _ _ _ _ (rule.contains_all {vs} {ws} {r} h) = test_is (list_all (has_member (list_of vs)) (list_of ws)) (all_iff (has_member (list_of vs)) (λ u. Contains (list_of vs) u) (L.told (list_of vs)) (list_of ws)) r h
@@ -366,7 +366,7 @@ module _ (W : World) (above : EntityUid → EntityUid → Bool) (D : Decides W.p
   field_exists name (decimal z) = rule.field_of_other refl refl
   field_exists name (ipaddr n) = rule.field_of_other refl refl
 
-  field_other_is : (name : List ℕ) (v : PlainValue) → fields_in v ≡ None → entity_in v ≡ None → field_of E name v ≡ Err TypeError
+  field_other_is : (name : List ℕ) (v : PlainValue) → record_fields_in v ≡ None → entity_uid_in v ≡ None → field_of E name v ≡ Err TypeError
   field_other_is name (record_of fs) e f = absurd (cc)
   field_other_is name (entity u) e f = absurd (cc)
   field_other_is name (boolean b) e f = refl
@@ -398,7 +398,7 @@ module _ (W : World) (above : EntityUid → EntityUid → Bool) (D : Decides W.p
   has_exists name (decimal z) = rule.has_of_other refl refl
   has_exists name (ipaddr n) = rule.has_of_other refl refl
 
-  has_other_is : (name : List ℕ) (v : PlainValue) → fields_in v ≡ None → entity_in v ≡ None → has_field E name v ≡ Err TypeError
+  has_other_is : (name : List ℕ) (v : PlainValue) → record_fields_in v ≡ None → entity_uid_in v ≡ None → has_field E name v ≡ Err TypeError
   has_other_is name (record_of fs) e f = absurd (cc)
   has_other_is name (entity u) e f = absurd (cc)
   has_other_is name (boolean b) e f = refl

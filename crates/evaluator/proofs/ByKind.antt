@@ -3,7 +3,7 @@ use Rattle.std.specs.Prelude.{◌≡◌, ℕ, ℤ, List, Bool, None, refl}
 use Rattle.extensions.specs.Network.{Network}
 use Rattle.values.specs.declared.entity_uid.EntityUid.{EntityUid}
 use Rattle.values.specs.Values.{PlainValue, PlainValues, boolean, long, text, entity, set, record_of, decimal, ipaddr}
-use Rattle.evaluator.specs.Outcomes.{boolean_in, long_in, text_in, entity_in, members_in, decimal_in, network_in}
+use Rattle.evaluator.specs.Outcomes.{boolean_in, long_in, text_in, entity_uid_in, members_in, decimal_in, network_in}
 
 module _ (P : PlainValue → Type 0) where
   pub boolean_cases : ((b : Bool) → P (boolean b)) → ((v : PlainValue) → boolean_in v ≡ None → P v) → (v : PlainValue) → P v
@@ -36,7 +36,7 @@ module _ (P : PlainValue → Type 0) where
   text_cases its other (decimal z) = other (decimal z) refl
   text_cases its other (ipaddr n) = other (ipaddr n) refl
 
-  pub entity_cases : ((u : EntityUid) → P (entity u)) → ((v : PlainValue) → entity_in v ≡ None → P v) → (v : PlainValue) → P v
+  pub entity_cases : ((u : EntityUid) → P (entity u)) → ((v : PlainValue) → entity_uid_in v ≡ None → P v) → (v : PlainValue) → P v
   entity_cases its other (boolean b) = other (boolean b) refl
   entity_cases its other (long z) = other (long z) refl
   entity_cases its other (text t) = other (text t) refl

@@ -8,7 +8,7 @@ use Rattle.std.proofs.lemmas.Bool.Decides.{same_from_decides}
 use Rattle.ancestor_closure.specs.Hierarchy.{IsAllAbove, IsIn}
 use Rattle.ancestor_closure.specs.Decided.{Decides}
 use Rattle.evaluator.specs.declared.fault.EvalFault.{EvalFault}
-use Rattle.evaluator.specs.Outcomes.{entity_in}
+use Rattle.evaluator.specs.Outcomes.{entity_uid_in}
 use Rattle.evaluator.specs.Operators.{World}
 use Rattle.evaluator.specs.inner.Computing.{DecidedWorld, decided_world, demanded, and_then, is_in, in_members}
 use Rattle.evaluator.proofs.Telling.{is_in_iff}
@@ -41,7 +41,7 @@ rest_judged before after here (Err e) is = refl
 
 -- one member more is judged
 pub member_judged : (E : DecidedWorld) (a : EntityUid) (vs : List PlainValue) (i : ℕ) (v : PlainValue) (b : EntityUid) (before after : Bool) →
-    i < length vs → v ≡ get_or vs i v → demanded (entity_in v) ≡ Ok b → after ≡ (before || is_in E a b) →
+    i < length vs → v ≡ get_or vs i v → demanded (entity_uid_in v) ≡ Ok b → after ≡ (before || is_in E a b) →
     in_members E a vs ≡ and_then (in_members E a (drop i vs)) (λ r. Ok (before || r)) →
     in_members E a vs ≡ and_then (in_members E a (drop (i + 1) vs)) (λ r. Ok (after || r))
 member_judged E a vs i v b before after lt is entity same so_far =

@@ -1,4 +1,4 @@
--- What is true of the definitions.
+-- That each expression gives exactly one outcome, and none gives want of memory.
 use Rattle.std.specs.Prelude.{◌≡◌, List, Bool, Err}
 use Rattle.values.specs.declared.entity_uid.EntityUid.{EntityUid}
 use Rattle.values.specs.declared.request.Request.{Request}

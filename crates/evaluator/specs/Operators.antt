@@ -27,9 +27,8 @@ use Rattle.expressions.specs.declared.operator.BinaryCall.TheVariants.{LessThan,
 use Rattle.expressions.specs.declared.operator.BinaryCall.TheVariants.{GreaterThanOrEqual, IsInRange}
 use Rattle.evaluator.specs.declared.fault.EvalFault.TheVariants.{EntityDoesNotExist, AttrDoesNotExist, TypeError}
 use Rattle.evaluator.specs.declared.fault.EvalFault.TheVariants.{ExtensionError}
-use Rattle.evaluator.specs.Outcomes.{EvaluationResult, IsTruthOf, IsChecked, boolean_in, long_in, text_in, entity_in}
-use Rattle.evaluator.specs.Outcomes.{members_in}
-use Rattle.evaluator.specs.Outcomes.{fields_in, decimal_in, network_in}
+use Rattle.evaluator.specs.Outcomes.{EvaluationResult, IsTruthOf, IsChecked, boolean_in, long_in, text_in}
+use Rattle.evaluator.specs.Outcomes.{entity_uid_in, members_in, record_fields_in, decimal_in, network_in}
 
 -- the attributes of each stored entity, and the parents of each entity
 pub record World : Type 0 where
@@ -51,7 +50,7 @@ pub data UnaryGives : Unary → PlainValue → EvaluationResult → Type 0 where
       → UnaryGives (Like pattern) v (Err TypeError)
   is_entity : {name : List ℕ} {u : EntityUid} {r : EvaluationResult} → IsTruthOf (u.type_name ≡ name) r
       → UnaryGives (Is name) (entity u) r
-  is_of_other : {name : List ℕ} {v : PlainValue} → entity_in v ≡ None → UnaryGives (Is name) v (Err TypeError)
+  is_of_other : {name : List ℕ} {v : PlainValue} → entity_uid_in v ≡ None → UnaryGives (Is name) v (Err TypeError)
 
 -- what two numbers give under an operator that takes numbers
 abbrev pub NumbersGive : Binary → ℤ → ℤ → EvaluationResult → Type 0
@@ -89,11 +88,11 @@ pub data BinaryGives (W : World) : Binary → PlainValue → PlainValue → Eval
   in_set : {a : EntityUid} {vs : PlainValues} {r : EvaluationResult} (us : List EntityUid)
       → list_of vs ≡ map entity us →
       IsTruthOf ((u : EntityUid) × Contains us u × IsIn W.parents a u) r → BinaryGives W In (entity a) (set vs) r
-  in_mixed_set : {a : EntityUid} {vs : PlainValues} (v : PlainValue) → Contains (list_of vs) v → entity_in v ≡ None
+  in_mixed_set : {a : EntityUid} {vs : PlainValues} (v : PlainValue) → Contains (list_of vs) v → entity_uid_in v ≡ None
       → BinaryGives W In (entity a) (set vs) (Err TypeError)
-  in_other : {a : EntityUid} {w : PlainValue} → entity_in w ≡ None → members_in w ≡ None
+  in_other : {a : EntityUid} {w : PlainValue} → entity_uid_in w ≡ None → members_in w ≡ None
       → BinaryGives W In (entity a) w (Err TypeError)
-  other_in : {v w : PlainValue} → entity_in v ≡ None → BinaryGives W In v w (Err TypeError)
+  other_in : {v w : PlainValue} → entity_uid_in v ≡ None → BinaryGives W In v w (Err TypeError)
   contains : {vs : PlainValues} {w : PlainValue} {r : EvaluationResult} → IsTruthOf (Contains (list_of vs) w) r
       → BinaryGives W ContainsOne (set vs) w r
   other_contains : {v w : PlainValue} → members_in v ≡ None → BinaryGives W ContainsOne v w (Err TypeError)
@@ -117,7 +116,8 @@ pub data FieldGives (W : World) (name : List ℕ) : PlainValue → EvaluationRes
   no_attribute : {u : EntityUid} (fs : List Field) → W.stored u ≡ Some fs → find_field name fs ≡ None
       → FieldGives W name (entity u) (Err AttrDoesNotExist)
   not_stored : {u : EntityUid} → W.stored u ≡ None → FieldGives W name (entity u) (Err EntityDoesNotExist)
-  field_of_other : {v : PlainValue} → fields_in v ≡ None → entity_in v ≡ None → FieldGives W name v (Err TypeError)
+  field_of_other : {v : PlainValue} → record_fields_in v ≡ None → entity_uid_in v ≡ None
+      → FieldGives W name v (Err TypeError)
 
 -- `v has name`
 pub data HasGives (W : World) (name : List ℕ) : PlainValue → EvaluationResult → Type 0 where
@@ -126,7 +126,8 @@ pub data HasGives (W : World) (name : List ℕ) : PlainValue → EvaluationResul
   has_attribute : {u : EntityUid} {r : EvaluationResult} (fs : List Field) → W.stored u ≡ Some fs
       → IsTruthOf (IsSome (find_field name fs)) r → HasGives W name (entity u) r
   none_stored : {u : EntityUid} → W.stored u ≡ None → HasGives W name (entity u) (Ok (boolean false))
-  has_of_other : {v : PlainValue} → fields_in v ≡ None → entity_in v ≡ None → HasGives W name v (Err TypeError)
+  has_of_other : {v : PlainValue} → record_fields_in v ≡ None → entity_uid_in v ≡ None
+      → HasGives W name v (Err TypeError)
 
 -- what is tested of an address
 abbrev pub IsTested : UnaryCall → Network → Type 0

@@ -1,4 +1,5 @@
 -- What evaluating comes to, and what of values it speaks of.
+-- Source: Cedar reference guide 4.0, "Operators and functions".
 use Rattle.std.specs.Prelude.{ℕ, ℤ, List, Bool, true, false, Option, Some, None, Result, Ok, Err, FitsSigned}
 use Rattle.std.specs.Int.{w64}
 use Rattle.extensions.specs.Network.{Network}
@@ -28,17 +29,17 @@ abbrev pub text_in : PlainValue → Option (List ℕ)
 text_in (text t) = Some t
 text_in v = None
 
-abbrev pub entity_in : PlainValue → Option EntityUid
-entity_in (entity u) = Some u
-entity_in v = None
+abbrev pub entity_uid_in : PlainValue → Option EntityUid
+entity_uid_in (entity u) = Some u
+entity_uid_in v = None
 
 abbrev pub members_in : PlainValue → Option (List PlainValue)
 members_in (set vs) = Some (list_of vs)
 members_in v = None
 
-abbrev pub fields_in : PlainValue → Option (List Field)
-fields_in (record_of fs) = Some (pairs_of fs)
-fields_in v = None
+abbrev pub record_fields_in : PlainValue → Option (List Field)
+record_fields_in (record_of fs) = Some (pairs_of fs)
+record_fields_in v = None
 
 abbrev pub decimal_in : PlainValue → Option ℤ
 decimal_in (decimal z) = Some z

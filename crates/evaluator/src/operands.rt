@@ -1,6 +1,7 @@
 //! What of a value is asked for: what it holds, if it is of that kind.
 ghost use Rattle.std.specs.Prelude.{◌≡◌, MatchResult, Ok, Err};
-ghost use Rattle.evaluator.specs.Outcomes.{boolean_in, long_in, text_in, entity_in, members_in, decimal_in, network_in};
+ghost use Rattle.evaluator.specs.Outcomes.{boolean_in, long_in, text_in, entity_uid_in, members_in};
+ghost use Rattle.evaluator.specs.Outcomes.{decimal_in, network_in};
 ghost use Rattle.evaluator.specs.inner.Computing.{demanded, two_demanded};
 
 use crate::borrowed_or_owned::BorrowedOrOwned;
@@ -42,8 +43,8 @@ pub(crate) fn text_of<'g>(given: &'g BorrowedOrOwned<'_>) -> Result<&'g Text, Ev
 
 /// The value as an entity.
 pub(crate) fn entity_of<'g>(given: &'g BorrowedOrOwned<'_>) -> Result<&'g EntityUid, EvalFault>
-    ensures { MatchResult result (λ u. demanded (entity_in given.now) ≡ Ok u.now)
-        (λ e. demanded (entity_in given.now) ≡ Err e) }
+    ensures { MatchResult result (λ u. demanded (entity_uid_in given.now) ≡ Ok u.now)
+        (λ e. demanded (entity_uid_in given.now) ≡ Err e) }
 {
     match given.kind() {
         BorrowedKind::Entity(uid) => Ok(uid),

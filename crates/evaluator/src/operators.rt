@@ -4,7 +4,7 @@ ghost use Rattle.std.specs.Prelude.{MatchResult, Ok, Err};
 ghost use Rattle.std.specs.List.{list_all, list_any};
 ghost use Rattle.values.specs.Sets.{has_member};
 ghost use Rattle.ancestor_closure.specs.Hierarchy.{IsAscending, names};
-ghost use Rattle.evaluator.specs.Outcomes.{entity_in};
+ghost use Rattle.evaluator.specs.Outcomes.{entity_uid_in};
 ghost use Rattle.evaluator.specs.inner.Computing.{decided_world, demanded, Answers, number_or_fault, apply_unary};
 ghost use Rattle.evaluator.specs.inner.Computing.{apply_binary, is_in, in_members, in_value, and_then, truth, bounded};
 ghost use Rattle.evaluator.specs.inner.Computing.{sets};
@@ -90,8 +90,8 @@ fn is_in<L: Lookup>(store: &L, a: &EntityUid, b: &EntityUid) -> Result<bool, NoM
 
 /// A member of a set as an entity.
 fn member_entity(member: &Value) -> Result<&EntityUid, EvalFault>
-    ensures { MatchResult result (λ u. demanded (entity_in member.now) ≡ Ok u.now)
-        (λ e. demanded (entity_in member.now) ≡ Err e) }
+    ensures { MatchResult result (λ u. demanded (entity_uid_in member.now) ≡ Ok u.now)
+        (λ e. demanded (entity_uid_in member.now) ≡ Err e) }
 {
     match member.kind() {
         Kind::Entity(uid) => Ok(uid),

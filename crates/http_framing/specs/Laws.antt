@@ -1,4 +1,4 @@
--- The reply at the front of a stream.
+-- That a stream has one reply at its front at most, however it was cut.
 use Rattle.std.specs.Prelude.{◌≡◌, ℕ, List, ◌++◌}
 use Rattle.http_framing.specs.Reply.{IsBadReply, IsUnfinishedReply, ReadsReply}
 

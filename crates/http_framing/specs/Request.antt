@@ -1,4 +1,5 @@
--- Where the requests of a stream end, and which of them are refused (RFC 9112, sections 3 to 6).
+-- Where the requests of a stream end, and which of them are refused (RFC 9112, sections 2 to 6, 9.3 and 9.6).
+-- Rules of this product: the limits, and the order of refusals.
 use Rattle.std.specs.Prelude.{◌≡◌, ℕ, ◌<◌, ◌≤◌, ◌⊎◌, Bool, ◌||◌, List, [], ◌∷◌, ◌++◌, length, map, drop}
 use Rattle.std.specs.Prelude.{if◌then◌else◌, ◌==◌, codes, bytes_eq}
 use Rattle.std.specs.List.{list_any}

@@ -13,7 +13,7 @@ use Rattle.service_routes.specs.Routes.{route_stated}
 use Rattle.http_service.specs.Asked.{Asked, asked, hands, refused, unserved}
 use Rattle.http_service.specs.Answered.{Replies, answers_over}
 use Rattle.http_service.specs.Serving.{Served, unasked, Continues, continues_run, IsServed}
-use Rattle.http_service.specs.declared.routed.Routed.{Routed}
+use Rattle.http_service.specs.declared.site_service.SiteService.{SiteService}
 use Rattle.http_service.proofs.RunLemmas.{RunsTake}
 
 -- ---- the run that a stream makes so far, from the site that it began with
@@ -63,12 +63,12 @@ one_request first (unserved s) v new status line so_far h = (
 )
 
 -- a borrowed site, and a run so far that came to it
-record Carries (start r : Routed) (v : Served) : Type 0 where
+record Carries (start r : SiteService) (v : Served) : Type 0 where
   pub site : v.site ≡ r.site.now
   pub running : Running start.site.now v
   pub borrow : r.site.ghost_name ≡ start.site.ghost_name
 
-carry_on : (start a b : Routed) (x : Served) (m t body : List ℕ) (status : Status) (line : List ℕ) → Carries start a x
+carry_on : (start a b : SiteService) (x : Served) (m t body : List ℕ) (status : Status) (line : List ℕ) → Carries start a x
     → answers_over a m t body status line b
     → (y : Served) × continues_run x m t body status line y × Carries start b y
 carry_on start a b x m t body status line carries h =
@@ -77,7 +77,7 @@ carry_on start a b x m t body status line carries h =
     (subst (λ (s : Seen). Replies s asks status line b.site.now) (sym carries.site) h.0) in
     (one.0, one.1, record { site = one.3; running = one.2; borrow = h.1 ∙ carries.borrow })
 
-carried_first : (start : Routed) → Carries start start (unasked start.site.now)
+carried_first : (start : SiteService) → Carries start start (unasked start.site.now)
 carried_first start = record {
   site = refl;
   running = record { run = refl; same = (refl, refl) };
@@ -90,7 +90,7 @@ module _ {R W : Type 0} (left : R → Option (List ℕ)) (read_failures : R → 
     (read_fails : R → R → Type 0) (holds : W → Option (List ℕ)) (write_failures : W → ℕ)
     (write_fails : W → W → Type 0) where
   -- over a borrowed site
-  pub served : RunsTake → (first last : R) (before after : W) (old new : Routed)
+  pub served : RunsTake → (first last : R) (before after : W) (old new : SiteService)
       (result : Result (Unit {0}) StreamFault)
       → IsAnswered answers_over left read_failures reads read_fails holds write_failures write_fails first last before
       after old new result

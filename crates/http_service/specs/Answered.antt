@@ -11,7 +11,7 @@ use Rattle.service_routes.specs.Routes.{route_stated}
 use Rattle.service_replies.specs.Replies.{fault_reply, status_reply, put_reply, stamp_reply, taken_reply, answer_reply}
 use Rattle.service_replies.specs.Replies.{found_reply, message_reply}
 use Rattle.http_service.specs.Asked.{Asked, asked, hands, refused, unserved}
-use Rattle.http_service.specs.declared.routed.Routed.{Routed}
+use Rattle.http_service.specs.declared.site_service.SiteService.{SiteService}
 
 -- ---- replies of a site as they are told, each by a status and a body
 
@@ -42,7 +42,7 @@ answers old method target body status line new =
     Replies old (asked (route_stated method target) body) status line new
 
 -- the same over a borrowed site, which stays borrowed
-abbrev pub answers_over : Routed → List ℕ → List ℕ → List ℕ → Status → List ℕ → Routed → Type 0
+abbrev pub answers_over : SiteService → List ℕ → List ℕ → List ℕ → Status → List ℕ → SiteService → Type 0
 answers_over old method target body status line new =
     answers old.site.now method target body status line new.site.now × (new.site.ghost_name ≡ old.site.ghost_name)
 

@@ -28,13 +28,13 @@ pub data Asked : Type 0 where
   unserved : Status → Asked
 
 -- a policy may have this id: 1 to 256 bytes
-abbrev pub is_id : List ℕ → Bool
-is_id id = nat_le 1 (length id) && nat_le (length id) most_id_bytes
+abbrev pub is_policy_id : List ℕ → Bool
+is_policy_id id = nat_le 1 (length id) && nat_le (length id) most_id_bytes
 
 -- the first fault where a policy's text is not UTF-8: of its id, of its length, else that no token begins it
 abbrev pub not_text : List ℕ → List ℕ → ReadFault
 not_text id body =
-    if is_id id then if nat_le (length body) most_policy_bytes then BadToken 0 else TooLong else BadId
+    if is_policy_id id then if nat_le (length body) most_policy_bytes then BadToken 0 else TooLong else BadId
 
 -- a deed upon the policy of this id
 abbrev pub upon : PolicyId → (List ℕ → Asked) → Asked

@@ -1,4 +1,5 @@
 -- What a stream of requests leaves of a site: what a run of inputs leaves, those that its requests ask for.
+-- Source: RFC 9112, section 9.3.
 use Rattle.std.specs.Prelude.{◌≡◌, ℕ, suc, zero, List, [], ◌∷◌, ◌++◌}
 use Rattle.httparse.specs.Grammar.{RequestHead}
 use Rattle.http_framing.specs.Request.{ReadsWhole}
@@ -24,7 +25,8 @@ AskFor (suc n) bytes rest is =
     × (is ≡ inputs_of (asked (route_stated head.method head.target) body) ++ more) × AskFor n after rest more
 
 -- the first requests of bytes ask for inputs, and the site goes on by a run of these: its store is that of the updates
--- that it had and of those that it took
+-- that it had and of those that it took. It may be that no request is served, by a count of 0: then the site is as it
+-- was.
 pub record LeavesRun (old : Seen) (bytes : List ℕ) (new : Seen) : Type 0 where
   pub count : ℕ
   pub rest : List ℕ

@@ -15,7 +15,7 @@ ghost use Rattle.http_service.specs.Answered.{IsAlike, Replies, answers, told};
 ghost use Rattle.http_service.specs.Serving.{IsServed};
 ghost use Rattle.http_service.specs.Streams.{AskFor, LeavesRun};
 
-use crate::routed::Stated;
+use crate::site_service::Stated;
 use counted_devices::devices::{Sink, Source};
 use http_streams::laws::{begins_answer, one_answer};
 use http_streams::serve::StreamFault;

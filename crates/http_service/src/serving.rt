@@ -2,7 +2,7 @@
 ghost use Rattle.std.specs.Prelude.{◌≡◌};
 ghost use Rattle.http_service.specs.Serving.{IsServed};
 
-use crate::routed::Routed;
+use crate::site_service::SiteService;
 use counted_devices::devices::{Sink, Source};
 use http_streams::serve::{StreamFault, serve as serve_stream};
 use service_replies::Site;
@@ -10,18 +10,18 @@ use site_runs::runs_leave_what_they_took;
 use std::alloc::Global;
 
 /// Answers a stream over a borrowed site, which stays the same one.
-fn serve_routed<R: Source, W: Sink>(
+fn serve_borrowed<R: Source, W: Sink>(
     alloc: Global,
-    routed: &mut Routed<'_>,
+    service: &mut SiteService<'_>,
     reader: &mut R,
     writer: &mut W,
 ) -> Result<(), StreamFault>
-    ensures same_reference { routed.new.site.ghost_name ≡ routed.old.site.ghost_name }
+    ensures same_reference { service.new.site.ghost_name ≡ service.old.site.ghost_name }
     ensures served { IsServed R.left R.failed R.reads R.fails W.holds W.failed W.fails reader.old reader.new writer.old
-        writer.new routed.old.site.now routed.new.site.now result }
+        writer.new service.old.site.now service.new.site.now result }
 {
     runs_leave_what_they_took();
-    serve_stream(alloc, routed, reader, writer)
+    serve_stream(alloc, service, reader, writer)
 }
 
 /// Answers each whole request of the stream in order, before it reads on: each is one step of the site at most, told by
@@ -39,6 +39,6 @@ pub fn serve<R: Source, W: Sink>(
     ensures { IsServed R.left R.failed R.reads R.fails W.holds W.failed W.fails reader.old reader.new writer.old
         writer.new site.old site.new result }
 {
-    let mut routed = Routed { alloc, site };
-    serve_routed(alloc, &mut routed, reader, writer)
+    let mut service = SiteService { alloc, site };
+    serve_borrowed(alloc, &mut service, reader, writer)
 }

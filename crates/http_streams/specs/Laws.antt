@@ -1,4 +1,5 @@
--- Laws of the replies to a stream.
+-- That a stream has one answer, however it was cut, and what has gone out at a fault.
+-- A rule of this product.
 use Rattle.std.specs.Prelude.{◌≡◌, ◌≢◌, ◌≤◌, ℕ, ◌⊎◌, Bool, List, [], ◌++◌, length, true}
 use Rattle.httparse.specs.Grammar.{EndsInTarget, NeverHasRequest}
 use Rattle.http_texts.specs.ReplyText.{error_line, reply_text}

@@ -1,10 +1,10 @@
 //! What tests of several libraries share. A value that waits while another is made, or that is only let go, goes to a
 //! generic function: whatever it is made of is then one step of the proof.
-use plain::{NoMemory, Text};
+use plain::NoMemory;
 use std::alloc::{AllocError, Global};
 use std::cmp::Ordering;
 use std::process::Abort;
-use values::{EntityUid, TypeName};
+use values::{EntityUid, SharedText, TypeName};
 
 // A value, and one that was made while it waited.
 fn beside<T: Drop, U>(kept: T, made: Result<U, NoMemory>) -> Result<(T, U), NoMemory> {
@@ -104,6 +104,6 @@ fn some<T: Drop>(found: Result<Option<T>, NoMemory>) -> Result<T, NoMemory> {
 /// The entity of this type and id.
 pub(crate) fn uid_of(alloc: Global, type_name: &str, id: &str) -> Result<EntityUid, NoMemory> {
     let type_name = some(TypeName::parse(alloc, type_name));
-    let (type_name, id) = both(type_name, Text::from_str(alloc, id))?;
+    let (type_name, id) = both(type_name, SharedText::from_str(alloc, id))?;
     Ok(EntityUid { type_name, id })
 }

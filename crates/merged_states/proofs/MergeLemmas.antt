@@ -11,8 +11,8 @@ use Rattle.stamped_store.specs.Store.{Store, Update, updates, store_of}
 use Rattle.sync_messages.specs.declared.fault.MessageFault.{MessageFault}
 use Rattle.state_messages.specs.Messages.{state_text}
 use Rattle.state_messages.specs.declared.update.Update.{Update as SentUpdate}
-use Rattle.state_messages.specs.Updates.{abstract_updates}
-use Rattle.merged_states.specs.Messages.{IsMessageOf, IsReadBack}
+use Rattle.state_messages.specs.Updates.{plain_updates}
+use Rattle.merged_states.specs.Messages.{IsMergeableMessage, IsReadBack}
 use Rattle.merged_states.specs.Merges.{IsStoreOfBoth, IsMerged, IsMergedBack}
 
 -- the laws of stores
@@ -58,16 +58,16 @@ module _ {X : Type 0} where
 ok_same : (a b : List Update) (r : Result (List Update) MessageFault) → r ≡ Ok a → r ≡ Ok b → a ≡ b
 ok_same a b r h k = cc
 
-pub shown_same : (s : StatedSchema) (bytes : List ℕ) (us vs : List (SentUpdate Policy Entity)) → IsMessageOf s bytes us
-    → IsMessageOf s bytes vs → abstract_updates us ≡ abstract_updates vs
-shown_same s bytes us vs h k = ok_same (abstract_updates us) (abstract_updates vs) _ h.stated k.stated
+pub shown_same : (s : StatedSchema) (bytes : List ℕ) (us vs : List (SentUpdate Policy Entity)) → IsMergeableMessage s bytes us
+    → IsMergeableMessage s bytes vs → plain_updates us ≡ plain_updates vs
+shown_same s bytes us vs h k = ok_same (plain_updates us) (plain_updates vs) _ h.stated k.stated
 
 -- the store of both, of whatever updates they state
 pub store_as : (s : StatedSchema) (f g : List ℕ) (m : Store) (us vs : List (SentUpdate Policy Entity)) → IsStoreOfBoth s f g m
-    → IsMessageOf s f us → IsMessageOf s g vs → m ≡ store_of (abstract_updates us ++ abstract_updates vs)
+    → IsMergeableMessage s f us → IsMergeableMessage s g vs → m ≡ store_of (plain_updates us ++ plain_updates vs)
 store_as s f g m us vs h first second =
-    h.store_is ∙ ap (λ l. store_of (l ++ abstract_updates h.second)) (shown_same s f h.first us h.first_read first)
-    ∙ ap (λ l. store_of (abstract_updates us ++ l)) (shown_same s g h.second vs h.second_read second)
+    h.store_is ∙ ap (λ l. store_of (l ++ plain_updates h.second)) (shown_same s f h.first us h.first_read first)
+    ∙ ap (λ l. store_of (plain_updates us ++ l)) (shown_same s g h.second vs h.second_read second)
 
 -- what is merged, under the schema that the bytes state
 pub record MergedAt (s : StatedSchema) (f g text : List ℕ) : Type 0 where
@@ -97,33 +97,33 @@ module _ (law : AreStores) (one : OneSchema) where
   order schema f g text other a b =
       let s = a.stated in
       let c = merged_at one schema g f other s a.schema_is b in
-      let us = abstract_updates a.both.first in
-      let vs = abstract_updates a.both.second in
+      let us = plain_updates a.both.first in
+      let vs = plain_updates a.both.second in
       let same : c.store ≡ a.store =
       store_as s g f c.store a.both.second a.both.first c.both a.both.second_read a.both.first_read
       ∙ law.same_updates (vs ++ us) (us ++ vs) (λ u. (turned vs us u, turned us vs u)) ∙ sym a.both.store_is in
       c.text_is ∙ ap (state_text s.label) same ∙ sym a.text_is
 
   pub again : (schema f g text other : List ℕ) (m : IsMerged schema f g text) (h : List ℕ) (us : List (SentUpdate Policy Entity))
-      → IsMergedBack m → IsMessageOf m.stated h us
-      → ((u : Update) → Contains ((abstract_updates m.both.first ++ abstract_updates m.both.second) ++ abstract_updates us) u
-      ↔ Contains (abstract_updates m.both.first ++ abstract_updates m.both.second) u)
+      → IsMergedBack m → IsMergeableMessage m.stated h us
+      → ((u : Update) → Contains ((plain_updates m.both.first ++ plain_updates m.both.second) ++ plain_updates us) u
+      ↔ Contains (plain_updates m.both.first ++ plain_updates m.both.second) u)
       → IsMerged schema text h other → other ≡ text
   again schema f g text other m h us back message members b =
       let s = m.stated in
       let c = merged_at one schema text h other s m.schema_is b in
-      let all = abstract_updates m.both.first ++ abstract_updates m.both.second in
+      let all = plain_updates m.both.first ++ plain_updates m.both.second in
       let same : c.store ≡ m.store =
       store_as s text h c.store back.read us c.both back.message message
-      ∙ ap (λ l. store_of (l ++ abstract_updates us)) (back.same ∙ ap updates m.both.store_is)
-      ∙ law.grouped all (abstract_updates us) ∙ law.same_updates (all ++ abstract_updates us) all members ∙ sym m.both.store_is in
+      ∙ ap (λ l. store_of (l ++ plain_updates us)) (back.same ∙ ap updates m.both.store_is)
+      ∙ law.grouped all (plain_updates us) ∙ law.same_updates (all ++ plain_updates us) all members ∙ sym m.both.store_is in
       c.text_is ∙ ap (state_text s.label) same ∙ sym m.text_is
 
   pub repeats : (schema f g text other : List ℕ) (m : IsMerged schema f g text) → IsMergedBack m
       → (IsMerged schema text f other → other ≡ text) × (IsMerged schema text g other → other ≡ text)
   repeats schema f g text other m back = (
-    again schema f g text other m f m.both.first back m.both.first_read (again_first (abstract_updates m.both.first) (abstract_updates m.both.second)),
-    again schema f g text other m g m.both.second back m.both.second_read (again_second (abstract_updates m.both.first) (abstract_updates m.both.second)),
+    again schema f g text other m f m.both.first back m.both.first_read (again_first (plain_updates m.both.first) (plain_updates m.both.second)),
+    again schema f g text other m g m.both.second back m.both.second_read (again_second (plain_updates m.both.first) (plain_updates m.both.second)),
   )
 
   pub groups : (schema f g h left right text other : List ℕ) (a : IsMerged schema f g left) (b : IsMerged schema g h right)
@@ -133,9 +133,9 @@ module _ (law : AreStores) (one : OneSchema) where
       let r = back_at one schema g h right s a.schema_is b bback in
       let p = merged_at one schema left h text s a.schema_is x in
       let q = merged_at one schema f right other s a.schema_is y in
-      let us = abstract_updates a.both.first in
-      let vs = abstract_updates a.both.second in
-      let ws = abstract_updates r.both.second in
+      let us = plain_updates a.both.first in
+      let vs = plain_updates a.both.second in
+      let ws = plain_updates r.both.second in
       let right_is : r.store ≡ store_of (vs ++ ws) =
       store_as s g h r.store a.both.second r.both.second r.both a.both.second_read r.both.second_read in
       let p_is : p.store ≡ store_of ((us ++ vs) ++ ws) =

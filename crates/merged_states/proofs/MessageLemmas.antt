@@ -13,11 +13,11 @@ use Rattle.sync_messages.specs.Summaries.{IsStamped}
 use Rattle.state_messages.specs.Messages.{state_text, updates_stated}
 use Rattle.state_messages.specs.Bodies.{OrNoMemory}
 use Rattle.state_messages.specs.declared.update.Update.{Update as SentUpdate}
-use Rattle.state_messages.specs.Updates.{IsMessage, IsRefused, IsValid, AreInRange, AreValid, stamped, abstract_updates}
+use Rattle.state_messages.specs.Updates.{IsMessage, IsMessageFault, IsValid, AreInRange, AreValid, stamped, plain_updates}
 use Rattle.stored_texts.specs.declared.texts.SchemaTexts.{SchemaTexts}
 use Rattle.stored_texts.specs.Texts.{ReadsPolicy, RefusesPolicy, ReadsEntity, RefusesEntity}
 use Rattle.decision_texts.specs.Refusals.{no_memory}
-use Rattle.merged_states.specs.Messages.{IsMessageOf, message_refusal, IsMessageRefused, Joins, IsSendable, IsReadBack}
+use Rattle.merged_states.specs.Messages.{IsMergeableMessage, message_refusal, IsMessageRefused, Joins, IsSendable, IsReadBack}
 use Rattle.merged_states.specs.inner.Merging.{IsMergedUnder}
 use Rattle.merged_states.proofs.StoreLemmas.{none_of_empty, store_all, append_all}
 
@@ -26,30 +26,30 @@ abbrev pub texts_of : SchemaEntries → SchemaTexts
 texts_of schema = record { schema = record { ref_ptr = (0, 0); now = schema } }
 
 abbrev Due : StatedSchema → List ℕ → MessageFault → Type 0
-Due s bytes f = IsRefused (λ id. ReadsPolicy s) (ReadsEntity s) (λ id. RefusesPolicy s) (RefusesEntity s) s.label bytes f
+Due s bytes f = IsMessageFault (λ id. ReadsPolicy s) (ReadsEntity s) (λ id. RefusesPolicy s) (RefusesEntity s) s.label bytes f
 
 -- ---- a message read under a schema that is the one at hand
 
 pub message_of : (a b : SchemaEntries) (label bytes : List ℕ) (us : List (SentUpdate Policy Entity)) → a ≡ b → label ≡ (schema_view b).label
     → IsMessage (λ id. ReadsPolicy (schema_view a)) (ReadsEntity (schema_view a)) label bytes us
-    → IsMessageOf (schema_view b) bytes us
+    → IsMergeableMessage (schema_view b) bytes us
 message_of a b label bytes us same named h =
     subst (λ (l : List ℕ). IsMessage (λ id. ReadsPolicy (schema_view b)) (ReadsEntity (schema_view b)) l bytes us) named
     (subst (λ (k : SchemaEntries). IsMessage (λ id. ReadsPolicy (schema_view k)) (ReadsEntity (schema_view k)) label bytes us) same h)
 
 refused_of : (a b : SchemaEntries) (label bytes : List ℕ) (f : MessageFault) → a ≡ b → label ≡ (schema_view b).label
-    → IsRefused (λ id. ReadsPolicy (schema_view a)) (ReadsEntity (schema_view a)) (λ id. RefusesPolicy (schema_view a))
+    → IsMessageFault (λ id. ReadsPolicy (schema_view a)) (ReadsEntity (schema_view a)) (λ id. RefusesPolicy (schema_view a))
     (RefusesEntity (schema_view a)) label bytes f
     → Due (schema_view b) bytes f
 refused_of a b label bytes f same named h =
-    subst (λ (l : List ℕ). IsRefused (λ id. ReadsPolicy (schema_view b)) (ReadsEntity (schema_view b))
+    subst (λ (l : List ℕ). IsMessageFault (λ id. ReadsPolicy (schema_view b)) (ReadsEntity (schema_view b))
     (λ id. RefusesPolicy (schema_view b)) (RefusesEntity (schema_view b)) l bytes f) named
-    (subst (λ (k : SchemaEntries). IsRefused (λ id. ReadsPolicy (schema_view k)) (ReadsEntity (schema_view k))
+    (subst (λ (k : SchemaEntries). IsMessageFault (λ id. ReadsPolicy (schema_view k)) (ReadsEntity (schema_view k))
     (λ id. RefusesPolicy (schema_view k)) (RefusesEntity (schema_view k)) label bytes f) same h)
 
 -- a fault that is due is told, if it is not told as want of memory
 pub told : (a b : SchemaEntries) (label bytes : List ℕ) (f : MessageFault) → a ≡ b → label ≡ (schema_view b).label
-    → OrNoMemory fault.NoMemory (IsRefused (λ id. ReadsPolicy (schema_view a)) (ReadsEntity (schema_view a))
+    → OrNoMemory fault.NoMemory (IsMessageFault (λ id. ReadsPolicy (schema_view a)) (ReadsEntity (schema_view a))
     (λ id. RefusesPolicy (schema_view a)) (RefusesEntity (schema_view a)) label bytes) f
     → (message_refusal f ≡ no_memory → ⊥) → IsMessageRefused (schema_view b) bytes (message_refusal f)
 told a b label bytes f same named due other =
@@ -64,16 +64,16 @@ none_sendable s = record {
 }
 
 pub joined_sendable : (s : StatedSchema) (m t : Store) (bytes : List ℕ) (k : ℕ) → IsSendable s m → (j : Joins s m bytes t k)
-    → AreValid (λ id. ReadsPolicy s) (ReadsEntity s) (abstract_updates j.came) → IsSendable s t
+    → AreValid (λ id. ReadsPolicy s) (ReadsEntity s) (plain_updates j.came) → IsSendable s t
 joined_sendable s m t bytes k h j valid = record {
   in_range =
       subst (λ (x : Store). AreInRange (updates x)) (sym j.store_is)
-      (store_all (λ u. IsStamped (stamped u)) (updates m ++ abstract_updates j.came)
-      (append_all (λ u. IsStamped (stamped u)) (updates m) (abstract_updates j.came) h.in_range j.message.in_range));
+      (store_all (λ u. IsStamped (stamped u)) (updates m ++ plain_updates j.came)
+      (append_all (λ u. IsStamped (stamped u)) (updates m) (plain_updates j.came) h.in_range j.message.in_range));
   valid =
       subst (λ (x : Store). AreValid (λ id. ReadsPolicy s) (ReadsEntity s) (updates x)) (sym j.store_is)
-      (store_all (IsValid (λ id. ReadsPolicy s) (ReadsEntity s)) (updates m ++ abstract_updates j.came)
-      (append_all (IsValid (λ id. ReadsPolicy s) (ReadsEntity s)) (updates m) (abstract_updates j.came) h.valid valid));
+      (store_all (IsValid (λ id. ReadsPolicy s) (ReadsEntity s)) (updates m ++ plain_updates j.came)
+      (append_all (IsValid (λ id. ReadsPolicy s) (ReadsEntity s)) (updates m) (plain_updates j.came) h.valid valid));
 }
 
 -- what is written of a store whose updates are sendable is read back
@@ -81,7 +81,7 @@ pub read_back : (k : SchemaEntries) (label bytes : List ℕ) (m : Store) → lab
     → ((l b : List ℕ) (us : List Update) → updates_stated l b ≡ Ok us → AreInRange us
     → AreValid (λ id. ReadsPolicy (schema_view k)) (ReadsEntity (schema_view k)) us
     → (all : List (SentUpdate Policy Entity)) × IsMessage (λ id. ReadsPolicy (schema_view k)) (ReadsEntity (schema_view k)) l b all
-    × (abstract_updates all ≡ us))
+    × (plain_updates all ≡ us))
     → (AreInRange (updates m) → updates_stated label bytes ≡ Ok (updates m)) → IsSendable (schema_view k) m
     → IsReadBack (schema_view k) m bytes
 read_back k label bytes m named law back h =
@@ -94,8 +94,8 @@ pub merged_under : ((us vs : List Update) → store_of (updates (store_of us) ++
     → Joins s x g t j → (IsSendable s x → IsSendable s t) → text ≡ state_text s.label t
     → (IsSendable s t → IsReadBack s t text) → IsMergedUnder s f g text
 merged_under grouped s e x t f g text i j none first first_sends second second_sends is back =
-    let us = abstract_updates first.came in
-    let vs = abstract_updates second.came in
+    let us = plain_updates first.came in
+    let vs = plain_updates second.came in
     let held : x ≡ store_of us = first.store_is ∙ ap (λ l. store_of (l ++ us)) (ap updates none ∙ none_of_empty) in
     record {
       store = t;

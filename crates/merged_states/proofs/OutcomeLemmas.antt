@@ -10,26 +10,26 @@ use Rattle.stamped_store.specs.Store.{store_of}
 use Rattle.sync_messages.specs.declared.fault.MessageFault.{MessageFault}
 use Rattle.state_messages.specs.Messages.{state_text}
 use Rattle.state_messages.specs.declared.update.Update.{Update as SentUpdate}
-use Rattle.state_messages.specs.Updates.{IsRefused, abstract_updates}
+use Rattle.state_messages.specs.Updates.{IsMessageFault, plain_updates}
 use Rattle.state_messages.specs.Bodies.{TextsHaveOneOutcome}
 use Rattle.stored_texts.specs.Laws.{PoliciesHaveOneReading, EntitiesHaveOneReading}
 use Rattle.stored_texts.specs.Texts.{ReadsPolicy, RefusesPolicy, ReadsEntity, RefusesEntity}
 use Rattle.decision_texts.specs.declared.refusal.Refusal.{Refusal}
 use Rattle.policy_checks.specs.Refusals.{schema_refusal}
-use Rattle.merged_states.specs.Messages.{IsMessageOf, message_refusal, IsMessageRefused}
+use Rattle.merged_states.specs.Messages.{IsMergeableMessage, message_refusal, IsMessageRefused}
 use Rattle.merged_states.specs.Merges.{AreRefusedUnder, AreRefused}
 use Rattle.merged_states.specs.Outcomes.{MergeOutcome, merged, refused, IsOutcomeOfTexts, HaveOneOutcome}
 use Rattle.merged_states.proofs.MergeLemmas.{MergedAt, merged_at, store_as}
 
 abbrev pub IsFaultOf : StatedSchema → List ℕ → MessageFault → Type 0
-IsFaultOf s bytes f = IsRefused (λ id. ReadsPolicy s) (ReadsEntity s) (λ id. RefusesPolicy s) (RefusesEntity s) s.label bytes f
+IsFaultOf s bytes f = IsMessageFault (λ id. ReadsPolicy s) (ReadsEntity s) (λ id. RefusesPolicy s) (RefusesEntity s) s.label bytes f
 
 -- the laws of messages of a schema
 pub record Laws (s : StatedSchema) : Type 0 where
   pub fault : (bytes : List ℕ) (f g : MessageFault) → IsFaultOf s bytes f → IsFaultOf s bytes g → f ≡ g
-  pub apart : (bytes : List ℕ) (us : List (SentUpdate Policy Entity)) (f : MessageFault) → IsMessageOf s bytes us
+  pub apart : (bytes : List ℕ) (us : List (SentUpdate Policy Entity)) (f : MessageFault) → IsMergeableMessage s bytes us
       → IsFaultOf s bytes f → ⊥
-  pub some : (bytes : List ℕ) → ((us : List (SentUpdate Policy Entity)) × IsMessageOf s bytes us)
+  pub some : (bytes : List ℕ) → ((us : List (SentUpdate Policy Entity)) × IsMergeableMessage s bytes us)
       ⊎ ((f : MessageFault) × IsFaultOf s bytes f)
 
 -- under a schema each text has one outcome
@@ -45,7 +45,7 @@ module _ (s : StatedSchema) (laws : Laws s) where
   refused_same : (bytes : List ℕ) (r q : Refusal) → IsMessageRefused s bytes r → IsMessageRefused s bytes q → r ≡ q
   refused_same bytes r q a b = a.is ∙ ap message_refusal (laws.fault bytes a.fault b.fault a.due b.due) ∙ sym b.is
 
-  refused_apart : (bytes : List ℕ) (us : List (SentUpdate Policy Entity)) (r : Refusal) → IsMessageOf s bytes us
+  refused_apart : (bytes : List ℕ) (us : List (SentUpdate Policy Entity)) (r : Refusal) → IsMergeableMessage s bytes us
       → IsMessageRefused s bytes r → ⊥
   refused_apart bytes us r h a = laws.apart bytes us a.fault h a.due
 
@@ -81,10 +81,10 @@ module _ (one : schemas.OneSchema) (not_both : schemas.NotBoth) (one_refusal : s
     abbrev SomeCome : Type 0
     SomeCome = (come : MergeOutcome) × IsOutcomeOfTexts schema f g come
 
-    by_second : (us : List (SentUpdate Policy Entity)) → IsMessageOf s f us → ((vs : List (SentUpdate Policy Entity)) × IsMessageOf s g vs)
+    by_second : (us : List (SentUpdate Policy Entity)) → IsMergeableMessage s f us → ((vs : List (SentUpdate Policy Entity)) × IsMergeableMessage s g vs)
         ⊎ ((e : MessageFault) × IsFaultOf s g e) → SomeCome
     by_second us first (inl h) =
-        let m = store_of (abstract_updates us ++ abstract_updates h.0) in (
+        let m = store_of (plain_updates us ++ plain_updates h.0) in (
           merged (state_text s.label m),
           record {
             stated = s;
@@ -103,7 +103,7 @@ module _ (one : schemas.OneSchema) (not_both : schemas.NotBoth) (one_refusal : s
       }),
     )
 
-    by_first : ((us : List (SentUpdate Policy Entity)) × IsMessageOf s f us) ⊎ ((e : MessageFault) × IsFaultOf s f e) → SomeCome
+    by_first : ((us : List (SentUpdate Policy Entity)) × IsMergeableMessage s f us) ⊎ ((e : MessageFault) × IsFaultOf s f e) → SomeCome
     by_first (inl h) = by_second h.0 h.1 (laws.some g)
     by_first (inr e) = (
       refused (message_refusal e.0),

@@ -7,10 +7,10 @@ use Rattle.entity_worlds.specs.declared.entity.Entity.{Entity}
 use Rattle.stamped_store.specs.Store.{Store, store_of}
 use Rattle.state_messages.specs.declared.update.Update.{Update as SentUpdate}
 use Rattle.state_messages.specs.Messages.{state_text}
-use Rattle.state_messages.specs.Updates.{abstract_updates}
+use Rattle.state_messages.specs.Updates.{plain_updates}
 use Rattle.decision_texts.specs.declared.refusal.Refusal.{Refusal}
 use Rattle.policy_checks.specs.Checks.{IsSchemaRefused}
-use Rattle.merged_states.specs.Messages.{IsMessageOf, IsMessageRefused, IsReadBack}
+use Rattle.merged_states.specs.Messages.{IsMergeableMessage, IsMessageRefused, IsReadBack}
 
 -- ---- under a schema
 
@@ -18,14 +18,14 @@ use Rattle.merged_states.specs.Messages.{IsMessageOf, IsMessageRefused, IsReadBa
 pub record IsStoreOfBoth (s : StatedSchema) (f g : List ℕ) (m : Store) : Type 0 where
   pub first : List (SentUpdate Policy Entity)
   pub second : List (SentUpdate Policy Entity)
-  pub first_read : IsMessageOf s f first
-  pub second_read : IsMessageOf s g second
-  pub store_is : m ≡ store_of (abstract_updates first ++ abstract_updates second)
+  pub first_read : IsMergeableMessage s f first
+  pub second_read : IsMergeableMessage s g second
+  pub store_is : m ≡ store_of (plain_updates first ++ plain_updates second)
 
 -- the first is a message, the second is none
 pub record IsSecondRefused (s : StatedSchema) (f g : List ℕ) (refusal : Refusal) : Type 0 where
   pub first : List (SentUpdate Policy Entity)
-  pub first_read : IsMessageOf s f first
+  pub first_read : IsMergeableMessage s f first
   pub refused : IsMessageRefused s g refusal
 
 -- which of the two is the first that is none, and why

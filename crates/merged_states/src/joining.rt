@@ -4,8 +4,8 @@ ghost use Rattle.schema.specs.Views.{schema_view};
 ghost use Rattle.stamped_store.specs.Store.{abstract_store, store_of, updates};
 ghost use Rattle.decision_texts.specs.Refusals.{no_memory};
 ghost use Rattle.state_messages.specs.Messages.{state_text};
-ghost use Rattle.state_messages.specs.Updates.{abstract_update, abstract_updates};
-ghost use Rattle.merged_states.specs.Messages.{IsMessageOf, IsMessageRefused, IsSendable, IsReadBack, Joins};
+ghost use Rattle.state_messages.specs.Updates.{plain_update, plain_updates};
+ghost use Rattle.merged_states.specs.Messages.{IsMergeableMessage, IsMessageRefused, IsSendable, IsReadBack, Joins};
 ghost use Rattle.merged_states.specs.Messages.{message_refusal};
 
 use decision_texts::Refusal;
@@ -37,7 +37,7 @@ fn updates_of(
     schema: &Schema,
     bytes: &[u8],
 ) -> Result<Vec<Update<Policy, Entity>>, Refusal>
-    ensures read { IfOk result (λ us. IsMessageOf (schema_view schema.now) bytes.now us.items) }
+    ensures read { IfOk result (λ us. IsMergeableMessage (schema_view schema.now) bytes.now us.items) }
     ensures refused { IfErr result
         (λ r. (r ≡ no_memory → ⊥) → IsMessageRefused (schema_view schema.now) bytes.now r) }
 {
@@ -54,7 +54,7 @@ fn take_one(
     update: Update<Policy, Entity>,
 ) -> Result<(), NoMemory>
     ensures { OnOk result (abstract_store store.new
-        ≡ store_of (updates (abstract_store store.old) ++ abstract_update update ∷ [])) }
+        ≡ store_of (updates (abstract_store store.old) ++ plain_update update ∷ [])) }
 {
     match update {
         Update::Policy { id, entry } => match store.take_policy(id.into_string(), entry) {
@@ -74,7 +74,7 @@ fn take_all(
     came: Vec<Update<Policy, Entity>>,
 ) -> Result<usize, NoMemory>
     ensures store { OnOk result (abstract_store store.new
-        ≡ store_of (updates (abstract_store store.old) ++ abstract_updates came.items)) }
+        ≡ store_of (updates (abstract_store store.old) ++ plain_updates came.items)) }
     ensures count { IfOk result (λ n. n ≡ length came.items) }
 {
     updates_have_one_store();

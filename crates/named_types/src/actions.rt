@@ -1,12 +1,12 @@
 //! Finding the action that a type and an id mean.
 ghost use Rattle.std.specs.Prelude.{◌≡◌, IfOk};
-ghost use Rattle.named_types.specs.Actions.{action_type, declared_action, action_of_type};
+ghost use Rattle.named_types.specs.Actions.{action_type, action_uid, declared_action, action_of_type};
 ghost use Rattle.named_types.specs.NamesViews.{is_action_of};
 
 use crate::names::{Names, full_name, is_qualified};
 use plain::{NoMemory, Text};
 use std::alloc::Global;
-use values::{EntityUid, TypeName};
+use values::{EntityUid, SharedText, TypeName};
 
 /// The type of the actions of a namespace.
 pub fn action_type(alloc: Global, own: &Option<TypeName>) -> Result<TypeName, NoMemory>
@@ -16,16 +16,23 @@ pub fn action_type(alloc: Global, own: &Option<TypeName>) -> Result<TypeName, No
     full_name(alloc, own, &word)
 }
 
+fn action_uid(alloc: Global, type_name: TypeName, id: &Text) -> Result<EntityUid, NoMemory>
+    ensures { IfOk result (λ u. u ≡ action_uid type_name id.now) }
+{
+    let id = SharedText::from_str(alloc, id.as_str())?;
+    Ok(EntityUid { type_name, id })
+}
+
 /// The action of this type and id, where it is declared.
 pub fn declared_action(
+    alloc: Global,
     names: &Names,
     type_name: TypeName,
     id: &Text,
 ) -> Result<Option<EntityUid>, NoMemory>
     ensures { IfOk result (λ o. o ≡ declared_action (is_action_of names.now) type_name id.now) }
 {
-    let id = id.copy()?;
-    let uid = EntityUid { type_name, id };
+    let uid = action_uid(alloc, type_name, id)?;
     if names.actions.contains(&uid) {
         return Ok(Some(uid));
     }
@@ -45,9 +52,9 @@ pub fn find_action_of_type(
 {
     if !is_qualified(word.as_str()) {
         let full = full_name(alloc, own, word)?;
-        if let Some(uid) = declared_action(names, full, id)? {
+        if let Some(uid) = declared_action(alloc, names, full, id)? {
             return Ok(Some(uid));
         }
     }
-    declared_action(names, word.copy()?, id)
+    declared_action(alloc, names, word.copy()?, id)
 }

@@ -13,7 +13,7 @@ use Rattle.decision_texts.proofs.PolicyTexts.{PoliciesOrNone, policies_or_none, 
 use Rattle.validator.specs.Outcomes.{PoliciesHaveOneOutcome}
 use Rattle.policy_checks.specs.Refusals.{schema_refusal}
 use Rattle.policy_checks.specs.Lines.{verdict_line, is_refusal}
-use Rattle.policy_checks.specs.Checks.{line_end, PolicyReport, IsReportOf, AreReportsOf, AreReportsOnFile, IsChecked, IsRefused}
+use Rattle.policy_checks.specs.Checks.{line_end, PolicyReport, IsReportOf, AreReportsOf, AreReportsOnFile, IsChecked, AreChecksRefused}
 use Rattle.policy_checks.specs.Outcomes.{CheckOutcome, checked, refused, IsOutcomeOfTexts, TextsHaveOneOutcome}
 
 -- the laws of what the texts are made of
@@ -83,12 +83,12 @@ module _ (laws : Laws) (schema policies : List ℕ) where
       file_told_same laws b.stated policies text other some_refused some_other
       (subst (λ (s : StatedSchema). AreReportsOnFile s policies text some_refused) stated a.file_told) b.file_told
 
-  not_both : (text : List ℕ) (some_refused : Bool) (refusal : Refusal) → IsChecked schema policies text some_refused → IsRefused schema policies refusal → ⊥
+  not_both : (text : List ℕ) (some_refused : Bool) (refusal : Refusal) → IsChecked schema policies text some_refused → AreChecksRefused schema policies refusal → ⊥
   not_both text some_refused refusal a (inl none) = laws.schema_not_both schema a.stated none.fault a.schema_is none.due
   not_both text some_refused refusal a (inr none) =
       file_or_fault laws.files policies a.file_told.names a.file_told.cores none.refused.fault a.file_told.file none.refused.due
 
-  refused_same : (refusal other : Refusal) → IsRefused schema policies refusal → IsRefused schema policies other → refusal ≡ other
+  refused_same : (refusal other : Refusal) → AreChecksRefused schema policies refusal → AreChecksRefused schema policies other → refusal ≡ other
   refused_same refusal other (inl a) (inl b) = a.is ∙ ap schema_refusal (laws.schema_one_refusal schema a.fault b.fault a.due b.due) ∙ sym b.is
   refused_same refusal other (inl a) (inr b) = absurd (laws.schema_not_both schema b.stated a.fault b.schema_is a.due)
   refused_same refusal other (inr a) (inl b) = absurd (laws.schema_not_both schema a.stated b.fault a.schema_is b.due)

@@ -64,5 +64,5 @@ pub record AreNextRefused (schema policies : List ℕ) (refusal : Refusal) : Typ
   pub schema_is : IsSchemaOf schema stated
   pub refused : ArePoliciesRefused policies refusal
 
-abbrev pub IsRefused : List ℕ → List ℕ → Refusal → Type 0
-IsRefused schema policies refusal = IsSchemaRefused schema refusal ⊎ AreNextRefused schema policies refusal
+abbrev pub AreChecksRefused : List ℕ → List ℕ → Refusal → Type 0
+AreChecksRefused schema policies refusal = IsSchemaRefused schema refusal ⊎ AreNextRefused schema policies refusal

@@ -3,7 +3,7 @@
 -- texts.
 use Rattle.std.specs.Prelude.{◌≡◌, ℕ, Bool, List}
 use Rattle.decision_texts.specs.declared.refusal.Refusal.{Refusal}
-use Rattle.policy_checks.specs.Checks.{IsChecked, IsRefused}
+use Rattle.policy_checks.specs.Checks.{IsChecked, AreChecksRefused}
 
 -- lines, and whether they tell of a refused policy; or the texts are refused
 pub data CheckOutcome : Type 0 where
@@ -12,7 +12,7 @@ pub data CheckOutcome : Type 0 where
 
 abbrev pub IsOutcomeOfTexts : List ℕ → List ℕ → CheckOutcome → Type 0
 IsOutcomeOfTexts schema policies (checked text some_refused) = IsChecked schema policies text some_refused
-IsOutcomeOfTexts schema policies (refused refusal) = IsRefused schema policies refusal
+IsOutcomeOfTexts schema policies (refused refusal) = AreChecksRefused schema policies refusal
 
 -- exactly one of these, whatever the texts
 abbrev pub TextsHaveOneOutcome : Type 0

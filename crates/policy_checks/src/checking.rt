@@ -5,7 +5,7 @@ ghost use Rattle.decision_texts.specs.Refusals.{no_memory};
 ghost use Rattle.decision_texts.specs.Decisions.{ArePoliciesRefused};
 ghost use Rattle.validator.specs.Outcomes.{IsCheckResult};
 ghost use Rattle.policy_checks.specs.Lines.{is_refusal};
-ghost use Rattle.policy_checks.specs.Checks.{AreReportsOf, AreReportsOnFile, IsChecked, IsRefused};
+ghost use Rattle.policy_checks.specs.Checks.{AreReportsOf, AreReportsOnFile, IsChecked, AreChecksRefused};
 ghost use Rattle.policy_checks.specs.inner.Named.{named_in, outcome_of};
 
 use crate::lines::{add_line, verdict_line};
@@ -89,7 +89,7 @@ pub fn check_texts(
 ) -> Result<(Vec<u8>, bool), Refusal>
     ensures checked { IfOk result (λ told. IsChecked schema.now policies.now told.0.items told.1) }
     ensures refused { IfErr result
-        (λ refusal. (refusal ≡ no_memory → ⊥) → IsRefused schema.now policies.now refusal) }
+        (λ refusal. (refusal ≡ no_memory → ⊥) → AreChecksRefused schema.now policies.now refusal) }
 {
     let schema = schema_in(alloc, schema)?;
     check_file(alloc, &schema, policies)

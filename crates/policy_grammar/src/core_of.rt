@@ -18,7 +18,7 @@ use plain::{Items, NoMemory};
 use policy_syntax::{ActionTree, PartTree, PathTree, PolicyTree, UidTree};
 use policy_tokens::{TokenKind, decode_string};
 use std::alloc::Global;
-use values::{EntityUid, TypeName};
+use values::{EntityUid, SharedText, TypeName};
 
 fn type_name_of(alloc: Global, text: &str, path: &PathTree) -> Result<TypeName, NoMemory>
     requires { IsBuiltFrom text.now (λ tokens. WellFormedPath tokens path.now) }
@@ -33,7 +33,8 @@ pub(crate) fn uid_of(alloc: Global, text: &str, tree: &UidTree) -> Result<Entity
 {
     strings_are_read();
     let type_name = type_name_of(alloc, text, &tree.path)?;
-    let id = decode_string(alloc, text, tree.id)?;
+    let decoded = decode_string(alloc, text, tree.id)?;
+    let id = SharedText::from_text(alloc, decoded)?;
     Ok(EntityUid { type_name, id })
 }
 

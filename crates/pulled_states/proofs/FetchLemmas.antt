@@ -13,7 +13,7 @@ use Rattle.pulled_states.specs.declared.fault.NetworkFault.{NetworkFault}
 use Rattle.pulled_states.specs.declared.fault.NetworkFault.TheVariants as network
 use Rattle.pulled_states.specs.declared.fault.PullFault.TheVariants.{Network}
 use Rattle.pulled_states.specs.Requests.{delta_request}
-use Rattle.pulled_states.specs.Exchanges.{IsSent, IsBegun, IsAnswered, IsUnanswered}
+use Rattle.pulled_states.specs.Exchanges.{IsSent, IsRequestBegun, IsAnswered, IsUnanswered}
 use Rattle.pulled_states.specs.inner.Faults.{pull_fault}
 
 start_is : (m p : List ℕ) → m ≡ codes "POST" → p ≡ codes "/v1/delta" → request_start m p ≡ codes "POST /v1/delta HTTP/1.1\r\nHost: "
@@ -50,7 +50,7 @@ module _ {R W : Type 0} (left : R → Option (List ℕ)) (reads : R → ℕ → 
   sent bytes came went = record { read = came; written = subst (λ (t : List ℕ). Appends (holds w) (holds w2) t) is went }
 
   -- the whole request was written
-  pub begun : (bytes : List ℕ) → Consumes (left r) (left r2) bytes → Appends (holds w) (holds w2) text → IsBegun left holds request r r2 w w2
+  pub begun : (bytes : List ℕ) → Consumes (left r) (left r2) bytes → Appends (holds w) (holds w2) text → IsRequestBegun left holds request r r2 w w2
   begun bytes came went = record {
     bytes = bytes;
     front = request;
@@ -64,7 +64,7 @@ module _ {R W : Type 0} (left : R → Option (List ℕ)) (reads : R → ℕ → 
   abbrev pub IsPart : Type 0
   IsPart = (bytes : List ℕ) × (front : List ℕ) × (back : List ℕ) × Consumes (left r) (left r2) bytes × (text ≡ front ++ back) × Appends (holds w) (holds w2) front
 
-  pub begun_part : IsPart → IsBegun left holds request r r2 w w2
+  pub begun_part : IsPart → IsRequestBegun left holds request r r2 w w2
   begun_part h = record { bytes = h.0; front = h.1; back = h.2; read = h.3; joined = sym is ∙ h.4; written = h.5 }
 
   pub record Reports (fault : FetchFault) : Type 0 where

@@ -1,6 +1,6 @@
 -- The outcomes of a pull's parts, told as those of the pull.
 use Rattle.std.proofs.Common.{◌⊎◌, inl, inr, ℕ, List, [], Option, Result, Ok, Err, OnErr, sym, append-nil}
-use Rattle.pulled_states.specs.Exchanges.{IsAnswered, IsBegun}
+use Rattle.pulled_states.specs.Exchanges.{IsAnswered, IsRequestBegun}
 
 module _ {A E : Type 0} where
   pub err_always : {P : Type 0} → (r : Result A E) → P → OnErr r P
@@ -18,7 +18,7 @@ or_else weaker (inr h) = inr (weaker h)
 -- what was answered was sent whole
 pub begun_whole : {R W : Type 0} (left : R → Option (List ℕ)) (reads : R → ℕ → List ℕ → R → Type 0) (holds : W → Option (List ℕ))
     (request : List ℕ) (r r2 : R) (w w2 : W) (status : ℕ) (body : List ℕ) → IsAnswered left reads holds request r r2 w w2 status body
-    → IsBegun left holds request r r2 w w2
+    → IsRequestBegun left holds request r r2 w w2
 begun_whole left reads holds request r r2 w w2 status body h = record {
   bytes = h.bytes;
   front = request;

@@ -15,7 +15,7 @@ module _ {R W : Type 0} (left : R → Option (List ℕ)) (holds : W → Option (
     pub written : Appends (holds w) (holds w2) request
 
   -- a first part of the request was written, or all of it
-  pub record IsBegun (request : List ℕ) (r r2 : R) (w w2 : W) : Type 0 where
+  pub record IsRequestBegun (request : List ℕ) (r r2 : R) (w w2 : W) : Type 0 where
     pub bytes : List ℕ
     pub front : List ℕ
     pub back : List ℕ
@@ -46,7 +46,7 @@ module _ {R W : Type 0} (left : R → Option (List ℕ)) (reads : R → ℕ → 
   abbrev pub IsUnanswered : List ℕ → R → R → W → W → NetworkFault → Type 0
   IsUnanswered request r r2 w w2 network.Read = (bytes : List ℕ) × IsSent left holds request r r2 w w2 bytes
       × IsUnfinishedReply bytes × FailsAtLast read_failed read_fails r r2
-  IsUnanswered request r r2 w w2 network.Write = IsBegun left holds request r r2 w w2 × (r2 ≡ r)
+  IsUnanswered request r r2 w w2 network.Write = IsRequestBegun left holds request r r2 w w2 × (r2 ≡ r)
       × FailsAtLast write_failed write_fails w w2
   IsUnanswered request r r2 w w2 network.BadReply = (bytes : List ℕ) × (front : List ℕ)
       × IsSent left holds request r r2 w w2 bytes × IsBadReply bytes × IsUnfinishedReply front

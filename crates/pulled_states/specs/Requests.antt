@@ -8,15 +8,15 @@ use Rattle.entity_worlds.specs.declared.entity.Entity.{Entity}
 use Rattle.stamped_store.specs.Store.{Store, store_of}
 use Rattle.stamped_store.specs.Deltas.{summary_of}
 use Rattle.state_messages.specs.declared.update.Update.{Update as SentUpdate}
-use Rattle.state_messages.specs.Updates.{abstract_updates}
+use Rattle.state_messages.specs.Updates.{plain_updates}
 use Rattle.sync_messages.specs.Summaries.{summary_text}
-use Rattle.merged_states.specs.Messages.{IsMessageOf}
+use Rattle.merged_states.specs.Messages.{IsMergeableMessage}
 
 -- what a state holds: nothing where it is absent, else the updates of the message that it is
 abbrev pub Holds : StatedSchema → Option (List ℕ) → Store → Type 0
 Holds s None m = m ≡ store_of []
-Holds s (Some bytes) m = (us : List (SentUpdate Policy Entity)) × IsMessageOf s bytes us
-    × (m ≡ store_of (abstract_updates us))
+Holds s (Some bytes) m = (us : List (SentUpdate Policy Entity)) × IsMergeableMessage s bytes us
+    × (m ≡ store_of (plain_updates us))
 
 -- this summary, posted to the host
 unfoldable pub delta_request : List ℕ → List ℕ → List ℕ

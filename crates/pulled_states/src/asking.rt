@@ -4,7 +4,7 @@ ghost use Rattle.decision_texts.specs.declared.refusal.Refusal.{Refusal};
 ghost use Rattle.decision_texts.specs.Refusals.{no_memory};
 ghost use Rattle.pulled_states.specs.declared.fault.NetworkFault.{NetworkFault};
 ghost use Rattle.pulled_states.specs.Requests.{delta_request};
-ghost use Rattle.pulled_states.specs.Exchanges.{IsAnswered, IsUnanswered, IsBegun};
+ghost use Rattle.pulled_states.specs.Exchanges.{IsAnswered, IsUnanswered, IsRequestBegun};
 ghost use Rattle.pulled_states.specs.inner.Faults.{pull_fault};
 
 use crate::fault::{NetworkFault, PullFault};
@@ -41,7 +41,7 @@ pub(crate) fn ask<R: Source, W: Sink>(
     ensures network { (f : NetworkFault) → result ≡ Err (PullFault.Network f)
         → IsUnanswered R.left R.reads R.failed R.fails W.holds W.failed W.fails (delta_request host.now summary.now)
         reader.old reader.new writer.old writer.new f }
-    ensures err { OnErr result (IsBegun R.left W.holds (delta_request host.now summary.now) reader.old reader.new
+    ensures err { OnErr result (IsRequestBegun R.left W.holds (delta_request host.now summary.now) reader.old reader.new
         writer.old writer.new) }
     ensures reads { result ≢ Err (PullFault.Network NetworkFault.Read) → R.failed reader.new ≡ R.failed reader.old }
     ensures writes { result ≢ Err (PullFault.Network NetworkFault.Write) → W.failed writer.new ≡ W.failed writer.old }

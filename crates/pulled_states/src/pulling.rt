@@ -8,7 +8,7 @@ ghost use Rattle.decision_texts.specs.Refusals.{no_memory};
 ghost use Rattle.merged_states.specs.Messages.{IsMessageRefused, IsSendable};
 ghost use Rattle.pulled_states.specs.declared.fault.NetworkFault.{NetworkFault};
 ghost use Rattle.pulled_states.specs.Requests.{Holds, IsReady, request_for};
-ghost use Rattle.pulled_states.specs.Exchanges.{IsAnswered, IsUnanswered, IsBegun};
+ghost use Rattle.pulled_states.specs.Exchanges.{IsAnswered, IsUnanswered, IsRequestBegun};
 ghost use Rattle.pulled_states.specs.Pulls.{IsPulled, IsRefusedFirst, IsStateRefused};
 
 use crate::asking::ask;
@@ -101,7 +101,7 @@ fn news_for<R: Source, W: Sink>(
         → IsUnanswered R.left R.reads R.failed R.fails W.holds W.failed W.fails
         (request_for host.now (schema_view schema.now) (abstract_store store.now)) reader.old reader.new writer.old
         writer.new f }
-    ensures err { OnErr result (((reader.new ≡ reader.old) × (writer.new ≡ writer.old)) ⊎ IsBegun R.left W.holds
+    ensures err { OnErr result (((reader.new ≡ reader.old) × (writer.new ≡ writer.old)) ⊎ IsRequestBegun R.left W.holds
         (request_for host.now (schema_view schema.now) (abstract_store store.now)) reader.old reader.new writer.old
         writer.new) }
     ensures reads { result ≢ Err (PullFault.Network NetworkFault.Read) → R.failed reader.new ≡ R.failed reader.old }
@@ -136,7 +136,7 @@ fn pull_under<R: Source, W: Sink>(
         → IsUnanswered R.left R.reads R.failed R.fails W.holds W.failed W.fails
         (request_for host.now (schema_view schema.now) (abstract_store store)) reader.old reader.new writer.old
         writer.new f }
-    ensures err { OnErr result (((reader.new ≡ reader.old) × (writer.new ≡ writer.old)) ⊎ IsBegun R.left W.holds
+    ensures err { OnErr result (((reader.new ≡ reader.old) × (writer.new ≡ writer.old)) ⊎ IsRequestBegun R.left W.holds
         (request_for host.now (schema_view schema.now) (abstract_store store)) reader.old reader.new writer.old
         writer.new) }
     ensures reads { result ≢ Err (PullFault.Network NetworkFault.Read) → R.failed reader.new ≡ R.failed reader.old }
@@ -193,7 +193,7 @@ pub fn pull_over<R: Source, W: Sink>(
     // After any fault nothing was sent, or a first part of the request, or all of it.
     ensures err { OnErr result (((reader.new ≡ reader.old) × (writer.new ≡ writer.old))
         ⊎ ((s : StatedSchema) × (m : Store) × IsReady schema.now (option_map (λ b. b.now) state.entry) s m
-        × IsBegun R.left W.holds (request_for host.now s m) reader.old reader.new writer.old writer.new)) }
+        × IsRequestBegun R.left W.holds (request_for host.now s m) reader.old reader.new writer.old writer.new)) }
 
     // No failure of a device is passed over.
     ensures reads { result ≢ Err (PullFault.Network NetworkFault.Read) → R.failed reader.new ≡ R.failed reader.old }

@@ -12,3 +12,4 @@ mod SomeOutcomeLemmas
 mod SoundLemmas
 mod UseLemmas
 mod WellFormedLemmas
+mod WayLemmas

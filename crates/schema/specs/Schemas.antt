@@ -1,6 +1,7 @@
 -- The schema that bytes state, and why they state none.
 -- Source: Cedar reference guide 4.0, "Schema JSON format": `shape`, `memberOfTypes`, `memberOf`, `appliesTo`. Rules of
 -- this product: the limits on types, that no action is above itself, and the order of refusals.
+-- The label of a schema is SHA-256 (FIPS 180-4) of its bytes: a rule of this product.
 use Rattle.std.specs.Prelude.{◌≡◌, ◌↔◌, ℕ, List, [], ◌∷◌, map, Contains, IsTrue, IsSome, Bool, Option, Some, None}
 use Rattle.std.specs.List.Sorted.{IsStrictlySortedBy}
 use Rattle.sha2.specs.Sha256.{sha256}

@@ -11,11 +11,11 @@ ghost use Rattle.schema.specs.inner.Making.{AddsAncestors, AreAncestors, has_typ
 
 use crate::maps::put;
 use ancestor_closure::{Ancestry, Hierarchy, Searched};
-use plain::{Items, NoMemory, Text};
+use plain::{Items, NoMemory};
 use schema_names::{FoundAction, FoundEntityType};
 use std::alloc::Global;
 use std::collections::{BTreeMap, BTreeSet};
-use values::{EntityUid, TypeName};
+use values::{EntityUid, SharedText, TypeName};
 
 fn copy_uids(alloc: Global, uids: &[EntityUid]) -> Result<Vec<EntityUid>, NoMemory>
     ensures { IfOk result (λ copies. copies.items ≡ uids.now) }
@@ -43,7 +43,7 @@ pub(crate) fn type_uid(alloc: Global, name: &TypeName) -> Result<EntityUid, NoMe
     ensures { IfOk result (λ u. u ≡ type_uid name.now) }
 {
     let type_name = name.copy()?;
-    let id = Text::from_str(alloc, "")?;
+    let id = SharedText::from_str(alloc, "")?;
     Ok(EntityUid { type_name, id })
 }
 

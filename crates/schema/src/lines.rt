@@ -4,6 +4,8 @@
 //! it in its line, and what is above the first of them. A type whose only parent is of a line stands behind that
 //! parent, in its line or beside it. So a chain of types takes memory once a type, and not once a pair.
 ghost use Rattle.std.specs.Prelude.{◌≡◌, ◌<◌, ℕ, List, suc, true, None, IfOk, OnOk, map, option_map, if◌then◌else◌};
+ghost use Rattle.std.specs.Prelude.{reverse as reversed};
+ghost use Rattle.std.specs.Borrow.{Bor};
 ghost use Rattle.std.specs.BTreeMap.{get};
 ghost use Rattle.values.specs.Names.{text_cmp};
 ghost use Rattle.ancestor_closure.specs.contracts.searched.SearchedAncestry.TheImpl as searched;
@@ -11,7 +13,7 @@ ghost use Rattle.schema_names.specs.FoundViews.{found_entity_type_view};
 ghost use Rattle.schema.specs.Schemas.{type_uid};
 ghost use Rattle.schema.specs.inner.Making.{AreTypes, IsTypesAbove};
 ghost use Rattle.schema.specs.inner.Lines.{IsOnlyParent, MayBeNext, IsBehind, MayBeBehind, Hangs, Alone, StandsAlone};
-ghost use Rattle.schema.specs.inner.Lines.{Adds, KeepsLines, AreLines};
+ghost use Rattle.schema.specs.inner.Lines.{Adds, KeepsLines, AreLines, IsWayUp};
 ghost use Rattle.ancestor_closure.specs.Hierarchy.{Parents};
 
 use crate::hierarchies::{type_uid, types_of};
@@ -205,28 +207,44 @@ fn add_one(
     Ok(())
 }
 
-/// The types above one that stand nowhere yet, as far as each has one parent, and at most so many.
-///
-/// No clause says so: types may be added in any order, and a type behind its parent costs least.
+/// The types above one that stand nowhere yet, lowest first, as far as each has one parent, and at most so many.
+fn way_up<'e>(
+    alloc: Global,
+    edges: &'e Searched,
+    name: &TypeName,
+    lines: &Lines,
+    most: usize,
+) -> Result<Vec<&'e TypeName>, NoMemory>
+    ensures { IfOk result (λ up. IsWayUp (searched.parents-value.it edges.now) lines.now most name.now
+        (map (λ p. p.now) up.items)) }
+{
+    let mut path = Vec::new(alloc);
+    let mut next = parent_of(alloc, edges, name)?;
+    for _ in 0..most {
+        let Some(parent) = next else {
+            return Ok(path);
+        };
+        if lines.line_places.contains_key(parent) {
+            return Ok(path);
+        }
+        path.push(parent)?;
+        next = parent_of(alloc, edges, parent)?;
+    }
+    Ok(path)
+}
+
+/// The same, highest first. Types may be added in any order; a type behind its parent costs least.
 fn path_from<'e>(
     alloc: Global,
     edges: &'e Searched,
     name: &TypeName,
     lines: &Lines,
     most: usize,
-) -> Result<Vec<&'e TypeName>, NoMemory> {
-    let mut path = Vec::new(alloc);
-    let mut next = parent_of(alloc, edges, name)?;
-    for _ in 0..most {
-        let Some(parent) = next else {
-            break;
-        };
-        if lines.line_places.contains_key(parent) {
-            break;
-        }
-        path.push(parent)?;
-        next = parent_of(alloc, edges, parent)?;
-    }
+) -> Result<Vec<&'e TypeName>, NoMemory>
+    ensures { IfOk result (λ path. (up : List (Bor (List ℕ))) × (path.items ≡ reversed up)
+        × IsWayUp (searched.parents-value.it edges.now) lines.now most name.now (map (λ p. p.now) up)) }
+{
+    let mut path = way_up(alloc, edges, name, lines, most)?;
     path.reverse();
     Ok(path)
 }

@@ -16,7 +16,7 @@ use Rattle.schema.specs.Schemas.{StatedSchema}
 use Rattle.entity_worlds.specs.declared.entity.Entity.{Entity}
 use Rattle.entities.specs.declared.fault.EntityFault.{EntityFault}
 use Rattle.entities.specs.declared.fault.EntityFault.TheVariants.{NoMemory}
-use Rattle.entities.specs.Entities.{entity_in}
+use Rattle.entities.specs.Entities.{entity_stated_in}
 use Rattle.decision_texts.specs.declared.refusal.Refusal.{Refusal}
 use Rattle.decision_texts.specs.Refusals.{no_memory, bad_shape}
 use Rattle.schema_decisions.specs.Refusals.{entity_refusal}
@@ -29,7 +29,7 @@ told place fault read fails other = ap (placed place) (fails (λ e. other (ap (e
 
 -- an earlier value states an entity of this uid
 abbrev pub is_before : StatedSchema → EntityUid → List Data → Bool
-is_before s uid ds = list_any (λ earlier. names uid (entity_in s earlier)) ds
+is_before s uid ds = list_any (λ earlier. names uid (entity_stated_in s earlier)) ds
 
 -- an entity that was read has this uid
 abbrev pub is_among : EntityUid → List Entity → Bool
@@ -40,13 +40,13 @@ placed_ok place (Ok y) x h = let same : y ≡ x = cc in ap Ok same
 placed_ok place (Err fault) x h = absurd cc
 
 module _ (s : StatedSchema) where
-  stated : (ds : List Data) (k : ℕ) (d : Data) (y : Entity) → entity_at s ds k d ≡ Ok y → entity_in s d ≡ Ok y
+  stated : (ds : List Data) (k : ℕ) (d : Data) (y : Entity) → entity_at s ds k d ≡ Ok y → entity_stated_in s d ≡ Ok y
   unfolding entity_at
   stated ds k d y h =
-      let a = bind_ok (placed k (entity_in s d)) (λ (e : Entity). demand (bad_shape (Some k)) (not (is_before s e.uid (take k ds))) >>= λ (first : ⊤). Ok e) y h in
+      let a = bind_ok (placed k (entity_stated_in s d)) (λ (e : Entity). demand (bad_shape (Some k)) (not (is_before s e.uid (take k ds))) >>= λ (first : ⊤). Ok e) y h in
       let b = bind_ok (demand (bad_shape (Some k)) (not (is_before s a.0.uid (take k ds)))) (λ (first : ⊤). Ok a.0) y a.2 in
       let same : a.0 ≡ y = cc (b.2) in
-      placed_ok k (entity_in s d) a.0 a.1 ∙ ap Ok same
+      placed_ok k (entity_stated_in s d) a.0 a.1 ∙ ap Ok same
 
   -- the uids that values state are those of the entities that were read of them
   listed : (ds xs : List Data) (k : ℕ) (es : List Entity) (u : EntityUid) → each (entity_at s ds) k xs ≡ Ok es → is_before s u xs ≡ is_among u es
@@ -56,7 +56,7 @@ module _ (s : StatedSchema) where
       let a = bind_ok (entity_at s ds k x) (λ (y : Entity). each (entity_at s ds) (suc k) xs >>= λ (ys : List Entity). Ok (y ∷ ys)) es h in
       let b = bind_ok (each (entity_at s ds) (suc k) xs) (λ (ys : List Entity). Ok (a.0 ∷ ys)) es a.2 in
       let same : a.0 ∷ b.0 ≡ es = cc (b.2) in
-      let here : entity_in s x ≡ Ok a.0 = stated ds k x a.0 a.1 in
+      let here : entity_stated_in s x ≡ Ok a.0 = stated ds k x a.0 a.1 in
       rw (here, listed ds xs (suc k) b.0 u b.1) (ap (is_among u) same)
 
   -- the same, at a step of the loop
@@ -65,15 +65,15 @@ module _ (s : StatedSchema) where
   before_is vs i es u read =
       ap (λ (ds : List Data). is_before s u (take i ds)) (list_of-items_view vs) ∙ ap (is_before s u) (take-map view i vs) ∙ listed (list_of (items_view vs)) (map view (take i vs)) 0 es u read
 
-  pub at_new : (ds : List Data) (k : ℕ) (d : Data) (y : Entity) → placed k (entity_in s d) ≡ Ok y → is_before s y.uid (take k ds) ≡ false → entity_at s ds k d ≡ Ok y
+  pub at_new : (ds : List Data) (k : ℕ) (d : Data) (y : Entity) → placed k (entity_stated_in s d) ≡ Ok y → is_before s y.uid (take k ds) ≡ false → entity_at s ds k d ≡ Ok y
   unfolding entity_at
   at_new ds k d y is new = rw (is, new) refl
 
-  pub at_again : (ds : List Data) (k : ℕ) (d : Data) (y : Entity) → placed k (entity_in s d) ≡ Ok y → is_before s y.uid (take k ds) ≡ true → entity_at s ds k d ≡ Err (bad_shape (Some k))
+  pub at_again : (ds : List Data) (k : ℕ) (d : Data) (y : Entity) → placed k (entity_stated_in s d) ≡ Ok y → is_before s y.uid (take k ds) ≡ true → entity_at s ds k d ≡ Err (bad_shape (Some k))
   unfolding entity_at
   at_again ds k d y is again = rw (is, again) refl
 
-  pub at_fault : (ds : List Data) (k : ℕ) (d : Data) (memory e : Refusal) → Fails memory e (placed k (entity_in s d)) → Fails memory e (entity_at s ds k d)
+  pub at_fault : (ds : List Data) (k : ℕ) (d : Data) (memory e : Refusal) → Fails memory e (placed k (entity_stated_in s d)) → Fails memory e (entity_at s ds k d)
   unfolding entity_at
   at_fault ds k d memory e fails other = rw (fails other) refl
 

@@ -15,7 +15,7 @@ use Rattle.schema_decisions.specs.Refusals.{OrNoMemory}
 use Rattle.schema_decisions.specs.Policies.{FirstUnpassed, ArePassing, ArePassingRefused, unpassed}
 use Rattle.schema_decisions.specs.EntityArrays.{entities_of}
 use Rattle.schema_decisions.specs.Requests.{IsRequestRefused}
-use Rattle.schema_decisions.specs.Decisions.{IsAnswerTo, IsAnswered, IsUnanswered, by_request, IsRefusedUnder, by_question}
+use Rattle.schema_decisions.specs.Decisions.{IsAnswerTo, IsQuestionAnswered, IsQuestionRefused, by_request, IsRefusedUnder, by_question}
 use Rattle.schema_decisions.specs.inner.Stores.{Keeps, world_held, IsLineTo}
 use Rattle.schema_decisions.proofs.StoreLemmas.{held_world}
 
@@ -43,7 +43,7 @@ module _ {X : Type 0} (kept : X) (checked : Result ⊤ Refusal) (result : Result
 
 module _ (s : StatedSchema) where
   pub answered : (policies : List NamedPolicy) (entities request line : List ℕ) (store : Entries) → Keeps (entities_of s entities) store
-      → IsLineTo s policies (world_held s store) request line → IsAnswered s policies entities request line
+      → IsLineTo s policies (world_held s store) request line → IsQuestionAnswered s policies entities request line
   answered policies entities request line store kept to = record {
     stored = kept.entities;
     array = kept.are;
@@ -55,7 +55,7 @@ module _ (s : StatedSchema) where
   }
 
   pub unanswered : (entities request : List ℕ) (store : Entries) (refusal : Refusal) → Keeps (entities_of s entities) store
-      → OrNoMemory (IsRequestRefused s request) refusal → OrNoMemory (IsUnanswered s entities request) refusal
+      → OrNoMemory (IsRequestRefused s request) refusal → OrNoMemory (IsQuestionRefused s entities request) refusal
   unanswered entities request store refusal kept due other = by_request kept.entities kept.are (due other)
 
   -- the file of policies, as it was read and as it was checked
@@ -69,5 +69,5 @@ module _ (s : StatedSchema) where
         unpassed _ _ file (subst (λ (ps : List (String Global × Policy)). FirstUnpassed s 0 (map (λ p. p.1) ps) refusal) same (due other))
 
   pub no_question : (policies entities request : List ℕ) (names : List (List ℕ)) (cores : List Policy) (refusal : Refusal) → ArePassing s policies names cores
-      → OrNoMemory (IsUnanswered s entities request) refusal → OrNoMemory (IsRefusedUnder s policies entities request) refusal
+      → OrNoMemory (IsQuestionRefused s entities request) refusal → OrNoMemory (IsRefusedUnder s policies entities request) refusal
   no_question policies entities request names cores refusal passing due other = by_question names cores passing (due other)

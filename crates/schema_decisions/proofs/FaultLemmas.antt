@@ -7,13 +7,13 @@ use Rattle.entities.specs.declared.fault.EntityFault.{EntityFault}
 use Rattle.entities.specs.declared.fault.EntityFault.TheVariants as entity_fault
 use Rattle.validator.specs.declared.fault.CheckFault.{CheckFault}
 use Rattle.validator.specs.declared.fault.CheckFault.TheVariants as check_fault
-use Rattle.validator.specs.Passing.{IsRefused}
+use Rattle.validator.specs.Passing.{IsCheckRefused}
 use Rattle.policy_checks.specs.Refusals.{check_refusal}
 use Rattle.schema_decisions.specs.Refusals.{entity_refusal, OrNoMemory}
 use Rattle.schema_decisions.specs.Policies.{IsUnpassed}
 use Rattle.schema_decisions.specs.Requests.{IsRequestFault, IsRequestRefused}
 
-pub policy_told : (s : StatedSchema) (place : ℕ) (p : Policy) (why : CheckFault) → (why ≢ check_fault.NoMemory → IsRefused s p why)
+pub policy_told : (s : StatedSchema) (place : ℕ) (p : Policy) (why : CheckFault) → (why ≢ check_fault.NoMemory → IsCheckRefused s p why)
     → OrNoMemory (IsUnpassed s place p) (check_refusal place why)
 policy_told s place p why due other = record { fault = why; due = due (λ e. other (ap (check_refusal place) e)); is = refl }
 

@@ -26,8 +26,8 @@ use Rattle.schema_decisions.specs.Refusals.{entity_refusal}
 use Rattle.schema_decisions.specs.Policies.{ArePassing, FirstUnpassed, unpassed_here, unpassed_later, unread, unpassed}
 use Rattle.schema_decisions.specs.EntityArrays.{entities_of}
 use Rattle.schema_decisions.specs.Requests.{IsRequestText}
-use Rattle.schema_decisions.specs.Decisions.{world_under, IsAnswered, IsUnanswered, by_entities, by_request, IsDecidedUnder, IsRefusedUnder}
-use Rattle.schema_decisions.specs.Decisions.{by_policies, by_question, IsDecided, IsRefused, by_schema, under_schema}
+use Rattle.schema_decisions.specs.Decisions.{world_under, IsQuestionAnswered, IsQuestionRefused, by_entities, by_request, IsDecidedUnder, IsRefusedUnder}
+use Rattle.schema_decisions.specs.Decisions.{by_policies, by_question, IsDecided, IsSchemaDecisionRefused, by_schema, under_schema}
 use Rattle.schema_decisions.specs.Outcomes.{LineOrRefusal}
 use Rattle.decision_texts.proofs.PolicyTexts.{PoliciesOrNone}
 use Rattle.decision_texts.proofs.NameLemmas.{some_order}
@@ -88,7 +88,7 @@ module _ (laws : Laws) where
       answered stored array asked question =
           let order = some_order (named_policies names cores) in
           let answer = laws.answers (world_under s stored) (with_parents s stored) (all_parents bytes s states stored) asked order.0 in
-          let told : IsAnswered s (named_policies names cores) entities request (answer_line answer.0) = record {
+          let told : IsQuestionAnswered s (named_policies names cores) entities request (answer_line answer.0) = record {
             stored = stored;
             array = array;
             asked = asked;
@@ -99,7 +99,7 @@ module _ (laws : Laws) where
           } in
           inl (answer_line answer.0, record { names = names; cores = cores; passing = passing; answered = told })
 
-      unanswered : (refusal : Refusal) → IsUnanswered s entities request refusal → Under
+      unanswered : (refusal : Refusal) → IsQuestionRefused s entities request refusal → Under
       unanswered refusal none = inr (refusal, by_question names cores passing none)
 
       by_asked : (stored : List Entity) → entities_of s entities ≡ Ok stored → RequestOrNone s (json_of request) → Under
@@ -121,7 +121,7 @@ module _ (laws : Laws) where
 
   abbrev Outcome : List ℕ → List ℕ → List ℕ → List ℕ → Type 0
   Outcome schema policies entities request = ((line : List ℕ) × IsDecided schema policies entities request line)
-      ⊎ ((refusal : Refusal) × IsRefused schema policies entities request refusal)
+      ⊎ ((refusal : Refusal) × IsSchemaDecisionRefused schema policies entities request refusal)
 
   joined : (schema : List ℕ) (s : StatedSchema) → IsSchemaOf schema s → (policies entities request : List ℕ)
       → ((line : List ℕ) × IsDecidedUnder s policies entities request line) ⊎ ((refusal : Refusal) × IsRefusedUnder s policies entities request refusal)

@@ -20,7 +20,7 @@ use Rattle.entities.specs.Requests.{StatesRequest, RequestRefused}
 use Rattle.entities.specs.Laws as requests
 use Rattle.entity_store.specs.Laws.{MemberOfAnswersAlike}
 use Rattle.validator.specs.declared.fault.CheckFault.{CheckFault}
-use Rattle.validator.specs.Passing.{Passes, IsRefused}
+use Rattle.validator.specs.Passing.{Passes, IsCheckRefused}
 use Rattle.validator.specs.Outcomes as checks
 use Rattle.decision_texts.specs.declared.refusal.Refusal.{Refusal}
 use Rattle.decision_texts.specs.Lines.{answer_line}
@@ -33,7 +33,7 @@ use Rattle.schema_decisions.specs.Policies.{ArePassing, FirstUnpassed, unpassed_
 use Rattle.schema_decisions.specs.EntityArrays.{entities_of}
 use Rattle.schema_decisions.specs.Requests.{IsRequestText, IsRequestRefused}
 use Rattle.schema_decisions.specs.Decisions as decisions
-use Rattle.schema_decisions.specs.Decisions.{world_under, IsAnswerTo, IsAnswered, IsUnanswered, by_entities, by_request}
+use Rattle.schema_decisions.specs.Decisions.{world_under, IsAnswerTo, IsQuestionAnswered, IsQuestionRefused, by_entities, by_request}
 use Rattle.schema_decisions.specs.Decisions.{IsDecidedUnder, IsRefusedUnder, by_policies, by_question, by_schema, under_schema}
 use Rattle.schema_decisions.specs.Outcomes.{OneLine, NotBoth, OneRefusal, ListsOfLinesAscend, MemberOfDecidesAlike}
 use Rattle.schema_decisions.proofs.StoreLemmas.{with_parents, all_parents}
@@ -92,7 +92,7 @@ module _ (laws : Laws) where
   same_fault : (f g : CheckFault) → checks.refused f ≡ checks.refused g → f ≡ g
   same_fault f g h = cc
 
-  one_check : (s : StatedSchema) (p : Policy) (f g : CheckFault) → IsRefused s p f → IsRefused s p g → f ≡ g
+  one_check : (s : StatedSchema) (p : Policy) (f g : CheckFault) → IsCheckRefused s p f → IsCheckRefused s p g → f ≡ g
   one_check s p f g x y = same_fault f g ((laws.checked s p).2 (checks.refused f) x ∙ sym ((laws.checked s p).2 (checks.refused g) y))
 
   all_or_first : (s : StatedSchema) (place : ℕ) (ps : List Policy) (refusal : Refusal) → All (Passes s) ps → FirstUnpassed s place ps refusal → ⊥
@@ -159,7 +159,7 @@ module _ (laws : Laws) where
       one.2 a (subst (λ ps. IsAnswer (world_under s stored) asked ps a) order x.is) ∙ sym (one.2 b y.is)
 
   line_same : (bytes : List ℕ) (s : StatedSchema) → IsSchemaOf bytes s → (policies : List NamedPolicy) (entities request line other : List ℕ) → HaveOwnNames policies
-      → IsAnswered s policies entities request line → IsAnswered s policies entities request other → line ≡ other
+      → IsQuestionAnswered s policies entities request line → IsQuestionAnswered s policies entities request other → line ≡ other
   line_same bytes s states policies entities request line other own x y =
       let stored = ok_same (entities_of s entities) x.stored y.stored x.array y.array in
       let asked = asked_same s (json_of request) x.asked y.asked x.question y.question in
@@ -168,12 +168,12 @@ module _ (laws : Laws) where
       x.line_is ∙ ap answer_line (answer_same bytes s states policies y.stored y.asked x.answer y.answer own moved y.answers) ∙ sym y.line_is
 
   answered_or_not : (s : StatedSchema) (policies : List NamedPolicy) (entities request line : List ℕ) (refusal : Refusal)
-      → IsAnswered s policies entities request line → IsUnanswered s entities request refusal → ⊥
+      → IsQuestionAnswered s policies entities request line → IsQuestionRefused s entities request refusal → ⊥
   answered_or_not s policies entities request line refusal x (by_entities none) = ok_or_err (entities_of s entities) x.stored refusal x.array none
   answered_or_not s policies entities request line refusal x (by_request stored array none) = request_or_refused s request x.asked refusal x.question none
 
   one_unanswered : (s : StatedSchema) (entities request : List ℕ) (refusal other : Refusal)
-      → IsUnanswered s entities request refusal → IsUnanswered s entities request other → refusal ≡ other
+      → IsQuestionRefused s entities request refusal → IsQuestionRefused s entities request other → refusal ≡ other
   one_unanswered s entities request refusal other (by_entities a) (by_entities b) = err_same (entities_of s entities) refusal other a b
   one_unanswered s entities request refusal other (by_entities a) (by_request stored array b) = absurd (ok_or_err (entities_of s entities) stored refusal array a)
   one_unanswered s entities request refusal other (by_request stored array a) (by_entities b) = absurd (ok_or_err (entities_of s entities) stored other array b)
@@ -185,7 +185,7 @@ module _ (laws : Laws) where
       → IsDecidedUnder s policies entities request line → IsDecidedUnder s policies entities request other → line ≡ other
   under_same bytes s states policies entities request line other x y =
       let file = one_file policies x.names y.names x.cores y.cores x.passing.file y.passing.file in
-      let moved = subst (λ (f : List (List ℕ) × List Policy). IsAnswered s (named_policies f.0 f.1) entities request line) file x.answered in
+      let moved = subst (λ (f : List (List ℕ) × List Policy). IsQuestionAnswered s (named_policies f.0 f.1) entities request line) file x.answered in
       let own = own_names laws.each laws.differ policies y.names y.cores y.passing.file.file in
       line_same bytes s states (named_policies y.names y.cores) entities request line other own moved y.answered
 

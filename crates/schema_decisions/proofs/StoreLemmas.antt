@@ -13,7 +13,7 @@ use Rattle.evaluator.specs.Operators.{world_of}
 use Rattle.schema.specs.Schemas.{StatedSchema, IsSchemaOf}
 use Rattle.entity_worlds.specs.declared.entity.Entity.{Entity}
 use Rattle.entity_worlds.specs.declared.data.EntityData.{EntityData}
-use Rattle.entity_worlds.specs.Entities.{EntityMap, Actions, action_or, with_actions, world_in, attributes_of, parents_of}
+use Rattle.entity_worlds.specs.Entities.{EntityMap, Actions, action_or, with_actions, world_in, attributes_of, kept_parents}
 use Rattle.entity_worlds.specs.Keeping.{Entries, kept_in, Puts, data_of}
 use Rattle.decision_texts.proofs.StoreLemmas.{not_first, other, later, none_in, some_if}
 use Rattle.schema_decisions.specs.Decisions.{stated, world_under}
@@ -47,7 +47,7 @@ pub has_stated : (store : Entries) (es : List Entity) → Holds store es → (q 
 has_stated store es held q = ap is_some (held q) ∙ some_stated es q
 
 world_same : (actions : Actions) (f g : EntityMap) → ((q : EntityUid) → f q ≡ g q) → world_in (with_actions actions f) ≡ world_in (with_actions actions g)
-world_same actions f g same = λ i. world_of (λ q. attributes_of (action_or (actions q) (same q i))) (λ q. parents_of (action_or (actions q) (same q i)))
+world_same actions f g same = λ i. world_of (λ q. attributes_of (action_or (actions q) (same q i))) (λ q. kept_parents (action_or (actions q) (same q i)))
 
 pub held_world : (s : StatedSchema) (store : Entries) (es : List Entity) → Holds store es → world_held s store ≡ world_under s es
 held_world s store es held = world_same s.ancestors (kept_in store) (stated es) held
@@ -57,19 +57,19 @@ held_world s store es held = world_same s.ancestors (kept_in store) (stated es) 
 abbrev own_uids : List Entity → List EntityUid
 own_uids es = map (λ e. e.uid) es
 
-chosen : (own : Bool) (u b a : EntityUid) (us : List EntityUid) (e : EntityData) (o : Option EntityData) → (own ≡ true → u ≡ b) → (Contains (parents_of o) a → Contains us b) →
-    Contains (parents_of (if own then Some e else o)) a → Contains (u ∷ us) b
+chosen : (own : Bool) (u b a : EntityUid) (us : List EntityUid) (e : EntityData) (o : Option EntityData) → (own ≡ true → u ≡ b) → (Contains (kept_parents o) a → Contains us b) →
+    Contains (kept_parents (if own then Some e else o)) a → Contains (u ∷ us) b
 chosen true u b a us e o same further c = subst (Contains (u ∷ us)) (same refl) (Contains-here u us)
 chosen false u b a us e o same further c = Contains-there u us b (further c)
 
-entity_listed : (es : List Entity) (b a : EntityUid) → Contains (parents_of (stated es b)) a → Contains (own_uids es) b
+entity_listed : (es : List Entity) (b a : EntityUid) → Contains (kept_parents (stated es b)) a → Contains (own_uids es) b
 entity_listed [] b a c = Contains-none a c
 entity_listed (e ∷ es) b a c =
     chosen (is_eq (uid_cmp e.uid b)) e.uid b a (own_uids es) (data_of e) (stated es b) (λ same. (equal-is uid_cmp-IsTotalOrder uid_cmp-IsAntisymmetric e.uid b).0 same) (entity_listed es b a) c
 
 -- what has parents is an action, or an entity
-parent_of : (actions : Option (List EntityUid)) (o : Option EntityData) (a : EntityUid) {G : Type 0} → Contains (parents_of (action_or actions o)) a
-    → ((us : List EntityUid) → actions ≡ Some us → G) → (Contains (parents_of o) a → G) → G
+parent_of : (actions : Option (List EntityUid)) (o : Option EntityData) (a : EntityUid) {G : Type 0} → Contains (kept_parents (action_or actions o)) a
+    → ((us : List EntityUid) → actions ≡ Some us → G) → (Contains (kept_parents o) a → G) → G
 parent_of None o a h f g = g h
 parent_of (Some us) o a h f g = f us refl
 

@@ -41,7 +41,8 @@ pub record IsAnswerTo (policies : List NamedPolicy) (W : World) (asked : Request
 -- ---- entities and a request, under a schema and over policies that pass
 
 -- the two texts are read, and this is the line of the request's answer
-pub record IsAnswered (s : StatedSchema) (policies : List NamedPolicy) (entities request line : List ℕ) : Type 0 where
+pub record IsQuestionAnswered (s : StatedSchema) (policies : List NamedPolicy) (entities request line : List ℕ)
+    : Type 0 where
   pub stored : List Entity
   pub array : entities_of s entities ≡ Ok stored
   pub asked : Request
@@ -51,10 +52,10 @@ pub record IsAnswered (s : StatedSchema) (policies : List NamedPolicy) (entities
   pub line_is : line ≡ answer_line answer
 
 -- the entities are refused, or else the request
-pub data IsUnanswered (s : StatedSchema) (entities request : List ℕ) (refusal : Refusal) : Type 0 where
-  by_entities : entities_of s entities ≡ Err refusal → IsUnanswered s entities request refusal
+pub data IsQuestionRefused (s : StatedSchema) (entities request : List ℕ) (refusal : Refusal) : Type 0 where
+  by_entities : entities_of s entities ≡ Err refusal → IsQuestionRefused s entities request refusal
   by_request : (stored : List Entity) → entities_of s entities ≡ Ok stored → IsRequestRefused s request refusal
-      → IsUnanswered s entities request refusal
+      → IsQuestionRefused s entities request refusal
 
 -- ---- three texts under a schema
 
@@ -62,12 +63,12 @@ pub record IsDecidedUnder (s : StatedSchema) (policies entities request line : L
   pub names : List (List ℕ)
   pub cores : List Policy
   pub passing : ArePassing s policies names cores
-  pub answered : IsAnswered s (named_policies names cores) entities request line
+  pub answered : IsQuestionAnswered s (named_policies names cores) entities request line
 
 pub data IsRefusedUnder (s : StatedSchema) (policies entities request : List ℕ) (refusal : Refusal) : Type 0 where
   by_policies : ArePassingRefused s policies refusal → IsRefusedUnder s policies entities request refusal
   by_question : (names : List (List ℕ)) (cores : List Policy) → ArePassing s policies names cores
-      → IsUnanswered s entities request refusal → IsRefusedUnder s policies entities request refusal
+      → IsQuestionRefused s entities request refusal → IsRefusedUnder s policies entities request refusal
 
 -- ---- four texts
 
@@ -78,7 +79,7 @@ pub record IsDecided (schema policies entities request line : List ℕ) : Type 0
   pub decided : IsDecidedUnder stated policies entities request line
 
 -- the first text that is refused, and why
-pub data IsRefused (schema policies entities request : List ℕ) (refusal : Refusal) : Type 0 where
-  by_schema : IsSchemaRefused schema refusal → IsRefused schema policies entities request refusal
+pub data IsSchemaDecisionRefused (schema policies entities request : List ℕ) (refusal : Refusal) : Type 0 where
+  by_schema : IsSchemaRefused schema refusal → IsSchemaDecisionRefused schema policies entities request refusal
   under_schema : (s : StatedSchema) → IsSchemaOf schema s → IsRefusedUnder s policies entities request refusal
-      → IsRefused schema policies entities request refusal
+      → IsSchemaDecisionRefused schema policies entities request refusal

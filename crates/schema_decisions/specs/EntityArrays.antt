@@ -14,7 +14,7 @@ use Rattle.ancestor_closure.specs.Decided.{is_same}
 use Rattle.schema.specs.Schemas.{StatedSchema}
 use Rattle.entity_worlds.specs.declared.entity.Entity.{Entity}
 use Rattle.entities.specs.declared.fault.EntityFault.{EntityFault}
-use Rattle.entities.specs.Entities.{entity_in}
+use Rattle.entities.specs.Entities.{entity_stated_in}
 use Rattle.decision_texts.specs.declared.refusal.Refusal.{Refusal}
 use Rattle.decision_texts.specs.Refusals.{bad_shape}
 use Rattle.schema_decisions.specs.Refusals.{entity_refusal}
@@ -32,9 +32,9 @@ placed place (Err fault) = Err (entity_refusal (Some place) fault)
 -- the entity at a place of an array, of whose uid there is none before it
 unfoldable pub entity_at : StatedSchema → List Data → ℕ → Data → Result Entity Refusal
 entity_at s ds place d = do
-  entity ← placed place (entity_in s d)
+  entity ← placed place (entity_stated_in s d)
   first ← demand (bad_shape (Some place))
-      (not (list_any (λ earlier. names entity.uid (entity_in s earlier)) (take place ds)))
+      (not (list_any (λ earlier. names entity.uid (entity_stated_in s earlier)) (take place ds)))
   Ok entity
 
 -- the entities of an array, or the first fault with its place

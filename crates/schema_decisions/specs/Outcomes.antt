@@ -6,7 +6,7 @@ use Rattle.authoriser.specs.Laws.{AreIdsAscending}
 use Rattle.entity_store.specs.Laws.{stated_world}
 use Rattle.decision_texts.specs.declared.refusal.Refusal.{Refusal}
 use Rattle.decision_texts.specs.Decisions.{named_policies}
-use Rattle.schema_decisions.specs.Decisions.{stated, IsAnswerTo, IsDecided, IsRefused}
+use Rattle.schema_decisions.specs.Decisions.{stated, IsAnswerTo, IsDecided, IsSchemaDecisionRefused}
 
 -- four texts have one line at most
 abbrev pub OneLine : Type 0
@@ -16,19 +16,20 @@ OneLine = (schema policies entities request line other : List ℕ) → IsDecided
 -- texts that are decided are not refused
 abbrev pub NotBoth : Type 0
 NotBoth = (schema policies entities request line : List ℕ) (refusal : Refusal)
-    → IsDecided schema policies entities request line → IsRefused schema policies entities request refusal → ⊥
+    → IsDecided schema policies entities request line
+    → IsSchemaDecisionRefused schema policies entities request refusal → ⊥
 
 -- four texts have one refusal at most
 abbrev pub OneRefusal : Type 0
 OneRefusal = (schema policies entities request : List ℕ) (refusal other : Refusal)
-    → IsRefused schema policies entities request refusal
-    → IsRefused schema policies entities request other → refusal ≡ other
+    → IsSchemaDecisionRefused schema policies entities request refusal
+    → IsSchemaDecisionRefused schema policies entities request other → refusal ≡ other
 
 -- four texts have a line or a refusal
 abbrev pub LineOrRefusal : Type 0
 LineOrRefusal = (schema policies entities request : List ℕ)
     → ((line : List ℕ) × IsDecided schema policies entities request line)
-    ⊎ ((refusal : Refusal) × IsRefused schema policies entities request refusal)
+    ⊎ ((refusal : Refusal) × IsSchemaDecisionRefused schema policies entities request refusal)
 
 -- the ids in a line's answer ascend: the reason, and the errors by their policy
 abbrev pub ListsOfLinesAscend : Type 0

@@ -5,7 +5,7 @@ use Rattle.std.specs.Prelude.{◌≡◌, ℕ, suc, List, ◌∷◌, All}
 use Rattle.policy_grammar.specs.declared.policy.Policy.{Policy}
 use Rattle.schema.specs.Schemas.{StatedSchema}
 use Rattle.validator.specs.declared.fault.CheckFault.{CheckFault}
-use Rattle.validator.specs.Passing.{Passes, IsRefused}
+use Rattle.validator.specs.Passing.{Passes, IsCheckRefused}
 use Rattle.decision_texts.specs.declared.refusal.Refusal.{Refusal}
 use Rattle.decision_texts.specs.Decisions.{ArePoliciesOf, ArePoliciesRefused}
 use Rattle.policy_checks.specs.Refusals.{check_refusal}
@@ -19,7 +19,7 @@ pub record ArePassing (s : StatedSchema) (bytes : List ℕ) (names : List (List 
 -- the policy at this place does not pass, for this
 pub record IsUnpassed (s : StatedSchema) (place : ℕ) (policy : Policy) (refusal : Refusal) : Type 0 where
   pub fault : CheckFault
-  pub due : IsRefused s policy fault
+  pub due : IsCheckRefused s policy fault
   pub is : refusal ≡ check_refusal place fault
 
 -- the first of these policies that does not pass, where the first of them stands at this place

@@ -6,8 +6,8 @@ ghost use Rattle.schema.specs.Views.{schema_view};
 ghost use Rattle.decision_texts.specs.Decisions.{named_policies};
 ghost use Rattle.schema_decisions.specs.Refusals.{OrNoMemory};
 ghost use Rattle.schema_decisions.specs.Requests.{IsRequestRefused};
-ghost use Rattle.schema_decisions.specs.Decisions.{IsAnswerTo, IsAnswered, IsUnanswered};
-ghost use Rattle.schema_decisions.specs.Decisions.{IsDecidedUnder, IsRefusedUnder, IsDecided, IsRefused};
+ghost use Rattle.schema_decisions.specs.Decisions.{IsAnswerTo, IsQuestionAnswered, IsQuestionRefused};
+ghost use Rattle.schema_decisions.specs.Decisions.{IsDecidedUnder, IsRefusedUnder, IsDecided, IsSchemaDecisionRefused};
 ghost use Rattle.schema_decisions.specs.inner.Stores.{world_held, IsLineIn, IsLineTo};
 
 use crate::entity_array::read_entities;
@@ -95,11 +95,11 @@ fn answer_texts(
     entities: &[u8],
     request: &[u8],
 ) -> Result<Vec<u8>, Refusal>
-    ensures answered { IfOk result (λ line. IsAnswered (schema_view schema.now)
+    ensures answered { IfOk result (λ line. IsQuestionAnswered (schema_view schema.now)
         (named_policies (map (λ p. string_bytes p.0) policies.now) (map (λ p. p.1) policies.now))
         entities.now request.now line.items) }
     ensures refused { IfErr result
-        (OrNoMemory (IsUnanswered (schema_view schema.now) entities.now request.now)) }
+        (OrNoMemory (IsQuestionRefused (schema_view schema.now) entities.now request.now)) }
 {
     let store = read_entities(alloc, schema, entities)?;
     line_to(alloc, schema, policies, &store, request)
@@ -141,7 +141,8 @@ pub fn decide_under(
     request: &[u8],
 ) -> Result<Vec<u8>, Refusal>
     ensures decided { IfOk result (λ line. IsDecided schema.now policies.now entities.now request.now line.items) }
-    ensures refused { IfErr result (OrNoMemory (IsRefused schema.now policies.now entities.now request.now)) }
+    ensures refused { IfErr result
+        (OrNoMemory (IsSchemaDecisionRefused schema.now policies.now entities.now request.now)) }
 {
     let schema = schema_in(alloc, schema)?;
     decide_texts(alloc, &schema, policies, entities, request)

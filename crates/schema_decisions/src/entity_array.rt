@@ -4,7 +4,7 @@ ghost use Rattle.serde_json.specs.Find.{as_array};
 ghost use Rattle.serde_json.specs.View.{view, items_view};
 ghost use Rattle.json_words.specs.ReadsAs.{ReadsAs};
 ghost use Rattle.schema.specs.Views.{schema_view};
-ghost use Rattle.entities.specs.Entities.{entity_in};
+ghost use Rattle.entities.specs.Entities.{entity_stated_in};
 ghost use Rattle.decision_texts.specs.Refusals.{no_memory, bad_shape};
 ghost use Rattle.schema_decisions.specs.EntityArrays.{placed, entities_in, entities_of};
 ghost use Rattle.schema_decisions.specs.inner.Stores.{ReadsStore};
@@ -33,7 +33,8 @@ fn read_entity_at(
     value: &Value,
     place: usize,
 ) -> Result<Entity, Refusal>
-    ensures { ReadsAs no_memory (λ e. e) result (placed place (entity_in (schema_view schema.now) (view value.now))) }
+    ensures { ReadsAs no_memory (λ e. e) result
+        (placed place (entity_stated_in (schema_view schema.now) (view value.now))) }
 {
     match read_entity(alloc, schema, value) {
         Ok(entity) => Ok(entity),

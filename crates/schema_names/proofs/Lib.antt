@@ -11,3 +11,4 @@ pub mod OutcomeLemmas
 pub mod RecordLemmas
 pub mod ShapeLemmas
 pub mod SpreadLemmas
+pub mod UsesLemmas

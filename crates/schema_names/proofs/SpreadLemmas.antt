@@ -8,16 +8,13 @@ use Rattle.std.proofs.lemmas.List.Elements.{Contains-append_left, Contains-appen
 use Rattle.std.proofs.lemmas.Slice.Eq.{bytes_eq-Decides}
 use Rattle.schema_types.specs.Names.{Scope}
 use Rattle.schema_file.specs.Stated.{NamespaceOf}
-use Rattle.schema_names.specs.Qualifying.{CommonOf, common_in, commons_declared, scope_in}
+use Rattle.schema_names.specs.Qualifying.{CommonOf, commons_declared, scope_in}
 use Rattle.schema_names.specs.inner.Adding.{has_name}
-use Rattle.schema_names.specs.inner.Spreading.{means_now, NamesNoRecord, IsSound, AreAmong, IsSettled, KeepsNames, Spreads, ReportsRecords, tried_one, tried_of, tried_at, tried_in_order}
-use Rattle.schema_names.specs.declared.records.Place.{Place}
+use Rattle.schema_names.specs.inner.Spreading.{means_now, NamesNoRecord, IsSound, AreAmong, IsSettled, KeepsNames, Spreads, ReportsRecords, tried_one, tried_in_order}
+use Rattle.schema_names.specs.inner.Uses.{listed_view}
+use Rattle.schema_names.specs.declared.order.ListedCommon.{ListedCommon}
 use Rattle.std.specs.List.{slice_get}
 use Rattle.std.proofs.lemmas.List.{drop_all, drop_more}
-use Rattle.schema_file.specs.declared.stated.StatedCommon.{StatedCommon}
-use Rattle.schema_file.specs.declared.stated.StatedNamespace.{StatedNamespace}
-use Rattle.schema_file.specs.StatedViews.{common_view, namespace_view}
-use Rattle.json_words.proofs.EachSame.{cut}
 use Rattle.plain.proofs.Members.{Contains-here, Contains-there, Contains-none}
 use Rattle.schema_names.proofs.AddLemmas.{name_added}
 use Rattle.schema_names.proofs.FollowLemmas.{found_so, all_found}
@@ -116,32 +113,16 @@ tells ns known so settled = record { sound = λ own r m. found_so ns (λ q. has_
 
 -- ---- one of the common types
 
-inner_drop : (own : Option (List ℕ)) (j : ℕ) (cs : List StatedCommon) (c : CommonOf) → Contains (map (λ x. common_in own x) (map common_view (drop j cs))) c
-    → Contains (map (λ x. common_in own x) (map common_view cs)) c
-inner_drop own zero cs c h = h
-inner_drop own (suc j) [] c h = h
-inner_drop own (suc j) (x ∷ cs) c h = Contains-there (common_in own (common_view x)) (map (λ y. common_in own y) (map common_view cs)) c (inner_drop own j cs c h)
-
-outer_drop : (j : ℕ) (ns : List StatedNamespace) (c : CommonOf) → Contains (commons_declared (map namespace_view (drop j ns))) c → Contains (commons_declared (map namespace_view ns)) c
-outer_drop zero ns c h = h
-outer_drop (suc j) [] c h = h
-outer_drop (suc j) (n ∷ ns) c h =
-    Contains-append_right (map (λ x. common_in n.name x) (map common_view n.commons)) (commons_declared (map namespace_view ns)) c (outer_drop j ns c h)
-
-pub kept_one : (s : Scope) (own : Option (List ℕ)) (cs : List StatedCommon) (j : ℕ) (c : StatedCommon) (old new : Names) → j < length cs → c ≡ get_or cs j c
-    → Spreads s (common_in own (common_view c) ∷ []) old new → KeepsNames s (map (λ x. common_in own x) (map common_view cs)) old new
-kept_one s own cs j c old new lt at h = λ ns e among so.
-    let here : Contains (map (λ x. common_in own x) (map common_view (drop j cs))) (common_in own (common_view c)) =
-    subst (λ (l : List StatedCommon). Contains (map (λ x. common_in own x) (map common_view l)) (common_in own (common_view c))) (sym (cut cs j c lt at))
-    (Contains-here (common_in own (common_view c)) (map (λ x. common_in own x) (map common_view (drop (j + 1) cs)))) in
-    let there = among (common_in own (common_view c)) (inner_drop own j cs (common_in own (common_view c)) here) in
-    h.sound ns e (λ d only. subst (λ (x : CommonOf). Contains (commons_declared ns) x) (only_member (common_in own (common_view c)) d only) there) so
-
-pub kept_at : (s : Scope) (all : List StatedNamespace) (i : ℕ) (n : StatedNamespace) (old new : Names) → i < length all → n ≡ get_or all i n
-    → KeepsNames s (map (λ x. common_in n.name x) (map common_view n.commons)) old new → KeepsNames s (commons_declared (map namespace_view all)) old new
-kept_at s all i n old new lt at h = λ ns e among so.
-    h ns e (λ c here. among c (outer_drop i all c (subst (λ (l : List StatedNamespace). Contains (commons_declared (map namespace_view l)) c) (sym (cut all i n lt at))
-    (Contains-append_left (map (λ x. common_in n.name x) (map common_view n.commons)) (commons_declared (map namespace_view (drop (i + 1) all))) c here)))) so
+pub kept_one : (s : Scope) (all : List ListedCommon) (i : ℕ) (x : ListedCommon) (old new : Names) → i < length all → x ≡ get_or all i x
+    → Spreads s (listed_view x ∷ []) old new → KeepsNames s (map listed_view all) old new
+kept_one s all i x old new lt at h = λ ns e among so.
+    let here : Contains (map listed_view all) (listed_view x) = listed_inside all i x lt at in
+    h.sound ns e (λ d only. subst (λ (y : CommonOf). Contains (commons_declared ns) y) (only_member (listed_view x) d only) (among (listed_view x) here)) so
+  where
+    listed_inside : (xs : List ListedCommon) (j : ℕ) (y : ListedCommon) → j < length xs → y ≡ get_or xs j y → Contains (map listed_view xs) (listed_view y)
+    listed_inside [] j y lt e = absurd (omega (arith, lt))
+    listed_inside (z ∷ zs) zero y lt e = subst (λ (w : ListedCommon). Contains (listed_view z ∷ map listed_view zs) (listed_view w)) (sym e) (Contains-here (listed_view z) (map listed_view zs))
+    listed_inside (z ∷ zs) (suc j) y lt e = Contains-there (listed_view z) (map listed_view zs) (listed_view y) (listed_inside zs j y (omega (arith, lt)) e)
 
 -- ---- what is tried at a place
 
@@ -155,35 +136,18 @@ none_at f [] i le = refl
 none_at f (y ∷ ys) zero le = absurd (omega (arith, le))
 none_at f (y ∷ ys) (suc i) le = none_at f ys i (omega (arith, le))
 
-twice : {A B C : Type 0} (f : B → C) (g : A → B) (xs : List A) → map f (map g xs) ≡ map (λ x. f (g x)) xs
-twice f g [] = refl
-twice f g (x ∷ xs) = ap (λ ys. f (g x) ∷ ys) (twice f g xs)
+pub tried_there : (s : Scope) (all : List ListedCommon) (i : ℕ) (x : ListedCommon) (old new : Names) → i < length all → x ≡ get_or all i x
+    → Spreads s (listed_view x ∷ []) old new → Spreads s (tried_one (slice_get (map listed_view all) i)) old new
+tried_there s all i x old new lt at h = subst (λ (o : Option CommonOf). Spreads s (tried_one o) old new) (sym (item_at listed_view all i x lt at)) h
 
-pub tried_there : (s : Scope) (own : Option (List ℕ)) (cs : List StatedCommon) (i : ℕ) (c : StatedCommon) (old new : Names) → i < length cs → c ≡ get_or cs i c
-    → Spreads s (common_in own (common_view c) ∷ []) old new → Spreads s (tried_one (slice_get (map (λ x. common_in own x) (map common_view cs)) i)) old new
-tried_there s own cs i c old new lt at h =
-    let here = ap (λ (ds : List CommonOf). slice_get ds i) (twice (λ x. common_in own x) common_view cs) ∙ item_at (λ x. common_in own (common_view x)) cs i c lt at in
-    subst (λ (o : Option CommonOf). Spreads s (tried_one o) old new) (sym here) h
+pub tried_nowhere : (s : Scope) (all : List ListedCommon) (i : ℕ) (t : Names) → length all ≤ i → Spreads s (tried_one (slice_get (map listed_view all) i)) t t
+tried_nowhere s all i t le = subst (λ (o : Option CommonOf). Spreads s (tried_one o) t t) (sym (none_at listed_view all i le)) (spreads_none s t)
 
-pub tried_nowhere : (s : Scope) (own : Option (List ℕ)) (cs : List StatedCommon) (i : ℕ) (t : Names) → length cs ≤ i
-    → Spreads s (tried_one (slice_get (map (λ x. common_in own x) (map common_view cs)) i)) t t
-tried_nowhere s own cs i t le =
-    let here = ap (λ (ds : List CommonOf). slice_get ds i) (twice (λ x. common_in own x) common_view cs) ∙ none_at (λ x. common_in own (common_view x)) cs i le in
-    subst (λ (o : Option CommonOf). Spreads s (tried_one o) t t) (sym here) (spreads_none s t)
+pub tried_step : (s : Scope) (cs : List CommonOf) (order : List ℕ) (i : ℕ) (old mid new : Names) → i < length order
+    → Spreads s (tried_one (slice_get cs (get_or order i 0))) old mid → Spreads s (tried_in_order cs (drop (i + 1) order)) mid new → Spreads s (tried_in_order cs (drop i order)) old new
+tried_step s cs order i old mid new lt h rest =
+    subst (λ (is : List ℕ). Spreads s (tried_in_order cs is) old new) (sym (drop_more order i 0 lt))
+    (spreads_both s (tried_one (slice_get cs (get_or order i 0))) (tried_in_order cs (drop (i + 1) order)) old mid new h rest)
 
-pub tried_in_namespace : (s : Scope) (all : List StatedNamespace) (i j : ℕ) (n : StatedNamespace) (old new : Names) → i < length all → n ≡ get_or all i n
-    → Spreads s (tried_one (slice_get (map (λ x. common_in n.name x) (map common_view n.commons)) j)) old new → Spreads s (tried_of (slice_get (map namespace_view all) i) j) old new
-tried_in_namespace s all i j n old new lt at h =
-    subst (λ (o : Option NamespaceOf). Spreads s (tried_of o j) old new) (sym (item_at namespace_view all i n lt at)) h
-
-pub tried_in_none : (s : Scope) (all : List StatedNamespace) (i j : ℕ) (t : Names) → length all ≤ i → Spreads s (tried_of (slice_get (map namespace_view all) i) j) t t
-tried_in_none s all i j t le = subst (λ (o : Option NamespaceOf). Spreads s (tried_of o j) t t) (sym (none_at namespace_view all i le)) (spreads_none s t)
-
-pub tried_step : (s : Scope) (ns : List NamespaceOf) (places : List Place) (order : List ℕ) (i : ℕ) (old mid new : Names) → i < length order
-    → Spreads s (tried_at ns (slice_get places (get_or order i 0))) old mid → Spreads s (tried_in_order ns places (drop (i + 1) order)) mid new → Spreads s (tried_in_order ns places (drop i order)) old new
-tried_step s ns places order i old mid new lt h rest =
-    subst (λ (is : List ℕ). Spreads s (tried_in_order ns places is) old new) (sym (drop_more order i 0 lt))
-    (spreads_both s (tried_at ns (slice_get places (get_or order i 0))) (tried_in_order ns places (drop (i + 1) order)) old mid new h rest)
-
-pub tried_end : (s : Scope) (ns : List NamespaceOf) (places : List Place) (order : List ℕ) (i : ℕ) (t : Names) → length order ≤ i → Spreads s (tried_in_order ns places (drop i order)) t t
-tried_end s ns places order i t le = subst (λ (is : List ℕ). Spreads s (tried_in_order ns places is) t t) (sym (drop_all i order le)) (spreads_none s t)
+pub tried_end : (s : Scope) (cs : List CommonOf) (order : List ℕ) (i : ℕ) (t : Names) → length order ≤ i → Spreads s (tried_in_order cs (drop i order)) t t
+tried_end s cs order i t le = subst (λ (is : List ℕ). Spreads s (tried_in_order cs is) t t) (sym (drop_all i order le)) (spreads_none s t)

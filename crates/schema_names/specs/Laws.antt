@@ -1,4 +1,4 @@
--- Laws of a file with each name found.
+-- That bytes state one file or are refused for one cause, and that a file names what it declares.
 use Rattle.std.specs.Prelude.{◌≡◌, ◌⊎◌, ℕ, List, Contains, map, Some}
 use Rattle.schema_types.specs.Qualified.{Qualified}
 use Rattle.schema_types.specs.Cedar.{Cedar, CedarFields, record_of}

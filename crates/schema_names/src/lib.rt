@@ -7,6 +7,7 @@ mod held;
 mod joining;
 mod laws;
 mod naming;
+mod order;
 mod qualifying;
 mod records;
 

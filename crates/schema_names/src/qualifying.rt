@@ -25,7 +25,7 @@ use schema_file::{
 };
 use schema_types::{FoundCommon, QualifiedType, RawType, SchemaFault};
 use std::alloc::Global;
-use values::{EntityUid, TypeName};
+use values::{EntityUid, SharedText, TypeName};
 
 /// An entity type by its full name.
 #[derive(Drop)]
@@ -195,7 +195,7 @@ fn find_action(
 {
     match &parent.type_name {
         Some(word) => find_action_of_type(alloc, names, own, word, &parent.id),
-        None => declared_action(names, action_type(alloc, own)?, &parent.id),
+        None => declared_action(alloc, names, action_type(alloc, own)?, &parent.id),
     }
 }
 
@@ -240,7 +240,7 @@ pub(crate) fn uid_of(
     ensures { IfOk result (λ u. u ≡ action_uid (action_type own.now) id.now) }
 {
     let type_name = action_type(alloc, own)?;
-    let (type_name, id) = beside(type_name, id.copy())?;
+    let (type_name, id) = beside(type_name, SharedText::from_str(alloc, id.as_str()))?;
     Ok(EntityUid { type_name, id })
 }
 

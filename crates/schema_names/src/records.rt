@@ -1,6 +1,6 @@
 //! Shapes and contexts are records.
 ghost use Rattle.std.specs.Prelude.{◌≡◌, ◌∷◌, [], ◌<◌, ◌^◌, OnOk, IfOk, MatchResult, map, option_map, true};
-ghost use Rattle.std.specs.Prelude.{false, slice_get, Some};
+ghost use Rattle.std.specs.Prelude.{false, slice_get};
 ghost use Rattle.std.specs.BTreeSet.{btree_set_len};
 ghost use Rattle.schema_types.specs.Views.{raw_view};
 ghost use Rattle.named_types.specs.NamesViews.{scope_of};
@@ -9,21 +9,23 @@ ghost use Rattle.schema_names.specs.Records.{common_meant, is_no_record, SomeIsN
 ghost use Rattle.schema_names.specs.Qualifying.{common_in, commons_declared};
 ghost use Rattle.schema_names.specs.inner.Adding.{has_name, Declares};
 ghost use Rattle.schema_names.specs.inner.Spreading.{means_now, IsSettled, KeepsNames, Spreads, ReportsRecords};
-ghost use Rattle.schema_names.specs.inner.Spreading.{tried_one, tried_at, tried_in_order};
+ghost use Rattle.schema_names.specs.inner.Spreading.{tried_one, tried_in_order};
+ghost use Rattle.schema_names.specs.inner.Uses.{listed_view};
 ghost use Rattle.schema_names.specs.inner.Spreading.{is_record_at, is_record_in, are_shapes, are_contexts};
 ghost use Rattle.schema_names.specs.inner.Spreading.{are_records_of, are_records, MayRefuseRecords};
 
 use crate::declaring::full_text;
+use crate::order::{ListedCommon, list_all, order_of};
 use named_types::{Names, find, is_other};
 use plain::NoMemory;
 use schema_file::{StatedAction, StatedCommon, StatedEntityType, StatedNamespace, StatedUse};
 use schema_types::{RawType, SchemaFault};
 use std::alloc::Global;
-use std::collections::{BTreeMap, BTreeSet};
+use std::collections::BTreeSet;
 use values::TypeName;
 
 /// The common type that a type names, where it names one that is declared.
-fn find_common(
+pub(crate) fn find_common(
     alloc: Global,
     names: &Names,
     own: &Option<TypeName>,
@@ -32,9 +34,8 @@ fn find_common(
     ensures { IfOk result (λ o. o ≡ common_meant (scope_of names.now) own.now (raw_view ty.now)) }
 {
     match ty {
-        RawType::Common(word) | RawType::EntityOrCommon(word) => {
-            find(alloc, &names.commons, own, word)
-        }
+        RawType::Common(word) => find(alloc, &names.commons, own, word),
+        RawType::EntityOrCommon(word) => find(alloc, &names.commons, own, word),
         RawType::Text
         | RawType::Long
         | RawType::Boolean
@@ -165,210 +166,39 @@ fn has_spread(
     Ok(known.len() != before)
 }
 
-/// Where a common type is declared: the place of its namespace, and its own place there.
-#[derive(Clone, Copy)]
-struct Place {
-    namespace: usize,
-    common: usize,
-}
-
-/// The common types that are declared, and the place in that list of each full name.
-#[derive(Drop)]
-struct Listed {
-    places: Vec<Place>,
-    named: BTreeMap<String, usize>,
-}
-
-fn add_listed(
-    alloc: Global,
-    listed: &mut Listed,
-    namespace: usize,
-    stated: &StatedNamespace,
-) -> Result<(), NoMemory> {
-    for (common, item) in stated.commons.as_slice().iter().enumerate() {
-        let name = full_text(alloc, &stated.name, &item.name)?;
-        let last = listed.places.len();
-        listed.named.insert(name, last)?;
-        listed.places.push(Place { namespace, common })?;
-    }
-    Ok(())
-}
-
-fn list_all(alloc: Global, stated: &[StatedNamespace]) -> Result<Listed, NoMemory> {
-    let mut listed = Listed {
-        places: Vec::new(alloc),
-        named: BTreeMap::new(alloc),
-    };
-    for (namespace, item) in stated.iter().enumerate() {
-        add_listed(alloc, &mut listed, namespace, item)?;
-    }
-    Ok(listed)
-}
-
-/// The place in the list of the common type that the one at a place names, where it names one.
-fn next_place(
-    alloc: Global,
-    names: &Names,
-    stated: &[StatedNamespace],
-    listed: &Listed,
-    place: Place,
-) -> Result<Option<usize>, NoMemory> {
-    let Some(namespace) = stated.get(place.namespace) else {
-        return Ok(None);
-    };
-    let Some(common) = namespace.commons.get(place.common) else {
-        return Ok(None);
-    };
-    match find_common(alloc, names, &namespace.name, &common.ty)? {
-        Some(name) => Ok(listed.named.get(name.as_str()).copied()),
-        None => Ok(None),
-    }
-}
-
-fn next_of(nexts: &[Option<usize>], place: usize) -> Option<usize> {
-    match nexts.get(place) {
-        Some(next) => *next,
-        None => None,
-    }
-}
-
-/// Adds the places of a chain that were not seen before, the last one first.
-///
-/// The list `chain` is empty before it and behind it.
-fn add_chain(
-    nexts: &[Option<usize>],
-    root: usize,
-    chain: &mut Vec<usize>,
-    seen: &mut BTreeSet<usize>,
-    order: &mut Vec<usize>,
-) -> Result<(), NoMemory> {
-    let mut next = Some(root);
-    for _ in nexts {
-        let Some(place) = next else {
-            break;
-        };
-        if !seen.insert(place)? {
-            break;
-        }
-        chain.push(place)?;
-        next = next_of(nexts, place);
-    }
-    chain.reverse();
-    order.append(chain)
-}
-
-/// The places, each behind the one that it leads to, as far as there is no cycle.
-///
-/// No clause says so: `spread` is right in any order, and fast in this one.
-fn ends_first(alloc: Global, nexts: &[Option<usize>]) -> Result<Vec<usize>, NoMemory> {
-    let mut chain = Vec::new(alloc);
-    let mut seen = BTreeSet::new(alloc);
-    let mut order = Vec::new(alloc);
-    for root in 0..nexts.len() {
-        add_chain(nexts, root, &mut chain, &mut seen, &mut order)?;
-    }
-    Ok(order)
-}
-
-/// An order of the list in which one round finds each that means no record.
-fn order_of(
-    alloc: Global,
-    names: &Names,
-    stated: &[StatedNamespace],
-    listed: &Listed,
-) -> Result<Vec<usize>, NoMemory> {
-    let mut nexts = Vec::new(alloc);
-    for place in &listed.places {
-        nexts.push(next_place(alloc, names, stated, listed, *place)?)?;
-    }
-    ends_first(alloc, nexts.as_slice())
-}
-
-/// Tries the common type at a place of a namespace, where there is one.
-fn spread_one(
-    alloc: Global,
-    names: &Names,
-    own: &Option<TypeName>,
-    commons: &[StatedCommon],
-    place: usize,
-    known: &mut BTreeSet<String>,
-) -> Result<(), NoMemory>
-    ensures keeps { OnOk result (KeepsNames (scope_of names.now) (map (λ c. common_in own.now c)
-        (map common_view commons.now)) known.old known.new) }
-    ensures tries { OnOk result (Spreads (scope_of names.now) (tried_one (slice_get
-        (map (λ c. common_in own.now c) (map common_view commons.now)) place)) known.old known.new) }
-{
-    if place < commons.len() {
-        let common = &commons[place];
-        add_if_none(alloc, names, own, common, known)?;
-    }
-    Ok(())
-}
-
 /// Tries the common type at a place, where there is one.
 fn spread_at(
     alloc: Global,
     names: &Names,
-    stated: &[StatedNamespace],
-    place: Place,
+    commons: &[ListedCommon<'_>],
+    place: usize,
     known: &mut BTreeSet<String>,
 ) -> Result<(), NoMemory>
-    ensures keeps { OnOk result (KeepsNames (scope_of names.now)
-        (commons_declared (map namespace_view stated.now)) known.old known.new) }
+    ensures keeps { OnOk result (KeepsNames (scope_of names.now) (map listed_view commons.now) known.old known.new) }
     ensures tries { OnOk result (Spreads (scope_of names.now)
-        (tried_at (map namespace_view stated.now) (Some place)) known.old known.new) }
+        (tried_one (slice_get (map listed_view commons.now) place)) known.old known.new) }
 {
-    let at = place.namespace;
-    if at < stated.len() {
-        let namespace = &stated[at];
-        spread_one(
-            alloc,
-            names,
-            &namespace.name,
-            namespace.commons.as_slice(),
-            place.common,
-            known,
-        )?;
+    if place < commons.len() {
+        let listed = &commons[place];
+        add_if_none(alloc, names, listed.own, listed.common, known)?;
     }
     Ok(())
-}
-
-/// Tries the common type that is listed at a place, where there is one.
-fn spread_listed(
-    alloc: Global,
-    names: &Names,
-    stated: &[StatedNamespace],
-    places: &[Place],
-    at: usize,
-    known: &mut BTreeSet<String>,
-) -> Result<(), NoMemory>
-    ensures keeps { OnOk result (KeepsNames (scope_of names.now)
-        (commons_declared (map namespace_view stated.now)) known.old known.new) }
-    ensures tries { OnOk result (Spreads (scope_of names.now)
-        (tried_at (map namespace_view stated.now) (slice_get places.now at)) known.old known.new) }
-{
-    match places.get(at) {
-        Some(place) => spread_at(alloc, names, stated, *place, known),
-        None => Ok(()),
-    }
 }
 
 /// Tries the common types in this order.
 fn spread_in_order(
     alloc: Global,
     names: &Names,
-    stated: &[StatedNamespace],
-    places: &[Place],
+    commons: &[ListedCommon<'_>],
     order: &[usize],
     known: &mut BTreeSet<String>,
 ) -> Result<(), NoMemory>
-    ensures keeps { OnOk result (KeepsNames (scope_of names.now)
-        (commons_declared (map namespace_view stated.now)) known.old known.new) }
+    ensures keeps { OnOk result (KeepsNames (scope_of names.now) (map listed_view commons.now) known.old known.new) }
     ensures tries { OnOk result (Spreads (scope_of names.now)
-        (tried_in_order (map namespace_view stated.now) places.now order.now) known.old known.new) }
+        (tried_in_order (map listed_view commons.now) order.now) known.old known.new) }
 {
     for at in order {
-        spread_listed(alloc, names, stated, places, *at, known)?;
+        spread_at(alloc, names, commons, *at, known)?;
     }
     Ok(())
 }
@@ -382,14 +212,13 @@ fn no_records(
     requires { Declares (map namespace_view stated.now) names.now }
     ensures { IfOk result (λ known. ReportsRecords (map namespace_view stated.now) (λ q. has_name known q)) }
 {
-    let listed = list_all(alloc, stated)?;
-    let order = order_of(alloc, names, stated, &listed)?;
+    let commons = list_all(alloc, stated)?;
+    let order = order_of(alloc, names, commons.as_slice())?;
     let mut known = BTreeSet::new(alloc);
     spread_in_order(
         alloc,
         names,
-        stated,
-        listed.places.as_slice(),
+        commons.as_slice(),
         order.as_slice(),
         &mut known,
     )?;

@@ -1,4 +1,5 @@
 -- The forms that a type's JSON has, by the word at its key `type`, and the keys of each.
+-- Source: Cedar reference guide 4.0, "Schema JSON format". A rule of this product: other keys are refused.
 use Rattle.std.specs.Prelude.{ℕ, List, [], ◌∷◌, Bool, codes, if◌then◌else◌}
 use Rattle.std.specs.Str.{bytes_eq}
 use Rattle.schema_types.specs.declared.forms.Form.{Form}

@@ -1,4 +1,5 @@
 -- Keys that may be missing: null is as missing.
+-- Source: Cedar reference guide 4.0, "Schema JSON format". A rule of this product: null.
 use Rattle.std.specs.Prelude.{⊤, Bool, true, false, ℕ, List, Option, Some, None, Result, Ok}
 use Rattle.serde_json.specs.Data.{Data, null, boolean, number, string, array, object}
 use Rattle.serde_json.specs.Find.{get, as_bool, as_str}

@@ -1,4 +1,5 @@
 -- What comes of writing out, and why there may be nothing.
+-- Rules of this product: the limits, and the order of refusals.
 use Rattle.std.specs.Prelude.{ℕ, List}
 use Rattle.schema_types.specs.Qualified.{Qualified, common}
 use Rattle.schema_types.specs.Cedar.{Cedar, IsTooLarge}

@@ -1,4 +1,5 @@
 -- Types as a schema writes them, before any name is looked for.
+-- Source: Cedar reference guide 4.0, "Schema JSON format".
 use Rattle.std.specs.Prelude.{ℕ, List, Bool}
 
 mutual

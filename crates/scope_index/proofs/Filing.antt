@@ -19,7 +19,7 @@ use Rattle.scope_index.specs.declared.buckets.Buckets.{Buckets}
 use Rattle.scope_index.specs.declared.index_key.IndexKey.{IndexKey}
 use Rattle.scope_index.specs.declared.index_key.IndexKey.TheVariants.{Always, Principal, Resource}
 use Rattle.scope_index.specs.Keys.{Keys, key_at}
-use Rattle.scope_index.specs.inner.Buckets.{Ids, in_ids, is_under, is_same, is_key, in_bucket, Turns, TurnsAt, IsSameUnder, AreSame, AreEmpty, AreFiled}
+use Rattle.scope_index.specs.Buckets.{Ids, in_ids, is_under, is_same, is_key, in_bucket, Turns, TurnsAt, IsSameUnder, AreSame, AreEmpty, AreFiled}
 
 -- ---- the ids under one entity
 

@@ -1,11 +1,12 @@
 -- What is offered, as lists of ids.
-use Rattle.std.proofs.Common.{◌≡◌, ◌∙◌, refl, sym, ap, subst, Bool, List, [], ◌∷◌, ◌++◌, map, inl, inr, ◌||◌}
-use Rattle.std.specs.Prelude.{ℕ, IsTrue, ◌↔◌, ◌⊎◌, Contains, string_bytes, Option, Some, Result, Ok, Err, OnOk, IfOk, Vec}
-use Rattle.std.specs.List.{list_any, AllByRecursion}
-use Rattle.std.specs.List.Sorted.{IsStrictlySortedBy}
-use Rattle.std.specs.BTreeSet.{BTreeSet, insert_key, contains_text}
-use Rattle.std.specs.Ordering.{match_ordering, is_eq}
-use Rattle.std.specs.declared.cmp.Ordering.TheVariants.{Less, Equal, Greater}
+use Rattle.std.proofs.Common.{◌≡◌, ◌∙◌, refl, sym, ap, subst, Bool, true, false, cond, List, [], ◌∷◌, ◌++◌, map, inl, inr, ◌||◌}
+use Rattle.std.specs.Prelude.{ℕ, nat_eq, IsTrue, ◌↔◌, ◌⊎◌, Contains, string_bytes, Option, Some, Result, Ok, Err, OnOk, IfOk, Vec}
+use Rattle.std.specs.List.{list_any, AllByRecursion, dedup_from, dedup}
+use Rattle.std.specs.List.Sorted.{IsStrictlySortedBy, IsPermutation}
+use Rattle.std.specs.BTreeSet.{BTreeSet, contains_text}
+use Rattle.std.specs.Ordering.{is_eq}
+use Rattle.std.specs.Cmp.Lexicographic.{pointwise, bytes_decides, nat_list_eq_equiv}
+use Rattle.std.specs.declared.cmp.Ordering.TheVariants.{Less}
 use Rattle.std.specs.declared.alloc.Global.{Global}
 use Rattle.std.specs.declared.string.String.{String}
 use Rattle.std.specs.Borrow.{Bor}
@@ -13,11 +14,13 @@ use Rattle.std.specs.Map.Iter.{deref}
 use Rattle.ancestor_closure.specs.Hierarchy.{Parents, IsIn, IsAllAbove, names}
 use Rattle.std.specs.Cmp.{eq_by_cmp_equiv}
 use Rattle.std.proofs.lemmas.List.Elements.{Contains-push, Contains-push_cases, Contains-append_left}
+use Rattle.std.proofs.lemmas.List.Kept.{Contains-dedup, Contains-from_dedup}
+use Rattle.std.proofs.lemmas.List.Sorted.{Contains-permutation, IsPermutation-sym, IsPermutation-map}
 use Rattle.std.proofs.lemmas.Map.Views.{Contains-from_any, list_any-from_Contains, tells_apart}
 use Rattle.values.specs.declared.entity_uid.EntityUid.{EntityUid}
 use Rattle.values.specs.Names.{text_cmp, text_cmp-IsTotalOrder, text_cmp-IsAntisymmetric}
 use Rattle.ancestor_closure.specs.Deciding.{Contains-none}
-use Rattle.ancestor_closure.proofs.Members.{insert_key-kept, insert_key-from, insert_key-here, names-push}
+use Rattle.ancestor_closure.proofs.Members.{names-push}
 use Rattle.values.specs.declared.request.Request.{Request}
 use Rattle.policy_grammar.specs.declared.policy.Scope.{Scope}
 use Rattle.scope_index.specs.declared.buckets.Buckets.{Buckets}
@@ -25,42 +28,44 @@ use Rattle.scope_index.specs.declared.index_key.IndexKey.{IndexKey}
 use Rattle.scope_index.specs.declared.index_key.IndexKey.TheVariants.{Always, Principal, Resource}
 use Rattle.scope_index.specs.Keys.{Keys, texts, key_at, index_key, IsMet, IsOffered}
 use Rattle.scope_index.specs.Scopes.{IsScopeTrue}
-use Rattle.scope_index.specs.inner.Buckets.{Ids, in_ids, is_under, in_bucket, AreFiled}
+use Rattle.scope_index.specs.Buckets.{Ids, in_ids, is_under, in_bucket, AreFiled}
 use Rattle.scope_index.proofs.Meeting.{scope_meets}
 
 -- after holds what before holds, and what P says
 abbrev pub Offers : (List ℕ → Type 0) → List (List ℕ) → List (List ℕ) → Type 0
 Offers P before after = (q : List ℕ) → Contains after q ↔ Contains before q ⊎ P q
 
-texts-insert_key : (ks : List (Bor (List ℕ))) (k : Bor (List ℕ))
-    → texts (insert_key (λ x y. text_cmp x.now y.now) ks k) ≡ insert_key text_cmp (texts ks) k.now
-texts-insert_key [] k = refl
-texts-insert_key (y ∷ ys) k = elim (text_cmp k.now y.now) as (λ o.
-    texts (match_ordering o (k ∷ y ∷ ys) (y ∷ ys) (y ∷ insert_key (λ x y. text_cmp x.now y.now) ys k))
-    ≡ match_ordering o (k.now ∷ y.now ∷ texts ys) (y.now ∷ texts ys) (y.now ∷ insert_key text_cmp (texts ys) k.now)) [
-      | Less ↦ refl
-      | Equal ↦ refl
-      | Greater ↦ ap (λ r. y.now ∷ r) (texts-insert_key ys k)
-    ]
+pub Contains-pushed : {A : Type 0} (xs : List A) (x y : A) → Contains (xs ++ x ∷ []) y ↔ Contains xs y ⊎ (x ≡ y)
+Contains-pushed xs x y = (
+  Contains-push_cases xs x y,
+  (λ s. elim s [
+    | inl t ↦ Contains-append_left xs (x ∷ []) y t
+    | inr e ↦ subst (λ z. Contains (xs ++ x ∷ []) z) e (Contains-push xs x)
+  ]),
+)
+
+texts-push : (ks : List (Bor (List ℕ))) (k : Bor (List ℕ)) → texts (ks ++ k ∷ []) ≡ texts ks ++ k.now ∷ []
+texts-push [] k = refl
+texts-push (y ∷ ys) k = ap (λ r. y.now ∷ r) (texts-push ys k)
 
 -- one id more
 pub one_more : (P : List ℕ → Type 0) (before : List (List ℕ)) (ks ks' : List (Bor (List ℕ))) (k : Bor (List ℕ))
-    → ks' ≡ insert_key (λ x y. text_cmp x.now y.now) ks k → Offers P before (texts ks)
+    → ks' ≡ ks ++ k ∷ [] → Offers P before (texts ks)
     → Offers (λ q. P q ⊎ (k.now ≡ q)) before (texts ks')
 one_more P before ks ks' k is so_far q =
-    let shown : texts ks' ≡ insert_key text_cmp (texts ks) k.now = ap texts is ∙ texts-insert_key ks k in (
-      (λ h. elim (insert_key-from text_cmp (texts ks) k.now q (subst (λ l. Contains l q) shown h)) [
+    let shown : texts ks' ≡ texts ks ++ k.now ∷ [] = ap texts is ∙ texts-push ks k in
+    let pushed = Contains-pushed (texts ks) k.now q in (
+      (λ h. elim (pushed.0 (subst (λ l. Contains l q) shown h)) [
         | inl old ↦ elim ((so_far q).0 old) [ inl b ↦ inl b | inr p ↦ inr (inl p) ]
         | inr e ↦ inr (inr e)
       ]),
-      (λ s. subst (λ l. Contains l q) (sym shown) (elim s [
-        | inl b ↦ insert_key-kept text_cmp (texts ks) k.now q ((so_far q).1 (inl b))
+      (λ s. subst (λ l. Contains l q) (sym shown) (pushed.1 (elim s [
+        | inl b ↦ inl ((so_far q).1 (inl b))
         | inr p ↦ elim p [
-          | inl p ↦ insert_key-kept text_cmp (texts ks) k.now q ((so_far q).1 (inr p))
-          | inr e ↦ subst (λ z. Contains (insert_key text_cmp (texts ks) k.now) z) e
-              (insert_key-here text_cmp text_cmp-IsAntisymmetric (texts ks) k.now)
+          | inl p ↦ inl ((so_far q).1 (inr p))
+          | inr e ↦ inr e
         ]
-      ])),
+      ]))),
     )
 
 -- the same ids said otherwise
@@ -73,6 +78,11 @@ said_as P Q before after same h q = (
 
 pub nothing_more : (P : List ℕ → Type 0) (xs : List (List ℕ)) → ((q : List ℕ) → P q → ⊥) → Offers P xs xs
 nothing_more P xs none q = ((λ h. inl h), (λ s. elim s [ inl b ↦ b | inr p ↦ absurd (none q p) ]))
+
+-- nothing more, where there is only more room
+pub nothing_yet : (P : List ℕ → Type 0) (xs ys : List (Bor (List ℕ))) → ys ≡ xs → ((q : List ℕ) → P q → ⊥)
+    → Offers P (texts xs) (texts ys)
+nothing_yet P xs ys same none = subst (λ zs. Offers P (texts xs) (texts zs)) (sym same) (nothing_more P (texts xs) none)
 
 -- two in turn
 pub in_turn : (P Q : List ℕ → Type 0) (xs ys zs : List (List ℕ)) → Offers P xs ys → Offers Q ys zs → Offers (λ q. P q ⊎ Q q) xs zs
@@ -106,15 +116,6 @@ has_iff s q =
       (λ h. any ∙ list_any-from_Contains (eq_by_cmp_equiv text_cmp-IsTotalOrder) q (ids_of s.keys) h),
     )
 
-pub Contains-pushed : {A : Type 0} (xs : List A) (x y : A) → Contains (xs ++ x ∷ []) y ↔ Contains xs y ⊎ (x ≡ y)
-Contains-pushed xs x y = (
-  Contains-push_cases xs x y,
-  (λ s. elim s [
-    | inl t ↦ Contains-append_left xs (x ∷ []) y t
-    | inr e ↦ subst (λ z. Contains (xs ++ x ∷ []) z) e (Contains-push xs x)
-  ]),
-)
-
 pub ids_lent-push : (xs : List (Bor (String Global))) (x : Bor (String Global)) → ids_lent (xs ++ x ∷ []) ≡ ids_lent xs ++ string_bytes x.now ∷ []
 ids_lent-push [] x = refl
 ids_lent-push (y ∷ ys) x = ap (λ r. string_bytes y.now ∷ r) (ids_lent-push ys x)
@@ -131,6 +132,38 @@ pub ascending_texts : (ks : List (Bor (List ℕ))) → IsStrictlySortedBy (λ (x
 unfolding IsStrictlySortedBy
 ascending_texts [] h = h
 ascending_texts (k ∷ ks) h = (below_all k.now ks h.0, ascending_texts ks h.1)
+
+-- ---- each once, they are the same
+
+-- references that stand once by what they refer to
+texts-dedup_from : (same : List ℕ → List ℕ → Bool) (k : Bor (List ℕ)) (ks : List (Bor (List ℕ)))
+    → texts (dedup_from (λ (x y : Bor (List ℕ)). same x.now y.now) k ks) ≡ dedup_from same k.now (texts ks)
+texts-dedup_from same k [] = refl
+texts-dedup_from same k (y ∷ ks) =
+    elim (same y.now k.now) as (λ b.
+    texts (cond b (dedup_from (λ (x y : Bor (List ℕ)). same x.now y.now) k ks)
+    (k ∷ dedup_from (λ (x y : Bor (List ℕ)). same x.now y.now) y ks))
+    ≡ cond b (dedup_from same k.now (texts ks)) (k.now ∷ dedup_from same y.now (texts ks))) [
+      | true ↦ texts-dedup_from same k ks
+      | false ↦ ap (λ r. k.now ∷ r) (texts-dedup_from same y ks)
+    ]
+
+texts-dedup : (same : List ℕ → List ℕ → Bool) (ks : List (Bor (List ℕ)))
+    → texts (dedup (λ (x y : Bor (List ℕ)). same x.now y.now) ks) ≡ dedup same (texts ks)
+texts-dedup same [] = refl
+texts-dedup same (k ∷ ks) = texts-dedup_from same k ks
+
+pub same_in_order : (xs ys zs : List (Bor (List ℕ))) → IsPermutation xs ys
+    → zs ≡ dedup (λ (x y : Bor (List ℕ)). pointwise nat_eq x.now y.now) ys
+    → (q : List ℕ) → Contains (texts zs) q ↔ Contains (texts xs) q
+same_in_order xs ys zs moved left q =
+    let whole : texts zs ≡ dedup (pointwise nat_eq) (texts ys) = ap texts left ∙ texts-dedup (pointwise nat_eq) ys in
+    let moves : IsPermutation (texts xs) (texts ys) = IsPermutation-map (λ (b : Bor (List ℕ)). b.now) xs ys moved in (
+      (λ h. Contains-permutation (texts ys) (texts xs) q (IsPermutation-sym (texts xs) (texts ys) moves)
+          (Contains-from_dedup (pointwise nat_eq) (texts ys) q (subst (λ l. Contains l q) whole h))),
+      (λ h. subst (λ l. Contains l q) (sym whole) (Contains-dedup nat_list_eq_equiv (λ x y. (bytes_decides x y).0)
+          (texts ys) q (Contains-permutation (texts xs) (texts ys) q moves h))),
+    )
 
 -- ---- the turns of the loops
 
@@ -217,18 +250,6 @@ offered_in_all parents q b none always principals all is a p r id = (
     by_kind Always met t = (r id).1 (inl ((p id).1 (inl ((a id).1 (inr t)))))
     by_kind (Principal e) met t = (r id).1 (inl ((p id).1 (inr (e, met, t))))
     by_kind (Resource e) met t = (r id).1 (inr (e, met, t))
-
-pub listed_all : {E : Type 0} (P : List ℕ → Type 0) (found : List (List ℕ)) (r : Result (Vec (Bor (List ℕ)) Global) E)
-    → IfOk r (λ all. texts all.items ≡ found) → ((q : List ℕ) → Contains found q ↔ P q)
-    → IfOk r (λ all. (q : List ℕ) → Contains (texts all.items) q ↔ P q)
-listed_all P found (Ok all) same h = subst (λ l. (q : List ℕ) → Contains l q ↔ P q) (sym same) h
-listed_all P found (Err e) same h = tt
-
-pub listed_ascend : {E : Type 0} (found : List (List ℕ)) (r : Result (Vec (Bor (List ℕ)) Global) E)
-    → IfOk r (λ all. texts all.items ≡ found) → IsStrictlySortedBy text_cmp found
-    → IfOk r (λ all. IsStrictlySortedBy text_cmp (texts all.items))
-listed_ascend found (Ok all) same h = subst (λ l. IsStrictlySortedBy text_cmp l) (sym same) h
-listed_ascend found (Err e) same h = tt
 
 pub exactly_offered : {E : Type 0} (parents : Parents) (q : Request) (seen keys : Keys) (b : Buckets) → keys ≡ seen → AreFiled keys b
     → (r : Result (Vec (Bor (List ℕ)) Global) E)

@@ -1,5 +1,6 @@
 -- By what a policy is found among many: by an entity that its scope names for the principal, or else for the resource.
 -- A rule of this product: the principal comes first; a part names an entity by `==` or `in`; `is` alone names none.
+-- Source: Cedar reference guide 4.0, "Policy scope", for what a scope asks.
 use Rattle.std.specs.Prelude.{◌≡◌, ℕ, List, Option, Some, None, string_bytes}
 use Rattle.std.specs.BTreeMap.{is_at}
 use Rattle.std.specs.Map.{lookup}

@@ -1,6 +1,6 @@
 //! The ids of policies, by the key under which each is found.
 ghost use Rattle.std.specs.Prelude.{◌≡◌, true, false, IsTrue, OnOk, OnErr, ℕ, List, string_bytes};
-ghost use Rattle.scope_index.specs.inner.Buckets.{is_under, Turns, TurnsAt, IsSameUnder, AreSame, AreEmpty};
+ghost use Rattle.scope_index.specs.Buckets.{is_under, Turns, TurnsAt, IsSameUnder, AreSame, AreEmpty};
 
 use crate::index_key::IndexKey;
 use plain::NoMemory;

@@ -7,7 +7,7 @@ ghost use Rattle.values.specs.Names.{text_cmp};
 ghost use Rattle.ancestor_closure.specs.Hierarchy.{IsIn, names};
 ghost use Rattle.scope_index.specs.declared.index_key.IndexKey.{IndexKey};
 ghost use Rattle.scope_index.specs.Keys.{IsMet, texts};
-ghost use Rattle.scope_index.specs.inner.Buckets.{is_under, in_bucket};
+ghost use Rattle.scope_index.specs.Buckets.{is_under, in_bucket};
 
 use crate::buckets::Buckets;
 use ancestor_closure::Ancestry;
@@ -17,12 +17,13 @@ use std::collections::{BTreeMap, BTreeSet};
 use values::{EntityUid, Request};
 
 // Offers these ids.
-fn offer<'a>(ids: &'a BTreeSet<String>, found: &mut BTreeSet<&'a str>) -> Result<(), NoMemory>
-    ensures { OnOk result ((q : List ℕ) → Contains (texts found.new.keys) q
-        ↔ Contains (texts found.old.keys) q ⊎ IsTrue (contains_text ids.now q)) }
+fn offer<'a>(ids: &'a BTreeSet<String>, found: &mut Vec<&'a str>) -> Result<(), NoMemory>
+    ensures { OnOk result ((q : List ℕ) → Contains (texts found.new.items) q
+        ↔ Contains (texts found.old.items) q ⊎ IsTrue (contains_text ids.now q)) }
 {
+    found.reserve(ids.len())?;
     for id in ids {
-        found.insert(id.as_str())?;
+        found.push(id.as_str())?;
     }
     Ok(())
 }
@@ -31,10 +32,10 @@ fn offer<'a>(ids: &'a BTreeSet<String>, found: &mut BTreeSet<&'a str>) -> Result
 fn offer_under<'a>(
     under: &'a BTreeMap<EntityUid, BTreeSet<String>>,
     uid: &EntityUid,
-    found: &mut BTreeSet<&'a str>,
+    found: &mut Vec<&'a str>,
 ) -> Result<(), NoMemory>
-    ensures { OnOk result ((q : List ℕ) → Contains (texts found.new.keys) q
-        ↔ Contains (texts found.old.keys) q ⊎ IsTrue (is_under under.now uid.now q)) }
+    ensures { OnOk result ((q : List ℕ) → Contains (texts found.new.items) q
+        ↔ Contains (texts found.old.items) q ⊎ IsTrue (is_under under.now uid.now q)) }
 {
     match under.get(uid) {
         Some(ids) => offer(ids, found),
@@ -43,9 +44,9 @@ fn offer_under<'a>(
 }
 
 // Offers the ids that every request finds.
-fn offer_unbound<'a>(buckets: &'a Buckets, found: &mut BTreeSet<&'a str>) -> Result<(), NoMemory>
-    ensures { OnOk result ((q : List ℕ) → Contains (texts found.new.keys) q
-        ↔ Contains (texts found.old.keys) q ⊎ IsTrue (contains_text buckets.now.always q)) }
+fn offer_unbound<'a>(buckets: &'a Buckets, found: &mut Vec<&'a str>) -> Result<(), NoMemory>
+    ensures { OnOk result ((q : List ℕ) → Contains (texts found.new.items) q
+        ↔ Contains (texts found.old.items) q ⊎ IsTrue (contains_text buckets.now.always q)) }
 {
     offer(&buckets.always, found)
 }
@@ -54,10 +55,10 @@ fn offer_unbound<'a>(buckets: &'a Buckets, found: &mut BTreeSet<&'a str>) -> Res
 fn offer_own<'a>(
     under: &'a BTreeMap<EntityUid, BTreeSet<String>>,
     uid: &EntityUid,
-    found: &mut BTreeSet<&'a str>,
+    found: &mut Vec<&'a str>,
 ) -> Result<(), NoMemory>
-    ensures { OnOk result ((q : List ℕ) → Contains (texts found.new.keys) q
-        ↔ Contains (texts found.old.keys) q ⊎ IsTrue (is_under under.now uid.now q)) }
+    ensures { OnOk result ((q : List ℕ) → Contains (texts found.new.items) q
+        ↔ Contains (texts found.old.items) q ⊎ IsTrue (is_under under.now uid.now q)) }
 {
     offer_under(under, uid, found)
 }
@@ -66,10 +67,10 @@ fn offer_own<'a>(
 fn offer_each<'a>(
     under: &'a BTreeMap<EntityUid, BTreeSet<String>>,
     entities: &[&EntityUid],
-    found: &mut BTreeSet<&'a str>,
+    found: &mut Vec<&'a str>,
 ) -> Result<(), NoMemory>
-    ensures { OnOk result ((q : List ℕ) → Contains (texts found.new.keys) q
-        ↔ Contains (texts found.old.keys) q
+    ensures { OnOk result ((q : List ℕ) → Contains (texts found.new.items) q
+        ↔ Contains (texts found.old.items) q
         ⊎ ((e : PlainUid) × Contains (names entities.now) e × IsTrue (is_under under.now e q))) }
 {
     for entity in entities {
@@ -83,10 +84,10 @@ fn offer_above<'a, A: Ancestry>(
     under: &'a BTreeMap<EntityUid, BTreeSet<String>>,
     ancestry: &A,
     uid: &EntityUid,
-    found: &mut BTreeSet<&'a str>,
+    found: &mut Vec<&'a str>,
 ) -> Result<(), NoMemory>
-    ensures { OnOk result ((q : List ℕ) → Contains (texts found.new.keys) q
-        ↔ Contains (texts found.old.keys) q
+    ensures { OnOk result ((q : List ℕ) → Contains (texts found.new.items) q
+        ↔ Contains (texts found.old.items) q
         ⊎ ((e : PlainUid) × IsIn (A.parents ancestry.now) uid.now e × IsTrue (is_under under.now e q))) }
 {
     offer_own(under, uid, found)?;
@@ -95,17 +96,17 @@ fn offer_above<'a, A: Ancestry>(
     Ok(())
 }
 
-// The ids that a request finds.
+// The ids that a request finds, in any order.
 fn found_by<'a, A: Ancestry>(
     alloc: Global,
     buckets: &'a Buckets,
     request: &Request,
     ancestry: &A,
-) -> Result<BTreeSet<&'a str>, NoMemory>
-    ensures { IfOk result (λ found. (q : List ℕ) → Contains (texts found.keys) q
+) -> Result<Vec<&'a str>, NoMemory>
+    ensures { IfOk result (λ found. (q : List ℕ) → Contains (texts found.items) q
         ↔ ((k : IndexKey) × IsMet (A.parents ancestry.now) request.now k × IsTrue (in_bucket buckets.now k q))) }
 {
-    let mut found = BTreeSet::new(alloc);
+    let mut found = Vec::new(alloc);
     offer_unbound(buckets, &mut found)?;
     offer_above(
         &buckets.principals,
@@ -117,13 +118,15 @@ fn found_by<'a, A: Ancestry>(
     Ok(found)
 }
 
-// The members of a set, ascending.
-fn listed<'a>(alloc: Global, found: BTreeSet<&'a str>) -> Result<Vec<&'a str>, NoMemory>
-    ensures same { IfOk result (λ all. texts all.items ≡ texts found.entry.keys) }
-    ensures ascending { IsStrictlySortedBy text_cmp (texts found.entry.keys) }
+// These ids, ascending and each once.
+fn in_order(found: Vec<&str>) -> Vec<&str>
+    ensures same { (q : List ℕ) → Contains (texts result.items) q ↔ Contains (texts found.entry.items) q }
+    ensures ascending { IsStrictlySortedBy text_cmp (texts result.items) }
 {
-    let _ascending = found.len();
-    found.into_iter().collect(alloc)
+    let mut ids = found;
+    ids.sort_unstable();
+    ids.dedup();
+    ids
 }
 
 /// The ids that a request finds, ascending.
@@ -137,5 +140,5 @@ pub(crate) fn offered<'a, A: Ancestry>(
         ↔ ((k : IndexKey) × IsMet (A.parents ancestry.now) request.now k × IsTrue (in_bucket buckets.now k q))) }
     ensures ascending { IfOk result (λ ids. IsStrictlySortedBy text_cmp (texts ids.items)) }
 {
-    listed(alloc, found_by(alloc, buckets, request, ancestry)?)
+    Ok(in_order(found_by(alloc, buckets, request, ancestry)?))
 }

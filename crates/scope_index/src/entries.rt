@@ -2,7 +2,7 @@
 ghost use Rattle.std.specs.Prelude.{◌≡◌, ℕ, List, Some, None, cond, IfOk, OnOk, OnErr, string_bytes};
 ghost use Rattle.std.specs.Str.{bytes_eq};
 ghost use Rattle.scope_index.specs.Keys.{index_key, key_at};
-ghost use Rattle.scope_index.specs.inner.Buckets.{AreFiled};
+ghost use Rattle.scope_index.specs.Buckets.{AreFiled};
 
 use crate::buckets::{Buckets, put, take};
 use crate::index_key::{IndexKey, key_of};

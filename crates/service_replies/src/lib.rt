@@ -6,15 +6,15 @@
 mod laws;
 mod line;
 mod long;
+mod reporting;
 mod status;
-mod telling;
 
 pub use laws::{errors_have_one_line, stamps_have_plain_lines};
-pub use site::{Site, SiteFault};
-pub use telling::{
+pub use reporting::{
     report_answer, report_fault, report_found, report_message, report_put, report_stamp,
     report_status, report_taken,
 };
+pub use site::{Site, SiteFault};
 
 /// No reply to a change, and no refusal, has a longer body than so many bytes.
 pub const LINE_ROOM: usize = 128;

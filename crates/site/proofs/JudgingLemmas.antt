@@ -17,10 +17,10 @@ use Rattle.policy_grammar.specs.PolicyText.{IsPolicyText, IsPolicyRefused, OrNoM
 use Rattle.schema.specs.Schemas.{StatedSchema}
 use Rattle.entity_worlds.specs.declared.entity.Entity.{Entity}
 use Rattle.entities.specs.Canonical.{canonical_json, canonical_text}
-use Rattle.entities.specs.Entities.{entity_in}
+use Rattle.entities.specs.Entities.{entity_stated_in}
 use Rattle.stored_texts.specs.passed_on.validator.{CheckFault}
 use Rattle.stored_texts.specs.passed_on.validator_CheckFault_variants as checking
-use Rattle.stored_texts.specs.passed_on.validator.{Passes, IsImpossible, IsRefused}
+use Rattle.stored_texts.specs.passed_on.validator.{Passes, IsImpossible, IsCheckRefused}
 use Rattle.stamped_store.specs.declared.entry.ReadText.{ReadText}
 use Rattle.stored_texts.specs.Texts.{entity_of_text, ReadsEntity}
 use Rattle.site.specs.declared.fault.SiteFault.{SiteFault}
@@ -49,11 +49,11 @@ module _ (s : StatedSchema) (id text : List ℕ) (named : IsId id) (r : SiteFaul
   not_read reading.BadId h e apart = unread reading.BadId h e
 
   -- a policy that does not pass
-  unpassed : (p : Policy) → IsPolicyText text p → (f : CheckFault) → IsRefused s p f → r ≡ fault.Check f
+  unpassed : (p : Policy) → IsPolicyText text p → (f : CheckFault) → IsCheckRefused s p f → r ≡ fault.Check f
       → IsNotAdmitted s id text r
   unpassed p is f h e = subst (λ x. IsNotAdmitted s id text x) (sym e) (not_passing p f named is h)
 
-  pub not_passed : (p : Policy) → IsPolicyText text p → (f : CheckFault) → (f ≢ checking.NoMemory → IsRefused s p f)
+  pub not_passed : (p : Policy) → IsPolicyText text p → (f : CheckFault) → (f ≢ checking.NoMemory → IsCheckRefused s p f)
       → r ≡ of_checking f → r ≢ fault.NoMemory → IsNotAdmitted s id text r
   not_passed p is checking.NoMemory h e apart = absurd (apart e)
   not_passed p is checking.UnknownType h e apart = unpassed p is checking.UnknownType (h (λ x. cc)) e
@@ -80,7 +80,7 @@ json_utf8 bytes d h = utf8_where bytes (is_utf8 bytes) d refl h
 
 -- a text whose JSON is that of an entity, and which is its one text, is read as this entity under its uid
 pub reads_again : (s : StatedSchema) (e : Entity) (text : List ℕ) → text ≡ canonical_text e
-    → json_of text ≡ Some (canonical_json e) → entity_in s (canonical_json e) ≡ Ok e → ReadsEntity s e.uid text e
+    → json_of text ≡ Some (canonical_json e) → entity_stated_in s (canonical_json e) ≡ Ok e → ReadsEntity s e.uid text e
 unfolding entity_of_text
 reads_again s e text is json again =
     rw json (rw again (rw is (rw (bytes_eq_same (canonical_text e)) (rw (same_self e.uid) refl))))
@@ -105,7 +105,7 @@ judged_by {E} s id text p verdict t b impossible named is passes same read told 
     }
 
 pub stated_by : {E : Type 0} → (s : StatedSchema) (d : Data) (e : Entity) (t : Result (List ℕ) E) (b : ReadText Entity)
-    → entity_in s d ≡ Ok e → IsPath e.uid.type_name → IfOk t (λ x. x ≡ canonical_text e)
+    → entity_stated_in s d ≡ Ok e → IsPath e.uid.type_name → IfOk t (λ x. x ≡ canonical_text e)
     → IfOk t (λ x. IsEntityUnder s e.uid x e) → b.read ≡ e → t ≡ Ok b.text → IsStatedBy s (Some d) b
 stated_by {E} s d e t b states path text reads read kept = record {
   states = states ∙ ap Ok (sym read);

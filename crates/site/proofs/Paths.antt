@@ -13,8 +13,8 @@ use Rattle.entity_worlds.specs.declared.entity.Entity.{Entity}
 use Rattle.entities.specs.declared.fault.EntityFault.{EntityFault}
 use Rattle.entities.specs.declared.fault.EntityFault.TheVariants.{BadShape}
 use Rattle.entities.specs.declared.stated.StatedEntity.{StatedEntity}
-use Rattle.entities.specs.Entities.{attributes_in, entity_in, parents_in}
-use Rattle.entities.specs.Stated.{has_objects, parents_of, stated_in, stated_uid}
+use Rattle.entities.specs.Entities.{attributes_in, entity_stated_in, parents_in}
+use Rattle.entities.specs.Stated.{has_objects, stated_parents, stated_in, stated_uid}
 
 -- the value of a step that did not fail
 value_of : {A B F : Type 0} (r : Result A F) (f : A → Result B F) (y : B) → (r >>= f) ≡ Ok y
@@ -41,20 +41,20 @@ path_stated : UidsAreFound → (d : Data) (e : StatedEntity) → stated_in d ≡
 unfolding stated_in
 path_stated all d e h =
     let name = value_of (or_fault BadShape (get (codes "uid") d)) (λ name. stated_uid name >>= λ uid.
-    demand BadShape (has_objects d) >>= λ objects. parents_of (get (codes "parents") d) >>= λ parents.
+    demand BadShape (has_objects d) >>= λ objects. stated_parents (get (codes "parents") d) >>= λ parents.
     given (record { uid = uid; parents = parents })) e h in
     let uid = value_of (stated_uid name.0) (λ uid. demand BadShape (has_objects d) >>= λ objects.
-    parents_of (get (codes "parents") d) >>= λ parents. given (record { uid = uid; parents = parents })) e name.2 in
-    let objects = value_of (demand BadShape (has_objects d)) (λ objects. parents_of (get (codes "parents") d) >>= λ parents.
+    stated_parents (get (codes "parents") d) >>= λ parents. given (record { uid = uid; parents = parents })) e name.2 in
+    let objects = value_of (demand BadShape (has_objects d)) (λ objects. stated_parents (get (codes "parents") d) >>= λ parents.
     given (record { uid = uid.0; parents = parents })) e uid.2 in
-    let parents = value_of (parents_of (get (codes "parents") d))
+    let parents = value_of (stated_parents (get (codes "parents") d))
     (λ parents. given (record { uid = uid.0; parents = parents })) e objects.2 in
     let same : uid.0 ≡ e.uid = cc in
     subst (λ (u : EntityUid). IsPath u.type_name) same (path_found all name.0 uid.0 (uid_in name.0) (all name.0) uid.1)
 
-pub entity_path : UidsAreFound → (s : StatedSchema) (d : Data) (e : Entity) → entity_in s d ≡ Ok e
+pub entity_path : UidsAreFound → (s : StatedSchema) (d : Data) (e : Entity) → entity_stated_in s d ≡ Ok e
     → IsPath e.uid.type_name
-unfolding entity_in
+unfolding entity_stated_in
 entity_path all s d e h =
     let stated = value_of (stated_in d) (λ t. attributes_in s t.uid.type_name d >>= λ attrs.
     parents_in s t.uid t.parents >>= λ parents.

@@ -17,13 +17,13 @@ use Rattle.schema.specs.Schemas.{StatedSchema}
 use Rattle.entity_worlds.specs.declared.entity.Entity.{Entity}
 use Rattle.entities.specs.declared.fault.EntityFault.{EntityFault}
 use Rattle.entities.specs.declared.fault.EntityFault.TheVariants.{BadShape}
-use Rattle.entities.specs.Entities.{entity_in}
+use Rattle.entities.specs.Entities.{entity_stated_in}
 use Rattle.entities.specs.Requests.{StatesRequest, RequestRefused}
 use Rattle.stored_texts.specs.passed_on.validator.{CheckFault}
-use Rattle.stored_texts.specs.passed_on.validator.{IsRefused}
+use Rattle.stored_texts.specs.passed_on.validator.{IsCheckRefused}
 use Rattle.sync_messages.specs.Summaries.{IsStamped}
 use Rattle.state_messages.specs.declared.update.Update.{Update}
-use Rattle.state_messages.specs.Updates.{abstract_update, stamped, IsUpdateRead}
+use Rattle.state_messages.specs.Updates.{plain_update, stamped, IsUpdateRead}
 use Rattle.stored_texts.specs.Texts.{ReadsPolicy, ReadsEntity}
 use Rattle.site.specs.declared.fault.SiteFault.{SiteFault}
 use Rattle.site.specs.declared.fault.SiteFault.TheVariants as fault
@@ -50,7 +50,7 @@ pub record IsAdmitted (schema : StatedSchema) (id text : List ℕ) (p : Policy) 
 pub data IsNotAdmitted (schema : StatedSchema) (id text : List ℕ) : SiteFault → Type 0 where
   bad_id : (IsId id → ⊥) → IsNotAdmitted schema id text (fault.Policy BadId)
   no_policy : (f : ReadFault) → IsId id → IsPolicyRefused text f → IsNotAdmitted schema id text (fault.Policy f)
-  not_passing : (p : Policy) (f : CheckFault) → IsId id → IsPolicyText text p → IsRefused schema p f
+  not_passing : (p : Policy) (f : CheckFault) → IsId id → IsPolicyText text p → IsCheckRefused schema p f
       → IsNotAdmitted schema id text (fault.Check f)
 
 -- ---- entities
@@ -59,16 +59,16 @@ pub data IsNotAdmitted (schema : StatedSchema) (id text : List ℕ) : SiteFault 
 abbrev pub entity_stated : StatedSchema → Option Data → Result Entity EntityFault
 entity_stated schema json = do
   d ← or_fault BadShape json
-  entity_in schema d
+  entity_stated_in schema d
 
 -- ---- requests
 
--- JSON states this request
+-- JSON states this request; bytes that are no JSON (None) state none
 abbrev pub IsRequestOf : StatedSchema → Option Data → Request → Type 0
 IsRequestOf schema None q = ⊥
 IsRequestOf schema (Some d) q = StatesRequest schema d q
 
--- it states none, and this is the first fault
+-- it states none, and this is the first fault; bytes that are no JSON (None) have not its form
 abbrev pub IsNoRequest : StatedSchema → Option Data → EntityFault → Type 0
 IsNoRequest schema None f = f ≡ BadShape
 IsNoRequest schema (Some d) f = RequestRefused schema d f
@@ -76,7 +76,7 @@ IsNoRequest schema (Some d) f = RequestRefused schema d f
 -- ---- updates that another site sent
 
 -- An update is valid: its name and stamp are in their ranges, and its text, if it has one, is read as what stands
--- beside it. (In state_messages `IsValid` is the second half alone.)
-pub record IsValid (schema : StatedSchema) (u : Update Policy Entity) : Type 0 where
-  pub in_range : IsStamped (stamped (abstract_update u))
+-- beside it. (`IsValid` of state_messages is the second half alone.)
+pub record IsValidUnder (schema : StatedSchema) (u : Update Policy Entity) : Type 0 where
+  pub in_range : IsStamped (stamped (plain_update u))
   pub is_read : IsUpdateRead (IsPolicyUnder schema) (IsEntityUnder schema) u

@@ -57,7 +57,8 @@ PutsPolicy schema n s id text (Err fault.ClockFull) t =
     ((p : Policy) × IsAdmitted schema id text p) × IsClockFull s t
 PutsPolicy schema n s id text (Err f) t = IsNotAdmitted schema id text f × (t ≡ s)
 
--- an entity is put, as its canonical text; whether it would be on a cycle is asked before the clock
+-- an entity is put, as its canonical text; whether it would be on a cycle is asked before the clock; None stands for
+-- bytes that are no JSON
 abbrev pub PutsEntity : StatedSchema → List ℕ → Store → Option Data → Result Stamp SiteFault → Store → Type 0
 PutsEntity schema n s json (Ok stamp) t =
     (e : Entity) × (entity_stated schema json ≡ Ok e) × MakesNoCycle (IsEntityUnder schema) schema s e
@@ -81,14 +82,15 @@ Deletes n s name (Err _) t = ⊥
 
 -- ---- updates that another site sent
 
--- all updates are taken, or exactly the first k
-abbrev pub Takes : Store → List Update → taking.Taken → Store → Type 0
-Takes s us (All k) t = (k ≡ length us) × (t ≡ store_of (updates s ++ us))
-Takes s us (Short k) t = (k < length us) × (t ≡ store_of (updates s ++ take k us))
+-- All updates are taken, or exactly the first k: the store is then that of the updates that it had and of these, which
+-- has at each name the greatest entry among them (`IsStoreOf` of stamped_store says so).
+abbrev pub TakesUpdates : Store → List Update → taking.Taken → Store → Type 0
+TakesUpdates s us (All k) t = (k ≡ length us) × (t ≡ store_of (updates s ++ us))
+TakesUpdates s us (Short k) t = (k < length us) × (t ≡ store_of (updates s ++ take k us))
 
 -- ---- questions, which change nothing
 
--- a request is decided over the store
+-- a request is decided over the store; None stands for bytes that are no JSON
 abbrev pub Answers : StatedSchema → Store → Option Data → Result Answer SiteFault → Type 0
 Answers schema s json (Ok a) =
     (q : Request) × IsRequestOf schema json q × IsAnswerOver (IsPolicyUnder schema) (IsEntityUnder schema) schema s q a

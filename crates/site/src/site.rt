@@ -19,11 +19,11 @@ ghost use Rattle.stamped_store.specs.Store.{policy_name, entity_name, issued, Ke
 ghost use Rattle.stored_world.specs.Said.{MakesCycle, MakesNoCycle};
 ghost use Rattle.sync_messages.specs.Summaries.{summary_text, summary_stated, IsName, IsStamped};
 ghost use Rattle.state_messages.specs.Messages.{state_text, delta_text, updates_stated};
-ghost use Rattle.state_messages.specs.Updates.{abstract_update, abstract_updates};
+ghost use Rattle.state_messages.specs.Updates.{plain_update, plain_updates};
 ghost use Rattle.typed_readings.specs.Answers.{ErrsHarmlessly};
-ghost use Rattle.site.specs.Admitted.{IsPolicyUnder, IsEntityUnder, IsValid, entity_stated};
+ghost use Rattle.site.specs.Admitted.{IsPolicyUnder, IsEntityUnder, IsValidUnder, entity_stated};
 ghost use Rattle.site.specs.Seen.{schema_of, store_in, IsSameSite, MayBeHeld};
-ghost use Rattle.site.specs.Steps.{PutsPolicy, PutsEntity, Deletes, Takes, Answers, policy_found, most_count};
+ghost use Rattle.site.specs.Steps.{PutsPolicy, PutsEntity, Deletes, TakesUpdates, Answers, policy_found, most_count};
 ghost use Rattle.site.specs.inner.Recording.{RecordsOr, PutsUnless, IsNext, put_result};
 
 use crate::fault::SiteFault;
@@ -514,9 +514,9 @@ impl Site {
 
     /// Joins one update, unless memory is refused.
     fn take_one(&mut self, update: Update<Policy, Entity>) -> bool
-        requires { IsValid (schema_of self.old) update }
+        requires { IsValidUnder (schema_of self.old) update }
         ensures taken { IsTrue result → store_in self.new
-            ≡ store_of (updates (store_in self.old) ++ abstract_update update ∷ []) }
+            ≡ store_of (updates (store_in self.old) ++ plain_update update ∷ []) }
         ensures refused { result ≡ false → store_in self.new ≡ store_in self.old }
         ensures same { IsSameSite self.old self.new }
     {
@@ -529,8 +529,8 @@ impl Site {
     /// Takes updates in their order. What is kept beside the store follows each, as long as that costs less than making
     /// it anew.
     fn take_all(&mut self, updates: Vec<Update<Policy, Entity>>) -> Taken
-        requires { AllByRecursion (IsValid (schema_of self.old)) updates.items }
-        ensures takes { Takes (store_in self.old) (abstract_updates updates.items) result (store_in self.new) }
+        requires { AllByRecursion (IsValidUnder (schema_of self.old)) updates.items }
+        ensures takes { TakesUpdates (store_in self.old) (plain_updates updates.items) result (store_in self.new) }
         ensures same { IsSameSite self.old self.new }
     {
         updates_have_one_store();
@@ -551,8 +551,8 @@ impl Site {
     ///
     /// Each update is valid under the site's schema, as those are that [`state_messages::read_message`] answers.
     pub fn take(&mut self, updates: Vec<Update<Policy, Entity>>) -> Taken
-        requires { AllByRecursion (IsValid (schema_of self.old)) updates.items }
-        ensures takes { Takes (store_in self.old) (abstract_updates updates.items) result (store_in self.new) }
+        requires { AllByRecursion (IsValidUnder (schema_of self.old)) updates.items }
+        ensures takes { TakesUpdates (store_in self.old) (plain_updates updates.items) result (store_in self.new) }
         ensures same { IsSameSite self.old self.new }
     {
         let taken = self.take_all(updates);

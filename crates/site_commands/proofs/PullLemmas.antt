@@ -13,7 +13,7 @@ use Rattle.pulled_states.specs.declared.fault.PullFault.{PullFault}
 use Rattle.pulled_states.specs.declared.fault.PullFault.TheVariants.{Network, Refused}
 use Rattle.pulled_states.specs.declared.pulling.Pulled.{Pulled}
 use Rattle.pulled_states.specs.Requests.{IsReady, request_for}
-use Rattle.pulled_states.specs.Exchanges.{IsBegun, IsUnanswered}
+use Rattle.pulled_states.specs.Exchanges.{IsRequestBegun, IsUnanswered}
 use Rattle.pulled_states.specs.Pulls.{IsPulled, IsRefusedFirst}
 use Rattle.site_commands.specs.declared.device.Link.{Link}
 use Rattle.site_commands.specs.Events.{Event, closed, Runs}
@@ -26,7 +26,7 @@ module _ {R W : Type 0} (reader : Source R) (writer : Sink W) (schema : List ℕ
     (link left : Link R W) where
   asked_at_most : ((left.reader ≡ link.reader) × (left.writer ≡ link.writer)) ⊎ ((s : StatedSchema) × (m : Store)
       × IsReady schema state s m
-      × IsBegun reader.left writer.holds (request_for address s m) link.reader left.reader link.writer left.writer)
+      × IsRequestBegun reader.left writer.holds (request_for address s m) link.reader left.reader link.writer left.writer)
       → IsNotMoreThanAsked reader writer schema state address link left
   asked_at_most (inl same) = inl (same_link left link same.0 same.1)
   asked_at_most (inr begun) = inr begun
@@ -51,7 +51,7 @@ module _ {R W : Type 0} (reader : Source R) (writer : Sink W) (schema : List ℕ
       (request_for address s m) link.reader left.reader link.writer left.writer f)
       → OnErr came (((left.reader ≡ link.reader) × (left.writer ≡ link.writer)) ⊎ ((s : StatedSchema) × (m : Store)
       × IsReady schema state s m
-      × IsBegun reader.left writer.holds (request_for address s m) link.reader left.reader link.writer left.writer))
+      × IsRequestBegun reader.left writer.holds (request_for address s m) link.reader left.reader link.writer left.writer))
       → (came ≢ Err (Network network.Read) → NoReadFailed reader writer link left)
       → (came ≢ Err (Network network.Write) → NoWriteFailed reader writer link left)
       → IsPull reader writer schema state address link came left

@@ -12,7 +12,7 @@ use Rattle.std.specs.FinMap.{len-empty, len-entries}
 use Rattle.values.specs.Names.{name_cmp}
 use Rattle.stamped_store.specs.EntryOrder.{PlainEntry}
 use Rattle.stamped_store.specs.Store.{store_of, updates}
-use Rattle.state_messages.specs.Updates.{abstract_updates}
+use Rattle.state_messages.specs.Updates.{plain_updates}
 use Rattle.http_service.specs.passed_on.site_runs.{Seen, schema_of, store_in}
 use Rattle.http_service.specs.passed_on.site_runs.{SiteFault}
 use Rattle.http_service.specs.passed_on.site_runs.{NoMemory, Policy, Check as Unfit, Entity, Message, NotThere, WouldCycle, ClockFull, Request}
@@ -126,7 +126,7 @@ begun_by s name bytes before after schema_is name_is store_is takes = record {
   begins = (
     takes.0,
     subst (λ (t : StatedSchema). IsMessageOf t bytes takes.0) schema_is takes.1,
-    takes.2 ∙ ap (λ us. store_of (us ++ abstract_updates takes.0)) (ap updates store_is ∙ none_of_empty),
+    takes.2 ∙ ap (λ us. store_of (us ++ plain_updates takes.0)) (ap updates store_is ∙ none_of_empty),
   );
 }
 

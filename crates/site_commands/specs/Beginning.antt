@@ -7,7 +7,7 @@ use Rattle.entity_worlds.specs.declared.entity.Entity.{Entity}
 use Rattle.stamped_store.specs.Store.{Store, store_of}
 use Rattle.sync_messages.specs.declared.fault.MessageFault.{MessageFault}
 use Rattle.state_messages.specs.declared.update.Update.{Update as SentUpdate}
-use Rattle.state_messages.specs.Updates.{abstract_updates}
+use Rattle.state_messages.specs.Updates.{plain_updates}
 use Rattle.decision_texts.specs.declared.refusal.Refusal.{Refusal}
 use Rattle.schema_decisions.specs.passed_on.policy_checks.{IsSchemaRefused}
 use Rattle.http_service.specs.passed_on.site_runs.{code_of, place_of, within_of}
@@ -24,7 +24,7 @@ site_refusal f = record { code = code_of f; place = place_of f; within = within_
 abbrev pub BeginsWith : StatedSchema → Option (List ℕ) → Store → Type 0
 BeginsWith s None m = m ≡ store_of []
 BeginsWith s (Some bytes) m = (us : List (SentUpdate Policy Entity)) × IsMessageOf s bytes us
-    × (m ≡ store_of (abstract_updates us))
+    × (m ≡ store_of (plain_updates us))
 
 -- the site of this name and this schema, with the updates of the state, if there is one
 pub record IsBegun (schema : List ℕ) (name : List ℕ) (state : Option (List ℕ)) (site : Seen) : Type 0 where

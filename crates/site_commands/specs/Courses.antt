@@ -13,6 +13,14 @@ use Rattle.site_commands.specs.Reports.{IsFailureReported}
 abbrev pub Course : Type 0 → Type 1
 Course L = List (Event L) → ℕ → Type 0
 
+-- An example: `drill` reads the files `s` and `t`, a schema's and a script's, and tells the line that they come to, or
+-- the refusal: `Reads s (λ schema. Reads t (λ script. IsLineOrRefusal ..))`. Such runs are, with the status at the end:
+--   read s (Ok schema) ∷ read t (Ok script) ∷ wrote Answers (ended line) true ∷ [], 0: the line is told
+--   the same, but false at the end, 3: standard output failed
+--   read s (Ok schema) ∷ read t (Ok script) ∷ wrote Faults (ended (error_line refusal)) true ∷ [], 1: it is refused
+--   read s (Ok schema) ∷ read t (Err Missing) ∷ wrote Faults "fault: t" and a line feed, true ∷ [], 3: no file `t`
+-- Each step takes the first of the events off and hands the rest to what goes on; nothing is read after a fault.
+
 module _ {L : Type 0} where
   -- what this is refused for is told, or that memory was refused
   abbrev pub IsRefusedFor : (Refusal → Type 0) → Course L

@@ -13,19 +13,20 @@ use Rattle.pulled_states.specs.declared.fault.PullFault.TheVariants.{Network, Re
 use Rattle.pulled_states.specs.declared.pulling.Pulled.{Pulled}
 use Rattle.pulled_states.specs.passed_on.merged_states.{IsMessageRefused}
 use Rattle.pulled_states.specs.Requests.{IsReady, request_for}
-use Rattle.pulled_states.specs.Exchanges.{IsAnswered, IsBegun, IsUnanswered}
+use Rattle.pulled_states.specs.Exchanges.{IsAnswered, IsRequestBegun, IsUnanswered}
 use Rattle.pulled_states.specs.Pulls.{IsPulled, IsRefusedFirst}
 use Rattle.site_commands.specs.declared.device.Link.{Link}
 use Rattle.site_commands.specs.Events.{Event, closed}
 use Rattle.site_commands.specs.Reports.{IsAnswerReported, IsFailureReported, IsMemoryReported, IsRefusalReported}
-use Rattle.site_commands.specs.Reports.{taken_line}
+use Rattle.site_commands.specs.Reports.{taken_report_line}
 use Rattle.site_commands.specs.Courses.{Course, Reads, ReadsIfThere, Connects, Stores}
 
 -- what came of a pull is told: the new state is written, and then how many updates came, where there is memory for that
 -- line; or the address where the network failed; or why texts or message were refused
 abbrev pub IsPullTold : {L : Type 0} → List ℕ → List ℕ → Result Pulled PullFault → Course L
 IsPullTold address name (Ok pulled) events end =
-    Stores name pulled.state.items (IsAnswerReported (taken_line pulled.taken)) events end ⊎ IsMemoryReported events end
+    Stores name pulled.state.items (IsAnswerReported (taken_report_line pulled.taken)) events end
+    ⊎ IsMemoryReported events end
 IsPullTold address name (Err (Network fault)) events end = IsFailureReported address events end
 IsPullTold address name (Err (Refused refusal)) events end = IsRefusalReported refusal events end
     ⊎ IsMemoryReported events end
@@ -48,7 +49,8 @@ module _ {R W : Type 0} (reader : Source R) (writer : Sink W) where
   abbrev pub IsNotMoreThanAsked : List ℕ → Option (List ℕ) → List ℕ → Link R W → Link R W → Type 0
   IsNotMoreThanAsked schema state address link left = (left ≡ link)
       ⊎ ((s : StatedSchema) × (m : Store) × IsReady schema state s m
-      × IsBegun reader.left writer.holds (request_for address s m) link.reader left.reader link.writer left.writer)
+      × IsRequestBegun reader.left writer.holds (request_for address s m) link.reader left.reader link.writer
+      left.writer)
 
   -- the texts are refused, and nothing was read or written; or the request was, and the message that came is refused
   abbrev pub IsPullRefused : List ℕ → Option (List ℕ) → List ℕ → Refusal → Link R W → Link R W → Type 0

@@ -21,8 +21,8 @@ abbrev pub status_after : Bool → ℕ → ℕ
 status_after done status = if done then status else 3
 
 -- {"taken":3}
-unfoldable pub taken_line : ℕ → List ℕ
-taken_line count = codes "{\"taken\":" ++ decimal count ++ codes "}"
+unfoldable pub taken_report_line : ℕ → List ℕ
+taken_report_line count = codes "{\"taken\":" ++ decimal count ++ codes "}"
 
 -- the line that tells of want of memory, letter by letter, since it is written where no memory is left to make it
 abbrev pub no_memory_line : List ℕ

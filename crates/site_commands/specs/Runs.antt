@@ -25,17 +25,17 @@ module _ {L : Type 0} where
   -- the line of the answer over three texts is told, or over four, the schema's among them
   abbrev pub IsJudged : Option (List ℕ) → List ℕ → List ℕ → List ℕ → Course L
   IsJudged None policies entities request =
-      IsLineOrRefusal (bare.IsDecided policies entities request) (bare.IsRefused policies entities request)
+      IsLineOrRefusal (bare.IsDecided policies entities request) (bare.IsDecisionRefused policies entities request)
   IsJudged (Some schema) policies entities request =
       IsLineOrRefusal (typed.IsDecided schema policies entities request)
-      (typed.IsRefused schema policies entities request)
+      (typed.IsSchemaDecisionRefused schema policies entities request)
 
   -- the lines of policies under a schema are told
   abbrev pub AreChecked : List ℕ → List ℕ → Course L
   AreChecked schema policies events end =
       ((text : List ℕ) × (some_refused : Bool) × checks.IsChecked schema policies text some_refused
       × AreLinesReported text some_refused events end)
-      ⊎ IsRefusedFor (checks.IsRefused schema policies) events end
+      ⊎ IsRefusedFor (checks.AreChecksRefused schema policies) events end
 
   -- the state that holds what two messages hold is told
   abbrev pub AreMerged : List ℕ → List ℕ → List ℕ → Course L
@@ -45,7 +45,7 @@ module _ {L : Type 0} where
   -- what a script comes to at so many sites is told
   abbrev pub IsDrilledOrRefused : ℕ → List ℕ → List ℕ → Course L
   IsDrilledOrRefused sites schema script =
-      IsLineOrRefusal (drills.IsDrilled sites schema script) (drills.IsRefused sites schema script)
+      IsLineOrRefusal (drills.IsDrilled sites schema script) (drills.IsDrillRefused sites schema script)
 
   -- the files of these names are read, first the schema, if one is named, then the policies, then the entities, then
   -- the request; and then what they held is judged

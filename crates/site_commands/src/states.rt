@@ -2,7 +2,7 @@
 ghost use Rattle.std.specs.Prelude.{◌≡◌, ◌⊎◌, IfOk, option_map, string_bytes};
 ghost use Rattle.std.specs.Process.{exit_status};
 ghost use Rattle.site_commands.specs.Events.{Runs};
-ghost use Rattle.site_commands.specs.Reports.{taken_line};
+ghost use Rattle.site_commands.specs.Reports.{taken_report_line};
 ghost use Rattle.site_commands.specs.Runs.{AreMerged, IsMergeRun};
 ghost use Rattle.site_commands.specs.Courses.{Connects, Stores};
 ghost use Rattle.site_commands.specs.Pulling.{IsPull, IsPulledOver, IsPullRun, IsPullTold};
@@ -77,9 +77,9 @@ pub(crate) fn run_merge<H: Host>(
 }
 
 /// The line that tells how many updates were taken.
-#[tactic(auto, unfolding(crate::specs::Reports::taken_line))]
+#[tactic(auto, unfolding(crate::specs::Reports::taken_report_line))]
 fn taken_line(alloc: Global, count: usize) -> Result<String, NoMemory>
-    ensures { IfOk result (λ line. string_bytes line ≡ taken_line count) }
+    ensures { IfOk result (λ line. string_bytes line ≡ taken_report_line count) }
 {
     format!(in alloc; "{{\"taken\":{count}}}")
 }
@@ -88,7 +88,7 @@ fn taken_line(alloc: Global, count: usize) -> Result<String, NoMemory>
 /// the line.
 fn keep<H: Host>(alloc: Global, host: &mut H, name: &str, pulled: &Pulled) -> ExitCode
     ensures { Runs H.does host.old host.new (λ events.
-        Stores name.now pulled.now.state.items (IsAnswerReported (taken_line pulled.now.taken)) events
+        Stores name.now pulled.now.state.items (IsAnswerReported (taken_report_line pulled.now.taken)) events
         (exit_status result)
         ⊎ IsMemoryReported events (exit_status result)) }
 {

@@ -19,7 +19,7 @@ use Rattle.entities.specs.Canonical.{canonical_text}
 use Rattle.entities.specs.Laws.{OneRequest, NotBoth, OneRefusal}
 use Rattle.validator.specs.declared.fault.CheckFault.{CheckFault}
 use Rattle.validator.specs.Outcomes.{refused as check_refused, PoliciesHaveOneOutcome, PassingIsNotRefused}
-use Rattle.validator.specs.Passing.{IsImpossible, IsRefused as IsCheckRefused}
+use Rattle.validator.specs.Passing.{IsImpossible, IsCheckRefused}
 use Rattle.stamped_store.specs.declared.entry.Stamp.{Stamp}
 use Rattle.stamped_store.specs.Contents.{text_under}
 use Rattle.stamped_store.specs.Deltas as deltas
@@ -30,7 +30,7 @@ use Rattle.sync_messages.specs.declared.fault.MessageFault.{MessageFault}
 use Rattle.sync_messages.specs.Summaries.{summary_text, summary_stated}
 use Rattle.state_messages.specs.declared.update.Update.{Update as SentUpdate}
 use Rattle.state_messages.specs.Messages.{state_text, delta_text}
-use Rattle.state_messages.specs.Updates.{abstract_updates, IsRefused}
+use Rattle.state_messages.specs.Updates.{plain_updates, IsMessageFault}
 use Rattle.site.specs.passed_on.stored_texts.{RefusesPolicy, RefusesEntity}
 use Rattle.site.specs.declared.fault.SiteFault.{SiteFault}
 use Rattle.site.specs.declared.fault.SiteFault.TheVariants as fault
@@ -277,12 +277,12 @@ module _ (schema : StatedSchema) (one_world : (s : Store) (es fs : EntityUid →
 -- ---- messages
 
 abbrev RefusedMessage : StatedSchema → List ℕ → MessageFault → Type 0
-RefusedMessage schema bytes f = IsRefused (IsPolicyUnder schema) (IsEntityUnder schema) (λ _. RefusesPolicy schema)
+RefusedMessage schema bytes f = IsMessageFault (IsPolicyUnder schema) (IsEntityUnder schema) (λ _. RefusesPolicy schema)
     (RefusesEntity schema) schema.label bytes f
 
 data MessageComes (schema : StatedSchema) (s : Store) (bytes : List ℕ) : Result taking.Taken SiteFault → Store → Type 0 where
   joined : (k : ℕ) (t : Store) (us : List (SentUpdate Policy Entity)) → IsMessageOf schema bytes us
-      → k ≡ length (abstract_updates us) → t ≡ store_of (updates s ++ abstract_updates us)
+      → k ≡ length (plain_updates us) → t ≡ store_of (updates s ++ plain_updates us)
       → MessageComes schema s bytes (Ok (All k)) t
   unread : (f : MessageFault) (t : Store) → RefusedMessage schema bytes f → t ≡ s
       → MessageComes schema s bytes (Err (fault.Message f)) t
@@ -315,9 +315,9 @@ one_message : (schema : StatedSchema) → MessagesAreOne schema → (s : Store) 
     → MessageComes schema s bytes y u → (x ≡ y) × (t ≡ u)
 one_message schema law s bytes _ _ _ _ (joined j t us h i e) (joined k u vs l m f) =
     let same = law.updates bytes us vs h l in
-    let count : j ≡ k = i ∙ ap (λ (ws : List (SentUpdate Policy Entity)). length (abstract_updates ws)) same ∙ sym m in (
+    let count : j ≡ k = i ∙ ap (λ (ws : List (SentUpdate Policy Entity)). length (plain_updates ws)) same ∙ sym m in (
       ap (λ (x : ℕ). Ok (All x)) count,
-      e ∙ ap (λ (ws : List (SentUpdate Policy Entity)). store_of (updates s ++ abstract_updates ws)) same ∙ sym f,
+      e ∙ ap (λ (ws : List (SentUpdate Policy Entity)). store_of (updates s ++ plain_updates ws)) same ∙ sym f,
     )
 one_message schema law s bytes _ _ _ _ (joined j t us h i e) (unread g u l m) = absurd (law.apart bytes us g h l)
 one_message schema law s bytes _ _ _ _ (unread f t h i) (joined k u vs l m e) = absurd (law.apart bytes vs f l h)

@@ -9,7 +9,7 @@ use Rattle.entity_worlds.specs.declared.entity.Entity.{Entity}
 use Rattle.schema.specs.Schemas.{StatedSchema}
 use Rattle.stamped_store.specs.Store.{Store, Update, updates, store_of, policy_name, entity_name}
 use Rattle.state_messages.specs.declared.update.Update.{Update as SentUpdate}
-use Rattle.state_messages.specs.Updates.{AreInRange, abstract_updates, IsMessage, IsRefused, IsUpdateRead}
+use Rattle.state_messages.specs.Updates.{AreInRange, plain_updates, IsMessage, IsMessageFault, IsUpdateRead}
 use Rattle.site.specs.passed_on.stored_texts.{RefusesPolicy, RefusesEntity, PoliciesHaveOneReading, EntitiesHaveOneReading}
 use Rattle.state_messages.specs.Bodies.{TextsHaveOneOutcome}
 use Rattle.sync_messages.specs.declared.fault.MessageFault.{MessageFault}
@@ -17,7 +17,7 @@ use Rattle.schema.specs.Views.{schema_view}
 use Rattle.site.specs.declared.fault.SiteFault.{SiteFault}
 use Rattle.site.specs.declared.fault.SiteFault.TheVariants as fault
 use Rattle.site.specs.declared.outcome.Taken.TheVariants.{All, Short}
-use Rattle.site.specs.Admitted.{IsPolicyUnder, IsEntityUnder, IsValid}
+use Rattle.site.specs.Admitted.{IsPolicyUnder, IsEntityUnder, IsValidUnder}
 use Rattle.site.specs.Steps.{PutsPolicy, PutsEntity, Deletes}
 use Rattle.site_runs.specs.declared.input.Input.{Input}
 use Rattle.site_runs.specs.declared.input.Input.TheVariants as input
@@ -28,8 +28,8 @@ use Rattle.site.specs.passed_on.stored_texts.{SchemaTexts}
 use Rattle.site_runs.specs.Runs.{Step, Run, HoldsAfter, took_by, took, update_of_entity, updates_of_message}
 
 -- updates of a message are valid where they are in range and are read
-pub all_valid : (schema : StatedSchema) (us : List (SentUpdate Policy Entity)) → AreInRange (abstract_updates us)
-    → AllByRecursion (IsUpdateRead (IsPolicyUnder schema) (IsEntityUnder schema)) us → AllByRecursion (IsValid schema) us
+pub all_valid : (schema : StatedSchema) (us : List (SentUpdate Policy Entity)) → AreInRange (plain_updates us)
+    → AllByRecursion (IsUpdateRead (IsPolicyUnder schema) (IsEntityUnder schema)) us → AllByRecursion (IsValidUnder schema) us
 all_valid schema [] h k = tt
 all_valid schema (u ∷ us) h k = (record { in_range = h.0; is_read = k.0 }, all_valid schema us h.1 k.1)
 
@@ -218,18 +218,18 @@ same_stores law schema us vs s t h k same = after_run law schema us s h ∙ same
 
 pub message_valid : (a b : SchemaEntries) (label bytes : List ℕ) (us : List (SentUpdate Policy Entity)) → a ≡ b
     → IsMessage (IsPolicyUnder (schema_view a)) (IsEntityUnder (schema_view a)) label bytes us
-    → AllByRecursion (IsValid (schema_view b)) us
+    → AllByRecursion (IsValidUnder (schema_view b)) us
 message_valid a b label bytes us same h =
-    subst (λ (k : SchemaEntries). AllByRecursion (IsValid (schema_view k)) us) same
+    subst (λ (k : SchemaEntries). AllByRecursion (IsValidUnder (schema_view k)) us) same
     (all_valid (schema_view a) us h.in_range h.are_read)
 
 pub message_refused : (a b : SchemaEntries) (m label bytes : List ℕ) (f : MessageFault) → a ≡ b → m ≡ label
-    → IsRefused (IsPolicyUnder (schema_view a)) (IsEntityUnder (schema_view a)) (λ _. RefusesPolicy (schema_view a))
+    → IsMessageFault (IsPolicyUnder (schema_view a)) (IsEntityUnder (schema_view a)) (λ _. RefusesPolicy (schema_view a))
     (RefusesEntity (schema_view a)) m bytes f
-    → IsRefused (IsPolicyUnder (schema_view b)) (IsEntityUnder (schema_view b)) (λ _. RefusesPolicy (schema_view b))
+    → IsMessageFault (IsPolicyUnder (schema_view b)) (IsEntityUnder (schema_view b)) (λ _. RefusesPolicy (schema_view b))
     (RefusesEntity (schema_view b)) label bytes f
 message_refused a b m label bytes f same named h =
-    subst (λ (k : SchemaEntries). IsRefused (IsPolicyUnder (schema_view k)) (IsEntityUnder (schema_view k))
+    subst (λ (k : SchemaEntries). IsMessageFault (IsPolicyUnder (schema_view k)) (IsEntityUnder (schema_view k))
     (λ _. RefusesPolicy (schema_view k)) (RefusesEntity (schema_view k)) label bytes f) same
-    (subst (λ (l : List ℕ). IsRefused (IsPolicyUnder (schema_view a)) (IsEntityUnder (schema_view a))
+    (subst (λ (l : List ℕ). IsMessageFault (IsPolicyUnder (schema_view a)) (IsEntityUnder (schema_view a))
     (λ _. RefusesPolicy (schema_view a)) (RefusesEntity (schema_view a)) l bytes f) named h)

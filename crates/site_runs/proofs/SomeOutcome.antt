@@ -28,7 +28,7 @@ use Rattle.entities.specs.declared.fault.EntityFault.TheVariants.{BadShape}
 use Rattle.entities.specs.Canonical.{canonical_text}
 use Rattle.entities.specs.Laws.{RequestOrRefusal}
 use Rattle.entity_worlds.specs.declared.data.EntityData.{EntityData}
-use Rattle.entity_worlds.specs.Entities.{action_or, parents_of}
+use Rattle.entity_worlds.specs.Entities.{action_or, kept_parents}
 use Rattle.validator.specs.Outcomes.{passes, refused as check_refused, IsCheckResult, PoliciesHaveOneOutcome, PassingIsNotRefused, CheckResult as CheckOutcome}
 use Rattle.validator.specs.Passing.{Passes, IsImpossible}
 use Rattle.stamped_store.specs.declared.entry.Stamp.{Stamp}
@@ -43,7 +43,7 @@ use Rattle.sync_messages.specs.Summaries.{summary_text, summary_stated}
 use Rattle.state_messages.specs.declared.bodies.BodyFault.{BodyFault}
 use Rattle.state_messages.specs.declared.update.Update.{Update as SentUpdate}
 use Rattle.state_messages.specs.Messages.{state_text, delta_text}
-use Rattle.state_messages.specs.Updates.{AreValid, IsReadable, IsValid, abstract_updates, IsRefused, stamped}
+use Rattle.state_messages.specs.Updates.{AreValid, IsReadable, IsValid, plain_updates, IsMessageFault, stamped}
 use Rattle.sync_messages.specs.Summaries.{IsStamped}
 use Rattle.site.specs.passed_on.stored_texts.{PoliciesHaveOneReading}
 use Rattle.site.specs.passed_on.stored_texts.{RefusesPolicy, RefusesEntity, entity_of_text, no_policy as text_of_none, not_passing as text_of_failing}
@@ -230,14 +230,14 @@ module _ (stores : LawsOfStores) (schema : StatedSchema) (s : Store) (held : May
   ]
 
   text_there : (Reads : List ℕ → Entity → Type 0) (b : Option (List ℕ)) (o : Option Entity) (a : EntityUid)
-      → IsReadFrom Reads b o → Contains (parents_of (option_map data_of o)) a → (text : List ℕ) × (b ≡ Some text)
+      → IsReadFrom Reads b o → Contains (kept_parents (option_map data_of o)) a → (text : List ℕ) × (b ≡ Some text)
   text_there Reads None None a h m = Contains-none a m
   text_there Reads None (Some e) a h m = absurd h
   text_there Reads (Some text) o a h m = (text, refl)
 
   parent_of : (actions : Option (List EntityUid)) (o : Option EntityData) (a : EntityUid) {G : Type 0}
-      → Contains (parents_of (action_or actions o)) a → ((us : List EntityUid) → actions ≡ Some us → G)
-      → (Contains (parents_of o) a → G) → G
+      → Contains (kept_parents (action_or actions o)) a → ((us : List EntityUid) → actions ≡ Some us → G)
+      → (Contains (kept_parents o) a → G) → G
   parent_of None o a h f g = g h
   parent_of (Some us) o a h f g = f us refl
 
@@ -299,13 +299,13 @@ module _ (stores : LawsOfStores) (schema : StatedSchema) (s : Store) (held : May
 
 abbrev pub ReadsOrRefuses : StatedSchema → List ℕ → Type 0
 ReadsOrRefuses schema bytes = ((us : List (SentUpdate Policy Entity)) × IsMessageOf schema bytes us)
-    ⊎ ((f : MessageFault) × IsRefused (IsPolicyUnder schema) (IsEntityUnder schema) (λ _. RefusesPolicy schema)
+    ⊎ ((f : MessageFault) × IsMessageFault (IsPolicyUnder schema) (IsEntityUnder schema) (λ _. RefusesPolicy schema)
     (RefusesEntity schema) schema.label bytes f)
 
 some_take : (schema : StatedSchema) (s : Store) (bytes : List ℕ) → ReadsOrRefuses schema bytes
     → (x : Result taking.Taken SiteFault) × (t : Store) × TakesMessage schema s bytes x t × HadMemoryForAll x
 some_take schema s bytes o = elim o [
-  | inl m ↦ (Ok (All (length (abstract_updates m.0))), store_of (updates s ++ abstract_updates m.0), (m.0, m.1, (refl, refl)), tt)
+  | inl m ↦ (Ok (All (length (plain_updates m.0))), store_of (updates s ++ plain_updates m.0), (m.0, m.1, (refl, refl)), tt)
   | inr f ↦ (Err (fault.Message f.0), s, (f.1, refl), tt)
 ]
 

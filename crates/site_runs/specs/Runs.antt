@@ -15,14 +15,14 @@ use Rattle.sync_messages.specs.declared.fault.MessageFault.{MessageFault}
 use Rattle.sync_messages.specs.Summaries.{summary_text, summary_stated}
 use Rattle.state_messages.specs.declared.update.Update.{Update as SentUpdate}
 use Rattle.state_messages.specs.Messages.{state_text, delta_text, updates_stated}
-use Rattle.state_messages.specs.Updates.{IsMessage, IsRefused, abstract_updates}
+use Rattle.state_messages.specs.Updates.{IsMessage, IsMessageFault, plain_updates}
 use Rattle.site.specs.passed_on.stored_texts.{RefusesPolicy, RefusesEntity}
 use Rattle.site.specs.declared.fault.SiteFault.{SiteFault}
 use Rattle.site.specs.declared.fault.SiteFault.TheVariants as fault
 use Rattle.site.specs.declared.outcome.Taken as taking
 use Rattle.site.specs.declared.outcome.Taken.TheVariants.{All, Short}
 use Rattle.site.specs.Admitted.{IsPolicyUnder, IsEntityUnder, entity_stated}
-use Rattle.site.specs.Steps.{PutsPolicy, PutsEntity, Deletes, Takes, Answers, policy_found}
+use Rattle.site.specs.Steps.{PutsPolicy, PutsEntity, Deletes, TakesUpdates, Answers, policy_found}
 use Rattle.site_runs.specs.declared.input.Input.{Input}
 use Rattle.site_runs.specs.declared.input.Input.TheVariants as input
 use Rattle.site_runs.specs.declared.reply.Found.{Found}
@@ -39,14 +39,14 @@ IsMessageOf schema bytes us = IsMessage (IsPolicyUnder schema) (IsEntityUnder sc
 abbrev pub IsNoMessageOf : StatedSchema → List ℕ → SiteFault → Type 0
 IsNoMessageOf schema bytes fault.NoMemory = Unit {0}
 IsNoMessageOf schema bytes (fault.Message f) =
-    IsRefused (IsPolicyUnder schema) (IsEntityUnder schema) (λ _. RefusesPolicy schema) (RefusesEntity schema)
+    IsMessageFault (IsPolicyUnder schema) (IsEntityUnder schema) (λ _. RefusesPolicy schema) (RefusesEntity schema)
     schema.label bytes f
 IsNoMessageOf schema bytes _ = ⊥
 
 -- a message comes: all of its updates are taken, or the first ones, or it is refused whole
 abbrev pub TakesMessage : StatedSchema → Store → List ℕ → Result taking.Taken SiteFault → Store → Type 0
 TakesMessage schema s bytes (Ok taken) t =
-    (us : List (SentUpdate Policy Entity)) × IsMessageOf schema bytes us × Takes s (abstract_updates us) taken t
+    (us : List (SentUpdate Policy Entity)) × IsMessageOf schema bytes us × TakesUpdates s (plain_updates us) taken t
 TakesMessage schema s bytes (Err f) t = IsNoMessageOf schema bytes f × (t ≡ s)
 
 -- ---- questions
@@ -132,7 +132,8 @@ took schema [] rs = []
 took schema (i ∷ is) [] = []
 took schema (i ∷ is) (r ∷ rs) = took_by schema i r ++ took schema is rs
 
--- t is what a site of this schema holds after a run, us being the updates that it had and those that it took
+-- t is what a site of this schema holds after a run, us being the updates that it had and those that it took. Any name
+-- will do, and any first store; so will any inputs, and replies that these may have.
 pub record HoldsAfter (schema : StatedSchema) (us : List Update) (t : Store) : Type 0 where
   pub name : List ℕ
   pub first : Store

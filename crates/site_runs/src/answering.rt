@@ -8,7 +8,7 @@ ghost use Rattle.stamped_store.specs.Store.{store_of, updates};
 ghost use Rattle.sync_messages.specs.Summaries.{summary_text};
 ghost use Rattle.state_messages.specs.Messages.{state_text};
 ghost use Rattle.typed_readings.specs.Answers.{ErrsHarmlessly};
-ghost use Rattle.site.specs.Admitted.{IsValid};
+ghost use Rattle.site.specs.Admitted.{IsValidUnder};
 ghost use Rattle.site.specs.Seen.{schema_of, store_in, IsSameSite};
 ghost use Rattle.site.specs.Steps.{PutsEntity, Answers};
 ghost use Rattle.site_runs.specs.Runs.{IsMessageOf, IsNoMessageOf, TakesMessage, Finds, Writes, WritesDelta};
@@ -54,7 +54,7 @@ fn updates_of(
     bytes: &[u8],
 ) -> Result<Vec<Update<Policy, Entity>>, SiteFault>
     ensures read { IfOk result (λ us. IsMessageOf (schema_view schema.now) bytes.now us.items) }
-    ensures valid { IfOk result (λ us. AllByRecursion (IsValid (schema_view schema.now)) us.items) }
+    ensures valid { IfOk result (λ us. AllByRecursion (IsValidUnder (schema_view schema.now)) us.items) }
     ensures refused { IfErr result (IsNoMessageOf (schema_view schema.now) bytes.now) }
 {
     let texts = SchemaTexts::under(schema);

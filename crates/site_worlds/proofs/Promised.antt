@@ -9,7 +9,7 @@ use Rattle.stamped_store.specs.Store.{Store, Update, updates, store_of, joined_s
 use Rattle.sync_messages.specs.Summaries.{summary_stated}
 use Rattle.state_messages.specs.declared.update.Update.{Update as SentUpdate}
 use Rattle.state_messages.specs.Messages.{updates_stated}
-use Rattle.state_messages.specs.Updates.{AreInRange, AreValid, IsValid, abstract_updates}
+use Rattle.state_messages.specs.Updates.{AreInRange, AreValid, IsValid, plain_updates}
 use Rattle.site.specs.Admitted.{IsPolicyUnder, IsEntityUnder}
 use Rattle.site.specs.declared.fault.SiteFault.{SiteFault}
 use Rattle.site.specs.declared.fault.SiteFault.TheVariants as fault
@@ -38,7 +38,7 @@ pub record TakingLaws (schema : StatedSchema) : Type 0 where
       → joined_stores s (delta t (summary_of old)) ≡ joined_stores s t
   pub read : (bytes : List ℕ) (us : List Update) → updates_stated schema.label bytes ≡ Ok us → AreInRange us
       → AreValid (IsPolicyUnder schema) (IsEntityUnder schema) us
-      → (all : List (SentUpdate Policy Entity)) × IsMessageOf schema bytes all × (abstract_updates all ≡ us)
+      → (all : List (SentUpdate Policy Entity)) × IsMessageOf schema bytes all × (plain_updates all ≡ us)
   pub one : InputsHaveOneOutcome schema
 
 module _ (schema : StatedSchema) (sites : List SiteName) (are : AreSites sites) (stores : StoreLaws) (commands : CommandLaws schema)
@@ -132,7 +132,7 @@ module _ (schema : StatedSchema) (sites : List SiteName) (are : AreSites sites) 
     fit_of k m h u c = K.fits u (known k m h u (has_update (content m) u c))
 
     is_message : (k : ℕ) (m : SentMessage) → slice_get w.messages k ≡ Some m
-        → (all : List (SentUpdate Policy Entity)) × IsMessageOf schema m.bytes all × (abstract_updates all ≡ updates (content m))
+        → (all : List (SentUpdate Policy Entity)) × IsMessageOf schema m.bytes all × (plain_updates all ≡ updates (content m))
     is_message k m h = taking.read m.bytes (updates (content m)) (read_back k m h)
         (all_of (λ u. _) (updates (content m)) (λ u c. (fit_of k m h u c).in_range))
         (all_of (IsValid (IsPolicyUnder schema) (IsEntityUnder schema)) (updates (content m)) (λ u c. (fit_of k m h u c).readable))
@@ -144,7 +144,7 @@ module _ (schema : StatedSchema) (sites : List SiteName) (are : AreSites sites) 
         → Step schema n s (input.Take m.bytes) (reply.Taken (Err f)) t → HadMemoryForAll (Err f) → G
     refused_not k m n s t f h step memory =
         let read = is_message k m h in
-        let us = abstract_updates read.0 in
+        let us = plain_updates read.0 in
         let same = taking.one n s (input.Take m.bytes) (reply.Taken (Err f)) (reply.Taken (Ok (All (length us)))) t (store_of (updates s ++ us))
         (record { step = step; whole = memory })
         (record { step = (read.0, read.1, (refl, refl)); whole = tt }) in

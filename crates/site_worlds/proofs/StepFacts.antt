@@ -19,7 +19,7 @@ use Rattle.policy_grammar.specs.declared.policy.Policy.{Policy}
 use Rattle.values.specs.declared.entity_uid.EntityUid.{EntityUid}
 use Rattle.entities.specs.declared.fault.EntityFault.{EntityFault}
 use Rattle.entities.specs.Canonical.{canonical_json, canonical_text}
-use Rattle.entities.specs.Entities.{entity_in}
+use Rattle.entities.specs.Entities.{entity_stated_in}
 use Rattle.canonical_texts.specs.Laws.{JsonTextsAreUtf8, IsReadFrom, CanonicalTextsAreJson}
 use Rattle.stored_texts.specs.Laws.{CanonicalTextsAreRead}
 use Rattle.stamped_store.specs.declared.entry.Stamp.{Stamp}
@@ -109,7 +109,7 @@ module _ (schema : StatedSchema) (law : CommandLaws schema) where
       text = record { name = id_text; body = is_text };
     })
 
-    put_entity : (d : Data) (bytes : List ℕ) (e : Entity) (stamp : Stamp) → json_of bytes ≡ Some d → entity_in schema d ≡ Ok e
+    put_entity : (d : Data) (bytes : List ℕ) (e : Entity) (stamp : Stamp) → json_of bytes ≡ Some d → entity_stated_in schema d ≡ Ok e
         → Records n s (entity_name e.uid) (Some (canonical_text e)) stamp t
         → Comes schema n s t ((entity_name e.uid, issued stamp (Some (canonical_text e))) ∷ [])
     put_entity d bytes e stamp stands states h =
@@ -180,7 +180,7 @@ module _ (schema : StatedSchema) (law : CommandLaws schema) where
 
     -- the JSON that states an entity
     stated_json : (bytes : List ℕ) (o : Option Data) (e : Entity) → json_of bytes ≡ o → entity_stated schema o ≡ given e
-        → (d : Data) × (json_of bytes ≡ Some d) × (entity_in schema d ≡ Ok e)
+        → (d : Data) × (json_of bytes ≡ Some d) × (entity_stated_in schema d ≡ Ok e)
     stated_json bytes None e is h = absurd cc
     stated_json bytes (Some d) e is h = (d, is, h)
 

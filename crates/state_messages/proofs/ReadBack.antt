@@ -19,8 +19,8 @@ plain_body : (b : Option (List ℕ)) → IsBodyText b → IsPlain (body_json b)
 plain_body None h = tt
 plain_body (Some text) h = h
 
-plain_update : SiteNamesAreTexts → (u : Update) → IsStamped (stamped u) → IsText u → IsPlain (entry_json u)
-plain_update sites u h texts = (
+one_is_plain : SiteNamesAreTexts → (u : Update) → IsStamped (stamped u) → IsText u → IsPlain (entry_json u)
+one_is_plain sites u h texts = (
   key_is_utf8 (codes "body") refl,
   plain_body u.1.body texts.body,
   (refl, (refl, (refl, tt))),
@@ -37,14 +37,14 @@ plain_update sites u h texts = (
   ),
 )
 
-plain_updates : SiteNamesAreTexts → (us : List Update) → AreInRange us → AreTexts us → ArePlain (items_of (map entry_json us))
-plain_updates sites [] h texts = tt
-plain_updates sites (u ∷ us) h texts = (plain_update sites u h.0 texts.0, plain_updates sites us h.1 texts.1)
+all_are_plain : SiteNamesAreTexts → (us : List Update) → AreInRange us → AreTexts us → ArePlain (items_of (map entry_json us))
+all_are_plain sites [] h texts = tt
+all_are_plain sites (u ∷ us) h texts = (one_is_plain sites u h.0 texts.0, all_are_plain sites us h.1 texts.1)
 
 plain_message : SiteNamesAreTexts → (kind label : List ℕ) (us : List Update) → IsUtf8 kind → IsUtf8 label → AreInRange us → AreTexts us → IsPlain (message_json kind label us)
 plain_message sites kind label us of_kind of_label h texts = (
   key_is_utf8 (codes "entries") refl,
-  plain_updates sites us h texts,
+  all_are_plain sites us h texts,
   (refl, (refl, (refl, tt))),
   (
     key_is_utf8 (codes "kind") refl,

@@ -9,11 +9,11 @@ use Rattle.std.specs.Ordering.{is_eq, is_le, is_lt, is_gt, ordering_reverse}
 use Rattle.std.specs.declared.cmp.Ordering.{Ordering}
 use Rattle.std.specs.declared.cmp.Ordering.TheVariants.{Less, Equal, Greater}
 use Rattle.std.proofs.lemmas.List.{append-nil, map-append}
-use Rattle.std.proofs.Common.{append_assoc}
 use Rattle.std.specs.declared.alloc.Global.{Global}
 use Rattle.std.specs.declared.string.String.{String}
 use Rattle.values.specs.declared.entity_uid.EntityUid.{EntityUid}
 use Rattle.std.proofs.lemmas.List.Concat.{flat_map-append}
+use Rattle.json.specs.Written.{Written}
 use Rattle.serde_json.specs.Data.{Data}
 use Rattle.values.specs.declared.name.Name.{Name}
 use Rattle.values.specs.Names.{name_cmp, name_cmp-IsTotalOrder, name_cmp-IsAntisymmetric}
@@ -25,6 +25,8 @@ use Rattle.stamped_store.specs.Abstraction.{abstract_entry, abstract_entries}
 use Rattle.stamped_store.specs.Store.{Update, updates, StoreEntries, abstract_store, abstract_updates, id_name, entity_name}
 use Rattle.stamped_store.specs.Stored.{value_at}
 use Rattle.sync_messages.specs.Summaries.{ascend}
+use Rattle.sync_messages.specs.Tokens.{AppendsAll}
+use Rattle.sync_messages.proofs.Appending.{none_written, both_written}
 use Rattle.state_messages.specs.Messages.{entry_json}
 use Rattle.state_messages.specs.inner.Walking.{IsFrom, IsAhead, IsWalked}
 use Rattle.state_messages.specs.inner.Writing.{news_by, news_json, all_news_json}
@@ -163,8 +165,8 @@ news_left left known us h = by_each us h.same
 
 -- ---- the walk over entries
 module _ {N P : Type 0} (name : N → Name) where
-  pub walk_starts : (known : Summary) (before : List Data) (all : List (N × Entry P)) → IsWalked name known known before before all [] all
-  walk_starts known before all next ahead = (sym (append-nil before), ahead)
+  pub walk_starts : (known : Summary) (before : Written) (all : List (N × Entry P)) → IsWalked name known known before before all [] all
+  walk_starts known before all next ahead = (none_written before, ahead)
 
   one_more : (known : Summary) (done : List (N × Entry P)) (e : N × Entry P)
       → all_news_json name known done ++ news_json known (name e.0, plain_entry e.1) ≡ all_news_json name known (done ++ e ∷ [])
@@ -175,21 +177,21 @@ module _ {N P : Type 0} (name : N → Name) where
       ∙ sym (flat_map-append (news_json known) shown (one ∷ []))
       ∙ ap (flat_map (news_json known)) (sym (map-append (abstract_entry name) done (e ∷ [])))
 
-  pub walk_goes_on : (known left from : Summary) (before here after : List Data) (all done iter n : List (N × Entry P)) (e : N × Entry P) (stamp : Option Stamp)
+  pub walk_goes_on : (known left from : Summary) (before here after : Written) (all done iter n : List (N × Entry P)) (e : N × Entry P) (stamp : Option Stamp)
       → IsWalked name known left before here all done iter → iter ≡ e ∷ n → IsFrom (name e.0) left from → stamp ≡ value_at name_cmp left (name e.0)
-      → after ≡ here ++ news_by stamp (name e.0, plain_entry e.1)
+      → AppendsAll here after (news_by stamp (name e.0, plain_entry e.1))
       → IsWalked name known from before after all (done ++ e ∷ []) n
   walk_goes_on known left from before here after all done iter n e stamp walked step is found pushed next ahead =
       let one : Update = (name e.0, plain_entry e.1) in
       let so = walked next ahead in
-      let at : IsAhead left known (one ∷ (abstract_entries name n ++ next)) = subst (λ (es : List (N × Entry P)). IsAhead left known (abstract_entries name es ++ next)) step so.1 in (
-        pushed ∙ ap (λ (o : Option Stamp). here ++ news_by o one) (found ∙ at.same.0) ∙ ap (λ (ds : List Data). ds ++ news_json known one) so.0
-            ∙ append_assoc before (all_news_json name known done) (news_json known one) ∙ ap (λ (ds : List Data). before ++ ds) (one_more known done e),
+      let at : IsAhead left known (one ∷ (abstract_entries name n ++ next)) = subst (λ (es : List (N × Entry P)). IsAhead left known (abstract_entries name es ++ next)) step so.1 in
+      let more : AppendsAll here after (news_json known one) = subst (λ (o : Option Stamp). AppendsAll here after (news_by o one)) (found ∙ at.same.0) pushed in (
+        subst (AppendsAll before after) (one_more known done e) (both_written so.0 more),
         ahead_next left known from one (abstract_entries name n ++ next) at is,
       )
 
   -- where nothing is to come, all was walked over
-  pub walk_ends : (known left : Summary) (before after : List Data) (all done iter : List (N × Entry P)) → IsWalked name known left before after all done iter
+  pub walk_ends : (known left : Summary) (before after : Written) (all done iter : List (N × Entry P)) → IsWalked name known left before after all done iter
       → iter ≡ [] → done ++ iter ≡ all → IsWalked name known left before after all all []
   walk_ends known left before after all done iter walked none is =
       let whole : done ≡ all = sym (append-nil done) ∙ ap (λ (es : List (N × Entry P)). done ++ es) (sym none) ∙ is in
@@ -201,16 +203,14 @@ no_length [] h = refl
 no_length (a ∷ m) h = absurd (omega arith)
 
 -- ---- policies and then entities
-pub walked_store : {P E : Type 0} (k : StoreEntries P E) (known left last : Summary) (ps : List (String Global × Entry P)) (es : List (EntityUid × Entry E)) (none one two : List Data)
-    → ascend known ≡ true → updates (abstract_store k) ≡ abstract_updates k → ps ≡ k.policies → es ≡ k.entities → none ≡ []
+pub walked_store : {P E : Type 0} {none one two : Written} (k : StoreEntries P E) (known left last : Summary) (ps : List (String Global × Entry P)) (es : List (EntityUid × Entry E))
+    → ascend known ≡ true → updates (abstract_store k) ≡ abstract_updates k → ps ≡ k.policies → es ≡ k.entities
     → IsWalked id_name known left none one ps ps [] → IsWalked entity_name left last one two es es []
-    → two ≡ map entry_json (updates (delta (abstract_store k) known))
-walked_store k known left last ps es none one two up order of_policies of_entities empty first second =
+    → AppendsAll none two (map entry_json (updates (delta (abstract_store k) known)))
+walked_store {none = none} {one = one} {two = two} k known left last ps es up order of_policies of_entities first second =
     let policies : IsWalked id_name known left none one k.policies k.policies [] = subst (λ xs. IsWalked id_name known left none one xs xs []) of_policies first in
     let entities : IsWalked entity_name left last one two k.entities k.entities [] = subst (λ xs. IsWalked entity_name left last one two xs xs []) of_entities second in
     let all = abstract_entries entity_name k.entities in
     let so = policies all (ahead_start known k up order) in
     let later = entities [] (subst (λ us. IsAhead left left us) (sym (append-nil all)) (ahead_alone left known all so.1)) in
-    later.0 ∙ ap (λ (ds : List Data). one ++ ds) (news_left left known all so.1)
-    ∙ ap (λ (ds : List Data). ds ++ all_news_json entity_name known k.entities) (so.0 ∙ ap (λ (ds : List Data). ds ++ all_news_json id_name known k.policies) empty)
-    ∙ store_news k known order
+    subst (AppendsAll none two) (store_news k known order) (both_written so.0 (subst (AppendsAll one two) (news_left left known all so.1) later.0))

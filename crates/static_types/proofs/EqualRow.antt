@@ -5,7 +5,7 @@ use Rattle.std.specs.Str.{bytes_eq}
 use Rattle.typing.specs.Types as types
 use Rattle.typing.specs.Types.{StaticType, entity_type, boolean_type, false_type, common}
 use Rattle.typing.specs.Rows.{Row, if_common, equal_type}
-use Rattle.static_types.specs.inner.Rows.{entity_in, are_unequal}
+use Rattle.static_types.specs.inner.Rows.{entity_type_in, are_unequal}
 
 abbrev ok : StaticType → Row
 ok t = Ok t
@@ -15,7 +15,7 @@ equal_entities : (m : List ℕ) (b : Bool) → not b ≡ false
 equal_entities m true e = refl
 equal_entities m false e = absurd cc
 
-pub equal_row : (s t : StaticType) → are_unequal (entity_in s) (entity_in t) ≡ false → equal_type s t ≡ if_common (common s t)
+pub equal_row : (s t : StaticType) → are_unequal (entity_type_in s) (entity_type_in t) ≡ false → equal_type s t ≡ if_common (common s t)
 equal_row types.true_type t e = refl
 equal_row types.false_type t e = refl
 equal_row types.boolean_type t e = refl

@@ -3,7 +3,9 @@ mod CommonFields
 mod EqualRow
 mod FieldLists
 mod FieldPlaces
+mod JoinedFields
 mod Listed
+mod OrderedFields
 mod OrderedTypes
 mod RecordFields
 mod Weighing

@@ -11,7 +11,7 @@ use Rattle.schema_types.specs.Ascending.{Ascend, keys_of, KeysAscend, FieldKeysA
 use Rattle.schema.specs.Schemas.{EnvironmentOf, StatedSchema, IsSchemaOf}
 use Rattle.schema.specs.WellFormed.{AreAttributes, StatedSchemasAreWellFormed}
 use Rattle.entities.specs.Entities.{is_action_type}
-use Rattle.static_types.specs.FromSchemas.{static, static_fields, fields_in, shape_fields, environment_of}
+use Rattle.static_types.specs.FromSchemas.{static, static_fields, field_types_in, shape_fields, attributes_of, typing_environment_of}
 
 -- a key that is below others is below the first
 before_fields : (k : List ℕ) (fs : CedarFields) → Ascend (k ∷ keys_of fs) → IsBefore k (static_fields fs)
@@ -39,7 +39,7 @@ mutual
   ordered_fields (cedar.field k t r fs) up each =
       (ordered t each.0, before_fields k fs up, ordered_fields fs (rest_ascends k (keys_of fs) up) each.1)
 
-by_fields : (t : Cedar) → KeysAscend t → AreOrdered (fields_in t)
+by_fields : (t : Cedar) → KeysAscend t → AreOrdered (field_types_in t)
 by_fields cedar.text up = tt
 by_fields cedar.long up = tt
 by_fields cedar.boolean up = tt
@@ -59,14 +59,19 @@ unless_action true o up = tt
 unless_action false o up = up
 
 pub below_transitively : StatedSchemasAreWellFormed → (bytes : List ℕ) (v : StatedSchema) → IsSchemaOf bytes v → (e : EnvironmentOf)
-    → IsTransitive (environment_of v e).may_be_below
+    → IsTransitive (typing_environment_of v e).may_be_below
 below_transitively law bytes v stated e l m n = (law bytes v stated).parents_join l m n
 
+pub attributes_are_ordered : StatedSchemasAreWellFormed → (bytes : List ℕ) (v : StatedSchema) → IsSchemaOf bytes v → (n : List ℕ)
+    → AreOrdered (attributes_of v n)
+attributes_are_ordered law bytes v stated n =
+    unless_action (is_action_type n) (v.shape n) (by_shape (v.shape n) ((law bytes v stated).shapes n))
+
 pub types_are_ordered : StatedSchemasAreWellFormed → (bytes : List ℕ) (v : StatedSchema) → IsSchemaOf bytes v → (e : EnvironmentOf)
-    → Contains v.environments e → HasOrderedTypes (environment_of v e)
+    → Contains v.environments e → HasOrderedTypes (typing_environment_of v e)
 types_are_ordered law bytes v stated e there =
     let formed = law bytes v stated in
     record {
       context = by_fields e.context (formed.contexts e there).ascend;
-      attributes = λ n. unless_action (is_action_type n) (v.shape n) (by_shape (v.shape n) (formed.shapes n));
+      attributes = attributes_are_ordered law bytes v stated;
     }

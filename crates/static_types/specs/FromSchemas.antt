@@ -29,14 +29,14 @@ abbrev mutual
   static_fields (cedar.field k t r fs) = field_type k (static t) r (static_fields fs)
 
 -- the fields of a record; other types have none
-abbrev pub fields_in : Cedar → FieldTypes
-fields_in (cedar.record_of fs) = static_fields fs
-fields_in t = no_field_types
+abbrev pub field_types_in : Cedar → FieldTypes
+field_types_in (cedar.record_of fs) = static_fields fs
+field_types_in t = no_field_types
 
 -- those of a shape, where there is one
 abbrev pub shape_fields : Option Cedar → FieldTypes
 shape_fields None = no_field_types
-shape_fields (Some t) = fields_in t
+shape_fields (Some t) = field_types_in t
 
 -- The attributes of the entities of a type: the fields of its shape. Neither an action's type nor one that is not
 -- declared has any.
@@ -49,12 +49,12 @@ declared_ancestors None = []
 declared_ancestors (Some us) = us
 
 -- what a policy is typed against in an environment of the schema
-abbrev pub environment_of : StatedSchema → EnvironmentOf → Environment
-environment_of s e = record {
+abbrev pub typing_environment_of : StatedSchema → EnvironmentOf → Environment
+typing_environment_of s e = record {
   principal = e.place.principal;
   action = e.place.action;
   resource = e.place.resource;
-  context = fields_in e.context;
+  context = field_types_in e.context;
   attributes = attributes_of s;
   may_be_below = s.may_have_parent;
   is_action_type = is_action_type;

@@ -3,16 +3,16 @@ use Rattle.std.specs.Prelude.{ℕ, List, Contains}
 use Rattle.typing.specs.Ordered.{HasOrderedTypes}
 use Rattle.typing.specs.Laws.{IsTransitive}
 use Rattle.schema.specs.Schemas.{EnvironmentOf, StatedSchema, IsSchemaOf}
-use Rattle.static_types.specs.FromSchemas.{environment_of}
+use Rattle.static_types.specs.FromSchemas.{typing_environment_of}
 
 -- what is below a type is below all that the type is below
 abbrev pub TypesAreBelowTransitively : Type 0
 TypesAreBelowTransitively =
     (bytes : List ℕ) (v : StatedSchema) → IsSchemaOf bytes v → (e : EnvironmentOf)
-    → IsTransitive (environment_of v e).may_be_below
+    → IsTransitive (typing_environment_of v e).may_be_below
 
 -- the keys of each record type that the schema states ascend
 abbrev pub StatedTypesAreOrdered : Type 0
 StatedTypesAreOrdered =
     (bytes : List ℕ) (v : StatedSchema) → IsSchemaOf bytes v → (e : EnvironmentOf) → Contains v.environments e
-    → HasOrderedTypes (environment_of v e)
+    → HasOrderedTypes (typing_environment_of v e)

@@ -1,6 +1,8 @@
 -- What the types and the faults at hand are, and what they are typed against, as the rules of typing have them.
 use Rattle.std.specs.Prelude.{◌≡◌, ◌≢◌, ℕ, List, [], ◌∷◌}
-use Rattle.std.specs.Prelude.{Bool, Result, Ok, Err, IfErr, MatchResult}
+use Rattle.std.specs.Prelude.{Bool, true, false, if◌then◌else◌, IsTrue, Option, Some, IsSome}
+use Rattle.std.specs.Prelude.{Result, Ok, Err, IfErr, MatchResult}
+use Rattle.std.specs.Str.{bytes_eq}
 use Rattle.std.specs.Borrow.{Bor}
 use Rattle.typing.specs.Types as types
 use Rattle.typing.specs.Types.{true_type, false_type, boolean_type, long_type, text_type, entity_type, set_type}
@@ -10,7 +12,7 @@ use Rattle.typing.specs.Environment.{Environment}
 use Rattle.typing.specs.Rows.{Row}
 use Rattle.schema_types.specs.CedarViews.{cedar_view, cedar_fields_view}
 use Rattle.schema.specs.Views.{schema_view, environment_view}
-use Rattle.static_types.specs.FromSchemas.{static, static_fields, environment_of}
+use Rattle.static_types.specs.FromSchemas.{static, static_fields, typing_environment_of}
 use Rattle.static_types.specs.declared.fault.TypeFault.{TypeFault}
 use Rattle.static_types.specs.declared.fault.TypeFault.TheVariants.{Unexpected, NoCommonType, AttributeMayBeMissing}
 use Rattle.static_types.specs.declared.fault.TypeFault.TheVariants.{EmptySet, BadExtensionLiteral, NoMemory}
@@ -51,9 +53,36 @@ static_step (StaticType-F.Record fs) = record_type (built_fields fs)
 abbrev pub static_view : StaticType → types.StaticType
 static_view = fold-StaticType types.StaticType static_step
 
+-- ---- what is held
+
+-- What an expression built of parts is kept once, and each copy is one holder more; what is declared is lent.
+pub record Holding : Type 0 where
+  pub is_held : Bool
+  -- whether it has a field of this name that is held
+  pub at : List ℕ → Bool
+
+abbrev pub held_in : List (Bor (List ℕ) × Holding × Bool) → List ℕ → Bool
+held_in [] k = false
+held_in (f ∷ fs) k = if bytes_eq k f.0.now then f.1.is_held else held_in fs k
+
+abbrev pub holding_step : StaticType-F Holding → Holding
+holding_step (StaticType-F.Leaf l) = record { is_held = false; at = λ k. false }
+holding_step (StaticType-F.DeclaredSet t) = record { is_held = false; at = λ k. false }
+holding_step (StaticType-F.DeclaredRecord fs) = record { is_held = false; at = λ k. false }
+holding_step (StaticType-F.Set t) = record { is_held = true; at = λ k. false }
+holding_step (StaticType-F.Record fs) = record { is_held = true; at = held_in fs }
+
+abbrev pub holding : StaticType → Holding
+holding = fold-StaticType Holding holding_step
+
+-- Memory may be taken for the common type of t and another: there is one, and it is not t, or t is held.
+abbrev pub MayTakeMemory : StaticType → Option types.StaticType → Type 0
+MayTakeMemory t o = IsSome o × (o ≡ Some (static_view t) → IsTrue (holding t).is_held)
+
 -- ---- faults
 
--- a refused growth tells of no fault
+-- A refused growth tells of no fault of typing. It is given one here since every case has to be; whoever states what a
+-- fault tells leaves that case out first, as `Answers` does below.
 abbrev pub fault_view : TypeFault → environment.TypeFault
 fault_view Unexpected = environment.unexpected
 fault_view NoCommonType = environment.no_common_type
@@ -66,6 +95,10 @@ fault_view NoMemory = environment.unexpected
 abbrev pub Answers : Result StaticType TypeFault → Row → Type 0
 Answers r row = MatchResult r (λ t. row ≡ Ok (static_view t)) (λ f. f ≢ NoMemory → row ≡ Err (fault_view f))
 
+-- memory was asked for only where P holds
+abbrev pub TakesMemoryOnly : Type 0 → Result StaticType TypeFault → Type 0
+TakesMemoryOnly P r = IfErr r (λ f. f ≡ NoMemory → P)
+
 -- no memory was asked for
 abbrev pub TakesNoMemory : Result StaticType TypeFault → Type 0
 TakesNoMemory r = IfErr r (λ f. f ≢ NoMemory)
@@ -73,4 +106,4 @@ TakesNoMemory r = IfErr r (λ f. f ≢ NoMemory)
 -- ---- environments
 
 abbrev pub typing_environment : TypingEnvironment → Environment
-typing_environment e = environment_of (schema_view e.schema.now) (environment_view e.environment.now)
+typing_environment e = typing_environment_of (schema_view e.schema.now) (environment_view e.environment.now)

@@ -1,11 +1,11 @@
 //! The common type of two.
-ghost use Rattle.std.specs.Prelude.{◌≡◌, Some, option_map, IfOk};
+ghost use Rattle.std.specs.Prelude.{◌≡◌, Some, option_map, IfOk, IfErr};
 ghost use Rattle.typing.specs.Types.{set_type, record_type, common, common_fields};
-ghost use Rattle.static_types.specs.Views.{boolean_view, leaf_view, static_view};
+ghost use Rattle.static_types.specs.Views.{boolean_view, leaf_view, static_view, MayTakeMemory};
 ghost use Rattle.static_types.specs.inner.Parts.{part_view, built_view, fields_view};
-ghost use Rattle.static_types.specs.inner.Rows.{paired};
 
-use crate::parts::{FieldPart, Fields, Pair, Part, TypeKind};
+use crate::joining::{Join, join_of, paired};
+use crate::parts::{Fields, Part, TypeKind};
 use crate::static_type::{BooleanType, Leaf, StaticType};
 use plain::{Items, NoMemory, Shared};
 use std::alloc::Global;
@@ -13,16 +13,23 @@ use std::alloc::Global;
 /// The common type of two types, where there is one, or `NoMemory`: of equal types that type, of types of booleans that
 /// differ any boolean, of sets by their members, and of records with equal keys and equal requirements field by field.
 ///
-/// Takes time linear in the smaller one's parts.
+/// Takes time linear in the smaller one's parts. Where it is the left one, as of one declared type with itself, that is
+/// copied; so memory is taken only where it is another.
 pub fn common<'a>(
     alloc: Global,
     left: &StaticType<'a>,
     right: &StaticType<'a>,
 ) -> Result<Option<StaticType<'a>>, NoMemory>
-    ensures { IfOk result (λ o. option_map (λ t. static_view t) o
+    ensures is { IfOk result (λ o. option_map (λ t. static_view t) o
         ≡ common (static_view left.now) (static_view right.now)) }
+    ensures memory { IfErr result (λ _.
+        MayTakeMemory left.now (common (static_view left.now) (static_view right.now))) }
 {
-    common_of(alloc, Part::Built(left), Part::Built(right))
+    match join_of(Part::Built(left), Part::Built(right)) {
+        Join::Apart => Ok(None),
+        Join::Left => Ok(Some(left.copy()?)),
+        Join::Wider => common_of(alloc, Part::Built(left), Part::Built(right)),
+    }
 }
 
 /// The common type of two types of booleans.
@@ -89,7 +96,7 @@ fn record_of<'a>(
 }
 
 #[cycle(common_of)]
-pub(crate) fn common_of<'a>(
+fn common_of<'a>(
     alloc: Global,
     left: Part<'_, 'a>,
     right: Part<'_, 'a>,
@@ -110,32 +117,6 @@ fn leaf_type<'a>(leaf: Option<Leaf<'a>>) -> Option<StaticType<'a>>
 {
     match leaf {
         Some(leaf) => Some(StaticType::Leaf(leaf)),
-        None => None,
-    }
-}
-
-fn paired<'r, 's, 'a>(
-    left: Option<FieldPart<'r, 'a>>,
-    right: Option<FieldPart<'s, 'a>>,
-) -> Option<Pair<'r, 's, 'a>>
-    ensures { result ≡ paired left.entry right.entry }
-{
-    match left {
-        Some(a) => match right {
-            Some(b) => {
-                if a.key == b.key && a.required == b.required {
-                    Some(Pair {
-                        key: a.key,
-                        left: a.part,
-                        right: b.part,
-                        required: a.required,
-                    })
-                } else {
-                    None
-                }
-            }
-            None => None,
-        },
         None => None,
     }
 }

@@ -1,22 +1,24 @@
 //! What policies are typed against.
-ghost use Rattle.std.specs.Prelude.{◌≡◌, ◌↔◌, [], Contains, IsTrue};
-ghost use Rattle.std.specs.List.{list_any};
-ghost use Rattle.std.specs.Ordering.{is_eq};
-ghost use Rattle.values.specs.Names.{uid_cmp};
+ghost use Rattle.std.specs.Prelude.{◌≡◌, ◌↔◌, [], false, Contains, IsTrue};
+ghost use Rattle.std.specs.List.Sorted.{IsStrictlySortedBy};
+ghost use Rattle.values.specs.Names.{text_cmp, uid_cmp};
 ghost use Rattle.schema_types.specs.CedarViews.{cedar_view, cedar_fields_view};
 ghost use Rattle.schema.specs.Views.{schema_view, environment_view};
 ghost use Rattle.entities.specs.Entities.{is_action_type};
+ghost use Rattle.typing.specs.Types.{field_declared_at};
+ghost use Rattle.typing.specs.Ordered.{AreOrdered};
 ghost use Rattle.typing.specs.Rows.{variable_type};
-ghost use Rattle.static_types.specs.FromSchemas.{static_fields, fields_in, attributes_of, environment_of};
+ghost use Rattle.static_types.specs.FromSchemas.{static_fields, field_types_in, attributes_of, typing_environment_of};
 ghost use Rattle.static_types.specs.Views.{static_view, typing_environment};
-ghost use Rattle.static_types.specs.inner.Parts.{fields_view};
+ghost use Rattle.static_types.specs.inner.Parts.{found_view, found_held};
 
-use crate::parts::Fields;
+use crate::parts::Part;
 use crate::static_type::{Leaf, StaticType};
 use expressions::Variable;
 use plain::Text;
-use schema::{Environment, Schema};
+use schema::{Environment, Schema, stated_schemas_are_well_formed};
 use schema_types::CedarType;
+use std::cmp::Ordering;
 use values::{EntityUid, TypeName};
 
 /// One kind of request, and the schema that says of what types entities are.
@@ -42,7 +44,7 @@ fn no_fields<'a>() -> &'a [(Text, CedarType, bool)]
 
 /// The fields of a record; other types have none.
 fn fields_in<'a>(ty: &'a CedarType) -> &'a [(Text, CedarType, bool)]
-    ensures { static_fields (cedar_fields_view result.now) ≡ fields_in (cedar_view ty.now) }
+    ensures { static_fields (cedar_fields_view result.now) ≡ field_types_in (cedar_view ty.now) }
 {
     match ty {
         CedarType::Record(fields) => fields.get().as_slice(),
@@ -69,23 +71,44 @@ fn attributes_of<'a>(schema: &'a Schema, name: &TypeName) -> &'a [(Text, CedarTy
     }
 }
 
-/// Whether a uid is one of these.
-fn is_among(uids: &[EntityUid], uid: &EntityUid) -> bool
-    ensures { result ≡ list_any (λ u. is_eq (uid_cmp uid.now u)) uids.now }
+/// How the name of a field compares with another.
+fn compare(field: &(Text, CedarType, bool), key: &str) -> Ordering
+    ensures { result ≡ text_cmp field.now.0 key.now }
 {
-    for listed in uids {
-        if uid.cmp(listed).is_eq() {
-            return true;
+    field.0.as_str().cmp(key)
+}
+
+/// What fields in order say of a key; takes logarithmic time.
+fn found_in_order<'r, 'a>(
+    fields: &'a [(Text, CedarType, bool)],
+    key: &str,
+) -> Option<(Part<'r, 'a>, bool)>
+    requires { AreOrdered (static_fields (cedar_fields_view fields.now)) }
+    ensures declared { found_view result ≡ field_declared_at key.now (static_fields (cedar_fields_view fields.now)) }
+    ensures lent { found_held result ≡ false }
+{
+    match fields.binary_search_by(|field| compare(field, key)) {
+        Ok(at) => {
+            let field = &fields[at];
+            Some((Part::Declared(&field.1), field.2))
         }
+        Err(_) => None,
     }
-    false
+}
+
+/// Whether a uid is one of these, which ascend; takes logarithmic time.
+fn is_among(uids: &[EntityUid], uid: &EntityUid) -> bool
+    requires { IsStrictlySortedBy uid_cmp uids.now }
+    ensures { IsTrue result ↔ Contains uids.now uid.now }
+{
+    uids.binary_search(uid).is_ok()
 }
 
 impl<'a> TypingEnvironment<'a> {
     /// An environment of a schema; takes no memory.
     pub fn new(schema: &'a Schema, environment: &'a Environment) -> TypingEnvironment<'a>
         ensures { typing_environment result
-            ≡ environment_of (schema_view schema.now) (environment_view environment.now) }
+            ≡ typing_environment_of (schema_view schema.now) (environment_view environment.now) }
     {
         TypingEnvironment {
             schema,
@@ -115,11 +138,15 @@ impl<'a> TypingEnvironment<'a> {
         &environment.place.action
     }
 
-    /// The attributes of the entities of a type.
-    pub(crate) fn attributes_of<'r>(self, name: &TypeName) -> Fields<'r, 'a>
-        ensures { fields_view result ≡ (typing_environment self.entry).attributes name.now }
+    /// What the type of the entities of a type says of an attribute; takes logarithmic time.
+    pub(crate) fn attribute<'r>(self, name: &TypeName, key: &str) -> Option<(Part<'r, 'a>, bool)>
+        ensures declared { found_view result
+            ≡ field_declared_at key.now ((typing_environment self.entry).attributes name.now) }
+        ensures lent { found_held result ≡ false }
     {
-        Fields::Declared(attributes_of(self.schema, name))
+        self.schema.is_stated();
+        stated_schemas_are_well_formed();
+        found_in_order(attributes_of(self.schema, name), key)
     }
 
     /// Whether the entities of a type are actions; takes no memory.
@@ -136,10 +163,12 @@ impl<'a> TypingEnvironment<'a> {
         self.schema.may_have_parent(below, above)
     }
 
-    /// Whether an entity is an ancestor of an action, by the schema; takes no memory.
+    /// Whether an entity is an ancestor of an action, by the schema; takes no memory, and logarithmic time.
     pub fn is_action_ancestor(self, action: &EntityUid, above: &EntityUid) -> bool
         ensures { IsTrue result ↔ Contains ((typing_environment self.entry).action_ancestors action.now) above.now }
     {
+        self.schema.is_stated();
+        stated_schemas_are_well_formed();
         match self.schema.action_ancestors(action) {
             Some(ancestors) => is_among(ancestors, above),
             None => false,

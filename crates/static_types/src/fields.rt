@@ -1,30 +1,60 @@
 //! The types of fields and attributes.
-ghost use Rattle.std.specs.Prelude.{◌≡◌, if◌then◌else◌};
-ghost use Rattle.typing.specs.Types.{declared_at, true_type};
+ghost use Rattle.std.specs.Prelude.{◌≡◌, false, IsTrue, if◌then◌else◌};
+ghost use Rattle.typing.specs.Types.{field_declared_at, true_type};
 ghost use Rattle.typing.specs.Rows.{field_type_of, has_type, access_type, record_has, entity_has};
-ghost use Rattle.static_types.specs.Views.{boolean_view, static_view, typing_environment, Answers, TakesNoMemory};
-ghost use Rattle.static_types.specs.inner.Parts.{fields_view, found_view};
+ghost use Rattle.schema_types.specs.CedarViews.{cedar_fields_view};
+ghost use Rattle.static_types.specs.FromSchemas.{static_fields};
+ghost use Rattle.static_types.specs.Views.{boolean_view, static_view, holding, typing_environment, Answers};
+ghost use Rattle.static_types.specs.Views.{TakesNoMemory, TakesMemoryOnly};
+ghost use Rattle.static_types.specs.inner.Parts.{built_view, fields_view, held_at, found_held, found_view};
 
 use crate::environment::TypingEnvironment;
 use crate::fault::TypeFault;
 use crate::parts::{Fields, Part, TypeKind};
 use crate::static_type::{BooleanType, Leaf, StaticType};
+use plain::Text;
+use schema_types::CedarType;
 
-/// What a record type says of a key, by a walk over its fields.
-fn found<'r, 'a>(fields: Fields<'r, 'a>, key: &str) -> Option<(Part<'r, 'a>, bool)>
-    ensures { found_view result ≡ declared_at key.now (fields_view fields.entry) }
+/// What a record type that an expression built says of a key, by a walk over its fields.
+fn found_built<'r, 'a>(
+    fields: &'r [(&'a str, StaticType<'a>, bool)],
+    key: &str,
+) -> Option<(Part<'r, 'a>, bool)>
+    ensures declared { found_view result ≡ field_declared_at key.now (built_view fields.now) }
+    ensures held { found_held result ≡ held_at key.now fields.now }
 {
-    for at in 0..fields.len() {
-        match fields.get(at) {
-            Some(field) => {
-                if key == field.key {
-                    return Some((field.part, field.required));
-                }
-            }
-            None => return None,
+    for field in fields {
+        if key == field.0 {
+            return Some((Part::Built(&field.1), field.2));
         }
     }
     None
+}
+
+/// What a record type that the schema declares says of a key, by a walk over its fields.
+fn found_declared<'r, 'a>(
+    fields: &'a [(Text, CedarType, bool)],
+    key: &str,
+) -> Option<(Part<'r, 'a>, bool)>
+    ensures declared { found_view result ≡ field_declared_at key.now (static_fields (cedar_fields_view fields.now)) }
+    ensures lent { found_held result ≡ false }
+{
+    for field in fields {
+        if key == field.0.as_str() {
+            return Some((Part::Declared(&field.1), field.2));
+        }
+    }
+    None
+}
+
+/// What a record type says of a key, by a walk over its fields.
+fn found<'r, 'a>(fields: Fields<'r, 'a>, key: &str) -> Option<(Part<'r, 'a>, bool)>
+    ensures { found_view result ≡ field_declared_at key.now (fields_view fields.entry) }
+{
+    match fields {
+        Fields::Built(fields) => found_built(fields, key),
+        Fields::Declared(fields) => found_declared(fields, key),
+    }
 }
 
 /// The type of a field that is required, or optional and known.
@@ -32,7 +62,8 @@ fn access<'a>(
     is_known: bool,
     declared: Option<(Part<'_, 'a>, bool)>,
 ) -> Result<StaticType<'a>, TypeFault>
-    ensures { Answers result (access_type is_known (found_view declared.entry)) }
+    ensures row { Answers result (access_type is_known (found_view declared.entry)) }
+    ensures memory { TakesMemoryOnly (IsTrue (found_held declared.entry)) result }
 {
     match declared {
         Some((part, required)) => {
@@ -73,8 +104,10 @@ fn entity_has(is_known: bool, declared: Option<(Part<'_, '_>, bool)>) -> Boolean
     }
 }
 
-/// The type of `e.f`, by the type of `e` and whether it is known that `e` has the field. `NoMemory` only where the
-/// holders of a type that an expression built are as many as can be counted.
+/// The type of `e.f`, by the type of `e` and whether it is known that `e` has the field. It takes no memory, and it is
+/// `NoMemory` only where an expression built the field's type, and its holders are as many as can be counted.
+///
+/// Takes logarithmic time where `e` is an entity.
 ///
 /// Refused where `e` is neither a record nor an entity, and where the field is not declared, or optional and not known.
 pub fn field_type<'a>(
@@ -83,17 +116,22 @@ pub fn field_type<'a>(
     key: &str,
     whole: &StaticType<'a>,
 ) -> Result<StaticType<'a>, TypeFault>
-    ensures { Answers result
+    ensures row { Answers result
         (field_type_of (typing_environment env.entry) is_known key.now (static_view whole.now)) }
+    ensures memory { TakesMemoryOnly (IsTrue ((holding whole.now).at key.now)) result }
 {
-    match Part::Built(whole).kind() {
-        TypeKind::Record(fields) => access(is_known, found(fields, key)),
-        TypeKind::Leaf(Leaf::Entity(name)) => access(is_known, found(env.attributes_of(name), key)),
-        _ => Err(TypeFault::Unexpected),
+    match whole {
+        StaticType::Leaf(Leaf::Entity(name)) => access(is_known, env.attribute(*name, key)),
+        StaticType::DeclaredRecord(fields) => access(is_known, found_declared(*fields, key)),
+        StaticType::Record(fields) => access(is_known, found_built(fields.get().as_slice(), key)),
+        StaticType::Leaf(Leaf::Boolean(_) | Leaf::Long | Leaf::Text | Leaf::Decimal | Leaf::Ipaddr)
+        | StaticType::DeclaredSet(_)
+        | StaticType::Set(_) => Err(TypeFault::Unexpected),
     }
 }
 
-/// The type of `e has f`, by the type of `e` and whether it is known that `e` has the field; takes no memory.
+/// The type of `e has f`, by the type of `e` and whether it is known that `e` has the field; takes no memory, and
+/// logarithmic time where `e` is an entity.
 ///
 /// Refused where `e` is neither a record nor an entity.
 pub fn has_type<'a>(
@@ -114,7 +152,7 @@ pub fn has_type<'a>(
         ))),
         TypeKind::Leaf(Leaf::Entity(name)) => Ok(StaticType::boolean(entity_has(
             is_known,
-            found(env.attributes_of(name), key),
+            env.attribute(name, key),
         ))),
         _ => Err(TypeFault::Unexpected),
     }

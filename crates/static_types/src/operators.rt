@@ -3,17 +3,17 @@ ghost use Rattle.std.specs.Prelude.{◌≡◌, Ok, option_map};
 ghost use Rattle.expressions.specs.declared.operator.Unary.TheVariants.{Not};
 ghost use Rattle.expressions.specs.declared.operator.Binary.TheVariants.{In};
 ghost use Rattle.typing.specs.Types.{common};
-ghost use Rattle.typing.specs.Rows.{unary_type, binary_type, and_type, or_type, address_test_type, call_type};
+ghost use Rattle.typing.specs.Rows.{unary_type, binary_type, address_test_type, call_type};
 ghost use Rattle.typing.specs.Rows.{if_common, equal_type, may_be_in, of_numbers};
 ghost use Rattle.static_types.specs.Views.{boolean_view, leaf_view, static_view};
 ghost use Rattle.static_types.specs.Views.{typing_environment, Answers, TakesNoMemory};
 ghost use Rattle.static_types.specs.inner.Parts.{part_view, kind_view};
-ghost use Rattle.static_types.specs.inner.Rows.{entity_in, entities_in, are_unequal, contains_type, sets_type};
-ghost use Rattle.static_types.specs.inner.Rows.{is_decimal, is_ipaddr, and_of, or_of};
+ghost use Rattle.static_types.specs.inner.Rows.{entity_type_in, entities_in, are_unequal, contains_type, sets_type};
+ghost use Rattle.static_types.specs.inner.Rows.{is_decimal, is_ipaddr};
 
-use crate::common_types::common_of;
 use crate::environment::{TypingEnvironment, is_action_type};
 use crate::fault::TypeFault;
+use crate::joining::{Join, join_of};
 use crate::literals::truth_type;
 use crate::parts::{Part, TypeKind};
 use crate::static_type::{BooleanType, Leaf, StaticType};
@@ -67,75 +67,64 @@ pub fn unary_type<'a>(
     row
 }
 
-/// The type of an operator's result on operands of these types, or `NoMemory`.
+/// The type of an operator's result on operands of these types; takes no memory, and time linear in the smaller one's
+/// parts.
 ///
 /// Refused where the operator demands other kinds of types, and then where it demands a common type and there is none.
 pub fn binary_type<'a>(
-    alloc: Global,
+    _alloc: Global,
     env: TypingEnvironment<'a>,
     operator: Binary,
     left: StaticType<'a>,
     right: StaticType<'a>,
 ) -> Result<StaticType<'a>, TypeFault>
-    ensures { Answers result
+    ensures row { Answers result
         (binary_type (typing_environment env.entry) operator (static_view left.entry) (static_view right.entry)) }
+    ensures memory { TakesNoMemory result }
 {
-    let row = binary_of(
-        alloc,
-        env,
-        operator,
-        Part::Built(&left),
-        Part::Built(&right),
-    );
+    let row = binary_of(env, operator, Part::Built(&left), Part::Built(&right));
     drop(left);
     drop(right);
     row
 }
 
 fn binary_of<'a>(
-    alloc: Global,
     env: TypingEnvironment<'a>,
     operator: Binary,
     left: Part<'_, 'a>,
     right: Part<'_, 'a>,
 ) -> Result<StaticType<'a>, TypeFault>
-    ensures { Answers result
+    ensures row { Answers result
         (binary_type (typing_environment env.entry) operator (part_view left.entry) (part_view right.entry)) }
+    ensures memory { TakesNoMemory result }
 {
     let (one, other) = (left.kind(), right.kind());
     match operator {
-        Binary::Equal => equal_of(alloc, left, right),
+        Binary::Equal => equal_of(left, right),
         Binary::In => in_of(env, one, other),
         Binary::Less | Binary::LessOrEqual => {
             of_numbers(Leaf::Boolean(BooleanType::Either), one, other)
         }
         Binary::Add | Binary::Subtract | Binary::Multiply => of_numbers(Leaf::Long, one, other),
-        Binary::Contains => contains_of(alloc, one, right),
-        Binary::ContainsAll | Binary::ContainsAny => sets_of(alloc, one, other),
+        Binary::Contains => contains_of(one, right),
+        Binary::ContainsAll | Binary::ContainsAny => sets_of(one, other),
     }
 }
 
 /// Any boolean where two types have a common type.
-fn if_common<'a>(
-    alloc: Global,
-    left: Part<'_, 'a>,
-    right: Part<'_, 'a>,
-) -> Result<StaticType<'a>, TypeFault>
-    ensures { Answers result (if_common (common (part_view left.entry) (part_view right.entry))) }
+fn if_common<'a>(left: Part<'_, 'a>, right: Part<'_, 'a>) -> Result<StaticType<'a>, TypeFault>
+    ensures row { Answers result (if_common (common (part_view left.entry) (part_view right.entry))) }
+    ensures memory { TakesNoMemory result }
 {
-    let common = common_of(alloc, left, right)?;
-    let is_there = common.is_some();
-    drop(common);
-    if is_there {
-        Ok(StaticType::boolean(BooleanType::Either))
-    } else {
-        Err(TypeFault::NoCommonType)
+    match join_of(left, right) {
+        Join::Apart => Err(TypeFault::NoCommonType),
+        Join::Left | Join::Wider => Ok(StaticType::boolean(BooleanType::Either)),
     }
 }
 
 /// The name where a type is an entity type.
 fn entity_of<'a>(kind: TypeKind<'_, 'a>) -> Option<&'a TypeName>
-    ensures { option_map (λ n. n.now) result ≡ entity_in (kind_view kind.entry) }
+    ensures { option_map (λ n. n.now) result ≡ entity_type_in (kind_view kind.entry) }
 {
     match kind {
         TypeKind::Leaf(Leaf::Entity(name)) => Some(name),
@@ -154,17 +143,14 @@ fn entities_of<'a>(kind: TypeKind<'_, 'a>) -> Option<&'a TypeName>
 }
 
 /// False for entities of two types; else any boolean where there is a common type.
-fn equal_of<'a>(
-    alloc: Global,
-    left: Part<'_, 'a>,
-    right: Part<'_, 'a>,
-) -> Result<StaticType<'a>, TypeFault>
-    ensures { Answers result (equal_type (part_view left.entry) (part_view right.entry)) }
+fn equal_of<'a>(left: Part<'_, 'a>, right: Part<'_, 'a>) -> Result<StaticType<'a>, TypeFault>
+    ensures row { Answers result (equal_type (part_view left.entry) (part_view right.entry)) }
+    ensures memory { TakesNoMemory result }
 {
     if are_unequal(entity_of(left.kind()), entity_of(right.kind())) {
         return Ok(StaticType::boolean(BooleanType::False));
     }
-    if_common(alloc, left, right)
+    if_common(left, right)
 }
 
 /// Whether there are two names, and they differ.
@@ -195,8 +181,9 @@ fn in_of<'a>(
     left: TypeKind<'_, 'a>,
     right: TypeKind<'_, 'a>,
 ) -> Result<StaticType<'a>, TypeFault>
-    ensures { Answers result
+    ensures row { Answers result
         (binary_type (typing_environment env.entry) In (kind_view left.entry) (kind_view right.entry)) }
+    ensures memory { TakesNoMemory result }
 {
     let (Some(below), Some(above)) = (entity_of(left), entities_of(right)) else {
         return Err(TypeFault::Unexpected);
@@ -214,7 +201,8 @@ fn of_numbers<'a>(
     left: TypeKind<'_, 'a>,
     right: TypeKind<'_, 'a>,
 ) -> Result<StaticType<'a>, TypeFault>
-    ensures { Answers result (of_numbers (leaf_view given.entry) (kind_view left.entry) (kind_view right.entry)) }
+    ensures row { Answers result (of_numbers (leaf_view given.entry) (kind_view left.entry) (kind_view right.entry)) }
+    ensures memory { TakesNoMemory result }
 {
     match (left, right) {
         (TypeKind::Leaf(Leaf::Long), TypeKind::Leaf(Leaf::Long)) => Ok(StaticType::Leaf(given)),
@@ -222,68 +210,24 @@ fn of_numbers<'a>(
     }
 }
 
-fn contains_of<'a>(
-    alloc: Global,
-    left: TypeKind<'_, 'a>,
-    right: Part<'_, 'a>,
-) -> Result<StaticType<'a>, TypeFault>
-    ensures { Answers result (contains_type (kind_view left.entry) (part_view right.entry)) }
+fn contains_of<'a>(left: TypeKind<'_, 'a>, right: Part<'_, 'a>) -> Result<StaticType<'a>, TypeFault>
+    ensures row { Answers result (contains_type (kind_view left.entry) (part_view right.entry)) }
+    ensures memory { TakesNoMemory result }
 {
     match left {
-        TypeKind::Set(member) => if_common(alloc, member, right),
+        TypeKind::Set(member) => if_common(member, right),
         TypeKind::Leaf(_) | TypeKind::Record(_) => Err(TypeFault::Unexpected),
     }
 }
 
-fn sets_of<'a>(
-    alloc: Global,
-    left: TypeKind<'_, 'a>,
-    right: TypeKind<'_, 'a>,
-) -> Result<StaticType<'a>, TypeFault>
-    ensures { Answers result (sets_type (kind_view left.entry) (kind_view right.entry)) }
+fn sets_of<'a>(left: TypeKind<'_, 'a>, right: TypeKind<'_, 'a>) -> Result<StaticType<'a>, TypeFault>
+    ensures row { Answers result (sets_type (kind_view left.entry) (kind_view right.entry)) }
+    ensures memory { TakesNoMemory result }
 {
     match right {
-        TypeKind::Set(member) => contains_of(alloc, left, member),
+        TypeKind::Set(member) => contains_of(left, member),
         TypeKind::Leaf(_) | TypeKind::Record(_) => Err(TypeFault::Unexpected),
     }
-}
-
-/// What `&&` is by the booleans that its sides are.
-fn and_of(left: Option<BooleanType>, right: Option<BooleanType>) -> BooleanType
-    ensures { result ≡ and_of left right }
-{
-    match right {
-        Some(BooleanType::False) => BooleanType::False,
-        Some(BooleanType::True) => match left {
-            Some(BooleanType::True) => BooleanType::True,
-            Some(BooleanType::False | BooleanType::Either) | None => BooleanType::Either,
-        },
-        Some(BooleanType::Either) | None => BooleanType::Either,
-    }
-}
-
-/// What `||` is by the boolean that its right is.
-fn or_of(right: Option<BooleanType>) -> BooleanType
-    ensures { result ≡ or_of right }
-{
-    match right {
-        Some(BooleanType::True) => BooleanType::True,
-        Some(BooleanType::False | BooleanType::Either) | None => BooleanType::Either,
-    }
-}
-
-/// The type of `&&` whose left may be true, by the types of its sides; takes no memory.
-pub fn and_type<'a>(left: &StaticType<'a>, right: &StaticType<'a>) -> StaticType<'a>
-    ensures { static_view result ≡ and_type (static_view left.now) (static_view right.now) }
-{
-    StaticType::boolean(and_of(left.as_boolean(), right.as_boolean()))
-}
-
-/// The type of `||` whose left is true or false, by the type of its right; takes no memory.
-pub fn or_type<'a>(right: &StaticType<'a>) -> StaticType<'a>
-    ensures { static_view result ≡ or_type (static_view right.now) }
-{
-    StaticType::boolean(or_of(right.as_boolean()))
 }
 
 /// The type of a test of an address, by its operand's type; takes no memory.

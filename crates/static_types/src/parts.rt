@@ -1,9 +1,9 @@
 //! What a type is made of, layer by layer, wherever it stands.
-ghost use Rattle.std.specs.Prelude.{◌≡◌, suc, IfOk};
+ghost use Rattle.std.specs.Prelude.{◌≡◌, suc, IsTrue, IfOk, IfErr};
 ghost use Rattle.schema_types.specs.CedarViews.{cedar_view, cedar_fields_view};
 ghost use Rattle.static_types.specs.FromSchemas.{static, static_fields};
 ghost use Rattle.static_types.specs.Views.{static_view};
-ghost use Rattle.static_types.specs.inner.Parts.{part_view, kind_view, built_view};
+ghost use Rattle.static_types.specs.inner.Parts.{part_view, part_held, kind_view, built_view};
 ghost use Rattle.static_types.specs.inner.Parts.{fields_view, fields_count, fields_behind, before};
 
 use crate::static_type::{BooleanType, Leaf, StaticType, same_leaf};
@@ -63,7 +63,8 @@ impl<'r, 'a> Part<'r, 'a> {
 
     /// The type by itself.
     pub(crate) fn taken(self) -> Result<StaticType<'a>, NoMemory>
-        ensures { IfOk result (λ t. static_view t ≡ part_view self.entry) }
+        ensures same { IfOk result (λ t. static_view t ≡ part_view self.entry) }
+        ensures memory { IfErr result (λ _. IsTrue (part_held self.entry)) }
     {
         match self {
             Part::Built(ty) => ty.copy(),

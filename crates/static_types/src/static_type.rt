@@ -1,11 +1,11 @@
 //! Types of expressions.
-ghost use Rattle.std.specs.Prelude.{◌≡◌, ◌↔◌, IsTrue, IfOk, MatchOption};
+ghost use Rattle.std.specs.Prelude.{◌≡◌, ◌↔◌, IsTrue, IfOk, IfErr, MatchOption};
 ghost use Rattle.std.specs.Bool.{Decides};
 ghost use Rattle.typing.specs.Types.{false_type, IsBoolean};
 ghost use Rattle.typing.specs.Rows.{MayBeTrue, MayBeFalse};
 ghost use Rattle.schema_types.specs.CedarViews.{cedar_view};
 ghost use Rattle.static_types.specs.FromSchemas.{static};
-ghost use Rattle.static_types.specs.Views.{boolean_view, static_view};
+ghost use Rattle.static_types.specs.Views.{boolean_view, static_view, holding};
 
 use crate::parts::{Part, TypeKind};
 use plain::{Items, NoMemory, Shared, Text};
@@ -110,10 +110,11 @@ impl<'a> StaticType<'a> {
         StaticType::Leaf(Leaf::Boolean(truth))
     }
 
-    /// The same type. It takes no memory, and it is `NoMemory` only where the holders of what an expression built are
-    /// as many as can be counted.
+    /// The same type. It takes no memory, and it is `NoMemory` only where it is held, and the holders of what an
+    /// expression built are as many as can be counted.
     pub fn copy(&self) -> Result<StaticType<'a>, NoMemory>
-        ensures { IfOk result (λ t. static_view t ≡ static_view self.now) }
+        ensures same { IfOk result (λ t. static_view t ≡ static_view self.now) }
+        ensures memory { IfErr result (λ _. IsTrue (holding self.now).is_held) }
     {
         match self {
             StaticType::Leaf(leaf) => Ok(StaticType::Leaf(same_leaf(leaf))),

@@ -10,7 +10,7 @@ use Rattle.ancestor_closure.specs.Decided.{is_same}
 use Rattle.ancestor_closure.specs.Deciding.{same_self}
 use Rattle.schema.specs.Schemas.{StatedSchema}
 use Rattle.entity_worlds.specs.declared.entity.Entity.{Entity}
-use Rattle.entities.specs.Entities.{entity_in}
+use Rattle.entities.specs.Entities.{entity_stated_in}
 use Rattle.entities.specs.Canonical.{canonical_text}
 use Rattle.canonical_texts.specs.Laws.{CanonicalTextsReadBack}
 use Rattle.state_messages.specs.declared.bodies.BodyFault.TheVariants.{Refused, OtherName}
@@ -23,7 +23,7 @@ goes_on : {A B F : Type 0} (r : Result A F) (x : A) (f : A → Result B F) (y : 
 goes_on r x f y e h = subst (λ q. (q >>= f) ≡ y) (sym e) h
 
 read_in : (s : StatedSchema) (e : Entity) (text : List ℕ) (json : Data) → json_of text ≡ Some json
-    → entity_in s json ≡ Ok e → bytes_eq (canonical_text e) text ≡ true → is_same e.uid e.uid ≡ true
+    → entity_stated_in s json ≡ Ok e → bytes_eq (canonical_text e) text ≡ true → is_same e.uid e.uid ≡ true
     → ReadsEntity s e.uid text e
 unfolding entity_of_text
 read_in s e text json is_json is_read is_canonical is_named =

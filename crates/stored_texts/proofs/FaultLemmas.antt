@@ -11,7 +11,7 @@ use Rattle.schema.specs.Schemas.{StatedSchema}
 use Rattle.validator.specs.declared.fault.CheckFault.{CheckFault}
 use Rattle.validator.specs.declared.fault.CheckFault.TheVariants as check
 use Rattle.validator.specs.Faults as validation
-use Rattle.validator.specs.Passing.{IsRefused}
+use Rattle.validator.specs.Passing.{IsCheckRefused}
 use Rattle.state_messages.specs.declared.bodies.BodyFault.{BodyFault}
 use Rattle.state_messages.specs.declared.bodies.BodyFault.TheVariants as body
 use Rattle.state_messages.specs.Bodies.{OrNoMemory}
@@ -36,11 +36,11 @@ module _ (s : StatedSchema) (t : List ℕ) (b : BodyFault) where
   unread_is_refused read.TooLong h m r = λ ne. of_reading read.TooLong h (r (λ e. cc))
   unread_is_refused read.BadId h m r = λ ne. of_reading read.BadId h (r (λ e. cc))
 
-  of_checking : (p : Policy) → IsPolicyText t p → (f : CheckFault) → IsRefused s p f → b ≡ body.Refused (validation.code_of f)
+  of_checking : (p : Policy) → IsPolicyText t p → (f : CheckFault) → IsCheckRefused s p f → b ≡ body.Refused (validation.code_of f)
       → RefusesPolicy s t b
   of_checking p is f h e = subst (λ c. RefusesPolicy s t c) (sym e) (not_passing p f is h)
 
-  pub unpassed_is_refused : (p : Policy) → IsPolicyText t p → (f : CheckFault) → (f ≢ check.NoMemory → IsRefused s p f)
+  pub unpassed_is_refused : (p : Policy) → IsPolicyText t p → (f : CheckFault) → (f ≢ check.NoMemory → IsCheckRefused s p f)
       → (f ≡ check.NoMemory → b ≡ body.NoMemory) → (f ≢ check.NoMemory → b ≡ body.Refused (validation.code_of f))
       → OrNoMemory body.NoMemory (RefusesPolicy s t) b
   unpassed_is_refused p is check.NoMemory h m r = λ ne. absurd (ne (m refl))

@@ -10,7 +10,7 @@ use Rattle.policy_grammar.specs.Unique.{HasOneReading}
 use Rattle.schema.specs.Schemas.{StatedSchema}
 use Rattle.validator.specs.declared.fault.CheckFault.{CheckFault}
 use Rattle.validator.specs.Faults as validation
-use Rattle.validator.specs.Passing.{Passes, IsRefused}
+use Rattle.validator.specs.Passing.{Passes, IsCheckRefused}
 use Rattle.validator.specs.Outcomes.{PoliciesHaveOneOutcome, PassingIsNotRefused, CheckResult, IsCheckResult, passes, refused}
 use Rattle.state_messages.specs.declared.bodies.BodyFault.{BodyFault}
 use Rattle.state_messages.specs.declared.bodies.BodyFault.TheVariants as body
@@ -28,12 +28,12 @@ module _ (reading : HasOneReading IsPolicyText IsPolicyRefused) (checking : Poli
   same_fault : (f g : CheckFault) → refused f ≡ refused g → f ≡ g
   same_fault f g h = cc
 
-  one_check : (p : Policy) (f g : CheckFault) → IsRefused s p f → IsRefused s p g → f ≡ g
+  one_check : (p : Policy) (f g : CheckFault) → IsCheckRefused s p f → IsCheckRefused s p g → f ≡ g
   one_check p f g x y = same_fault f g ((checking s p).2 (refused f) x ∙ sym ((checking s p).2 (refused g) y))
 
-  one_refusal : (p q : Policy) (f g : CheckFault) → IsPolicyText text p → IsPolicyText text q → IsRefused s p f
-      → IsRefused s q g → f ≡ g
-  one_refusal p q f g is are x y = one_check p f g x (subst (λ r. IsRefused s r g) (sym (reading.one_value text p q is are)) y)
+  one_refusal : (p q : Policy) (f g : CheckFault) → IsPolicyText text p → IsPolicyText text q → IsCheckRefused s p f
+      → IsCheckRefused s q g → f ≡ g
+  one_refusal p q f g is are x y = one_check p f g x (subst (λ r. IsCheckRefused s r g) (sym (reading.one_value text p q is are)) y)
 
   one_fault : (f g : BodyFault) → RefusesPolicy s text f → RefusesPolicy s text g → f ≡ g
   one_fault _ _ (no_policy a x) (no_policy b y) = ap (λ f. body.Refused (grammar.code_of f)) (reading.one_refusal text a b x y)

@@ -17,11 +17,11 @@ use Rattle.schema.specs.Schemas.{StatedSchema}
 use Rattle.entity_worlds.specs.declared.entity.Entity.{Entity}
 use Rattle.entities.specs.declared.fault.EntityFault.{EntityFault}
 use Rattle.entities.specs.Faults as entities
-use Rattle.entities.specs.Entities.{entity_in}
+use Rattle.entities.specs.Entities.{entity_stated_in}
 use Rattle.entities.specs.Canonical.{canonical_text}
 use Rattle.validator.specs.declared.fault.CheckFault.{CheckFault}
 use Rattle.validator.specs.Faults as validation
-use Rattle.validator.specs.Passing.{Passes, IsRefused}
+use Rattle.validator.specs.Passing.{Passes, IsCheckRefused}
 use Rattle.state_messages.specs.declared.bodies.BodyFault.{BodyFault}
 use Rattle.state_messages.specs.declared.bodies.BodyFault.TheVariants.{Refused, OtherName}
 
@@ -35,7 +35,7 @@ pub record ReadsPolicy (s : StatedSchema) (text : List ℕ) (p : Policy) : Type 
 -- the text is no policy's, or that of one that does not pass: told by the number of its fault
 pub data RefusesPolicy (s : StatedSchema) (text : List ℕ) : BodyFault → Type 0 where
   no_policy : (f : ReadFault) → IsPolicyRefused text f → RefusesPolicy s text (Refused (grammar.code_of f))
-  not_passing : (p : Policy) (f : CheckFault) → IsPolicyText text p → IsRefused s p f
+  not_passing : (p : Policy) (f : CheckFault) → IsPolicyText text p → IsCheckRefused s p f
       → RefusesPolicy s text (Refused (validation.code_of f))
 
 -- ---- entities
@@ -50,7 +50,7 @@ refused_by (Err f) = Err (Refused (entities.code_of f))
 unfoldable pub entity_of_text : StatedSchema → EntityUid → List ℕ → Result Entity BodyFault
 entity_of_text s uid text = do
   json ← or_fault (Refused 30) (json_of text)
-  e ← refused_by (entity_in s json)
+  e ← refused_by (entity_stated_in s json)
   canonical ← demand (Refused 57) (bytes_eq (canonical_text e) text)
   named ← demand OtherName (is_same e.uid uid)
   Ok e

@@ -9,7 +9,7 @@ ghost use Rattle.policy_grammar.specs.Faults as grammar;
 ghost use Rattle.policy_grammar.specs.PolicyText.{IsPolicyText};
 ghost use Rattle.schema.specs.Schemas.{StatedSchema};
 ghost use Rattle.schema.specs.Views.{schema_view};
-ghost use Rattle.entities.specs.Entities.{entity_in};
+ghost use Rattle.entities.specs.Entities.{entity_stated_in};
 ghost use Rattle.entities.specs.Canonical.{canonical_text};
 ghost use Rattle.validator.specs.Faults as validation;
 ghost use Rattle.validator.specs.Passing.{Passes};
@@ -17,7 +17,6 @@ ghost use Rattle.state_messages.specs.Bodies.{OrNoMemory};
 ghost use Rattle.stored_texts.specs.Texts.{ReadsPolicy, RefusesPolicy, RefusesEntity};
 ghost use Rattle.stored_texts.specs.Texts.{entity_of_text, refused_by};
 
-use crate::laws::stored_texts_have_one_reading;
 use entities::{Entity, EntityFault, canonical_text, read_entity};
 use json_words::read_json;
 use policy_grammar::{Policy, ReadFault, parse_policy};
@@ -137,7 +136,7 @@ fn json_in(alloc: Global, text: &str) -> Result<Value, BodyFault>
 /// The entity that JSON states, or its fault by number.
 fn allowed_entity(alloc: Global, schema: &Schema, json: &Value) -> Result<Entity, BodyFault>
     ensures { ReadsAs BodyFault.NoMemory (λ e. e) result
-        (refused_by (entity_in (schema_view schema.now) (view json.now))) }
+        (refused_by (entity_stated_in (schema_view schema.now) (view json.now))) }
 {
     match read_entity(alloc, schema, json) {
         Ok(entity) => Ok(entity),
@@ -198,9 +197,5 @@ impl Bodies<Policy, Entity> for SchemaTexts<'_> {
 
     fn read_entity(&self, alloc: Global, uid: &EntityUid, text: &str) -> Result<Entity, BodyFault> {
         canonical_entity(alloc, self.schema, uid, text)
-    }
-
-    fn texts_have_one_outcome(&self) {
-        stored_texts_have_one_reading();
     }
 }

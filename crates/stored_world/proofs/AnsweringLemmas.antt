@@ -10,7 +10,7 @@ use Rattle.authoriser.specs.declared.answer.Answer.{Answer}
 use Rattle.authoriser.specs.Answers.{NamedPolicy, IsAnswer}
 use Rattle.schema.specs.SchemaEntries as schema_kept
 use Rattle.schema.specs.Views.{schema_view}
-use Rattle.entity_worlds.specs.Entities.{EntityMap, attributes_of, parents_of}
+use Rattle.entity_worlds.specs.Entities.{EntityMap, attributes_of, kept_parents}
 use Rattle.entity_store.specs.Entities.{entities_under}
 use Rattle.stored_world.specs.declared.stored_entities.StoredEntities.{StoredEntities}
 use Rattle.schema.specs.Schemas.{StatedSchema}
@@ -68,7 +68,7 @@ abbrev asked : Seen → EntityMap
 asked w = entities_under w.1 (data_in (entity_at w.0.store.now.entities))
 
 abbrev world_seen : Seen → World
-world_seen w = world_of (λ u. attributes_of (asked w u)) (λ u. parents_of (asked w u))
+world_seen w = world_of (λ u. attributes_of (asked w u)) (λ u. kept_parents (asked w u))
 
 abbrev world_kept : schema_kept.SchemaEntries → StoreEntries Policy Entity → World
 world_kept schema k = world_under (schema_view schema) (entity_at k.entities)

@@ -13,7 +13,7 @@ use Rattle.authoriser.specs.Laws.{HasOneAnswer, OneAnswerInFiniteHierarchies}
 use Rattle.schema.specs.Schemas.{StatedSchema, IsSchemaOf}
 use Rattle.entity_worlds.specs.declared.entity.Entity.{Entity}
 use Rattle.entity_worlds.specs.declared.data.EntityData.{EntityData}
-use Rattle.entity_worlds.specs.Entities.{parents_of, action_or}
+use Rattle.entity_worlds.specs.Entities.{kept_parents, action_or}
 use Rattle.stamped_store.specs.Store.{Store, entity_name}
 use Rattle.stamped_store.specs.Contents.{text_under, entities_of}
 use Rattle.stored_world.specs.Said.{ArePolicies, IsReadFrom, AreEntities, HaveOneReading, data_of, world_under, IsAnswerOver}
@@ -36,14 +36,14 @@ first_in (u ∷ ts) t m = ⊎_elim
 
 -- where there is an entity there is a text
 text_of : (Reads : List ℕ → Entity → Type 0) (b : Option (List ℕ)) (o : Option Entity) (a : EntityUid) → IsReadFrom Reads b o
-    → Contains (parents_of (option_map data_of o)) a → (text : List ℕ) × (b ≡ Some text)
+    → Contains (kept_parents (option_map data_of o)) a → (text : List ℕ) × (b ≡ Some text)
 text_of Reads None None a h m = Contains-none a m
 text_of Reads None (Some e) a h m = absurd h
 text_of Reads (Some text) o a h m = (text, refl)
 
 -- what has parents is an action, or an entity with a text
-parent_of : (actions : Option (List EntityUid)) (o : Option EntityData) (a : EntityUid) {G : Type 0} → Contains (parents_of (action_or actions o)) a
-    → ((us : List EntityUid) → actions ≡ Some us → G) → (Contains (parents_of o) a → G) → G
+parent_of : (actions : Option (List EntityUid)) (o : Option EntityData) (a : EntityUid) {G : Type 0} → Contains (kept_parents (action_or actions o)) a
+    → ((us : List EntityUid) → actions ≡ Some us → G) → (Contains (kept_parents o) a → G) → G
 parent_of None o a h f g = g h
 parent_of (Some us) o a h f g = f us refl
 

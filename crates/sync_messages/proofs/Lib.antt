@@ -1,4 +1,6 @@
+pub mod Appending
 pub mod Ascending
+pub mod Stamps
 pub mod RoundTrip
 pub mod CompactUtf8
 pub mod OneText

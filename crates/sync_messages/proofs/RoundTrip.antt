@@ -10,10 +10,8 @@ use Rattle.std.proofs.lemmas.Slice.Eq.{bytes_eq-Decides}
 use Rattle.serde_json.specs.Data.{Data, depth, items_depth}
 use Rattle.serde_json.specs.Read.{max_depth}
 use Rattle.serde_json.specs.View.{items_of}
-use Rattle.serde_json.specs.Written.{has_float}
 use Rattle.json_words.specs.Each.{each, list_of}
 use Rattle.json_words.specs.Json.{json_of}
-use Rattle.json_words.proofs.CompactLemmas.{no_float_items}
 use Rattle.plain.specs.Words.{IsPath}
 use Rattle.values.specs.declared.name.Name.{Name}
 use Rattle.values.specs.declared.name.Name.TheVariants.{Policy, Entity}
@@ -27,7 +25,7 @@ use Rattle.stamped_store.specs.Store.{Store, Update, updates}
 use Rattle.stamped_store.specs.SiteNames.{SiteTestIsExact}
 use Rattle.stamped_store.specs.Raised.{IsSiteNumber}
 use Rattle.sync_messages.specs.declared.version.MessageVersion.TheVariants.{One, Two}
-use Rattle.sync_messages.specs.Summaries.{version_in, numbered_in, raised_in, named_in, ascend, IsName, IsStamped, AreStamped, name_json, stamp_json, summary_json, policy_in, entity_in, name_in, stamped_by, stamped_in, stamp_in, stamps_of, stamps_in, is_id, judged, summary_in, summary_stated}
+use Rattle.sync_messages.specs.Summaries.{version_in, numbered_in, raised_in, named_in, ascend, IsName, IsStamped, AreStamped, name_json, stamp_json, summary_json, policy_in, entity_name_in, name_in, stamped_by, stamped_in, stamp_in, stamps_of, stamps_in, is_name_in_range, judged, summary_in, summary_stated}
 use Rattle.sync_messages.specs.Numbered.{NumberedStamp, HaveNumbers, raise_stamp, raise_stamps, numbered_stamp_json, numbered_summary_json}
 
 -- ---- one stamp
@@ -36,7 +34,7 @@ unfolding uid_in plain_uid_in
 uid_again told uid path = rw ((told uid.type_name).1 path) refl
 
 pub name_again : PathTestIsExact → (n : Name) → IsName n → name_in (name_json n) ≡ Ok n
-unfolding name_in policy_in entity_in
+unfolding name_in policy_in entity_name_in
 name_again told (Policy id) h = refl
 name_again told (Entity uid) h = rw (uid_again told uid h) refl
 
@@ -44,7 +42,7 @@ stamp_again : PathTestIsExact → SiteTestIsExact → (u : Name × Stamp) → Is
 unfolding stamp_in stamped_in stamped_by named_in
 stamp_again told sites u h = rw ((sites u.1.site).1 h.site, name_again told u.0 h.name) refl
 
-id_again : (n : Name) → IsName n → is_id n ≡ true
+id_again : (n : Name) → IsName n → is_name_in_range n ≡ true
 id_again (Policy id) h = rw (le-leb _ _ h.0, le-leb _ _ h.1) refl
 id_again (Entity uid) h = refl
 
@@ -128,16 +126,6 @@ pub summary_ascends : (s : Store) → ascend (summary_of s) ≡ true
 summary_ascends s = ascend_sorted (updates s) (entries_sorted s)
 
 -- ---- the text
-no_float_name : (n : Name) → has_float (name_json n) ≡ false
-no_float_name (Policy id) = refl
-no_float_name (Entity uid) = refl
-
-no_float_stamp : (u : Name × Stamp) → has_float (stamp_json u) ≡ false
-no_float_stamp u = rw (no_float_name u.0) refl
-
-pub no_float : (label : List ℕ) (m : Summary) → has_float (summary_json label m) ≡ false
-no_float label m = rw (no_float_items stamp_json no_float_stamp m) refl
-
 depth_name : (n : Name) → depth (name_json n) ≤ 2
 depth_name (Policy id) = omega arith
 depth_name (Entity uid) = omega arith

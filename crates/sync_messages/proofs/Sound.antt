@@ -25,7 +25,7 @@ use Rattle.sync_messages.specs.declared.version.MessageVersion.{MessageVersion}
 use Rattle.sync_messages.specs.declared.version.MessageVersion.TheVariants.{One, Two}
 use Rattle.sync_messages.specs.declared.fault.MessageFault.{MessageFault}
 use Rattle.sync_messages.specs.declared.fault.MessageFault.TheVariants.{NotJson, BadShape, OtherSchema, CountRange, BadEntry}
-use Rattle.sync_messages.specs.Summaries.{ascend, IsName, IsStamped, AreStamped, number_at, policy_in, entity_in, name_in, version_in, numbered_in, raised_in, named_in, site_in, StampAt, stamped_by, stamped_in, stamp_in, stamps_of, stamps_in, is_id, bad_id, judged, summary_in, summary_stated}
+use Rattle.sync_messages.specs.Summaries.{ascend, IsName, IsStamped, AreStamped, number_at, policy_in, entity_name_in, name_in, version_in, numbered_in, raised_in, named_in, site_in, StampAt, stamped_by, stamped_in, stamp_in, stamps_of, stamps_in, is_name_in_range, bad_id, judged, summary_in, summary_stated}
 
 abbrev read : {A : Type 0} → A → Result A MessageFault
 read x = Ok x
@@ -67,8 +67,8 @@ policy_spelled d n e =
     let a = bind_ok (or_fault BadShape (text_at (codes "policy") d)) (λ id. read (Policy id)) n e in
     subst IsSpelled (read_is (Policy a.0) n a.2) tt
 
-entity_spelled : UidsAreFound → (d : Data) (n : Name) → entity_in d ≡ read n → IsSpelled n
-unfolding entity_in
+entity_spelled : UidsAreFound → (d : Data) (n : Name) → entity_name_in d ≡ read n → IsSpelled n
+unfolding entity_name_in
 entity_spelled all d n e =
     let a = bind_ok (demand BadShape (has_only (codes "entity" ∷ []) d)) (λ x. or_fault BadShape (get (codes "entity") d) >>= λ found. demand BadShape (has_only (codes "id" ∷ codes "type" ∷ []) found) >>= λ y. or_fault BadShape (uid_in found) >>= λ uid. read (Entity uid)) n e in
     let b = bind_ok (or_fault BadShape (get (codes "entity") d)) (λ found. demand BadShape (has_only (codes "id" ∷ codes "type" ∷ []) found) >>= λ y. or_fault BadShape (uid_in found) >>= λ uid. read (Entity uid)) n a.2 in
@@ -82,7 +82,7 @@ either false a b r f g h = g h
 
 name_spelled : UidsAreFound → (d : Data) (n : Name) → name_in d ≡ read n → IsSpelled n
 unfolding name_in
-name_spelled all d n e = either (has_only (codes "policy" ∷ []) d) (policy_in d) (entity_in d) (read n) (policy_spelled d n) (entity_spelled all d n) e
+name_spelled all d n e = either (has_only (codes "policy" ∷ []) d) (policy_in d) (entity_name_in d) (read n) (policy_spelled d n) (entity_spelled all d n) e
 
 -- ---- a stamp
 record IsShaped (u : Name × Stamp) : Type 0 where
@@ -173,7 +173,7 @@ all_shaped all version k (d ∷ ds) m e =
     subst (AllByRecursion IsShaped) (read_is (a.0 ∷ b.0) m b.2) (stamp_shaped all version d a.0 a.1, all_shaped all version (suc k) ds b.0 b.1)
 
 -- ---- judged
-id_in_range : (n : Name) → IsSpelled n → is_id n ≡ true → IsName n
+id_in_range : (n : Name) → IsSpelled n → is_name_in_range n ≡ true → IsName n
 id_in_range (Policy id) h is = (leb-true 1 (length id) (left (nat_le 1 (length id)) (nat_le (length id) 256) is), leb-true (length id) 256 (right (nat_le 1 (length id)) (nat_le (length id) 256) is))
 id_in_range (Entity uid) h is = h
 
@@ -181,11 +181,11 @@ judged_stamped : (k : ℕ) (u v : Name × Stamp) → IsShaped u → judged k u �
 unfolding judged
 judged_stamped k u v h e =
     let test = nat_le 1 u.1.count && nat_le u.1.count 1_000_000_000_000_000_000 in
-    let a = bind_ok (demand (CountRange k) test) (λ counted. demand (BadEntry k bad_id) (is_id u.0) >>= λ named. read u) v e in
-    let b = bind_ok (demand (BadEntry k bad_id) (is_id u.0)) (λ named. read u) v a.2 in
+    let a = bind_ok (demand (CountRange k) test) (λ counted. demand (BadEntry k bad_id) (is_name_in_range u.0) >>= λ named. read u) v e in
+    let b = bind_ok (demand (BadEntry k bad_id) (is_name_in_range u.0)) (λ named. read u) v a.2 in
     let range = demanded (CountRange k) test a.0 a.1 in
     let stamped : IsStamped u = record {
-      name = id_in_range u.0 h.name (demanded (BadEntry k bad_id) (is_id u.0) b.0 b.1);
+      name = id_in_range u.0 h.name (demanded (BadEntry k bad_id) (is_name_in_range u.0) b.0 b.1);
       counted = leb-true 1 u.1.count (left (nat_le 1 u.1.count) (nat_le u.1.count 1_000_000_000_000_000_000) range);
       bounded = leb-true u.1.count 1_000_000_000_000_000_000 (right (nat_le 1 u.1.count) (nat_le u.1.count 1_000_000_000_000_000_000) range);
       site = h.site;
@@ -196,8 +196,8 @@ judged_same : (k : ℕ) (u v : Name × Stamp) → judged k u ≡ read v → u �
 unfolding judged
 judged_same k u v e =
     let test = nat_le 1 u.1.count && nat_le u.1.count 1_000_000_000_000_000_000 in
-    let a = bind_ok (demand (CountRange k) test) (λ counted. demand (BadEntry k bad_id) (is_id u.0) >>= λ named. read u) v e in
-    let b = bind_ok (demand (BadEntry k bad_id) (is_id u.0)) (λ named. read u) v a.2 in
+    let a = bind_ok (demand (CountRange k) test) (λ counted. demand (BadEntry k bad_id) (is_name_in_range u.0) >>= λ named. read u) v e in
+    let b = bind_ok (demand (BadEntry k bad_id) (is_name_in_range u.0)) (λ named. read u) v a.2 in
     read_is u v b.2
 
 -- one that was read and judged

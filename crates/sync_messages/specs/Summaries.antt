@@ -105,8 +105,8 @@ policy_in d = do
   Ok (Policy id)
 
 -- of the two spellings of a uid the plain one alone
-unfoldable pub entity_in : Data → Result Name MessageFault
-entity_in d = do
+unfoldable pub entity_name_in : Data → Result Name MessageFault
+entity_name_in d = do
   alone ← demand BadShape (has_only (codes "entity" ∷ []) d)
   found ← or_fault BadShape (get (codes "entity") d)
   plain ← demand BadShape (has_only (codes "id" ∷ codes "type" ∷ []) found)
@@ -114,7 +114,7 @@ entity_in d = do
   Ok (Entity uid)
 
 unfoldable pub name_in : Data → Result Name MessageFault
-name_in d = if has_only (codes "policy" ∷ []) d then policy_in d else entity_in d
+name_in d = if has_only (codes "policy" ∷ []) d then policy_in d else entity_name_in d
 
 -- the version of a message
 unfoldable pub version_in : Data → Result MessageVersion MessageFault
@@ -181,9 +181,9 @@ stamps_in version d = do
   Ok stamps
 
 -- a policy's id has 1 to 256 bytes
-abbrev pub is_id : Name → Bool
-is_id (Policy id) = nat_le 1 (length id) && nat_le (length id) 256
-is_id (Entity uid) = true
+abbrev pub is_name_in_range : Name → Bool
+is_name_in_range (Policy id) = nat_le 1 (length id) && nat_le (length id) 256
+is_name_in_range (Entity uid) = true
 
 -- the refusal of an id: its number
 abbrev pub bad_id : ℕ
@@ -193,7 +193,7 @@ bad_id = 19
 unfoldable pub judged : ℕ → Name × Stamp → Result (Name × Stamp) MessageFault
 judged place u = do
   counted ← demand (CountRange place) (nat_le 1 u.1.count && nat_le u.1.count 1_000_000_000_000_000_000)
-  named ← demand (BadEntry place bad_id) (is_id u.0)
+  named ← demand (BadEntry place bad_id) (is_name_in_range u.0)
   Ok u
 
 -- the version goes before the rest of the shape, the whole shape before the schema, and this before each stamp

@@ -6,6 +6,7 @@
 
 mod fault;
 mod laws;
+mod members;
 mod reading;
 mod summary;
 mod version;
@@ -13,8 +14,8 @@ mod writing;
 
 pub use fault::MessageFault;
 pub use laws::{stamps_read_back, summaries_read_back};
+pub use members::{Lent, write_number, write_text};
 pub use reading::{judge_stamp, read_stamped, read_summary, read_version};
 pub use summary::Summary;
-pub use uid_json::uid_value;
 pub use version::MessageVersion;
 pub use writing::write_summary;

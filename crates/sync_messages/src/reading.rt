@@ -6,10 +6,10 @@ ghost use Rattle.json_words.specs.ReadsAs.{ReadsAs, AlwaysReadsAs};
 ghost use Rattle.json_words.specs.Each.{each};
 ghost use Rattle.values.specs.Names.{name_cmp};
 ghost use Rattle.sync_messages.specs.declared.fault.MessageFault.TheVariants as MessageFault;
-ghost use Rattle.sync_messages.specs.Summaries.{ascend as ascends, number_at as number_of, policy_in, entity_in};
+ghost use Rattle.sync_messages.specs.Summaries.{ascend as ascends, number_at as number_of, policy_in, entity_name_in};
 ghost use Rattle.sync_messages.specs.Summaries.{name_in, version_in, numbered_in, raised_in, named_in, site_in};
 ghost use Rattle.sync_messages.specs.Summaries.{stamped_in, stamp_in, stamps_of, stamps_in};
-ghost use Rattle.sync_messages.specs.Summaries.{is_id as has_id, judged};
+ghost use Rattle.sync_messages.specs.Summaries.{is_name_in_range as has_id, judged};
 ghost use Rattle.sync_messages.specs.Summaries.{summary_in, summary_stated};
 
 use crate::{MessageFault, MessageVersion, Summary};
@@ -45,9 +45,9 @@ fn read_policy(alloc: Global, value: &Value) -> Result<Name, MessageFault>
     Ok(Name::Policy(Text::from_str(alloc, id)?))
 }
 
-#[tactic(auto, unfolding(crate::specs::Summaries::entity_in))]
+#[tactic(auto, unfolding(crate::specs::Summaries::entity_name_in))]
 fn read_entity(alloc: Global, value: &Value) -> Result<Name, MessageFault>
-    ensures { ReadsAs MessageFault.NoMemory (λ n. n) result (entity_in (view value.now)) }
+    ensures { ReadsAs MessageFault.NoMemory (λ n. n) result (entity_name_in (view value.now)) }
 {
     if !only_keys(value, &["entity"]) {
         return Err(MessageFault::BadShape);

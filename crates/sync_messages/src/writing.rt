@@ -1,92 +1,79 @@
 //! Writing a summary.
-ghost use Rattle.std.specs.Prelude.{◌≡◌, ◌++◌, IfOk, Ok, map};
+ghost use Rattle.std.specs.Prelude.{◌≡◌, IfOk, OnOk, Ok, map};
 ghost use Rattle.serde_json.specs.Data.{array};
-ghost use Rattle.serde_json.specs.View.{view, items_of};
+ghost use Rattle.serde_json.specs.View.{items_of};
 ghost use Rattle.stamped_store.specs.Deltas.{summary_of};
-ghost use Rattle.stamped_store.specs.Store.{abstract_store, abstract_updates, updates, id_name, policy_name};
-ghost use Rattle.stamped_store.specs.Store.{entity_name};
+ghost use Rattle.stamped_store.specs.Store.{abstract_store};
 ghost use Rattle.sync_messages.specs.Summaries.{stamp_json, summary_json, summary_text, summary_stated, AreStamped};
+ghost use Rattle.sync_messages.specs.Tokens.{AppendsValue, AppendsAll};
 ghost use Rattle.sync_messages.specs.inner.Writing.{stamps_json};
 
 use crate::laws::summaries_read_back;
-use json_words::write_json;
+use crate::{Lent, write_number, write_text};
+use json::Writer;
 use plain::NoMemory;
-use serde_json::{Value, json};
-use stamped_store::{PolicyStore, Stamp};
+use stamped_store::{Entry, PolicyStore, Stamp};
 use std::alloc::Global;
-use uid_json::uid_value;
-use values::EntityUid;
+use std::collections::btree_map::Iter;
 
-fn policy_stamp(alloc: Global, id: &str, stamp: Stamp) -> Result<Value, NoMemory>
-    ensures { IfOk result (λ v. view v ≡ stamp_json (policy_name id.now, stamp)) }
+fn write_stamp<N: Lent>(out: &mut Writer, name: &N, stamp: Stamp) -> Result<(), NoMemory>
+    ensures { OnOk result (AppendsValue out.old out.new (stamp_json (N.named name.now, stamp))) }
 {
-    json!(in alloc; {"count": stamp.count, "name": {"policy": id}, "site": stamp.site.as_str()})
+    out.begin_object()?;
+    write_number(out, "count", stamp.count)?;
+    name.write(out)?;
+    write_text(out, "site", stamp.site.as_str())?;
+    out.end_object()
 }
 
-fn entity_stamp(alloc: Global, uid: &EntityUid, stamp: Stamp) -> Result<Value, NoMemory>
-    ensures { IfOk result (λ v. view v ≡ stamp_json (entity_name uid.now, stamp)) }
+/// The stamps of these entries, in their order.
+fn write_each<N: Lent + Drop, P: Drop>(
+    out: &mut Writer,
+    entries: Iter<'_, N, Entry<P>>,
+) -> Result<(), NoMemory>
+    ensures { OnOk result (AppendsAll out.old out.new (stamps_json N.named entries.entry)) }
 {
-    let uid = uid_value(alloc, uid)?;
-    json!(in alloc; {"count": stamp.count, "name": {"entity": uid}, "site": stamp.site.as_str()})
-}
-
-/// The stamps of policies.
-fn policy_stamps<P: Drop, E: Drop>(
-    alloc: Global,
-    store: &PolicyStore<P, E>,
-) -> Result<Vec<Value>, NoMemory>
-    ensures stamps { IfOk result (λ vs. map view vs.items ≡ stamps_json id_name store.now.policies) }
-    ensures in_order { updates (abstract_store store.now) ≡ abstract_updates store.now }
-{
-    let mut items = Vec::new(alloc);
-    for (id, entry) in store.policies() {
-        items.push(policy_stamp(alloc, id.as_str(), entry.stamp)?)?;
+    for (name, entry) in entries {
+        write_stamp(out, name, entry.stamp)?;
     }
-    Ok(items)
+    Ok(())
 }
 
-/// And behind them those of entities.
-fn entity_stamps<P: Drop, E: Drop>(
-    alloc: Global,
-    policies: Vec<Value>,
+/// The stamps of a store, in the order of the names: those of policies, and behind them those of entities.
+fn write_stamps<P: Drop, E: Drop>(
+    out: &mut Writer,
     store: &PolicyStore<P, E>,
-) -> Result<Vec<Value>, NoMemory>
-    ensures { IfOk result (λ vs. map view vs.items
-        ≡ map view policies.items ++ stamps_json entity_name store.now.entities) }
+) -> Result<(), NoMemory>
+    ensures { OnOk result (AppendsValue out.old out.new
+        (array (items_of (map stamp_json (summary_of (abstract_store store.now)))))) }
 {
-    let mut items = policies;
-    for (uid, entry) in store.entities() {
-        items.push(entity_stamp(alloc, uid, entry.stamp)?)?;
-    }
-    Ok(items)
+    out.begin_array()?;
+    write_each(out, store.policies())?;
+    write_each(out, store.entities())?;
+    out.end_array()
 }
 
-/// The stamps of a store, in the order of the names.
-fn stamps_value<P: Drop, E: Drop>(
-    alloc: Global,
-    store: &PolicyStore<P, E>,
-) -> Result<Value, NoMemory>
-    ensures { IfOk result (λ v. view v
-        ≡ array (items_of (map stamp_json (summary_of (abstract_store store.now))))) }
-{
-    let policies = policy_stamps(alloc, store)?;
-    let items = entity_stamps(alloc, policies, store)?;
-    Ok(Value::Array(items))
-}
-
-fn summary_value<P: Drop, E: Drop>(
-    alloc: Global,
+fn write_whole<P: Drop, E: Drop>(
+    out: &mut Writer,
     label: &str,
     store: &PolicyStore<P, E>,
-) -> Result<Value, NoMemory>
-    ensures { IfOk result (λ v. view v ≡ summary_json label.now (summary_of (abstract_store store.now))) }
+) -> Result<(), NoMemory>
+    ensures { OnOk result (AppendsValue out.old out.new
+        (summary_json label.now (summary_of (abstract_store store.now)))) }
 {
-    let stamps = stamps_value(alloc, store)?;
-    json!(in alloc; {"kind": "summary", "schema": label, "stamps": stamps, "version": 2u64})
+    out.begin_object()?;
+    write_text(out, "kind", "summary")?;
+    write_text(out, "schema", label)?;
+    out.key("stamps")?;
+    write_stamps(out, store)?;
+    write_number(out, "version", 2)?;
+    out.end_object()
 }
 
 /// The summary of a store, as a message under the schema of this label: compact, keys and names ascending. Where each
 /// name and stamp is one that a message may have, it is read back as what it was written of. Fails for memory alone.
+///
+/// The bytes are written straight from the store, and take no memory but their own.
 pub fn write_summary<P: Drop, E: Drop>(
     alloc: Global,
     label: &str,
@@ -97,6 +84,7 @@ pub fn write_summary<P: Drop, E: Drop>(
         → summary_stated label.now b.items ≡ Ok (summary_of (abstract_store store.now))) }
 {
     summaries_read_back();
-    let value = summary_value(alloc, label, store)?;
-    write_json(alloc, &value)
+    let mut out = Writer::new(Vec::new(alloc));
+    write_whole(&mut out, label, store)?;
+    Ok(out.into_inner())
 }

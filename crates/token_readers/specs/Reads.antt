@@ -1,4 +1,5 @@
 -- What is answered for a list of tokens: a whole one, or its front.
+-- Rules of this product: the place of a refusal, and that a token which is too deep has one of its own.
 use Rattle.std.specs.Prelude.{◌≡◌, ◌⊎◌, ℕ, suc, ◌-◌, Bool, true, false, List, [], ◌∷◌, ◌++◌, length}
 use Rattle.std.specs.Prelude.{Result, Ok, Err, Vec}
 use Rattle.std.specs.declared.alloc.Global.{Global}

@@ -12,4 +12,4 @@ mod typed;
 mod whole;
 
 pub use static_types::{StaticType, TypeFault, TypingEnvironment, is_action_type};
-pub use whole::{judge, judge_all};
+pub use whole::judge_all;

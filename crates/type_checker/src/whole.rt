@@ -1,4 +1,4 @@
-//! The type of an expression where nothing is known.
+//! The type of expressions that are joined, where nothing is known.
 ghost use Rattle.std.specs.Prelude.{◌≢◌, [], IfOk, IfErr};
 ghost use Rattle.typing.specs.Learned.{Pairs};
 ghost use Rattle.typing.specs.Typing.{Types};
@@ -13,32 +13,15 @@ use expressions::Expr;
 use static_types::{BooleanType, StaticType, TypeFault, TypingEnvironment};
 use std::alloc::Global;
 
-/// The type of an expression in an environment, where no field is known to be there; else why it has none: the fault of
-/// the first operand in order that has one, and then what the form demands. `NoMemory` where an allocation was refused,
-/// and only then.
+/// The type of expressions that are joined by `&&`, to the right, the last of them by itself, as `a && (b && last)`, in
+/// an environment where no field is known to be there; else why they have none: the fault of the first operand in order
+/// that has one, and then what the form demands. `NoMemory` where an allocation was refused, and only then.
 ///
-/// Types that the schema declares are borrowed from it. It takes time linear in the expression, but for the pairs that
+/// Types that the schema declares are borrowed from it. It takes time linear in the expressions, but for the pairs that
 /// it knows, and for the common types of records that are written out. It recurses: its stack grows with the height of
-/// the expression.
+/// the highest part, and not with their number.
 ///
 /// Source: Cedar reference guide, "Policy validation".
-pub fn judge<'a>(
-    alloc: Global,
-    env: TypingEnvironment<'a>,
-    expression: &'a Expr,
-) -> Result<StaticType<'a>, TypeFault>
-    ensures typed { IfOk result (λ t.
-        (L : Pairs) × Types (typing_environment env.entry) [] expression.entry.now (static_view t) L) }
-    ensures faulty { IfErr result (λ f.
-        f ≢ TypeFault.NoMemory → Faults (typing_environment env.entry) [] expression.entry.now (fault_view f)) }
-{
-    let mut known = Vec::new(alloc);
-    let typed = type_of(alloc, expression, env, &mut known)?;
-    Ok(typed.kind)
-}
-
-/// The same of expressions that are joined by `&&`, to the right, the last of them by itself: `a && (b && last)`. Its
-/// stack grows with the height of the highest part, and not with their number.
 pub fn judge_all<'a>(
     alloc: Global,
     env: TypingEnvironment<'a>,

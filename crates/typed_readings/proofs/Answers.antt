@@ -28,7 +28,7 @@ use Rattle.entity_worlds.specs.declared.entity.Entity.{Entity}
 use Rattle.entity_worlds.specs.declared.data.EntityData.{EntityData}
 use Rattle.entity_worlds.specs.Entities.{AreListed}
 use Rattle.entity_worlds.specs.Listing.{in_either}
-use Rattle.static_types.specs.passed_on.entities.{entity_in}
+use Rattle.static_types.specs.passed_on.entities.{entity_stated_in}
 use Rattle.stamped_store.specs.Contents.{text_under, entities_of, policies_of}
 use Rattle.stamped_store.specs.Store.{Store, entity_name}
 use Rattle.state_messages.specs.declared.bodies.BodyFault.TheVariants.{Refused, OtherName}
@@ -50,15 +50,15 @@ read_of (Err f) e h = absurd cc
 
 -- the entity that a text is read as was read from JSON, and has the uid that it is kept under
 text_was_read : (s : StatedSchema) (uid : EntityUid) (text : List ℕ) (e : Entity) → ReadsEntity s uid text e
-    → ((d : Data) × (entity_in s d ≡ Ok e)) × (e.uid ≡ uid)
+    → ((d : Data) × (entity_stated_in s d ≡ Ok e)) × (e.uid ≡ uid)
 unfolding entity_of_text
 text_was_read s uid text e h =
-    let one = bound (or_fault (Refused 30) (json_of text)) (λ (json : Data). refused_by (entity_in s json) >>= λ (x : Entity). demand (Refused 57) (bytes_eq (canonical_text x) text) >>= λ (c : ⊤). demand OtherName (is_same x.uid uid) >>= λ (n : ⊤). Ok x) e h in
-    let two = bound (refused_by (entity_in s one.0)) (λ (x : Entity). demand (Refused 57) (bytes_eq (canonical_text x) text) >>= λ (c : ⊤). demand OtherName (is_same x.uid uid) >>= λ (n : ⊤). Ok x) e one.2 in
+    let one = bound (or_fault (Refused 30) (json_of text)) (λ (json : Data). refused_by (entity_stated_in s json) >>= λ (x : Entity). demand (Refused 57) (bytes_eq (canonical_text x) text) >>= λ (c : ⊤). demand OtherName (is_same x.uid uid) >>= λ (n : ⊤). Ok x) e h in
+    let two = bound (refused_by (entity_stated_in s one.0)) (λ (x : Entity). demand (Refused 57) (bytes_eq (canonical_text x) text) >>= λ (c : ⊤). demand OtherName (is_same x.uid uid) >>= λ (n : ⊤). Ok x) e one.2 in
     let three = bound (demand (Refused 57) (bytes_eq (canonical_text two.0) text)) (λ (c : ⊤). demand OtherName (is_same two.0.uid uid) >>= λ (n : ⊤). Ok two.0) e two.2 in
     let four = bound (demand OtherName (is_same two.0.uid uid)) (λ (n : ⊤). Ok two.0) e three.2 in
     let is : two.0 ≡ e = is_it two.0 e four.2 in (
-      (one.0, subst (λ (x : Entity). entity_in s one.0 ≡ Ok x) is (read_of (entity_in s one.0) two.0 two.1)),
+      (one.0, subst (λ (x : Entity). entity_stated_in s one.0 ≡ Ok x) is (read_of (entity_stated_in s one.0) two.0 two.1)),
       subst (λ (x : Entity). x.uid ≡ uid) is (same_uid two.0.uid uid (demanded OtherName (is_same two.0.uid uid) four.0 four.1)),
     )
 
@@ -67,14 +67,14 @@ kept_is u e h = subst (λ (v : EntityUid). e ≡ record { uid = v; attrs = e.att
 
 module _ (s : StatedSchema) (t : Store) (entities : EntityUid → Option Entity) (are : AreEntities (ReadsEntity s) t entities) where
   read_at : (u : EntityUid) (kept : EntityData) (o : Option (List ℕ)) (x : Option Entity) → IsReadFrom (ReadsEntity s u) o x
-      → option_map data_of x ≡ Some kept → (d : Data) × (entity_in s d ≡ Ok (entity_kept u kept))
+      → option_map data_of x ≡ Some kept → (d : Data) × (entity_stated_in s d ≡ Ok (entity_kept u kept))
   read_at u kept None None is h = absurd cc
   read_at u kept None (Some e) is h = absurd is
   read_at u kept (Some text) None is h = absurd is
   read_at u kept (Some text) (Some e) is h =
       let read = text_was_read s u text e is in
       let same : data_of e ≡ kept = cc in
-      (read.0.0, subst (λ (k : EntityData). entity_in s read.0.0 ≡ Ok (entity_kept u k)) same (subst (λ (x : Entity). entity_in s read.0.0 ≡ Ok x) (kept_is u e read.1) read.0.1))
+      (read.0.0, subst (λ (k : EntityData). entity_stated_in s read.0.0 ≡ Ok (entity_kept u k)) same (subst (λ (x : Entity). entity_stated_in s read.0.0 ≡ Ok x) (kept_is u e read.1) read.0.1))
 
   are_read : AreRead s (data_in entities)
   are_read u kept h = read_at u kept (text_under t (entity_name u)) (entities u) (are u) h

@@ -15,7 +15,7 @@ use Rattle.entity_worlds.specs.declared.entity.Entity.{Entity}
 use Rattle.static_types.specs.passed_on.entities.{StatedEntity}
 use Rattle.static_types.specs.passed_on.entities.{told}
 use Rattle.static_types.specs.passed_on.entities.{stated_in, is_absent_or_empty, or_empty}
-use Rattle.static_types.specs.passed_on.entities.{is_action_type, shape_of, attributes_in, parents_in, entity_in}
+use Rattle.static_types.specs.passed_on.entities.{is_action_type, shape_of, attributes_in, parents_in, entity_stated_in}
 use Rattle.static_types.specs.passed_on.entities.{context_where, is_place}
 use Rattle.static_types.specs.passed_on.entities.{context_asked}
 use Rattle.static_types.specs.FromSchemas.{shape_fields, attributes_of}
@@ -34,11 +34,11 @@ use Rattle.typed_values.specs.Parts as parts
 use Rattle.typed_values.specs.Typing.{all_there, typed_members, record_in}
 use Rattle.typing.specs.Types.{FieldTypes, no_field_types, record_type}
 use Rattle.typing.specs.Membership.{Of}
-use Rattle.static_types.specs.FromSchemas.{static_fields, fields_in}
+use Rattle.static_types.specs.FromSchemas.{static_fields, field_types_in}
 use Rattle.typed_readings.specs.Laws.{RecordsAreOfTheirTypes, EntitiesAreOfTheirTypes, RequestsAreOfAnEnvironment}
 use Rattle.typed_readings.proofs.Values.{bound, is_it, some_of, demanded, record_is_of, members_of}
 
-fields_static : (t : Cedar) (fs : CedarFields) → parts.fields_in t ≡ Some fs → fields_in t ≡ static_fields fs
+fields_static : (t : Cedar) (fs : CedarFields) → parts.fields_in t ≡ Some fs → field_types_in t ≡ static_fields fs
 fields_static cedar.boolean fs e = absurd cc
 fields_static cedar.long fs e = absurd cc
 fields_static cedar.text fs e = absurd cc
@@ -67,7 +67,7 @@ records_are_of made t d vs e =
     let all : all_there a.0 (json.object b.0) ≡ true = subst (λ (x : Data). all_there a.0 x ≡ true) object (demanded Missing (all_there a.0 d) g.0 g.1) in
     let read = members_of made a.0 b.0 c.0 c.1 in
     let is : Of (record_of (fields_of c.0)) (record_type (static_fields a.0)) = record_is_of a.0 b.0 c.0 all read.there read.each in
-    subst (λ (ws : List Field). Of (record_of (fields_of ws)) (record_type (fields_in t))) (is_it c.0 vs g.2)
+    subst (λ (ws : List Field). Of (record_of (fields_of ws)) (record_type (field_types_in t))) (is_it c.0 vs g.2)
     (subst (λ (ts : FieldTypes). Of (record_of (fields_of c.0)) (record_type ts)) (sym (fields_static t a.0 (some_of WrongType (parts.fields_in t) a.0 a.1))) is)
 
 -- ---- entities
@@ -81,7 +81,7 @@ not_action true s name h = absurd cc
 not_action false s name h = refl
 
 -- the fields of an entity's type are those of its shape
-shape_is : (s : StatedSchema) (name : List ℕ) (t : Cedar) → shape_of s name ≡ Ok t → attributes_of s name ≡ fields_in t
+shape_is : (s : StatedSchema) (name : List ℕ) (t : Cedar) → shape_of s name ≡ Ok t → attributes_of s name ≡ field_types_in t
 unfolding shape_of
 shape_is s name t e =
     let a = bound (demand ActionEntity (not (is_action_type name))) (λ (x : ⊤). or_fault UnknownType (s.shape name)) t e in
@@ -99,7 +99,7 @@ attributes_are_of made s name d fs e =
     subst (λ (ts : FieldTypes). Of (record_of (fields_of fs)) (record_type ts)) (sym (shape_is s name a.0 a.1)) (records_are_of made a.0 (or_empty (get (codes "attrs") d)) fs read)
 
 pub entities_are_of : SetsHoldTheirMembers → EntitiesAreOfTheirTypes
-unfolding entity_in
+unfolding entity_stated_in
 entities_are_of made s d e h =
     let one = bound (stated_in d) (λ (stated : StatedEntity). attributes_in s stated.uid.type_name d >>= λ (attrs : List Field). parents_in s stated.uid stated.parents >>= λ (parents : List EntityUid). Ok (record { uid = stated.uid; attrs = attrs; parents = parents })) e h in
     let two = bound (attributes_in s one.0.uid.type_name d) (λ (attrs : List Field). parents_in s one.0.uid one.0.parents >>= λ (parents : List EntityUid). Ok (record { uid = one.0.uid; attrs = attrs; parents = parents })) e one.2 in
@@ -122,8 +122,8 @@ is_where : (passes : Place → Bool) (es : List EnvironmentOf) (t : Cedar) → c
 is_where passes [] t h = absurd cc
 is_where passes (e ∷ es) t h = where_here passes e es t (is_where passes es t) (passes e.place) refl h
 
-context_static : SetsHoldTheirMembers → (t u : Cedar) (d : Data) (fs : List Field) → u ≡ t → record_in t d ≡ Ok fs → Of (record_of (fields_of fs)) (record_type (fields_in u))
-context_static made t u d fs same read = subst (λ (w : Cedar). Of (record_of (fields_of fs)) (record_type (fields_in w))) (sym same) (records_are_of made t d fs read)
+context_static : SetsHoldTheirMembers → (t u : Cedar) (d : Data) (fs : List Field) → u ≡ t → record_in t d ≡ Ok fs → Of (record_of (fields_of fs)) (record_type (field_types_in u))
+context_static made t u d fs same read = subst (λ (w : Cedar). Of (record_of (fields_of fs)) (record_type (field_types_in w))) (sym same) (records_are_of made t d fs read)
 
 pub requests_are_of : SetsHoldTheirMembers → RequestsAreOfAnEnvironment
 unfolding context_asked

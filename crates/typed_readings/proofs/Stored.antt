@@ -7,17 +7,17 @@ use Rattle.ancestor_closure.specs.Deciding.{Contains-here, Contains-there, Conta
 use Rattle.schema.specs.Schemas.{StatedSchema}
 use Rattle.schema.specs.WellFormed.{IsWellFormed, StatedSchemasAreWellFormed}
 use Rattle.entity_worlds.specs.declared.data.EntityData.{EntityData}
-use Rattle.entity_worlds.specs.Entities.{EntityMap, AreListed, parents_of, action_or}
+use Rattle.entity_worlds.specs.Entities.{EntityMap, AreListed, kept_parents, action_or}
 use Rattle.entity_store.specs.Laws.{closed_world}
 use Rattle.entity_worlds.specs.Listing.{in_first, in_second}
-use Rattle.static_types.specs.FromSchemas.{environment_of}
+use Rattle.static_types.specs.FromSchemas.{typing_environment_of}
 use Rattle.validator.specs.Outcomes.{PassingPoliciesGoRight}
 use Rattle.typed_readings.specs.Worlds.{WhatIsReadConforms, WhatIsStoredGoesRight}
 
 -- each entity with parents is kept, or an action
 module _ (s : StatedSchema) (wf : IsWellFormed s) (entities : EntityMap) (us : List EntityUid) (listed : AreListed entities us) where
   listed_at : (b a : EntityUid) (above : Option (List EntityUid)) (o : Option EntityData) → s.ancestors b ≡ above → entities b ≡ o
-      → Contains (parents_of (action_or above o)) a → Contains (s.actions ++ us) b
+      → Contains (kept_parents (action_or above o)) a → Contains (s.actions ++ us) b
   listed_at b a (Some ps) o e f h = in_first s.actions us b ((wf.actions b).1 (subst (λ (x : Option (List EntityUid)). IsSome x) (sym e) refl))
   listed_at b a None (Some kept) e f h = in_second s.actions us b ((listed b).1 (subst (λ (x : Option EntityData). IsSome x) (sym f) refl))
   listed_at b a None None e f h = Contains-none a h
@@ -37,4 +37,4 @@ what_is_stored_goes_right well conforms decided right bytes s stated entities ar
     let at = conforms bytes s stated entities are_read d q states in
     let W = closed_world s entities in
     right s policy passes W (reaches W.parents (s.actions ++ us)) (decided W.parents (s.actions ++ us) (all_listed s (well bytes s stated) entities us listed))
-    (environment_of s at.0) (mapped (environment_of s) s.environments at.0 at.1) q at.2 r gives
+    (typing_environment_of s at.0) (mapped (typing_environment_of s) s.environments at.0 at.1) q at.2 r gives

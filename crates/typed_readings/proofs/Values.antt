@@ -130,7 +130,7 @@ same_test k l = by_test (bytes_eq k l) (bytes_eq l k) (λ h. (bytes_eq-Decides l
 
 -- a declared field, and whether it is required
 abbrev pub IsDeclared : List ℕ → CedarFields → Cedar → Type 0
-IsDeclared k fs t = (r : Bool) × (static_type.declared_at k (static_fields fs) ≡ declared_as r (static t))
+IsDeclared k fs t = (r : Bool) × (static_type.field_declared_at k (static_fields fs) ≡ declared_as r (static t))
 
 declared_here : (k l : List ℕ) (u : Cedar) (r : Bool) (fs : CedarFields) (t : Cedar) → (declared_at k fs ≡ Some t → IsDeclared k fs t)
     → (b : Bool) → b ≡ bytes_eq l k → cond b (Some u) (declared_at k fs) ≡ Some t → IsDeclared k (field l u r fs) t
@@ -152,8 +152,8 @@ IsThere k ms = is_some (get_member k ms) ≡ true
 
 -- the fields that are required stand in the object
 required_here : (k l : List ℕ) (u : Cedar) (r : Bool) (fs : CedarFields) (ms : Members) (t : StaticType) → (not r || is_some (get_member l ms)) ≡ true
-    → (static_type.declared_at k (static_fields fs) ≡ static_type.required t → IsThere k ms)
-    → (b : Bool) → b ≡ bytes_eq k l → cond b (declared_as r (static u)) (static_type.declared_at k (static_fields fs)) ≡ static_type.required t → IsThere k ms
+    → (static_type.field_declared_at k (static_fields fs) ≡ static_type.required t → IsThere k ms)
+    → (b : Bool) → b ≡ bytes_eq k l → cond b (declared_as r (static u)) (static_type.field_declared_at k (static_fields fs)) ≡ static_type.required t → IsThere k ms
 required_here k l u true fs ms t there more true at e = subst (λ (m : List ℕ). IsThere m ms) (sym (same_bytes k l (sym at))) there
 required_here k l u false fs ms t there more true at e = absurd cc
 required_here k l u r fs ms t there more false at e = more e
@@ -163,7 +163,7 @@ both_true true c h = (refl, h)
 both_true false c h = absurd cc
 
 pub required_is_there : (fs : CedarFields) (ms : Members) → all_there fs (json.object ms) ≡ true → (k : List ℕ) (t : StaticType)
-    → static_type.declared_at k (static_fields fs) ≡ static_type.required t → IsThere k ms
+    → static_type.field_declared_at k (static_fields fs) ≡ static_type.required t → IsThere k ms
 required_is_there no_fields ms there k t e = absurd cc
 required_is_there (field l u r fs) ms there k t e =
     let two = both_true (not r || is_some (get_member l ms)) (all_there fs (json.object ms)) there in
@@ -183,7 +183,7 @@ of_declared v t true h = has_required h
 of_declared v t false h = has_optional h
 
 none_of : (fs : CedarFields) (ms : Members) (k : List ℕ) (vs : List Field) → all_there fs (json.object ms) ≡ true → AreThere ms vs → find_field k vs ≡ None
-    → (d : Declared) → d ≡ static_type.declared_at k (static_fields fs) → FieldOf None d
+    → (d : Declared) → d ≡ static_type.field_declared_at k (static_fields fs) → FieldOf None d
 none_of fs ms k vs all there none undeclared at = absent
 none_of fs ms k vs all there none (static_type.optional t) at = left_out
 none_of fs ms k vs all there none (static_type.required t) at =
@@ -191,8 +191,8 @@ none_of fs ms k vs all there none (static_type.required t) at =
     let missing : is_some (find_field k vs) ≡ false = ap (λ (o : Option PlainValue). is_some o) none in absurd cc
 
 field_of : (fs : CedarFields) (ms : Members) (k : List ℕ) (vs : List Field) → all_there fs (json.object ms) ≡ true → AreThere ms vs → AreOf fs vs
-    → (o : Option PlainValue) → o ≡ find_field k vs → FieldOf o (static_type.declared_at k (static_fields fs))
-field_of fs ms k vs all there each None at = none_of fs ms k vs all there (sym at) (static_type.declared_at k (static_fields fs)) refl
+    → (o : Option PlainValue) → o ≡ find_field k vs → FieldOf o (static_type.field_declared_at k (static_fields fs))
+field_of fs ms k vs all there each None at = none_of fs ms k vs all there (sym at) (static_type.field_declared_at k (static_fields fs)) refl
 field_of fs ms k vs all there each (Some v) at =
     let one = each k v (found_is_listed k vs v (sym at)) in
     let declared = is_declared k fs one.0 one.1 in
@@ -201,7 +201,7 @@ field_of fs ms k vs all there each (Some v) at =
 pub record_is_of : (fs : CedarFields) (ms : Members) (vs : List Field) → all_there fs (json.object ms) ≡ true → AreThere ms vs → AreOf fs vs
     → Of (record_of (fields_of vs)) (record_type (static_fields fs))
 record_is_of fs ms vs all there each = of_record (λ k.
-    subst (λ (gs : List Field). FieldOf (find_field k gs) (static_type.declared_at k (static_fields fs))) (sym (pairs_of-fields_of vs))
+    subst (λ (gs : List Field). FieldOf (find_field k gs) (static_type.field_declared_at k (static_fields fs))) (sym (pairs_of-fields_of vs))
     (field_of fs ms k vs all there each (find_field k vs) refl))
 
 -- ---- values

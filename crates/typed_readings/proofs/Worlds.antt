@@ -20,7 +20,7 @@ use Rattle.entity_worlds.specs.declared.entity.Entity.{Entity}
 use Rattle.static_types.specs.passed_on.entities.{StatedEntity}
 use Rattle.static_types.specs.passed_on.entities.{told}
 use Rattle.static_types.specs.passed_on.entities.{stated_in, is_absent_or_empty, or_empty}
-use Rattle.static_types.specs.passed_on.entities.{is_action_type, shape_of, attributes_in, parent_fits, parents_fit, parents_in, entity_in}
+use Rattle.static_types.specs.passed_on.entities.{is_action_type, shape_of, attributes_in, parent_fits, parents_fit, parents_in, entity_stated_in}
 use Rattle.static_types.specs.passed_on.entities.{ActionTypeTestIsExact, SetsHoldTheirMembers}
 use Rattle.entity_worlds.specs.UidSets.{uid_set}
 use Rattle.typed_values.specs.Typing.{record_in}
@@ -32,7 +32,7 @@ use Rattle.evaluator.specs.Operators.{World}
 use Rattle.typing.specs.Types.{no_field_types, record_type}
 use Rattle.typing.specs.Membership.{Of, of_record, absent}
 use Rattle.typing.specs.Laws.{ParentsTellAncestors}
-use Rattle.static_types.specs.FromSchemas.{attributes_of, shape_fields, declared_ancestors, environment_of}
+use Rattle.static_types.specs.FromSchemas.{attributes_of, shape_fields, declared_ancestors, typing_environment_of}
 use Rattle.typed_readings.specs.Laws.{EntitiesAreOfTheirTypes, RequestsAreOfAnEnvironment}
 use Rattle.typed_readings.specs.Worlds.{AreRead, entity_kept, WhatIsReadConforms}
 use Rattle.typed_readings.proofs.Values.{bound, is_it, demanded}
@@ -85,8 +85,8 @@ record IsPlain (s : StatedSchema) (e : Entity) : Type 0 where
   plain : is_action_type e.uid.type_name ≡ false
   parents : (p : EntityUid) → Contains e.parents p → s.may_have_parent e.uid.type_name p.type_name ≡ true
 
-read_plain : SetsHoldTheirMembers → (s : StatedSchema) (d : Data) (e : Entity) → entity_in s d ≡ Ok e → IsPlain s e
-unfolding entity_in
+read_plain : SetsHoldTheirMembers → (s : StatedSchema) (d : Data) (e : Entity) → entity_stated_in s d ≡ Ok e → IsPlain s e
+unfolding entity_stated_in
 read_plain sets s d e h =
     let one = bound (stated_in d) (λ (stated : StatedEntity). attributes_in s stated.uid.type_name d >>= λ (attrs : List Field). parents_in s stated.uid stated.parents >>= λ (parents : List EntityUid). Ok (record { uid = stated.uid; attrs = attrs; parents = parents })) e h in
     let two = bound (attributes_in s one.0.uid.type_name d) (λ (attrs : List Field). parents_in s one.0.uid one.0.parents >>= λ (parents : List EntityUid). Ok (record { uid = one.0.uid; attrs = attrs; parents = parents })) e one.2 in
@@ -145,14 +145,14 @@ module _ (told_types : ActionTypeTestIsExact) (sets : SetsHoldTheirMembers) (typ
 
   -- ---- the ancestors of actions
 
-  step_at : (u c : EntityUid) (us : List EntityUid) (a : Option (List EntityUid)) (o : Option EntityData) → a ≡ Some us → Contains (store.parents_of (action_or a o)) c → Contains us c
+  step_at : (u c : EntityUid) (us : List EntityUid) (a : Option (List EntityUid)) (o : Option EntityData) → a ≡ Some us → Contains (store.kept_parents (action_or a o)) c → Contains us c
   step_at u c us (Some ws) o e h = let same : ws ≡ us = cc in subst (λ (l : List EntityUid). Contains l c) same h
   step_at u c us None o e h = absurd cc
 
   step : (u c : EntityUid) (us : List EntityUid) → s.ancestors u ≡ Some us → Contains (W.parents u) c → Contains us c
   step u c us e h = step_at u c us (s.ancestors u) (entities u) e h
 
-  back_at : (c : EntityUid) (us : List EntityUid) (a : Option (List EntityUid)) (o : Option EntityData) → a ≡ Some us → Contains us c → Contains (store.parents_of (action_or a o)) c
+  back_at : (c : EntityUid) (us : List EntityUid) (a : Option (List EntityUid)) (o : Option EntityData) → a ≡ Some us → Contains us c → Contains (store.kept_parents (action_or a o)) c
   back_at c us (Some ws) o e h = let same : us ≡ ws = cc in subst (λ (l : List EntityUid). Contains l c) same h
   back_at c us None o e h = absurd cc
 
@@ -164,7 +164,7 @@ module _ (told_types : ActionTypeTestIsExact) (sets : SetsHoldTheirMembers) (typ
       wf.ancestors_join u c a us above.0 e first above.1 (climb c above.0 above.1 cs a h.1)
 
   -- what has the type of an action and is none has no parents
-  alone_at : (u p : EntityUid) (o : Option EntityData) → entities u ≡ o → is_action_type u.type_name ≡ true → Contains (store.parents_of o) p → ⊥
+  alone_at : (u p : EntityUid) (o : Option EntityData) → entities u ≡ o → is_action_type u.type_name ≡ true → Contains (store.kept_parents o) p → ⊥
   alone_at u p (Some kept) e action h = apart (is_action_type u.type_name) action (kept_plain u kept e).plain
   alone_at u p None e action h = Contains-none p h
 
@@ -172,7 +172,7 @@ module _ (told_types : ActionTypeTestIsExact) (sets : SetsHoldTheirMembers) (typ
   first_of u a [] h = (a, h)
   first_of u a (c ∷ cs) h = (c, h.0)
 
-  undeclared : (u p : EntityUid) (a : Option (List EntityUid)) → s.ancestors u ≡ a → a ≡ None → is_action_type u.type_name ≡ true → Contains (store.parents_of (action_or a (entities u))) p → ⊥
+  undeclared : (u p : EntityUid) (a : Option (List EntityUid)) → s.ancestors u ≡ a → a ≡ None → is_action_type u.type_name ≡ true → Contains (store.kept_parents (action_or a (entities u))) p → ⊥
   undeclared u p (Some us) e none action h = absurd cc
   undeclared u p None e none action h = alone_at u p (entities u) refl action h
 
@@ -183,7 +183,7 @@ module _ (told_types : ActionTypeTestIsExact) (sets : SetsHoldTheirMembers) (typ
   -- ---- those of other entities
 
   allowed_at : (u p : EntityUid) → is_action_type u.type_name ≡ false → (a : Option (List EntityUid)) (o : Option EntityData) → s.ancestors u ≡ a → entities u ≡ o
-      → Contains (store.parents_of (action_or a o)) p → IsTrue (s.may_have_parent u.type_name p.type_name) × IsFalse (is_action_type p.type_name)
+      → Contains (store.kept_parents (action_or a o)) p → IsTrue (s.may_have_parent u.type_name p.type_name) × IsFalse (is_action_type p.type_name)
   allowed_at u p plain (Some us) o e f h = apart (is_action_type u.type_name) (action_is u us e) plain
   allowed_at u p plain None (Some kept) e f h =
       let may = (kept_plain u kept f).parents p h in
@@ -193,7 +193,7 @@ module _ (told_types : ActionTypeTestIsExact) (sets : SetsHoldTheirMembers) (typ
   module _ (e : EnvironmentOf) (q : Request) where
     pub ancestors_of_others : (u a : EntityUid) → IsFalse (is_action_type u.type_name) → Above W.parents a u → IsTrue (s.may_have_parent u.type_name a.type_name)
     ancestors_of_others u a plain above =
-        tells (environment_of s e) W.parents (λ l m n h i. wf.parents_join l m n h i) (λ v p not_action h. allowed_at v p not_action (s.ancestors v) (entities v) refl refl h) u a plain above
+        tells (typing_environment_of s e) W.parents (λ l m n h i. wf.parents_join l m n h i) (λ v p not_action h. allowed_at v p not_action (s.ancestors v) (entities v) refl refl h) u a plain above
 
 pub what_is_read_conforms : StatedSchemasAreWellFormed → ActionTypeTestIsExact → SetsHoldTheirMembers → EntitiesAreOfTheirTypes → RequestsAreOfAnEnvironment → ParentsTellAncestors → WhatIsReadConforms
 what_is_read_conforms well told_types sets typed requests tells bytes s stated entities are_read d q states =

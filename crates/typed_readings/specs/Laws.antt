@@ -10,12 +10,12 @@ use Rattle.schema_types.specs.Cedar.{Cedar}
 use Rattle.schema.specs.Schemas.{EnvironmentOf, StatedSchema}
 use Rattle.typed_values.specs.Typing.{typed, record_in}
 use Rattle.entity_worlds.specs.declared.entity.Entity.{Entity}
-use Rattle.static_types.specs.passed_on.entities.{entity_in}
+use Rattle.static_types.specs.passed_on.entities.{entity_stated_in}
 use Rattle.static_types.specs.passed_on.entities.{StatesRequest}
 use Rattle.typing.specs.Types.{record_type}
 use Rattle.typing.specs.Environment.{Environment}
 use Rattle.typing.specs.Membership.{Of}
-use Rattle.static_types.specs.FromSchemas.{static, fields_in, attributes_of, environment_of}
+use Rattle.static_types.specs.FromSchemas.{static, field_types_in, attributes_of, typing_environment_of}
 
 -- what JSON is read as by a type is of that type
 abbrev pub ValuesAreOfTheirTypes : Type 0
@@ -24,11 +24,11 @@ ValuesAreOfTheirTypes = (t : Cedar) (d : Data) (v : PlainValue) → typed t d �
 -- so it is of the fields of a record: each required one is there, and none that is not declared
 abbrev pub RecordsAreOfTheirTypes : Type 0
 RecordsAreOfTheirTypes = (t : Cedar) (d : Data) (fs : List Field) → record_in t d ≡ Ok fs
-    → Of (record_of (fields_of fs)) (record_type (fields_in t))
+    → Of (record_of (fields_of fs)) (record_type (field_types_in t))
 
 -- the attributes of an entity are those of its type
 abbrev pub EntitiesAreOfTheirTypes : Type 0
-EntitiesAreOfTheirTypes = (s : StatedSchema) (d : Data) (e : Entity) → entity_in s d ≡ Ok e
+EntitiesAreOfTheirTypes = (s : StatedSchema) (d : Data) (e : Entity) → entity_stated_in s d ≡ Ok e
     → Of (record_of (fields_of e.attrs)) (record_type (attributes_of s e.uid.type_name))
 
 -- the request is of the environment's kind
@@ -41,4 +41,4 @@ pub record IsOfKind (env : Environment) (q : Request) : Type 0 where
 -- a request is of one of the schema's environments
 abbrev pub RequestsAreOfAnEnvironment : Type 0
 RequestsAreOfAnEnvironment = (s : StatedSchema) (d : Data) (q : Request) → StatesRequest s d q
-    → (e : EnvironmentOf) × Contains s.environments e × IsOfKind (environment_of s e) q
+    → (e : EnvironmentOf) × Contains s.environments e × IsOfKind (typing_environment_of s e) q

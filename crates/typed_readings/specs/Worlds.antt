@@ -14,14 +14,14 @@ use Rattle.evaluator.specs.Outcomes.{EvaluationResult}
 use Rattle.evaluator.specs.Evaluation.{EvaluatesTo}
 use Rattle.schema.specs.Schemas.{EnvironmentOf, StatedSchema, IsSchemaOf}
 use Rattle.entity_worlds.specs.declared.entity.Entity.{Entity}
-use Rattle.static_types.specs.passed_on.entities.{entity_in}
+use Rattle.static_types.specs.passed_on.entities.{entity_stated_in}
 use Rattle.static_types.specs.passed_on.entities.{StatesRequest}
 use Rattle.entity_worlds.specs.declared.data.EntityData.{EntityData}
 use Rattle.entity_worlds.specs.Entities.{EntityMap, AreListed}
 use Rattle.entity_store.specs.Laws.{closed_world}
 use Rattle.typing.specs.Types.{boolean_type}
 use Rattle.typing.specs.Conforming.{Conforms, Fits}
-use Rattle.static_types.specs.FromSchemas.{environment_of}
+use Rattle.static_types.specs.FromSchemas.{typing_environment_of}
 use Rattle.validator.specs.Passing.{Passes, IsImpossible}
 
 -- what is kept under a uid, as an entity
@@ -31,14 +31,14 @@ entity_kept u kept = record { uid = u; attrs = kept.attrs; parents = kept.parent
 -- each entity that is kept was read under the schema from some JSON
 abbrev pub AreRead : StatedSchema → EntityMap → Type 0
 AreRead s entities = (u : EntityUid) (kept : EntityData) → entities u ≡ Some kept
-    → (d : Data) × (entity_in s d ≡ Ok (entity_kept u kept))
+    → (d : Data) × (entity_stated_in s d ≡ Ok (entity_kept u kept))
 
 -- Under a schema that bytes state, entities each of which was read, with the schema's actions, and a request that was
 -- read conform to an environment of the schema.
 abbrev pub WhatIsReadConforms : Type 0
 WhatIsReadConforms = (bytes : List ℕ) (s : StatedSchema) → IsSchemaOf bytes s → (entities : EntityMap)
     → AreRead s entities → (d : Data) (q : Request) → StatesRequest s d q
-    → (e : EnvironmentOf) × Contains s.environments e × Conforms (environment_of s e) (closed_world s entities) q
+    → (e : EnvironmentOf) × Contains s.environments e × Conforms (typing_environment_of s e) (closed_world s entities) q
 
 -- So a policy that passes gives a boolean over finitely many such entities, or errs since an entity is not stored or a
 -- number leaves its bounds; and where it is impossible it is never true.

@@ -1,9 +1,10 @@
-mod NetworksFit
-mod Sets
-mod Leaves
 mod Again
-mod Deep
 mod Bytes
+mod Deep
+mod Leaves
+mod NetworksFit
+mod Nothing
+mod Passing
+mod Sets
 mod Walk
 mod Written
-mod Passing

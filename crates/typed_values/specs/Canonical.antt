@@ -1,5 +1,6 @@
 -- The one JSON of a value: entities under `__entity`, extensions under `__extn` with the canonical argument, sets
 -- ascending.
+-- A rule of this product.
 use Rattle.std.specs.Prelude.{ℕ, List, codes}
 use Rattle.serde_json.specs.Data.{Data, Items, no_items, item, Members, no_members, member}
 use Rattle.serde_json.specs.Data as json

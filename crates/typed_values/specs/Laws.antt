@@ -24,8 +24,8 @@ JsonIsReadAgain = (t : Cedar) (bytes text : List ℕ) (v : PlainValue) → text_
 abbrev pub CanonicalNests : Type 0
 CanonicalNests = (t : Cedar) (d : Data) (v : PlainValue) → typed t d ≡ Ok v → depth (value_json v) ≤ suc (deep t)
 
--- Whatever bytes were read as v by a type that a schema may have, bytes that are written for v as `write_value` writes
--- them are read as v.
+-- Whatever bytes were read as v by a type that a schema may have, bytes that are the one JSON of v where that nests
+-- within the limit of a reader are read as v.
 abbrev pub WrittenIsReadAgain : Type 0
 WrittenIsReadAgain = (t : Cedar) (bytes text : List ℕ) (v : PlainValue) → (IsTooLarge t → ⊥)
     → text_typed t bytes ≡ Ok v → (depth (value_json v) ≤ max_depth → json_of text ≡ Some (value_json v))

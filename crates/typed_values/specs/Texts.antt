@@ -1,6 +1,5 @@
 -- Values as texts.
 use Rattle.std.specs.Prelude.{ℕ, List, Result}
-use Rattle.serde_json.specs.Written.{compact_text}
 use Rattle.json_words.specs.ReadsAs.{◌>>=◌, or_fault}
 use Rattle.json_words.specs.Json.{json_of}
 use Rattle.values.specs.Values.{PlainValue}
@@ -8,14 +7,9 @@ use Rattle.schema_types.specs.Cedar.{Cedar}
 use Rattle.typed_values.specs.declared.fault.ValueFault.{ValueFault}
 use Rattle.typed_values.specs.declared.fault.ValueFault.TheVariants.{WrongType}
 use Rattle.typed_values.specs.Typing.{typed}
-use Rattle.typed_values.specs.Canonical.{value_json}
 
 -- the value of this type that bytes are
 unfoldable pub text_typed : Cedar → List ℕ → Result PlainValue ValueFault
 text_typed t bytes = do
   d ← or_fault WrongType (json_of bytes)
   typed t d
-
--- the one text of a value
-unfoldable pub canonical_text : PlainValue → List ℕ
-canonical_text v = compact_text (value_json v)

@@ -14,5 +14,5 @@ pub use laws::{
     canonical_is_read, canonical_nests_within_its_type, json_is_read_again, records_are_read_again,
     values_have_no_float, written_is_read_again,
 };
-pub use reading::{read_record, read_value};
-pub use writing::{record_json, value_json, write_value};
+pub use reading::read_record;
+pub use writing::record_json;

@@ -11,6 +11,7 @@ ghost use Rattle.typed_values.specs.Typing.{plain_call, call_in, argument_in, bo
 ghost use Rattle.typed_values.specs.Typing.{entity_in, decimal_in, ipaddr_in, leaf, all_there, typed as typed_of};
 ghost use Rattle.typed_values.specs.Typing.{record_in};
 ghost use Rattle.typed_values.specs.inner.Inside.{inside_fault};
+ghost use Rattle.typed_values.specs.inner.InPlace.{IsInPlace};
 ghost use Rattle.typed_values.specs.inner.Ahead.{StateAlikeFrom};
 ghost use Rattle.typed_values.specs.Typing.{typed_items as items_of_type, typed_members as members_of_type};
 
@@ -91,7 +92,7 @@ fn has_required(fields: &Fields, value: &Json) -> bool
 
 /// The text at a key, which must be there.
 fn read_text_at<'v>(value: &'v Json, key: &str) -> Result<&'v str, ValueFault>
-    ensures { ReadsAs ValueFault.NoMemory (λ s. s.now) result
+    ensures { AlwaysReadsAs (λ s. s.now) result
         (or_fault ValueFault.WrongType (text_in_json key.now (view value.now))) }
 {
     match text_at(value, key) {
@@ -103,7 +104,7 @@ fn read_text_at<'v>(value: &'v Json, key: &str) -> Result<&'v str, ValueFault>
 /// The argument of a call of this name.
 #[tactic(auto, unfolding(crate::specs::Typing::plain_call))]
 fn read_plain_call<'v>(value: &'v Json, name: &str) -> Result<&'v str, ValueFault>
-    ensures { ReadsAs ValueFault.NoMemory (λ s. s.now) result (plain_call name.now (view value.now)) }
+    ensures { AlwaysReadsAs (λ s. s.now) result (plain_call name.now (view value.now)) }
 {
     if !only_keys(value, &["fn", "arg"]) {
         return Err(ValueFault::WrongType);
@@ -119,7 +120,7 @@ fn read_plain_call<'v>(value: &'v Json, name: &str) -> Result<&'v str, ValueFaul
 /// The same, also under `__extn`.
 #[tactic(auto, unfolding(crate::specs::Typing::call_in))]
 fn read_call<'v>(value: &'v Json, name: &str) -> Result<&'v str, ValueFault>
-    ensures { ReadsAs ValueFault.NoMemory (λ s. s.now) result (call_in name.now (view value.now)) }
+    ensures { AlwaysReadsAs (λ s. s.now) result (call_in name.now (view value.now)) }
 {
     match value.get("__extn") {
         None => read_plain_call(value, name),
@@ -135,7 +136,7 @@ fn read_call<'v>(value: &'v Json, name: &str) -> Result<&'v str, ValueFault>
 /// The argument alone, or that of a call.
 #[tactic(auto, unfolding(crate::specs::Typing::argument_in))]
 fn read_argument<'v>(value: &'v Json, name: &str) -> Result<&'v str, ValueFault>
-    ensures { ReadsAs ValueFault.NoMemory (λ s. s.now) result (argument_in name.now (view value.now)) }
+    ensures { AlwaysReadsAs (λ s. s.now) result (argument_in name.now (view value.now)) }
 {
     match value.as_str() {
         Some(text) => Ok(text),
@@ -157,7 +158,7 @@ fn parse_network(text: &str) -> Option<IpNet>
 
 #[tactic(auto, unfolding(crate::specs::Typing::boolean_in))]
 fn read_boolean(value: &Json) -> Result<Value, ValueFault>
-    ensures { ReadsAs ValueFault.NoMemory (λ v. v) result (boolean_in (view value.now)) }
+    ensures { AlwaysReadsAs (λ v. v) result (boolean_in (view value.now)) }
 {
     match value.as_bool() {
         Some(b) => Ok(Value::boolean(b)),
@@ -174,7 +175,7 @@ fn long_value(number: i64) -> Result<Value, ValueFault>
 
 #[tactic(auto, unfolding(crate::specs::Typing::long_in))]
 fn read_long(value: &Json) -> Result<Value, ValueFault>
-    ensures { ReadsAs ValueFault.NoMemory (λ v. v) result (long_in (view value.now)) }
+    ensures { AlwaysReadsAs (λ v. v) result (long_in (view value.now)) }
 {
     match value {
         Json::Number(number) => match number.as_i64() {
@@ -211,7 +212,7 @@ fn read_entity(alloc: Global, value: &Json, name: &TypeName) -> Result<Value, Va
 
 #[tactic(auto, unfolding(crate::specs::Typing::decimal_in))]
 fn read_decimal(value: &Json) -> Result<Value, ValueFault>
-    ensures { ReadsAs ValueFault.NoMemory (λ v. v) result (decimal_in (view value.now)) }
+    ensures { AlwaysReadsAs (λ v. v) result (decimal_in (view value.now)) }
 {
     let text = read_argument(value, "decimal")?;
     match parse_decimal(text) {
@@ -222,7 +223,7 @@ fn read_decimal(value: &Json) -> Result<Value, ValueFault>
 
 #[tactic(auto, unfolding(crate::specs::Typing::ipaddr_in))]
 fn read_network(value: &Json) -> Result<Value, ValueFault>
-    ensures { ReadsAs ValueFault.NoMemory (λ v. v) result (ipaddr_in (view value.now)) }
+    ensures { AlwaysReadsAs (λ v. v) result (ipaddr_in (view value.now)) }
 {
     let text = read_argument(value, "ip")?;
     match parse_network(text) {
@@ -231,9 +232,12 @@ fn read_network(value: &Json) -> Result<Value, ValueFault>
     }
 }
 
-/// A value that is neither a set nor a record.
+/// A value that is neither a set nor a record. Reading a boolean, a number, a decimal or an address takes no memory.
+#[tactic(auto, using(crate::proofs::Nothing::always_reads))]
 fn read_leaf(alloc: Global, value: &Json, ty: &CedarType) -> Result<Value, ValueFault>
-    ensures { ReadsAs ValueFault.NoMemory (λ v. v) result (leaf (cedar_view ty.now) (view value.now)) }
+    ensures reads { ReadsAs ValueFault.NoMemory (λ v. v) result (leaf (cedar_view ty.now) (view value.now)) }
+    ensures always { IsInPlace (cedar_view ty.now)
+        → AlwaysReadsAs (λ v. v) result (leaf (cedar_view ty.now) (view value.now)) }
 {
     match ty {
         CedarType::Boolean => read_boolean(value),
@@ -259,10 +263,17 @@ fn inside(fault: ValueFault) -> ValueFault
     }
 }
 
+/// The value of this type that a JSON value states.
+///
+/// Refused as `WrongType` where it states none: another kind of JSON, a number that is no Long, a text that is no
+/// decimal or address, an entity of another type, a field that the type does not have, or a required one that is
+/// missing. Reading a boolean, a number, a decimal or an address takes no memory.
 #[cycle(typed)]
 #[tactic(auto, unfolding(crate::specs::Typing::typed))]
 fn typed(alloc: Global, value: &Json, ty: &CedarType) -> Result<Value, ValueFault>
-    ensures { ReadsAs ValueFault.NoMemory (λ v. v) result (typed_of (cedar_view ty.now) (view value.now)) }
+    ensures reads { ReadsAs ValueFault.NoMemory (λ v. v) result (typed_of (cedar_view ty.now) (view value.now)) }
+    ensures always { IsInPlace (cedar_view ty.now)
+        → AlwaysReadsAs (λ v. v) result (typed_of (cedar_view ty.now) (view value.now)) }
 {
     match value {
         Json::Null => read_leaf(alloc, value, ty),
@@ -328,17 +339,6 @@ fn typed_members(
         record.insert(name, value)?;
     }
     Ok(record)
-}
-
-/// The value of this type that a JSON value states.
-///
-/// Refused as `WrongType` where it states none: another kind of JSON, a number that is no Long, a text that is no
-/// decimal or address, an entity of another type, a field that the type does not have, or a required one that is
-/// missing.
-pub fn read_value(alloc: Global, value: &Json, ty: &CedarType) -> Result<Value, ValueFault>
-    ensures { ReadsAs ValueFault.NoMemory (λ v. v) result (typed_of (cedar_view ty.now) (view value.now)) }
-{
-    typed(alloc, value, ty)
 }
 
 /// The record of this type that a JSON object states, as attributes and contexts are.

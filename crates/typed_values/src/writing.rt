@@ -1,17 +1,13 @@
 //! The one JSON of a value.
-ghost use Rattle.std.specs.Prelude.{◌≡◌, ◌≤◌, IfOk, codes, Some};
-ghost use Rattle.serde_json.specs.Data.{array, object, depth};
-ghost use Rattle.serde_json.specs.Read.{max_depth};
+ghost use Rattle.std.specs.Prelude.{◌≡◌, IfOk, codes};
+ghost use Rattle.serde_json.specs.Data.{array, object};
 ghost use Rattle.serde_json.specs.View.{view};
-ghost use Rattle.json_words.specs.Json.{json_of};
 ghost use Rattle.extensions.specs.DecimalText.{decimal_text};
 ghost use Rattle.extensions.specs.NetworkText.{network_text};
 ghost use Rattle.values.specs.Values.{values_of, fields_of};
 ghost use Rattle.typed_values.specs.Canonical.{call_json, value_json as json_of_value, values_json, fields_json};
-ghost use Rattle.typed_values.specs.Texts.{canonical_text};
 
 use extensions::{Decimal, IpNet};
-use json_words::write_json;
 use plain::NoMemory;
 use serde_json::{Map, Value as Json, json};
 use std::alloc::Global;
@@ -36,6 +32,7 @@ fn network_value(alloc: Global, network: &IpNet) -> Result<Json, NoMemory>
     json!(in alloc; {"__extn": {"arg": text.as_str(), "fn": "ip"}})
 }
 
+/// The one JSON of a value. Fails for memory alone.
 #[cycle(json)]
 fn json_value(alloc: Global, value: &Value) -> Result<Json, NoMemory>
     ensures { IfOk result (λ j. view j ≡ json_of_value value.now) }
@@ -76,26 +73,9 @@ fn json_members(alloc: Global, fields: &Record) -> Result<Json, NoMemory>
     Ok(Json::Object(members))
 }
 
-/// The one JSON of a value. Fails for memory alone.
-pub fn value_json(alloc: Global, value: &Value) -> Result<Json, NoMemory>
-    ensures { IfOk result (λ j. view j ≡ json_of_value value.now) }
-{
-    json_value(alloc, value)
-}
-
 /// The one JSON of a record. Fails for memory alone.
 pub fn record_json(alloc: Global, fields: &Record) -> Result<Json, NoMemory>
     ensures { IfOk result (λ j. view j ≡ object (fields_json (fields_of fields.now))) }
 {
     json_members(alloc, fields)
-}
-
-/// The one text of a value. Fails for memory alone.
-pub fn write_value(alloc: Global, value: &Value) -> Result<Vec<u8>, NoMemory>
-    ensures text { IfOk result (λ b. b.items ≡ canonical_text value.now) }
-    ensures reads_back { IfOk result (λ b. depth (json_of_value value.now) ≤ max_depth
-        → json_of b.items ≡ Some (json_of_value value.now)) }
-{
-    let json = json_value(alloc, value)?;
-    write_json(alloc, &json)
 }

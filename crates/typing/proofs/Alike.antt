@@ -18,19 +18,19 @@ use Rattle.typing.proofs.Tests.{in_both, in_both_holds}
 
 pub both_members : {L M N : Pairs} → InBoth L M N → (p : Pair) → Contains N p → Contains L p × Contains M p
 both_members Learned.both_none p c = Contains-none p c
-both_members (Learned.both_kept {p = x} {L} {M} {N} m h) p c = elim (Contains-cases x N p c) [
+both_members (Learned.both_kept {p = x} {left = L} {right = M} {both = N} m h) p c = elim (Contains-cases x N p c) [
   | inl e ↦ (subst (λ y. Contains (x ∷ L) y) e (Contains-here x L), subst (λ y. Contains M y) e m)
   | inr d ↦ let r = both_members h p d in (Contains-there x L p r.0, r.1)
 ]
-both_members (Learned.both_dropped {p = x} {L} {M} {N} n h) p c = let r = both_members h p c in (Contains-there x L p r.0, r.1)
+both_members (Learned.both_dropped {p = x} {left = L} {right = M} {both = N} n h) p c = let r = both_members h p c in (Contains-there x L p r.0, r.1)
 
 members_both : {L M N : Pairs} → InBoth L M N → (p : Pair) → Contains L p → Contains M p → Contains N p
 members_both Learned.both_none p c d = c
-members_both (Learned.both_kept {p = x} {L} {M} {N} m h) p c d = elim (Contains-cases x L p c) [
+members_both (Learned.both_kept {p = x} {left = L} {right = M} {both = N} m h) p c d = elim (Contains-cases x L p c) [
   | inl e ↦ subst (λ y. Contains (x ∷ N) y) e (Contains-here x N)
   | inr l ↦ Contains-there x N p (members_both h p l d)
 ]
-members_both (Learned.both_dropped {p = x} {L} {M} {N} n h) p c d = elim (Contains-cases x L p c) [
+members_both (Learned.both_dropped {p = x} {left = L} {right = M} {both = N} n h) p c d = elim (Contains-cases x L p c) [
   | inl e ↦ absurd (n (subst (λ y. Contains M y) (sym e) d))
   | inr l ↦ members_both h p l d
 ]

@@ -16,7 +16,7 @@ use Rattle.expressions.specs.declared.expr.Expr.{Expr}
 use Rattle.expressions.specs.declared.expr.Expr.TheVariants as form
 use Rattle.ancestor_closure.specs.Hierarchy.{Path, Above}
 use Rattle.typing.specs.Types
-use Rattle.typing.specs.Types.{StaticType, declared_as, declared_at}
+use Rattle.typing.specs.Types.{StaticType, declared_as, field_declared_at}
 use Rattle.typing.specs.Membership
 use Rattle.typing.specs.Membership.{Of, FieldOf}
 use Rattle.typing.specs.Conforming.{Conforms}
@@ -46,7 +46,7 @@ one_case false r h = Membership.absent
 one_field_fits : (k : List ℕ) (v : PlainValue) (t : StaticType) (r : Bool) → Of v t
     → FieldsFit ((k, v) ∷ []) (Types.field_type k t r Types.no_field_types)
 one_field_fits k v t r h = λ l.
-    subst (λ o. FieldOf o (declared_at l (Types.field_type k t r Types.no_field_types))) (sym (find_first l (k, v) []))
+    subst (λ o. FieldOf o (field_declared_at l (Types.field_type k t r Types.no_field_types))) (sym (find_first l (k, v) []))
     (one_case (bytes_eq l k) r h)
 
 alice_fits : (fs : List Field) → Example.stored alice ≡ Some fs → FieldsFit fs (environment.attributes alice.type_name)

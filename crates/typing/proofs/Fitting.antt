@@ -23,7 +23,7 @@ use Rattle.ancestor_closure.specs.Hierarchy.{IsIn}
 use Rattle.evaluator.specs.Operators
 use Rattle.evaluator.specs.Operators.{World, UnaryGives, BinaryGives, FieldGives, HasGives, UnaryCallGives, BinaryCallGives, TakesAddress, TakesDecimals}
 use Rattle.typing.specs.Types
-use Rattle.typing.specs.Types.{StaticType, Declared, declared_at, common, truth_type}
+use Rattle.typing.specs.Types.{StaticType, Declared, field_declared_at, common, truth_type}
 use Rattle.typing.specs.Membership
 use Rattle.typing.specs.Membership.{Of, FieldOf}
 use Rattle.typing.specs.Environment.{Environment}
@@ -181,7 +181,7 @@ or_second false b e = e
 entity_named : {u : EntityUid} {n : List ℕ} → Of (entity u) (Types.entity_type n) → u.type_name ≡ n
 entity_named (Membership.of_entity e) = e
 
-no_entity : {v : PlainValue} {n : List ℕ} {G : Type 0} → Of v (Types.entity_type n) → Outcomes.entity_in v ≡ None → G
+no_entity : {v : PlainValue} {n : List ℕ} {G : Type 0} → Of v (Types.entity_type n) → Outcomes.entity_uid_in v ≡ None → G
 no_entity (Membership.of_entity e) f = none_there f
 
 module _ (env : Environment) (W : World) (q : Request) (C : Conforms env W q) where
@@ -269,15 +269,15 @@ module _ (env : Environment) (W : World) (q : Request) (C : Conforms env W q) wh
 
   pub field_fits : (b : Bool) (k : List ℕ) {v : PlainValue} {s : StaticType} {r : EvaluationResult} → Of v s → (b ≡ true → HasGives W k v (Ok (boolean true)))
       → FieldGives W k v r → FitsRow (Rows.field_type_of env b k s) r
-  field_fits b k (Membership.of_record {fs} {ts} h) n (Operators.field e) = access_some b (subst (λ o. FieldOf o (declared_at k ts)) e (h k))
+  field_fits b k (Membership.of_record {fs} {ts} h) n (Operators.field e) = access_some b (subst (λ o. FieldOf o (field_declared_at k ts)) e (h k))
   field_fits b k (Membership.of_record {fs} {ts} h) n (Operators.no_field e) =
-      access_none b _ (subst (λ o. FieldOf o (declared_at k ts)) e (h k)) (λ i. none_some _ e (record_there (n i)))
+      access_none b _ (subst (λ o. FieldOf o (field_declared_at k ts)) e (h k)) (λ i. none_some _ e (record_there (n i)))
   field_fits b k (Membership.of_record h) n (Operators.field_of_other e f) = none_there e
   field_fits b k (Membership.of_entity {u} {n = m} e) n (Operators.attribute fs s f) =
-      access_some b (subst (λ o. FieldOf o (declared_at k (env.attributes m))) f (attributes_of u m fs e s k))
+      access_some b (subst (λ o. FieldOf o (field_declared_at k (env.attributes m))) f (attributes_of u m fs e s k))
   field_fits b k (Membership.of_entity {u} {n = m} e) n (Operators.no_attribute fs s f) =
-      access_none b _ (subst (λ o. FieldOf o (declared_at k (env.attributes m))) f (attributes_of u m fs e s k)) (λ i. none_some _ f (stored_there fs s (n i)))
-  field_fits b k (Membership.of_entity {n = m} e) n (Operators.not_stored s) = missing_fits (Rows.access_type b (declared_at k (env.attributes m)))
+      access_none b _ (subst (λ o. FieldOf o (field_declared_at k (env.attributes m))) f (attributes_of u m fs e s k)) (λ i. none_some _ f (stored_there fs s (n i)))
+  field_fits b k (Membership.of_entity {n = m} e) n (Operators.not_stored s) = missing_fits (Rows.access_type b (field_declared_at k (env.attributes m)))
   field_fits b k (Membership.of_entity e) n (Operators.field_of_other f g) = none_there g
   field_fits b k h n g = tt
 
@@ -313,12 +313,12 @@ module _ (env : Environment) (W : World) (q : Request) (C : Conforms env W q) wh
   pub has_fits : (b : Bool) (k : List ℕ) {v : PlainValue} {s : StaticType} {r : EvaluationResult} → Of v s → (b ≡ true → HasGives W k v (Ok (boolean true)))
       → HasGives W k v r → FitsRow (Rows.has_type env b k s) r
   has_fits b k (Membership.of_record {fs} {ts} h) n (Operators.has_field t) =
-      known_has b (Rows.record_has (declared_at k ts)) (λ i. record_there (n i)) t (record_has_fits (h k) t)
+      known_has b (Rows.record_has (field_declared_at k ts)) (λ i. record_there (n i)) t (record_has_fits (h k) t)
   has_fits b k (Membership.of_record h) n (Operators.has_of_other e f) = none_there e
   has_fits b k (Membership.of_entity {u} {n = m} e) n (Operators.has_attribute fs s t) =
-      known_has b (Rows.entity_has (declared_at k (env.attributes m))) (λ i. stored_there fs s (n i)) t (entity_has_fits (attributes_of u m fs e s k) t)
+      known_has b (Rows.entity_has (field_declared_at k (env.attributes m))) (λ i. stored_there fs s (n i)) t (entity_has_fits (attributes_of u m fs e s k) t)
   has_fits b k (Membership.of_entity {n = m} e) n (Operators.none_stored s) =
-      unknown_has b (Rows.entity_has (declared_at k (env.attributes m))) (λ i. let p = entity_there (n i) in None-Some (sym s ∙ p.1)) (missing_has_fits _)
+      unknown_has b (Rows.entity_has (field_declared_at k (env.attributes m))) (λ i. let p = entity_there (n i) in None-Some (sym s ∙ p.1)) (missing_has_fits _)
   has_fits b k (Membership.of_entity e) n (Operators.has_of_other f g) = none_there g
   has_fits b k h n g = tt
 

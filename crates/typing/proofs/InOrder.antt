@@ -20,7 +20,7 @@ use Rattle.expressions.specs.declared.operator.BinaryCall.{BinaryCall}
 use Rattle.expressions.specs.declared.operator.BinaryCall.TheVariants as call
 use Rattle.expressions.specs.declared.expr.Expr.{Expr}
 use Rattle.typing.specs.Types
-use Rattle.typing.specs.Types.{StaticType, FieldTypes, Declared, IsBoolean, common, common_fields, common_of, declared_as, declared_at, put_required, put_each, field_before, same_requirement, truth_type}
+use Rattle.typing.specs.Types.{StaticType, FieldTypes, Declared, IsBoolean, common, common_fields, common_of, declared_as, field_declared_at, put_required, put_each, field_before, same_requirement, truth_type}
 use Rattle.typing.specs.Environment.{Environment}
 use Rattle.typing.specs.Learned.{Pairs}
 use Rattle.typing.specs.Literals
@@ -214,10 +214,10 @@ first_declared true true t d h g = h
 first_declared true false t d h g = h
 first_declared false r t d h g = g
 
-declared_ordered : (k : List ℕ) (ts : FieldTypes) → AreOrdered ts → DeclaredOrdered (declared_at k ts)
+declared_ordered : (k : List ℕ) (ts : FieldTypes) → AreOrdered ts → DeclaredOrdered (field_declared_at k ts)
 unfolding DeclaredOrdered
 declared_ordered k Types.no_field_types h = tt
-declared_ordered k (Types.field_type l t r ts) h = first_declared (bytes_eq k l) r t (declared_at k ts) h.0 (declared_ordered k ts h.2)
+declared_ordered k (Types.field_type l t r ts) h = first_declared (bytes_eq k l) r t (field_declared_at k ts) h.0 (declared_ordered k ts h.2)
 
 access_ordered : (b : Bool) (d : Declared) → DeclaredOrdered d → RowOrdered (Rows.access_type b d)
 unfolding DeclaredOrdered RowOrdered
@@ -228,8 +228,8 @@ access_ordered false (Types.optional t) h = tt
 
 field_ordered : (env : Environment) → HasOrderedTypes env → (b : Bool) (k : List ℕ) (s : StaticType) → IsOrdered s → RowOrdered (Rows.field_type_of env b k s)
 unfolding RowOrdered
-field_ordered env o b k (Types.record_type ts) h = access_ordered b (declared_at k ts) (declared_ordered k ts h)
-field_ordered env o b k (Types.entity_type n) h = access_ordered b (declared_at k (env.attributes n)) (declared_ordered k (env.attributes n) (o.attributes n))
+field_ordered env o b k (Types.record_type ts) h = access_ordered b (field_declared_at k ts) (declared_ordered k ts h)
+field_ordered env o b k (Types.entity_type n) h = access_ordered b (field_declared_at k (env.attributes n)) (declared_ordered k (env.attributes n) (o.attributes n))
 field_ordered env o b k s h = tt
 
 record_has_ordered : (d : Declared) → IsOrdered (Rows.record_has d)
@@ -244,8 +244,8 @@ entity_has_ordered (Types.optional t) = tt
 
 has_ordered : (env : Environment) (b : Bool) (k : List ℕ) (s : StaticType) → RowOrdered (Rows.has_type env b k s)
 unfolding RowOrdered
-has_ordered env b k (Types.record_type ts) = either_ordered b Types.true_type _ tt (record_has_ordered (declared_at k ts))
-has_ordered env b k (Types.entity_type n) = either_ordered b Types.true_type _ tt (entity_has_ordered (declared_at k (env.attributes n)))
+has_ordered env b k (Types.record_type ts) = either_ordered b Types.true_type _ tt (record_has_ordered (field_declared_at k ts))
+has_ordered env b k (Types.entity_type n) = either_ordered b Types.true_type _ tt (entity_has_ordered (field_declared_at k (env.attributes n)))
 has_ordered env b k s = tt
 
 set_of_ordered : (o : Option StaticType) → OrNone o → RowOrdered (Rows.set_of_common o)

@@ -402,7 +402,7 @@ module _ (env : Environment) (W : World) (q : Request) (C : Conforms env W q) (o
       t
   in_some_goes vs s b0 i is d (Operators.in_mixed_set v c e) =
       let m = Contains-unmapped entity vs v ((is.members v).0 (subst (λ ws. Contains ws v) (list_of-values_of s) c)) in
-      none_there (ap Outcomes.entity_in m.2 ∙ e)
+      none_there (ap Outcomes.entity_uid_in m.2 ∙ e)
   in_some_goes vs s b0 i is d (Operators.in_other e f) = none_there f
   in_some_goes vs s b0 i is d (Operators.other_in e) = none_there e
   in_some_goes vs s b0 i is d (Operators.no_numbers e f) = absurd e

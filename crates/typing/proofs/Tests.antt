@@ -64,9 +64,9 @@ in_both (p ∷ L) M = kept (knows M p) p (in_both L M)
 
 pub in_both_is : {L M N : Pairs} → InBoth L M N → in_both L M ≡ N
 in_both_is Learned.both_none = refl
-in_both_is (Learned.both_kept {p} {L} {M} {N} c h) =
+in_both_is (Learned.both_kept {p} {left = L} {right = M} {both = N} c h) =
     ap (λ b. kept b p (in_both L M)) ((told_iff (known M p)).1 c) ∙ ap (λ (P : Pairs). p ∷ P) (in_both_is h)
-in_both_is (Learned.both_dropped {p} {L} {M} {N} n h) =
+in_both_is (Learned.both_dropped {p} {left = L} {right = M} {both = N} n h) =
     ap (λ b. kept b p (in_both L M)) (told_not (known M p) n) ∙ in_both_is h
 
 keep : (p : Pair) (L M N : Pairs) (d : Decided (Contains M p)) → InBoth L M N → InBoth (p ∷ L) M (kept (told d) p N)

@@ -14,7 +14,7 @@ use Rattle.values.specs.Fields.{Field, put, find_field}
 use Rattle.values.specs.Sets.{IsSetOf}
 use Rattle.values.specs.Values.{PlainValue, PlainValues, PlainFields, set, record_of, values_of, fields_of, list_of, pairs_of, pairs_of-fields_of}
 use Rattle.typing.specs.Types
-use Rattle.typing.specs.Types.{StaticType, FieldTypes, Declared, common, common_fields, common_of, declared_as, declared_at, put_required, field_before, same_requirement}
+use Rattle.typing.specs.Types.{StaticType, FieldTypes, Declared, common, common_fields, common_of, declared_as, field_declared_at, put_required, field_before, same_requirement}
 use Rattle.typing.specs.Membership
 use Rattle.typing.specs.Membership.{Of, EachOf, FieldOf}
 use Rattle.plain.proofs.Members.{Contains-here, Contains-there, Contains-cases, Contains-none}
@@ -53,7 +53,7 @@ Covers s t None = Unit {0}
 Covers s t (Some u) = Widens s u × Widens t u
 
 abbrev FieldsWiden : FieldTypes → FieldTypes → Type 0
-FieldsWiden ss ts = (k : List ℕ) (o : Option PlainValue) → FieldOf o (declared_at k ss) → FieldOf o (declared_at k ts)
+FieldsWiden ss ts = (k : List ℕ) (o : Option PlainValue) → FieldOf o (field_declared_at k ss) → FieldOf o (field_declared_at k ts)
 
 abbrev FieldsCover : FieldTypes → FieldTypes → Option FieldTypes → Type 0
 FieldsCover ss ts None = Unit {0}
@@ -270,24 +270,24 @@ find_put l k v [] = find_first l (k, v) []
 find_put l k v (f ∷ fs) = found_after_put l k v f fs (put k v fs) (text_cmp k f.0) refl (find_put l k v fs)
 
 declared_after_put : (l k j : List ℕ) (r : Bool) (t s : StaticType) (ts us : FieldTypes) (o : Ordering) → text_cmp k j ≡ o
-    → declared_at l us ≡ (if bytes_eq l k then Types.required t else declared_at l ts)
-    → declared_at l (match_ordering o (Types.field_type k t true (Types.field_type j s r ts)) (Types.field_type j t true ts) (Types.field_type j s r us))
-    ≡ (if bytes_eq l k then Types.required t else (if bytes_eq l j then declared_as r s else declared_at l ts))
+    → field_declared_at l us ≡ (if bytes_eq l k then Types.required t else field_declared_at l ts)
+    → field_declared_at l (match_ordering o (Types.field_type k t true (Types.field_type j s r ts)) (Types.field_type j t true ts) (Types.field_type j s r us))
+    ≡ (if bytes_eq l k then Types.required t else (if bytes_eq l j then declared_as r s else field_declared_at l ts))
 declared_after_put l k j r t s ts us order.Less e h = refl
 declared_after_put l k j r t s ts us order.Equal e h =
-    subst (λ i. (if bytes_eq l j then Types.required t else declared_at l ts) ≡ (if bytes_eq l i then Types.required t else (if bytes_eq l j then declared_as r s else declared_at l ts)))
-    (sym (text_cmp-IsAntisymmetric k j e)) (again (bytes_eq l j) (Types.required t) (declared_as r s) (declared_at l ts))
+    subst (λ i. (if bytes_eq l j then Types.required t else field_declared_at l ts) ≡ (if bytes_eq l i then Types.required t else (if bytes_eq l j then declared_as r s else field_declared_at l ts)))
+    (sym (text_cmp-IsAntisymmetric k j e)) (again (bytes_eq l j) (Types.required t) (declared_as r s) (field_declared_at l ts))
 declared_after_put l k j r t s ts us order.Greater e h =
     ap (λ x. if bytes_eq l j then declared_as r s else x) h
-    ∙ swap (bytes_eq l j) (bytes_eq l k) (declared_as r s) (Types.required t) (declared_at l ts) (no_two k j l order.Greater e (λ i. cc))
+    ∙ swap (bytes_eq l j) (bytes_eq l k) (declared_as r s) (Types.required t) (field_declared_at l ts) (no_two k j l order.Greater e (λ i. cc))
 
-declared_put : (l k : List ℕ) (t : StaticType) (ts : FieldTypes) → declared_at l (put_required k t ts) ≡ (if bytes_eq l k then Types.required t else declared_at l ts)
+declared_put : (l k : List ℕ) (t : StaticType) (ts : FieldTypes) → field_declared_at l (put_required k t ts) ≡ (if bytes_eq l k then Types.required t else field_declared_at l ts)
 declared_put l k t Types.no_field_types = refl
 declared_put l k t (Types.field_type j s r ts) = declared_after_put l k j r t s ts (put_required k t ts) (text_cmp k j) refl (declared_put l k t ts)
 
 -- the fields fit the types, key by key
 abbrev pub FieldsFit : List Field → FieldTypes → Type 0
-FieldsFit fs ts = (k : List ℕ) → FieldOf (find_field k fs) (declared_at k ts)
+FieldsFit fs ts = (k : List ℕ) → FieldOf (find_field k fs) (field_declared_at k ts)
 
 put_case : (b : Bool) {o : Option PlainValue} {d : Declared} (v : PlainValue) (t : StaticType) → Of v t → FieldOf o d
     → FieldOf (if b then Some v else o) (if b then Types.required t else d)
@@ -297,14 +297,14 @@ put_case false v t h g = g
 pub put_fits : (k : List ℕ) (v : PlainValue) (t : StaticType) (fs : List Field) (ts : FieldTypes) → Of v t → FieldsFit fs ts
     → FieldsFit (put k v fs) (put_required k t ts)
 put_fits k v t fs ts h g = λ l.
-    subst (λ o. FieldOf o (declared_at l (put_required k t ts))) (sym (find_put l k v fs))
+    subst (λ o. FieldOf o (field_declared_at l (put_required k t ts))) (sym (find_put l k v fs))
     (subst (λ d. FieldOf (if bytes_eq l k then Some v else find_field l fs) d) (sym (declared_put l k t ts)) (put_case (bytes_eq l k) v t h (g l)))
 
 pub record_fits : (fs : List Field) (ts : FieldTypes) → FieldsFit fs ts → Of (record_of (fields_of fs)) (Types.record_type ts)
-record_fits fs ts h = Membership.of_record (λ k. subst (λ gs. FieldOf (find_field k gs) (declared_at k ts)) (sym (pairs_of-fields_of fs)) (h k))
+record_fits fs ts h = Membership.of_record (λ k. subst (λ gs. FieldOf (find_field k gs) (field_declared_at k ts)) (sym (pairs_of-fields_of fs)) (h k))
 
 pub fields_fit : (fs : List Field) (ts : FieldTypes) → Of (record_of (fields_of fs)) (Types.record_type ts) → FieldsFit fs ts
-fields_fit fs ts h = λ k. subst (λ gs. FieldOf (find_field k gs) (declared_at k ts)) (pairs_of-fields_of fs) (at k h)
+fields_fit fs ts h = λ k. subst (λ gs. FieldOf (find_field k gs) (field_declared_at k ts)) (pairs_of-fields_of fs) (at k h)
   where
-    at : {gs : PlainFields} {us : FieldTypes} (k : List ℕ) → Of (record_of gs) (Types.record_type us) → FieldOf (find_field k (pairs_of gs)) (declared_at k us)
+    at : {gs : PlainFields} {us : FieldTypes} (k : List ℕ) → Of (record_of gs) (Types.record_type us) → FieldOf (find_field k (pairs_of gs)) (field_declared_at k us)
     at k (Membership.of_record f) = f k

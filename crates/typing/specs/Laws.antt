@@ -1,4 +1,4 @@
--- What is true of the definitions.
+-- That expressions have one judgement each, and that what is typed does not go wrong.
 use Rattle.std.specs.Prelude.{◌≡◌, ◌≢◌, ℕ, List, [], ◌∷◌, Contains, IsTrue, IsFalse, Bool, true, Ok}
 use Rattle.values.specs.declared.entity_uid.EntityUid.{EntityUid}
 use Rattle.values.specs.declared.request.Request.{Request}

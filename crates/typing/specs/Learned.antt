@@ -12,18 +12,20 @@ Pair = Expr × List ℕ
 abbrev pub Pairs : Type 0
 Pairs = List Pair
 
--- N are the pairs of L that stand in M too
+-- `both` are the pairs of `left` that stand in `right` too
 pub data InBoth : Pairs → Pairs → Pairs → Type 0 where
-  both_none : {M : Pairs} → InBoth [] M []
-  both_kept : {p : Pair} {L M N : Pairs} → Contains M p → InBoth L M N → InBoth (p ∷ L) M (p ∷ N)
-  both_dropped : {p : Pair} {L M N : Pairs} → ¬ Contains M p → InBoth L M N → InBoth (p ∷ L) M N
+  both_none : {right : Pairs} → InBoth [] right []
+  both_kept : {p : Pair} {left right both : Pairs} → Contains right p → InBoth left right both
+      → InBoth (p ∷ left) right (p ∷ both)
+  both_dropped : {p : Pair} {left right both : Pairs} → ¬ Contains right p → InBoth left right both
+      → InBoth (p ∷ left) right both
 
--- What `||` learns whose left is Bool and learns L, by its right, which learns M: the right True: nothing; False: L;
--- Bool: what both learn.
+-- What `||` learns whose left side is Bool and learns `left`, by its right side, which learns `right`: where that is
+-- True, nothing; where False, `left`; where Bool, what both learn.
 pub data OrLearns : StaticType → Pairs → Pairs → Pairs → Type 0 where
-  or_learns_none : {L M : Pairs} → OrLearns true_type L M []
-  or_learns_left : {L M : Pairs} → OrLearns false_type L M L
-  or_learns_both : {L M N : Pairs} → InBoth L M N → OrLearns boolean_type L M N
+  or_learns_none : {left right : Pairs} → OrLearns true_type left right []
+  or_learns_left : {left right : Pairs} → OrLearns false_type left right left
+  or_learns_both : {left right both : Pairs} → InBoth left right both → OrLearns boolean_type left right both
 
 -- `has` learns its pair where it is Bool
 abbrev pub has_learns : StaticType → Pair → Pairs

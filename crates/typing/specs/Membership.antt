@@ -9,7 +9,7 @@ use Rattle.values.specs.Values.{PlainValue, PlainValues, PlainFields, boolean, l
 use Rattle.values.specs.Values.{decimal, ipaddr, no_values, value, pairs_of}
 use Rattle.typing.specs.Types.{StaticType, true_type, false_type, boolean_type, long_type, text_type, entity_type}
 use Rattle.typing.specs.Types.{set_type, record_type, decimal_type, ipaddr_type, FieldTypes, Declared, undeclared}
-use Rattle.typing.specs.Types.{optional, required, declared_at}
+use Rattle.typing.specs.Types.{optional, required, field_declared_at}
 
 mutual
   pub data Of : PlainValue → StaticType → Type 0 where
@@ -21,7 +21,8 @@ mutual
     of_entity : {u : EntityUid} {n : List ℕ} → u.type_name ≡ n → Of (entity u) (entity_type n)
     of_set : {vs : PlainValues} {t : StaticType} → EachOf vs t → Of (set vs) (set_type t)
     of_record : {fs : PlainFields} {ts : FieldTypes}
-        → ((k : List ℕ) → FieldOf (find_field k (pairs_of fs)) (declared_at k ts)) → Of (record_of fs) (record_type ts)
+        → ((k : List ℕ) → FieldOf (find_field k (pairs_of fs)) (field_declared_at k ts))
+        → Of (record_of fs) (record_type ts)
     of_decimal : {z : ℤ} → Of (decimal z) decimal_type
     of_ipaddr : {n : Network} → Of (ipaddr n) ipaddr_type
 

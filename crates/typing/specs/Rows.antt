@@ -19,7 +19,7 @@ use Rattle.expressions.specs.declared.operator.BinaryCall.TheVariants.{LessThan,
 use Rattle.expressions.specs.declared.operator.BinaryCall.TheVariants.{GreaterThanOrEqual, IsInRange}
 use Rattle.typing.specs.Types.{StaticType, true_type, false_type, boolean_type, long_type, text_type, entity_type}
 use Rattle.typing.specs.Types.{set_type, record_type, decimal_type, ipaddr_type, Declared, undeclared, optional}
-use Rattle.typing.specs.Types.{required, declared_at, truth_type, common, common_of}
+use Rattle.typing.specs.Types.{required, field_declared_at, truth_type, common, common_of}
 use Rattle.typing.specs.Environment.{Environment, TypeFault, unexpected, no_common_type, attribute_may_be_missing}
 use Rattle.typing.specs.Environment.{empty_set}
 
@@ -120,8 +120,8 @@ access_type true (optional t) = Ok t
 access_type false (optional t) = Err attribute_may_be_missing
 
 abbrev pub field_type_of : Environment → Bool → List ℕ → StaticType → Row
-field_type_of env is_known k (record_type ts) = access_type is_known (declared_at k ts)
-field_type_of env is_known k (entity_type n) = access_type is_known (declared_at k (env.attributes n))
+field_type_of env is_known k (record_type ts) = access_type is_known (field_declared_at k ts)
+field_type_of env is_known k (entity_type n) = access_type is_known (field_declared_at k (env.attributes n))
 field_type_of env is_known k t = Err unexpected
 
 -- `e has f` of a record, where the pair is not known
@@ -137,9 +137,9 @@ entity_has (required t) = boolean_type
 entity_has (optional t) = boolean_type
 
 abbrev pub has_type : Environment → Bool → List ℕ → StaticType → Row
-has_type env is_known k (record_type ts) = Ok (if is_known then true_type else record_has (declared_at k ts))
+has_type env is_known k (record_type ts) = Ok (if is_known then true_type else record_has (field_declared_at k ts))
 has_type env is_known k (entity_type n) =
-    Ok (if is_known then true_type else entity_has (declared_at k (env.attributes n)))
+    Ok (if is_known then true_type else entity_has (field_declared_at k (env.attributes n)))
 has_type env is_known k t = Err unexpected
 
 -- ---- sets

@@ -37,9 +37,9 @@ abbrev pub declared_as : Bool → StaticType → Declared
 declared_as true t = required t
 declared_as false t = optional t
 
-abbrev pub declared_at : List ℕ → FieldTypes → Declared
-declared_at k no_field_types = undeclared
-declared_at k (field_type l t r ts) = if bytes_eq k l then declared_as r t else declared_at k ts
+abbrev pub field_declared_at : List ℕ → FieldTypes → Declared
+field_declared_at k no_field_types = undeclared
+field_declared_at k (field_type l t r ts) = if bytes_eq k l then declared_as r t else field_declared_at k ts
 
 -- the fields, with a required one of type t at k
 abbrev pub put_required : List ℕ → StaticType → FieldTypes → FieldTypes

@@ -44,7 +44,7 @@ mutual
         → Types env (K ++ L) b t M → Types env K (form.If a b c) t (L ++ M)
     if_of_false : {K L M : Pairs} (a b c : Expr) {t : StaticType} → Types env K a false_type L
         → Types env K c t M → Types env K (form.If a b c) t M
-    -- it learns what `else` learns and the test and `then` together do
+    -- it learns B: what both `else` learns, which is N, and the test and `then` together do, which is L ++ M
     if_of_both : {K L M N B : Pairs} (a b c : Expr) {s t u : StaticType} → Types env K a boolean_type L
         → Types env (K ++ L) b s M → Types env K c t N → common s t ≡ Some u → InBoth N (L ++ M) B
         → Types env K (form.If a b c) u B

@@ -1,3 +1,4 @@
+pub mod Adding
 mod FoundLemmas
 mod NameLemmas
 mod UidLemmas

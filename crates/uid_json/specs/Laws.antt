@@ -1,4 +1,4 @@
--- Laws of names as JSON.
+-- That a value names one entity at most, and that a name which is written is read back.
 use Rattle.std.specs.Prelude.{◌≡◌}
 use Rattle.serde_json.specs.Data.{Data}
 use Rattle.plain.specs.Words.{IsPath}

@@ -1,3 +1,4 @@
 pub mod Laws
+pub mod Tokens
 pub mod Uids
 pub mod passed_on

@@ -5,10 +5,10 @@ ghost use Rattle.uid_json.specs.Uids.{IsPlainUid, IsUid, IsRead, uid_in, uid_jso
 
 use crate::laws::names_read_back;
 use json_words::{only_keys, text_at};
-use plain::{NoMemory, Text};
+use plain::NoMemory;
 use serde_json::{Value, json};
 use std::alloc::Global;
-use values::{EntityUid, TypeName};
+use values::{EntityUid, SharedText, TypeName};
 
 /// The name that an object of a type and an id states.
 fn read_plain_uid(alloc: Global, value: &Value) -> Result<Option<EntityUid>, NoMemory>
@@ -26,7 +26,7 @@ fn read_plain_uid(alloc: Global, value: &Value) -> Result<Option<EntityUid>, NoM
     let Some(type_name) = TypeName::parse(alloc, type_name)? else {
         return Ok(None);
     };
-    let id = Text::from_str(alloc, id)?;
+    let id = SharedText::from_str(alloc, id)?;
     Ok(Some(EntityUid { type_name, id }))
 }
 

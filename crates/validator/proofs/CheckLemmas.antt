@@ -12,12 +12,12 @@ use Rattle.schema.specs.Schemas.{StatedSchema}
 use Rattle.schema.specs.Views.{environment_view}
 use Rattle.typing.specs.Types.{false_type}
 use Rattle.typing.specs.Environment.{Environment}
-use Rattle.type_checker.specs.passed_on.static_types.{environment_of}
+use Rattle.type_checker.specs.passed_on.static_types.{typing_environment_of}
 use Rattle.validator.specs.declared.fault.CheckFault.{CheckFault}
 use Rattle.validator.specs.declared.fault.CheckFault.TheVariants.{NoMemory}
 use Rattle.validator.specs.Names.{names_of}
 use Rattle.validator.specs.Passing
-use Rattle.validator.specs.Passing.{environments_of, HasType, HasBooleanType, IsVerdict, IsRefused}
+use Rattle.validator.specs.Passing.{environments_of, HasType, HasBooleanType, IsVerdict, IsCheckRefused}
 use Rattle.validator.specs.inner.Checking.{scope_parts, typed_in, IsJudged, AreJudged}
 use Rattle.validator.specs.inner.Walking.{WalkResult, names_told, parts_told}
 use Rattle.validator.proofs.KnownLemmas.{ReportsNames, names_tell}
@@ -57,18 +57,18 @@ module _ (x : Expr) where
 
   module _ (s : StatedSchema) (ps : List given.Environment) (i : ℕ) (p : given.Environment) (lt : i < length ps) (is : p ≡ get_or ps i p)
       (before : Bool) where
-    pub environment_next : (d q : Bool) → q ≡ (before && d) → IsJudged (environment_of s (environment_view p)) x (Ok d)
+    pub environment_next : (d q : Bool) → q ≡ (before && d) → IsJudged (typing_environment_of s (environment_view p)) x (Ok d)
         → (r : Result Bool CheckFault) → AreJudged x q (typed_in s (drop (i + 1) ps)) r → AreJudged x before (typed_in s (drop i ps)) r
     environment_next d q e h r g =
         subst (λ (qs : List given.Environment). AreJudged x before (typed_in s qs) r) (sym (turn ps i p lt is))
-        (one_more before d (environment_of s (environment_view p)) (typed_in s (drop (i + 1) ps)) h r
+        (one_more before d (typing_environment_of s (environment_view p)) (typed_in s (drop (i + 1) ps)) h r
         (subst (λ v. AreJudged x v (typed_in s (drop (i + 1) ps)) r) e g))
 
-    pub environment_faulty : (f : CheckFault) → IsJudged (environment_of s (environment_view p)) x (Err f)
+    pub environment_faulty : (f : CheckFault) → IsJudged (typing_environment_of s (environment_view p)) x (Err f)
         → AreJudged x before (typed_in s (drop i ps)) (Err f)
     environment_faulty f h =
         subst (λ (qs : List given.Environment). AreJudged x before (typed_in s qs) (Err f)) (sym (turn ps i p lt is))
-        (faulty_now before (environment_of s (environment_view p)) (typed_in s (drop (i + 1) ps)) f h)
+        (faulty_now before (typing_environment_of s (environment_view p)) (typed_in s (drop (i + 1) ps)) f h)
 
   pub environments_end : (s : StatedSchema) (ps : List given.Environment) (i : ℕ) (before : Bool) → length ps ≤ i
       → AreJudged x before (typed_in s (drop i ps)) (Ok before)
@@ -88,22 +88,22 @@ module _ (s : StatedSchema) (policy : Policy) (parts : List Expr) (are : parts �
   names_come : (r : WalkResult) → r ≡ parts_told s parts policy.condition → ReportsNames s (names_of policy) r
   names_come r e = subst (ReportsNames s (names_of policy)) (sym (e ∙ told_is)) (names_tell s (names_of policy))
 
-  pub name_refused : (f : CheckFault) → Err f ≡ parts_told s parts policy.condition → IsRefused s policy f
+  pub name_refused : (f : CheckFault) → Err f ≡ parts_told s parts policy.condition → IsCheckRefused s policy f
   name_refused f e = Passing.for_name (names_come (Err f) e)
 
   module _ (ps : List given.Environment) (all : map environment_view ps ≡ s.environments) where
     environments : typed_in s ps ≡ environments_of s
-    environments = mapped environment_view (environment_of s) ps ∙ ap (map (environment_of s)) all
+    environments = mapped environment_view (typing_environment_of s) ps ∙ ap (map (typing_environment_of s)) all
 
     moved : (r : Result Bool CheckFault) → AreJudged (expression_of policy) true (typed_in s ps) r
         → AreJudged (expression_of policy) true (environments_of s) r
     moved r h = subst (λ es. AreJudged (expression_of policy) true es r) environments h
 
     pub type_refused : Ok tt ≡ parts_told s parts policy.condition → (f : CheckFault)
-        → AreJudged (expression_of policy) true (typed_in s ps) (Err f) → f ≢ NoMemory → IsRefused s policy f
+        → AreJudged (expression_of policy) true (typed_in s ps) (Err f) → f ≢ NoMemory → IsCheckRefused s policy f
     type_refused e f h n =
         let k = moved (Err f) h n in
-        subst (IsRefused s policy) (sym k.1) (Passing.for_type (names_come (Ok tt) e) k.2)
+        subst (IsCheckRefused s policy) (sym k.1) (Passing.for_type (names_come (Ok tt) e) k.2)
 
     pub passed : Ok tt ≡ parts_told s parts policy.condition → (b : Bool)
         → AreJudged (expression_of policy) true (typed_in s ps) (Ok b)

@@ -1,4 +1,5 @@
 pub mod CheckLemmas
+pub mod HalvesLemmas
 pub mod JudgeLemmas
 pub mod KnownLemmas
 pub mod OutcomeLemmas

@@ -20,13 +20,13 @@ use Rattle.typing.specs.Typing.{Types}
 use Rattle.typing.specs.Faults.{Faults}
 use Rattle.typing.specs.Judgement.{Judgement, typed, faulty, Judges}
 use Rattle.typing.specs.Laws.{HaveOneJudgement, PoliciesGoRight}
-use Rattle.type_checker.specs.passed_on.static_types.{environment_of}
+use Rattle.type_checker.specs.passed_on.static_types.{typing_environment_of}
 use Rattle.validator.specs.declared.fault.CheckFault.{CheckFault}
 use Rattle.validator.specs.Faults.{of_typing}
 use Rattle.validator.specs.Names.{names_of}
 use Rattle.validator.specs.Unknown.{IsKnown}
 use Rattle.validator.specs.Passing
-use Rattle.validator.specs.Passing.{environments_of, HasType, HasBooleanType, FirstFaulty, Passes, IsRefused}
+use Rattle.validator.specs.Passing.{environments_of, HasType, HasBooleanType, FirstFaulty, Passes, IsCheckRefused}
 use Rattle.validator.specs.Outcomes
 use Rattle.validator.specs.Outcomes.{CheckResult, IsCheckResult, PoliciesHaveOneOutcome, NoEnvironmentIsImpossible, PassingPoliciesGoRight, PassingIsNotRefused}
 use Rattle.validator.specs.inner.Walking.{WalkResult, names_told}
@@ -177,14 +177,14 @@ pub policy_is_test : HaveOneJudgement → (policy : Policy) (env : Environment) 
 policy_is_test one policy env = and_is_test one env _ _
 
 module _ (one : HaveOneJudgement) (s : StatedSchema) (policy : Policy) where
-  one_refusal : (f g : CheckFault) → IsRefused s policy f → IsRefused s policy g → f ≡ g
+  one_refusal : (f g : CheckFault) → IsCheckRefused s policy f → IsCheckRefused s policy g → f ≡ g
   one_refusal f g (Passing.for_name h) (Passing.for_name k) = one_first s (names_of policy) f g h k
   one_refusal f g (Passing.for_name h) (Passing.for_type k l) = absurd (none_first s (names_of policy) f k h)
   one_refusal f g (Passing.for_type h l) (Passing.for_name k) = absurd (none_first s (names_of policy) g h k)
   one_refusal f g (Passing.for_type {n = m} h l) (Passing.for_type {n = n} k i) =
       ap of_typing (one_faulty one (expression_of policy) (environments_of s) m n l i)
 
-  not_refused : (f : CheckFault) → Passes s policy → IsRefused s policy f → ⊥
+  not_refused : (f : CheckFault) → Passes s policy → IsCheckRefused s policy f → ⊥
   not_refused f h (Passing.for_name k) = none_first s (names_of policy) f h.known k
   not_refused f h (Passing.for_type {n = n} k l) = none_faulty one (expression_of policy) (environments_of s) n h.typed l
 
@@ -222,8 +222,8 @@ none_listed f P xs e = subst (λ ys. All P (map f ys)) (sym e) (All-nil P)
 
 pub no_environment_is_impossible : NoEnvironmentIsImpossible
 no_environment_is_impossible s policy e h = record {
-  passes = record { known = h; typed = none_listed (environment_of s) (HasBooleanType (expression_of policy)) s.environments e };
-  impossible = ((λ t. none_listed (environment_of s) (HasType (expression_of policy) false_type) s.environments e), λ g. refl);
+  passes = record { known = h; typed = none_listed (typing_environment_of s) (HasBooleanType (expression_of policy)) s.environments e };
+  impossible = ((λ t. none_listed (typing_environment_of s) (HasType (expression_of policy) false_type) s.environments e), λ g. refl);
 }
 
 -- ---- what passes goes right

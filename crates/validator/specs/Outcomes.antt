@@ -16,7 +16,7 @@ use Rattle.typing.specs.Conforming.{Conforms, Fits}
 use Rattle.validator.specs.declared.fault.CheckFault.{CheckFault}
 use Rattle.validator.specs.Names.{names_of}
 use Rattle.validator.specs.Unknown.{IsKnown}
-use Rattle.validator.specs.Passing.{environments_of, Passes, IsImpossible, IsVerdict, IsRefused}
+use Rattle.validator.specs.Passing.{environments_of, Passes, IsImpossible, IsVerdict, IsCheckRefused}
 
 -- it passes, possible or impossible, or it is refused
 pub data CheckResult : Type 0 where
@@ -25,7 +25,7 @@ pub data CheckResult : Type 0 where
 
 abbrev pub IsCheckResult : StatedSchema → Policy → CheckResult → Type 0
 IsCheckResult s policy (passes impossible) = IsVerdict s policy impossible
-IsCheckResult s policy (refused f) = IsRefused s policy f
+IsCheckResult s policy (refused f) = IsCheckRefused s policy f
 
 -- exactly one of these, whatever schema and policy
 abbrev pub PoliciesHaveOneOutcome : Type 0
@@ -34,7 +34,8 @@ PoliciesHaveOneOutcome = (s : StatedSchema) (policy : Policy)
 
 -- what passes is not refused
 abbrev pub PassingIsNotRefused : Type 0
-PassingIsNotRefused = (s : StatedSchema) (policy : Policy) (f : CheckFault) → Passes s policy → IsRefused s policy f → ⊥
+PassingIsNotRefused = (s : StatedSchema) (policy : Policy) (f : CheckFault) → Passes s policy
+    → IsCheckRefused s policy f → ⊥
 
 -- where a schema has no environment, a policy all names of which are known passes, and is impossible
 abbrev pub NoEnvironmentIsImpossible : Type 0

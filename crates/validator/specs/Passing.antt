@@ -14,7 +14,7 @@ use Rattle.typing.specs.Environment.{Environment, TypeFault}
 use Rattle.typing.specs.Learned.{Pairs}
 use Rattle.typing.specs.Typing.{Types}
 use Rattle.typing.specs.Faults.{Faults}
-use Rattle.type_checker.specs.passed_on.static_types.{environment_of}
+use Rattle.type_checker.specs.passed_on.static_types.{typing_environment_of}
 use Rattle.validator.specs.declared.fault.CheckFault.{CheckFault}
 use Rattle.validator.specs.Faults.{of_typing}
 use Rattle.validator.specs.Names.{names_of}
@@ -22,7 +22,7 @@ use Rattle.validator.specs.Unknown.{IsKnown, FirstUnknown}
 
 -- the schema's environments in order: by the action, the principal's type, the resource's type
 abbrev pub environments_of : StatedSchema → List Environment
-environments_of s = map (environment_of s) s.environments
+environments_of s = map (typing_environment_of s) s.environments
 
 -- the expression has this type in the environment, where no optional field is known to be there: there is no pair of an
 -- expression and a field yet (a capability, in cedar-spec)
@@ -56,7 +56,7 @@ pub record IsVerdict (s : StatedSchema) (policy : Policy) (told : Bool) : Type 0
 
 -- The policy is refused: the first name in the order of its text that is not known, or else, where all are known, the
 -- fault of the first environment that has one.
-pub data IsRefused (s : StatedSchema) (policy : Policy) : CheckFault → Type 0 where
-  for_name : {f : CheckFault} → FirstUnknown s (names_of policy) f → IsRefused s policy f
+pub data IsCheckRefused (s : StatedSchema) (policy : Policy) : CheckFault → Type 0 where
+  for_name : {f : CheckFault} → FirstUnknown s (names_of policy) f → IsCheckRefused s policy f
   for_type : {n : TypeFault} → All (IsKnown s) (names_of policy)
-      → FirstFaulty (expression_of policy) (environments_of s) n → IsRefused s policy (of_typing n)
+      → FirstFaulty (expression_of policy) (environments_of s) n → IsCheckRefused s policy (of_typing n)

@@ -2,8 +2,8 @@
 ghost use Rattle.std.specs.Prelude.{◌≡◌, ◌≢◌, ◌&&◌, IfOk, IfErr, true};
 ghost use Rattle.policy_grammar.specs.Whole.{expression_of};
 ghost use Rattle.schema.specs.Views.{schema_view, environment_view};
-ghost use Rattle.type_checker.specs.passed_on.static_types.{environment_of};
-ghost use Rattle.validator.specs.Passing.{IsVerdict, IsRefused};
+ghost use Rattle.type_checker.specs.passed_on.static_types.{typing_environment_of};
+ghost use Rattle.validator.specs.Passing.{IsVerdict, IsCheckRefused};
 ghost use Rattle.validator.specs.inner.Checking.{scope_parts, typed_in, ReportsFalse, IsJudged, AreJudged};
 ghost use Rattle.validator.specs.inner.Walking.{parts_told};
 
@@ -51,7 +51,7 @@ fn is_false_at(
     policy: &Policy,
 ) -> Result<bool, CheckFault>
     requires { parts.now ≡ scope_parts policy.now.scope }
-    ensures { IsJudged (environment_of (schema_view schema.now) (environment_view environment.now))
+    ensures { IsJudged (typing_environment_of (schema_view schema.now) (environment_view environment.now))
         (expression_of policy.now) result }
 {
     expressions_have_one_judgement();
@@ -98,7 +98,8 @@ fn is_false_everywhere(
 #[tactic(auto, using(crate::proofs::CheckLemmas::name_refused, crate::proofs::CheckLemmas::type_refused))]
 pub fn check(alloc: Global, schema: &Schema, policy: &Policy) -> Result<Verdict, CheckFault>
     ensures passes { IfOk result (λ v. IsVerdict (schema_view schema.now) policy.now v.impossible) }
-    ensures refused { IfErr result (λ f. f ≢ CheckFault.NoMemory → IsRefused (schema_view schema.now) policy.now f) }
+    ensures refused { IfErr result
+        (λ f. f ≢ CheckFault.NoMemory → IsCheckRefused (schema_view schema.now) policy.now f) }
 {
     let scope = parts_of(alloc, &policy.scope)?;
     let parts = scope.as_slice();

@@ -1,7 +1,9 @@
 //! Whether a schema knows a name.
-ghost use Rattle.std.specs.Prelude.{◌≡◌, is_some};
+ghost use Rattle.std.specs.Prelude.{◌≡◌, is_some, slice_get};
+ghost use Rattle.std.specs.Ordering.{is_lt};
+ghost use Rattle.values.specs.Names.{text_cmp};
 ghost use Rattle.schema.specs.Views.{schema_view};
-ghost use Rattle.validator.specs.inner.Walking.{is_type_of_action, is_declared_action, tested_type_told};
+ghost use Rattle.validator.specs.inner.Walking.{type_at, is_type_of_action, is_declared_action, tested_type_told};
 ghost use Rattle.validator.specs.inner.Walking.{action_told, other_told, entity_told};
 
 use crate::fault::CheckFault;
@@ -18,15 +20,32 @@ fn is_entity_type(schema: &Schema, name: &TypeName) -> bool
     }
 }
 
+/// Whether an action's type comes before a name.
+fn is_before(action: &EntityUid, name: &TypeName) -> bool
+    ensures { result ≡ is_lt (text_cmp action.now.type_name name.now) }
+{
+    action.type_name.cmp(name).is_lt()
+}
+
+/// Whether the action at a place of a list has a type.
+fn has_type_at(actions: &[EntityUid], at: usize, name: &TypeName) -> bool
+    ensures { result ≡ type_at name.now (slice_get actions.now at) }
+{
+    match actions.get(at) {
+        Some(action) => action.type_name.as_str() == name.as_str(),
+        None => false,
+    }
+}
+
+/// Whether some action has this type; takes logarithmic time.
 fn is_type_of_action(schema: &Schema, name: &TypeName) -> bool
     ensures { result ≡ is_type_of_action (schema_view schema.now) name.now }
 {
-    for action in schema.actions() {
-        if action.type_name.as_str() == name.as_str() {
-            return true;
-        }
-    }
-    false
+    schema.is_stated();
+    stated_schemas_are_well_formed();
+    let actions = schema.actions();
+    let first = actions.partition_point(|action| is_before(action, name));
+    has_type_at(actions, first, name)
 }
 
 /// Looked up by its ancestors: just the declared actions have such.

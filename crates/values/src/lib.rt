@@ -8,6 +8,7 @@ mod name;
 mod orders;
 mod path;
 mod request;
+mod shared_text;
 mod type_name;
 mod value;
 
@@ -21,5 +22,6 @@ pub use orders::{
     sets_are_ordered, type_names_are_ordered, values_are_ordered,
 };
 pub use request::Request;
+pub use shared_text::SharedText;
 pub use type_name::TypeName;
 pub use value::{BorrowedKind, Kind, Record, Set, Value, ValueRef};

@@ -9,6 +9,7 @@ ghost use Rattle.plain.specs.Words.{IsPath, AreIdents};
 ghost use Rattle.values.specs.Paths.{path_of};
 
 use crate::path::is_path;
+use crate::shared_text::SharedText;
 use plain::{NoMemory, Text};
 use std::alloc::Global;
 use std::cmp::Ordering;
@@ -21,7 +22,7 @@ use std::marker::Model;
 /// reference guide, grammar: `Path`). Names are equal where their bytes are, and ordered by bytes.
 #[derive(Drop)]
 pub struct TypeName {
-    text: Text,
+    text: SharedText,
 }
 
 impl Model for TypeName {
@@ -44,7 +45,7 @@ impl TypeName {
         if !is_path(text.as_bytes()) {
             return Ok(None);
         }
-        let text = Text::from_str(alloc, text)?;
+        let text = SharedText::from_str(alloc, text)?;
         Ok(Some(TypeName { text }))
     }
 
@@ -60,9 +61,8 @@ impl TypeName {
         for word in more {
             append_word(&mut joined, word)?;
         }
-        Ok(TypeName {
-            text: Text::from_string(joined),
-        })
+        let text = SharedText::from_text(alloc, Text::from_string(joined))?;
+        Ok(TypeName { text })
     }
 
     /// This name in a namespace: `Album` in `Photos` is `Photos::Album`. Fails for memory alone.
@@ -74,9 +74,8 @@ impl TypeName {
         let mut name = String::from_str(alloc, first.as_str())?;
         name.push_str("::")?;
         name.push_str(last.as_str())?;
-        Ok(TypeName {
-            text: Text::from_string(name),
-        })
+        let text = SharedText::from_text(alloc, Text::from_string(name))?;
+        Ok(TypeName { text })
     }
 
     /// The name as a text; takes no memory.
@@ -86,7 +85,8 @@ impl TypeName {
         self.text.as_str()
     }
 
-    /// The same name, or `NoMemory`.
+    /// The same name, its text shared. It takes no memory, and it is `NoMemory` only where the holders of the text are
+    /// as many as can be counted.
     pub fn copy(&self) -> Result<TypeName, NoMemory>
         ensures { IfOk result (λ t. t ≡ self.now) }
     {

@@ -1,4 +1,5 @@
 -- What is known of common types: how large each is when it is written out, and the type itself unless it is too large.
+-- Rules of this product: the limits.
 use Rattle.std.specs.Prelude.{◌≡◌, ℕ, min, List, Option, Some, None}
 use Rattle.schema_types.specs.Qualified.{Qualified, common}
 use Rattle.schema_types.specs.Cedar as cedar

@@ -42,8 +42,8 @@ use Rattle.evaluator.specs.declared.fault.EvalFault.TheVariants.{ArithBoundsErro
 use Rattle.extensions.specs.Decided.{Decided, told}
 use Rattle.extensions.specs.TextsDecided.{decimal_text_decided, network_text_decided, in_either_decided}
 use Rattle.extensions.specs.TextsDecided.{within_decided}
-use Rattle.evaluator.specs.Outcomes.{EvaluationResult, boolean_in, long_in, text_in, entity_in, members_in, decimal_in}
-use Rattle.evaluator.specs.Outcomes.{network_in}
+use Rattle.evaluator.specs.Outcomes.{EvaluationResult, boolean_in, long_in, text_in, entity_uid_in, members_in}
+use Rattle.evaluator.specs.Outcomes.{decimal_in, network_in}
 use Rattle.evaluator.specs.Evaluation.{literal_value, variable_value}
 
 -- the attributes of each stored entity, and whether one is above another
@@ -87,7 +87,7 @@ abbrev pub apply_unary : Unary → PlainValue → EvaluationResult
 apply_unary Not v = and_then (demanded (boolean_in v)) (λ b. truth (not b))
 apply_unary Negate v = and_then (demanded (long_in v)) (λ z. bounded (neg_ℤ z))
 apply_unary (Like pattern) v = and_then (demanded (text_in v)) (λ t. truth (is_match pattern t))
-apply_unary (Is name) v = and_then (demanded (entity_in v)) (λ u. truth (bytes_eq u.type_name name))
+apply_unary (Is name) v = and_then (demanded (entity_uid_in v)) (λ u. truth (bytes_eq u.type_name name))
 
 -- whether one entity is in another
 abbrev pub is_in : DecidedWorld → EntityUid → EntityUid → Bool
@@ -97,7 +97,7 @@ is_in E a b = is_eq (uid_cmp a b) || E.above b a
 abbrev pub in_members : DecidedWorld → EntityUid → List PlainValue → Result Bool EvalFault
 in_members E a [] = Ok false
 in_members E a (v ∷ vs) =
-    and_then (demanded (entity_in v)) (λ b. and_then (in_members E a vs) (λ rest. Ok (is_in E a b || rest)))
+    and_then (demanded (entity_uid_in v)) (λ b. and_then (in_members E a vs) (λ rest. Ok (is_in E a b || rest)))
 
 abbrev pub in_value : DecidedWorld → EntityUid → PlainValue → EvaluationResult
 in_value E a (entity b) = truth (is_in E a b)
@@ -112,7 +112,7 @@ sets f v w = and_then (demanded (members_in v)) (λ x. and_then (demanded (membe
 
 abbrev pub apply_binary : DecidedWorld → Binary → PlainValue → PlainValue → EvaluationResult
 apply_binary E Equal v w = truth (is_eq (value_cmp v w))
-apply_binary E In v w = and_then (demanded (entity_in v)) (λ a. in_value E a w)
+apply_binary E In v w = and_then (demanded (entity_uid_in v)) (λ a. in_value E a w)
 apply_binary E Less v w = numbers (λ x y. truth (int_lt x y)) v w
 apply_binary E LessOrEqual v w = numbers (λ x y. truth (int_le x y)) v w
 apply_binary E Add v w = numbers (λ x y. bounded (x +ℤ y)) v w

@@ -1,6 +1,6 @@
 -- Types above types, as code keeps them: in lines, in each of which a type has the one before it as its only parent.
 use Rattle.std.specs.Prelude.{◌≡◌, ◌↔◌, ◌⊎◌, ◌<◌, ◌≤◌, ◌||◌, ⊤, ℕ, suc, List, [], ◌∷◌, ◌++◌, length, Bool, true, false}
-use Rattle.std.specs.Prelude.{Contains, IsTrue, IsSome, Option, Some, None}
+use Rattle.std.specs.Prelude.{Contains, IsTrue, IsSome, Option, Some, None, is_some}
 use Rattle.std.specs.List.{slice_get}
 use Rattle.std.specs.BTreeMap.{BTreeMap, get, Updates}
 use Rattle.std.specs.BTreeSet.{BTreeSet, contains}
@@ -71,10 +71,28 @@ pub record AddsSome (parents : Parents) (old new : Lines) : Type 0 where
   pub keeps : KeepsLines parents old → KeepsLines parents new
   pub kept : (q : List ℕ) → IsSome (get text_cmp old.line_places q) → IsSome (get text_cmp new.line_places q)
 
--- the only parent of u, where it has one
+-- the only parent of u; None where it has none, or several
 abbrev pub IsOnlyParent : Parents → EntityUid → Option (List ℕ) → Type 0
-IsOnlyParent parents u None = ⊤
+IsOnlyParent parents u None = (x : EntityUid) → parents u ≡ x ∷ [] → ⊥
 IsOnlyParent parents u (Some p) = (x : EntityUid) × (parents u ≡ x ∷ []) × (x.type_name ≡ p)
+
+-- The way up from a type whose only parent is next: on from parent to only parent, lowest first, as long as there is
+-- one that stands nowhere yet, and so many at most.
+pub data LeadsUp (parents : Parents) (stands : List ℕ → Bool) : ℕ → Option (List ℕ) → List (List ℕ) → Type 0 where
+  top : (most : ℕ) → LeadsUp parents stands most None []
+  enough : (next : Option (List ℕ)) → LeadsUp parents stands 0 next []
+  meets : (most : ℕ) (p : List ℕ) → stands p ≡ true → LeadsUp parents stands most (Some p) []
+  goes_on : (most : ℕ) (p : List ℕ) (next : Option (List ℕ)) (way : List (List ℕ)) → stands p ≡ false
+      → IsOnlyParent parents (type_uid p) next → LeadsUp parents stands most next way
+      → LeadsUp parents stands (suc most) (Some p) (p ∷ way)
+
+abbrev pub stands_in : Lines → List ℕ → Bool
+stands_in l n = is_some (get text_cmp l.line_places n)
+
+-- the way up from n
+abbrev pub IsWayUp : Parents → Lines → ℕ → List ℕ → List (List ℕ) → Type 0
+IsWayUp parents l most n way = (next : Option (List ℕ)) × IsOnlyParent parents (type_uid n) next
+    × LeadsUp parents (stands_in l) most next way
 
 -- u is next behind what stands so, and may be of its line
 pub record IsNext (l : Lines) (at u : LinePlace) : Type 0 where

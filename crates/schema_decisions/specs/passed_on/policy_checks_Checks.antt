@@ -1,2 +1,2 @@
 -- What crates above use of `policy_checks`, passed on.
-pub use Rattle.policy_checks.specs.Checks.{IsChecked, IsRefused}
+pub use Rattle.policy_checks.specs.Checks.{IsChecked, AreChecksRefused}

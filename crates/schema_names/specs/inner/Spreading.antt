@@ -1,5 +1,5 @@
 -- Which common types mean no record, as code finds them: round by round.
-use Rattle.std.specs.Prelude.{◌≡◌, ◌⊎◌, ◌<◌, ◌&&◌, ◌++◌, ℕ, List, [], ◌∷◌, map, Contains, Bool, true, not, String}
+use Rattle.std.specs.Prelude.{◌≡◌, ◌⊎◌, ◌<◌, ◌&&◌, ◌++◌, ℕ, List, [], ◌∷◌, Contains, Bool, true, not, String}
 use Rattle.std.specs.Prelude.{Option, Some, None}
 use Rattle.std.specs.List.{list_all, slice_get}
 use Rattle.std.specs.BTreeSet.{BTreeSet, btree_set_len}
@@ -7,8 +7,7 @@ use Rattle.std.specs.declared.alloc.Global.{Global}
 use Rattle.schema_types.specs.Raw.{Raw}
 use Rattle.schema_types.specs.Names.{Scope}
 use Rattle.schema_file.specs.Stated.{EntityTypeOf, UseOf, ActionOf, NamespaceOf}
-use Rattle.schema_names.specs.Qualifying.{CommonOf, common_in, commons_declared, scope_in}
-use Rattle.schema_names.specs.declared.records.Place.{Place}
+use Rattle.schema_names.specs.Qualifying.{CommonOf, commons_declared, scope_in}
 use Rattle.schema_names.specs.Records.{common_meant, is_no_record, MeansNoRecord, SomeIsNoRecord}
 use Rattle.schema_names.specs.inner.Adding.{has_name}
 use Rattle.schema_types.specs.declared.fault.SchemaFault.{SchemaFault}
@@ -54,22 +53,14 @@ pub record Spreads (s : Scope) (cs : List CommonOf) (old new : BTreeSet (String 
       → IsSound ns new
   pub grows : ((new ≡ old) × IsSettled s old cs) ⊎ (btree_set_len old < btree_set_len new)
 
--- what is declared at a place, where something is: of a namespace, of a file, and at places of a list in turn
+-- what is declared at a place, where something is, and at places of a list in turn
 abbrev pub tried_one : Option CommonOf → List CommonOf
 tried_one None = []
 tried_one (Some c) = c ∷ []
 
-abbrev pub tried_of : Option NamespaceOf → ℕ → List CommonOf
-tried_of None i = []
-tried_of (Some n) i = tried_one (slice_get (map (λ c. common_in n.name c) n.commons) i)
-
-abbrev pub tried_at : List NamespaceOf → Option Place → List CommonOf
-tried_at ns None = []
-tried_at ns (Some p) = tried_of (slice_get ns p.namespace) p.common
-
-abbrev pub tried_in_order : List NamespaceOf → List Place → List ℕ → List CommonOf
-tried_in_order ns places [] = []
-tried_in_order ns places (i ∷ is) = tried_at ns (slice_get places i) ++ tried_in_order ns places is
+abbrev pub tried_in_order : List CommonOf → List ℕ → List CommonOf
+tried_in_order cs [] = []
+tried_in_order cs (i ∷ is) = tried_one (slice_get cs i) ++ tried_in_order cs is
 
 -- the set has the common types that mean no record, and so tells it of each type
 pub record ReportsRecords (ns : List NamespaceOf) (known : List ℕ → Bool) : Type 0 where

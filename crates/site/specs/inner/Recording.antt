@@ -9,7 +9,7 @@ use Rattle.policy_grammar.specs.declared.policy.Policy.{Policy}
 use Rattle.schema.specs.Schemas.{StatedSchema}
 use Rattle.entity_worlds.specs.declared.entity.Entity.{Entity}
 use Rattle.entities.specs.Canonical.{canonical_text}
-use Rattle.entities.specs.Entities.{entity_in}
+use Rattle.entities.specs.Entities.{entity_stated_in}
 use Rattle.stamped_store.specs.declared.entry.ReadText.{ReadText}
 use Rattle.stamped_store.specs.declared.entry.Stamp.{Stamp}
 use Rattle.stamped_store.specs.Greatest.{greatest_count}
@@ -47,7 +47,7 @@ put_result impossible (Err f) = Err f
 
 -- some JSON states this entity
 abbrev pub IsStated : StatedSchema → Entity → Type 0
-IsStated schema e = (d : Data) × (entity_in schema d ≡ Ok e)
+IsStated schema e = (d : Data) × (entity_stated_in schema d ≡ Ok e)
 
 -- an entity that JSON states, with its text
 pub record IsStatedBy (schema : StatedSchema) (json : Option Data) (b : ReadText Entity) : Type 0 where
@@ -73,5 +73,5 @@ pub record IsJudged (schema : StatedSchema) (id text : List ℕ) (b : ReadText P
   pub told : IsTrue impossible ↔ IsImpossible schema b.read
 
 -- want of memory, or a fault that is due
-abbrev pub OrMemory : (SiteFault → Type 0) → SiteFault → Type 0
-OrMemory Due f = f ≢ fault.NoMemory → Due f
+abbrev pub OrNoMemory : (SiteFault → Type 0) → SiteFault → Type 0
+OrNoMemory Due f = f ≢ fault.NoMemory → Due f

@@ -4,7 +4,7 @@ use Rattle.policy_grammar.specs.declared.policy.Policy.{Policy}
 use Rattle.entity_worlds.specs.declared.entity.Entity.{Entity}
 use Rattle.stamped_store.specs.Store.{store_of, updates}
 use Rattle.state_messages.specs.declared.update.Update.{Update as SentUpdate}
-use Rattle.state_messages.specs.Updates.{abstract_updates}
+use Rattle.state_messages.specs.Updates.{plain_updates}
 use Rattle.http_service.specs.passed_on.site_runs.{Seen, schema_of, store_in, IsSameSite}
 use Rattle.schema.specs.Schemas.{StatedSchema}
 use Rattle.http_service.specs.passed_on.site_runs.{IsMessageOf}
@@ -13,7 +13,7 @@ use Rattle.site_commands.specs.Beginning.{BeginsWith}
 -- all updates of the message are taken
 abbrev pub TakesState : Seen → List ℕ → Seen → Type 0
 TakesState before bytes after = (us : List (SentUpdate Policy Entity)) × IsMessageOf (schema_of before) bytes us
-    × (store_in after ≡ store_of (updates (store_in before) ++ abstract_updates us)) × IsSameSite before after
+    × (store_in after ≡ store_of (updates (store_in before) ++ plain_updates us)) × IsSameSite before after
 
 -- the site of this name and this schema, with the updates of the state, if there is one
 pub record IsBegunUnder (s : StatedSchema) (name : List ℕ) (state : Option (List ℕ)) (site : Seen) : Type 0 where

@@ -3,7 +3,7 @@ use Rattle.std.specs.Prelude.{◌≡◌, ◌++◌, T, true, List}
 use Rattle.std.specs.List.{AllByRecursion}
 use Rattle.std.specs.Ordering.{is_le}
 use Rattle.std.specs.FinMap.Entries.{is_sorted}
-use Rattle.serde_json.specs.Data.{Data}
+use Rattle.json.specs.Written.{Written}
 use Rattle.values.specs.declared.name.Name.{Name}
 use Rattle.values.specs.Names.{name_cmp}
 use Rattle.stamped_store.specs.declared.entry.Entry.{Entry}
@@ -12,6 +12,7 @@ use Rattle.stamped_store.specs.Deltas.{Summary}
 use Rattle.stamped_store.specs.Store.{Update}
 use Rattle.stamped_store.specs.Stored.{value_at}
 use Rattle.sync_messages.specs.Summaries.{ascend}
+use Rattle.sync_messages.specs.Tokens.{AppendsAll}
 use Rattle.state_messages.specs.inner.Writing.{all_news_json}
 
 -- `left` is what is left of stamps from this name on
@@ -28,8 +29,8 @@ pub record IsAhead (left known : Summary) (us : List Update) : Type 0 where
 
 -- of `all` entries, those `done` were walked over and `rest` is to come: what is news of the former was written behind
 -- what was there before, and what is left of the stamps is enough for the latter and whatever comes next
-abbrev pub IsWalked : {N P : Type 0} → (N → Name) → (known left : Summary) → (before after : List Data)
+abbrev pub IsWalked : {N P : Type 0} → (N → Name) → (known left : Summary) → (before after : Written)
     → (all done rest : List (N × Entry P)) → Type 0
 IsWalked name known left before after all done rest = (next : List Update)
     → IsAhead known known (abstract_entries name all ++ next)
-    → (after ≡ before ++ all_news_json name known done) × IsAhead left known (abstract_entries name rest ++ next)
+    → AppendsAll before after (all_news_json name known done) × IsAhead left known (abstract_entries name rest ++ next)

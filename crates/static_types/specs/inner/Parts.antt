@@ -1,12 +1,12 @@
 -- What a type is made of, layer by layer, wherever it stands.
-use Rattle.std.specs.Prelude.{ℕ, suc, zero, List, map, Bool, true, Option, Some, None}
+use Rattle.std.specs.Prelude.{ℕ, suc, zero, List, map, Bool, true, false, Option, Some, None}
 use Rattle.std.specs.Borrow.{Bor}
 use Rattle.typing.specs.Types as types
 use Rattle.typing.specs.Types.{set_type, record_type}
 use Rattle.typing.specs.Types.{FieldTypes, no_field_types, field_type, Declared, undeclared, declared_as}
 use Rattle.schema_types.specs.CedarViews.{cedar_view, cedar_fields_view}
 use Rattle.static_types.specs.FromSchemas.{static, static_fields}
-use Rattle.static_types.specs.Views.{leaf_view, built_fields, static_view}
+use Rattle.static_types.specs.Views.{leaf_view, built_fields, static_view, held_in, holding}
 use Rattle.static_types.specs.declared.static_type.StaticType.{StaticType}
 use Rattle.static_types.specs.declared.parts.Part.{Part}
 use Rattle.static_types.specs.declared.parts.Part.TheVariants as part
@@ -50,6 +50,19 @@ fields_behind (suc n) (field_type k t r ts) = fields_behind n ts
 abbrev pub before : Option FieldPart → FieldTypes → FieldTypes
 before None ts = no_field_types
 before (Some f) ts = field_type f.key.now (part_view f.part) f.required ts
+
+-- what a part holds; what is declared is lent
+abbrev pub part_held : Part → Bool
+part_held (part.Built t) = (holding t.now).is_held
+part_held (part.Declared t) = false
+
+-- whether a record type that an expression built holds its field of a name
+abbrev pub held_at : List ℕ → List (Bor (List ℕ) × StaticType × Bool) → Bool
+held_at k fs = held_in (map (λ f. (f.0, holding f.1, f.2)) fs) k
+
+abbrev pub found_held : Option (Part × Bool) → Bool
+found_held None = false
+found_held (Some f) = part_held f.0
 
 abbrev pub found_view : Option (Part × Bool) → Declared
 found_view None = undeclared

@@ -4,19 +4,17 @@ use Rattle.std.specs.Str.{bytes_eq}
 use Rattle.typing.specs.Types.{StaticType, entity_type, set_type, decimal_type, ipaddr_type, common, same_requirement}
 use Rattle.typing.specs.Environment.{unexpected}
 use Rattle.typing.specs.Rows.{Row, if_common}
-use Rattle.static_types.specs.declared.static_type.BooleanType.{BooleanType}
-use Rattle.static_types.specs.declared.static_type.BooleanType.TheVariants as truth
 use Rattle.static_types.specs.declared.parts.FieldPart.{FieldPart}
 use Rattle.static_types.specs.declared.parts.Pair.{Pair}
 
-abbrev pub entity_in : StaticType → Option (List ℕ)
-entity_in (entity_type n) = Some n
-entity_in t = None
+abbrev pub entity_type_in : StaticType → Option (List ℕ)
+entity_type_in (entity_type n) = Some n
+entity_type_in t = None
 
 -- of an entity type, or of a set of one
 abbrev pub entities_in : StaticType → Option (List ℕ)
-entities_in (set_type t) = entity_in t
-entities_in t = entity_in t
+entities_in (set_type t) = entity_type_in t
+entities_in t = entity_type_in t
 
 abbrev pub are_unequal : Option (List ℕ) → Option (List ℕ) → Bool
 are_unequal (Some m) (Some n) = not (bytes_eq m n)
@@ -44,13 +42,3 @@ is_decimal t = false
 abbrev pub is_ipaddr : StaticType → Bool
 is_ipaddr ipaddr_type = true
 is_ipaddr t = false
-
--- `&&` and `||` by the booleans that their sides are
-abbrev pub and_of : Option BooleanType → Option BooleanType → BooleanType
-and_of o (Some truth.False) = truth.False
-and_of (Some truth.True) (Some truth.True) = truth.True
-and_of o p = truth.Either
-
-abbrev pub or_of : Option BooleanType → BooleanType
-or_of (Some truth.True) = truth.True
-or_of o = truth.Either

@@ -1,6 +1,6 @@
 -- What crates above use of `entities`, passed on.
 pub use Rattle.entities.specs.Entities.{is_action_type}
-unfoldable pub use Rattle.entities.specs.Entities.{entity_in, shape_of, attributes_in, parent_fits, parents_fit}
+unfoldable pub use Rattle.entities.specs.Entities.{entity_stated_in, shape_of, attributes_in, parent_fits, parents_fit}
 unfoldable pub use Rattle.entities.specs.Entities.{parents_in}
 pub use Rattle.entities.specs.Requests.{StatesRequest}
 unfoldable pub use Rattle.entities.specs.Requests.{context_asked}

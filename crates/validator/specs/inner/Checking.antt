@@ -11,7 +11,7 @@ use Rattle.schema.specs.Views.{environment_view}
 use Rattle.typing.specs.Types.{false_type}
 use Rattle.typing.specs.Environment.{Environment, TypeFault}
 use Rattle.typing.specs.Faults.{Faults}
-use Rattle.type_checker.specs.passed_on.static_types.{environment_of}
+use Rattle.type_checker.specs.passed_on.static_types.{typing_environment_of}
 use Rattle.type_checker.specs.passed_on.static_types.{TypeFault as FoundFault}
 use Rattle.type_checker.specs.passed_on.static_types.{StaticType}
 use Rattle.type_checker.specs.passed_on.static_types.{static_view}
@@ -27,7 +27,7 @@ scope_parts scope =
 
 -- these environments of the schema, as policies are typed in them
 abbrev pub typed_in : StatedSchema → List given.Environment → List Environment
-typed_in s ps = map (λ p. environment_of s (environment_view p)) ps
+typed_in s ps = map (λ p. typing_environment_of s (environment_view p)) ps
 
 -- whether a type that was found is False, or why none was
 abbrev pub ReportsFalse : Result StaticType FoundFault → Result Bool CheckFault → Type 0

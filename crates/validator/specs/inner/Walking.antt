@@ -1,5 +1,6 @@
 -- The walk over the names of an expression, as a function that computes it.
-use Rattle.std.specs.Prelude.{ℕ, List, [], ◌∷◌, map, Bool, ◌||◌, if◌then◌else◌, is_some, ⊤, Result, Ok, Err}
+use Rattle.std.specs.Prelude.{ℕ, List, [], ◌∷◌, map, Bool, false, ◌||◌, if◌then◌else◌, Option, Some, None, is_some}
+use Rattle.std.specs.Prelude.{⊤, Result, Ok, Err}
 use Rattle.std.specs.List.{list_any}
 use Rattle.std.specs.Str.{bytes_eq}
 use Rattle.values.specs.declared.entity_uid.EntityUid.{EntityUid}
@@ -33,6 +34,11 @@ in_turn (r ∷ rs) = and_then r (in_turn rs)
 
 abbrev pub or_fault : CheckFault → Bool → WalkResult
 or_fault f b = if b then Ok tt else Err f
+
+-- whether what may be an action has a type
+abbrev pub type_at : List ℕ → Option EntityUid → Bool
+type_at n None = false
+type_at n (Some u) = bytes_eq u.type_name n
 
 abbrev pub is_type_of_action : StatedSchema → List ℕ → Bool
 is_type_of_action s n = list_any (λ u. bytes_eq u.type_name n) s.actions

@@ -1,7 +1,7 @@
 use Rattle.std.proofs.Common.{◌++◌, ◌∷◌, [], refl, sym, ap, ◌∙◌, arith, length-append, append_assoc}
 use Rattle.std.proofs.lemmas.List.{map-append}
 use Rattle.stamped_store.specs.Store.{abstract_store, store_of, updates}
-use Rattle.state_messages.specs.Updates.{abstract_update, abstract_updates}
+use Rattle.state_messages.specs.Updates.{plain_update, plain_updates}
 use Rattle.merged_states.proofs.StoreLemmas.{stores_none, stores_more}
 use Rattle.merged_states.proofs.joining.take_all.Goals as goal
 
@@ -27,6 +27,6 @@ loop-update-preserved c =
       is_finite = tt;
       rest = append_assoc yielded (item ∷ []) rest ∙ ap (λ us. yielded ++ us) (sym steps) ∙ i.rest;
       count = omega (arith, length-append yielded (item ∷ []));
-      stored = stores_more c.updates_have_one_store.ensures.grouped s (abstract_store c.loop-update.store) (abstract_store c.take_one.new.store) (abstract_updates yielded) (abstract_update item ∷ []) i.stored c.in_ok-take_one.ensures
-          ∙ ap (λ us. store_of (updates s ++ us)) (sym (map-append abstract_update yielded (item ∷ [])));
+      stored = stores_more c.updates_have_one_store.ensures.grouped s (abstract_store c.loop-update.store) (abstract_store c.take_one.new.store) (plain_updates yielded) (plain_update item ∷ []) i.stored c.in_ok-take_one.ensures
+          ∙ ap (λ us. store_of (updates s ++ us)) (sym (map-append plain_update yielded (item ∷ [])));
     }

@@ -1,6 +1,6 @@
 use Rattle.std.proofs.Common.{◌≡◌, ◌++◌, length}
 use Rattle.stamped_store.specs.Store.{abstract_store, store_of, updates}
-use Rattle.state_messages.specs.Updates.{abstract_updates}
+use Rattle.state_messages.specs.Updates.{plain_updates}
 use Rattle.merged_states.proofs.joining.take_all.Given as goal
 
 -- what was yielded is taken
@@ -10,5 +10,5 @@ invariant-loop-update l = record {
   is_finite : (goal.iterator-loop-update).is_finite l.update-iterator;
   rest : l.yielded ++ l.update-iterator.rest.items ≡ l.fn.came.items;
   count : l.taken ≡ length l.yielded;
-  stored : abstract_store l.store ≡ store_of (updates (abstract_store l.fn.store) ++ abstract_updates l.yielded);
+  stored : abstract_store l.store ≡ store_of (updates (abstract_store l.fn.store) ++ plain_updates l.yielded);
 }

@@ -14,4 +14,4 @@ uid type_name id = record { type_name = type_name; id = id }
 pub returns : goal.returns
 returns c =
     ap (λ (name : List ℕ). uid name c.in_ok-id.id) c.in_ok-type_name.ensures
-    ∙ ap (uid (path_name c.args.text.now c.args.tree.now.path)) (c.strings_are_read.ensures.values c.in_ok-id.id (spelling_of c.args.text.now c.args.tree.now.id) c.in_ok-id.ensures)
+    ∙ ap (uid (path_name c.args.text.now c.args.tree.now.path)) (c.in_ok-id.ensures ∙ c.strings_are_read.ensures.values c.in_ok-decoded.decoded (spelling_of c.args.text.now c.args.tree.now.id) c.in_ok-decoded.ensures)

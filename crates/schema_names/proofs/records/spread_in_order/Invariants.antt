@@ -1,16 +1,15 @@
 use Rattle.std.proofs.Common.{map, drop, String, Global}
 use Rattle.std.specs.BTreeSet.{BTreeSet}
 use Rattle.named_types.specs.NamesViews.{scope_of}
-use Rattle.schema_file.specs.StatedViews.{namespace_view}
-use Rattle.schema_names.specs.Qualifying.{commons_declared}
 use Rattle.schema_names.specs.inner.Spreading.{KeepsNames, Spreads, tried_in_order}
+use Rattle.schema_names.specs.inner.Uses.{listed_view}
 use Rattle.schema_names.proofs.records.spread_in_order.Given as goal
 
 -- what trying those that are left makes, trying all makes
 abbrev pub invariant-loop-at : goal.invariant-loop-at
 invariant-loop-at l = record {
-  keeps : KeepsNames (scope_of l.names) (commons_declared (map namespace_view l.stated)) l.fn.known l.known;
+  keeps : KeepsNames (scope_of l.names) (map listed_view l.commons) l.fn.known l.known;
   tries : (last : BTreeSet (String Global))
-      → Spreads (scope_of l.names) (tried_in_order (map namespace_view l.stated) l.places (drop l.at-index l.order)) l.known last
-      → Spreads (scope_of l.names) (tried_in_order (map namespace_view l.stated) l.places l.order) l.fn.known last;
+      → Spreads (scope_of l.names) (tried_in_order (map listed_view l.commons) (drop l.at-index l.order)) l.known last
+      → Spreads (scope_of l.names) (tried_in_order (map listed_view l.commons) l.order) l.fn.known last;
 }

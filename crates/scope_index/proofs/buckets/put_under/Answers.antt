@@ -6,7 +6,7 @@ use Rattle.std.specs.BTreeMap.{get}
 use Rattle.std.specs.Str.{bytes_eq}
 use Rattle.std.proofs.lemmas.Map.Text.{btree_set_updates_text}
 use Rattle.values.specs.Names.{uid_cmp}
-use Rattle.scope_index.specs.inner.Buckets.{in_ids, is_same, IsSameUnder}
+use Rattle.scope_index.specs.Buckets.{in_ids, is_same, IsSameUnder}
 use Rattle.scope_index.proofs.Filing.{turned, same_written, on_err, keys_have}
 use Rattle.scope_index.proofs.buckets.put_under.Goals as goal
 

@@ -5,7 +5,7 @@ use Rattle.std.specs.BTreeMap.{get}
 use Rattle.std.specs.Str.{bytes_eq}
 use Rattle.std.proofs.lemmas.Map.Text.{btree_set_updates_text}
 use Rattle.values.specs.Names.{uid_cmp}
-use Rattle.scope_index.specs.inner.Buckets.{in_ids, Turns}
+use Rattle.scope_index.specs.Buckets.{in_ids, Turns}
 use Rattle.scope_index.proofs.Filing.{turned, nothing_there}
 use Rattle.scope_index.proofs.buckets.strike.Goals as goal
 

@@ -3,7 +3,7 @@ use Rattle.std.specs.Prelude.{ℕ, cond, string_bytes}
 use Rattle.std.specs.Str.{bytes_eq}
 use Rattle.std.proofs.lemmas.Map.Text.{btree_map_updates_text}
 use Rattle.scope_index.specs.Keys.{key_at}
-use Rattle.scope_index.specs.inner.Buckets.{TurnsAt, AreSame}
+use Rattle.scope_index.specs.Buckets.{TurnsAt, AreSame}
 use Rattle.scope_index.proofs.Filing.{entered, undone, still_filed, on_ok, on_err, of_ok, of_err}
 use Rattle.scope_index.proofs.entries.enter.Goals as goal
 

@@ -1,6 +1,6 @@
 use Rattle.std.proofs.Common.{inr}
 use Rattle.std.specs.Process.{exit_status}
-use Rattle.schema_decisions.specs.passed_on.policy_checks.{IsRefused}
+use Rattle.schema_decisions.specs.passed_on.policy_checks.{AreChecksRefused}
 use Rattle.site_commands.proofs.EventLemmas.{runs_as}
 use Rattle.site_commands.proofs.RefusalLemmas.{refused_for}
 use Rattle.site_commands.proofs.commands.check.Goals as goal
@@ -8,6 +8,6 @@ use Rattle.site_commands.proofs.commands.check.Goals as goal
 pub returns-in-Err : goal.returns-in-Err
 returns-in-Err g c =
     runs_as g.H.Host.does _ _ _ _ (λ events told.
-    inr (refused_for (IsRefused c.args.schema.now c.args.policies.now) c.in-Err.refusal (exit_status c.report_refusal.result) c.in-Err.ensures.refused
+    inr (refused_for (AreChecksRefused c.args.schema.now c.args.policies.now) c.in-Err.refusal (exit_status c.report_refusal.result) c.in-Err.ensures.refused
     events told))
     c.report_refusal.ensures

@@ -1,5 +1,5 @@
 use Rattle.std.specs.Process.{exit_status}
-use Rattle.decision_texts.specs.Decisions.{IsDecided, IsRefused}
+use Rattle.decision_texts.specs.Decisions.{IsDecided, IsDecisionRefused}
 use Rattle.site_commands.proofs.EventLemmas.{runs_as}
 use Rattle.site_commands.proofs.RefusalLemmas.{line_refused}
 use Rattle.site_commands.proofs.commands.judge_bare.Goals as goal
@@ -7,6 +7,6 @@ use Rattle.site_commands.proofs.commands.judge_bare.Goals as goal
 pub returns-in-Err : goal.returns-in-Err
 returns-in-Err g c =
     runs_as g.H.Host.does _ _ _ _ (
-    line_refused (IsRefused c.args.policies.now c.args.entities.now c.args.request.now) (IsDecided c.args.policies.now c.args.entities.now c.args.request.now) c.in-Err.refusal
+    line_refused (IsDecisionRefused c.args.policies.now c.args.entities.now c.args.request.now) (IsDecided c.args.policies.now c.args.entities.now c.args.request.now) c.in-Err.refusal
     (exit_status c.report_refusal.result) c.in-Err.ensures.refused)
     c.report_refusal.ensures

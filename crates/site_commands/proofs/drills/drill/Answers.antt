@@ -1,6 +1,6 @@
 use Rattle.std.proofs.Common.{inl}
 use Rattle.std.specs.Process.{exit_status}
-use Rattle.drill_scripts.specs.Drills.{IsDrilled, IsRefused}
+use Rattle.drill_scripts.specs.Drills.{IsDrilled, IsDrillRefused}
 use Rattle.site_commands.proofs.EventLemmas.{runs_as}
 use Rattle.site_commands.proofs.RefusalLemmas.{line_refused}
 use Rattle.site_commands.proofs.drills.drill.Goals as goal
@@ -12,6 +12,6 @@ returns-in-Ok g c =
 pub returns-in-Err : goal.returns-in-Err
 returns-in-Err g c =
     runs_as g.H.Host.does _ _ _ _ (
-    line_refused (IsRefused c.args.sites c.args.schema.now c.args.script.now) (IsDrilled c.args.sites c.args.schema.now c.args.script.now) c.in-Err.refusal
+    line_refused (IsDrillRefused c.args.sites c.args.schema.now c.args.script.now) (IsDrilled c.args.sites c.args.schema.now c.args.script.now) c.in-Err.refusal
     (exit_status c.report_refusal.result) c.in-Err.ensures.refused)
     c.report_refusal.ensures

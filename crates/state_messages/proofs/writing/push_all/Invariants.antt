@@ -1,6 +1,5 @@
 use Rattle.std.proofs.Common.{◌≡◌, ◌++◌, map, true}
 use Rattle.std.specs.Map.Iter.{deref_pair}
-use Rattle.serde_json.specs.View.{view}
 use Rattle.sync_messages.specs.Summaries.{ascend}
 use Rattle.state_messages.specs.inner.Walking.{IsWalked}
 use Rattle.state_messages.proofs.writing.push_all.Given as goal
@@ -10,5 +9,5 @@ abbrev pub invariant-loop-name : goal.invariant-loop-name
 invariant-loop-name g l = record {
   rest : map deref_pair l.yielded ++ l.name-iterator ≡ l.fn.entries;
   ascending : ascend l.left ≡ true;
-  walked : IsWalked g.N.Lent.named l.known l.left (map view l.fn.items.items) (map view l.items.items) l.fn.entries (map deref_pair l.yielded) l.name-iterator;
+  walked : IsWalked g.N.Lent.named l.known l.left l.fn.out l.out l.fn.entries (map deref_pair l.yielded) l.name-iterator;
 }

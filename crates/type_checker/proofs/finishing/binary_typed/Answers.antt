@@ -15,5 +15,5 @@ returns c = λ K after a b n h g.
     let E = typing_environment c.args.env in
     let t = typed_so E K after b c.in-Ok.is g in
     let op = c.args.operator in
-    row_judged E K after (form.Binary op a b) _ _ _ c.binary_type.ensures c.typed_row.ensures t.0
+    row_judged E K after (form.Binary op a b) _ _ _ c.binary_type.ensures.row c.typed_row.ensures t.0
     (λ u e. typing.types_binary op a b n h t.1 e) (λ m e. faults.fault_of_binary op a b n h t.1 e)

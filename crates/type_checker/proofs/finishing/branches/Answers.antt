@@ -9,4 +9,4 @@ returns-in-Err c = λ env K after a b x h g n.
 pub returns : goal.returns
 returns c = λ env K after a b x h g.
     let t = typed_so env K after x c.in-Ok.is g in
-    branches_judged env K after a b x c.args.then c.in-Ok.other _ _ _ h t.1 c.common.ensures c.branch_type-kind.ensures c.with_both-row.ensures t.0
+    branches_judged env K after a b x c.args.then c.in-Ok.other _ _ _ h t.1 c.common.ensures.is c.branch_type-kind.ensures c.with_both-row.ensures t.0

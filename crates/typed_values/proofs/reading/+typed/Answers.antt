@@ -12,13 +12,13 @@ pub typed_items-returns-in_err-value : goal.typed_items-returns-in_err-value
 typed_items-returns-in_err-value t c =
     let p = err_from_is_err_and c.from_residual.result c.from_residual.ensures.1 in
     rw (p.1, p.2) (item_ends (cedar_view c.args.ty.now) c.deref-item-items.result.now c.loop-item.item-index c.item-item.result c.loop-item.values.items _ c.in_err-value.field-0.0
-    c.loop-item-test.true c.item-item.is c.in_err-value.ensures c.loop-item.invariant)
+    c.loop-item-test.true c.item-item.is c.in_err-value.ensures.reads c.loop-item.invariant)
 
 pub typed_items-loop-item-preserved : goal.typed_items-loop-item-preserved
 typed_items-loop-item-preserved t c =
     let e : c.push.new.self.items ≡ c.loop-item.values.items ++ c.in_ok-value.value ∷ [] = c.in_ok-push.ensures.items in
     rw e (item_goes (cedar_view c.args.ty.now) c.deref-item-items.result.now c.loop-item.item-index c.item-item.result c.loop-item.values.items c.in_ok-value.value _
-    c.loop-item-test.true c.item-item.is c.in_ok-value.ensures c.loop-item.invariant)
+    c.loop-item-test.true c.item-item.is c.in_ok-value.ensures.reads c.loop-item.invariant)
 
 pub typed_items-returns : goal.typed_items-returns
 typed_items-returns t c = items_done (cedar_view c.args.ty.now) c.deref-item-items.result.now c.loop-item.item-index c.loop-item.values.items _ c.loop-item-test.false c.loop-item.invariant
@@ -46,7 +46,7 @@ typed_members-returns-in_err-value t c =
     let here = c.loop-key.invariant.0 ∙ ap (λ (es : List Entry). with_front c.loop-key.record (typed_members (cedar_fields_view c.loop-key.rest.now) (members_view es))) c.in-Some.ensures.steps in
     let left = ahead c.as_str-name.result.now (cedar_fields_view c.loop-key.rest.now) gs e c.next.new.self c.loop-key.record _ c.as_str-name.ensures.value c.from_name-rest.ensures order here in
     rw (p.1, p.2) (member_ends gs e c.next.new.self (cedar_view c.in-Some-declared.ty.now) c.loop-key.record _ c.in_err-value.field-0.0
-    (c.in-Some-declared.ensures ∙ ap (λ (k : List ℕ). declared_at k gs) c.as_str-name.ensures.value) c.in_err-value.ensures left)
+    (c.in-Some-declared.ensures ∙ ap (λ (k : List ℕ). declared_at k gs) c.as_str-name.ensures.value) c.in_err-value.ensures.reads left)
 
 pub typed_members-loop-key-preserved : goal.typed_members-loop-key-preserved
 typed_members-loop-key-preserved t c =
@@ -59,7 +59,7 @@ typed_members-loop-key-preserved t c =
     let last = pushed c.loop-key.record c.insert.new.self e c.next.new.self c.in_ok-name.name c.in_ok-value.value c.in_ok-insert.ensures.ok named order in
     rw last (
       member_goes gs e c.next.new.self (cedar_view c.in-Some-declared.ty.now) c.loop-key.record c.in_ok-value.value _
-          (c.in-Some-declared.ensures ∙ ap (λ (k : List ℕ). declared_at k gs) c.as_str-name.ensures.value) c.in_ok-value.ensures left,
+          (c.in-Some-declared.ensures ∙ ap (λ (k : List ℕ). declared_at k gs) c.as_str-name.ensures.value) c.in_ok-value.ensures.reads left,
       next_ordered c.loop-key.record e c.next.new.self c.in_ok-value.value order,
     )
 

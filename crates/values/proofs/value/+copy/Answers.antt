@@ -1,9 +1,9 @@
 use Rattle.std.proofs.Common.{◌≡◌, [], ◌<◌, ◌∷◌, ◌++◌, arith, sym, ap, ◌∙◌, subst, append_assoc, string_bytes, string_cmp}
 use Rattle.std.specs.List.Sorted.{IsStrictlySortedBy}
 use Rattle.std.specs.Map.{keys_of}
-use Rattle.values.specs.Values.{set, record_of, height, heights, field_heights, values_of, fields_of}
+use Rattle.values.specs.Values.{height, heights, field_heights, values_of, fields_of}
 use Rattle.std.proofs.lemmas.List.{append-nil}
-use Rattle.values.specs.ValueView.{of_kind, of_entries}
+use Rattle.values.specs.ValueView.{of_entries}
 use Rattle.values.proofs.Records.{Entry, insertion, next_set}
 use Rattle.values.proofs.Depths.{member_height, field_height}
 use Rattle.values.proofs.value.+copy.Goals as goal

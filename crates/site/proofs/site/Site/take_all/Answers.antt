@@ -7,8 +7,8 @@ use Rattle.schema.specs.SchemaEntries.{SchemaEntries}
 use Rattle.schema.specs.Views.{schema_view}
 use Rattle.stamped_store.specs.Store.{store_of, updates}
 use Rattle.state_messages.specs.declared.update.Update.{Update}
-use Rattle.state_messages.specs.Updates.{abstract_update, abstract_updates}
-use Rattle.site.specs.Admitted.{IsValid}
+use Rattle.state_messages.specs.Updates.{plain_update, plain_updates}
+use Rattle.site.specs.Admitted.{IsValidUnder}
 use Rattle.site.specs.Seen.{schema_of, store_in}
 use Rattle.site.proofs.Taking.{stores_none, stores_more, stores_first}
 use Rattle.site.proofs.site.Site.take_all.Goals as goal
@@ -22,15 +22,15 @@ loop-update-init c =
       rest = rest;
       count = refl;
       same = (refl, refl);
-      valid = subst (λ (us : List (Update Policy Entity)). AllByRecursion (IsValid (schema_of c.args.self.now)) us) (sym rest) c.requires;
+      valid = subst (λ (us : List (Update Policy Entity)). AllByRecursion (IsValidUnder (schema_of c.args.self.now)) us) (sym rest) c.requires;
       stored = stores_none c.updates_have_one_store.ensures.own (store_in c.args.self.now);
     }
 
 pub take_one-requires : goal.take_one-requires
 take_one-requires c =
     let i = c.loop-update.invariant in
-    subst (λ (k : SchemaEntries). IsValid (schema_view k) c.in-Some.update) (sym i.same.0)
-    (subst (λ (us : List (Update Policy Entity)). AllByRecursion (IsValid (schema_of c.args.self.now)) us) c.in-Some.ensures.steps.0 i.valid).0
+    subst (λ (k : SchemaEntries). IsValidUnder (schema_view k) c.in-Some.update) (sym i.same.0)
+    (subst (λ (us : List (Update Policy Entity)). AllByRecursion (IsValidUnder (schema_of c.args.self.now)) us) c.in-Some.ensures.steps.0 i.valid).0
 
 pub loop-update-preserved : goal.loop-update-preserved
 loop-update-preserved c =
@@ -46,14 +46,14 @@ loop-update-preserved c =
       rest = append_assoc yielded (item ∷ []) rest ∙ ap (λ us. yielded ++ us) (sym steps) ∙ i.rest;
       count = omega (arith, length-append yielded (item ∷ []));
       same = (c.take_one.ensures.same.0 ∙ i.same.0, c.take_one.ensures.same.1 ∙ i.same.1);
-      valid = (subst (λ (us : List (Update Policy Entity)). AllByRecursion (IsValid (schema_of c.args.self.now)) us) steps i.valid).1;
-      stored = stores_more c.updates_have_one_store.ensures.grouped s (store_in c.loop-update.self) (store_in c.take_one.new.self) (abstract_updates yielded) (abstract_update item ∷ []) i.stored (c.if-not-take_one.ensures.taken refl)
-          ∙ ap (λ us. store_of (updates s ++ us)) (sym (map-append abstract_update yielded (item ∷ [])));
+      valid = (subst (λ (us : List (Update Policy Entity)). AllByRecursion (IsValidUnder (schema_of c.args.self.now)) us) steps i.valid).1;
+      stored = stores_more c.updates_have_one_store.ensures.grouped s (store_in c.loop-update.self) (store_in c.take_one.new.self) (plain_updates yielded) (plain_update item ∷ []) i.stored (c.if-not-take_one.ensures.taken refl)
+          ∙ ap (λ us. store_of (updates s ++ us)) (sym (map-append plain_update yielded (item ∷ [])));
     }
 
 pub returns-then-not-take_one-clause-takes : goal.returns-then-not-take_one-clause-takes
 returns-then-not-take_one-clause-takes c =
     let i = c.loop-update.invariant in
-    stores_first abstract_update (store_in c.args.self.now) (store_in c.take_one.new.self) c.loop-update.taken c.loop-update.yielded c.next.new.self.rest.items c.args.updates.items c.in-Some.update
+    stores_first plain_update (store_in c.args.self.now) (store_in c.take_one.new.self) c.loop-update.taken c.loop-update.yielded c.next.new.self.rest.items c.args.updates.items c.in-Some.update
     (ap (λ us. c.loop-update.yielded ++ us) (sym c.in-Some.ensures.steps.0) ∙ i.rest) i.count
     (c.if-not-take_one.ensures.refused refl ∙ i.stored)

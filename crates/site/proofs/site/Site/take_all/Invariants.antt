@@ -1,8 +1,8 @@
 use Rattle.std.proofs.Common.{◌≡◌, ◌++◌, length}
 use Rattle.std.specs.List.{AllByRecursion}
 use Rattle.stamped_store.specs.Store.{store_of, updates}
-use Rattle.state_messages.specs.Updates.{abstract_updates}
-use Rattle.site.specs.Admitted.{IsValid}
+use Rattle.state_messages.specs.Updates.{plain_updates}
+use Rattle.site.specs.Admitted.{IsValidUnder}
 use Rattle.site.specs.Seen.{schema_of, store_in, IsSameSite}
 use Rattle.site.proofs.site.Site.take_all.Given as goal
 
@@ -14,6 +14,6 @@ invariant-loop-update l = record {
   rest : l.yielded ++ l.update-iterator.rest.items ≡ l.fn.updates.items;
   count : l.taken ≡ length l.yielded;
   same : IsSameSite l.fn.self l.self;
-  valid : AllByRecursion (IsValid (schema_of l.fn.self)) l.update-iterator.rest.items;
-  stored : store_in l.self ≡ store_of (updates (store_in l.fn.self) ++ abstract_updates l.yielded);
+  valid : AllByRecursion (IsValidUnder (schema_of l.fn.self)) l.update-iterator.rest.items;
+  stored : store_in l.self ≡ store_of (updates (store_in l.fn.self) ++ plain_updates l.yielded);
 }

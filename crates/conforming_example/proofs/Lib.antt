@@ -1,0 +1,5 @@
+mod ExampleText
+mod ExampleStated
+mod ExampleRead
+mod ExampleConforms
+mod ExamplePasses

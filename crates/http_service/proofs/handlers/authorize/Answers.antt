@@ -1,0 +1,11 @@
+use Rattle.std.proofs.Common.{Err, refl}
+use Rattle.service_replies.specs.passed_on.site_SiteFault_variants as fault
+use Rattle.site_runs.specs.declared.input.Input.TheVariants as input
+use Rattle.site_runs.specs.declared.reply.Reply.TheVariants as reply
+use Rattle.http_service.proofs.Dealt.{asked_of}
+use Rattle.http_service.proofs.handlers.authorize.Goals as goal
+
+pub returns-clause-reply : goal.returns-clause-reply
+returns-clause-reply c =
+    asked_of c.args.site.now (input.Authorize c.args.body.now) (reply.Answered c.authorize_bytes-outcome.result) (reply.Answered (Err fault.NoMemory))
+    _ _ _ (c.authorize_bytes-outcome.ensures.answers, refl) (tt, refl) refl c.report_answer.ensures.reply

@@ -1,0 +1,13 @@
+use Rattle.http_service.proofs.Dealt.{put_text, put_other}
+use Rattle.http_service.proofs.handlers.put_policy.Goals as goal
+
+pub returns-in-Some-clause-reply : goal.returns-in-Some-clause-reply
+returns-in-Some-clause-reply c =
+    put_text c.args.site.now c.put_policy-outcome.new.self c.args.body.now c.args.id.now c.in-Some.policy.now
+    c.put_policy-outcome.result _ _ _ c.in-Some.ensures.0 c.in-Some.ensures.1 c.put_policy-outcome.ensures.puts
+    c.put_policy-outcome.ensures.same c.report_put.ensures.status c.report_put.ensures.body
+
+pub returns-in-None-clause-reply : goal.returns-in-None-clause-reply
+returns-in-None-clause-reply c =
+    put_other c.args.site.now c.args.body.now c.args.id.now c.not_text.result _ _ _ c.in-None.ensures
+    c.not_text.ensures c.report_fault.ensures.status c.report_fault.ensures.body

@@ -1,0 +1,11 @@
+use Rattle.std.proofs.Common.{Err, refl}
+use Rattle.service_replies.specs.passed_on.site_SiteFault_variants as fault
+use Rattle.site_runs.specs.declared.input.Input.TheVariants as input
+use Rattle.site_runs.specs.declared.reply.Reply.TheVariants as reply
+use Rattle.http_service.proofs.Dealt.{asked_of}
+use Rattle.http_service.proofs.handlers.summary.Goals as goal
+
+pub returns-clause-reply : goal.returns-clause-reply
+returns-clause-reply c =
+    asked_of c.args.site.now input.Summary (reply.Written c.summary_bytes-outcome.result) (reply.Written (Err fault.NoMemory))
+    _ _ _ (c.summary_bytes-outcome.ensures, refl) (tt, refl) refl c.report_message.ensures.reply

@@ -1,0 +1,21 @@
+-- JSON that is written token by token, and not built as a value first.
+-- Source: RFC 8259, section 2: a text of JSON is a sequence of tokens.
+use Rattle.std.specs.Prelude.{◌≡◌, ◌++◌, List, [], ◌∷◌}
+use Rattle.json.specs.Token.{Token}
+use Rattle.json.specs.Tree.{json_tokens}
+use Rattle.json.specs.Written.{Written}
+use Rattle.serde_json.specs.Data.{Data}
+use Rattle.serde_json.specs.Written.{outline}
+
+abbrev pub tokens_of : Data → List Token
+tokens_of d = json_tokens (outline d)
+
+-- those of several values, one value behind another
+abbrev pub tokens_of_all : List Data → List Token
+tokens_of_all [] = []
+tokens_of_all (d ∷ ds) = tokens_of d ++ tokens_of_all ds
+
+-- these tokens were written behind those before, and what the text began with stays
+pub record Adds (old new : Written) (ts : List Token) : Type 0 where
+  pub before : new.before ≡ old.before
+  pub tokens : new.tokens ≡ old.tokens ++ ts
