@@ -10,6 +10,8 @@
 #                                                       and 10,000)
 #   bench/site.sh take [COUNT ..]                       one update of a state of so many that the site begins with
 #                                                       (default: 1,000, 10,000 and 100,000)
+#   bench/site.sh write [COUNT ..]                      a name of a summary and of a state that it replies with, asked
+#                                                       for once more (default: 1,000 and 10,000)
 #
 # Half of a message's updates are policies with a condition, half entities with two attributes and a parent. What HTTP
 # takes is taken off by a run with requests as long of a path that is none. PROGRAM names another binary. Needs python3,
@@ -201,9 +203,20 @@ def take(room):
         print(f"{count:>9} {len(state) / 1e6:>7.2f} {each:>23.0f} {seconds:>8.2f} {kib:>9}", flush=True)
 
 
-DEEDS = {"authorize": authorize, "put": put, "take": take}
+def write(room):
+    print(f"{'stored':>9} {'what':>9} {'instructions a name':>20}")
+    for count in map(int, SIZES or ("1000", "10000")):
+        room.begins_with(message(count // 2, count - count // 2))
+        for what in ("summary", "state"):
+            asked = [("GET", f"/v1/{what}", b"")]
+            room.try_out(asked)
+            less, more = room.instructions(asked + idle(asked)), room.instructions(asked * 2)
+            print(f"{count:>9} {what:>9} {(more - less) / count:>20.1f}", flush=True)
+
+
+DEEDS = {"authorize": authorize, "put": put, "take": take, "write": write}
 if WHAT not in DEEDS:
-    sys.exit("bench/site.sh authorize, put or take, and perhaps sizes")
+    sys.exit("bench/site.sh authorize, put, take or write, and perhaps sizes")
 with tempfile.TemporaryDirectory() as folder:
     DEEDS[WHAT](Room(folder))
 P
