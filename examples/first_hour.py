@@ -27,13 +27,15 @@ PAGES = (
     ("docs/operating.md", "clinic", "other=http://127.0.0.1:7000"),
     ("examples/tinytodo/README.md", "tinytodo", ""),
 )
-TYPED = re.compile(r"(cd|cedar_site (check|decide|serve|pull|merge|drill)|curl|while) |\w+=http")
+TYPED = re.compile(r"(cd|cedar_site (check|decide|load|serve|pull|merge|drill)|curl|while) |\w+=http")
 # what a block is given that the page has not made, and what it prints in this order, by its first words
 GIVEN = {"cedar_site merge": "cp kept.json a.json; cp kept.json b.json"}
 WANTED = {
     "cd examples/photos": [r'\{"cycle":\[\],"decision":"Allow","errors":\[\],"reason":\["family-sees-summer"\]\}'],
     "cd ../clinic": ["listening ", r'\{"taken":1\}'],
     "cedar_site serve": ["listening "],
+    "cedar_site load --schema schema.json --site files --policies policies.cedar \\\n"
+    "    --entities entities.json > begun.json\ncedar_site serve": ["listening "],
     "at=": [r'"count":1,.*"site":"1"', "permit", r'"decision":', r'"kind":"state"', r'\{"taken":0\}'],
     "curl -sSf $at/v1/summary": [r'\{"taken":0\}'],
     "cedar_site serve --schema schema.json --site 1 --listen 127.0.0.1:7000 &": [

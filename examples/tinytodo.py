@@ -3,18 +3,22 @@
 
     [PROGRAM=FILE] examples/tinytodo.py
 
-Each policy has to pass the check under the schema first. The last line is `N passed, M failed`. PROGRAM names another
-binary than the built one. Standard library alone.
+Each policy has to pass the check under the schema first. Each request is asked twice: of the files, and of a site that begins
+with the state that the files are loaded into. The last line is `N passed, M failed`. PROGRAM names another binary than the built
+one. Standard library alone.
 """
+import http.client
 import os
+import socket
 import subprocess
 import sys
+import tempfile
 
 HERE = os.path.dirname(os.path.abspath(__file__))
 PROGRAM = os.path.realpath(os.environ.get("PROGRAM") or f"{HERE}/../crates/cedar_site/out/cedar_site")
 FOLDER = f"{HERE}/tinytodo"
 SCHEMA = ("--schema", "schema.json")
-GIVEN = (*SCHEMA, "--policies", "policies.cedar", "--entities", "entities.json")
+FILES = ("--policies", "policies.cedar", "--entities", "entities.json")
 POLICIES = ("anyone-creates", "owner", "shared", "editors", "admins", "interns")
 
 
@@ -24,22 +28,65 @@ def told(*words):
     return done.returncode, done.stdout, done.stderr
 
 
-def asked():
-    """What is asked of the program: a name, the words of a command, and what it is to print."""
-    yield "check", ("check", *SCHEMA, "policies.cedar"), "".join(f'{{"id":"{it}","verdict":"accepted"}}\n' for it in POLICIES)
+def answers():
+    """The requests, each with its answer."""
     with open(f"{FOLDER}/answers.txt", encoding="utf-8") as file:
         for line in file:
             name, _, answer = line.partition(" ")
-            yield name, ("decide", *GIVEN, "--request", f"requests/{name}.json"), answer
+            yield f"requests/{name}.json", answer
+
+
+def of_files():
+    """What is asked of the files: its name, what it is to come to, and what it came to."""
+    verdicts = "".join(f'{{"id":"{it}","verdict":"accepted"}}\n' for it in POLICIES)
+    yield "check", (0, verdicts, ""), told("check", *SCHEMA, "policies.cedar")
+    for request, answer in answers():
+        yield request, (0, answer, ""), told("decide", *SCHEMA, *FILES, "--request", request)
+
+
+def free_address():
+    """An address of this machine that nobody listens at."""
+    with socket.socket() as it:
+        it.bind(("127.0.0.1", 0))
+        return f"127.0.0.1:{it.getsockname()[1]}"
+
+
+def authorized(address, request):
+    """The status and the answer of a site to a request."""
+    with open(f"{FOLDER}/{request}", "rb") as file:
+        body = file.read()
+    connection = http.client.HTTPConnection(address, timeout=20)
+    connection.request("POST", "/v1/authorize", body, {"Connection": "close"})
+    reply = connection.getresponse()
+    status, answer = reply.status, reply.read().decode()
+    connection.close()
+    return status, f"{answer}\n"
+
+
+def of_a_site():
+    """The same of a site that begins with what the files are loaded into."""
+    status, state, faults = told("load", *SCHEMA, "--site", "files", *FILES)
+    yield "load", (0, ""), (status, faults)
+    with tempfile.NamedTemporaryFile("w", suffix=".json") as file:
+        file.write(state)
+        file.flush()
+        address, asked = free_address(), list(answers())
+        words = ("serve", *SCHEMA, "--site", "todo", "--listen", address, "--state", file.name)
+        with subprocess.Popen([PROGRAM, *words, "--connections", str(len(asked))], cwd=FOLDER, stdout=subprocess.PIPE) as site:
+            # it listens once it says so
+            site.stdout.readline()
+            for request, answer in asked:
+                yield f"{request} of a site", (200, answer), authorized(address, request)
+            yield "the site's end", 0, site.wait(20)
 
 
 def main():
     passed = failed = 0
-    for name, words, wanted in asked():
-        came = told(*words)
-        passed, failed = passed + (came == (0, wanted, "")), failed + (came != (0, wanted, ""))
-        if came != (0, wanted, ""):
-            print(f"{name}: wanted: {wanted!r} came: {came!r}")
+    for ask in (of_files, of_a_site):
+        for name, wanted, came in ask():
+            passed, failed = passed + (came == wanted), failed + (came != wanted)
+            if came != wanted:
+                print(f"{name}: wanted: {wanted!r} came: {came!r}")
     print(f"{passed} passed, {failed} failed")
     return 1 if failed else 0
 

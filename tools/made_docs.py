@@ -54,8 +54,7 @@ Made from the sources by `tools/made_docs.py`: to change it, change a head comme
 The files of specs/, highest crate first, each with what it defines, in short, and its source.
 **With a number**, and with its relations that a public contract cites (or functions, where there
 are none): the contract of a whole run, `site_commands::run`, rests on so many of its lines
-(docs/reading.md); these stand in the order in which a reader meets their names, and behind *types*
-the files of src/ whose types they name.
+(docs/reading.md); these stand in the order in which a reader meets their names.
 **Without one**: of laws (docs/proved.md), and of what code shows to contracts; only those that have
 a public source. `tools/made_docs.py --where NAME` tells of any name.
 
@@ -285,14 +284,13 @@ def where(name):
 
 def definitions():
     walk = reading_list.Walk()
-    cited, (files, types), lines = cited_names(walk), reached(), [DEFINITIONS]
+    cited, (files, _), lines = cited_names(walk), reached(), [DEFINITIONS]
     for crate in reversed(products()):
         modules = dict(modules_of(crate))
         counted = {it: lines for it, lines in files.get(crate, {}).items() if it in modules}
-        named = f"types: {', '.join(types[crate])}" if crate in types else ""
         others = [it for it in modules if it not in counted and source(head_of(it), "") not in ("", "ours")]
         told = [*counted, *others]
-        lines += [f"## `{crate}`{'; ' if named else ''}{named}", ""] if told else []
+        lines += [f"## `{crate}`", ""] if told else []
         for path, number in counted.items():
             names = names_of(walk, crate, path, modules[path], cited)
             lines += wrapped(f"- {modules[path]} {number}: {told_of(head_of(path))}. {names}".rstrip())

@@ -559,6 +559,7 @@ KINDS = {
     "checks": Checks,
     "stored": Stored,
     "runs": Runs,
+    "loads": Runs,
     "merge": Merges,
     "pull": Pulls,
 }

@@ -3,7 +3,7 @@ use Rattle.std.proofs.Common.{◌≡◌, ◌<◌, ◌≤◌, ◌∙◌, ◌⊎�
 use Rattle.stamped_store.specs.SiteNames.{IsSiteName}
 use Rattle.clap.specs.Words.{Row, Text, HasKind, first_of, fault_of, kind_of, subcommand_of, subcommand_rows_of, subcommand_name_of}
 use Rattle.command_lines.specs.declared.line.Line.{Line}
-use Rattle.command_lines.specs.declared.line.Line.TheVariants.{Check, Decide, Serve, Pull, Merge, Drill}
+use Rattle.command_lines.specs.declared.line.Line.TheVariants.{Check, Decide, Load, Serve, Pull, Merge, Drill}
 use Rattle.command_lines.specs.Lines.{IsLineOf, IsGiven, IsGivenSite, IsGivenNoSite, IsGivenNumber, MayBeGivenNumber, IsNumberIn, IsNoLine, IsOfNoSite, IsNamed, HasSites}
 use Rattle.clap.specs.declared.error.Error.{Error}
 use Rattle.clap.specs.declared.error.ErrorKind.{ErrorKind}
@@ -43,13 +43,14 @@ met_is m name rows result e f =
 
 -- of another word there is no command
 pub unknown_word : (word : Text) (rows : List Row) → ¬ (word ≡ codes "check") → ¬ (word ≡ codes "decide")
-    → ¬ (word ≡ codes "serve") → ¬ (word ≡ codes "pull") → ¬ (word ≡ codes "merge") → ¬ (word ≡ codes "drill") → (line : Line) → IsLineOf word rows line → ⊥
-unknown_word word rows a b c d e f (Check schema policies) is = a (sym is.0)
-unknown_word word rows a b c d e f (Decide schema policies entities request) is = b (sym is.0)
-unknown_word word rows a b c d e f (Serve schema site listen state connections) is = c (sym is.0)
-unknown_word word rows a b c d e f (Pull schema site from state) is = d (sym is.0)
-unknown_word word rows a b c d e f (Merge schema first second) is = e (sym is.0)
-unknown_word word rows a b c d e f (Drill schema sites script) is = f (sym is.0)
+    → ¬ (word ≡ codes "load") → ¬ (word ≡ codes "serve") → ¬ (word ≡ codes "pull") → ¬ (word ≡ codes "merge") → ¬ (word ≡ codes "drill") → (line : Line) → IsLineOf word rows line → ⊥
+unknown_word word rows a b l c d e f (Check schema policies) is = a (sym is.0)
+unknown_word word rows a b l c d e f (Decide schema policies entities request) is = b (sym is.0)
+unknown_word word rows a b l c d e f (Load schema site policies entities state) is = l (sym is.0)
+unknown_word word rows a b l c d e f (Serve schema site listen state connections) is = c (sym is.0)
+unknown_word word rows a b l c d e f (Pull schema site from state) is = d (sym is.0)
+unknown_word word rows a b l c d e f (Merge schema first second) is = e (sym is.0)
+unknown_word word rows a b l c d e f (Drill schema sites script) is = f (sym is.0)
 
 -- something was given, and is no such thing
 none_given : (rows : List Row) (id text : Text) → first_of id rows ≡ None → IsGiven rows id text → ⊥
@@ -153,6 +154,24 @@ pull_is_no_drill = unlike 112 100 (codes "pull") (codes "drill") refl refl (inr 
 merge_is_no_drill : codes "merge" ≡ codes "drill" → ⊥
 merge_is_no_drill = unlike 109 100 (codes "merge") (codes "drill") refl refl (inr (omega arith))
 
+check_is_no_load : codes "check" ≡ codes "load" → ⊥
+check_is_no_load = unlike 99 108 (codes "check") (codes "load") refl refl (inl (omega arith))
+
+decide_is_no_load : codes "decide" ≡ codes "load" → ⊥
+decide_is_no_load = unlike 100 108 (codes "decide") (codes "load") refl refl (inl (omega arith))
+
+serve_is_no_load : codes "serve" ≡ codes "load" → ⊥
+serve_is_no_load = unlike 115 108 (codes "serve") (codes "load") refl refl (inr (omega arith))
+
+pull_is_no_load : codes "pull" ≡ codes "load" → ⊥
+pull_is_no_load = unlike 112 108 (codes "pull") (codes "load") refl refl (inr (omega arith))
+
+merge_is_no_load : codes "merge" ≡ codes "load" → ⊥
+merge_is_no_load = unlike 109 108 (codes "merge") (codes "load") refl refl (inr (omega arith))
+
+drill_is_no_load : codes "drill" ≡ codes "load" → ⊥
+drill_is_no_load = unlike 100 108 (codes "drill") (codes "load") refl refl (inl (omega arith))
+
 -- ---- what a command of each word has
 
 module _ (rows : List Row) where
@@ -160,6 +179,7 @@ module _ (rows : List Row) where
       × ((text : Text) × IsGiven rows (codes "policies") text)
   of_check (Check schema policies) is = ((schema.now, is.1.0), (policies.now, is.1.1))
   of_check (Decide schema policies entities request) is = absurd (decide_is_no_check is.0)
+  of_check (Load schema site policies entities state) is = absurd (check_is_no_load (sym is.0))
   of_check (Serve schema site listen state connections) is = absurd (serve_is_no_check is.0)
   of_check (Pull schema site from state) is = absurd (pull_is_no_check is.0)
   of_check (Merge schema first second) is = absurd (merge_is_no_check is.0)
@@ -170,10 +190,21 @@ module _ (rows : List Row) where
       × ((text : Text) × IsGiven rows (codes "request") text)
   of_decide (Check schema policies) is = absurd (check_is_no_decide is.0)
   of_decide (Decide schema policies entities request) is = ((policies.now, is.1.1), (entities.now, is.1.2), (request.now, is.1.3))
+  of_decide (Load schema site policies entities state) is = absurd (decide_is_no_load (sym is.0))
   of_decide (Serve schema site listen state connections) is = absurd (serve_is_no_decide is.0)
   of_decide (Pull schema site from state) is = absurd (pull_is_no_decide is.0)
   of_decide (Merge schema first second) is = absurd (merge_is_no_decide is.0)
   of_decide (Drill schema sites script) is = absurd (decide_is_no_drill (sym is.0))
+
+  of_load : (line : Line) → IsLineOf (codes "load") rows line → ((text : Text) × IsGiven rows (codes "schema") text)
+      × ((text : Text) × IsGivenSite rows text)
+  of_load (Check schema policies) is = absurd (check_is_no_load is.0)
+  of_load (Decide schema policies entities request) is = absurd (decide_is_no_load is.0)
+  of_load (Load schema site policies entities state) is = ((schema.now, is.1.0), (site, is.1.1))
+  of_load (Serve schema site listen state connections) is = absurd (serve_is_no_load is.0)
+  of_load (Pull schema site from state) is = absurd (pull_is_no_load is.0)
+  of_load (Merge schema first second) is = absurd (merge_is_no_load is.0)
+  of_load (Drill schema sites script) is = absurd (drill_is_no_load is.0)
 
   of_serve : (line : Line) → IsLineOf (codes "serve") rows line → ((text : Text) × IsGiven rows (codes "schema") text)
       × ((text : Text) × IsGivenSite rows text)
@@ -181,6 +212,7 @@ module _ (rows : List Row) where
       × ((number : Option ℕ) × MayBeGivenNumber rows (codes "connections") 0 4294967295 number)
   of_serve (Check schema policies) is = absurd (check_is_no_serve is.0)
   of_serve (Decide schema policies entities request) is = absurd (decide_is_no_serve is.0)
+  of_serve (Load schema site policies entities state) is = absurd (serve_is_no_load (sym is.0))
   of_serve (Serve schema site listen state connections) is = ((schema.now, is.1.0), (site, is.1.1), (listen.now, is.1.2), (connections, is.1.4))
   of_serve (Pull schema site from state) is = absurd (pull_is_no_serve is.0)
   of_serve (Merge schema first second) is = absurd (merge_is_no_serve is.0)
@@ -192,6 +224,7 @@ module _ (rows : List Row) where
       × ((text : Text) × IsGiven rows (codes "state") text)
   of_pull (Check schema policies) is = absurd (check_is_no_pull is.0)
   of_pull (Decide schema policies entities request) is = absurd (decide_is_no_pull is.0)
+  of_pull (Load schema site policies entities state) is = absurd (pull_is_no_load (sym is.0))
   of_pull (Serve schema site listen state connections) is = absurd (serve_is_no_pull is.0)
   of_pull (Pull schema site from state) is = ((schema.now, is.1.0), (site, is.1.1), (from.now, is.1.2), (state.now, is.1.3))
   of_pull (Merge schema first second) is = absurd (merge_is_no_pull is.0)
@@ -202,6 +235,7 @@ module _ (rows : List Row) where
       × ((text : Text) × IsGiven rows (codes "second") text)
   of_merge (Check schema policies) is = absurd (check_is_no_merge is.0)
   of_merge (Decide schema policies entities request) is = absurd (decide_is_no_merge is.0)
+  of_merge (Load schema site policies entities state) is = absurd (merge_is_no_load (sym is.0))
   of_merge (Serve schema site listen state connections) is = absurd (serve_is_no_merge is.0)
   of_merge (Pull schema site from state) is = absurd (pull_is_no_merge is.0)
   of_merge (Merge schema first second) is = ((schema.now, is.1.0), (first.now, is.1.1), (second.now, is.1.2))
@@ -212,6 +246,7 @@ module _ (rows : List Row) where
       × ((text : Text) × IsGiven rows (codes "script") text)
   of_drill (Check schema policies) is = absurd (check_is_no_drill is.0)
   of_drill (Decide schema policies entities request) is = absurd (decide_is_no_drill is.0)
+  of_drill (Load schema site policies entities state) is = absurd (drill_is_no_load (sym is.0))
   of_drill (Serve schema site listen state connections) is = absurd (serve_is_no_drill is.0)
   of_drill (Pull schema site from state) is = absurd (pull_is_no_drill is.0)
   of_drill (Merge schema first second) is = absurd (merge_is_no_drill is.0)
@@ -232,6 +267,12 @@ module _ (rows : List Row) where
 
   pub decide_lacks_request : first_of (codes "request") rows ≡ None → IsNone (IsLineOf (codes "decide") rows)
   decide_lacks_request none line is = none_given rows (codes "request") (of_decide line is).2.0 none (of_decide line is).2.1
+
+  pub load_lacks_schema : first_of (codes "schema") rows ≡ None → IsNone (IsLineOf (codes "load") rows)
+  load_lacks_schema none line is = none_given rows (codes "schema") (of_load line is).0.0 none (of_load line is).0.1
+
+  pub load_lacks_site : IsNone (IsGivenSite rows) → IsNone (IsLineOf (codes "load") rows)
+  load_lacks_site none line is = none (of_load line is).1.0 (of_load line is).1.1
 
   pub serve_lacks_schema : first_of (codes "schema") rows ≡ None → IsNone (IsLineOf (codes "serve") rows)
   serve_lacks_schema none line is = none_given rows (codes "schema") (of_serve line is).0.0 none (of_serve line is).0.1
@@ -326,6 +367,7 @@ pub named_sites : (line : Line) (named : Option (Text × List Row)) → IsNamed 
 named_sites line None is = absurd is
 named_sites (Check schema policies) (Some named) is = tt
 named_sites (Decide schema policies entities request) (Some named) is = tt
+named_sites (Load schema site policies entities state) (Some named) is = tt
 named_sites (Serve schema site listen state connections) (Some named) is = tt
 named_sites (Pull schema site from state) (Some named) is = tt
 named_sites (Merge schema first second) (Some named) is = tt

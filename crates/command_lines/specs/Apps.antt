@@ -57,11 +57,21 @@ abbrev pub drill_app : App
 drill_app = with_rule (with_rule (with_rule (new_app (codes "drill")) (demanded (value_option (codes "schema"))))
     (demanded (number_option (codes "sites") 1 64))) (demanded (value_word (codes "script")))
 
+-- load --schema FILE --site NAME [--policies FILE] [--entities FILE] [--state FILE]
+abbrev pub load_app : App
+load_app = with_rule (with_rule (with_rule (with_rule (with_rule (new_app (codes "load"))
+    (demanded (value_option (codes "schema")))) site_option) (value_option (codes "policies")))
+    (value_option (codes "entities"))) (value_option (codes "state"))
+
 abbrev pub asks_for_command : App → App
 asks_for_command a = record a { top = record a.top { subcommand_required = true } }
+
+-- and tells its version
+abbrev pub with_version : App → App
+with_version a = record a { top = record a.top { has_version = true } }
 
 -- all of them
 abbrev pub site_app : App
 site_app = with_subcommand (with_subcommand (with_subcommand (with_subcommand (with_subcommand (with_subcommand
-    (asks_for_command (new_app (codes "cedar_site"))) check_app.top) decide_app.top) serve_app.top) pull_app.top)
-    merge_app.top) drill_app.top
+    (with_subcommand (with_version (asks_for_command (new_app (codes "cedar_site")))) check_app.top) decide_app.top)
+    load_app.top) serve_app.top) pull_app.top) merge_app.top) drill_app.top

@@ -4,13 +4,14 @@ use Rattle.std.specs.Str.Parse.{digits_value, without_leading_plus}
 use Rattle.clap.specs.Words.{Row, Text, IsUnsignedIn, first_of, subcommand_of}
 use Rattle.stamped_store.specs.SiteNames.{IsSiteName}
 use Rattle.command_lines.specs.declared.line.Line.{Line}
-use Rattle.command_lines.specs.declared.line.Line.TheVariants.{Check, Decide, Serve, Pull, Merge, Drill}
+use Rattle.command_lines.specs.declared.line.Line.TheVariants.{Check, Decide, Load, Serve, Pull, Merge, Drill}
 use Rattle.command_lines.specs.Apps.{site_app}
 
 -- the word of a command
 abbrev pub word_of : Line → Text
 word_of (Check schema policies) = codes "check"
 word_of (Decide schema policies entities request) = codes "decide"
+word_of (Load schema site policies entities state) = codes "load"
 word_of (Serve schema site listen state connections) = codes "serve"
 word_of (Pull schema site from state) = codes "pull"
 word_of (Merge schema first second) = codes "merge"
@@ -52,6 +53,12 @@ HasTexts rows (Decide schema policies entities request) =
     × IsGiven rows (codes "policies") policies.now
     × IsGiven rows (codes "entities") entities.now
     × IsGiven rows (codes "request") request.now
+HasTexts rows (Load schema site policies entities state) =
+    IsGiven rows (codes "schema") schema.now
+    × IsGivenSite rows site
+    × (first_of (codes "policies") rows ≡ option_map (λ s. s.now) policies)
+    × (first_of (codes "entities") rows ≡ option_map (λ s. s.now) entities)
+    × (first_of (codes "state") rows ≡ option_map (λ s. s.now) state)
 HasTexts rows (Serve schema site listen state connections) =
     IsGiven rows (codes "schema") schema.now
     × IsGivenSite rows site

@@ -2,9 +2,10 @@
 ghost use Rattle.std.specs.Prelude.{◌≡◌, false, Ok, IfOk, codes};
 ghost use Rattle.clap.specs.Words.{App, Rule, rule_of, new_app, with_rule, with_subcommand};
 ghost use Rattle.command_lines.specs.Apps.{value_option, value_word, number_option, demanded, site_option};
-ghost use Rattle.command_lines.specs.Apps.{check_app, decide_app, serve_app, pull_app, merge_app, drill_app};
+ghost use Rattle.command_lines.specs.Apps.{check_app, decide_app, load_app, serve_app, pull_app};
+ghost use Rattle.command_lines.specs.Apps.{merge_app, drill_app};
 ghost use Rattle.command_lines.specs.Apps.{site_app};
-ghost use Rattle.command_lines.specs.Apps.{asks_for_command};
+ghost use Rattle.command_lines.specs.Apps.{asks_for_command, with_version};
 ghost use Rattle.command_lines.specs.inner.Known.{IsApp};
 
 use clap::builder::ValueParser;
@@ -43,11 +44,16 @@ fn both<A: Drop, B: Drop>(
     Ok((first, second))
 }
 
-/// A command with no options yet.
-fn bare<'a>(alloc: Global, name: &'a str, about: &'a str) -> Result<Command<'a>, NoMemory>
+/// A command with no options yet, whose help ends with an example.
+fn bare<'a>(
+    alloc: Global,
+    name: &'a str,
+    about: &'a str,
+    example: &'a str,
+) -> Result<Command<'a>, NoMemory>
     ensures { IfOk result (IsApp (new_app name.entry.now)) }
 {
-    Ok(Command::new(alloc, name).about(about))
+    Ok(Command::new(alloc, name).about(about).after_help(example))
 }
 
 /// The command with one more option.
@@ -152,7 +158,8 @@ fn check_command<'a>(alloc: Global) -> Result<Command<'a>, NoMemory>
     ensures { IfOk result (IsApp check_app) }
 {
     let about = "Tells of each policy of a file whether it is accepted under a schema";
-    let command = bare(alloc, "check", about);
+    let example = "Example:\n  cedar_site check --schema schema.json policies.cedar";
+    let command = bare(alloc, "check", about, example);
     let command = with_schema(alloc, command);
     with_word(
         alloc,
@@ -170,11 +177,35 @@ fn decide_command<'a>(alloc: Global) -> Result<Command<'a>, NoMemory>
     let request = "The request, a JSON object";
     let entities = "The entities, a JSON array";
     let schema = value_option(alloc, "schema", "FILE", "The schema, as JSON");
-    let command = bare(alloc, "decide", about);
+    let example =
+        "Example:\n  cedar_site decide --schema schema.json --policies policies.cedar \\\n      \
+         --entities entities.json --request ben_reads.json";
+    let command = bare(alloc, "decide", about, example);
     let command = with(command, schema);
     let command = with_needed(alloc, command, "policies", "FILE", "The policies, as text");
     let command = with_needed(alloc, command, "entities", "FILE", entities);
     with_needed(alloc, command, "request", "FILE", request)
+}
+
+fn load_command<'a>(alloc: Global) -> Result<Command<'a>, NoMemory>
+    ensures { IfOk result (IsApp load_app) }
+{
+    let about = "Prints the state of a site that files of policies and entities are put into";
+    let example = "Example:\n  cedar_site load --schema schema.json --site east \\\n      \
+         --policies policies.cedar --entities entities.json > east.json";
+    let name = "The site's name, for the stamps: 1 to 32 ASCII letters, digits, '-', '_' or '.'";
+    let policies = "The policies, as text, each put under its name";
+    let entities = "The entities, a JSON array, put in their order";
+    let begin = "A state or a delta to begin with; it is read and never written";
+    let command = bare(alloc, "load", about, example);
+    let command = with_schema(alloc, command);
+    let command = with_site(alloc, command, name);
+    let policies = value_option(alloc, "policies", "FILE", policies);
+    let command = with(command, policies);
+    let entities = value_option(alloc, "entities", "FILE", entities);
+    let command = with(command, entities);
+    let state = value_option(alloc, "state", "FILE", begin);
+    with(command, state)
 }
 
 fn serve_command<'a>(alloc: Global) -> Result<Command<'a>, NoMemory>
@@ -186,7 +217,10 @@ fn serve_command<'a>(alloc: Global) -> Result<Command<'a>, NoMemory>
     let most = "How many connections to serve before the run ends";
     let name =
         "The site's name, which no other site has: 1 to 32 ASCII letters, digits, '-', '_' or '.'";
-    let command = bare(alloc, "serve", about);
+    let example =
+        "Example:\n  cedar_site serve --schema schema.json --site east --state east.json \\\n      \
+         --listen 127.0.0.1:7000";
+    let command = bare(alloc, "serve", about, example);
     let command = with_schema(alloc, command);
     let command = with_site(alloc, command, name);
     let command = with_needed(alloc, command, "listen", "ADDRESS", address);
@@ -202,7 +236,9 @@ fn pull_command<'a>(alloc: Global) -> Result<Command<'a>, NoMemory>
     let file = "The state, read and then written; where there is none, it is an empty one";
     let name =
         "The name of the site whose state it is, for the record alone: a pull stamps nothing";
-    let command = bare(alloc, "pull", about);
+    let example =
+        "Example:\n  cedar_site pull --schema schema.json --site west --from 127.0.0.1:7000 --state west.json";
+    let command = bare(alloc, "pull", about, example);
     let command = with_schema(alloc, command);
     let command = with_site(alloc, command, name);
     let from = "Where the other site listens";
@@ -214,7 +250,8 @@ fn merge_command<'a>(alloc: Global) -> Result<Command<'a>, NoMemory>
     ensures { IfOk result (IsApp merge_app) }
 {
     let about = "Prints the state that holds what two states hold";
-    let command = bare(alloc, "merge", about);
+    let example = "Example:\n  cedar_site merge --schema schema.json east.json west.json";
+    let command = bare(alloc, "merge", about, example);
     let command = with_schema(alloc, command);
     let command = with_word(alloc, command, "first", "FIRST", "A state or a delta");
     with_word(alloc, command, "second", "SECOND", "Another one")
@@ -226,19 +263,25 @@ fn drill_command<'a>(alloc: Global) -> Result<Command<'a>, NoMemory>
     let about = "Plays a script of events at sites of one run, and prints what comes of each";
     let count = "How many sites there are, 1 to 64; the script names them by their numbers";
     let script = "The script: one event a line, each a JSON object";
-    let command = bare(alloc, "drill", about);
+    let example = "Example:\n  cedar_site drill --schema schema.json --sites 2 lost_and_late.jsonl";
+    let command = bare(alloc, "drill", about, example);
     let command = with_schema(alloc, command);
     let sites = number_option(alloc, "sites", 1, MOST_SITES, count).required(true);
     let command = with(command, sites);
     with_word(alloc, command, "script", "SCRIPT", script)
 }
 
-/// The program's command, which asks for a subcommand.
+/// What `--version` tells behind the program's name: that of the Cedar language whose policies it reads.
+const VERSION: &str = "4.0";
+
+/// The program's command, which asks for a subcommand and tells its version.
 fn top_command<'a>(alloc: Global) -> Result<Command<'a>, NoMemory>
-    ensures { IfOk result (IsApp (asks_for_command (new_app (codes "cedar_site")))) }
+    ensures { IfOk result (IsApp (with_version (asks_for_command (new_app (codes "cedar_site"))))) }
 {
     let about = "Checks policies, decides requests by them, and keeps sites of them alike";
-    let command = Command::new(alloc, "cedar_site").about(about);
+    let command = Command::new(alloc, "cedar_site")
+        .about(about)
+        .version(VERSION);
     Ok(command.subcommand_required(true))
 }
 
@@ -249,6 +292,7 @@ pub(crate) fn command<'a>(alloc: Global) -> Result<Command<'a>, NoMemory>
     let command = top_command(alloc);
     let command = with_command(command, check_command(alloc));
     let command = with_command(command, decide_command(alloc));
+    let command = with_command(command, load_command(alloc));
     let command = with_command(command, serve_command(alloc));
     let command = with_command(command, pull_command(alloc));
     let command = with_command(command, merge_command(alloc));

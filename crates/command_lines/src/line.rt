@@ -30,6 +30,15 @@ pub enum Line<'a> {
         entities: &'a str,
         request: &'a str,
     },
+    /// Put files into the site of this name and tell its state: a schema's file, perhaps files with policies and with
+    /// entities, and perhaps one with a state to begin with.
+    Load {
+        schema: &'a str,
+        site: SiteName,
+        policies: Option<&'a str>,
+        entities: Option<&'a str>,
+        state: Option<&'a str>,
+    },
     /// Serve the site of this name at an address: a schema's file, perhaps a file with a state to begin with, and
     /// perhaps how many connections there are to be.
     Serve {
@@ -102,6 +111,29 @@ fn decide_in<'a>(options: &ArgMatches<'a>) -> Option<Line<'a>>
         policies,
         entities,
         request,
+    })
+}
+
+/// `load`, if it has what it demands, a site's name among it.
+fn load_in<'a>(options: &ArgMatches<'a>) -> Option<Line<'a>>
+    ensures { MatchOption result (IsNone (IsLineOf (codes "load") (rows_of (found_of options.now))))
+        (IsLineOf (codes "load") (rows_of (found_of options.now))) }
+{
+    let Some(schema) = option_text(options, "schema") else {
+        return None;
+    };
+    let Some(site) = site_in(options) else {
+        return None;
+    };
+    let policies = option_text(options, "policies");
+    let entities = option_text(options, "entities");
+    let state = option_text(options, "state");
+    Some(Line::Load {
+        schema,
+        site,
+        policies,
+        entities,
+        state,
     })
 }
 
@@ -209,6 +241,9 @@ fn named_line<'a>(name: &str, options: &ArgMatches<'a>) -> Option<Line<'a>>
     }
     if name == "decide" {
         return decide_in(options);
+    }
+    if name == "load" {
+        return load_in(options);
     }
     if name == "serve" {
         return serve_in(options);

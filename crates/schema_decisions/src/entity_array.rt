@@ -1,11 +1,13 @@
 //! The entities of an array.
-ghost use Rattle.std.specs.Prelude.{◌≡◌, Some, option_map};
+ghost use Rattle.std.specs.Prelude.{◌≡◌, List, Some, Ok, Err, option_map, IfErr, OnOk};
 ghost use Rattle.serde_json.specs.Find.{as_array};
 ghost use Rattle.serde_json.specs.View.{view, items_view};
 ghost use Rattle.json_words.specs.ReadsAs.{ReadsAs};
 ghost use Rattle.schema.specs.Views.{schema_view};
+ghost use Rattle.entity_worlds.specs.declared.entity.Entity.{Entity};
 ghost use Rattle.entities.specs.Entities.{entity_stated_in};
 ghost use Rattle.decision_texts.specs.Refusals.{no_memory, bad_shape};
+ghost use Rattle.schema_decisions.specs.Refusals.{OrNoMemory};
 ghost use Rattle.schema_decisions.specs.EntityArrays.{placed, entities_in, entities_of};
 ghost use Rattle.schema_decisions.specs.inner.Stores.{ReadsStore};
 
@@ -88,5 +90,17 @@ pub(crate) fn read_entities(
     match into_array(value) {
         Some(values) => read_array(alloc, schema, values),
         None => Err(bad_shape(None)),
+    }
+}
+
+/// That a text is a JSON array of entities under the schema, each the only one of its uid. Refused as
+/// [`decide_under`](crate::decide_under) refuses entities (30 to 38).
+pub fn judge_entities(alloc: Global, schema: &Schema, text: &[u8]) -> Result<(), Refusal>
+    ensures read { OnOk result ((es : List Entity) × (entities_of (schema_view schema.now) text.now ≡ Ok es)) }
+    ensures refused { IfErr result (OrNoMemory (λ r. entities_of (schema_view schema.now) text.now ≡ Err r)) }
+{
+    match read_entities(alloc, schema, text) {
+        Ok(_) => Ok(()),
+        Err(refusal) => Err(refusal),
     }
 }

@@ -9,5 +9,6 @@ mod question;
 mod refusal;
 
 pub use deciding::decide_under;
+pub use entity_array::judge_entities;
 pub use laws::texts_have_one_outcome;
 pub use policy_checks::{check_texts, schema_in};

@@ -7,7 +7,8 @@ use Rattle.site_commands.specs.declared.device.Stream.{Stream}
 use Rattle.site_commands.specs.declared.device.Stream.TheVariants.{Answers}
 use Rattle.site_commands.specs.Events.{Event, read, stored, wrote, printed, connected, listened, Runs}
 use Rattle.site_commands.specs.Reports.{ended, status_after, IsReported, IsFileReported, IsFailureReported, IsPrinted}
-use Rattle.site_commands.specs.Courses.{Course, Reads, ReadsIfThere, GoesOnIfThere, Stores, Connects, Listens, Announces}
+use Rattle.site_commands.specs.Courses.{Course, Reads, ReadsIfNamed, ReadsIfThere, GoesOnIfThere, Stores, Connects, Listens, Announces}
+use Rattle.site_commands.specs.inner.Loads.{IsFound, IsUnreadIfNamed}
 use Rattle.site_commands.specs.inner.Ways.{IsUnread, IsUnreadThere, found_as}
 
 pub failed_there : Failed ≡ Missing → ⊥
@@ -50,6 +51,21 @@ module _ {L H : Type 0} (does : H → Event L → H → Type 0) where
       → Runs does old new (λ events. IsUnread name events end)
       → Runs does old new (λ events. Reads name goes_on events end)
   reads_none old new name goes_on end run = (run.0, run.1, (Err run.2.0, run.2.1, run.2.2, run.2.3))
+
+  -- the same, of a file that need not be named
+  pub named_on : (old next new : H) (name found : Option (List ℕ)) (goes_on : Option (List ℕ) → Course L) (end : ℕ)
+      → IsFound does name found old next → Runs does next new (λ events. goes_on found events end)
+      → Runs does old new (λ events. ReadsIfNamed name goes_on events end)
+  named_on old next new None None goes_on end step run = subst (λ (h : H). Runs does h new (λ events. goes_on None events end)) step run
+  named_on old next new None (Some bytes) goes_on end step run = absurd step
+  named_on old next new (Some name) None goes_on end step run = absurd step
+  named_on old next new (Some name) (Some bytes) goes_on end step run = reads_on old next new name bytes (λ held. goes_on (Some held)) end step run
+
+  pub named_none : (old new : H) (name : Option (List ℕ)) (goes_on : Option (List ℕ) → Course L) (end : ℕ)
+      → Runs does old new (λ events. IsUnreadIfNamed name events end)
+      → Runs does old new (λ events. ReadsIfNamed name goes_on events end)
+  named_none old new None goes_on end run = absurd run.2
+  named_none old new (Some name) goes_on end run = reads_none old new name (λ held. goes_on (Some held)) end run
 
   -- why a file was not read is told
   pub unread : (old next new : H) (name : List ℕ) (fault : FileFault) (end : ℕ) → does old (read name (Err fault)) next

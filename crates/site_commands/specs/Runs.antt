@@ -8,7 +8,7 @@ use Rattle.schema_decisions.specs.passed_on.policy_checks_Checks as checks
 use Rattle.pulled_states.specs.passed_on.merged_states_Merges as merges
 use Rattle.drill_scripts.specs.Drills as drills
 use Rattle.command_lines.specs.declared.line.Line.{Line}
-use Rattle.command_lines.specs.declared.line.Line.TheVariants.{Check, Decide, Serve, Pull, Merge, Drill}
+use Rattle.command_lines.specs.declared.line.Line.TheVariants.{Check, Decide, Load, Serve, Pull, Merge, Drill}
 use Rattle.command_lines.specs.declared.fault.LineFault.{LineFault}
 use Rattle.command_lines.specs.Apps.{site_app}
 use Rattle.command_lines.specs.Faults.{IsFaultOf}
@@ -18,6 +18,7 @@ use Rattle.counted_devices.specs.declared.devices.Sink.{Ghosts as Sink}
 use Rattle.site_commands.specs.declared.device.Link.{Link}
 use Rattle.site_commands.specs.Reports.{AreLinesReported, IsFaultReported}
 use Rattle.site_commands.specs.Courses.{Course, Reads, ReadsIfNamed, IsRefusedFor, IsLineOrRefusal}
+use Rattle.site_commands.specs.Loading.{IsLoadRun}
 use Rattle.site_commands.specs.Pulling.{IsPullRun}
 use Rattle.site_commands.specs.Serving.{IsServeRun}
 
@@ -81,6 +82,9 @@ module _ {R W : Type 0} (reader : Source R) (writer : Sink W) where
   IsLineRun (Check schema policies) = IsCheckRun schema.now policies.now
   IsLineRun (Decide schema policies entities request) =
       IsDecideRun (option_map (λ s. s.now) schema) policies.now entities.now request.now
+  IsLineRun (Load schema site policies entities state) =
+      IsLoadRun schema.now site (option_map (λ s. s.now) state) (option_map (λ s. s.now) policies)
+      (option_map (λ s. s.now) entities)
   IsLineRun (Serve schema site listen state connections) =
       IsServeRun reader writer schema.now site (option_map (λ s. s.now) state) listen.now connections
   IsLineRun (Pull schema site from state) = IsPullRun reader writer schema.now from.now state.now

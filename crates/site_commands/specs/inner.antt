@@ -1,3 +1,4 @@
 pub mod Begun
+pub mod Loads
 pub mod Served
 pub mod Ways

@@ -6,6 +6,7 @@ mod commands;
 mod device;
 mod drills;
 mod host;
+mod loads;
 mod program;
 mod reading;
 mod report;

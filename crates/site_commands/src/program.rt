@@ -8,6 +8,7 @@ ghost use Rattle.site_commands.specs.Runs.{IsLineRun, IsRun};
 use crate::commands::{run_check, run_decide};
 use crate::drills::run_drill;
 use crate::host::Host;
+use crate::loads::run_load;
 use crate::report::report_words;
 use crate::serving::run_serve;
 use crate::states::{run_merge, run_pull};
@@ -29,6 +30,13 @@ fn run_line<H: Host>(alloc: Global, host: &mut H, line: &Line<'_>) -> ExitCode
             entities,
             request,
         } => run_decide(alloc, host, *schema, policies, entities, request),
+        Line::Load {
+            schema,
+            site,
+            policies,
+            entities,
+            state,
+        } => run_load(alloc, host, schema, *site, *state, *policies, *entities),
         Line::Serve {
             schema,
             site,
@@ -56,7 +64,8 @@ fn run_line<H: Host>(alloc: Global, host: &mut H, line: &Line<'_>) -> ExitCode
 }
 
 /// Does what the words ask for, the first of which is the program's own name: checks policies, decides one request,
-/// serves a site, pulls from one, merges two states, plays a script, writes help, or what is wrong with the words.
+/// puts files into a site and tells its state, serves one, pulls from one, merges two states, plays a script, writes
+/// help or the version, or what is wrong with the words.
 ///
 /// The status is 0 for an answer or help, 1 for a refusal, also of one policy among those that are checked, 2 for words
 /// that are no command, and 3 where a file can't be read or written, the network fails, or a stream does.

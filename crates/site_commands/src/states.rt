@@ -102,7 +102,7 @@ fn keep<H: Host>(alloc: Global, host: &mut H, name: &str, pulled: &Pulled) -> Ex
 }
 
 /// The bytes of a file that need not be there.
-fn lent(state: &Option<Vec<u8>>) -> Option<&[u8]>
+pub(crate) fn lent(state: &Option<Vec<u8>>) -> Option<&[u8]>
     ensures { option_map (λ s. s.now) result ≡ option_map (λ s. s.items) state.now }
 {
     match state {

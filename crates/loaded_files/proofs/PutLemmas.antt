@@ -1,0 +1,91 @@
+-- Puts one after another: one step for each, and the fault of one.
+use Rattle.std.proofs.Common.{◌≡◌, inl, inr, ℕ, suc, ◌+◌, ◌<◌, List, [], ◌∷◌, length, drop, get_or, Option, Some, Err, refl, sym, ap, ◌∙◌, subst, add-one, drop-cons}
+use Rattle.serde_json.specs.Data.{Data}
+use Rattle.schema.specs.Views.{schema_view}
+use Rattle.schema.specs.Schemas.{StatedSchema}
+use Rattle.stamped_store.specs.Store.{Store}
+use Rattle.decision_texts.specs.declared.refusal.Refusal.{Refusal}
+use Rattle.schema_decisions.specs.Refusals.{OrNoMemory}
+use Rattle.site.specs.declared.fault.SiteFault.{SiteFault}
+use Rattle.site.specs.declared.fault.SiteFault.TheVariants as fault
+use Rattle.site.specs.Seen.{Seen, schema_of, IsSameSite}
+use Rattle.site.specs.Steps.{PutsPolicy, PutsEntity}
+use Rattle.loaded_files.specs.Puts.{Deed, policy_put, entity_put, put_refusal, Accepts, RefusesAt, AcceptsAll, RefusesFirst}
+
+-- ---- one put
+
+-- what is refused leaves the store as it was
+refused_policy : (schema : StatedSchema) (n : List ℕ) (s t : Store) (id text : List ℕ) (f : SiteFault) → PutsPolicy schema n s id text (Err f) t → PutsPolicy schema n s id text (Err f) s
+refused_policy schema n s t id text fault.NoMemory h = refl
+refused_policy schema n s t id text fault.ClockFull h = (h.0, (h.1.0, refl))
+refused_policy schema n s t id text (fault.Policy f) h = (h.0, refl)
+refused_policy schema n s t id text (fault.Check f) h = (h.0, refl)
+refused_policy schema n s t id text (fault.Entity f) h = (h.0, refl)
+refused_policy schema n s t id text (fault.Message f) h = (h.0, refl)
+refused_policy schema n s t id text fault.NotThere h = (h.0, refl)
+refused_policy schema n s t id text fault.WouldCycle h = (h.0, refl)
+refused_policy schema n s t id text (fault.Request f) h = (h.0, refl)
+
+refused_entity : (schema : StatedSchema) (n : List ℕ) (s t : Store) (json : Option Data) (f : SiteFault) → PutsEntity schema n s json (Err f) t → PutsEntity schema n s json (Err f) s
+refused_entity schema n s t json fault.NoMemory h = refl
+refused_entity schema n s t json fault.ClockFull h = (h.0, (h.1.0, refl))
+refused_entity schema n s t json (fault.Entity f) h = (h.0, refl)
+refused_entity schema n s t json fault.WouldCycle h = (h.0, refl)
+refused_entity schema n s t json (fault.Policy f) h = absurd h
+refused_entity schema n s t json (fault.Check f) h = absurd h
+refused_entity schema n s t json (fault.Message f) h = absurd h
+refused_entity schema n s t json fault.NotThere h = absurd h
+refused_entity schema n s t json (fault.Request f) h = absurd h
+
+pub policy_refused : (schema : StatedSchema) (n : List ℕ) (s t : Store) (id text : List ℕ) (place : ℕ) (f : SiteFault) (r : Refusal) → PutsPolicy schema n s id text (Err f) t → r ≡ put_refusal place f
+    → OrNoMemory (RefusesAt schema n s place (policy_put id text)) r
+policy_refused schema n s t id text place f r h e = λ _. (f, refused_policy schema n s t id text f h, e)
+
+pub entity_refused : (schema : StatedSchema) (n : List ℕ) (s t : Store) (json : Data) (place : ℕ) (f : SiteFault) (r : Refusal) → PutsEntity schema n s (Some json) (Err f) t → r ≡ put_refusal place f
+    → OrNoMemory (RefusesAt schema n s place (entity_put json)) r
+entity_refused schema n s t json place f r h e = λ _. (f, refused_entity schema n s t (Some json) f h, e)
+
+-- ---- one after another
+
+-- From a store some puts lead to another, and these are left: what they lead to, all lead to.
+pub record Along (schema : StatedSchema) (n : List ℕ) (s : Store) (all : List Deed) (m : Store) (place : ℕ) (left : List Deed) : Type 0 where
+  pub go : (t : Store) → AcceptsAll schema n m left t → AcceptsAll schema n s all t
+  pub stop : (r : Refusal) → RefusesFirst schema n m place left r → RefusesFirst schema n s 0 all r
+
+pub begins : (schema : StatedSchema) (n : List ℕ) (s : Store) (all : List Deed) → Along schema n s all s 0 all
+begins schema n s all = record { go = λ t h. h; stop = λ r h. h }
+
+pub steps : (schema : StatedSchema) (n : List ℕ) (s m t : Store) (all left more : List Deed) (place : ℕ) (deed : Deed) → left ≡ deed ∷ more → Along schema n s all m place left
+    → Accepts schema n m deed t → Along schema n s all t (place + 1) more
+steps schema n s m t all left more place deed e a took =
+    let along = subst (Along schema n s all m place) e a in
+    record {
+      go = λ u h. along.go u (t, took, h);
+      stop = λ r h. along.stop r (inr (t, took, subst (λ (k : ℕ). RefusesFirst schema n t k more r) (add-one place) h));
+    }
+
+pub stops : (schema : StatedSchema) (n : List ℕ) (s m : Store) (all left more : List Deed) (place : ℕ) (deed : Deed) (r : Refusal) → left ≡ deed ∷ more → Along schema n s all m place left
+    → OrNoMemory (RefusesAt schema n m place deed) r → OrNoMemory (RefusesFirst schema n s 0 all) r
+stops schema n s m all left more place deed r e a refused = λ other. (subst (Along schema n s all m place) e a).stop r (inl (refused other))
+
+pub ends : (schema : StatedSchema) (n : List ℕ) (s m : Store) (all left : List Deed) (place : ℕ) → left ≡ [] → Along schema n s all m place left → AcceptsAll schema n s all m
+ends schema n s m all left place e a = (subst (Along schema n s all m place) e a).go m refl
+
+-- ---- at one site
+
+-- what one site does, another of its schema and name does
+pub accepts_same : (a b : Seen) (deed : Deed) (s t : Store) → IsSameSite a b → Accepts (schema_of b) b.name s deed t → Accepts (schema_of a) a.name s deed t
+accepts_same a b deed s t same h =
+    subst (λ (x : StatedSchema). Accepts x a.name s deed t) (ap schema_view same.0) (subst (λ (n : List ℕ). Accepts (schema_of b) n s deed t) same.1 h)
+
+pub refuses_same : (a b : Seen) (deed : Deed) (s : Store) (place : ℕ) (r : Refusal) → IsSameSite a b → OrNoMemory (RefusesAt (schema_of b) b.name s place deed) r
+    → OrNoMemory (RefusesAt (schema_of a) a.name s place deed) r
+refuses_same a b deed s place r same h =
+    subst (λ (x : StatedSchema). OrNoMemory (RefusesAt x a.name s place deed) r) (ap schema_view same.0)
+    (subst (λ (n : List ℕ). OrNoMemory (RefusesAt (schema_of b) n s place deed) r) same.1 h)
+
+pub same_on : (a b c : Seen) → IsSameSite a b → IsSameSite b c → IsSameSite a c
+same_on a b c x y = (y.0 ∙ x.0, y.1 ∙ x.1)
+
+pub turn : {A : Type 0} (xs : List A) (i : ℕ) (x : A) → i < length xs → x ≡ get_or xs i x → drop i xs ≡ x ∷ drop (i + 1) xs
+turn xs i x lt e = drop-cons xs i x lt ∙ ap (λ z. z ∷ drop (suc i) xs) (sym e) ∙ ap (λ k. x ∷ drop k xs) (sym (add-one i))

@@ -1,0 +1,11 @@
+//! A file of policies and an array of entities, put into a site, as its own puts.
+#![tactic(auto)]
+
+mod entity_file;
+mod loading;
+mod policies;
+mod refusal;
+
+pub use decision_texts::Refusal;
+pub use loading::loaded_state;
+pub use site::Site;

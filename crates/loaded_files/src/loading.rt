@@ -1,0 +1,77 @@
+//! The state of a site that files are put into.
+ghost use Rattle.std.specs.Prelude.{◌≡◌, option_map, IfOk, IfErr, OnOk};
+ghost use Rattle.site.specs.Seen.{schema_of, store_in, IsSameSite};
+ghost use Rattle.schema_decisions.specs.Refusals.{OrNoMemory};
+ghost use Rattle.loaded_files.specs.Loads.{IsLoadedState, IsRefused, LoadsIfNamed, RefusesIfNamed};
+ghost use Rattle.loaded_files.specs.Loads.{LoadsPolicies, RefusesPolicies, LoadsEntities, RefusesEntities};
+
+use crate::entity_file::load_entities;
+use crate::policies::load_policies;
+use decision_texts::Refusal;
+use site::Site;
+use std::alloc::Global;
+
+/// Puts the policies of a file, if there is one.
+fn load_policies_if_named(
+    alloc: Global,
+    site: &mut Site,
+    bytes: Option<&[u8]>,
+) -> Result<(), Refusal>
+    ensures loaded { OnOk result (LoadsIfNamed
+        (LoadsPolicies (schema_of site.old) site.old.name) (store_in site.old) (option_map (λ b. b.now) bytes.entry)
+        (store_in site.new)) }
+    ensures refused { IfErr result (OrNoMemory (RefusesIfNamed
+        (RefusesPolicies (schema_of site.old) site.old.name) (store_in site.old)
+        (option_map (λ b. b.now) bytes.entry))) }
+    ensures same { IsSameSite site.old site.new }
+{
+    match bytes {
+        Some(bytes) => load_policies(alloc, site, bytes),
+        None => Ok(()),
+    }
+}
+
+/// Puts the entities of an array, if there is one.
+fn load_entities_if_named(
+    alloc: Global,
+    site: &mut Site,
+    bytes: Option<&[u8]>,
+) -> Result<(), Refusal>
+    ensures loaded { OnOk result (LoadsIfNamed
+        (LoadsEntities (schema_of site.old) site.old.name) (store_in site.old) (option_map (λ b. b.now) bytes.entry)
+        (store_in site.new)) }
+    ensures refused { IfErr result (OrNoMemory (RefusesIfNamed
+        (RefusesEntities (schema_of site.old) site.old.name) (store_in site.old)
+        (option_map (λ b. b.now) bytes.entry))) }
+    ensures same { IsSameSite site.old site.new }
+{
+    match bytes {
+        Some(bytes) => load_entities(alloc, site, bytes),
+        None => Ok(()),
+    }
+}
+
+/// The state of a site, as a message, once the policies of a file and the entities of an array are put into it, where
+/// they are given: each policy under its name in the file with its own text from the file, then each entity. It is
+/// what [`Site::state`] gives after these puts, and reads back as the store's updates.
+///
+/// Refused whole, in this order: the file of policies (10 to 19, at a byte); the first policy whose put is refused, at
+/// its place in the file, from 0 (18 for a text of over 262,144 bytes, 40 to 46, 62); the array of entities (30 to 38,
+/// at the entity's place in it, from 0, or without a place where there is no array); the first entity whose put is
+/// refused, at its place (61, 62). `NoMemory` (1) may come at any point.
+pub fn loaded_state(
+    alloc: Global,
+    site: Site,
+    policies: Option<&[u8]>,
+    entities: Option<&[u8]>,
+) -> Result<Vec<u8>, Refusal>
+    ensures loaded { IfOk result (λ b. IsLoadedState (schema_of site) site.name (store_in site)
+        (option_map (λ p. p.now) policies.entry) (option_map (λ e. e.now) entities.entry) b.items) }
+    ensures refused { IfErr result (OrNoMemory (IsRefused (schema_of site) site.name (store_in site)
+        (option_map (λ p. p.now) policies.entry) (option_map (λ e. e.now) entities.entry))) }
+{
+    let mut site = site;
+    load_policies_if_named(alloc, &mut site, policies)?;
+    load_entities_if_named(alloc, &mut site, entities)?;
+    Ok(site.state()?)
+}

@@ -1,0 +1,21 @@
+//! The refusal of what is put.
+ghost use Rattle.std.specs.Prelude.{◌≡◌};
+ghost use Rattle.loaded_files.specs.Puts.{put_refusal};
+
+use decision_texts::Refusal;
+use plain::NoMemory;
+use site::SiteFault;
+
+/// A fault of a put, told at the place of what was put in its file, counted from 0. Want of memory has no place.
+pub(crate) fn put_refusal(place: usize, fault: SiteFault) -> Refusal
+    ensures { result ≡ put_refusal place fault }
+{
+    match fault {
+        SiteFault::NoMemory => Refusal::from(NoMemory),
+        _ => Refusal {
+            code: fault.code(),
+            place: Some(place),
+            within: fault.within(),
+        },
+    }
+}
