@@ -14,8 +14,11 @@ it gives the stated bytes is told by rows/streams.txt):
   whose request is the last that is done. Those that came before the last read have all been answered.
 - Behind a failure nothing is read or written. Both sites then have the same state, over a new connection.
 
-Behind each kind of failures the site has as many open files as behind its first connection. A small library before the
-C library, bench/fail.c, has a call fail. Needs `cc`. The last line is `N passed, M failed`, of the kinds of failures.
+Behind each kind of failures the site has as many open files as behind its first connection. So it is with streams that
+are cut off, refused or ended by a request, of which it is stated in how many reads of 7 bytes they are read. Of some
+failures it is stated what goes out, and of some streams how much is left unread. The reads and writes of `pull` fail in
+turn, too: it tells of each, and writes no state. A small library before the C library, bench/fail.c, has a call fail.
+Needs `cc`. The last line is `N passed, M failed`, of the kinds of failures and the stated ones.
 """
 import collections
 import mmap
@@ -28,6 +31,7 @@ import tempfile
 
 sys.dont_write_bytecode = True
 
+from row_commands import Peer
 from row_sites import Processes, Site, request, sent
 
 TOP = os.path.dirname(os.path.dirname(os.path.abspath(__file__)))
@@ -38,6 +42,74 @@ STREAMS = {
     "a put and a deletion": (PUT, DELETE),
 }
 STATE = request("GET", "/v1/state")
+NO_POLICY = request("GET", "/v1/policies/a")
+# a connection each, at a site with nothing stored: the requests, which call fails at what sizes of calls, what goes out,
+# and how many bytes are unread
+STATED = {
+    "the second read of 64 bytes fails, within a put": (
+        (NO_POLICY, PUT),
+        {"most_read": 64, "failing_read": 2},
+        b"HTTP/1.1 404 Not Found\r\nContent-Type: application/json\r\nContent-Length: 48\r\n\r\n"
+        b'{"error":{"code":60,"place":null,"within":null}}',
+        54,
+    ),
+    "the second write of 100 bytes fails, before a put is read": (
+        (STATE, PUT),
+        {"most_read": 64, "most_written": 100, "failing_write": 2},
+        b"HTTP/1.1 200 OK\r\nContent-Type: application/json\r\nContent-Length: 117\r\n\r\n"
+        b'{"entries":[],"kind":"state"',
+        49,
+    ),
+    "the second write of 100 bytes fails, once a put is done": (
+        (PUT, NO_POLICY, STATE),
+        {"most_read": 64, "most_written": 100, "failing_write": 2},
+        b"HTTP/1.1 200 OK\r\nContent-Type: application/json\r\nContent-Length: 40\r\n\r\n"
+        b'{"count":1,"impossible":true,',
+        16,
+    ),
+}
+GET_A = b"GET /a HTTP/1.1\r\n\r\n"
+ENDING = b"GET /e HTTP/1.0\r\n\r\n"
+CUT_OFF = b"PUT /b HTTP/1.1\r\nContent-Length: 30\r\n\r\nabcdefghij"
+# what of a stream is answered, each request or refused beginning by itself; what stands behind it; and in how many reads
+# of 7 bytes it is read
+SHORT = (
+    ((b"GET /a HTTP/1.1\r\nHost: h\r\n\r\n", request("PUT", "/b", b"xyz")), b"", 11),
+    ((ENDING,), b"GET /f HTTP/1.1\r\n\r\n", 3),
+    (
+        (
+            b"GET /a HTTP/1.1\r\nHost: h\r\n\r\n",
+            request("PUT", "/b", b"xyz"),
+            b"POST /c HTTP/1.1\r\nCONTENT-LENGTH: 00\r\n\r\n",
+            b"DELETE /d HTTP/1.1\r\nContent-Length: 1\r\n\r\n.",
+            ENDING,
+        ),
+        b"GET /f HTTP/1.1\r\n\r\n",
+        25,
+    ),
+    ((), CUT_OFF, 8),
+    ((GET_A,), CUT_OFF, 11),
+    ((b"GET / HTTP/1.2",), b"\r\n\r\n", 2),
+    ((GET_A, b"{"), b"} / HTTP/1.1\r\n\r\n", 3),
+    ((b"POST / HTTP/1.1\r\nContent-Length: 1\r\nContent-Length: 1\r\n\r\n",), b"x", 9),
+    ((b"POST / HTTP/1.1\r\n\r\n",), b"", 3),
+    ((b"PUT / HTTP/1.1\r\nContent-Length: 8388609\r\n\r\n",), b"", 7),
+    ((GET_A, b"GET / HTTP/1.1\r\nTransfer-Encoding: chunked\r\n\r\n"), b"", 10),
+    ((), b"\r\n\r\n", 2),
+    ((), b"", 1),
+)
+SEVENS = {"most_read": 7, "most_written": 50}
+# streams that are read in pieces of 7 bytes, what fails, and how many bytes are left unread
+UNREAD = (
+    (b"GET /a HTTP/1.1\r\nHost: h\r\n\r\nGET /b HTTP/1.1\r\nHost: h\r\n\r\n", {"failing_write": 1}, 28),
+    (GET_A + ENDING + b"GET /f HTTP/1.1\r\n\r\nGET /g HTTP/1.1\r\n\r\n", {}, 34),
+    (b"GET / HTTP/1.1\r\nTransfer-Encoding: chunked\r\n\r\n5\r\nabcde\r\n0\r\n\r\n", {}, 12),
+    (b"{} and more that is never read", {}, 23),
+    (b"PUT / HTTP/1.1\r\nContent-Length: 8388609\r\n\r\nabcdefghijklmnopqrstuvwxyz", {}, 20),
+    (GET_A + b"GET /b HTTP/1.1\r\n\r\nGET /c", {}, 0),
+)
+LABEL = b"44136fa355b3678a1146ad16f7e8649e94fb4fc21fe77e8310c060f61caaff8a"
+NO_NEWS = b'{"entries":[],"kind":"delta","schema":"%s","version":2}' % LABEL
 # a stream that meets more calls than this is told as a fault
 MOST = 10_000
 
@@ -97,7 +169,8 @@ class Twins:
         subprocess.run(["cc", "-O2", "-shared", "-fPIC", "-o", library, f"{TOP}/bench/fail.c"], check=True)
         with open(self.schema, "wb") as file:
             file.write(b"{}")
-        self.program, self.shared = program, Shared(plan)
+        self.program, self.folder, self.shared = program, folder, Shared(plan)
+        self.told, self.out = PLAIN, b""
         self.failing, self.plain = Processes(LD_PRELOAD=library, FAILING=plan), Processes()
         self.begin()
 
@@ -139,17 +212,20 @@ class Twins:
             raise Fault("read on before a reply")
         return out[: told.taken]
 
-    def tried(self, requests, plan):
-        """Sends a stream to the site under a plan, and tells whether a call failed. Raises `Fault`."""
+    def tried(self, requests, plan, rest=b""):
+        """Sends a stream to the site under a plan, and tells whether a call failed. Raises `Fault`.
+
+        The rest of the stream is answered by nothing. What the device told, and what went out, is kept.
+        """
         self.shared.ask(plan)
-        came = sent(self.site.port, b"".join(requests))
-        told, out = self.shared.told(), self.shared.out()
+        came = sent(self.site.port, b"".join(requests) + rest)
+        told, out = self.told, self.out = self.shared.told(), self.shared.out()
         self.shared.ask(PLAIN)
         wanted = self.wanted(requests, told)
         if out != wanted:
             raise Fault(f"{out!r} for {wanted!r} goes out")
         # where bytes are left unread, the connection is reset, and what is on its way may be lost
-        if not out.startswith(came) or not (told.failed or came == out):
+        if not out.startswith(came) or not (told.failed or rest or came == out):
             raise Fault(f"{came!r} comes of {out!r}")
         if told.later:
             raise Fault(f"{told.later} calls behind the one that failed")
@@ -161,11 +237,11 @@ class Twins:
         return bool(told.failed)
 
 
-def failures(twins, requests, call, sizes):
+def failures(twins, requests, call, sizes, rest=b""):
     """Has each of these calls fail in turn, and tells how many did. Raises `Fault`."""
     for number in range(1, MOST):
         try:
-            failed = twins.tried(requests, PLAIN._replace(**{call: number}, **sizes))
+            failed = twins.tried(requests, PLAIN._replace(**{call: number}, **sizes), rest)
         except (Fault, OSError) as fault:
             raise Fault(f"number {number}: {fault or type(fault).__name__}") from fault
         if not failed:
@@ -182,12 +258,91 @@ def kinds():
     for stream, requests in STREAMS.items():
         for name, sizes in (
             ("one byte a call", {"most_read": 1, "most_written": 1}),
+            ("one byte a read, three a write", {"most_read": 1, "most_written": 3}),
             ("few bytes a call", {"most_read": 7, "most_written": 50}),
             ("all at once", {}),
             ("the first request by the first read", {"most_read": len(requests[0])}),
         ):
             for call in ("failing_read", "failing_write"):
                 yield f"{stream}, {name}, {call.removeprefix('failing_')}s that fail", requests, call, sizes
+
+
+def stated(twins, requests, plan, out, unread):
+    """Has a stated call fail at sites that begin anew. Raises `Fault`."""
+    twins.begin_anew()
+    if not twins.tried(requests, PLAIN._replace(**plan)):
+        raise Fault("no call fails")
+    if twins.out != out:
+        raise Fault(f"{twins.out!r} goes out")
+    left = len(b"".join(requests)) - twins.told.given
+    if left != unread:
+        raise Fault(f"{left} bytes are unread")
+    return "as stated"
+
+
+def short(twins, requests, rest, reads):
+    """Has each read and each write fail of a stream that may be cut off, refused, or ended by a request. Raises `Fault`.
+
+    It has as many reads as stated, and of each reply as many writes as it has pieces of 50 bytes.
+    """
+    sizes = [len(sent(twins.twin.port, one)) for one in requests]
+    wanted = reads, sum(-(-size // SEVENS["most_written"]) for size in sizes)
+    came = tuple(failures(twins, requests, call, SEVENS, rest) for call in ("failing_read", "failing_write"))
+    if came != wanted:
+        raise Fault(f"{came} reads and writes, where {wanted} are right")
+    return "{} reads, {} writes".format(*came)
+
+
+def unread(twins, stream, plan, left):
+    """How much of a stream is left unread. Raises `Fault`."""
+    twins.shared.ask(PLAIN._replace(**SEVENS)._replace(**plan))
+    sent(twins.site.port, stream)
+    told = twins.shared.told()
+    twins.shared.ask(PLAIN)
+    if len(stream) - told.given != left:
+        raise Fault(f"{len(stream) - told.given} bytes are unread")
+    return f"{left} bytes unread"
+
+
+def pulled(twins, call):
+    """Has each of these calls of `pull` fail in turn: it has as many as the request or the reply has pieces of 7 bytes.
+    Raises `Fault`."""
+    reply = b"HTTP/1.1 200 OK\r\nContent-Length: %d\r\n\r\n" % len(NO_NEWS) + NO_NEWS
+    for number in range(1, MOST):
+        twins.shared.ask(PLAIN._replace(most_read=7, most_written=7, **{call: number}))
+        peer = Peer(reply)
+        state = f"{twins.folder}/state"
+        words = ("--schema", twins.schema, "--site", "1", "--from", peer.address, "--state", state)
+        how = {"env": twins.failing.environment, "stdin": subprocess.DEVNULL, "capture_output": True, "timeout": 60}
+        ran = subprocess.run([twins.program, "pull", *words], check=False, **how)
+        heard, told = peer.close(), twins.shared.told()
+        twins.shared.ask(PLAIN)
+        came = ran.returncode, ran.stdout, ran.stderr
+        if not told.failed:
+            pieces = -(-len(heard if call == "failing_write" else reply) // 7)
+            if came != (0, b'{"taken":0}\n', b"") or number - 1 != pieces:
+                raise Fault(f"{number - 1} calls that fail, where {pieces} are right, and {came}")
+            os.remove(state)
+            return number - 1
+        if came != (3, b"", b"fault: %s\n" % peer.address.encode()) or told.later or os.path.exists(state):
+            raise Fault(f"number {number}: {came}, {told.later} calls behind it")
+    raise Fault("it calls without end")
+
+
+def all_kinds():
+    """What is tried: its name, and what tries it."""
+    for name, *kind in kinds():
+        yield name, lambda twins, kind=kind: failures(twins, *kind)
+    for kind in SHORT:
+        name = b"".join(kind[0]) + kind[1]
+        yield f"{name.decode()!r}, in pieces of 7 and 50 bytes", lambda twins, kind=kind: short(twins, *kind)
+    for kind in UNREAD:
+        yield f"{kind[0].decode()!r}, in pieces of 7 bytes", lambda twins, kind=kind: unread(twins, *kind)
+    for call in ("failing_read", "failing_write"):
+        name = f"{call.removeprefix('failing_')}s of `pull` that fail, 7 bytes a call"
+        yield name, lambda twins, call=call: pulled(twins, call)
+    for name, kind in STATED.items():
+        yield name, lambda twins, kind=kind: stated(twins, *kind)
 
 
 def interrupt(*_):
@@ -204,9 +359,9 @@ def main(words):
     with tempfile.TemporaryDirectory() as folder:
         twins = Twins(os.path.abspath(words[0]), folder)
         try:
-            for name, *kind in kinds():
+            for name, tries in all_kinds():
                 try:
-                    told, passed = failures(twins, *kind), passed + 1
+                    told, passed = tries(twins), passed + 1
                 except Fault as fault:
                     told, failed = f"FAILED: {fault}", failed + 1
                     twins.begin_anew()

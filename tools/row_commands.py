@@ -280,13 +280,6 @@ class UnderSchema(Commands):
         return self.taken(expanded(text))
 
 
-class Schemas(UnderSchema):
-    """Schemas that are refused: the code."""
-
-    def of_schema(self, text):
-        return self.taken(expanded(text))
-
-
 class Requests(UnderSchema):
     """Requests that are refused: the code, by `decide` without policies and entities.
 
@@ -328,7 +321,14 @@ class Requests(UnderSchema):
 
 
 class Checks(UnderSchema):
-    """Whether a policy passes, by `check`, or a policy with this condition: `accepted`, `impossible` or the code."""
+    """Whether policies pass, by `check`.
+
+    - `check`: a policy, `check_when`: one with this condition: `accepted`, `impossible` or the code.
+    - `check_texts`: the `policies` of a row under the `schema` of its own: whether some are refused, by the status, and
+      all lines; or the line of the refusal.
+    """
+
+    KEYS = ("schema", "policies")
 
     def verdict(self, policy):
         """What the one line of `check` tells."""
@@ -347,6 +347,17 @@ class Checks(UnderSchema):
 
     def of_check_when(self, text):
         return self.verdict(policy_when(expanded(text)))
+
+    def of_check_texts(self, text):
+        row = object_of(text)
+        if row is None or set(row) != set(self.KEYS):
+            return "bad row"
+        self.cedar.lay(**{f"own_{key}": text_of(value) for key, value in row.items()})
+        ran = self.cedar.run("check", "--schema", "own_schema", "own_policies")
+        if ran.faults:
+            return ran.line()
+        said = {0: "none refused", 1: "some refused"}[ran.status]
+        return f"{said} {printed(ran.answers)}".replace("\n", "\\n")
 
 
 class Stored(UnderSchema):
@@ -554,7 +565,6 @@ KINDS = {
     "policies": Policies,
     "decisions": Decisions,
     "decisions_under_schema": DecisionsUnderSchema,
-    "schemas": Schemas,
     "requests": Requests,
     "checks": Checks,
     "stored": Stored,

@@ -22,6 +22,7 @@ sys.dont_write_bytecode = True  # the tables' tools leave nothing beside them
 import row_commands
 import row_drills
 import row_hostile
+import row_schemas
 import row_sites
 import row_sound
 
@@ -30,6 +31,7 @@ KINDS = {
     **row_commands.KINDS,
     **row_drills.KINDS,
     **row_hostile.KINDS,
+    **row_schemas.KINDS,
     **row_sites.KINDS,
     **row_sound.KINDS,
 }

@@ -10,7 +10,7 @@ use Rattle.kept_ancestors.specs.declared.keeping.KeptAncestors.{KeptAncestors}
 use Rattle.schema.specs.Schemas.{StatedSchema}
 use Rattle.entity_worlds.specs.declared.entity.Entity.{Entity}
 use Rattle.entity_worlds.specs.Entities.{kept_parents, action_or}
-use Rattle.stamped_store.specs.declared.entry.Entry.{Entry}
+use Rattle.stamped_entries.specs.declared.entry.Entry.{Entry}
 use Rattle.stamped_store.specs.EntryOrder.{greater}
 use Rattle.stamped_store.specs.Stored.{taken}
 use Rattle.stamped_store.proofs.Points.{others_kept}

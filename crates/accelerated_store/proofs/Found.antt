@@ -11,7 +11,7 @@ use Rattle.policy_grammar.specs.declared.policy.Policy.{Policy}
 use Rattle.scope_index.specs.Keys.{texts}
 use Rattle.authoriser.specs.Answers.{NamedPolicy}
 use Rattle.authoriser.specs.Views.{named}
-use Rattle.accelerated_store.specs.Indexed.{PolicyEntries, policy_at}
+use Rattle.store_index.specs.Indexed.{PolicyEntries, policy_at}
 use Rattle.accelerated_store.specs.inner.Offering.{found_at, found_under}
 
 ids_of : List NamedPolicy → List (List ℕ)

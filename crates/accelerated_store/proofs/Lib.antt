@@ -1,4 +1,3 @@
-mod Follows
 mod Found
 mod Read
 mod Skipping

@@ -17,14 +17,14 @@ use Rattle.policy_grammar.specs.declared.policy.Policy.{Policy}
 use Rattle.policy_grammar.specs.declared.policy.Scope.{Scope}
 use Rattle.values.specs.declared.request.Request.{Request}
 use Rattle.ancestor_closure.specs.Hierarchy.{Parents}
-use Rattle.stamped_store.specs.declared.entry.Entry.{Entry}
+use Rattle.stamped_entries.specs.declared.entry.Entry.{Entry}
 use Rattle.stamped_store.specs.Stored.{value_at_text}
-use Rattle.stamped_store.specs.declared.entry.ReadText.{ReadText}
+use Rattle.stamped_entries.specs.declared.entry.ReadText.{ReadText}
 use Rattle.scope_index.specs.Keys.{Keys, key_at, index_key}
 use Rattle.scope_index.specs.Scopes.{IsScopeTrue}
 use Rattle.authoriser.specs.Answers.{NamedPolicy}
 use Rattle.stored_world.specs.TextsRead.{policy_read, policies_read}
-use Rattle.accelerated_store.specs.Indexed.{PolicyEntries, policy_in, policy_at, AreIndexed}
+use Rattle.store_index.specs.Indexed.{PolicyEntries, policy_in, policy_at, AreIndexed}
 use Rattle.accelerated_store.specs.Candidates.{AreCandidates}
 use Rattle.accelerated_store.specs.inner.Offering.{found_at, found_under}
 use Rattle.accelerated_store.proofs.Found.{one_in, rest_in, first_in, found_is, is_found}

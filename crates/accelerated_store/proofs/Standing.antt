@@ -10,7 +10,7 @@ use Rattle.schema.specs.Views.{schema_view}
 use Rattle.scope_index.specs.Keys.{Keys}
 use Rattle.entity_worlds.specs.declared.entity.Entity.{Entity}
 use Rattle.stamped_store.specs.Store.{StoreEntries, kept}
-use Rattle.accelerated_store.specs.Indexed.{PolicyEntries, AreIndexed}
+use Rattle.store_index.specs.Indexed.{PolicyEntries, AreIndexed}
 use Rattle.accelerated_store.specs.Kept.{EntityEntries, AreAncestorsOf}
 use Rattle.accelerated_store.specs.Seen.{AreBeside}
 

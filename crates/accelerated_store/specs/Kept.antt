@@ -6,7 +6,7 @@ use Rattle.kept_ancestors.specs.declared.keeping.KeptAncestors.{KeptAncestors}
 use Rattle.kept_ancestors.specs.Kept.{AreKept}
 use Rattle.schema.specs.Schemas.{StatedSchema}
 use Rattle.entity_worlds.specs.declared.entity.Entity.{Entity}
-use Rattle.stamped_store.specs.declared.entry.Entry.{Entry}
+use Rattle.stamped_entries.specs.declared.entry.Entry.{Entry}
 use Rattle.stored_world.specs.Said.{world_under}
 use Rattle.stored_world.specs.TextsRead.{entity_at}
 

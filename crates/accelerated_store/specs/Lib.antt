@@ -1,5 +1,4 @@
 pub mod Candidates
-pub mod Indexed
 pub mod Kept
 pub mod Seen
 pub mod inner

@@ -8,7 +8,7 @@ use Rattle.schema.specs.Schemas.{StatedSchema}
 use Rattle.scope_index.specs.Keys.{Keys}
 use Rattle.entity_worlds.specs.declared.entity.Entity.{Entity}
 use Rattle.stamped_store.specs.Store.{StoreEntries}
-use Rattle.accelerated_store.specs.Indexed.{AreIndexed}
+use Rattle.store_index.specs.Indexed.{AreIndexed}
 use Rattle.accelerated_store.specs.Kept.{AreAncestorsOf}
 
 pub record SeenStore : Type 0 where

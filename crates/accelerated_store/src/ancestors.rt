@@ -12,10 +12,9 @@ ghost use Rattle.stored_world.specs.Said.{parents_with};
 ghost use Rattle.stored_world.specs.TextsRead.{entity_at};
 ghost use Rattle.accelerated_store.specs.Kept.{EntityEntries, AreAncestorsOf};
 ghost use Rattle.accelerated_store.specs.inner.Following.{AreAncestorsBut};
-ghost use Rattle.accelerated_store.specs.inner.Staying.{Stays};
+ghost use Rattle.store_index.specs.Staying.{Stays};
 
 use crate::pace::Pace;
-use crate::staying::stays;
 use entity_store::{Entity, world_under};
 use kept_ancestors::KeptAncestors;
 use plain::NoMemory;
@@ -23,11 +22,12 @@ use policy_grammar::Policy;
 use schema::Schema;
 use stamped_store::{Entry, PolicyStore};
 use std::alloc::Global;
+use store_index::stays;
 use stored_world::StoredEntities;
 use values::EntityUid;
 
-/// The ancestors of all entities of a store, made anew: one search for each entity and each action. Errors: `NoMemory`
-/// alone, also where there would be too many.
+/// Returns the ancestors of all entities of a store, made anew: one search for each entity and each action. Errors:
+/// `NoMemory` alone, also where there would be too many.
 pub(crate) fn ancestors_of(
     alloc: Global,
     schema: &Schema,
@@ -59,9 +59,9 @@ fn follow_store(
     ancestors.follow(&world, uid, &mut pace.room)
 }
 
-/// The ancestors of a store, where they were right before one entity changed; none where there were none, or memory is
-/// refused: a refused change leaves them right for the store before. They are let go, too, where following a message
-/// has come to more than making them anew behind it.
+/// Returns the ancestors of a store, where they were right before one entity changed; none where there were none, or
+/// memory is refused: a refused change leaves them right for the store before. They are let go, too, where following a
+/// message has come to more than making them anew behind it.
 fn followed(
     alloc: Global,
     ancestors: Option<KeptAncestors>,
@@ -81,7 +81,7 @@ fn followed(
     Some(ancestors)
 }
 
-/// Whether what is kept needs not follow once an entry was joined: none is, or what is stored stays.
+/// Returns whether what is kept needs not follow once an entry was joined: none is, or what is stored stays.
 fn needs_nothing(
     store: &PolicyStore<Policy, Entity>,
     ancestors: &Option<KeptAncestors>,
@@ -157,8 +157,8 @@ pub(crate) fn take_entity(
     take_and_follow(alloc, schema, store, ancestors, pace, uid, entry)
 }
 
-/// Whether an entity is on a cycle once its edges are those that it states: two look-ups for each parent, and no
-/// memory. It answers of each store whose ancestors these are.
+/// Returns whether an entity is on a cycle once its edges are those that it states: two look-ups for each parent, and
+/// no memory. It answers of each store whose ancestors these are.
 pub(crate) fn would_cycle_by(ancestors: &KeptAncestors, entity: &Entity) -> bool
     ensures { (schema : StatedSchema) (entries : EntityEntries) → AreAncestorsOf schema entries ancestors.now
         → (IsTrue result ↔ IsOnCycle (parents_with schema (entity_at entries) entity.now) entity.now.uid) }

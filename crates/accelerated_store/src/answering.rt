@@ -7,7 +7,7 @@ ghost use Rattle.schema.specs.Views.{schema_view};
 ghost use Rattle.stamped_store.specs.Store.{updates, abstract_store, abstract_updates};
 ghost use Rattle.stored_world.specs.Said.{world_under};
 ghost use Rattle.stored_world.specs.TextsRead.{policies_read, entity_at};
-ghost use Rattle.accelerated_store.specs.Indexed.{AreIndexed};
+ghost use Rattle.store_index.specs.Indexed.{AreIndexed};
 ghost use Rattle.accelerated_store.specs.Candidates.{AreCandidates, Ascend};
 ghost use Rattle.accelerated_store.specs.Kept.{AreAncestorsOf};
 
@@ -15,7 +15,7 @@ use crate::kept_world::KeptWorld;
 use crate::laws::candidates_suffice;
 use crate::offering::offered;
 use crate::tries::Tries;
-use authoriser::{Answer, decide};
+use authoriser::{Answer, Known, decide_known};
 use entity_store::{Entity, world_under};
 use evaluator::Lookup;
 use kept_ancestors::KeptAncestors;
@@ -35,69 +35,85 @@ pub(crate) fn is_in_order(store: &PolicyStore<Policy, Entity>)
     let _policies = store.policies();
 }
 
-/// The answer where every policy is tried.
+/// Returns the answer where every policy is tried.
 fn answer_over_all<L: Lookup>(
     alloc: Global,
     store: &PolicyStore<Policy, Entity>,
-    request: &Request,
-    lookup: &L,
+    known: &Known<'_, L>,
     tries: &Tries,
 ) -> Result<Answer, NoMemory>
-    ensures { IfOk result (IsAnswer (world_of (L.stored lookup.now) (L.parents lookup.now)) request.now
+    ensures { IfOk result (IsAnswer (world_of (L.stored known.now.0) (L.parents known.now.0)) known.now.1
         (policies_read store.now.policies)) }
 {
     let policies = policies_in(alloc, store)?;
     tries.begin(policies.len());
-    decide(alloc, &policies, request, lookup)
+    decide_known(alloc, &policies, known)
 }
 
-/// The answer where only these policies are tried, which are all that the request may meet.
+/// Returns the answer where only these policies are tried, which are all that the request may meet.
 fn answer_over_candidates<L: Lookup>(
     alloc: Global,
     store: &PolicyStore<Policy, Entity>,
     policies: &[(&str, &Policy)],
-    request: &Request,
-    lookup: &L,
+    known: &Known<'_, L>,
     tries: &Tries,
 ) -> Result<Answer, NoMemory>
-    requires candidates { AreCandidates (L.parents lookup.now) request.now (policies_read store.now.policies)
+    requires candidates { AreCandidates (L.parents known.now.0) known.now.1 (policies_read store.now.policies)
         (named policies.now) }
     requires ascending { Ascend (named policies.now) }
-    ensures { IfOk result (IsAnswer (world_of (L.stored lookup.now) (L.parents lookup.now)) request.now
+    ensures { IfOk result (IsAnswer (world_of (L.stored known.now.0) (L.parents known.now.0)) known.now.1
         (policies_read store.now.policies)) }
 {
     is_in_order(store);
     candidates_suffice();
     tries.begin(policies.len());
-    decide(alloc, policies, request, lookup)
+    decide_known(alloc, policies, known)
 }
 
-/// The answer by an index: over the policies that it offers, where these may be fewer than all and memory suffices to
-/// list them, else over all.
+/// Returns the answer by an index: over the policies that it offers, where these may be fewer than all and memory
+/// suffices to list them, else over all.
 fn answer_by_index<L: Lookup>(
     alloc: Global,
     store: &PolicyStore<Policy, Entity>,
     index: &ScopeIndex,
-    request: &Request,
-    lookup: &L,
+    known: &Known<'_, L>,
     tries: &Tries,
 ) -> Result<Answer, NoMemory>
     requires { AreIndexed store.now.policies index.now }
-    ensures { IfOk result (IsAnswer (world_of (L.stored lookup.now) (L.parents lookup.now)) request.now
+    ensures { IfOk result (IsAnswer (world_of (L.stored known.now.0) (L.parents known.now.0)) known.now.1
         (policies_read store.now.policies)) }
 {
     if !tries.is_bound() {
-        return answer_over_all(alloc, store, request, lookup, tries);
+        return answer_over_all(alloc, store, known, tries);
     }
-    match offered(alloc, store, index, request, lookup) {
-        Ok(policies) => { answer_over_candidates(alloc, store, &policies, request, lookup, tries) }
-        Err(_) => answer_over_all(alloc, store, request, lookup, tries),
+    match offered(alloc, store, index, known.request(), known) {
+        Ok(policies) => answer_over_candidates(alloc, store, &policies, known, tries),
+        Err(_) => answer_over_all(alloc, store, known, tries),
     }
 }
 
-/// The answer to a request over a store, by whatever tells its entities, and by the index where there is one.
+/// Returns the answer to the request whose entities were looked up, by the index where there is one.
+fn answer_by_known<L: Lookup>(
+    alloc: Global,
+    store: &PolicyStore<Policy, Entity>,
+    index: &Option<ScopeIndex>,
+    known: &Known<'_, L>,
+    tries: &Tries,
+) -> Result<Answer, NoMemory>
+    requires { IfSome index.now (AreIndexed store.now.policies) }
+    ensures { IfOk result (IsAnswer (world_of (L.stored known.now.0) (L.parents known.now.0)) known.now.1
+        (policies_read store.now.policies)) }
+{
+    match index {
+        Some(index) => answer_by_index(alloc, store, index, known, tries),
+        None => answer_over_all(alloc, store, known, tries),
+    }
+}
+
+/// Returns the answer to a request over a store, by whatever tells its entities, and by the index where there is one.
+/// What the index and the policies ask of the request's own entities is looked up once.
 ///
-/// `tries` is told the number of policies that are handed to [`decide`]. Errors: `NoMemory` alone.
+/// `tries` is told the number of policies that are handed to [`decide_known`]. Errors: `NoMemory` alone.
 pub(crate) fn answer_by<L: Lookup>(
     alloc: Global,
     store: &PolicyStore<Policy, Entity>,
@@ -110,13 +126,11 @@ pub(crate) fn answer_by<L: Lookup>(
     ensures { IfOk result (IsAnswer (world_of (L.stored lookup.now) (L.parents lookup.now)) request.now
         (policies_read store.now.policies)) }
 {
-    match index {
-        Some(index) => answer_by_index(alloc, store, index, request, lookup, tries),
-        None => answer_over_all(alloc, store, request, lookup, tries),
-    }
+    let known = Known::of(alloc, lookup, request)?;
+    answer_by_known(alloc, store, index, &known, tries)
 }
 
-/// The answer to a request over what stands beside the texts of a store, the hierarchy searched in place.
+/// Returns the answer to a request over what stands beside the texts of a store, the hierarchy searched in place.
 fn answer_by_world(
     alloc: Global,
     schema: &Schema,
@@ -134,7 +148,7 @@ fn answer_by_world(
     answer_by(alloc, store, index, request, &world, tries)
 }
 
-/// The same by the ancestors that are kept: nothing is searched where there is no cycle.
+/// Returns the same by the ancestors that are kept: nothing is searched where there is no cycle.
 fn answer_by_ancestors(
     alloc: Global,
     schema: &Schema,
@@ -155,7 +169,7 @@ fn answer_by_ancestors(
     answer_by(alloc, store, index, request, &kept, tries)
 }
 
-/// The answer to a request over what stands beside the texts of a store, by what is kept beside it.
+/// Returns the answer to a request over what stands beside the texts of a store, by what is kept beside it.
 pub(crate) fn answer_by_kept(
     alloc: Global,
     schema: &Schema,

@@ -31,7 +31,7 @@ impl<'a, W: Lookup + Graph> Model for KeptWorld<'a, W> {
 }
 
 impl<'a, W: Lookup + Graph> KeptWorld<'a, W> {
-    /// A world, and the ancestors that are kept of it. Takes no memory.
+    /// Returns a world, and the ancestors that are kept of it. Takes no memory.
     pub(crate) fn new(world: &'a W, ancestors: &'a KeptAncestors) -> Self
         requires { AreKeptOf (W.ParentsOf.parents world.now) (W.Ancestry.parents world.now) ancestors.now }
         ensures { result ≡ world.now }

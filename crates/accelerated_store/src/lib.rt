@@ -8,12 +8,10 @@
 
 mod ancestors;
 mod answering;
-mod index;
 mod kept_world;
 mod laws;
 mod offering;
 mod pace;
-mod staying;
 mod store;
 mod tries;
 

@@ -3,11 +3,10 @@ ghost use Rattle.std.specs.Prelude.{◌≡◌, IfOk};
 ghost use Rattle.authoriser.specs.Views.{named};
 ghost use Rattle.scope_index.specs.Keys.{texts};
 ghost use Rattle.stored_world.specs.TextsRead.{policies_read};
-ghost use Rattle.accelerated_store.specs.Indexed.{AreIndexed};
+ghost use Rattle.store_index.specs.Indexed.{AreIndexed};
 ghost use Rattle.accelerated_store.specs.Candidates.{AreCandidates, Ascend};
 ghost use Rattle.accelerated_store.specs.inner.Offering.{found_under};
 
-use crate::index::policy_under;
 use ancestor_closure::Ancestry;
 use entity_store::Entity;
 use plain::NoMemory;
@@ -15,6 +14,7 @@ use policy_grammar::Policy;
 use scope_index::ScopeIndex;
 use stamped_store::PolicyStore;
 use std::alloc::Global;
+use store_index::policy_under;
 use values::Request;
 
 // The policies under these ids.
@@ -34,8 +34,8 @@ fn policies_under<'s>(
     Ok(found)
 }
 
-/// The policies that the index offers, ascending by id: each look-up in logarithmic time, and none for a policy that
-/// is not offered. They are lent, not copied. Errors: `NoMemory` alone.
+/// Returns the policies that the index offers, ascending by id: each look-up in logarithmic time, and none for a policy
+/// that is not offered. They are lent, not copied. Errors: `NoMemory` alone.
 pub(crate) fn offered<'s, A: Ancestry>(
     alloc: Global,
     store: &'s PolicyStore<Policy, Entity>,

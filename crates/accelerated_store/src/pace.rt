@@ -60,7 +60,7 @@ impl Pace {
         self.pause = self.pause.saturating_sub(1);
     }
 
-    /// Whether following costs more than making all of them anew.
+    /// Returns whether following costs more than making all of them anew.
     pub(crate) fn is_dear(&self, entities: usize) -> bool {
         let anew = self.room.kept().saturating_add(entities);
         self.room.written() > anew.saturating_add(BESIDE_ANEW)

@@ -13,13 +13,12 @@ ghost use Rattle.ancestor_closure.specs.Hierarchy.{IsOnCycle, with_parents};
 ghost use Rattle.authoriser.specs.Answers.{IsAnswer};
 ghost use Rattle.stored_world.specs.Said.{IsAnswerOver, MakesCycle, MakesNoCycle, parents_with, world_under};
 ghost use Rattle.stored_world.specs.TextsRead.{entity_at, policies_read};
-ghost use Rattle.accelerated_store.specs.Indexed.{AreIndexed};
+ghost use Rattle.store_index.specs.Indexed.{AreIndexed};
 ghost use Rattle.accelerated_store.specs.Kept.{AreAncestorsOf};
 ghost use Rattle.accelerated_store.specs.Seen.{AreBeside};
 
 use crate::ancestors::{ancestors_of, take_entity, would_cycle_by};
 use crate::answering::{answer_by_kept, is_in_order};
-use crate::index::{index_of, take_policy};
 use crate::pace::Pace;
 use crate::tries::Tries;
 use ancestor_closure::ParentsOf;
@@ -33,6 +32,7 @@ use scope_index::ScopeIndex;
 use stamped_store::{Entry, PolicyStore, Readings};
 use std::alloc::Global;
 use std::marker::Model;
+use store_index::{stand_index, take_policy};
 use stored_world::StoredEntities;
 use values::{EntityUid, Request};
 
@@ -64,16 +64,6 @@ impl Model for AcceleratedStore {
     ghost view = { λ s. record { schema = s.schema; kept = s.store } };
 
     ghost invariant = { λ s. AreBeside (schema_view s.schema) s.store s.index s.ancestors };
-}
-
-/// Makes the index anew where it was dropped, if memory suffices.
-fn stand_index(alloc: Global, store: &PolicyStore<Policy, Entity>, index: &mut Option<ScopeIndex>)
-    requires { IfSome index.old (AreIndexed store.now.policies) }
-    ensures { IfSome index.new (AreIndexed store.now.policies) }
-{
-    if index.is_none() {
-        *index = index_of(alloc, store).ok();
-    }
 }
 
 /// Makes the ancestors anew where they were dropped, if memory suffices, and there are not too many.
@@ -110,7 +100,7 @@ fn stand(
     stand_ancestors(alloc, schema, store, ancestors, pace);
 }
 
-/// Whether an entity is on a cycle of a graph in which its edges are those that it states.
+/// Returns whether an entity is on a cycle of a graph in which its edges are those that it states.
 fn is_on_cycle_in<G: ParentsOf>(alloc: Global, graph: &G, entity: &Entity) -> Result<bool, NoMemory>
     ensures { let changed = with_parents (G.parents graph.now) entity.now.uid entity.now.parents in
         IfOk result (λ yes. IsTrue yes ↔ IsOnCycle changed entity.now.uid) }
@@ -118,7 +108,7 @@ fn is_on_cycle_in<G: ParentsOf>(alloc: Global, graph: &G, entity: &Entity) -> Re
     ancestor_closure::would_cycle(alloc, graph, &entity.uid, entity.parents.as_slice())
 }
 
-/// Whether an entity is on a cycle once its edges are those that it states, the hierarchy searched in place.
+/// Returns whether an entity is on a cycle once its edges are those that it states, the hierarchy searched in place.
 fn would_cycle_by_world(
     alloc: Global,
     schema: &Schema,
@@ -133,7 +123,7 @@ fn would_cycle_by_world(
     is_on_cycle_in(alloc, &world, entity)
 }
 
-/// Whether an entity is on a cycle once its edges are those that it states, by what stands beside the texts.
+/// Returns whether an entity is on a cycle once its edges are those that it states, by what stands beside the texts.
 fn would_cycle_by_kept(
     alloc: Global,
     schema: &Schema,
@@ -152,8 +142,9 @@ fn would_cycle_by_kept(
 }
 
 impl AcceleratedStore {
-    /// The empty store under a schema, with its index. Its ancestors, those of the schema's actions, take memory, and
-    /// are made by the first [`Self::record_policy`], [`Self::record_entity`] or [`Self::rebuild`]. Takes no memory.
+    /// Returns the empty store under a schema, with its index. Its ancestors, those of the schema's actions, take
+    /// memory, and are made by the first [`Self::record_policy`], [`Self::record_entity`] or [`Self::rebuild`]. Takes
+    /// no memory.
     pub fn new(alloc: Global, schema: Shared<Schema>) -> Self
         ensures { result ≡ record { schema = schema; kept = kept [] [] } }
     {
@@ -168,14 +159,14 @@ impl AcceleratedStore {
         }
     }
 
-    /// The schema.
+    /// Returns the schema.
     pub fn schema(&self) -> &Schema
         ensures { result.now ≡ self.now.schema }
     {
         self.schema.get()
     }
 
-    /// The store itself.
+    /// Returns the store itself.
     pub fn store(&self) -> &PolicyStore<Policy, Entity>
         ensures { result.now ≡ self.now.kept }
     {
@@ -315,7 +306,7 @@ impl AcceleratedStore {
         );
     }
 
-    /// The answer by what stands beside the texts.
+    /// Returns the answer by what stands beside the texts.
     fn answer_by_kept(&self, request: &Request) -> Result<Answer, NoMemory>
         ensures { IfOk result (IsAnswer
             (world_under (schema_view self.now.schema) (entity_at self.now.kept.entities)) request.now
@@ -332,7 +323,8 @@ impl AcceleratedStore {
         )
     }
 
-    /// Whether an entity is on a cycle once its edges are those that it states, by what stands beside the texts.
+    /// Returns whether an entity is on a cycle once its edges are those that it states, by what stands beside the
+    /// texts.
     fn would_cycle_by_kept(&self, entity: &Entity) -> Result<bool, NoMemory>
         ensures { IfOk result (λ yes. IsTrue yes ↔ IsOnCycle
             (parents_with (schema_view self.now.schema) (entity_at self.now.kept.entities) entity.now)
@@ -347,8 +339,8 @@ impl AcceleratedStore {
         )
     }
 
-    /// The answer to a request over the store: over the policies and entities that its texts are read as, and the
-    /// actions of the schema.
+    /// Returns the answer to a request over the store: over the policies and entities that its texts are read as, and
+    /// the actions of the schema.
     ///
     /// R is what texts may be read as. The answer is that of the store for each r of R by which each text of the store
     /// was read as what stands beside it. Only policies are tried whose scope names no entity, or one that the request
@@ -362,8 +354,8 @@ impl AcceleratedStore {
         self.answer_by_kept(request)
     }
 
-    /// Whether an entity would be on a cycle once it is put into the store, whatever its uid has there now. Cycles of
-    /// other entities do not matter.
+    /// Returns whether an entity would be on a cycle once it is put into the store, whatever its uid has there now.
+    /// Cycles of other entities do not matter.
     ///
     /// R is what texts may be read as, as at [`Self::answer`]. Errors: `NoMemory` alone.
     pub fn would_cycle<R: Readings<Policy, Entity>>(
@@ -391,12 +383,12 @@ impl AcceleratedStore {
         self.ancestors = None;
     }
 
-    /// Whether the ancestors and the index stand; for tests alone.
+    /// Returns whether the ancestors and the index stand; for tests alone.
     pub fn standing(&self) -> (bool, bool) {
         (self.ancestors.is_some(), self.index.is_some())
     }
 
-    /// How many policies the last answer tried; for tests alone.
+    /// Returns how many policies the last answer tried; for tests alone.
     pub fn tried(&self) -> usize {
         self.tries.tried()
     }

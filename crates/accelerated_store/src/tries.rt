@@ -14,7 +14,7 @@ pub(crate) struct Tries {
     is_bound: bool,
 }
 
-/// Whether a part of a scope names an entity.
+/// Returns whether a part of a scope names an entity.
 fn names_entity(part: &EntityScope) -> bool {
     match part {
         EntityScope::Any | EntityScope::Is(_) => false,
@@ -40,7 +40,7 @@ impl Tries {
         }
     }
 
-    /// Whether an index may offer less than all policies.
+    /// Returns whether an index may offer less than all policies.
     pub(crate) fn is_bound(&self) -> bool {
         self.is_bound
     }
@@ -50,7 +50,7 @@ impl Tries {
         self.tried.set(tried);
     }
 
-    /// How many policies the last answer tried.
+    /// Returns how many policies the last answer tried.
     pub(crate) fn tried(&self) -> usize {
         self.tried.get()
     }

@@ -9,10 +9,10 @@ use Rattle.std.specs.Cmp.{tied_itself}
 use Rattle.std.proofs.lemmas.List.Elements.{All-from_recursion, All-contains}
 use Rattle.values.specs.Names.{uid_cmp, uid_cmp-IsTotalOrder}
 use Rattle.values.specs.declared.entity_uid.EntityUid.{EntityUid}
-use Rattle.ancestor_closure.specs.Hierarchy.{Parents, Above, IsAscending, names}
+use Rattle.parent_graphs.specs.Hierarchy.{Parents, Above, IsAscending, names}
 use Rattle.ancestor_closure.specs.inner.Backwards.{IsWalkBack}
 use Rattle.ancestor_closure.specs.LeastCycle.{IsLeastCycle, IsLeastCycleFrom}
-use Rattle.ancestor_closure.specs.Deciding.{Contains-here, Contains-cases}
+use Rattle.parent_graphs.specs.Deciding.{Contains-here, Contains-cases}
 
 pub none_first : (xs : List (Bor EntityUid)) → None ≡ slice_get xs 0 → names xs ≡ []
 none_first [] e = refl

@@ -6,11 +6,11 @@ use Rattle.std.specs.Cmp.{tied_itself}
 use Rattle.std.proofs.lemmas.Bool.{cases_lt}
 use Rattle.values.specs.Names.{uid_cmp, uid_cmp-IsTotalOrder}
 use Rattle.values.specs.declared.entity_uid.EntityUid.{EntityUid}
-use Rattle.ancestor_closure.specs.Hierarchy.{Parents, Path, Above}
+use Rattle.parent_graphs.specs.Hierarchy.{Parents, Path, Above}
 use Rattle.ancestor_closure.specs.inner.Backwards.{AreDistances, AreKnownUpTo, ReachesBack, AreChildren, Reaches, is_one_of, is_child_of}
-use Rattle.ancestor_closure.specs.Deciding.{Contains-there, Contains-cases, Contains-none}
-use Rattle.ancestor_closure.specs.Deciding.{same_uid, same_self, any_at, any_from}
-use Rattle.ancestor_closure.specs.Decided.{is_same}
+use Rattle.parent_graphs.specs.Deciding.{Contains-there, Contains-cases, Contains-none}
+use Rattle.parent_graphs.specs.Deciding.{same_uid, same_self, any_at, any_from}
+use Rattle.parent_graphs.specs.Decided.{is_same}
 use Rattle.std.specs.Option.{option_or}
 
 abbrev pub LeadsNear : List EntityUid → EntityUid → (EntityUid → Option ℕ) → Type 0

@@ -12,9 +12,9 @@ use Rattle.std.specs.FinMap.{slice_cmp-IsAntisymmetric, IsAntisymmetric}
 use Rattle.std.proofs.lemmas.Bool.{cases_lt}
 use Rattle.values.specs.declared.entity_uid.EntityUid.{EntityUid}
 use Rattle.values.specs.Names.{uid_cmp, uid_cmp-IsTotalOrder, uid_cmp-IsAntisymmetric}
-use Rattle.ancestor_closure.specs.Hierarchy.{Parents, Path, IsOnCycle}
-use Rattle.ancestor_closure.specs.Decided.{HaveAllParents, reaches}
-use Rattle.ancestor_closure.specs.Deciding.{decided, Contains-here, Contains-there, Contains-cases, Contains-none}
+use Rattle.parent_graphs.specs.Hierarchy.{Parents, Path, IsOnCycle}
+use Rattle.parent_graphs.specs.Decided.{HaveAllParents, reaches}
+use Rattle.parent_graphs.specs.Deciding.{decided, Contains-here, Contains-there, Contains-cases, Contains-none}
 use Rattle.ancestor_closure.specs.LeastCycle.{IsLeastCycleFrom, LeastCyclesAreOne, CyclesHaveALeast}
 use Rattle.ancestor_closure.proofs.Levels.{among}
 use Rattle.ancestor_closure.proofs.Walks.{then_least}

@@ -9,8 +9,8 @@ use Rattle.std.specs.Borrow.{Bor}
 use Rattle.std.proofs.lemmas.List.Elements.{Contains-append_left, Contains-push, Contains-push_cases}
 use Rattle.values.specs.declared.entity_uid.EntityUid.{EntityUid}
 use Rattle.values.specs.Names.{uid_cmp}
-use Rattle.ancestor_closure.specs.Decided.{is_same}
-use Rattle.ancestor_closure.specs.Deciding.{same_uid, same_self}
+use Rattle.parent_graphs.specs.Decided.{is_same}
+use Rattle.parent_graphs.specs.Deciding.{same_uid, same_self}
 use Rattle.ancestor_closure.specs.inner.Backwards.{Reaches, dist_of, is_one_of, is_child_of}
 
 -- a test of one item more

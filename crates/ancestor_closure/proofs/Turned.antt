@@ -8,9 +8,9 @@ use Rattle.std.specs.Borrow.{Bor}
 use Rattle.std.proofs.lemmas.List.Elements.{Contains-append_left, Contains-push, Contains-push_cases}
 use Rattle.values.specs.declared.entity_uid.EntityUid.{EntityUid}
 use Rattle.values.specs.Names.{uid_cmp}
-use Rattle.ancestor_closure.specs.Hierarchy.{Parents, names}
-use Rattle.ancestor_closure.specs.Decided.{is_same, HaveAllParents}
-use Rattle.ancestor_closure.specs.Deciding.{same_uid, same_self, Contains-none}
+use Rattle.parent_graphs.specs.Hierarchy.{Parents, names}
+use Rattle.parent_graphs.specs.Decided.{is_same, HaveAllParents}
+use Rattle.parent_graphs.specs.Deciding.{same_uid, same_self, Contains-none}
 use Rattle.ancestor_closure.specs.inner.Backwards.{names_or_none, children_of, AddsChild, AreChildrenAmong, AreChildren}
 
 abbrev Kept : Type 0

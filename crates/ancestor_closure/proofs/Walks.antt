@@ -8,7 +8,7 @@ use Rattle.std.specs.declared.cmp.Ordering.{Ordering}
 use Rattle.std.specs.declared.cmp.Ordering.TheVariants.{Less, Equal, Greater}
 use Rattle.values.specs.Names.{uid_cmp}
 use Rattle.values.specs.declared.entity_uid.EntityUid.{EntityUid}
-use Rattle.ancestor_closure.specs.Hierarchy.{Parents, Path}
+use Rattle.parent_graphs.specs.Hierarchy.{Parents, Path}
 use Rattle.ancestor_closure.specs.inner.Backwards.{IsLeastFrom, AreDistances, AreKnownUpTo, IsLeastAt, IsWalkBack}
 use Rattle.values.specs.Names.{uid_cmp-IsAntisymmetric}
 

@@ -7,8 +7,8 @@ use Rattle.std.specs.Ordering.{is_gt}
 use Rattle.std.specs.Cmp.Lexicographic.{slice_cmp}
 use Rattle.values.specs.declared.entity_uid.EntityUid.{EntityUid}
 use Rattle.values.specs.Names.{uid_cmp}
-use Rattle.ancestor_closure.specs.Hierarchy.{Parents, Path, IsOnCycle}
-use Rattle.ancestor_closure.specs.Decided.{HaveAllParents}
+use Rattle.parent_graphs.specs.Hierarchy.{Parents, Path, IsOnCycle}
+use Rattle.parent_graphs.specs.Decided.{HaveAllParents}
 
 -- an edge leads from each entity to the next, and from the last to the first
 abbrev pub IsClosedWalk : Parents → List EntityUid → Type 0

@@ -1,7 +1,8 @@
-pub mod Decided
-pub mod Deciding
-pub mod Hierarchy
 pub mod LeastCycle
-pub mod Search
 pub mod SearchedMeaning
 pub mod inner
+-- what crates above cite of `parent_graphs`, passed on
+pub use Rattle.parent_graphs.specs.Decided
+pub use Rattle.parent_graphs.specs.Deciding
+pub use Rattle.parent_graphs.specs.Hierarchy
+pub use Rattle.parent_graphs.specs.Search

@@ -3,10 +3,10 @@
 use Rattle.std.specs.Prelude.{Bool}
 use Rattle.std.specs.BTreeMap.{keys}
 use Rattle.values.specs.declared.entity_uid.EntityUid.{EntityUid}
-use Rattle.ancestor_closure.specs.Hierarchy.{Parents}
-use Rattle.ancestor_closure.specs.Search.{parents_of}
-use Rattle.ancestor_closure.specs.Decided.{Decides, reaches}
-use Rattle.ancestor_closure.specs.Deciding.{edges_are_decided}
+use Rattle.parent_graphs.specs.Hierarchy.{Parents}
+use Rattle.parent_graphs.specs.Search.{parents_of}
+use Rattle.parent_graphs.specs.Decided.{Decides, reaches}
+use Rattle.parent_graphs.specs.Deciding.{edges_are_decided}
 use Rattle.ancestor_closure.specs.declared.searched.Searched.{Searched}
 
 -- the parents of each entity

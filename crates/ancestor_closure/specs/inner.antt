@@ -1,4 +1,1 @@
 pub mod Backwards
-pub mod Numbering
-pub mod UnderWay
-pub mod Walking

@@ -1,20 +1,14 @@
 //! Who is above whom in a hierarchy of entities, by search, and which cycle is named where there are cycles.
 #![tactic(auto)]
 
-pub mod graph;
 pub mod hierarchy;
 pub mod laws;
-mod lists;
 mod named_cycle;
-mod numbers;
-mod search;
 pub mod searched;
-mod walk;
 
-pub use graph::{Changed, Graph, ParentsOf};
 pub use hierarchy::{Ancestry, Hierarchy};
-pub use lists::{is_among, listed};
 pub use named_cycle::{least_cycle, least_cycle_among};
-pub use numbers::on_cycles;
-pub use search::{ancestors_of, is_above, would_cycle};
+pub use parent_graphs::{
+    Changed, Graph, ParentsOf, ancestors_of, is_above, is_among, listed, on_cycles, would_cycle,
+};
 pub use searched::Searched;

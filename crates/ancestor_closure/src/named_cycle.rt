@@ -10,14 +10,13 @@ ghost use Rattle.std.specs.Option.{option_copied};
 ghost use Rattle.std.specs.Ordering.{is_eq, is_lt};
 ghost use Rattle.values.specs.declared.entity_uid.EntityUid.{EntityUid as PlainUid};
 ghost use Rattle.values.specs.Names.{uid_cmp};
-ghost use Rattle.ancestor_closure.specs.Hierarchy.{names, Above, AreOnCycles, IsAscending};
+ghost use Rattle.parent_graphs.specs.Hierarchy.{names, Above, AreOnCycles, IsAscending};
 ghost use Rattle.ancestor_closure.specs.LeastCycle.{HasNoCycle, IsLeastCycle};
 ghost use Rattle.ancestor_closure.specs.inner.Backwards.{children_of, AreChildrenAmong, AreChildren, AddsChild};
 ghost use Rattle.ancestor_closure.specs.inner.Backwards.{dist_of, AreDistances, AreKnownUpTo, ReachesBack, Reaches};
 ghost use Rattle.ancestor_closure.specs.inner.Backwards.{is_one_of, is_child_of, IsLeastOf, IsWalkBack};
 
-use crate::graph::{Graph, ParentsOf};
-use crate::numbers::on_cycles;
+use parent_graphs::{Graph, ParentsOf, on_cycles};
 use plain::NoMemory;
 use std::alloc::Global;
 use std::collections::BTreeMap;
@@ -241,8 +240,8 @@ fn walk<'a, G: ParentsOf>(
     Ok(found)
 }
 
-/// What [`least_cycle`] gives, where `cyclic` are all entities on cycles, ascending: for those who know them. None, at
-/// once, where there are none.
+/// Returns what [`least_cycle`] gives, where `cyclic` are all entities on cycles, ascending: for those who know them.
+/// None, at once, where there are none.
 pub fn least_cycle_among<'a, G: Graph>(
     alloc: Global,
     graph: &'a G,
@@ -267,9 +266,9 @@ pub fn least_cycle_among<'a, G: Graph>(
     Ok(Some(found))
 }
 
-/// The least, compared item by item, of the shortest cycles through the least entity that is on a cycle. It begins with
-/// that entity; an edge leads from each entity to the next, and from the last to the first. Entities count as less by
-/// type, and then by id. None where there is no cycle, and then at the cost of [`on_cycles`].
+/// Returns the least, compared item by item, of the shortest cycles through the least entity that is on a cycle. It
+/// begins with that entity; an edge leads from each entity to the next, and from the last to the first. Entities count
+/// as less by type, and then by id. None where there is no cycle, and then at the cost of [`on_cycles`].
 pub fn least_cycle<'a, G: Graph>(
     alloc: Global,
     graph: &'a G,

@@ -50,7 +50,7 @@ fn ascending<'a>(alloc: Global, uids: &'a [EntityUid]) -> Result<Vec<&'a EntityU
     listed(alloc, found)
 }
 
-/// The parents of an entity, ascending, each once.
+/// Returns the parents of an entity, ascending, each once.
 pub fn parents_by<'a, G: ParentsOf>(
     alloc: Global,
     graph: &'a G,

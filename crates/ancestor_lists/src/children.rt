@@ -73,7 +73,7 @@ fn below<'a>(
     Ok(seen)
 }
 
-/// An entity and all below it.
+/// Returns an entity and all below it.
 pub(crate) fn entity_and_below<'a>(
     alloc: Global,
     relatives: &'a BTreeMap<EntityUid, Relatives>,

@@ -71,7 +71,7 @@ pub(crate) fn leave_all(
     }
 }
 
-/// Whether none is in the set; takes no memory.
+/// Returns whether none is in the set; takes no memory.
 pub fn are_none(uids: &BTreeSet<Shared<EntityUid>>) -> bool
     ensures { IsTrue result ↔ (uids.now.keys ≡ []) }
 {

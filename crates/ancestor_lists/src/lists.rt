@@ -24,14 +24,14 @@ fn compare(known: &Shared<EntityUid>, uid: &EntityUid) -> Ordering
     known.get().cmp(uid)
 }
 
-/// Whether an ascending list has the entity; takes logarithmic time.
+/// Returns whether an ascending list has the entity; takes logarithmic time.
 pub fn is_in(list: &[Shared<EntityUid>], uid: &EntityUid) -> bool
     ensures { IsAscending list.now → IsTrue result ↔ Contains list.now uid.now }
 {
     list.binary_search_by(|known| compare(known, uid)).is_ok()
 }
 
-/// Whether the entities are all in an ascending list.
+/// Returns whether the entities are all in an ascending list.
 pub(crate) fn are_in(uids: &[&EntityUid], list: &[Shared<EntityUid>]) -> bool
     requires { IsAscending list.now }
     ensures { IsTrue result → (x : PlainUid) → Contains (names uids.now) x → Contains list.now x }
@@ -44,7 +44,7 @@ pub(crate) fn are_in(uids: &[&EntityUid], list: &[Shared<EntityUid>]) -> bool
     true
 }
 
-/// Whether all of a list are among these, which ascend.
+/// Returns whether all of a list are among these, which ascend.
 pub(crate) fn are_among(list: &[Shared<EntityUid>], uids: &[&EntityUid]) -> bool
     requires { IsAscending (names uids.now) }
     ensures { IsTrue result → (x : PlainUid) → Contains list.now x → Contains (names uids.now) x }
@@ -99,7 +99,8 @@ fn list_of<G: ParentsOf>(
     shared_all(alloc, relatives, &found)
 }
 
-/// The ancestors of an entity, by a search, where there is room for them in the place of those that are kept of it.
+/// Returns the ancestors of an entity, by a search, where there is room for them in the place of those that are kept of
+/// it.
 pub fn list_within<G: ParentsOf>(
     alloc: Global,
     graph: &G,
@@ -129,7 +130,7 @@ fn with_list<G: ParentsOf>(
     Ok((name, list))
 }
 
-/// The ancestors of each of these entities.
+/// Returns the ancestors of each of these entities.
 pub(crate) fn lists_of<G: ParentsOf>(
     alloc: Global,
     graph: &G,

@@ -21,7 +21,7 @@ pub struct Relatives {
     pub(crate) children: BTreeSet<Shared<EntityUid>>,
 }
 
-/// The ancestors of an entity.
+/// Returns the ancestors of an entity.
 pub fn ancestors_at<'a>(
     relatives: &'a BTreeMap<EntityUid, Relatives>,
     uid: &EntityUid,
@@ -34,7 +34,7 @@ pub fn ancestors_at<'a>(
     }
 }
 
-/// Whether the one is a child of the other.
+/// Returns whether the one is a child of the other.
 pub(crate) fn is_child(
     relatives: &BTreeMap<EntityUid, Relatives>,
     parent: &EntityUid,
@@ -48,7 +48,7 @@ pub(crate) fn is_child(
     }
 }
 
-/// The uid, shared with what is kept of the entity, if anything is.
+/// Returns the uid, shared with what is kept of the entity, if anything is.
 pub fn shared(
     alloc: Global,
     relatives: &BTreeMap<EntityUid, Relatives>,

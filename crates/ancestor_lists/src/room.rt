@@ -15,7 +15,7 @@ pub struct Room {
 }
 
 impl Room {
-    /// The room for so many, where none is kept yet.
+    /// Returns the room for so many, where none is kept yet.
     pub fn new(most: usize) -> Room {
         Room {
             most,
@@ -48,17 +48,17 @@ impl Room {
         self.written = self.written.saturating_add(list);
     }
 
-    /// How many are kept.
+    /// Returns how many are kept.
     pub fn kept(&self) -> usize {
         self.kept
     }
 
-    /// How many were written or looked at since the beginning, and one more for each list that was written.
+    /// Returns how many were written or looked at since the beginning, and one more for each list that was written.
     pub fn written(&self) -> usize {
         self.written
     }
 
-    /// Whether a list was refused, because there would have been too many.
+    /// Returns whether a list was refused, because there would have been too many.
     pub fn is_short(&self) -> bool {
         self.is_short
     }

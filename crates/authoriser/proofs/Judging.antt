@@ -27,12 +27,13 @@ use Rattle.authoriser.specs.declared.outcome.Outcome.{Outcome}
 use Rattle.authoriser.specs.declared.outcome.Outcome.TheVariants.{Satisfied, NotSatisfied, Errs}
 use Rattle.authoriser.specs.declared.answer.Answer.{Answer}
 use Rattle.authoriser.specs.declared.answer.Decision.TheVariants.{Deny}
-use Rattle.authoriser.specs.declared.with_ancestors.WithAncestors.{WithAncestors}
-use Rattle.authoriser.specs.declared.with_ancestors.RequestAncestors.{RequestAncestors}
+use Rattle.authoriser.specs.declared.request_entities.KnownEntity.{KnownEntity}
+use Rattle.authoriser.specs.declared.request_entities.RequestEntities.{RequestEntities}
 use Rattle.authoriser.specs.declared.tally.Tally.{Tally}
 use Rattle.scope_index.specs.Scopes.{IsEntityScopeTrue, IsActionScopeTrue, IsScopeTrue}
 use Rattle.authoriser.specs.Answers.{NamedPolicy, PolicyOutcome, IsPolicyOutcome, ArePolicyOutcomes, fault_of, PolicyEvaluatesTo, decided, answer_by, IsAnswer}
 use Rattle.authoriser.specs.Views.{named}
+use Rattle.authoriser.specs.inner.Views.{HasItsAttributes, AreLookedUp, AllHaveTheirAttributes}
 use Rattle.authoriser.specs.inner.Views.{IsWithin, HasItsAncestors, HasRequestAncestors, AllHaveTheirAncestors, AreAscending, IsTrueOf, ConditionEvaluatesTo, outcome_by, ids, faults, Counts}
 use Rattle.authoriser.specs.Parts.{TrueScopesLeaveToConditions, OtherScopesGiveFalse}
 
@@ -51,7 +52,7 @@ action_scope W W' u v same over (action.In e) h = over e h
 action_scope W W' u v same over (action.InList es) h = (h.0, h.1, over h.0 h.2)
 
 -- what was looked up says who is in whom
-module _ {parents : Parents} {uid : EntityUid} {p : WithAncestors} (placed : HasItsAncestors parents uid p) where
+module _ {parents : Parents} {uid : EntityUid} {p : KnownEntity} (placed : HasItsAncestors parents uid p) where
   within_is_in : (of : EntityUid) → IsWithin p of → IsIn parents uid of
   within_is_in of (inl e) = inl (sym placed.same ∙ e)
   within_is_in of (inr h) = inr ((placed.all of).0 h)
@@ -72,13 +73,13 @@ module _ {parents : Parents} {uid : EntityUid} {p : WithAncestors} (placed : Has
   action_back : (scope : ActionScope) → IsActionScopeTrue (IsIn parents uid) scope uid → IsActionScopeTrue (IsWithin p) scope p.uid.now
   action_back = action_scope (IsIn parents uid) (IsWithin p) uid p.uid.now (sym placed.same) in_is_within
 
-scope_there : (parents : Parents) (q : Request) (s : RequestAncestors) (scope : Scope) → HasRequestAncestors parents q s → IsTrueOf scope s → IsScopeTrue parents scope q
-scope_there parents q s scope request_ancestors h =
-    (entity_there request_ancestors.principal scope.principal h.0, action_there request_ancestors.action scope.action h.1, entity_there request_ancestors.resource scope.resource h.2)
+scope_there : (parents : Parents) (q : Request) (s : RequestEntities) (scope : Scope) → HasRequestAncestors parents q s → IsTrueOf scope s → IsScopeTrue parents scope q
+scope_there parents q s scope request_entities h =
+    (entity_there request_entities.principal scope.principal h.0, action_there request_entities.action scope.action h.1, entity_there request_entities.resource scope.resource h.2)
 
-scope_back : (parents : Parents) (q : Request) (s : RequestAncestors) (scope : Scope) → HasRequestAncestors parents q s → IsScopeTrue parents scope q → IsTrueOf scope s
-scope_back parents q s scope request_ancestors h =
-    (entity_back request_ancestors.principal scope.principal h.0, action_back request_ancestors.action scope.action h.1, entity_back request_ancestors.resource scope.resource h.2)
+scope_back : (parents : Parents) (q : Request) (s : RequestEntities) (scope : Scope) → HasRequestAncestors parents q s → IsScopeTrue parents scope q → IsTrueOf scope s
+scope_back parents q s scope request_entities h =
+    (entity_back request_entities.principal scope.principal h.0, action_back request_entities.action scope.action h.1, entity_back request_entities.resource scope.resource h.2)
 
 -- ---- conditions
 pub value_comes_to : (W : World) (q : Request) (x : Expr) (v : PlainValue) → EvaluatesTo W q x (Ok v) → ConditionEvaluatesTo W q x (outcome_by v)
@@ -104,22 +105,33 @@ fault_comes_to W q x f error is g =
     test_errs (subst (λ e. EvaluatesTo W q x (Err e)) is (g (λ refused. no_refused_memory error (sym is ∙ refused))))
 
 -- ---- policies
-pub true_scope : TrueScopesLeaveToConditions → (W : World) (q : Request) (s : RequestAncestors) (p : Policy) (o : Outcome) → HasRequestAncestors W.parents q s → IsTrueOf p.scope s → ConditionEvaluatesTo W q p.condition o → PolicyEvaluatesTo W q p o
-true_scope leaves W q s p Satisfied request_ancestors h c = (leaves W q p (scope_there W.parents q s p.scope request_ancestors h)).gives true c
-true_scope leaves W q s p NotSatisfied request_ancestors h c = (leaves W q p (scope_there W.parents q s p.scope request_ancestors h)).gives false c
-true_scope leaves W q s p (Errs error) request_ancestors h c = (leaves W q p (scope_there W.parents q s p.scope request_ancestors h)).errs (fault_of error) c
+pub true_scope : TrueScopesLeaveToConditions → (W : World) (q : Request) (s : RequestEntities) (p : Policy) (o : Outcome) → HasRequestAncestors W.parents q s → IsTrueOf p.scope s → ConditionEvaluatesTo W q p.condition o → PolicyEvaluatesTo W q p o
+true_scope leaves W q s p Satisfied request_entities h c = (leaves W q p (scope_there W.parents q s p.scope request_entities h)).gives true c
+true_scope leaves W q s p NotSatisfied request_entities h c = (leaves W q p (scope_there W.parents q s p.scope request_entities h)).gives false c
+true_scope leaves W q s p (Errs error) request_entities h c = (leaves W q p (scope_there W.parents q s p.scope request_entities h)).errs (fault_of error) c
 
-pub other_scope : OtherScopesGiveFalse → (W : World) (above : EntityUid → EntityUid → Bool) → Decides W.parents above → (q : Request) (s : RequestAncestors) (p : Policy) → HasRequestAncestors W.parents q s → (IsTrueOf p.scope s → ⊥) → PolicyEvaluatesTo W q p NotSatisfied
-other_scope idle W above D q s p request_ancestors n = idle W above D q p (λ h. n (scope_back W.parents q s p.scope request_ancestors h))
+pub other_scope : OtherScopesGiveFalse → (W : World) (above : EntityUid → EntityUid → Bool) → Decides W.parents above → (q : Request) (s : RequestEntities) (p : Policy) → HasRequestAncestors W.parents q s → (IsTrueOf p.scope s → ⊥) → PolicyEvaluatesTo W q p NotSatisfied
+other_scope idle W above D q s p request_entities n = idle W above D q p (λ h. n (scope_back W.parents q s p.scope request_entities h))
 
-placed_itself : {parents : Parents} {uid : EntityUid} {p : WithAncestors} → HasItsAncestors parents uid p → HasItsAncestors parents p.uid.now p
+placed_itself : {parents : Parents} {uid : EntityUid} {p : KnownEntity} → HasItsAncestors parents uid p → HasItsAncestors parents p.uid.now p
 placed_itself {parents} {uid} {p} h = record { same = refl; all = subst (λ (u : EntityUid). IsAllAbove parents u (names p.ancestors.items)) (sym h.same) h.all; ascending = h.ascending }
 
-pub all_placed : (parents : Parents) (q : Request) (s : RequestAncestors) → HasRequestAncestors parents q s → AllHaveTheirAncestors parents s
+pub all_placed : (parents : Parents) (q : Request) (s : RequestEntities) → HasRequestAncestors parents q s → AllHaveTheirAncestors parents s
 all_placed parents q s h = record { principal = placed_itself h.principal; action = placed_itself h.action; resource = placed_itself h.resource }
 
-pub are_ascending : (parents : Parents) (q : Request) (s : RequestAncestors) → HasRequestAncestors parents q s → AreAscending s
-are_ascending parents q s request_ancestors = record { principal = request_ancestors.principal.ascending; action = request_ancestors.action.ascending; resource = request_ancestors.resource.ascending }
+attributes_itself : (W : World) (parents : Parents) (uid : EntityUid) (p : KnownEntity) → HasItsAncestors parents uid p
+    → HasItsAttributes W uid p → HasItsAttributes W p.uid.now p
+attributes_itself W parents uid p placed h = subst (λ (u : EntityUid). HasItsAttributes W u p) (sym placed.same) h
+
+pub all_have_attributes : (W : World) (q : Request) (s : RequestEntities) → AreLookedUp W q s → AllHaveTheirAttributes W s
+all_have_attributes W q s h = record {
+  principal = attributes_itself W W.parents q.principal s.principal h.ancestors.principal h.attributes.principal;
+  action = attributes_itself W W.parents q.action s.action h.ancestors.action h.attributes.action;
+  resource = attributes_itself W W.parents q.resource s.resource h.ancestors.resource h.attributes.resource;
+}
+
+pub are_ascending : (parents : Parents) (q : Request) (s : RequestEntities) → HasRequestAncestors parents q s → AreAscending s
+are_ascending parents q s request_entities = record { principal = request_entities.principal.ascending; action = request_entities.action.ascending; resource = request_entities.resource.ascending }
 
 -- ---- policy by policy
 judged_push : (W : World) (q : Request) (ps : List NamedPolicy) (p : NamedPolicy) (js : List PolicyOutcome) (j : PolicyOutcome) → ArePolicyOutcomes W q ps js → IsPolicyOutcome W q p j → ArePolicyOutcomes W q (ps ++ p ∷ []) (js ++ j ∷ [])

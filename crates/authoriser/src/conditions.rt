@@ -7,8 +7,8 @@ ghost use Rattle.authoriser.specs.inner.Views.{HasRequestAncestors, ConditionEva
 
 use crate::laws::scopes_do_not_err;
 use crate::outcome::{Outcome, PolicyError};
+use crate::request_entities::RequestEntities;
 use crate::scopes::is_scope_true;
-use crate::with_ancestors::RequestAncestors;
 use evaluator::{BorrowedOrOwned, EvalFault, Lookup, evaluate};
 use expressions::Expr;
 use plain::NoMemory;
@@ -16,7 +16,7 @@ use policy_grammar::Policy;
 use std::alloc::Global;
 use values::Request;
 
-/// The error that a fault of evaluating is, where it is not want of memory.
+/// Returns the error that a fault of evaluating is, where it is not want of memory.
 fn error_by(fault: EvalFault) -> Result<PolicyError, NoMemory>
     ensures { MatchResult result (λ error. fault ≡ fault_of error) (λ _. fault ≡ evaluating.NoMemory) }
 {
@@ -30,7 +30,7 @@ fn error_by(fault: EvalFault) -> Result<PolicyError, NoMemory>
     }
 }
 
-/// What a condition that gives this comes to: it has to give a boolean.
+/// Returns what a condition that gives this comes to: it has to give a boolean.
 fn outcome_by(given: &BorrowedOrOwned<'_>) -> Outcome
     ensures { result ≡ outcome_by given.now }
 {
@@ -41,7 +41,7 @@ fn outcome_by(given: &BorrowedOrOwned<'_>) -> Outcome
     }
 }
 
-/// What a condition comes to.
+/// Returns what a condition comes to.
 fn outcome_of_condition<L: Lookup>(
     alloc: Global,
     condition: &Expr,
@@ -61,21 +61,21 @@ fn outcome_of_condition<L: Lookup>(
     }
 }
 
-/// What a policy comes to. Its condition is evaluated only where its scope is true: a scope never errs, and where it is
-/// not true the policy is not satisfied, whatever its condition is (`scopes_do_not_err`).
+/// Returns what a policy comes to. Its condition is evaluated only where its scope is true: a scope never errs, and
+/// where it is not true the policy is not satisfied, whatever its condition is (`scopes_do_not_err`).
 pub(crate) fn outcome_of<L: Lookup>(
     alloc: Global,
     policy: &Policy,
-    request_ancestors: &RequestAncestors<'_>,
+    entities: &RequestEntities<'_>,
     request: &Request,
     store: &L,
 ) -> Result<Outcome, NoMemory>
-    requires { HasRequestAncestors (L.parents store.now) request.now request_ancestors.now }
+    requires { HasRequestAncestors (L.parents store.now) request.now entities.now }
     ensures { IfOk result
         (PolicyEvaluatesTo (world_of (L.stored store.now) (L.parents store.now)) request.now policy.now) }
 {
     scopes_do_not_err();
-    if is_scope_true(&policy.scope, request_ancestors) {
+    if is_scope_true(&policy.scope, entities) {
         outcome_of_condition(alloc, &policy.condition, request, store)
     } else {
         Ok(Outcome::NotSatisfied)

@@ -28,7 +28,7 @@ fn copy_uids(alloc: Global, uids: &[&EntityUid]) -> Result<Items<EntityUid>, NoM
     Ok(Items::from_vec(copies))
 }
 
-/// The answer by what the policies come to, where the request's entities were looked up.
+/// Returns the answer by what the policies come to, where the request's entities were looked up.
 fn answer_by_known<L: Lookup>(
     alloc: Global,
     policies: &[(&str, &Policy)],
@@ -40,31 +40,29 @@ fn answer_by_known<L: Lookup>(
         IfOk result (λ a. (js : List PolicyOutcome) × ArePolicyOutcomes W request.now (named policies.now) js
         × (a ≡ answer_by js)) }
 {
-    let request_ancestors = known.request_ancestors();
+    let entities = known.request_entities();
     let mut tally = Tally::new(alloc);
     for (id, policy) in policies {
-        let outcome = outcome_of(alloc, policy, request_ancestors, request, known)?;
+        let outcome = outcome_of(alloc, policy, entities, request, known)?;
         tally.note(id, policy.effect, outcome)?;
     }
     tally.into_answer(alloc)
 }
 
-/// The answer where the hierarchy has no cycle: by what the policies come to.
+/// Returns the answer where the hierarchy has no cycle: by what the policies come to.
 fn answer_by_policies<L: Lookup>(
     alloc: Global,
     policies: &[(&str, &Policy)],
-    request: &Request,
-    store: &L,
+    known: &Known<'_, L>,
 ) -> Result<Answer, NoMemory>
-    requires { HasNoCycle (L.parents store.now) }
-    ensures { IfOk result (λ a. IsAnswer (world_of (L.stored store.now) (L.parents store.now)) request.now
+    requires { HasNoCycle (L.parents known.now.0) }
+    ensures { IfOk result (λ a. IsAnswer (world_of (L.stored known.now.0) (L.parents known.now.0)) known.now.1
         (named policies.now) a) }
 {
-    let known = Known::of(alloc, store, request)?;
-    answer_by_known(alloc, policies, request, &known)
+    answer_by_known(alloc, policies, known.request(), known)
 }
 
-/// A denial that names this cycle, and no policy.
+/// Returns a denial that names this cycle, and no policy.
 fn denial_by_cycle(alloc: Global, cycle: &[&EntityUid]) -> Result<Answer, NoMemory>
     ensures { IfOk result (λ a. a
         ≡ record { decision = Deny; reason = []; errors = []; cycle = names cycle.now }) }
@@ -78,12 +76,30 @@ fn denial_by_cycle(alloc: Global, cycle: &[&EntityUid]) -> Result<Answer, NoMemo
     })
 }
 
-/// The answer to a request over these policies and these stored entities.
+/// Returns the answer to the request whose entities were looked up, over these policies; as [`decide`] answers.
+///
+/// Whoever asks more of the request's entities, as an index does, has them looked up once for both. Errors: `NoMemory`
+/// alone.
+pub fn decide_known<L: Lookup>(
+    alloc: Global,
+    policies: &[(&str, &Policy)],
+    known: &Known<'_, L>,
+) -> Result<Answer, NoMemory>
+    ensures { IfOk result (λ a. IsAnswer (world_of (L.stored known.now.0) (L.parents known.now.0)) known.now.1
+        (named policies.now) a) }
+{
+    match known.least_cycle()? {
+        None => answer_by_policies(alloc, policies, known),
+        Some(cycle) => denial_by_cycle(alloc, &cycle),
+    }
+}
+
+/// Returns the answer to a request over these policies and these stored entities.
 ///
 /// The caller's condition is that the ids ascend strictly; the lists of the answer then ascend by id, which is the law
-/// `ascending` of `answers_are_lawful`. One pass over the policies; the ancestors of the request's three entities are
-/// asked for once each, and a condition is evaluated only where the scope before it is true. Where some entity is on a
-/// cycle no policy is tried: it is denied, and the answer names the least cycle.
+/// `ascending` of `answers_are_lawful`. One pass over the policies; the ancestors and the attributes of the request's
+/// three entities are asked for once each, and a condition is evaluated only where the scope before it is true. Where
+/// some entity is on a cycle no policy is tried: it is denied, and the answer names the least cycle.
 ///
 /// Source: Cedar reference guide, "Authorization". Errors: `NoMemory` alone.
 pub fn decide<L: Lookup>(
@@ -95,8 +111,6 @@ pub fn decide<L: Lookup>(
     ensures { IfOk result (λ a. IsAnswer (world_of (L.stored store.now) (L.parents store.now)) request.now
         (named policies.now) a) }
 {
-    match store.least_cycle()? {
-        None => answer_by_policies(alloc, policies, request, store),
-        Some(cycle) => denial_by_cycle(alloc, &cycle),
-    }
+    let known = Known::of(alloc, store, request)?;
+    decide_known(alloc, policies, &known)
 }

@@ -2,7 +2,7 @@
 ghost use Rattle.std.specs.Prelude.{◌≡◌, IfOk};
 ghost use Rattle.authoriser.specs.inner.Views.{HasRequestAncestors};
 
-use crate::with_ancestors::{RequestAncestors, request_ancestors_of};
+use crate::request_entities::{RequestEntities, request_entities_of};
 use ancestor_closure::{Ancestry, is_among};
 use evaluator::Lookup;
 use plain::NoMemory;
@@ -10,21 +10,22 @@ use std::alloc::Global;
 use std::marker::Model;
 use values::{EntityUid, Record, Request};
 
-/// Stored entities, and the ancestors of a request's three: what is asked of one of these is not searched again.
-/// Contracts see the stored entities and the request.
+/// Stored entities, with the ancestors and the attributes of a request's three: what is asked of one of these is
+/// neither searched nor looked up again. Contracts see the stored entities and the request.
 #[derive(Drop)]
-pub(crate) struct Known<'a, L: Lookup> {
+pub struct Known<'a, L: Lookup> {
     alloc: Global,
     store: &'a L,
     request: &'a Request,
-    request_ancestors: RequestAncestors<'a>,
+    entities: RequestEntities<'a>,
 }
 
 impl<'a, L: Lookup> Model for Known<'a, L> {
     ghost use Rattle.values.specs.declared.request.Request.{Request};
     ghost use Rattle.std.specs.Coded.{codes};
     ghost use Rattle.values.specs.ValueCode.{value_code};
-    ghost use Rattle.authoriser.specs.inner.Views.{HasRequestAncestors};
+    ghost use Rattle.evaluator.specs.Operators.{world_of};
+    ghost use Rattle.authoriser.specs.inner.Views.{AreLookedUp};
 
     ghost Value = { L × Request };
 
@@ -32,32 +33,40 @@ impl<'a, L: Lookup> Model for Known<'a, L> {
 
     ghost view = { λ k. (k.store.now, k.request.now) };
 
-    ghost invariant = { λ k. HasRequestAncestors (L.parents k.store.now) k.request.now k.request_ancestors };
+    ghost invariant = { λ k.
+        AreLookedUp (world_of (L.stored k.store.now) (L.parents k.store.now)) k.request.now k.entities };
 }
 
 impl<'a, L: Lookup> Known<'a, L> {
-    /// Looks up the request's three entities.
-    pub(crate) fn of(alloc: Global, store: &'a L, request: &'a Request) -> Result<Self, NoMemory>
+    /// Looks up the request's three entities: the ancestors and the attributes of each, once. Errors: `NoMemory` alone.
+    pub fn of(alloc: Global, store: &'a L, request: &'a Request) -> Result<Self, NoMemory>
         ensures { IfOk result (λ k. k ≡ (store.now, request.now)) }
     {
-        let request_ancestors = request_ancestors_of(store, request)?;
+        let entities = request_entities_of(store, request)?;
         Ok(Known {
             alloc,
             store,
             request,
-            request_ancestors,
+            entities,
         })
     }
 
-    /// Where the request's three entities stand.
-    pub(crate) fn request_ancestors(&self) -> &RequestAncestors<'a>
+    /// Returns the request.
+    pub fn request(&self) -> &Request
+        ensures { result.now ≡ self.now.1 }
+    {
+        self.request
+    }
+
+    /// Returns the request's three entities, with what was looked up for them.
+    pub(crate) fn request_entities(&self) -> &RequestEntities<'a>
         ensures { HasRequestAncestors (L.parents self.now.0) self.now.1 result.now }
     {
-        &self.request_ancestors
+        &self.entities
     }
 }
 
-/// The same references once more.
+/// Returns the same references once more.
 fn copied<'a>(alloc: Global, uids: &[&'a EntityUid]) -> Result<Vec<&'a EntityUid>, NoMemory>
     ensures { IfOk result (λ copies. copies.items ≡ uids.now) }
 {
@@ -72,15 +81,15 @@ impl<L: Lookup> Ancestry for Known<'_, L> {
     ghost above_is = { λ s. L.above_is s.0 };
 
     fn is_ancestor(&self, a: &EntityUid, b: &EntityUid) -> Result<bool, NoMemory> {
-        match self.request_ancestors.place_of(b) {
-            Some(placed) => Ok(is_among(&placed.ancestors, a)),
+        match self.entities.find(b) {
+            Some(known) => Ok(is_among(&known.ancestors, a)),
             None => self.store.is_ancestor(a, b),
         }
     }
 
     fn ancestors(&self, uid: &EntityUid) -> Result<Vec<&EntityUid>, NoMemory> {
-        match self.request_ancestors.place_of(uid) {
-            Some(placed) => copied(self.alloc, &placed.ancestors),
+        match self.entities.find(uid) {
+            Some(known) => copied(self.alloc, &known.ancestors),
             None => self.store.ancestors(uid),
         }
     }
@@ -98,6 +107,9 @@ impl<L: Lookup> Lookup for Known<'_, L> {
     ghost stored = { λ s. L.stored s.0 };
 
     fn attrs_of(&self, uid: &EntityUid) -> Option<&Record> {
-        self.store.attrs_of(uid)
+        match self.entities.find(uid) {
+            Some(known) => known.attributes,
+            None => self.store.attrs_of(uid),
+        }
     }
 }

@@ -12,11 +12,12 @@ mod deciding;
 mod known;
 mod laws;
 mod outcome;
+mod request_entities;
 mod scopes;
 mod tally;
-mod with_ancestors;
 
 pub use answer::{Answer, Decision, ErringPolicy};
-pub use deciding::decide;
+pub use deciding::{decide, decide_known};
+pub use known::Known;
 pub use laws::{answers_are_lawful, scopes_do_not_err};
 pub use outcome::{Outcome, PolicyError};

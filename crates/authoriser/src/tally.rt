@@ -47,7 +47,7 @@ impl<'a> Tally<'a> {
         Ok(())
     }
 
-    /// The answer by the policies that were noted. Ids are copied only here, and only those that are listed.
+    /// Returns the answer by the policies that were noted. Ids are copied only here, and only those that are listed.
     pub(crate) fn into_answer(self, alloc: Global) -> Result<Answer, NoMemory>
         ensures { IfOk result (λ a. a ≡ decided (ids self.entry.permits.items) (ids self.entry.forbids.items)
             (faults self.entry.errors.items)) }

@@ -1,3 +1,5 @@
+pub mod Utf8Strings
+pub mod Utf8Tokens
 pub mod Utf8Texts
 pub mod AsciiTexts
 pub mod CompactUtf8

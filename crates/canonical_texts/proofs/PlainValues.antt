@@ -28,7 +28,7 @@ use Rattle.typed_values.specs.declared.fault.ValueFault.TheVariants.{WrongType, 
 use Rattle.typed_values.specs.Parts.{element_of, fields_in, declared_at}
 use Rattle.extensions.specs.TextsDecided.{decimal_of, network_of}
 use Rattle.typed_values.specs.Typing.{argument_in, boolean_in, is_long, long_of, long_in, text_in, entity_in}
-use Rattle.typed_values.specs.Typing.{decimal_in, ipaddr_in, leaf, all_there, with_or, inside, typed, typed_items}
+use Rattle.typed_values.specs.Typing.{decimal_in, ipaddr_in, leaf, all_there, with_or, inside, typed_value, typed_items}
 use Rattle.typed_values.specs.Typing.{typed_members, record_in}
 use Rattle.typed_values.specs.Canonical.{value_json, values_json, fields_json}
 use Rattle.canonical_texts.specs.Texts.{HaveUtf8, MembersHaveUtf8}
@@ -129,12 +129,12 @@ FieldsHavePlainJson vs = HasPlain (fields_json (fields_of vs))
 -- the keys of a record are those of the object
 above_kept : (k : List ℕ) (fs : CedarFields) (ms : Members) (vs : List Field) → typed_members fs ms ≡ Ok vs
     → AllByRecursion (λ l. slice_cmp nat_cmp k l ≡ Less) (member_keys ms) → AreAbove k (fields_json (fields_of vs))
-unfolding typed
+unfolding typed_value
 above_kept k fs no_members vs e a = carried (λ (ws : List Field). AreAbove k (fields_json (fields_of ws))) [] vs e tt
 above_kept k fs (member l d ms) vs e a =
     let x = bind_ok (or_fault Undeclared (declared_at l fs))
-    (λ t. typed t d >>= λ v. typed_members fs ms >>= λ ws. Ok ((l, v) ∷ ws)) vs e in
-    let y = bind_ok (typed x.0 d) (λ v. typed_members fs ms >>= λ ws. Ok ((l, v) ∷ ws)) vs x.2 in
+    (λ t. typed_value t d >>= λ v. typed_members fs ms >>= λ ws. Ok ((l, v) ∷ ws)) vs e in
+    let y = bind_ok (typed_value x.0 d) (λ v. typed_members fs ms >>= λ ws. Ok ((l, v) ∷ ws)) vs x.2 in
     let z = bind_ok (typed_members fs ms) (λ ws. Ok ((l, y.0) ∷ ws)) vs y.2 in
     carried (λ (ws : List Field). AreAbove k (fields_json (fields_of ws))) ((l, y.0) ∷ z.0) vs z.2
     (a.0, above_kept k fs ms z.0 z.1 a.1)
@@ -154,9 +154,9 @@ object_plain t (Some fs) ms v h more e =
 -- ---- values
 
 mutual
-  unfolding typed IsStrictlySortedBy
+  unfolding typed_value IsStrictlySortedBy
 
-  value_plain : (t : Cedar) (d : Data) (v : PlainValue) → IsClean d → typed t d ≡ Ok v → HasPlainJson v
+  value_plain : (t : Cedar) (d : Data) (v : PlainValue) → IsClean d → typed_value t d ≡ Ok v → HasPlainJson v
   value_plain t json.null v h e = leaf_plain t json.null v h e
   value_plain t (json.boolean b) v h e = leaf_plain t (json.boolean b) v h e
   value_plain t (json.number n) v h e = leaf_plain t (json.number n) v h e
@@ -174,7 +174,7 @@ mutual
       → typed_items t ds ≡ Ok vs → HavePlainJson vs
   items_plain t no_items vs u a e = carried HavePlainJson [] vs e tt
   items_plain t (item d ds) vs u a e =
-      let x = bind_ok (typed t d) (λ v. typed_items t ds >>= λ ws. Ok (v ∷ ws)) vs e in
+      let x = bind_ok (typed_value t d) (λ v. typed_items t ds >>= λ ws. Ok (v ∷ ws)) vs e in
       let y = bind_ok (typed_items t ds) (λ ws. Ok (x.0 ∷ ws)) vs x.2 in
       carried HavePlainJson (x.0 ∷ y.0) vs y.2
       (value_plain t d x.0 (record { utf8 = u.0; ascend = a.0 }) x.1, items_plain t ds y.0 u.1 a.1 y.1)
@@ -184,8 +184,8 @@ mutual
   members_plain fs no_members vs u k a e = carried FieldsHavePlainJson [] vs e tt
   members_plain fs (member l d ms) vs u k a e =
       let x = bind_ok (or_fault Undeclared (declared_at l fs))
-      (λ t. typed t d >>= λ v. typed_members fs ms >>= λ ws. Ok ((l, v) ∷ ws)) vs e in
-      let y = bind_ok (typed x.0 d) (λ v. typed_members fs ms >>= λ ws. Ok ((l, v) ∷ ws)) vs x.2 in
+      (λ t. typed_value t d >>= λ v. typed_members fs ms >>= λ ws. Ok ((l, v) ∷ ws)) vs e in
+      let y = bind_ok (typed_value x.0 d) (λ v. typed_members fs ms >>= λ ws. Ok ((l, v) ∷ ws)) vs x.2 in
       let z = bind_ok (typed_members fs ms) (λ ws. Ok ((l, y.0) ∷ ws)) vs y.2 in
       carried FieldsHavePlainJson ((l, y.0) ∷ z.0) vs z.2 (
         u.0,

@@ -5,13 +5,13 @@ ghost use Rattle.canonical_texts.specs.Laws.{CanonicalTextsReadBack, CanonicalTe
 use entities::entities_read_back;
 use json_words::{compact_texts_read_back, json_keys_ascend};
 
-/// That whatever JSON some bytes are, each text and each key in it is UTF-8.
+/// Proves that whatever JSON some bytes are, each text and each key in it is UTF-8.
 pub fn json_texts_are_utf8()
     ensures { JsonTextsAreUtf8 }
 {}
 
-/// That the canonical text of an entity that was read from bytes is its canonical JSON, is read as that entity under
-/// the same schema, and is that of no other entity.
+/// Proves that the canonical text of an entity that was read from bytes is its canonical JSON, is read as that entity
+/// under the same schema, and is that of no other entity.
 pub fn canonical_texts_are_read()
     ensures json { CanonicalTextsAreJson }
     ensures back { CanonicalTextsReadBack }

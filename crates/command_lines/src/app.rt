@@ -19,8 +19,8 @@ pub(crate) const MOST_CONNECTIONS: u64 = 4_294_967_295;
 /// The greatest number of sites that a script can be played at.
 pub(crate) const MOST_SITES: u64 = 64;
 
-/// What was made beside a value, with that value; where nothing was made, only why. It is generic, so that the value
-/// that is let go is one step, and not one a field of it.
+/// Returns what was made beside a value, with that value; where nothing was made, only why. It is generic, so that the
+/// value that is let go is one step, and not one a field of it.
 fn beside<T: Drop, U>(kept: T, made: Result<U, NoMemory>) -> Result<(T, U), NoMemory>
     ensures made { IfOk result (λ both. made ≡ Ok both.1) }
     ensures kept { IfOk result (λ both. both.0 ≡ kept) }
@@ -44,7 +44,7 @@ fn both<A: Drop, B: Drop>(
     Ok((first, second))
 }
 
-/// A command with no options yet, whose help ends with an example.
+/// Returns a command with no options yet, whose help ends with an example.
 fn bare<'a>(
     alloc: Global,
     name: &'a str,
@@ -56,7 +56,7 @@ fn bare<'a>(
     Ok(Command::new(alloc, name).about(about).after_help(example))
 }
 
-/// The command with one more option.
+/// Returns the command with one more option.
 fn with<'a>(command: Result<Command<'a>, NoMemory>, arg: Arg<'a>) -> Result<Command<'a>, NoMemory>
     requires { arg.global ≡ false }
     ensures { (app : App) → (rule : Rule) → (rule_of arg.entry ≡ rule) → IfOk command.entry (IsApp app)
@@ -66,7 +66,7 @@ fn with<'a>(command: Result<Command<'a>, NoMemory>, arg: Arg<'a>) -> Result<Comm
     command.arg(arg)
 }
 
-/// The command with one more subcommand.
+/// Returns the command with one more subcommand.
 fn with_command<'a>(
     command: Result<Command<'a>, NoMemory>,
     below: Result<Command<'a>, NoMemory>,
@@ -78,7 +78,7 @@ fn with_command<'a>(
     command.subcommand(below)
 }
 
-/// An option with a value.
+/// Returns an option with a value.
 fn value_option<'a>(alloc: Global, name: &'a str, value: &'a str, help: &'a str) -> Arg<'a>
     ensures rule { rule_of result ≡ value_option name.entry.now }
     ensures local { result.global ≡ false }
@@ -90,7 +90,7 @@ fn value_option<'a>(alloc: Global, name: &'a str, value: &'a str, help: &'a str)
         .action(ArgAction::Set)
 }
 
-/// An option with a number within bounds.
+/// Returns an option with a number within bounds.
 fn number_option<'a>(alloc: Global, name: &'a str, least: u64, most: u64, help: &'a str) -> Arg<'a>
     ensures rule { rule_of result ≡ number_option name.entry.now least most }
     ensures local { result.global ≡ false }
@@ -98,7 +98,7 @@ fn number_option<'a>(alloc: Global, name: &'a str, least: u64, most: u64, help: 
     value_option(alloc, name, "NUMBER", help).value_parser(ValueParser::unsigned(least, most))
 }
 
-/// The command with one more option that has a value, demanded.
+/// Returns the command with one more option that has a value, demanded.
 fn with_needed<'a>(
     alloc: Global,
     command: Result<Command<'a>, NoMemory>,
@@ -113,7 +113,7 @@ fn with_needed<'a>(
     with(command, option)
 }
 
-/// The command with the name of a site, demanded.
+/// Returns the command with the name of a site, demanded.
 fn with_site<'a>(
     alloc: Global,
     command: Result<Command<'a>, NoMemory>,
@@ -124,7 +124,7 @@ fn with_site<'a>(
     with_needed(alloc, command, "site", "NAME", help)
 }
 
-/// The command with the schema, demanded.
+/// Returns the command with the schema, demanded.
 fn with_schema<'a>(
     alloc: Global,
     command: Result<Command<'a>, NoMemory>,
@@ -135,7 +135,7 @@ fn with_schema<'a>(
     with_needed(alloc, command, "schema", "FILE", "The schema, as JSON")
 }
 
-/// The command with one more file that is named by its place, demanded.
+/// Returns the command with one more file that is named by its place, demanded.
 fn with_word<'a>(
     alloc: Global,
     command: Result<Command<'a>, NoMemory>,
@@ -274,7 +274,7 @@ fn drill_command<'a>(alloc: Global) -> Result<Command<'a>, NoMemory>
 /// What `--version` tells behind the program's name: that of the Cedar language whose policies it reads.
 const VERSION: &str = "4.0";
 
-/// The program's command, which asks for a subcommand and tells its version.
+/// Returns the program's command, which asks for a subcommand and tells its version.
 fn top_command<'a>(alloc: Global) -> Result<Command<'a>, NoMemory>
     ensures { IfOk result (IsApp (with_version (asks_for_command (new_app (codes "cedar_site"))))) }
 {

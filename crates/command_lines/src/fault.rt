@@ -49,21 +49,21 @@ impl fmt::Display for LineFault {
     }
 }
 
-/// Whether help is asked for.
+/// Returns whether help is asked for.
 fn is_help(kind: ErrorKind) -> bool
     ensures { result ≡ is_help kind }
 {
     matches!(kind, ErrorKind::DisplayHelp | ErrorKind::DisplayVersion)
 }
 
-/// Whether memory was refused.
+/// Returns whether memory was refused.
 fn is_memory(kind: ErrorKind) -> bool
     ensures { result ≡ is_memory kind }
 {
     matches!(kind, ErrorKind::OutOfMemory)
 }
 
-/// What an error of clap's is: help, want of memory, or a fault of the words.
+/// Returns what an error of clap's is: help, want of memory, or a fault of the words.
 pub(crate) fn sorted(error: clap::Error) -> LineFault
     ensures { result ≡ sorted error }
 {

@@ -70,7 +70,7 @@ pub enum Line<'a> {
     },
 }
 
-/// The name of the command that was met, and its options.
+/// Returns the name of the command that was met, and its options.
 fn met<'m, 'a>(matches: &'m ArgMatches<'a>) -> Option<(&'a str, &'m ArgMatches<'a>)>
     ensures { option_map (λ p. (p.0.now, rows_of (found_of p.1.now))) result ≡ subcommand_rows_of matches.now }
 {
@@ -231,7 +231,7 @@ fn drill_in<'a>(options: &ArgMatches<'a>) -> Option<Line<'a>>
     })
 }
 
-/// The command of this name, if it has all of its options.
+/// Returns the command of this name, if it has all of its options.
 fn named_line<'a>(name: &str, options: &ArgMatches<'a>) -> Option<Line<'a>>
     ensures { MatchOption result (IsNone (IsLineOf name.now (rows_of (found_of options.now))))
         (IsLineOf name.now (rows_of (found_of options.now))) }
@@ -260,7 +260,7 @@ fn named_line<'a>(name: &str, options: &ArgMatches<'a>) -> Option<Line<'a>>
     None
 }
 
-/// The command that was met, if it has all of its options.
+/// Returns the command that was met, if it has all of its options.
 fn line_in<'a>(matches: &ArgMatches<'a>) -> Option<Line<'a>>
     ensures { MatchOption result (IsNoLine (subcommand_rows_of matches.now))
         (λ line. IsNamed line (subcommand_rows_of matches.now)) }
@@ -271,7 +271,7 @@ fn line_in<'a>(matches: &ArgMatches<'a>) -> Option<Line<'a>>
     }
 }
 
-/// Whether a command was met with a text for its site that is no site's name.
+/// Returns whether a command was met with a text for its site that is no site's name.
 fn is_of_no_site(matches: &ArgMatches<'_>) -> bool
     ensures { IsTrue result ↔ IsOfNoSite (subcommand_rows_of matches.now) }
 {
@@ -292,7 +292,7 @@ fn lack_of(matches: &ArgMatches<'_>) -> LineFault
     }
 }
 
-/// The command that the words give, the first of which is the program's own name.
+/// Returns the command that the words give, the first of which is the program's own name.
 ///
 /// It has every option that it demands, `--site` with a site's name (1 to 32 bytes, each an ASCII letter, a digit, `-`,
 /// `_` or `.`), taken as it stands, `--sites` from 1 to 64, and `--connections`, where it is given, from 0 to

@@ -8,14 +8,14 @@ use crate::app::{MOST_CONNECTIONS, MOST_SITES};
 use clap::ArgMatches;
 use stamped_store::{SiteName, is_site_name};
 
-/// The text that an option was given.
+/// Returns the text that an option was given.
 pub(crate) fn option_text<'a>(options: &ArgMatches<'a>, name: &str) -> Option<&'a str>
     ensures { option_map (λ s. s.now) result ≡ first_of name.now (rows_of (found_of options.now)) }
 {
     options.get_str(name)
 }
 
-/// The number that a text is, if it lies in these bounds: decimal digits, perhaps behind a plus.
+/// Returns the number that a text is, if it lies in these bounds: decimal digits, perhaps behind a plus.
 fn number_in(text: &str, least: u64, most: u64) -> Option<u64>
     ensures { MatchOption result (IsNone (IsNumberIn least most text.now)) (IsNumberIn least most text.now) }
 {
@@ -25,7 +25,7 @@ fn number_in(text: &str, least: u64, most: u64) -> Option<u64>
     }
 }
 
-/// The name of the site.
+/// Returns the name of the site.
 pub(crate) fn site_in(options: &ArgMatches<'_>) -> Option<SiteName>
     ensures { MatchOption result (IsNone (IsGivenSite (rows_of (found_of options.now))))
         (IsGivenSite (rows_of (found_of options.now))) }
@@ -36,7 +36,7 @@ pub(crate) fn site_in(options: &ArgMatches<'_>) -> Option<SiteName>
     SiteName::parse(text)
 }
 
-/// Whether what was given for the site is no site's name.
+/// Returns whether what was given for the site is no site's name.
 pub(crate) fn has_no_site(options: &ArgMatches<'_>) -> bool
     ensures { IsTrue result ↔ IsGivenNoSite (rows_of (found_of options.now)) }
 {
@@ -46,7 +46,7 @@ pub(crate) fn has_no_site(options: &ArgMatches<'_>) -> bool
     !is_site_name(text)
 }
 
-/// How many connections are asked for, if any number was given; `None` where what was given is no such number.
+/// Returns how many connections are asked for, if any number was given; `None` where what was given is no such number.
 pub(crate) fn connections_in(options: &ArgMatches<'_>) -> Option<Option<u32>>
     ensures { MatchOption result
         (IsNone (MayBeGivenNumber (rows_of (found_of options.now)) (codes "connections") 0 4294967295))
@@ -61,7 +61,7 @@ pub(crate) fn connections_in(options: &ArgMatches<'_>) -> Option<Option<u32>>
     }
 }
 
-/// How many sites there are to be; `None` where what was given is no such number.
+/// Returns how many sites there are to be; `None` where what was given is no such number.
 pub(crate) fn sites_in(options: &ArgMatches<'_>) -> Option<u16>
     ensures { MatchOption result
         (IsNone (IsGivenNumber (rows_of (found_of options.now)) (codes "sites") 1 64))

@@ -10,7 +10,7 @@ use Rattle.ancestor_closure.specs.Deciding.{Contains-here, same_uid}
 use Rattle.json_words.specs.Each.{each}
 use Rattle.uid_json.specs.Uids.{uid_json, plain_uid_in, uid_in, IsUid}
 use Rattle.uid_json.specs.Laws.{WrittenIsRead}
-use Rattle.typed_values.specs.Typing.{record_in, typed, typed_items, typed_members, long_in}
+use Rattle.typed_values.specs.Typing.{record_in, typed_value, typed_items, typed_members, long_in}
 use Rattle.entities.specs.Entities.{entity_stated_in, shape_of, attributes_in, parents_in, parents_fit, parent_fits}
 use Rattle.entities.specs.Stated.{stated_in, uids_of}
 use Rattle.entities.specs.Requests.{asked_by, context_asked, StatesRequest}
@@ -23,7 +23,7 @@ use Rattle.conforming_example.specs.Something.{SomethingIsRead}
 use Rattle.conforming_example.proofs.ExampleStated.{only, some_same, some_none}
 
 alice_read : entity_stated_in schema alice_json ≡ Ok (entity_kept alice alice_data)
-unfolding entity_stated_in stated_in uids_of attributes_in shape_of parents_in parents_fit parent_fits record_in typed typed_items typed_members long_in uid_in plain_uid_in each is_path pieces is_letter is_word_byte
+unfolding entity_stated_in stated_in uids_of attributes_in shape_of parents_in parents_fit parent_fits record_in typed_value typed_items typed_members long_in uid_in plain_uid_in each is_path pieces is_letter is_word_byte
 alice_read = refl
 
 read_case : (u : EntityUid) (kept : EntityData) (b : Bool) → is_same alice u ≡ b → (if b then Some alice_data else None) ≡ Some kept

@@ -32,7 +32,7 @@ pub trait Source {
         ensures failure { OnErr result (fails self.old self.new) }
         ensures failures { CountsFailure result (failed self.old) (failed self.new) };
 
-    /// How often it failed.
+    /// Returns how often it failed.
     fn failures(&self) -> u64
         ensures { result ≡ failed self.now };
 }
@@ -60,7 +60,7 @@ pub trait Sink {
         ensures failure { OnErr result (fails self.old self.new) }
         ensures failures { CountsFailure result (failed self.old) (failed self.new) };
 
-    /// How often it failed.
+    /// Returns how often it failed.
     fn failures(&self) -> u64
         ensures { result ≡ failed self.now };
 }

@@ -23,8 +23,8 @@ impl<'a> Model for Plan<'a> {
 }
 
 impl<'a> Plan<'a> {
-    /// A plan of which no call was made yet. `pieces` are the most bytes that each call moves; the last one holds from
-    /// then on, none are all that fits, and 0 is 1. `fails_at` is the number of the call that fails, from 0.
+    /// Returns a plan of which no call was made yet. `pieces` are the most bytes that each call moves; the last one
+    /// holds from then on, none are all that fits, and 0 is 1. `fails_at` is the number of the call that fails, from 0.
     pub fn new(pieces: &'a [usize], fails_at: Option<u64>) -> Plan<'a>
         ensures { result ≡ record { pieces = pieces.entry.now; fails_at = fails_at; calls = 0 } }
     {
@@ -35,7 +35,7 @@ impl<'a> Plan<'a> {
         }
     }
 
-    /// How much the next call moves, at least one byte, or `None` where it fails.
+    /// Returns how much the next call moves, at least one byte, or `None` where it fails.
     fn next_call(&mut self) -> Option<usize>
         ensures moves { IfSome result (λ n. (n ≡ next_piece self.old.pieces) × Passes self.old self.new) }
         ensures some { IfSome result (λ n. 0 < n) }
@@ -74,7 +74,7 @@ impl<'a> Model for MemoryReader<'a> {
 }
 
 impl<'a> MemoryReader<'a> {
-    /// A reader of all these bytes.
+    /// Returns a reader of all these bytes.
     pub fn new(bytes: &'a [u8], plan: Plan<'a>) -> MemoryReader<'a>
         ensures { result ≡ record { bytes = bytes.entry.now; plan = plan.entry; failures = 0 } }
     {
@@ -85,7 +85,7 @@ impl<'a> MemoryReader<'a> {
         }
     }
 
-    /// What is unread.
+    /// Returns what is unread.
     pub fn left(&self) -> &[u8]
         ensures { result.now ≡ self.now.bytes }
     {
@@ -136,7 +136,7 @@ impl<'a> Model for MemoryWriter<'a> {
 }
 
 impl<'a> MemoryWriter<'a> {
-    /// A writer that took nothing yet.
+    /// Returns a writer that took nothing yet.
     pub fn new(alloc: Global, plan: Plan<'a>) -> MemoryWriter<'a>
         ensures { result ≡ record { bytes = []; plan = plan.entry; failures = 0 } }
     {
@@ -147,7 +147,7 @@ impl<'a> MemoryWriter<'a> {
         }
     }
 
-    /// What was taken.
+    /// Returns what was taken.
     pub fn bytes(&self) -> &[u8]
         ensures { result.now ≡ self.now.bytes }
     {

@@ -1,7 +1,7 @@
 -- A fault of the policies, or want of memory.
 use Rattle.std.proofs.Common.{◌≡◌, ℕ, List, refl}
-use Rattle.policy_grammar.specs.declared.fault.ReadFault.{ReadFault}
-use Rattle.policy_grammar.specs.declared.fault.ReadFault.TheVariants as fault
+use Rattle.text_trees.specs.declared.fault.ReadFault.{ReadFault}
+use Rattle.text_trees.specs.declared.fault.ReadFault.TheVariants as fault
 use Rattle.policy_grammar.specs.PolicyText.{OrNoMemory}
 use Rattle.decision_texts.specs.Refusals.{no_memory}
 use Rattle.decision_texts.specs.Decisions.{IsFileFault, refusal_by, ArePoliciesRefused}

@@ -5,7 +5,7 @@ use Rattle.serde_json.specs.Find.{get, as_str}
 use Rattle.json_words.specs.Json.{json_of}
 use Rattle.values.specs.declared.entity_uid.EntityUid.{EntityUid}
 use Rattle.values.specs.declared.request.Request.{Request}
-use Rattle.policy_grammar.specs.declared.fault.ReadFault.{ReadFault}
+use Rattle.text_trees.specs.declared.fault.ReadFault.{ReadFault}
 use Rattle.policy_grammar.specs.declared.policy.Policy.{Policy}
 use Rattle.policy_grammar.specs.PolicyText.{IsUidText, IsUidRefused, IsFileRefused}
 use Rattle.policy_grammar.specs.Unique.{HasOneReading, IsFileOf}

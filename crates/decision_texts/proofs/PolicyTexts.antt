@@ -2,8 +2,8 @@
 use Rattle.std.proofs.Common.{◌≡◌, ◌∙◌, ◌⊎◌, ℕ, ◌≤◌, Bool, true, false, leb, leb-true, leb-false, List, length, IsUtf8, inl, inr, refl, sym, arith}
 use Rattle.std.specs.Str.{is_utf8}
 use Rattle.std.proofs.lemmas.Str.{IsUtf8-from_is_utf8, is_utf8-from_IsUtf8}
-use Rattle.policy_grammar.specs.declared.fault.ReadFault.{ReadFault}
-use Rattle.policy_grammar.specs.declared.fault.ReadFault.TheVariants.{TooLong, BadToken}
+use Rattle.text_trees.specs.declared.fault.ReadFault.{ReadFault}
+use Rattle.text_trees.specs.declared.fault.ReadFault.TheVariants.{TooLong, BadToken}
 use Rattle.policy_grammar.specs.declared.policy.Policy.{Policy}
 use Rattle.policy_grammar.specs.Limits.{most_file_bytes}
 use Rattle.policy_grammar.specs.PolicyText.{IsFileRefused}

@@ -13,8 +13,8 @@ use Rattle.values.specs.declared.request.Request.{Request}
 use Rattle.values.specs.Fields.{Field}
 use Rattle.ancestor_closure.specs.Hierarchy.{Parents, no_parents, with_parents}
 use Rattle.ancestor_closure.specs.Decided.{is_same}
-use Rattle.policy_grammar.specs.declared.fault.ReadFault.{ReadFault}
-use Rattle.policy_grammar.specs.declared.fault.ReadFault.TheVariants.{TooLong, BadToken}
+use Rattle.text_trees.specs.declared.fault.ReadFault.{ReadFault}
+use Rattle.text_trees.specs.declared.fault.ReadFault.TheVariants.{TooLong, BadToken}
 use Rattle.policy_grammar.specs.declared.policy.Policy.{Policy}
 use Rattle.policy_grammar.specs.Faults.{code_of, place_of}
 use Rattle.policy_grammar.specs.Limits.{most_file_bytes}

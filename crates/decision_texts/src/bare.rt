@@ -49,7 +49,7 @@ pub struct BareEntity {
     pub parents: Items<EntityUid>,
 }
 
-/// A uid, also under `__entity`.
+/// Returns a uid, also under `__entity`.
 pub(crate) fn read_uid(alloc: Global, value: &Value) -> Result<EntityUid, ShapeFault>
     ensures { ReadsAs ShapeFault.NoMemory (λ u. u) result (stated_uid (view value.now)) }
 {
@@ -83,7 +83,7 @@ fn read_parents(alloc: Global, parents: Option<&Value>) -> Result<Items<EntityUi
     }
 }
 
-/// Whether nothing stands there, or an object with no members.
+/// Returns whether nothing stands there, or an object with no members.
 pub(crate) fn is_absent_or_empty(found: Option<&Value>) -> bool
     ensures { result ≡ is_absent_or_empty (option_map (λ v. view v.now) found.entry) }
 {
@@ -93,14 +93,14 @@ pub(crate) fn is_absent_or_empty(found: Option<&Value>) -> bool
     }
 }
 
-/// Whether an entity has no attributes and no tags.
+/// Returns whether an entity has no attributes and no tags.
 fn is_bare(value: &Value) -> bool
     ensures { result ≡ is_bare (view value.now) }
 {
     is_absent_or_empty(value.get("attrs")) && is_absent_or_empty(value.get("tags"))
 }
 
-/// The entity that a value states.
+/// Returns the entity that a value states.
 #[tactic(auto, unfolding(crate::specs::Bare::entity_of))]
 pub(crate) fn read_entity(alloc: Global, value: &Value) -> Result<BareEntity, ShapeFault>
     ensures { ReadsAs ShapeFault.NoMemory (λ e. e) result (entity_of (view value.now)) }

@@ -19,7 +19,7 @@ use policy_grammar::Policy;
 use std::alloc::Global;
 use values::Request;
 
-/// The policies by reference, in the same order.
+/// Returns the policies by reference, in the same order.
 fn referred<'p>(
     alloc: Global,
     policies: &'p [(String, Policy)],
@@ -34,7 +34,7 @@ fn referred<'p>(
     Ok(refs)
 }
 
-/// The policies by reference, ascending by name.
+/// Returns the policies by reference, ascending by name.
 pub fn in_order<'p>(
     alloc: Global,
     policies: &'p [(String, Policy)],
@@ -47,7 +47,7 @@ pub fn in_order<'p>(
     Ok(refs)
 }
 
-/// The answer to a request over these policies and entities; no schema is at hand.
+/// Returns the answer to a request over these policies and entities; no schema is at hand.
 fn answer_over(
     alloc: Global,
     policies: &[(&str, &Policy)],
@@ -60,7 +60,7 @@ fn answer_over(
     decide(alloc, policies, request, &world)
 }
 
-/// The answer to a request over these policies, tried in the order of their names, and these entities.
+/// Returns the answer to a request over these policies, tried in the order of their names, and these entities.
 fn answer_to(
     alloc: Global,
     policies: &[(String, Policy)],
@@ -75,7 +75,7 @@ fn answer_to(
     answer_over(alloc, &ordered, store, request)
 }
 
-/// The line of the answer to a request over these policies and entities.
+/// Returns the line of the answer to a request over these policies and entities.
 fn line_to(
     alloc: Global,
     policies: &[(String, Policy)],
@@ -90,7 +90,7 @@ fn line_to(
     answer_line(alloc, &answer)
 }
 
-/// The line of the answer to a request, over a file of policies and an array of entities, or the first refusal.
+/// Returns the line of the answer to a request, over a file of policies and an array of entities, or the first refusal.
 ///
 /// No schema is at hand: no type and no action is declared, an entity has no attributes, and the request's context is
 /// empty. Refused in this order: the policies (10 to 19, at a byte), the entities (30, at the place in the array, from

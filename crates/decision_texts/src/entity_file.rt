@@ -16,7 +16,7 @@ use serde_json::Value;
 use std::alloc::Global;
 use std::collections::VecDeque;
 
-/// A fault of shape as a refusal at a place.
+/// Returns a fault of shape as a refusal at a place.
 pub(crate) fn refusal_at(place: Option<usize>, fault: ShapeFault) -> Refusal
     ensures { result ≡ refusal_at place fault }
 {
@@ -26,7 +26,7 @@ pub(crate) fn refusal_at(place: Option<usize>, fault: ShapeFault) -> Refusal
     }
 }
 
-/// The entity at a place of the array.
+/// Returns the entity at a place of the array.
 fn read_entity_at(alloc: Global, value: &Value, place: usize) -> Result<BareEntity, Refusal>
     ensures { ReadsAs no_memory (λ e. e) result (placed (Some place) (entity_of (view value.now))) }
 {
@@ -36,7 +36,8 @@ fn read_entity_at(alloc: Global, value: &Value, place: usize) -> Result<BareEnti
     }
 }
 
-/// The entities of an array, each the only one of its uid. The JSON of each is given up before the next is read.
+/// Returns the entities of an array, each the only one of its uid. The JSON of each is given up before the next is
+/// read.
 fn read_array(alloc: Global, values: Vec<Value>) -> Result<EntityStore, Refusal>
     ensures { ReadsStore result (entities_in (items_view values.items)) }
 {
@@ -57,7 +58,7 @@ fn read_array(alloc: Global, values: Vec<Value>) -> Result<EntityStore, Refusal>
     Ok(store)
 }
 
-/// The items of an array.
+/// Returns the items of an array.
 fn into_array(value: Value) -> Option<Vec<Value>>
     ensures { option_map (λ values. items_view values.items) result ≡ as_array (view value) }
 {
@@ -67,7 +68,7 @@ fn into_array(value: Value) -> Option<Vec<Value>>
     }
 }
 
-/// The entities of a file.
+/// Returns the entities of a file.
 #[tactic(auto, unfolding(crate::specs::Bare::entities_of))]
 pub(crate) fn read_entities(alloc: Global, text: &[u8]) -> Result<EntityStore, Refusal>
     ensures { ReadsStore result (entities_of text.now) }

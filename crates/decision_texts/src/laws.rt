@@ -6,8 +6,8 @@ use authoriser::answers_are_lawful;
 use policy_grammar::{file_names_differ, texts_have_one_reading};
 use uid_json::names_read_back;
 
-/// That three texts come to exactly one thing, a line or a refusal, and that the ids in an answer's line ascend. It
-/// does nothing; its clauses are laws of the definitions.
+/// Proves that three texts come to exactly one thing, a line or a refusal, and that the ids in an answer's line ascend.
+/// It does nothing; its clauses are laws of the definitions.
 pub fn texts_have_one_outcome()
     ensures one_line { OneLine }
     ensures not_both { NotBoth }

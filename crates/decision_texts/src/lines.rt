@@ -96,7 +96,8 @@ fn write_answer(out: &mut Writer, answer: &Answer) -> Result<(), NoMemory>
     Ok(())
 }
 
-/// The line of an answer, without its line end: `{"cycle":[],"decision":"Allow","errors":[],"reason":["policy0"]}`.
+/// Returns the line of an answer, without its line end:
+/// `{"cycle":[],"decision":"Allow","errors":[],"reason":["policy0"]}`.
 pub fn answer_line(alloc: Global, answer: &Answer) -> Result<Vec<u8>, NoMemory>
     ensures { IfOk result (λ b. b.items ≡ answer_line answer.now) }
 {

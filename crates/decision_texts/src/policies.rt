@@ -8,7 +8,7 @@ use crate::refusal::Refusal;
 use policy_grammar::{MOST_FILE_BYTES, Policy, ReadFault, parse_policies};
 use std::alloc::Global;
 
-/// A fault of the policies' text (10 to 19, or 1) as a refusal, at the same byte.
+/// Returns a fault of the policies' text (10 to 19, or 1) as a refusal, at the same byte.
 fn refusal_by(fault: ReadFault) -> Refusal
     ensures { result ≡ refusal_by fault }
 {
@@ -19,8 +19,8 @@ fn refusal_by(fault: ReadFault) -> Refusal
     }
 }
 
-/// The policies of a file with their names, or its fault. A file that is too long is refused before it is asked whether
-/// it is UTF-8.
+/// Returns the policies of a file with their names, or its fault. A file that is too long is refused before it is asked
+/// whether it is UTF-8.
 fn read_policies(alloc: Global, bytes: &[u8]) -> Result<Vec<(String, Policy)>, ReadFault>
     ensures read { IfOk result
         (λ named. ArePoliciesOf bytes.now (map (λ p. string_bytes p.0) named.items) (map (λ p. p.1) named.items)) }
@@ -35,7 +35,7 @@ fn read_policies(alloc: Global, bytes: &[u8]) -> Result<Vec<(String, Policy)>, R
     }
 }
 
-/// The policies of a file with their names, in the file's order, or the refusal (10 to 19, at a byte).
+/// Returns the policies of a file with their names, in the file's order, or the refusal (10 to 19, at a byte).
 pub fn policies_in(alloc: Global, bytes: &[u8]) -> Result<Vec<(String, Policy)>, Refusal>
     ensures read { IfOk result
         (λ named. ArePoliciesOf bytes.now (map (λ p. string_bytes p.0) named.items) (map (λ p. p.1) named.items)) }

@@ -79,7 +79,7 @@ fn number_or_null(number: Option<u64>) -> Value
     }
 }
 
-/// The members with one more.
+/// Returns the members with one more.
 fn with_value(
     alloc: Global,
     members: Map<String, Value>,
@@ -95,7 +95,7 @@ fn with_value(
     Ok(members)
 }
 
-/// The JSON of a refusal with these parts.
+/// Returns the JSON of a refusal with these parts.
 fn parts_value(
     alloc: Global,
     code: u64,
@@ -119,7 +119,7 @@ fn refusal_value(alloc: Global, refusal: Refusal) -> Result<Value, NoMemory>
     parts_value(alloc, u64::from(refusal.code), place, within)
 }
 
-/// The line that tells a refusal, without its line end: `{"error":{"code":30,"place":0,"within":null}}`.
+/// Returns the line that tells a refusal, without its line end: `{"error":{"code":30,"place":0,"within":null}}`.
 pub fn error_line(alloc: Global, refusal: Refusal) -> Result<Vec<u8>, NoMemory>
     ensures { IfOk result (λ b. b.items ≡ error_line refusal) }
 {

@@ -14,7 +14,7 @@ use std::alloc::Global;
 use uid_json::read_name;
 use values::{EntityUid, Record, Request};
 
-/// The entity that what stands at a key names.
+/// Returns the entity that what stands at a key names.
 fn read_name_at(alloc: Global, value: &Value, key: &str) -> Result<EntityUid, ShapeFault>
     ensures read { IfOk result (NamesAt key.now (view value.now)) }
     ensures refused { IfErr result
@@ -29,7 +29,7 @@ fn read_name_at(alloc: Global, value: &Value, key: &str) -> Result<EntityUid, Sh
     }
 }
 
-/// The request that a value states.
+/// Returns the request that a value states.
 #[tactic(auto, using(crate::proofs::RequestLemmas::no_principal, crate::proofs::RequestLemmas::no_action, crate::proofs::RequestLemmas::no_resource, crate::proofs::RequestLemmas::no_context))]
 fn request_in(alloc: Global, value: &Value) -> Result<Request, ShapeFault>
     ensures read { IfOk result (StatesRequest (view value.now)) }
@@ -52,7 +52,7 @@ fn request_in(alloc: Global, value: &Value) -> Result<Request, ShapeFault>
     })
 }
 
-/// The request that bytes state.
+/// Returns the request that bytes state.
 pub(crate) fn read_request(alloc: Global, text: &[u8]) -> Result<Request, ShapeFault>
     ensures read { IfOk result (IsRequestText text.now) }
     ensures refused { IfErr result (λ e. e ≡ ShapeFault.BadShape → IsNoRequestText text.now) }

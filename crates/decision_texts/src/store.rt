@@ -6,7 +6,7 @@ use entity_worlds::Entity;
 use std::alloc::Global;
 use values::Record;
 
-/// The entity, which has no attributes.
+/// Returns the entity, which has no attributes.
 pub(crate) fn without_attributes(alloc: Global, entity: BareEntity) -> Entity
     ensures uid { result.uid ≡ entity.uid }
     ensures attrs { result.attrs ≡ [] }

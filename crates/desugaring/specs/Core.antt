@@ -24,8 +24,8 @@ use Rattle.expression_trees.specs.declared.tree.Term.{Term}
 use Rattle.expression_trees.specs.declared.tree.ExprTree.{ExprTree}
 use Rattle.expression_trees.specs.declared.tree.ExprTree.TheOpen.{ExprTree-F as tree}
 use Rattle.expression_trees.specs.declared.tree.ExprTree.TheFolds.{fold-ExprTree}
-use Rattle.desugaring.specs.declared.leaves.Chain.{Chain}
-use Rattle.desugaring.specs.declared.leaves.Chain.TheVariants as chain
+use Rattle.desugaring.specs.declared.forms.Chain.{Chain}
+use Rattle.desugaring.specs.declared.forms.Chain.TheVariants as chain
 use Rattle.desugaring.specs.declared.names.Method.{Method}
 use Rattle.desugaring.specs.declared.names.Method.TheVariants as method
 use Rattle.desugaring.specs.Names.{function_of, method_of}

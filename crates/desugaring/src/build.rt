@@ -7,13 +7,17 @@ ghost use Rattle.desugaring.specs.inner.Giving.{Gave};
 ghost use Rattle.desugaring.specs.inner.WellFormed.{WellFormed, AllWellFormed, WellFormedEntry, WellFormedTerm};
 ghost use Rattle.desugaring.specs.inner.WellFormed.{WellFormedAccess};
 
+use crate::calls::{call, call_with_row};
+use crate::forms::{
+    Chain, add_term, apply, compare, field, has, if_then_else, is, is_in, join_next, like, named,
+    record, set,
+};
 use crate::leaves::{
-    Chain, add, add_term, apply, boolean_literal, call, call_with_row, compare, field, has,
-    if_then_else, is, is_in, join_next, like, named, negated_literal, number_literal, record, set,
-    text_literal, uid_literal, variable,
+    boolean_literal, negated_literal, number_literal, text_literal, uid_literal, variable,
 };
 use crate::measuring::function_at;
 use crate::names::method_named;
+use crate::pairs::add;
 use crate::words::name;
 use expression_trees::{Access, Entry, ExprTree, Term};
 use expressions::{Expr, Named, Unary};
@@ -21,7 +25,7 @@ use plain::{Items, NoMemory};
 use policy_tokens::spelling;
 use std::alloc::Global;
 
-/// The core expression of a tree; of one that has faults some expression.
+/// Returns the core expression of a tree; of one that has faults some expression.
 #[cycle(build)]
 pub(crate) fn build_tree(alloc: Global, text: &str, tree: &ExprTree) -> Result<Expr, NoMemory>
     requires { WellFormed text.now tree.now }
@@ -88,7 +92,7 @@ pub(crate) fn build_tree(alloc: Global, text: &str, tree: &ExprTree) -> Result<E
     }
 }
 
-/// A tree behind a minus, which joins a number.
+/// Returns a tree behind a minus, which joins a number.
 #[cycle(build)]
 fn build_behind_minus(alloc: Global, text: &str, tree: &ExprTree) -> Result<Expr, NoMemory>
     requires { WellFormed text.now tree.now }

@@ -29,7 +29,7 @@ impl DesugarFault {
     }
 }
 
-/// The one at the lesser place, where there is one; the first where they are at one place.
+/// Returns the one at the lesser place, where there is one; the first where they are at one place.
 pub fn earlier_of(one: Option<DesugarFault>, other: Option<DesugarFault>) -> Option<DesugarFault>
     ensures { result ≡ spec.earlier_of one other }
 {

@@ -3,13 +3,16 @@
 #![tactic(auto)]
 
 mod build;
+mod calls;
 mod fault;
+mod forms;
 mod laws;
 mod leaves;
 mod measure;
 mod measuring;
 mod names;
 mod numbers;
+mod pairs;
 mod repeats;
 mod whole;
 mod words;

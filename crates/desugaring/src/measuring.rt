@@ -32,7 +32,7 @@ use std::alloc::Global;
 /// What is told, but for want of memory.
 type Told = Result<Measure, NoMemory>;
 
-/// The fault of a number that is out of range.
+/// Returns the fault of a number that is out of range.
 fn range_fault(within: bool, token: Token) -> Option<DesugarFault>
     ensures { result ≡ least (range within token) }
 {
@@ -61,7 +61,7 @@ fn measure_negated_number(text: &str, token: Token) -> Measure
     Measure::leaf(range_fault(fits_negated(digits), token))
 }
 
-/// The fault of a call with so many arguments, by what it takes, if it is known.
+/// Returns the fault of a call with so many arguments, by what it takes, if it is known.
 fn call_fault(at: usize, takes: Option<usize>, count: usize) -> Option<DesugarFault>
     ensures { result ≡ least (call_faults at takes count) }
 {
@@ -77,7 +77,7 @@ fn call_fault(at: usize, takes: Option<usize>, count: usize) -> Option<DesugarFa
     }
 }
 
-/// The function that a Path is.
+/// Returns the function that a Path is.
 pub(crate) fn function_at(text: &str, path: &PathTree) -> Option<UnaryCall>
     requires { PathIn text.now path.now }
     ensures { result ≡ function text.now path.now }
@@ -88,7 +88,7 @@ pub(crate) fn function_at(text: &str, path: &PathTree) -> Option<UnaryCall>
     }
 }
 
-/// The fault of a function's call.
+/// Returns the fault of a function's call.
 fn function_fault(text: &str, path: &PathTree, count: usize) -> Option<DesugarFault>
     requires { PathIn text.now path.now }
     ensures { result ≡ least (function_faults text.now path.now count) }
@@ -100,7 +100,7 @@ fn function_fault(text: &str, path: &PathTree, count: usize) -> Option<DesugarFa
     call_fault(path.first.start, takes, count)
 }
 
-/// The fault of a method's call.
+/// Returns the fault of a method's call.
 fn method_fault(text: &str, name: Token, count: usize) -> Option<DesugarFault>
     requires { TokenIn text.now identifiers name }
     ensures { result ≡ least (call_faults name.start (method_takes (method_of (spelling_of text.now name))) count) }
@@ -172,7 +172,7 @@ fn if_then_else(test: Told, consequent: Told, alternative: Told) -> Told
     Ok(test.beside(consequent.beside(alternative?)).above())
 }
 
-/// What is told of a tree.
+/// Returns what is told of a tree.
 #[cycle(measuring)]
 pub(crate) fn measure_tree(alloc: Global, text: &str, tree: &ExprTree) -> Told
     requires { WellFormed text.now tree.now }

@@ -15,7 +15,7 @@ pub(crate) enum Method {
     WithArgument(BinaryCall),
 }
 
-/// The function of this name.
+/// Returns the function of this name.
 pub(crate) fn function_named(name: &str) -> Option<UnaryCall>
     ensures { result ≡ function_of name.now }
 {
@@ -26,7 +26,7 @@ pub(crate) fn function_named(name: &str) -> Option<UnaryCall>
     }
 }
 
-/// The method of this name.
+/// Returns the method of this name.
 pub(crate) fn method_named(name: &str) -> Option<Method>
     ensures { result ≡ method_of name.now }
 {
@@ -48,7 +48,7 @@ pub(crate) fn method_named(name: &str) -> Option<Method>
 }
 
 impl Method {
-    /// How many arguments it takes.
+    /// Returns how many arguments it takes.
     pub(crate) fn takes(self) -> usize
         ensures { result ≡ takes self }
     {

@@ -28,7 +28,7 @@ pub(crate) struct Key {
     at: usize,
 }
 
-/// The lesser place, where there is one.
+/// Returns the lesser place, where there is one.
 fn lesser(a: Option<usize>, b: Option<usize>) -> Option<usize>
     ensures { result ≡ lesser_of a b }
 {
@@ -39,7 +39,7 @@ fn lesser(a: Option<usize>, b: Option<usize>) -> Option<usize>
     }
 }
 
-/// The least place at which a name stands again.
+/// Returns the least place at which a name stands again.
 fn least_place(alloc: Global, marks: &[NameAt<'_>]) -> Result<Option<usize>, NoMemory>
     ensures { IfOk result (ReportsLeast (StandsAgain (abstract_names marks.now))) }
 {
@@ -53,7 +53,7 @@ fn least_place(alloc: Global, marks: &[NameAt<'_>]) -> Result<Option<usize>, NoM
     Ok(least)
 }
 
-/// A place at which a name stands again, as a fault.
+/// Returns a place at which a name stands again, as a fault.
 fn fault_at(place: Option<usize>) -> Option<DesugarFault>
     ensures { result ≡ repeat_fault place }
 {
@@ -63,8 +63,8 @@ fn fault_at(place: Option<usize>) -> Option<DesugarFault>
     }
 }
 
-/// The fault of a name that stands again, the one at the least place. It takes time of n log n for n names; the only
-/// error is `NoMemory`.
+/// Returns the fault of a name that stands again, the one at the least place. It takes time of n log n for n names; the
+/// only error is `NoMemory`.
 #[tactic(auto, using(crate::proofs::Again::fault_told))]
 pub fn first_duplicate(
     alloc: Global,
@@ -76,7 +76,7 @@ pub fn first_duplicate(
     Ok(fault_at(place))
 }
 
-/// The keys of a record.
+/// Returns the keys of a record.
 fn keys_of(alloc: Global, text: &str, entries: &[Entry<ExprTree>]) -> Result<Vec<Key>, NoMemory>
     requires { AllByRecursion (WellFormedEntry text.now) entries.now }
     ensures { IfOk result (λ keys. map held keys.items ≡ map (key_of text.now) entries.now) }
@@ -92,7 +92,7 @@ fn keys_of(alloc: Global, text: &str, entries: &[Entry<ExprTree>]) -> Result<Vec
     Ok(keys)
 }
 
-/// The same, lent.
+/// Returns the same, lent.
 fn names_of<'a>(alloc: Global, keys: &'a [Key]) -> Result<Vec<NameAt<'a>>, NoMemory>
     ensures { IfOk result (λ marks. abstract_names marks.items ≡ map held keys.entry.now) }
 {
@@ -106,7 +106,7 @@ fn names_of<'a>(alloc: Global, keys: &'a [Key]) -> Result<Vec<NameAt<'a>>, NoMem
     Ok(marks)
 }
 
-/// The fault of a record's key that stands again, the one at the least place.
+/// Returns the fault of a record's key that stands again, the one at the least place.
 pub(crate) fn repeated_key(
     alloc: Global,
     text: &str,

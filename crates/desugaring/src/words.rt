@@ -4,6 +4,7 @@ ghost use Rattle.plain.specs.Words.{AreIdents};
 ghost use Rattle.policy_tokens.specs.Lexing.{spelling_of};
 ghost use Rattle.policy_tokens.specs.declared.token.TokenKind.TheVariants as k;
 ghost use Rattle.token_readers.specs.Kinds.{only};
+ghost use Rattle.token_readers.specs.Grammar.{identifiers};
 ghost use Rattle.expression_trees.specs.Patterns.{patterns};
 ghost use Rattle.desugaring.specs.inner.WellFormed.{TokenIn, KeyIn, PathIn};
 ghost use Rattle.desugaring.specs.Strings.{value_of, pattern_of};
@@ -16,7 +17,7 @@ use policy_tokens::{Token, decode_pattern, decode_string, spelling};
 use std::alloc::Global;
 use values::TypeName;
 
-/// The operator before a further term of a sum.
+/// Returns the operator before a further term of a sum.
 pub(crate) fn sign(sign: Sign) -> Binary
     ensures { result ≡ sign_of sign }
 {
@@ -26,7 +27,7 @@ pub(crate) fn sign(sign: Sign) -> Binary
     }
 }
 
-/// The value of a string.
+/// Returns the value of a string.
 pub(crate) fn string(alloc: Global, text: &str, token: Token) -> Result<Text, NoMemory>
     requires { TokenIn text.now (only k.Text) token }
     ensures { IfOk result (λ value. value ≡ value_of (spelling_of text.now token)) }
@@ -34,7 +35,7 @@ pub(crate) fn string(alloc: Global, text: &str, token: Token) -> Result<Text, No
     decode_string(alloc, text, token)
 }
 
-/// A string as a pattern.
+/// Returns a string as a pattern.
 pub(crate) fn pattern(alloc: Global, text: &str, token: Token) -> Result<Pattern, NoMemory>
     requires { TokenIn text.now patterns token }
     ensures { IfOk result (λ pattern. pattern ≡ pattern_of (spelling_of text.now token)) }
@@ -43,7 +44,7 @@ pub(crate) fn pattern(alloc: Global, text: &str, token: Token) -> Result<Pattern
     Ok(Pattern::from_literals(literals))
 }
 
-/// A key or a field's name: a word, or the value of a string.
+/// Returns a key or a field's name: a word, or the value of a string.
 pub(crate) fn name(alloc: Global, text: &str, key: KeyTree) -> Result<Text, NoMemory>
     requires { KeyIn text.now key }
     ensures { IfOk result (λ name. name ≡ name_of text.now key) }
@@ -64,7 +65,7 @@ pub(crate) fn place(key: KeyTree) -> usize
     }
 }
 
-/// The words of a Path.
+/// Returns the words of a Path.
 fn words_of<'a>(alloc: Global, text: &'a str, path: &PathTree) -> Result<Vec<&'a str>, NoMemory>
     requires { PathIn text.now path.now }
     ensures words { IfOk result
@@ -80,11 +81,30 @@ fn words_of<'a>(alloc: Global, text: &'a str, path: &PathTree) -> Result<Vec<&'a
     Ok(words)
 }
 
-/// The type name that a path is.
-pub(crate) fn path_type(alloc: Global, text: &str, path: &PathTree) -> Result<TypeName, NoMemory>
+/// Returns the type name that a path of one word is, as most are: it takes memory for the name alone.
+fn word_type(alloc: Global, text: &str, word: Token) -> Result<TypeName, NoMemory>
+    requires { TokenIn text.now identifiers word }
+    ensures { IfOk result (λ name. name ≡ spelling_of text.now word) }
+{
+    TypeName::from_words(alloc, &[spelling(text, word)])
+}
+
+/// Returns the type name that a path of several words is.
+fn joined_type(alloc: Global, text: &str, path: &PathTree) -> Result<TypeName, NoMemory>
     requires { PathIn text.now path.now }
     ensures { IfOk result (λ name. name ≡ path_name text.now path.now) }
 {
     let words = words_of(alloc, text, path)?;
     TypeName::from_words(alloc, &words)
+}
+
+/// Returns the type name that a path is.
+pub(crate) fn path_type(alloc: Global, text: &str, path: &PathTree) -> Result<TypeName, NoMemory>
+    requires { PathIn text.now path.now }
+    ensures { IfOk result (λ name. name ≡ path_name text.now path.now) }
+{
+    match path.more.as_slice() {
+        [] => word_type(alloc, text, path.first),
+        _ => joined_type(alloc, text, path),
+    }
 }

@@ -6,7 +6,7 @@ ghost use Rattle.drill_scripts.specs.Drills.{IsDrilled, IsPlayedOut, IsDrillRefu
 ghost use Rattle.drill_scripts.specs.Scripts.{IsScriptRefused};
 ghost use Rattle.drill_scripts.specs.inner.Under.{IsDrilledUnder};
 
-use crate::telling::world_lines;
+use crate::reporting::world_lines;
 use crate::whole::read_script;
 use decision_texts::Refusal;
 use plain::{NoMemory, Shared};
@@ -44,8 +44,8 @@ fn drill_under(
     Ok(play(alloc, schema, count, &events)?)
 }
 
-/// What a script comes to at so many sites of a schema, `00001`, `00002` and so on, which have nothing stored at first:
-/// a line for each event, then the state of each site, with a line end between each two.
+/// Returns what a script comes to at so many sites of a schema, `00001`, `00002` and so on, which have nothing stored
+/// at first: a line for each event, then the state of each site, with a line end between each two.
 ///
 /// A line of the script is a JSON object with the number of a site at `site` and one of these words at `do`, with what
 /// stands behind it here at further keys: `put_policy` (`id`, `text`), `delete_policy` (`id`), `put_entity` (`entity`),

@@ -4,8 +4,8 @@
 mod drilling;
 mod made;
 mod one_line;
+mod reporting;
 mod split;
-mod telling;
 mod whole;
 
 pub use decision_texts::Refusal;

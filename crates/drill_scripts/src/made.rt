@@ -11,7 +11,7 @@ pub(crate) struct Made {
     pub(crate) summaries: usize,
 }
 
-/// What is made once this deed is done.
+/// Returns what is made once this deed is done.
 pub(crate) fn after_deed(made: Made, deed: &Deed) -> Made
     requires messages { made.messages < 2 ^ 63 }
     requires summaries { made.summaries < 2 ^ 63 }

@@ -18,7 +18,7 @@ use site_worlds::{Deed, Event};
 use std::alloc::Global;
 use uid_json::read_uid;
 
-/// The number, if it lies in these bounds.
+/// Returns the number, if it lies in these bounds.
 fn within(least: u64, most: u64, number: Option<u64>) -> Option<u64>
     ensures { result ≡ within least most number }
 {
@@ -28,7 +28,7 @@ fn within(least: u64, most: u64, number: Option<u64>) -> Option<u64>
     }
 }
 
-/// The number at a key, from `least` and below `most`.
+/// Returns the number at a key, from `least` and below `most`.
 fn number_in(value: &Value, key: &str, least: usize, most: usize) -> Option<usize>
     ensures { result ≡ number_in key.now least most (view value.now) }
 {
@@ -41,7 +41,7 @@ fn number_in(value: &Value, key: &str, least: usize, most: usize) -> Option<usiz
     }
 }
 
-/// The JSON at a key, as bytes that state it.
+/// Returns the JSON at a key, as bytes that state it.
 fn bytes_at(alloc: Global, value: &Value, key: &str) -> Result<Option<Items<u8>>, NoMemory>
     requires { depth (view value.now) ≤ max_depth }
     ensures { IfOk result (AreBytesOf (get key.now (view value.now))) }
@@ -53,7 +53,7 @@ fn bytes_at(alloc: Global, value: &Value, key: &str) -> Result<Option<Items<u8>>
     Ok(Some(Items::from_vec(bytes)))
 }
 
-/// A policy to be put, if its id and its text are there.
+/// Returns a policy to be put, if its id and its text are there.
 fn policy_put(alloc: Global, value: &Value) -> Result<Option<Deed>, NoMemory>
     ensures { IfOk result (IsReadAs
         (policy_put (text_at (codes "id") (view value.now)) (text_at (codes "text") (view value.now)))) }
@@ -69,7 +69,7 @@ fn policy_put(alloc: Global, value: &Value) -> Result<Option<Deed>, NoMemory>
     Ok(Some(Deed::PutPolicy(id, text)))
 }
 
-/// A policy to be taken away, if its id is there.
+/// Returns a policy to be taken away, if its id is there.
 fn policy_deleted(alloc: Global, value: &Value) -> Result<Option<Deed>, NoMemory>
     ensures { IfOk result (IsReadAs (option_map policy_deleted (text_at (codes "id") (view value.now)))) }
 {
@@ -80,7 +80,7 @@ fn policy_deleted(alloc: Global, value: &Value) -> Result<Option<Deed>, NoMemory
     Ok(Some(Deed::DeletePolicy(id)))
 }
 
-/// An entity to be put, if it is there.
+/// Returns an entity to be put, if it is there.
 fn entity_put(alloc: Global, value: &Value) -> Result<Option<Deed>, NoMemory>
     requires { depth (view value.now) ≤ max_depth }
     ensures { IfOk result (IsReadAs (option_map put_entity (get (codes "entity") (view value.now)))) }
@@ -91,7 +91,7 @@ fn entity_put(alloc: Global, value: &Value) -> Result<Option<Deed>, NoMemory>
     }
 }
 
-/// An entity to be taken away, if there is something for its uid.
+/// Returns an entity to be taken away, if there is something for its uid.
 fn entity_deleted(alloc: Global, value: &Value) -> Result<Option<Deed>, NoMemory>
     ensures { IfOk result (IsReadAs
         (option_map (λ uid. entity_deleted (uid_in uid)) (get (codes "uid") (view value.now)))) }
@@ -105,7 +105,7 @@ fn entity_deleted(alloc: Global, value: &Value) -> Result<Option<Deed>, NoMemory
     }
 }
 
-/// A request to be decided, if it is there.
+/// Returns a request to be decided, if it is there.
 fn authorized(alloc: Global, value: &Value) -> Result<Option<Deed>, NoMemory>
     requires { depth (view value.now) ≤ max_depth }
     ensures { IfOk result (IsReadAs (option_map authorize (get (codes "request") (view value.now)))) }
@@ -116,7 +116,7 @@ fn authorized(alloc: Global, value: &Value) -> Result<Option<Deed>, NoMemory>
     }
 }
 
-/// A delta against a summary that was made, if the number of such a one is there.
+/// Returns a delta against a summary that was made, if the number of such a one is there.
 fn delta_offered(value: &Value, made: Made) -> Option<Deed>
     ensures { IsReadAs (option_map delta_offered (number_in (codes "summary") 0 made.summaries (view value.now)))
         result }
@@ -127,7 +127,7 @@ fn delta_offered(value: &Value, made: Made) -> Option<Deed>
     }
 }
 
-/// A message that was made, if the number of such a one is there.
+/// Returns a message that was made, if the number of such a one is there.
 fn delivered(value: &Value, made: Made) -> Option<Deed>
     ensures { IsReadAs (option_map delivered (number_in (codes "message") 0 made.messages (view value.now))) result }
 {
@@ -137,7 +137,7 @@ fn delivered(value: &Value, made: Made) -> Option<Deed>
     }
 }
 
-/// What a word asks for, with the other members of the line.
+/// Returns what a word asks for, with the other members of the line.
 #[tactic(auto, unfolding(crate::specs::Said::asked_by))]
 fn asked_by(alloc: Global, made: Made, word: &str, value: &Value) -> Result<Option<Deed>, NoMemory>
     requires { depth (view value.now) ≤ max_depth }
@@ -173,7 +173,7 @@ fn asked_by(alloc: Global, made: Made, word: &str, value: &Value) -> Result<Opti
     Ok(None)
 }
 
-/// The event that a JSON value says at one of so many sites, if it says one.
+/// Returns the event that a JSON value says at one of so many sites, if it says one.
 #[tactic(auto, unfolding(crate::specs::Said::said_in))]
 fn said_in(alloc: Global, count: u16, made: Made, value: &Value) -> Result<Option<Event>, NoMemory>
     requires { depth (view value.now) ≤ max_depth }
@@ -191,7 +191,7 @@ fn said_in(alloc: Global, count: u16, made: Made, value: &Value) -> Result<Optio
     }
 }
 
-/// The event that a line says, if it says one. Fails for memory alone.
+/// Returns the event that a line says, if it says one. Fails for memory alone.
 pub(crate) fn said_of(
     alloc: Global,
     count: u16,

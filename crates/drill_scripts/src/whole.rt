@@ -10,7 +10,7 @@ use decision_texts::Refusal;
 use site_worlds::Event;
 use std::alloc::Global;
 
-/// The refusal of the line at this place.
+/// Returns the refusal of the line at this place.
 fn unread_line(place: usize) -> Refusal
     ensures { result ≡ bad_shape (Some place) }
 {
@@ -21,9 +21,9 @@ fn unread_line(place: usize) -> Refusal
     }
 }
 
-/// The events of a script, one for each line, at so many sites. A line that says no event refuses it all (30) with the
-/// place of the first such line, counted from 0: one that is no JSON object, lacks what it has to have, or has the
-/// number of a site, a message or a summary that is not there by then.
+/// Returns the events of a script, one for each line, at so many sites. A line that says no event refuses it all (30)
+/// with the place of the first such line, counted from 0: one that is no JSON object, lacks what it has to have, or has
+/// the number of a site, a message or a summary that is not there by then.
 pub(crate) fn read_script(alloc: Global, count: u16, script: &[u8]) -> Result<Vec<Event>, Refusal>
     ensures read { IfOk result (λ events. AreEventsOf count script.now events.items) }
     ensures refused { IfErr result (λ r. (r ≡ no_memory → ⊥) → IsScriptRefused count script.now r) }

@@ -35,8 +35,8 @@ fn entity_json(alloc: Global, entity: &Entity) -> Result<Value, NoMemory>
     json!(in alloc; {"attrs": attrs, "parents": parents, "uid": uid})
 }
 
-/// The one text of an entity, which is compact JSON: `{"attrs":{"age":1},"parents":[],"uid":{"id":"a","type":"User"}}`.
-/// Fails for memory alone.
+/// Returns the one text of an entity, which is compact JSON:
+/// `{"attrs":{"age":1},"parents":[],"uid":{"id":"a","type":"User"}}`. Fails for memory alone.
 pub fn canonical_text(alloc: Global, entity: &Entity) -> Result<Vec<u8>, NoMemory>
     ensures text { IfOk result (λ b. b.items ≡ canonical_text entity.now) }
     ensures reads_back { IfOk result (λ b. depth (canonical_json entity.now) ≤ max_depth

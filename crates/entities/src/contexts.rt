@@ -19,14 +19,14 @@ use serde_json::Value;
 use std::alloc::Global;
 use values::{EntityUid, Record};
 
-/// Whether an environment stands before those of an action.
+/// Returns whether an environment stands before those of an action.
 fn is_before(environment: &Environment, action: &EntityUid) -> bool
     ensures { result ≡ is_lt (uid_cmp environment.now.place.action action.now) }
 {
     environment.place.action.cmp(action).is_lt()
 }
 
-/// The type of the context of an environment, where it is one of this action.
+/// Returns the type of the context of an environment, where it is one of this action.
 fn context_if_of<'s>(environment: &'s Environment, action: &EntityUid) -> Option<&'s CedarType>
     ensures { option_map (λ t. cedar_view t.now) result
         ≡ context_if (is_of_action action.now) (Some (environment_view environment.now)) }
@@ -38,7 +38,7 @@ fn context_if_of<'s>(environment: &'s Environment, action: &EntityUid) -> Option
     }
 }
 
-/// The same of the environment at a place of a list.
+/// Returns the same of the environment at a place of a list.
 fn context_at<'s>(
     environments: &'s [Environment],
     at: usize,
@@ -53,7 +53,7 @@ fn context_at<'s>(
     }
 }
 
-/// The type of the context of an action, where some environment has it; takes logarithmic time.
+/// Returns the type of the context of an action, where some environment has it; takes logarithmic time.
 fn context_of<'s>(schema: &'s Schema, action: &EntityUid) -> Option<&'s CedarType>
     ensures { option_map (λ t. cedar_view t.now) result
         ≡ context_where (is_of_action action.now) (schema_view schema.now).environments }
@@ -65,7 +65,7 @@ fn context_of<'s>(schema: &'s Schema, action: &EntityUid) -> Option<&'s CedarTyp
     context_at(all, first, action)
 }
 
-/// The context that a JSON object states for requests of an action.
+/// Returns the context that a JSON object states for requests of an action.
 ///
 /// The first fault is told: that the value is no object; that no environment has the action; of the members, ascending
 /// by key, that one is not declared or its value of another type; that a required one is missing.

@@ -35,7 +35,7 @@ pub enum EntityFault {
 }
 
 impl EntityFault {
-    /// The number by which the refusal is told.
+    /// Returns the number by which the refusal is told.
     pub fn code(self) -> u8
         ensures { result ≡ code_of self }
     {

@@ -6,8 +6,8 @@ ghost use Rattle.entities.specs.Laws.{OneRequest, NotBoth, OneRefusal, RequestOr
 use typed_values::records_are_read_again;
 use uid_json::{names_read_back, texts_have_one_reading};
 
-/// That the one JSON of an entity that was read is read as that entity under the same schema, can be written, and is
-/// that of no other; and that its parents ascend, and are those that were stated.
+/// Proves that the one JSON of an entity that was read is read as that entity under the same schema, can be written,
+/// and is that of no other; and that its parents ascend, and are those that were stated.
 pub fn entities_read_back()
     ensures read { CanonicalIsRead }
     ensures nests { CanonicalNests }
@@ -19,12 +19,12 @@ pub fn entities_read_back()
     records_are_read_again();
 }
 
-/// That whether a type's name is one of an action's is told right: it is where its last word is `Action`.
+/// Proves that whether a type's name is one of an action's is told right: it is where its last word is `Action`.
 pub fn action_types_are_told()
     ensures { ActionTypeTestIsExact }
 {}
 
-/// That a value states exactly one request or is refused for exactly one fault, and never both.
+/// Proves that a value states exactly one request or is refused for exactly one fault, and never both.
 pub fn requests_have_one_outcome()
     ensures one_request { OneRequest }
     ensures not_both { NotBoth }

@@ -12,7 +12,7 @@ use plain::Items;
 use schema::Schema;
 use values::EntityUid;
 
-/// Whether two uids are one.
+/// Returns whether two uids are one.
 pub(crate) fn is_same(a: &EntityUid, b: &EntityUid) -> bool
     ensures { result ≡ is_same a.now b.now }
 {
@@ -47,7 +47,7 @@ fn demand_parents(
     Ok(())
 }
 
-/// The parents of an entity, ascending and each once, where it may have each of these.
+/// Returns the parents of an entity, ascending and each once, where it may have each of these.
 #[tactic(auto, unfolding(crate::specs::Entities::parents_in))]
 pub(crate) fn checked_parents(
     schema: &Schema,

@@ -21,7 +21,7 @@ use std::alloc::Global;
 use typed_values::read_record;
 use values::{Record, TypeName};
 
-/// Whether the last word of a type's name is `Action`.
+/// Returns whether the last word of a type's name is `Action`.
 fn is_action_type(name: &TypeName) -> bool
     ensures { result ≡ is_action_type name.now }
 {
@@ -29,7 +29,7 @@ fn is_action_type(name: &TypeName) -> bool
     text == "Action" || text.as_bytes().ends_with(b"::Action")
 }
 
-/// The attributes that entities of a type have.
+/// Returns the attributes that entities of a type have.
 #[tactic(auto, unfolding(crate::specs::Entities::shape_of))]
 fn shape_of<'s>(schema: &'s Schema, name: &TypeName) -> Result<&'s CedarType, EntityFault>
     ensures { AlwaysReadsAs (λ t. cedar_view t.now) result (shape_of (schema_view schema.now) name.now) }
@@ -43,7 +43,7 @@ fn shape_of<'s>(schema: &'s Schema, name: &TypeName) -> Result<&'s CedarType, En
     }
 }
 
-/// The record of this type that a value states; where there is none, that of an empty object.
+/// Returns the record of this type that a value states; where there is none, that of an empty object.
 pub(crate) fn read_fields(
     alloc: Global,
     found: Option<&Value>,
@@ -61,7 +61,7 @@ pub(crate) fn read_fields(
     }
 }
 
-/// The attributes of an entity of this type.
+/// Returns the attributes of an entity of this type.
 #[tactic(auto, unfolding(crate::specs::Entities::attributes_in))]
 fn read_attributes(
     alloc: Global,
@@ -79,7 +79,7 @@ fn read_attributes(
     read_fields(alloc, value.get("attrs"), shape)
 }
 
-/// The entity that a JSON value states: `{"uid":{"type":"User","id":"alice"},"attrs":{..},"parents":[..]}`.
+/// Returns the entity that a JSON value states: `{"uid":{"type":"User","id":"alice"},"attrs":{..},"parents":[..]}`.
 ///
 /// The first fault is told: that the value has not this form; the entity's type is an action's, or not declared; it has
 /// tags; of the attributes, ascending by key, that one is not declared or its value of another type; that a required

@@ -34,7 +34,7 @@ pub struct Asked {
     pub resource: EntityUid,
 }
 
-/// The entity that what stands at a key names.
+/// Returns the entity that what stands at a key names.
 fn read_name_at(alloc: Global, value: &Value, key: &str) -> Result<EntityUid, EntityFault>
     ensures read { IfOk result (NamesAt key.now (view value.now)) }
     ensures refused { IfErr result (λ f. f ≢ EntityFault.NoMemory
@@ -49,7 +49,7 @@ fn read_name_at(alloc: Global, value: &Value, key: &str) -> Result<EntityUid, En
     }
 }
 
-/// What a request asks, where the value has the form of one.
+/// Returns what a request asks, where the value has the form of one.
 #[tactic(auto, using(crate::proofs::RequestLemmas::no_principal, crate::proofs::RequestLemmas::no_action, crate::proofs::RequestLemmas::no_resource, crate::proofs::RequestLemmas::no_context))]
 fn read_asked(alloc: Global, value: &Value) -> Result<Asked, EntityFault>
     ensures read { IfOk result (Asks (view value.now)) }
@@ -69,14 +69,14 @@ fn read_asked(alloc: Global, value: &Value) -> Result<Asked, EntityFault>
     })
 }
 
-/// Whether an entity is of this type.
+/// Returns whether an entity is of this type.
 fn is_of_type(name: &TypeName, uid: &EntityUid) -> bool
     ensures { result ≡ bytes_eq name.now uid.now.type_name }
 {
     name.as_str() == uid.type_name.as_str()
 }
 
-/// Whether a place is that of what is asked.
+/// Returns whether a place is that of what is asked.
 fn is_place(place: &Place, asked: &Asked) -> bool
     ensures { result ≡ is_place asked.now.action asked.now.principal.type_name asked.now.resource.type_name place.now }
 {
@@ -85,7 +85,7 @@ fn is_place(place: &Place, asked: &Asked) -> bool
         && is_of_type(&place.resource, &asked.resource)
 }
 
-/// How a place compares with that of what is asked.
+/// Returns how a place compares with that of what is asked.
 fn compare(place: &Place, asked: &Asked) -> Ordering
     ensures { result ≡ place_cmp place.now (place_asked asked.now) }
 {
@@ -97,14 +97,14 @@ fn compare(place: &Place, asked: &Asked) -> Ordering
         .then(principals.then(resources))
 }
 
-/// Whether an environment stands before that of what is asked.
+/// Returns whether an environment stands before that of what is asked.
 fn is_before(environment: &Environment, asked: &Asked) -> bool
     ensures { result ≡ is_lt (place_cmp environment.now.place (place_asked asked.now)) }
 {
     compare(&environment.place, asked).is_lt()
 }
 
-/// The type of the context of an environment, where its place is that of what is asked.
+/// Returns the type of the context of an environment, where its place is that of what is asked.
 fn context_if_at<'s>(environment: &'s Environment, asked: &Asked) -> Option<&'s CedarType>
     ensures { option_map (λ t. cedar_view t.now) result ≡ context_if
         (is_place asked.now.action asked.now.principal.type_name asked.now.resource.type_name)
@@ -117,7 +117,7 @@ fn context_if_at<'s>(environment: &'s Environment, asked: &Asked) -> Option<&'s 
     }
 }
 
-/// The same of the environment at a place of a list.
+/// Returns the same of the environment at a place of a list.
 fn context_at<'s>(
     environments: &'s [Environment],
     at: usize,
@@ -133,7 +133,7 @@ fn context_at<'s>(
     }
 }
 
-/// The type of the context of what is asked, where some environment has its place; takes logarithmic time.
+/// Returns the type of the context of what is asked, where some environment has its place; takes logarithmic time.
 fn context_of<'s>(schema: &'s Schema, asked: &Asked) -> Option<&'s CedarType>
     ensures { option_map (λ t. cedar_view t.now) result ≡ context_where
         (is_place asked.now.action asked.now.principal.type_name asked.now.resource.type_name)
@@ -146,7 +146,7 @@ fn context_of<'s>(schema: &'s Schema, asked: &Asked) -> Option<&'s CedarType>
     context_at(all, first, asked)
 }
 
-/// The context of what is asked.
+/// Returns the context of what is asked.
 #[tactic(auto, unfolding(crate::specs::Requests::context_asked))]
 fn read_context_of(
     alloc: Global,
@@ -163,7 +163,8 @@ fn read_context_of(
     }
 }
 
-/// The request that a JSON value states: `{"principal":"User::\"alice\"","action":..,"resource":..,"context":{..}}`.
+/// Returns the request that a JSON value states:
+/// `{"principal":"User::\"alice\"","action":..,"resource":..,"context":{..}}`.
 ///
 /// The first fault is told: that the value has not this form; that the action is not declared or does not apply to the
 /// two types; of the context, that a member is not declared or of another type, or that a required one is missing.

@@ -54,7 +54,7 @@ fn read_parents(alloc: Global, parents: Option<&Value>) -> Result<Items<EntityUi
     }
 }
 
-/// Whether nothing stands there, or an object.
+/// Returns whether nothing stands there, or an object.
 pub(crate) fn is_absent_or_object(found: Option<&Value>) -> bool
     ensures { result ≡ is_absent_or_object (option_map (λ v. view v.now) found.entry) }
 {
@@ -64,7 +64,7 @@ pub(crate) fn is_absent_or_object(found: Option<&Value>) -> bool
     }
 }
 
-/// Whether nothing stands there, or an object with no members.
+/// Returns whether nothing stands there, or an object with no members.
 pub(crate) fn is_absent_or_empty(found: Option<&Value>) -> bool
     ensures { result ≡ is_absent_or_empty (option_map (λ v. view v.now) found.entry) }
 {
@@ -80,7 +80,7 @@ fn has_objects(value: &Value) -> bool
     is_absent_or_object(value.get("attrs")) && is_absent_or_object(value.get("tags"))
 }
 
-/// The name and the parents that an entity's JSON states, where it has the form of an entity.
+/// Returns the name and the parents that an entity's JSON states, where it has the form of an entity.
 #[tactic(auto, unfolding(crate::specs::Stated::stated_in))]
 pub(crate) fn read_stated(alloc: Global, value: &Value) -> Result<StatedEntity, EntityFault>
     ensures { ReadsAs EntityFault.NoMemory (λ e. e) result (stated_in (view value.now)) }

@@ -5,17 +5,17 @@ ghost use Rattle.entity_store.specs.Laws.{MemberOfPutsAlike, NoEntityIsAnAction}
 use entities::action_types_are_told;
 use schema::stated_schemas_are_well_formed;
 
-/// That what expressions give follows from the attributes of the entities and from who is above whom, whichever edges
-/// lead there; and what is answered too, where no entity is on a cycle. Where one is, the answer names a cycle, and so
-/// the edges of the cycles have to be the same.
+/// Proves that what expressions give follows from the attributes of the entities and from who is above whom, whichever
+/// edges lead there; and what is answered too, where no entity is on a cycle. Where one is, the answer names a cycle,
+/// and so the edges of the cycles have to be the same.
 pub fn reach_decides()
     ensures { ReachDecides }
 {}
 
-/// That an action may have all that is above it as its parents: over the edges by `memberOf` alone the same entities
-/// are above one another and on cycles, each expression gives the same, and each request has the same answer. No cycle
-/// goes through an action, whatever entities are kept. An entity that is put, under whatever uid and with whatever
-/// parents, is then on a cycle over the one exactly where it is over the other.
+/// Proves that an action may have all that is above it as its parents: over the edges by `memberOf` alone the same
+/// entities are above one another and on cycles, each expression gives the same, and each request has the same answer.
+/// No cycle goes through an action, whatever entities are kept. An entity that is put, under whatever uid and with
+/// whatever parents, is then on a cycle over the one exactly where it is over the other.
 pub fn actions_may_be_closed()
     ensures alike { MemberOfLeadsAlike }
     ensures gives { MemberOfGivesAlike }
@@ -25,7 +25,7 @@ pub fn actions_may_be_closed()
     stated_schemas_are_well_formed();
 }
 
-/// That an entity that is read under a schema is none of its actions, whose types alone end in `Action`.
+/// Proves that an entity that is read under a schema is none of its actions, whose types alone end in `Action`.
 pub fn entities_are_no_actions()
     ensures { NoEntityIsAnAction }
 {

@@ -11,7 +11,7 @@ use std::alloc::Global;
 /// Contracts see the source and the schema, and speak of the entities that these say: `entities_under`.
 pub type World<'a, S> = entity_worlds::World<'a, S, SchemaActions<'a>>;
 
-/// The entities of a source, and the actions of this schema. Takes no memory.
+/// Returns the entities of a source, and the actions of this schema. Takes no memory.
 pub fn world_under<'a, S: EntitySource>(
     alloc: Global,
     source: &'a S,

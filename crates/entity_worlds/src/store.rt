@@ -32,7 +32,7 @@ impl Model for EntityStore {
 }
 
 impl EntityStore {
-    /// A store without entities. Takes no memory.
+    /// Returns a store without entities. Takes no memory.
     pub fn new(alloc: Global) -> Self
         ensures { result ≡ [] }
     {

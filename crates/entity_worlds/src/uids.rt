@@ -28,7 +28,7 @@ fn together<'a>(
     Ok(all)
 }
 
-/// The uids of entities, ascending, with those of actions.
+/// Returns the uids of entities, ascending, with those of actions.
 pub(crate) fn with_actions<'a, A: ActionSource>(
     kept: Vec<&'a EntityUid>,
     actions: &'a A,

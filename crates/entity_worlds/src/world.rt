@@ -39,7 +39,7 @@ impl<'a, S: EntitySource, A: ActionSource + Drop> Model for World<'a, S, A> {
 }
 
 impl<'a, S: EntitySource, A: ActionSource + Drop> World<'a, S, A> {
-    /// The entities of a source, and these actions. Takes no memory.
+    /// Returns the entities of a source, and these actions. Takes no memory.
     pub fn new(alloc: Global, source: &'a S, actions: A) -> Self
         ensures { result ≡ (source.now, actions) }
     {

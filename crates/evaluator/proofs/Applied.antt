@@ -25,6 +25,7 @@ use Rattle.expressions.specs.declared.operator.UnaryCall.{UnaryCall}
 use Rattle.expressions.specs.declared.operator.UnaryCall.TheVariants as one
 use Rattle.expressions.specs.declared.operator.BinaryCall.{BinaryCall}
 use Rattle.expressions.specs.declared.operator.BinaryCall.TheVariants as two
+use Rattle.evaluation_steps.specs.Attributes.{found_among}
 use Rattle.evaluator.specs.declared.fault.EvalFault.TheVariants.{AttrDoesNotExist, TypeError, ExtensionError}
 use Rattle.extensions.specs.Decided.{Decided, told}
 use Rattle.extensions.specs.TextsDecided.{decimal_text_decided, network_text_decided, in_either_decided, within_decided}
@@ -32,7 +33,7 @@ use Rattle.evaluator.specs.Outcomes.{EvaluationResult, IsTruthOf, boolean_in, lo
 use Rattle.ancestor_closure.specs.Hierarchy.{IsIn}
 use Rattle.evaluator.specs.Operators as rule
 use Rattle.evaluator.specs.Operators.{World, UnaryGives, BinaryGives, FieldGives, HasGives, UnaryCallGives, BinaryCallGives, NumbersGive, TakesNumbers, TakesSets, IsTested, TakesAddress, AreCompared, TakesDecimals}
-use Rattle.evaluator.specs.inner.Computing.{DecidedWorld, decided_world, and_then, demanded, two_demanded, truth, bounded, apply_unary, is_in, in_members, in_value, numbers, sets, apply_binary, found_or, attribute, field_of, has_attribute, has_field, decimal_read, network_read, is_v4, tested, apply_unary_call, decimals, networks, apply_binary_call}
+use Rattle.evaluator.specs.inner.Computing.{DecidedWorld, decided_world, and_then, demanded, two_demanded, truth, bounded, apply_unary, is_in, in_members, in_value, numbers, sets, apply_binary, found_or, value_or_fault, attribute, field_of, has_attribute, has_field, decimal_read, network_read, is_v4, tested, apply_unary_call, decimals, networks, apply_binary_call}
 use Rattle.evaluator.proofs.ByKind.{boolean_cases, long_cases, text_cases, entity_cases, members_cases, decimal_cases, network_cases}
 use Rattle.evaluator.proofs.Telling.{told_iff, tells_test, test_is, int_lt_iff, int_le_iff, comes_bounded, bounded_is, value_eq_iff, v4_iff, v6_iff, any_iff, all_iff, is_in_iff}
 
@@ -348,7 +349,7 @@ module _ (W : World) (above : EntityUid → EntityUid → Bool) (D : Decides W.p
   found_exists name fs None e = rule.no_field e
   found_exists name fs (Some v) e = rule.field e
 
-  attribute_found : (name : List ℕ) (u : EntityUid) (fs : List Field) (o : Option PlainValue) → W.stored u ≡ Some fs → find_field name fs ≡ o → FieldGives W name (entity u) (found_or AttrDoesNotExist o)
+  attribute_found : (name : List ℕ) (u : EntityUid) (fs : List Field) (o : Option PlainValue) → W.stored u ≡ Some fs → find_field name fs ≡ o → FieldGives W name (entity u) (value_or_fault (found_among o))
   attribute_found name u fs None s e = rule.no_attribute fs s e
   attribute_found name u fs (Some v) s e = rule.attribute fs s e
 
@@ -379,8 +380,8 @@ module _ (W : World) (above : EntityUid → EntityUid → Bool) (D : Decides W.p
   pub field_is : (name : List ℕ) (v : PlainValue) (r : EvaluationResult) → FieldGives W name v r → field_of E name v ≡ r
   field_is name _ _ (rule.field {fs} {v} e) = ap (found_or AttrDoesNotExist) e
   field_is name _ _ (rule.no_field {fs} e) = ap (found_or AttrDoesNotExist) e
-  field_is name _ _ (rule.attribute {u} {v} fs s e) = ap (λ o. attribute o name) s ∙ ap (found_or AttrDoesNotExist) e
-  field_is name _ _ (rule.no_attribute {u} fs s e) = ap (λ o. attribute o name) s ∙ ap (found_or AttrDoesNotExist) e
+  field_is name _ _ (rule.attribute {u} {v} fs s e) = ap (λ o. attribute o name) s ∙ ap (λ o. value_or_fault (found_among o)) e
+  field_is name _ _ (rule.no_attribute {u} fs s e) = ap (λ o. attribute o name) s ∙ ap (λ o. value_or_fault (found_among o)) e
   field_is name _ _ (rule.not_stored {u} s) = ap (λ o. attribute o name) s
   field_is name _ _ (rule.field_of_other {v} e f) = field_other_is name v e f
 

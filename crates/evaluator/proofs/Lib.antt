@@ -1,5 +1,4 @@
 pub mod Agreeing
-pub mod Alone
 pub mod Applied
 pub mod ByKind
 pub mod Conversions

@@ -38,7 +38,7 @@ impl<'a> Model for BorrowedOrOwned<'a> {
 }
 
 impl<'a> BorrowedOrOwned<'a> {
-    /// A value that stands somewhere.
+    /// Returns a value that stands somewhere.
     pub(crate) fn borrowed(value: &'a Value) -> BorrowedOrOwned<'a>
         ensures { result ≡ value.now }
     {
@@ -47,7 +47,7 @@ impl<'a> BorrowedOrOwned<'a> {
         }
     }
 
-    /// What was computed.
+    /// Returns what was computed.
     pub(crate) fn computed(value: Value) -> BorrowedOrOwned<'a>
         ensures { result ≡ value }
     {
@@ -56,7 +56,7 @@ impl<'a> BorrowedOrOwned<'a> {
         }
     }
 
-    /// What the value is.
+    /// Returns what the value is.
     #[inline(always)]
     pub(crate) fn kind(&self) -> BorrowedKind<'_>
         ensures { of_borrowed result ≡ self.now }
@@ -67,7 +67,7 @@ impl<'a> BorrowedOrOwned<'a> {
         }
     }
 
-    /// How it compares with a value that stands elsewhere.
+    /// Returns how it compares with a value that stands elsewhere.
     fn compare_with(&self, other: &ValueRef<'_>) -> Ordering
         ensures { result ≡ value_cmp self.now other.now }
     {
@@ -77,7 +77,7 @@ impl<'a> BorrowedOrOwned<'a> {
         }
     }
 
-    /// The order of values.
+    /// Returns the order of values.
     pub(crate) fn compare(&self, other: &BorrowedOrOwned<'_>) -> Ordering
         ensures { result ≡ value_cmp self.now other.now }
     {
@@ -87,7 +87,7 @@ impl<'a> BorrowedOrOwned<'a> {
         }
     }
 
-    /// How another value, such as a member of a set, compares with it.
+    /// Returns how another value, such as a member of a set, compares with it.
     pub(crate) fn compared_by(&self, other: &Value) -> Ordering
         ensures { result ≡ value_cmp other.now self.now }
     {
@@ -97,7 +97,7 @@ impl<'a> BorrowedOrOwned<'a> {
         }
     }
 
-    /// The boolean that it is, or None where it is of another kind; takes no memory.
+    /// Returns the boolean that it is, or None where it is of another kind; takes no memory.
     pub fn as_boolean(&self) -> Option<bool>
         ensures { result ≡ boolean_in self.now }
     {
@@ -107,7 +107,7 @@ impl<'a> BorrowedOrOwned<'a> {
         }
     }
 
-    /// The value, copied where it was borrowed, or `NoMemory`.
+    /// Returns the value, copied where it was borrowed, or `NoMemory`.
     pub fn into_value(self, alloc: Global) -> Result<Value, NoMemory>
         ensures { IfOk result (λ v. v ≡ self.entry) }
     {

@@ -16,7 +16,7 @@ use extensions::ip_net::one_network_a_text;
 use extensions::{Decimal, IpNet};
 use values::Value;
 
-/// The decimal of a text.
+/// Returns the decimal of a text.
 fn read_decimal(text: &str) -> Result<Value, EvalFault>
     ensures { result ≡ decimal_read (decimal_text_decided text.now) }
 {
@@ -27,7 +27,7 @@ fn read_decimal(text: &str) -> Result<Value, EvalFault>
     }
 }
 
-/// The address of a text.
+/// Returns the address of a text.
 fn read_network(text: &str) -> Result<Value, EvalFault>
     ensures { result ≡ network_read (network_text_decided text.now) }
 {
@@ -68,7 +68,7 @@ fn is_within(a: IpNet, b: IpNet) -> bool
     a.is_in_range(&b)
 }
 
-/// Whether the first of two decimals is less; an error stays.
+/// Returns whether the first of two decimals is less; an error stays.
 fn less(numbers: Result<(Decimal, Decimal), EvalFault>) -> Result<Value, EvalFault>
     ensures { result ≡ and_then numbers (λ p. truth (int_lt p.0 p.1)) }
 {
@@ -97,7 +97,7 @@ fn greater_or_equal(numbers: Result<(Decimal, Decimal), EvalFault>) -> Result<Va
     Ok(Value::boolean(b.less_or_equal(&a)))
 }
 
-/// What a call with one operand gives on a value.
+/// Returns what a call with one operand gives on a value.
 pub(crate) fn unary_call(called: UnaryCall, given: &BorrowedOrOwned<'_>) -> Result<Value, EvalFault>
     ensures { result ≡ apply_unary_call called given.now }
 {
@@ -111,7 +111,7 @@ pub(crate) fn unary_call(called: UnaryCall, given: &BorrowedOrOwned<'_>) -> Resu
     }
 }
 
-/// What a call with two operands gives on values.
+/// Returns what a call with two operands gives on values.
 pub(crate) fn binary_call(
     called: BinaryCall,
     a: &BorrowedOrOwned<'_>,

@@ -14,15 +14,16 @@ use crate::laws::meanings_are_given;
 use crate::leaves::{literal_of, variable_of};
 use crate::lookup::Lookup;
 use crate::steps::{
-    add_field, add_value, called_on, called_on_two, decides_and, field_in, has_in, on_operand,
-    on_operands, record_with, set_with, tested, truth_of,
+    add_field, add_value, called_on, called_on_two, field_in, has_in, on_operand, on_operands,
+    record_with, set_with, tested, truth_of,
 };
+use evaluation_steps::decides_and;
 use expressions::{Binary, BinaryCall, Expr, Named, Unary, UnaryCall};
 use plain::{Items, Shared, Text};
 use std::alloc::Global;
 use values::{Record, Request, Value};
 
-/// What an expression gives under a request, over the stored entities: its value, or the first error.
+/// Returns what an expression gives under a request, over the stored entities: its value, or the first error.
 ///
 /// What stands in the expression, the request or the stored entities is borrowed; memory is asked for by sets and
 /// records that are written out, by a field of such a record, and by `in`, which searches the hierarchy.
@@ -100,7 +101,7 @@ fn outcome_of<'a, L: Lookup>(
     }
 }
 
-/// What an expression gives as a test.
+/// Returns what an expression gives as a test.
 #[cycle(evaluate)]
 #[inline(never)]
 fn test_of<'a, L: Lookup>(
@@ -116,7 +117,7 @@ fn test_of<'a, L: Lookup>(
     tested(&given)
 }
 
-/// What `&&` or `||` gives where its second operand decides.
+/// Returns what `&&` or `||` gives where its second operand decides.
 #[cycle(evaluate)]
 #[inline(never)]
 fn last_test<'a, L: Lookup>(
@@ -131,7 +132,7 @@ fn last_test<'a, L: Lookup>(
     truth_of(test_of(alloc, test, request, store))
 }
 
-/// What an operator gives on an expression's value.
+/// Returns what an operator gives on an expression's value.
 #[cycle(evaluate)]
 #[inline(never)]
 fn one_operand<'a, L: Lookup>(
@@ -149,7 +150,7 @@ fn one_operand<'a, L: Lookup>(
     on_operand(operator, &given)
 }
 
-/// What an operator gives on a value and an expression's value.
+/// Returns what an operator gives on a value and an expression's value.
 #[cycle(evaluate)]
 #[inline(never)]
 fn second_operand<'a, L: Lookup>(
@@ -167,7 +168,7 @@ fn second_operand<'a, L: Lookup>(
     on_operands(store, operator, &left, &right)
 }
 
-/// What a call gives on an expression's value.
+/// Returns what a call gives on an expression's value.
 #[cycle(evaluate)]
 #[inline(never)]
 fn one_called<'a, L: Lookup>(
@@ -185,7 +186,7 @@ fn one_called<'a, L: Lookup>(
     called_on(called, &given)
 }
 
-/// What a call gives on a value and an expression's value.
+/// Returns what a call gives on a value and an expression's value.
 #[cycle(evaluate)]
 #[inline(never)]
 fn second_called<'a, L: Lookup>(
@@ -204,7 +205,7 @@ fn second_called<'a, L: Lookup>(
     called_on_two(called, &left, &right)
 }
 
-/// A field or an attribute of an expression's value.
+/// Returns a field or an attribute of an expression's value.
 #[cycle(evaluate)]
 #[inline(never)]
 fn field_of<'a, L: Lookup>(
@@ -222,7 +223,7 @@ fn field_of<'a, L: Lookup>(
     field_in(alloc, store, &given, name)
 }
 
-/// Whether an expression's value has a field or an attribute.
+/// Returns whether an expression's value has a field or an attribute.
 #[cycle(evaluate)]
 #[inline(never)]
 fn has_of<'a, L: Lookup>(
@@ -240,7 +241,7 @@ fn has_of<'a, L: Lookup>(
     has_in(store, &given, name)
 }
 
-/// The set of what expressions give.
+/// Returns the set of what expressions give.
 #[cycle(evaluate)]
 #[inline(never)]
 fn set_of<'a, L: Lookup>(
@@ -256,7 +257,7 @@ fn set_of<'a, L: Lookup>(
     set_with(evaluate_each(alloc, members, request, store))
 }
 
-/// The record of what the expressions under names give.
+/// Returns the record of what the expressions under names give.
 #[cycle(evaluate)]
 #[inline(never)]
 fn record_of<'a, L: Lookup>(
@@ -273,7 +274,7 @@ fn record_of<'a, L: Lookup>(
     record_with(evaluate_fields(alloc, fields, request, store))
 }
 
-/// What expressions give, in order.
+/// Returns what expressions give, in order.
 #[cycle(evaluate)]
 #[inline(never)]
 fn evaluate_each<'a, L: Lookup>(
@@ -294,7 +295,7 @@ fn evaluate_each<'a, L: Lookup>(
     Ok(values)
 }
 
-/// The fields that the expressions under names give, in the order in which they are written.
+/// Returns the fields that the expressions under names give, in the order in which they are written.
 #[cycle(evaluate)]
 #[inline(never)]
 fn evaluate_fields<'a, L: Lookup>(

@@ -1,15 +1,17 @@
 //! The fields of records and the attributes of entities.
 ghost use Rattle.std.specs.Prelude.{◌≡◌, option_map};
 ghost use Rattle.values.specs.BorrowedView.{of_borrowed};
-ghost use Rattle.evaluator.specs.inner.Computing.{decided_world, Answers, found_or, attribute, field_of, has_field};
+ghost use Rattle.evaluator.specs.inner.Computing.{decided_world, Answers, found_or, fault_of, attribute, field_of};
+ghost use Rattle.evaluator.specs.inner.Computing.{has_field};
 
 use crate::borrowed_or_owned::{BorrowedOrOwned, Ownership};
 use crate::fault::EvalFault;
 use crate::lookup::Lookup;
+use evaluation_steps::{Missing, attribute_in};
 use std::alloc::Global;
 use values::{BorrowedKind, EntityUid, Kind, Value};
 
-/// The value that was found.
+/// Returns the value that was found.
 fn found<'a>(found: Option<&'a Value>) -> Result<BorrowedOrOwned<'a>, EvalFault>
     ensures { result ≡ found_or EvalFault.AttrDoesNotExist (option_map (λ v. v.now) found.entry) }
 {
@@ -19,7 +21,7 @@ fn found<'a>(found: Option<&'a Value>) -> Result<BorrowedOrOwned<'a>, EvalFault>
     }
 }
 
-/// The value that was found, copied.
+/// Returns the value that was found, copied.
 fn copy_found<'a>(alloc: Global, found: Option<&Value>) -> Result<BorrowedOrOwned<'a>, EvalFault>
     ensures { Answers result (found_or EvalFault.AttrDoesNotExist (option_map (λ v. v.now) found.entry)) }
 {
@@ -29,7 +31,17 @@ fn copy_found<'a>(alloc: Global, found: Option<&Value>) -> Result<BorrowedOrOwne
     }
 }
 
-/// The value of an entity's attribute.
+/// Returns the error that it is where an entity is not stored, or has no such attribute.
+fn fault_by(missing: Missing) -> EvalFault
+    ensures { result ≡ fault_of missing }
+{
+    match missing {
+        Missing::Entity => EvalFault::EntityDoesNotExist,
+        Missing::Attribute => EvalFault::AttrDoesNotExist,
+    }
+}
+
+/// Returns the value of an entity's attribute.
 fn attribute<'a, L: Lookup>(
     store: &'a L,
     uid: &EntityUid,
@@ -37,13 +49,13 @@ fn attribute<'a, L: Lookup>(
 ) -> Result<BorrowedOrOwned<'a>, EvalFault>
     ensures { result ≡ attribute (L.stored store.now uid.now) name.now }
 {
-    match store.attrs_of(uid) {
-        Some(attributes) => found(attributes.field(name)),
-        None => Err(EvalFault::EntityDoesNotExist),
+    match attribute_in(store.attrs_of(uid), name) {
+        Ok(value) => Ok(BorrowedOrOwned::borrowed(value)),
+        Err(missing) => Err(fault_by(missing)),
     }
 }
 
-/// The value of a field or an attribute of what is borrowed.
+/// Returns the value of a field or an attribute of what is borrowed.
 #[tactic(auto, using(crate::proofs::Conversions::conversions))]
 fn field_of_borrowed<'a, L: Lookup>(
     store: &'a L,
@@ -60,7 +72,7 @@ fn field_of_borrowed<'a, L: Lookup>(
     }
 }
 
-/// The value of a field or an attribute of what was computed.
+/// Returns the value of a field or an attribute of what was computed.
 #[tactic(auto, using(crate::proofs::Conversions::conversions))]
 fn field_of_computed<'a, L: Lookup>(
     alloc: Global,
@@ -77,7 +89,7 @@ fn field_of_computed<'a, L: Lookup>(
     }
 }
 
-/// The value of a field or an attribute.
+/// Returns the value of a field or an attribute.
 pub(crate) fn field<'a, L: Lookup>(
     alloc: Global,
     store: &'a L,
@@ -92,7 +104,7 @@ pub(crate) fn field<'a, L: Lookup>(
     }
 }
 
-/// Whether a field or an attribute is there.
+/// Returns whether a field or an attribute is there.
 #[tactic(auto, using(crate::proofs::Conversions::conversions))]
 pub(crate) fn has<L: Lookup>(
     store: &L,

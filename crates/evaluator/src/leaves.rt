@@ -8,7 +8,7 @@ use crate::fault::EvalFault;
 use expressions::{Literal, Variable};
 use values::{Request, ValueRef};
 
-/// The value of a literal, where it stands.
+/// Returns the value of a literal, where it stands.
 fn literal_ref(literal: &Literal) -> ValueRef<'_>
     ensures { result ≡ literal_value literal.now }
 {
@@ -20,7 +20,7 @@ fn literal_ref(literal: &Literal) -> ValueRef<'_>
     }
 }
 
-/// The value of a literal.
+/// Returns the value of a literal.
 #[inline(never)]
 pub(crate) fn literal_of(literal: &Literal) -> Result<BorrowedOrOwned<'_>, EvalFault>
     ensures { result ≡ Ok (literal_value literal.now) }
@@ -30,7 +30,7 @@ pub(crate) fn literal_of(literal: &Literal) -> Result<BorrowedOrOwned<'_>, EvalF
     })
 }
 
-/// The part of the request that a variable stands for, where it stands.
+/// Returns the part of the request that a variable stands for, where it stands.
 fn variable_ref(variable: Variable, request: &Request) -> ValueRef<'_>
     ensures { result ≡ variable_value variable request.now }
 {
@@ -42,7 +42,7 @@ fn variable_ref(variable: Variable, request: &Request) -> ValueRef<'_>
     }
 }
 
-/// The part of the request that a variable stands for.
+/// Returns the part of the request that a variable stands for.
 #[inline(never)]
 pub(crate) fn variable_of(
     variable: Variable,

@@ -11,8 +11,8 @@ pub trait Lookup: Ancestry {
     /// The attributes of each stored entity, as keys with values; None of one that is not stored.
     ghost stored: { Self → EntityUid → Option (List Field) };
 
-    /// The attributes of an entity, or None exactly where it is not stored; takes no memory. An entity that is not
-    /// stored has no parents.
+    /// Returns the attributes of an entity, or None exactly where it is not stored; takes no memory. An entity that is
+    /// not stored has no parents.
     fn attrs_of(&self, uid: &EntityUid) -> Option<&Record>
         ensures attributes { option_map (λ r. r.now) result ≡ stored self.now uid.now }
         ensures alone { MatchOption result (Self.parents self.now uid.now ≡ []) (λ _. ⊤) };

@@ -10,7 +10,7 @@ use extensions::{Decimal, IpNet};
 use plain::Text;
 use values::{BorrowedKind, EntityUid, Set};
 
-/// The value as a boolean.
+/// Returns the value as a boolean.
 pub(crate) fn boolean_of(given: &BorrowedOrOwned<'_>) -> Result<bool, EvalFault>
     ensures { result ≡ demanded (boolean_in given.now) }
 {
@@ -20,7 +20,7 @@ pub(crate) fn boolean_of(given: &BorrowedOrOwned<'_>) -> Result<bool, EvalFault>
     }
 }
 
-/// The value as a number.
+/// Returns the value as a number.
 pub(crate) fn long_of(given: &BorrowedOrOwned<'_>) -> Result<i64, EvalFault>
     ensures { result ≡ demanded (long_in given.now) }
 {
@@ -30,7 +30,7 @@ pub(crate) fn long_of(given: &BorrowedOrOwned<'_>) -> Result<i64, EvalFault>
     }
 }
 
-/// The value as a text.
+/// Returns the value as a text.
 pub(crate) fn text_of<'g>(given: &'g BorrowedOrOwned<'_>) -> Result<&'g Text, EvalFault>
     ensures { MatchResult result (λ t. demanded (text_in given.now) ≡ Ok t.now)
         (λ e. demanded (text_in given.now) ≡ Err e) }
@@ -41,7 +41,7 @@ pub(crate) fn text_of<'g>(given: &'g BorrowedOrOwned<'_>) -> Result<&'g Text, Ev
     }
 }
 
-/// The value as an entity.
+/// Returns the value as an entity.
 pub(crate) fn entity_of<'g>(given: &'g BorrowedOrOwned<'_>) -> Result<&'g EntityUid, EvalFault>
     ensures { MatchResult result (λ u. demanded (entity_uid_in given.now) ≡ Ok u.now)
         (λ e. demanded (entity_uid_in given.now) ≡ Err e) }
@@ -52,7 +52,7 @@ pub(crate) fn entity_of<'g>(given: &'g BorrowedOrOwned<'_>) -> Result<&'g Entity
     }
 }
 
-/// The value as a set.
+/// Returns the value as a set.
 #[tactic(auto, using(crate::proofs::Conversions::conversions))]
 pub(crate) fn set_of<'g>(given: &'g BorrowedOrOwned<'_>) -> Result<&'g Set, EvalFault>
     ensures { MatchResult result (λ s. demanded (members_in given.now) ≡ Ok s.now)
@@ -64,7 +64,7 @@ pub(crate) fn set_of<'g>(given: &'g BorrowedOrOwned<'_>) -> Result<&'g Set, Eval
     }
 }
 
-/// The value as a decimal.
+/// Returns the value as a decimal.
 pub(crate) fn decimal_of(given: &BorrowedOrOwned<'_>) -> Result<Decimal, EvalFault>
     ensures { result ≡ demanded (decimal_in given.now) }
 {
@@ -74,7 +74,7 @@ pub(crate) fn decimal_of(given: &BorrowedOrOwned<'_>) -> Result<Decimal, EvalFau
     }
 }
 
-/// The value as an address.
+/// Returns the value as an address.
 pub(crate) fn network_of(given: &BorrowedOrOwned<'_>) -> Result<IpNet, EvalFault>
     ensures { result ≡ demanded (network_in given.now) }
 {

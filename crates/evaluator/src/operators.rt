@@ -18,7 +18,7 @@ use expressions::{Binary, Unary};
 use plain::NoMemory;
 use values::{BorrowedKind, EntityUid, Kind, Set, Value, sets_hold_their_members};
 
-/// What an operator gives on a value.
+/// Returns what an operator gives on a value.
 pub(crate) fn unary(operator: &Unary, given: &BorrowedOrOwned<'_>) -> Result<Value, EvalFault>
     ensures { result ≡ apply_unary operator.now given.now }
 {
@@ -32,7 +32,7 @@ pub(crate) fn unary(operator: &Unary, given: &BorrowedOrOwned<'_>) -> Result<Val
     }
 }
 
-/// What checked arithmetic comes to.
+/// Returns what checked arithmetic comes to.
 fn number(found: Option<i64>) -> Result<Value, EvalFault>
     ensures { result ≡ number_or_fault found }
 {
@@ -42,7 +42,7 @@ fn number(found: Option<i64>) -> Result<Value, EvalFault>
     }
 }
 
-/// Whether the first of two numbers is less; an error stays.
+/// Returns whether the first of two numbers is less; an error stays.
 fn less(numbers: Result<(i64, i64), EvalFault>) -> Result<Value, EvalFault>
     ensures { result ≡ and_then numbers (λ p. truth (int_lt p.0 p.1)) }
 {
@@ -78,7 +78,7 @@ fn product(numbers: Result<(i64, i64), EvalFault>) -> Result<Value, EvalFault>
     number(a.checked_mul(b))
 }
 
-/// Whether `a` is `b` or below it.
+/// Returns whether `a` is `b` or below it.
 fn is_in<L: Lookup>(store: &L, a: &EntityUid, b: &EntityUid) -> Result<bool, NoMemory>
     ensures { IfOk result (λ r. r ≡ is_in (decided_world (L.stored store.now) (L.above store.now)) a.now b.now) }
 {
@@ -88,7 +88,7 @@ fn is_in<L: Lookup>(store: &L, a: &EntityUid, b: &EntityUid) -> Result<bool, NoM
     store.is_ancestor(b, a)
 }
 
-/// A member of a set as an entity.
+/// Returns a member of a set as an entity.
 fn member_entity(member: &Value) -> Result<&EntityUid, EvalFault>
     ensures { MatchResult result (λ u. demanded (entity_uid_in member.now) ≡ Ok u.now)
         (λ e. demanded (entity_uid_in member.now) ≡ Err e) }
@@ -99,7 +99,7 @@ fn member_entity(member: &Value) -> Result<&EntityUid, EvalFault>
     }
 }
 
-/// Whether `a` is `b`, or `b` is among the ancestors of `a`.
+/// Returns whether `a` is `b`, or `b` is among the ancestors of `a`.
 fn is_within(a: &EntityUid, ancestors: &[&EntityUid], b: &EntityUid) -> bool
     requires { IsAscending (names ancestors.now) }
     ensures { IsTrue result ↔ ((a.now ≡ b.now) ⊎ Contains (names ancestors.now) b.now) }
@@ -107,7 +107,7 @@ fn is_within(a: &EntityUid, ancestors: &[&EntityUid], b: &EntityUid) -> bool
     a.cmp(b).is_eq() || is_among(ancestors, b)
 }
 
-/// Whether `a` is in some member, all of which have to be entities. The ancestors of `a` are asked for once.
+/// Returns whether `a` is in some member, all of which have to be entities. The ancestors of `a` are asked for once.
 fn in_members<L: Lookup>(store: &L, a: &EntityUid, members: &[Value]) -> Result<bool, EvalFault>
     ensures { Answers result (in_members (decided_world (L.stored store.now) (L.above store.now)) a.now members.now) }
 {
@@ -122,7 +122,7 @@ fn in_members<L: Lookup>(store: &L, a: &EntityUid, members: &[Value]) -> Result<
     Ok(found)
 }
 
-/// Whether `a` is in an entity, or in some member of a set.
+/// Returns whether `a` is in an entity, or in some member of a set.
 #[tactic(auto, using(crate::proofs::Conversions::conversions))]
 fn in_value<L: Lookup>(
     store: &L,
@@ -138,7 +138,7 @@ fn in_value<L: Lookup>(
     }
 }
 
-/// Whether a value is a member; takes no memory, and logarithmic time.
+/// Returns whether a value is a member; takes no memory, and logarithmic time.
 fn is_member(members: &Set, given: &BorrowedOrOwned<'_>) -> bool
     ensures { result ≡ has_member members.now given.now }
 {
@@ -149,21 +149,21 @@ fn is_member(members: &Set, given: &BorrowedOrOwned<'_>) -> bool
         .is_ok()
 }
 
-/// Whether each member of the second set is one of the first.
+/// Returns whether each member of the second set is one of the first.
 fn contains_all(a: &BorrowedOrOwned<'_>, b: &BorrowedOrOwned<'_>) -> Result<Value, EvalFault>
     ensures { result ≡ sets (λ x y. list_all (has_member x) y) a.now b.now }
 {
     Ok(Value::boolean(set_of(a)?.contains_all(set_of(b)?)))
 }
 
-/// Whether some member of the second set is one of the first.
+/// Returns whether some member of the second set is one of the first.
 fn contains_any(a: &BorrowedOrOwned<'_>, b: &BorrowedOrOwned<'_>) -> Result<Value, EvalFault>
     ensures { result ≡ sets (λ x y. list_any (has_member x) y) a.now b.now }
 {
     Ok(Value::boolean(set_of(a)?.contains_any(set_of(b)?)))
 }
 
-/// What an operator gives on two values.
+/// Returns what an operator gives on two values.
 pub(crate) fn binary<L: Lookup>(
     store: &L,
     operator: Binary,

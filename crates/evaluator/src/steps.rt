@@ -1,6 +1,6 @@
 //! What forms make of what their operands gave, outside the recursion: an error stays. An outcome is read where it
 //! stands, since each function that takes one by value copies it.
-ghost use Rattle.std.specs.Prelude.{◌≡◌, ◌≢◌, ◌++◌, ◌∷◌, [], List, MatchResult, Result, Ok, Err, not};
+ghost use Rattle.std.specs.Prelude.{◌≡◌, ◌≢◌, ◌++◌, ◌∷◌, [], List, MatchResult, Result, Ok, Err};
 ghost use Rattle.values.specs.Fields.{put};
 ghost use Rattle.values.specs.Sets.{set_list};
 ghost use Rattle.values.specs.Values.{PlainValue, set, record_of, values_of, fields_of};
@@ -21,7 +21,7 @@ use plain::Text;
 use std::alloc::Global;
 use values::{Record, Value};
 
-/// What was given beside another value; where nothing was given, only why.
+/// Returns what was given beside another value; where nothing was given, only why.
 fn beside<T: Drop, U: Drop>(kept: T, given: Result<U, EvalFault>) -> Result<(T, U), EvalFault>
     ensures { MatchResult result (λ both. (given ≡ Ok both.1) × (both.0 ≡ kept)) (λ e. given ≡ Err e) }
 {
@@ -31,7 +31,7 @@ fn beside<T: Drop, U: Drop>(kept: T, given: Result<U, EvalFault>) -> Result<(T, 
     }
 }
 
-/// What was computed, if it was.
+/// Returns what was computed, if it was.
 fn computed<'a>(found: Result<Value, EvalFault>) -> Result<BorrowedOrOwned<'a>, EvalFault>
     ensures { result ≡ found }
 {
@@ -41,14 +41,7 @@ fn computed<'a>(found: Result<Value, EvalFault>) -> Result<BorrowedOrOwned<'a>, 
     }
 }
 
-/// Whether the first operand of `&&` decides, so that the second is not evaluated: where it is false.
-pub(crate) fn decides_and(first: bool) -> bool
-    ensures { result ≡ not first }
-{
-    !first
-}
-
-/// What was given as a test.
+/// Returns what was given as a test.
 pub(crate) fn tested(given: &Result<BorrowedOrOwned<'_>, EvalFault>) -> Result<bool, EvalFault>
     ensures { AnswersNext given.now (λ v. demanded (boolean_in v)) result }
 {
@@ -58,14 +51,14 @@ pub(crate) fn tested(given: &Result<BorrowedOrOwned<'_>, EvalFault>) -> Result<b
     }
 }
 
-/// A truth as a value, if it was found.
+/// Returns a truth as a value, if it was found.
 pub(crate) fn truth_of<'a>(found: Result<bool, EvalFault>) -> Result<BorrowedOrOwned<'a>, EvalFault>
     ensures { result ≡ and_then found truth }
 {
     Ok(BorrowedOrOwned::computed(Value::boolean(found?)))
 }
 
-/// What an operator gives on what its operand gave.
+/// Returns what an operator gives on what its operand gave.
 #[inline(never)]
 pub(crate) fn on_operand<'a>(
     operator: &Unary,
@@ -79,7 +72,7 @@ pub(crate) fn on_operand<'a>(
     }
 }
 
-/// What an operator gives on a value and what its second operand gave.
+/// Returns what an operator gives on a value and what its second operand gave.
 #[inline(never)]
 pub(crate) fn on_operands<'a, L: Lookup>(
     store: &L,
@@ -96,7 +89,7 @@ pub(crate) fn on_operands<'a, L: Lookup>(
     }
 }
 
-/// What a call gives on what its operand gave.
+/// Returns what a call gives on what its operand gave.
 #[inline(never)]
 pub(crate) fn called_on<'a>(
     called: UnaryCall,
@@ -110,7 +103,7 @@ pub(crate) fn called_on<'a>(
     }
 }
 
-/// What a call gives on a value and what its second operand gave.
+/// Returns what a call gives on a value and what its second operand gave.
 #[inline(never)]
 pub(crate) fn called_on_two<'a>(
     called: BinaryCall,
@@ -125,7 +118,7 @@ pub(crate) fn called_on_two<'a>(
     }
 }
 
-/// A field or an attribute of what was given.
+/// Returns a field or an attribute of what was given.
 #[inline(never)]
 pub(crate) fn field_in<'a, L: Lookup>(
     alloc: Global,
@@ -142,7 +135,7 @@ pub(crate) fn field_in<'a, L: Lookup>(
     }
 }
 
-/// Whether what was given has a field or an attribute.
+/// Returns whether what was given has a field or an attribute.
 #[inline(never)]
 pub(crate) fn has_in<'a, L: Lookup>(
     store: &L,
@@ -158,7 +151,7 @@ pub(crate) fn has_in<'a, L: Lookup>(
     }
 }
 
-/// The set of what was given.
+/// Returns the set of what was given.
 #[inline(never)]
 pub(crate) fn set_with<'a>(
     given: Result<Vec<Value>, EvalFault>,
@@ -171,7 +164,7 @@ pub(crate) fn set_with<'a>(
     Ok(BorrowedOrOwned::computed(Value::set(members)?))
 }
 
-/// A record, if it was given.
+/// Returns a record, if it was given.
 #[inline(never)]
 pub(crate) fn record_with<'a>(
     given: Result<Record, EvalFault>,
@@ -184,7 +177,7 @@ pub(crate) fn record_with<'a>(
     }
 }
 
-/// The value that was given, copied where it was borrowed.
+/// Returns the value that was given, copied where it was borrowed.
 fn value_of(
     alloc: Global,
     given: Result<BorrowedOrOwned<'_>, EvalFault>,
@@ -194,7 +187,7 @@ fn value_of(
     Ok(given?.into_value(alloc)?)
 }
 
-/// A name of a field of its own.
+/// Returns a name of a field of its own.
 fn copied(name: &Text) -> Result<Text, EvalFault>
     ensures { MatchResult result (λ n. n ≡ name.now) (λ e. e ≡ EvalFault.NoMemory) }
 {

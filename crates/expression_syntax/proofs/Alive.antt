@@ -373,7 +373,7 @@ module _ (o : Bool) (E : Lang ExprTree) where
   alive_behind_type x name = go (alive_maybe (g.inside o E)) (λ y. alive_empty (is_in x name y))
 
   abbrev pub typed_or_alone : ExprTree → Lang ExprTree
-  typed_or_alone x = lang.◌or◌ (g.typed o E x) (lang.empty x)
+  typed_or_alone x = lang.◌or◌ (g.type_test o E x) (lang.empty x)
 
   abbrev pub like_or : ExprTree → Lang ExprTree
   like_or x = lang.◌or◌ (g.like o E x) (typed_or_alone x)
@@ -387,7 +387,7 @@ module _ (o : Bool) (E : Lang ExprTree) where
   pub alive_related : (x : ExprTree) → Begins (related x) []
   alive_related x =
       alive_right (g.compared o E x) (test_tail x) [] (alive_right (g.has o E x) (like_or x) []
-      (alive_right (g.like o E x) (typed_or_alone x) [] (alive_right (g.typed o E x) (lang.empty x) [] (alive_empty x))))
+      (alive_right (g.like o E x) (typed_or_alone x) [] (alive_right (g.type_test o E x) (lang.empty x) [] (alive_empty x))))
 
   pub alive_relation : Begins (g.relation o E) []
   alive_relation = go alive_sum alive_related

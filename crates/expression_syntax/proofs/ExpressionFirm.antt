@@ -293,8 +293,8 @@ module _ (o : Bool) (E : Lang ExprTree) (p : Parser ExprTree) (D : Levels) (i : 
       (leads_maybe (g.inside o E) (only k.In) (only k.Colons) after_relation (a.starts_inside o E) refl refl)
       (λ y. leads_empty (is_in x name y) after_relation after_relation refl)
 
-  firm_typed : (x : ExprTree) → Firm (g.typed o E x) (r.typed o p x)
-  unfolding r.typed r.maybe_inside same_kind
+  firm_typed : (x : ExprTree) → Firm (g.type_test o E x) (r.type_test o p x)
+  unfolding r.type_test r.maybe_inside same_kind
   firm_typed x =
       firm_token k.Is after_relation D (seq (path_rule D) (typed_made x) (leads_inside x) (a.alive_behind_type o E x))
       (firm_seq (path_rule D) (typed_made x) (leads_inside x) (firm_path D) (λ name. firm_giving maybe_inside_rule after_relation refl (is_in x name) (firm_maybe firm_inside fresh_inside)))
@@ -305,7 +305,7 @@ module _ (o : Bool) (E : Lang ExprTree) (p : Parser ExprTree) (D : Levels) (i : 
   fresh_like : (x : ExprTree) → Fresh (only k.Like) (r.like o p x)
   fresh_like x = fresh_opening (rules.like_rule o o E E p p D i x) (opening_one k.Like _ (λ _. go (begin_of patterns k.Text refl) (λ text. alive_empty (tree.Like x text))))
 
-  fresh_typed : (x : ExprTree) → Fresh (only k.Is) (r.typed o p x)
+  fresh_typed : (x : ExprTree) → Fresh (only k.Is) (r.type_test o p x)
   fresh_typed x = fresh_opening (rules.typed_rule o o E E p p D i x) (opening_one k.Is _ (λ _. go alive_path (a.alive_behind_type o E x)))
 
   firm_tested : (x : ExprTree) → Firm (a.test_tail o E x) (r.test_tail o p x)

@@ -382,8 +382,8 @@ module _ (o o' : Bool) (E F : Lang ExprTree) (p q : Parser ExprTree) (D : Levels
   unfolding r.inside
   inside_rule = behind k.In after_sum D sum_rule (a.alive_sum o E)
 
-  pub typed_rule : (x : ExprTree) → Rule (g.typed o E x) (g.typed o' F x) (r.typed o p x) (r.typed o' q x) after_relation D
-  unfolding r.typed r.maybe_inside same_kind
+  pub typed_rule : (x : ExprTree) → Rule (g.type_test o E x) (g.type_test o' F x) (r.type_test o p x) (r.type_test o' q x) after_relation D
+  unfolding r.type_test r.maybe_inside same_kind
   typed_rule x =
       behind k.Is after_relation D
       (seq (path_rule D)
@@ -396,7 +396,7 @@ module _ (o o' : Bool) (E F : Lang ExprTree) (p q : Parser ExprTree) (D : Levels
       (go alive_path (a.alive_behind_type o E x))
 
   pub leads_typed : (x : ExprTree) (ks : Kinds) → apart (only k.Is) ks ≡ true → within ks after_relation ≡ true → Leads (a.typed_or_alone o E x) ks after_relation
-  leads_typed x ks is w = leads_or (g.typed o E x) (lang.empty x) ks after_relation (leads_one k.Is ks after_relation is) (leads_empty x ks after_relation w)
+  leads_typed x ks is w = leads_or (g.type_test o E x) (lang.empty x) ks after_relation (leads_one k.Is ks after_relation is) (leads_empty x ks after_relation w)
 
   pub leads_like : (x : ExprTree) (ks : Kinds) → apart (only k.Like) ks ≡ true → apart (only k.Is) ks ≡ true → within ks after_relation ≡ true → Leads (a.like_or o E x) ks after_relation
   leads_like x ks like is w = leads_or (g.like o E x) (a.typed_or_alone o E x) ks after_relation (leads_one k.Like ks after_relation like) (leads_typed x ks is w)
@@ -409,7 +409,7 @@ module _ (o o' : Bool) (E F : Lang ExprTree) (p q : Parser ExprTree) (D : Levels
   tested_rule x =
       or (g.has o E x) (g.has o' F x) (a.like_or o E x) (a.like_or o' F x) _ _ _ _ (only k.Has) after_relation D (has_rule x)
       (or (g.like o E x) (g.like o' F x) (a.typed_or_alone o E x) (a.typed_or_alone o' F x) _ _ _ _ (only k.Like) after_relation D (like_rule x)
-      (or (g.typed o E x) (g.typed o' F x) (lang.empty x) (lang.empty x) _ _ _ _ (only k.Is) after_relation D (typed_rule x) (nothing x after_relation D)
+      (or (g.type_test o E x) (g.type_test o' F x) (lang.empty x) (lang.empty x) _ _ _ _ (only k.Is) after_relation D (typed_rule x) (nothing x after_relation D)
       (starts_one k.Is _) (leads_empty x (only k.Is) after_relation refl))
       (starts_one k.Like _) (leads_typed x (only k.Like) refl refl))
       (starts_one k.Has _) (leads_like x (only k.Has) refl refl refl)

@@ -149,7 +149,7 @@ module _ (all : List Token) where
     like_in : (x : ExprTree) → Tree all x → Makes all (g.like may inner x) (Tree all)
     like_in x h = past_in all (both_in all (token_in all patterns) (λ text t. nothing_in all _ (tree.Like x text) (form.of-Like all x text h t)))
 
-    typed_in : (x : ExprTree) → Tree all x → Makes all (g.typed may inner x) (Tree all)
+    typed_in : (x : ExprTree) → Tree all x → Makes all (g.type_test may inner x) (Tree all)
     typed_in x h =
         past_in all
         (both_in all (path_in all)

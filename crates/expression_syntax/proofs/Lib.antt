@@ -6,6 +6,7 @@ pub mod ExpressionRules
 pub mod ExpressionFirm
 pub mod ExpressionExact
 pub mod Tails
+pub mod Unfollowed
 pub mod TreeWellFormed
 pub mod ExpressionWellFormed
 pub mod Published

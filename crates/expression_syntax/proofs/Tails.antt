@@ -46,16 +46,16 @@ module _ (may : Bool) (inner : Parser ExprTree) (x : ExprTree) (ts : List Token)
   unfolding r.like t.like
   like = two_steps (token k.Like ts) (λ word. take patterns) (λ word text. Some (Like text)) (relate x)
 
-  typed : r.typed may inner x ts ≡ and_then (t.typed may inner ts) (λ found. pure (relate x found))
-  unfolding r.typed t.typed
-  typed = three_steps (token k.Is ts) (λ word. path) (λ type_name. r.maybe_inside may inner) (λ type_name y. Some (Is type_name y)) (relate x)
+  type_test : r.type_test may inner x ts ≡ and_then (t.type_test may inner ts) (λ found. pure (relate x found))
+  unfolding r.type_test t.type_test
+  type_test = three_steps (token k.Is ts) (λ word. path) (λ type_name. r.maybe_inside may inner) (λ type_name y. Some (Is type_name y)) (relate x)
 
   tested : r.test_tail may inner x ts ≡ and_then (t.test_tail may inner ts) (λ found. pure (relate x found))
   unfolding r.test_tail t.test_tail
   tested =
       chosen_then (sees (only k.Has) ts) _ _ _ _ (relate x) ts has
       (chosen_then (sees (only k.Like) ts) _ _ _ _ (relate x) ts like
-      (chosen_then (sees (only k.Is) ts) (t.typed may inner) (pure None) (r.typed may inner x) (pure x) (relate x) ts typed refl))
+      (chosen_then (sees (only k.Is) ts) (t.type_test may inner) (pure None) (r.type_test may inner x) (pure x) (relate x) ts type_test refl))
 
   pub related_joins : r.related may inner x ts ≡ t.joined may inner x ts
   unfolding r.related t.tail t.joined

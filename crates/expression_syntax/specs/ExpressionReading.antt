@@ -266,15 +266,15 @@ module _ (may : Bool) (inner : Parser ExprTree) where
   unfoldable pub maybe_inside : Parser (Option ExprTree)
   maybe_inside = optional (only k.In) inside
 
-  unfoldable pub typed : ExprTree → Parser ExprTree
-  typed x = do
+  unfoldable pub type_test : ExprTree → Parser ExprTree
+  type_test x = do
     token k.Is
     type_name ← path
     y ← maybe_inside
     pure (is_in x type_name y)
 
   unfoldable pub test_tail : ExprTree → Parser ExprTree
-  test_tail x = either (only k.Has) (has x) (either (only k.Like) (like x) (either (only k.Is) (typed x) (pure x)))
+  test_tail x = either (only k.Has) (has x) (either (only k.Like) (like x) (either (only k.Is) (type_test x) (pure x)))
 
   unfoldable pub related : ExprTree → Parser ExprTree
   related x = either comparisons (compared x) (test_tail x)

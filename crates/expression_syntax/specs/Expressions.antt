@@ -256,8 +256,8 @@ module _ (may : Bool) (inner : Lang ExprTree) where
   inside = one k.In >> sum
 
   -- "is" Path [ "in" Sum ]
-  abbrev pub typed : ExprTree → Lang ExprTree
-  typed x = do
+  abbrev pub type_test : ExprTree → Lang ExprTree
+  type_test x = do
     one k.Is
     type_name ← path
     y ← optional inside
@@ -268,7 +268,7 @@ module _ (may : Bool) (inner : Lang ExprTree) where
   abbrev pub relation : Lang ExprTree
   relation = do
     x ← sum
-    compared x or has x or like x or typed x or empty x
+    compared x or has x or like x or type_test x or empty x
 
   -- And = Relation { "&&" Relation }
   abbrev pub conjunction : Lang ExprTree

@@ -106,9 +106,9 @@ impl<F: Fn(Global, &mut Cursor<'_>, usize) -> Result<ExprTree, Halt>> Reader<F> 
     }
 }
 
-/// An expression with so many levels of nesting at most, its own being one, from the front of the
-/// tokens and as many of them as it takes. The tokens that are left afterwards begin behind it, or
-/// with the one at which reading halts: that is too deep where more levels would go on with it.
+/// Returns an expression with so many levels of nesting at most, its own being one, from the front of the tokens and as
+/// many of them as it takes. The tokens that are left afterwards begin behind it, or with the one at which reading
+/// halts: that is too deep where more levels would go on with it.
 pub fn expr(alloc: Global, tokens: &mut Cursor<'_>, levels: usize) -> Result<ExprTree, Halt>
     ensures reads { 0 < levels → ReadsFrontWithin (grammar.expr levels) grammar.any_expr
         tokens.old.rest.now result tokens.new.rest.now }

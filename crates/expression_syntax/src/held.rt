@@ -3,7 +3,7 @@
 
 ghost use Rattle.std.specs.Prelude.{◌≡◌, IfOk, IfErr, Ok, Err};
 
-/// What was read after another value, with that value; where nothing was read, only why.
+/// Returns what was read after another value, with that value; where nothing was read, only why.
 pub fn beside<T: Drop, U, E>(kept: T, read: Result<U, E>) -> Result<(T, U), E>
     ensures read { IfOk result (λ both. read ≡ Ok both.1) }
     ensures kept { IfOk result (λ both. both.0 ≡ kept) }

@@ -2,8 +2,8 @@
 ghost use Rattle.expression_syntax.specs.Expressions.{expr, any_expr, nesting_limit};
 ghost use Rattle.token_readers.specs.Reads.{HasOneTree, HasOneAnswerWithin, OpensNextLevel};
 
-/// That a list of tokens comes to one tree or one refusal, and that a token which is too deep opens
-/// the first level past the limit: it does nothing, and its clauses are laws of the definitions.
+/// Proves that a list of tokens comes to one tree or one refusal, and that a token which is too deep opens the first
+/// level past the limit: it does nothing, and its clauses are laws of the definitions.
 pub fn expression_is_unique()
     ensures one_tree { HasOneTree (expr nesting_limit) }
     ensures one_tree_at_any_depth { HasOneTree any_expr }

@@ -5,7 +5,7 @@ ghost use Rattle.token_readers.specs.ParsesTo.{ParsesTo};
 ghost use Rattle.token_readers.specs.Reading.{Parser, many};
 ghost use Rattle.expression_trees.specs.declared.tree.ExprTree as trees;
 ghost use Rattle.expression_syntax.specs.Expressions.{joined};
-ghost use Rattle.expression_syntax.specs.inner.Chains.{chained};
+ghost use Rattle.expression_syntax.specs.inner.Chains.{chained, chained_on};
 
 use crate::held::beside;
 use expression_trees::ExprTree;
@@ -35,12 +35,12 @@ pub(crate) trait Level {
         requires { can_read self.now }
         ensures { ParsesTo (pieces self.now tokens.old.rest.now) result tokens.new.rest.now };
 
-    /// The tree of an operand and the pieces behind it.
+    /// Returns the tree of an operand and the pieces behind it.
     fn join(first: Boxed<ExprTree>, more: Items<Self::Piece>) -> ExprTree
         ensures { result ≡ joins first more };
 }
 
-/// The pieces behind an operand, which begin with a token of the set.
+/// Returns the pieces behind an operand, which begin with a token of the set.
 fn pieces<L: Level, S: KindSet>(
     alloc: Global,
     tokens: &mut Cursor<'_>,
@@ -53,7 +53,7 @@ fn pieces<L: Level, S: KindSet>(
     read_many(alloc, tokens, set, |tokens| level.piece(tokens))
 }
 
-/// The tree of an operand and the pieces behind it; without any, the operand itself.
+/// Returns the tree of an operand and the pieces behind it; without any, the operand itself.
 fn join<L: Level>(
     alloc: Global,
     first: ExprTree,
@@ -67,7 +67,24 @@ fn join<L: Level>(
     }
 }
 
-/// An operand and the pieces behind it, which begin with a token of the set.
+/// Returns an operand that was read, and the pieces behind it, which begin with a token of the set.
+fn chain_on<L: Level, S: KindSet>(
+    alloc: Global,
+    tokens: &mut Cursor<'_>,
+    level: &L,
+    set: S,
+    first: ExprTree,
+) -> Result<ExprTree, Halt>
+    requires { L.can_read level.now }
+    ensures { ParsesTo (chained_on (S.included set) (L.pieces level.now) L.joins first tokens.old.rest.now)
+        result tokens.new.rest.now }
+{
+    let (first, more) = beside(first, pieces(alloc, tokens, level, set))?;
+    Ok(join::<L>(alloc, first, more)?)
+}
+
+/// Returns an operand and the pieces behind it, which begin with a token of the set. An operand that none follows, as
+/// most, goes on as it was read, without a list of pieces.
 pub(crate) fn chain<L: Level, S: KindSet>(
     alloc: Global,
     tokens: &mut Cursor<'_>,
@@ -79,7 +96,10 @@ pub(crate) fn chain<L: Level, S: KindSet>(
         tokens.old.rest.now)
         result tokens.new.rest.now }
 {
-    let first = level.operand(tokens)?;
-    let (first, more) = beside(first, pieces(alloc, tokens, level, set))?;
-    Ok(join::<L>(alloc, first, more)?)
+    let read = level.operand(tokens);
+    if !tokens.sees_one_of(set) {
+        return read;
+    }
+    let first = read?;
+    chain_on(alloc, tokens, level, set, first)
 }

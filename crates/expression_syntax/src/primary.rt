@@ -60,7 +60,7 @@ pub(crate) fn indexed(tokens: &mut Cursor<'_>) -> Result<Access<Items<ExprTree>>
     Ok(Access::Field(KeyTree::Quoted(name)))
 }
 
-/// The variable that a Path of one word is, if it is one.
+/// Returns the variable that a Path of one word is, if it is one.
 fn variable_at(path: &PathTree) -> Option<Variable>
     ensures { result ≡ spec.variable_at path.now.first path.now.more }
 {
@@ -70,7 +70,7 @@ fn variable_at(path: &PathTree) -> Option<Variable>
     }
 }
 
-/// A Path that no argument follows: the word of a variable, or nothing.
+/// Returns a Path that no argument follows: the word of a variable, or nothing.
 #[tactic(auto, unfolding(crate::specs::ExpressionReading::alone))]
 fn alone(tokens: &Cursor<'_>, path: PathTree) -> Result<ExprTree, Halt>
     ensures reads { ParsesTo (spec.alone path tokens.now.rest.now) result tokens.now.rest.now }
@@ -93,7 +93,7 @@ pub(crate) struct Reader<F> {
 }
 
 impl<F: Fn(Global, &mut Cursor<'_>, usize) -> Result<ExprTree, Halt>> Reader<F> {
-    /// An expression one level deeper.
+    /// Returns an expression one level deeper.
     pub(crate) fn inner(&self, tokens: &mut Cursor<'_>) -> Result<ExprTree, Halt>
         requires { Nests self.now.levels (F.pre self.now.expr) (F.post self.now.expr) }
         ensures { ParsesTo (spec.expr self.now.levels tokens.old.rest.now) result tokens.new.rest.now }
@@ -101,7 +101,7 @@ impl<F: Fn(Global, &mut Cursor<'_>, usize) -> Result<ExprTree, Halt>> Reader<F> 
         (self.expr)(self.alloc, tokens, self.levels)
     }
 
-    /// An expression one level deeper, in memory of its own.
+    /// Returns an expression one level deeper, in memory of its own.
     pub(crate) fn boxed_inner(&self, tokens: &mut Cursor<'_>) -> Result<Boxed<ExprTree>, Halt>
         requires { Nests self.now.levels (F.pre self.now.expr) (F.post self.now.expr) }
         ensures { ParsesTo (spec.expr self.now.levels tokens.old.rest.now) result tokens.new.rest.now }

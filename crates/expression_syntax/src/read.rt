@@ -15,9 +15,9 @@ use token_readers::{Cursor, SyntaxFault, read_to_end};
 /// parentheses, brackets, braces or call arguments, and for each part of an `if`.
 pub const NESTING_LIMIT: usize = 64;
 
-/// The expression that the tokens are, or the first token with which no expression goes on. Where
-/// one would go on but for the limit on nesting, the token is too deep. The tree is made of the
-/// tokens, each of a kind that its place asks for. Takes time and memory in proportion to the tokens.
+/// Returns the expression that the tokens are, or the first token with which no expression goes on. Where one would go
+/// on but for the limit on nesting, the token is too deep. The tree is made of the tokens, each of a kind that its
+/// place asks for. Takes time and memory in proportion to the tokens.
 pub fn read_expression(alloc: Global, tokens: &[Token]) -> Result<ExprTree, SyntaxFault>
     ensures reads { ReadsWithin (grammar.expr grammar.nesting_limit) grammar.any_expr tokens.now result }
     ensures stands { IfOk result (WellFormedExpr tokens.now) }

@@ -77,7 +77,7 @@ fn relate(alloc: Global, x: ExprTree, tail: Option<Tail>) -> Result<ExprTree, Al
 }
 
 impl<F: Fn(Global, &mut Cursor<'_>, usize) -> Result<ExprTree, Halt>> Reader<F> {
-    /// A Sum in memory of its own.
+    /// Returns a Sum in memory of its own.
     fn boxed_sum(&self, tokens: &mut Cursor<'_>) -> Result<Boxed<ExprTree>, Halt>
         requires { Nests self.now.levels (F.pre self.now.expr) (F.post self.now.expr) }
         ensures { ParsesTo (spec.sum (is_positive self.now.levels) (spec.expr self.now.levels) tokens.old.rest.now)
@@ -126,11 +126,11 @@ impl<F: Fn(Global, &mut Cursor<'_>, usize) -> Result<ExprTree, Halt>> Reader<F> 
     }
 
     /// "is" Path [ "in" Sum ]
-    #[tactic(auto, unfolding(crate::specs::inner::Tails::typed))]
-    fn typed(&self, tokens: &mut Cursor<'_>) -> Result<Option<Tail>, Halt>
+    #[tactic(auto, unfolding(crate::specs::inner::Tails::type_test))]
+    fn type_test(&self, tokens: &mut Cursor<'_>) -> Result<Option<Tail>, Halt>
         requires { Nests self.now.levels (F.pre self.now.expr) (F.post self.now.expr) }
-        ensures { ParsesTo (tails.typed (is_positive self.now.levels) (spec.expr self.now.levels) tokens.old.rest.now)
-            result tokens.new.rest.now }
+        ensures { ParsesTo (tails.type_test (is_positive self.now.levels)
+            (spec.expr self.now.levels) tokens.old.rest.now) result tokens.new.rest.now }
     {
         tokens.take(TokenKind::Is)?;
         let type_name = path(self.alloc, tokens)?;
@@ -152,7 +152,7 @@ impl<F: Fn(Global, &mut Cursor<'_>, usize) -> Result<ExprTree, Halt>> Reader<F> 
             return like(tokens);
         }
         if tokens.sees(TokenKind::Is) {
-            return self.typed(tokens);
+            return self.type_test(tokens);
         }
         Ok(None)
     }
@@ -181,7 +181,7 @@ impl<F: Fn(Global, &mut Cursor<'_>, usize) -> Result<ExprTree, Halt>> Reader<F> 
         Ok(relate(self.alloc, x, tail)?)
     }
 
-    /// A relation, of its first Sum and what stands behind it.
+    /// Returns a relation, of its first Sum and what stands behind it.
     pub(crate) fn related(&self, tokens: &mut Cursor<'_>, x: ExprTree) -> Result<ExprTree, Halt>
         requires { Nests self.now.levels (F.pre self.now.expr) (F.post self.now.expr) }
         ensures { ParsesTo (spec.related (is_positive self.now.levels)

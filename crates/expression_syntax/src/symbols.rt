@@ -15,7 +15,7 @@ use token_readers::{Cursor, Halt};
 pub trait Symbol: Copy {
     ghost meaning: { kinds.TokenKind → Option Self };
 
-    /// What a token of this kind stands for, where it stands for something.
+    /// Returns what a token of this kind stands for, where it stands for something.
     fn of(kind: TokenKind) -> Option<Self>
         ensures { result ≡ meaning kind };
 }
@@ -75,7 +75,7 @@ impl Symbol for Comparison {
     }
 }
 
-/// What the next token stands for, which has to be something of this type; else none is taken.
+/// Returns what the next token stands for, which has to be something of this type; else none is taken.
 #[tactic(auto, unfolding(crate::specs::ExpressionReading::symbol))]
 pub fn take_symbol<S: Symbol>(tokens: &mut Cursor<'_>) -> Result<S, Halt>
     ensures reads { ParsesTo (spec.symbol S.meaning tokens.old.rest.now) result tokens.new.rest.now }

@@ -38,14 +38,14 @@ impl Expr {
         Ok(Expr::Or(left, right))
     }
 
-    /// An operator with its operand, or `NoMemory`.
+    /// Returns an operator with its operand, or `NoMemory`.
     pub fn unary(alloc: Global, operator: Unary, operand: Expr) -> Result<Expr, NoMemory>
         ensures { IfOk result (λ expr. expr ≡ Expr.Unary operator operand) }
     {
         Ok(Expr::Unary(operator, Shared::new(alloc, operand)?))
     }
 
-    /// An operator with its operands, or `NoMemory`.
+    /// Returns an operator with its operands, or `NoMemory`.
     pub fn binary(
         alloc: Global,
         operator: Binary,
@@ -72,14 +72,14 @@ impl Expr {
         Ok(Expr::Has(Shared::new(alloc, owner)?, name))
     }
 
-    /// A call with one operand, or `NoMemory`.
+    /// Returns a call with one operand, or `NoMemory`.
     pub fn unary_call(alloc: Global, called: UnaryCall, operand: Expr) -> Result<Expr, NoMemory>
         ensures { IfOk result (λ expr. expr ≡ Expr.UnaryCall called operand) }
     {
         Ok(Expr::UnaryCall(called, Shared::new(alloc, operand)?))
     }
 
-    /// A call with two operands, a method's receiver first, or `NoMemory`.
+    /// Returns a call with two operands, a method's receiver first, or `NoMemory`.
     pub fn binary_call(
         alloc: Global,
         called: BinaryCall,

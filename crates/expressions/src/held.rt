@@ -29,7 +29,7 @@ pub(crate) fn three<T: Drop>(
     ))
 }
 
-/// A value in two places, kept once, and another in one.
+/// Returns a value in two places, kept once, and another in one.
 pub(crate) fn twice<T: Drop>(
     alloc: Global,
     a: T,

@@ -1,8 +1,8 @@
 //! Laws of the definitions.
 ghost use Rattle.expressions.specs.LikeTest.{IsDecided, LiteralsMatchThemselves, WildcardMatchesAll};
 
-/// That the test decides which texts match a pattern, that a pattern without a wildcard matches its literal text alone,
-/// and a single wildcard every text: it does nothing, and its clauses are laws of the definitions.
+/// Proves that the test decides which texts match a pattern, that a pattern without a wildcard matches its literal text
+/// alone, and a single wildcard every text: it does nothing, and its clauses are laws of the definitions.
 pub fn patterns_are_decided()
     ensures decided { IsDecided }
     ensures alone { LiteralsMatchThemselves }

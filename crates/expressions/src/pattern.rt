@@ -27,7 +27,7 @@ impl Model for Pattern {
 }
 
 impl Pattern {
-    /// The pattern with these literal texts, a wildcard between each two; takes no memory.
+    /// Returns the pattern with these literal texts, a wildcard between each two; takes no memory.
     pub fn from_literals(literals: Vec<Text>) -> Pattern
         requires { 0 < length literals.items }
         ensures { result ≡ literals.items }
@@ -40,16 +40,16 @@ impl Pattern {
         }
     }
 
-    /// Whether two patterns are equal, literal text by literal text; takes no memory.
+    /// Returns whether two patterns are equal, literal text by literal text; takes no memory.
     pub fn same(&self, other: &Pattern) -> bool
         ensures { IsTrue result ↔ (self.now ≡ other.now) }
     {
         same_texts(&self.before, &other.before) && self.last.same(&other.last)
     }
 
-    /// Whether the text is a joining of pieces, one for each element of the pattern in order: a literal text's piece
-    /// equals it, a wildcard's is any text. Takes no memory, and time of at most the length of the pattern by that of
-    /// the text.
+    /// Returns whether the text is a joining of pieces, one for each element of the pattern in order: a literal text's
+    /// piece equals it, a wildcard's is any text. Takes no memory, and time of at most the length of the pattern by
+    /// that of the text.
     pub fn matches(&self, text: &str) -> bool
         ensures like { IsTrue result ↔ Matches self.now text.now }
         ensures test { result ≡ is_match self.now text.now }
@@ -61,7 +61,8 @@ impl Pattern {
     }
 }
 
-/// Whether the text begins with the first literal, and what is behind it matches a wildcard before each of the others.
+/// Returns whether the text begins with the first literal, and what is behind it matches a wildcard before each of the
+/// others.
 fn first_matches(first: &Text, middle: &[Text], last: &Text, text: &str) -> bool
     ensures { IsTrue result ↔ Joins (literal first.now ∷ behind_stars (middle.now ++ last.now ∷ [])) text.now }
 {
@@ -71,7 +72,7 @@ fn first_matches(first: &Text, middle: &[Text], last: &Text, text: &str) -> bool
     }
 }
 
-/// Whether the text matches a wildcard before each of the literals, the last of which ends it.
+/// Returns whether the text matches a wildcard before each of the literals, the last of which ends it.
 ///
 /// Each literal but the last is taken where it stands first: what is left is then longest, and the next wildcard may
 /// take what an earlier place would have left over. So no choice is ever taken back.
@@ -88,7 +89,7 @@ fn others_match(middle: &[Text], last: &str, text: &str) -> bool
     rest.ends_with(last)
 }
 
-/// Whether two lists have equal texts, place by place.
+/// Returns whether two lists have equal texts, place by place.
 fn same_texts(ones: &Items<Text>, twos: &Items<Text>) -> bool
     ensures { IsTrue result ↔ (ones.now ≡ twos.now) }
 {

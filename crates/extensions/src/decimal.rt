@@ -39,8 +39,8 @@ impl Model for Decimal {
 }
 
 impl Decimal {
-    /// The decimal that the text writes: an optional `-`, digits, `.` and one to four digits, with nothing around it.
-    /// It is `None` for every other text, and for a number outside of signed 64 bits of ten-thousandths.
+    /// Returns the decimal that the text writes: an optional `-`, digits, `.` and one to four digits, with nothing
+    /// around it. It is `None` for every other text, and for a number outside of signed 64 bits of ten-thousandths.
     pub fn parse(text: &str) -> Option<Decimal>
         ensures some { IfSome result (IsDecimalText text.now) }
         ensures none { IsNone result → (n : ℤ) → ¬ (IsDecimalText text.now n) }
@@ -52,14 +52,14 @@ impl Decimal {
         Some(Decimal { ten_thousandths })
     }
 
-    /// Whether this number is less than the other.
+    /// Returns whether this number is less than the other.
     pub fn less_than(&self, other: &Decimal) -> bool
         ensures { IsTrue result ↔ (self.now <ℤ other.now) }
     {
         self.ten_thousandths < other.ten_thousandths
     }
 
-    /// Whether this number is the other or less.
+    /// Returns whether this number is the other or less.
     pub fn less_or_equal(&self, other: &Decimal) -> bool
         ensures { IsTrue result ↔ (self.now ≤ℤ other.now) }
     {
@@ -137,7 +137,7 @@ fn append_size(size: u64, out: &mut String)
     append_digit(out, (size % 10) as u32)
 }
 
-/// The ten-thousandths of a text without a sign.
+/// Returns the ten-thousandths of a text without a sign.
 fn size_of_text(text: &str) -> Option<u64>
     ensures some { IfSome result (IsUnsignedText text.now) }
     ensures none { IsNone result → (n : ℕ) → IsUnsignedText text.now n → 2 ^ 64 ≤ n }
@@ -148,28 +148,28 @@ fn size_of_text(text: &str) -> Option<u64>
     joined(whole, fraction)
 }
 
-/// The two parts as one number, where it is below `2^64`.
+/// Returns the two parts as one number, where it is below `2^64`.
 fn joined(whole: u64, fraction: u64) -> Option<u64>
     ensures { SomeIff result (whole * 10000 + fraction < 2 ^ 64) (whole * 10000 + fraction) }
 {
     u64::try_from(u128::from(whole) * 10_000 + u128::from(fraction)).ok()
 }
 
-/// The number below zero of this size, where it fits.
+/// Returns the number below zero of this size, where it fits.
 fn negated(size: u64) -> Option<i64>
     ensures { SomeIff result (FitsSigned w64 (neg_ℤ (pos size))) (neg_ℤ (pos size)) }
 {
     i64::try_from(-i128::from(size)).ok()
 }
 
-/// The number of this size, where it fits.
+/// Returns the number of this size, where it fits.
 fn positive(size: u64) -> Option<i64>
     ensures { SomeIff result (FitsSigned w64 (pos size)) (pos size) }
 {
     i64::try_from(size).ok()
 }
 
-/// The ten-thousandths that one to four digits behind the point write.
+/// Returns the ten-thousandths that one to four digits behind the point write.
 fn ten_thousandths(fraction: &str) -> Option<u64>
     ensures { SomeIff result (IsNumeral 10 fraction.now × (length fraction.now ≤ 4))
         (digits_value 10 fraction.now * 10 ^ (4 - length fraction.now)) }
@@ -181,7 +181,7 @@ fn ten_thousandths(fraction: &str) -> Option<u64>
     Some(number(fraction)? * scale(places))
 }
 
-/// The ten-thousandths in one of the last of so many places.
+/// Returns the ten-thousandths in one of the last of so many places.
 fn scale(places: usize) -> u64
     requires { places ≤ 4 }
     ensures { result ≡ 10 ^ (4 - places) }
@@ -195,7 +195,7 @@ fn scale(places: usize) -> u64
     }
 }
 
-/// The number that the digits write. It is `None` for a text that isn't digits, and for `2^64` and more.
+/// Returns the number that the digits write. It is `None` for a text that isn't digits, and for `2^64` and more.
 fn number(text: &str) -> Option<u64>
     ensures { SomeIff result (IsNumeral 10 text.now × (digits_value 10 text.now < 2 ^ 64)) (digits_value 10 text.now) }
 {

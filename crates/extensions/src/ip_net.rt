@@ -1,24 +1,22 @@
 //! IP addresses with a prefix.
-ghost use Rattle.std.specs.Prelude.{◌≡◌, ℕ, ◌+◌, ◌-◌, ◌/◌, ◌^◌, ◌<◌, ◌≤◌, ◌↔◌, ◌++◌, ◌⊎◌, List, length};
-ghost use Rattle.std.specs.Prelude.{slice_index, IsTrue, IsNone, IfSome, OnOk, OnErr, string_bytes, string_len};
+ghost use Rattle.std.specs.Prelude.{◌≡◌, ℕ, ◌+◌, ◌/◌, ◌^◌, ◌<◌, ◌≤◌, ◌↔◌, ◌++◌, ◌⊎◌, List};
+ghost use Rattle.std.specs.Prelude.{IsTrue, IsNone, IfSome, OnOk, OnErr, string_bytes, string_len};
 ghost use Rattle.std.specs.Prelude.{string_capacity, Some, refl};
-ghost use Rattle.std.specs.Fmt.{decimal};
 ghost use Rattle.extensions.specs.declared.ip_net.Version.{Version};
 ghost use Rattle.extensions.specs.declared.ip_net.Version.TheVariants.{V4, V6};
 ghost use Rattle.extensions.specs.Network.{width, Network, IsNetwork, size, least, greatest, IsWithin};
 ghost use Rattle.std.specs.Cmp.{IsTotalOrder};
 ghost use Rattle.std.specs.declared.cmp.Ordering.TheVariants.{Equal};
 ghost use Rattle.extensions.specs.Order.{network_cmp};
-ghost use Rattle.extensions.specs.NetworkText.{IsNetworkText, network_text, IsAddressText, ipv4_text, ipv6_text};
-ghost use Rattle.extensions.specs.NetworkText.{groups_text};
+ghost use Rattle.extensions.specs.NetworkText.{IsNetworkText, network_text};
 ghost use Rattle.extensions.specs.Decided.{told};
 ghost use Rattle.extensions.specs.TextsDecided.{network_of, within_decided};
 
 use crate::NoMemory;
-use crate::pieces::{append, append_byte, append_group};
+use crate::address_texts::{address_of_text, append_ipv4, append_ipv6, prefix_of_text};
+use crate::pieces::{append, append_byte};
 use std::cmp::Ordering;
 use std::marker::Model;
-use std::net::{Ipv4Addr, Ipv6Addr};
 
 /// How many bytes the longest canonical text has: eight groups of four digits, seven colons, `/` and three digits.
 const MOST: usize = 43;
@@ -84,7 +82,7 @@ impl Version {
     ghost use Rattle.extensions.specs.Network.{width};
     ghost use Rattle.extensions.specs.Order.{version_number};
 
-    /// The version's number.
+    /// Returns the version's number.
     fn number(self) -> u8
         ensures { result ≡ version_number self }
     {
@@ -94,7 +92,7 @@ impl Version {
         }
     }
 
-    /// How many bits an address has.
+    /// Returns how many bits an address has.
     fn width(self) -> u8
         ensures { result ≡ width self }
     {
@@ -168,8 +166,8 @@ impl IpNet {
     ghost use Rattle.extensions.specs.NetworkText.{IsNetworkText, network_text};
     ghost use Rattle.extensions.specs.declared.ip_net.Version.TheVariants.{V4, V6};
 
-    /// The network that the text writes: an address, and `/` and a prefix where it isn't all bits, with nothing around
-    /// it. It is `None` for every other text.
+    /// Returns the network that the text writes: an address, and `/` and a prefix where it isn't all bits, with nothing
+    /// around it. It is `None` for every other text.
     pub fn parse(text: &str) -> Option<IpNet>
         ensures some { IfSome result (IsNetworkText text.now) }
         ensures none { IsNone result → (n : Network) → ¬ (IsNetworkText text.now n) }
@@ -195,21 +193,21 @@ impl IpNet {
         }
     }
 
-    /// Whether this is an IPv4 address.
+    /// Returns whether this is an IPv4 address.
     pub fn is_ipv4(&self) -> bool
         ensures { IsTrue result ↔ (self.now.version ≡ V4) }
     {
         self.version == Version::V4
     }
 
-    /// Whether this is an IPv6 address.
+    /// Returns whether this is an IPv6 address.
     pub fn is_ipv6(&self) -> bool
         ensures { IsTrue result ↔ (self.now.version ≡ V6) }
     {
         self.version == Version::V6
     }
 
-    /// Whether the versions agree and this range lies in the other.
+    /// Returns whether the versions agree and this range lies in the other.
     pub fn is_in_range(&self, other: &IpNet) -> bool
         ensures { IsTrue result ↔ IsWithin self.now other.now }
     {
@@ -218,14 +216,14 @@ impl IpNet {
             && self.greatest() <= other.greatest()
     }
 
-    /// Whether the whole range is in 127.0.0.0/8, or is ::1.
+    /// Returns whether the whole range is in 127.0.0.0/8, or is ::1.
     pub fn is_loopback(&self) -> bool
         ensures { IsTrue result ↔ (IsWithin self.now loopback_v4 ⊎ IsWithin self.now loopback_v6) }
     {
         self.is_in_range(&LOOPBACK_V4) || self.is_in_range(&LOOPBACK_V6)
     }
 
-    /// Whether the whole range is in 224.0.0.0/4 or in ff00::/8.
+    /// Returns whether the whole range is in 224.0.0.0/4 or in ff00::/8.
     pub fn is_multicast(&self) -> bool
         ensures { IsTrue result ↔ (IsWithin self.now multicast_v4 ⊎ IsWithin self.now multicast_v6) }
     {
@@ -252,7 +250,7 @@ impl IpNet {
         Ok(())
     }
 
-    /// How many addresses the range has besides its least.
+    /// Returns how many addresses the range has besides its least.
     fn others(&self) -> u128
         ensures { result + 1 ≡ size self.now }
     {
@@ -264,7 +262,7 @@ impl IpNet {
         }
     }
 
-    /// The least address of the range.
+    /// Returns the least address of the range.
     fn least(&self) -> u128
         ensures value { result ≡ least self.now }
         ensures within { result + size self.now ≤ 2 ^ 128 }
@@ -272,127 +270,12 @@ impl IpNet {
         self.address - (self.address & self.others())
     }
 
-    /// The greatest address of the range.
+    /// Returns the greatest address of the range.
     fn greatest(&self) -> u128
         ensures { result ≡ greatest self.now }
     {
         self.least() + self.others()
     }
-}
-
-/// The address that the text writes, without a prefix, and its version.
-fn address_of_text(text: &str) -> Option<(Version, u128)>
-    ensures some { IfSome result (λ a. IsAddressText a.0 text.now a.1) }
-    ensures fits { IfSome result (λ a. a.1 < 2 ^ width a.0) }
-    ensures none { IsNone result → (v : Version) (n : ℕ) → ¬ (IsAddressText v text.now n) }
-{
-    if let Some(address) = ipv4_of_text(text) {
-        return Some((Version::V4, u128::from(address)));
-    }
-    let address = ipv6_of_text(text)?;
-    Some((Version::V6, address))
-}
-
-/// The IPv4 address that the text writes.
-fn ipv4_of_text(text: &str) -> Option<u32>
-    ensures some { IfSome result (IsAddressText V4 text.now) }
-    ensures none { IsNone result → (n : ℕ) → ¬ (IsAddressText V4 text.now n) }
-{
-    match text.parse::<Ipv4Addr>() {
-        Ok(address) => Some(address.to_bits()),
-        Err(_) => None,
-    }
-}
-
-/// The IPv6 address that the text writes, without an embedded IPv4 address.
-fn ipv6_of_text(text: &str) -> Option<u128>
-    ensures some { IfSome result (IsAddressText V6 text.now) }
-    ensures none { IsNone result → (n : ℕ) → ¬ (IsAddressText V6 text.now n) }
-{
-    if text.contains('.') {
-        return None;
-    }
-    match text.parse::<Ipv6Addr>() {
-        Ok(address) => Some(address.to_bits()),
-        Err(_) => None,
-    }
-}
-
-/// The prefix that the text behind the `/` writes, of so many bits at most.
-fn prefix_of_text(text: &str, bits: u8) -> Option<u8>
-    ensures some { IfSome result (λ p. (text.now ≡ decimal p) × (p ≤ bits)) }
-    ensures none { IsNone result → (p : ℕ) → p ≤ bits → ¬ (text.now ≡ decimal p) }
-{
-    let prefix = decimal_of_text(text)?;
-    if prefix <= bits { Some(prefix) } else { None }
-}
-
-/// The number up to 255 that the text writes without leading zeros.
-fn decimal_of_text(text: &str) -> Option<u8>
-    ensures some { IfSome result (λ n. text.now ≡ decimal n) }
-    ensures none { IsNone result → (n : ℕ) → n < 256 → ¬ (text.now ≡ decimal n) }
-{
-    if text.starts_with('+') {
-        return None;
-    }
-    if is_padded(text) {
-        return None;
-    }
-    match text.parse::<u8>() {
-        Ok(n) => Some(n),
-        Err(_) => None,
-    }
-}
-
-/// Whether the text has more behind a leading `0`.
-fn is_padded(text: &str) -> bool
-    ensures { IsTrue result ↔ ((slice_index text.now 0 ≡ 48) × (1 < length text.now)) }
-{
-    text.starts_with('0') && text.len() > 1
-}
-
-/// Appends an IPv4 address.
-fn append_ipv4(address: u128, out: &mut String)
-    requires { string_len out.old + 15 ≤ string_capacity out.old }
-    ensures bytes { string_bytes out.new ≡ string_bytes out.old ++ ipv4_text address }
-    ensures len { string_len out.new ≤ string_len out.old + 15 }
-    ensures capacity { string_capacity out.old ≤ string_capacity out.new }
-{
-    append_byte(out, (address / 0x100_0000 % 256) as u8);
-    append(out, ".");
-    append_byte(out, (address / 0x1_0000 % 256) as u8);
-    append(out, ".");
-    append_byte(out, (address / 0x100 % 256) as u8);
-    append(out, ".");
-    append_byte(out, (address % 256) as u8)
-}
-
-/// Appends an IPv6 address as eight groups.
-fn append_ipv6(address: u128, out: &mut String)
-    requires { string_len out.old + 39 ≤ string_capacity out.old }
-    ensures bytes { string_bytes out.new ≡ string_bytes out.old ++ ipv6_text address }
-    ensures len { string_len out.new ≤ string_len out.old + 39 }
-    ensures capacity { string_capacity out.old ≤ string_capacity out.new }
-{
-    append_groups((address / 0x1_0000_0000_0000_0000) as u64, out);
-    append(out, ":");
-    append_groups((address % 0x1_0000_0000_0000_0000) as u64, out)
-}
-
-/// Appends four groups.
-fn append_groups(groups: u64, out: &mut String)
-    requires { string_len out.old + 19 ≤ string_capacity out.old }
-    ensures bytes { string_bytes out.new ≡ string_bytes out.old ++ groups_text groups }
-    ensures len { string_len out.new ≤ string_len out.old + 19 }
-    ensures capacity { string_capacity out.old ≤ string_capacity out.new }
-{
-    append_group(out, (groups / 0x1_0000_0000_0000) as u32);
-    append(out, ":");
-    append_group(out, (groups / 0x1_0000_0000 % 0x1_0000) as u32);
-    append(out, ":");
-    append_group(out, (groups / 0x1_0000 % 0x1_0000) as u32);
-    append(out, ":");
-    append_group(out, (groups % 0x1_0000) as u32)
 }
 
 /// The range is the addresses that agree with the network's in the bits of the prefix.

@@ -4,6 +4,7 @@
 //! Reading and comparing take no memory. Writing asks for the room of the longest text before it appends anything.
 #![tactic(auto)]
 
+mod address_texts;
 pub mod decimal;
 pub mod ip_net;
 mod pieces;

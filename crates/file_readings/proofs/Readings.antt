@@ -186,7 +186,7 @@ module _ (text part : List ℕ) where
     is_in_same x y p q (Some a) None s h l = absurd l
     is_in_same x y p q (Some a) (Some b) s h l = form.same-IsIn text part x y a b p q s h l
 
-    typed_kin : (x y : ExprTree) → SameTree text part x y → Kin text part (e.typed may inner x) (e.typed may inner y) (SameTree text part)
+    typed_kin : (x y : ExprTree) → SameTree text part x y → Kin text part (e.type_test may inner x) (e.type_test may inner y) (SameTree text part)
     typed_kin x y s =
         behind_kin text part k.Is
         (both_kin text part path_kin

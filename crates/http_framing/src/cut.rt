@@ -40,7 +40,7 @@ pub enum Cut {
     Unfinished(usize),
 }
 
-/// What one announcement comes to.
+/// Returns what one announcement comes to.
 fn framing_by(length: Announced) -> Framing
     ensures { result ≡ framing_by length }
 {
@@ -51,14 +51,14 @@ fn framing_by(length: Announced) -> Framing
     }
 }
 
-/// Whether a request with this method has to announce its length.
+/// Returns whether a request with this method has to announce its length.
 fn needs_length(method: &[u8]) -> bool
     ensures { result ≡ needs_length method.now }
 {
     method == b"PUT".as_slice() || method == b"POST".as_slice()
 }
 
-/// How long the body is, or with which status the head is refused.
+/// Returns how long the body is, or with which status the head is refused.
 fn framing_at(buf: &[u8], headers: &[HeaderSpan], method: &[u8]) -> Framing
     requires { All (IsHeaderWithin (length buf.now)) headers.now }
     ensures { result ≡ framing method.now (map (header_bytes buf.now) headers.now) }
@@ -74,7 +74,7 @@ fn framing_at(buf: &[u8], headers: &[HeaderSpan], method: &[u8]) -> Framing
     }
 }
 
-/// Whether the connection ends after the request.
+/// Returns whether the connection ends after the request.
 fn closes(buf: &[u8], headers: &[HeaderSpan], minor: u8) -> bool
     requires { All (IsHeaderWithin (length buf.now)) headers.now }
     ensures { result ≡ closes minor (map (header_bytes buf.now) headers.now) }
@@ -90,7 +90,7 @@ fn closes(buf: &[u8], headers: &[HeaderSpan], minor: u8) -> bool
     false
 }
 
-/// What stands at the front of `buf`, whose first bytes `seen` begin with the head.
+/// Returns what stands at the front of `buf`, whose first bytes `seen` begin with the head.
 fn cut_body(buf: &[u8], seen: &[u8], headers: &[HeaderSpan], head: &RequestSpans) -> Cut
     requires seen { seen.now ≡ take MAX_HEAD buf.now }
     requires few { length headers.now ≤ MAX_FIELDS }
@@ -113,7 +113,7 @@ fn cut_body(buf: &[u8], seen: &[u8], headers: &[HeaderSpan], head: &RequestSpans
     }
 }
 
-/// What stands at the front of `buf`. `room` has a header for each byte that a head may have, so that a head of
+/// Returns what stands at the front of `buf`. `room` has a header for each byte that a head may have, so that a head of
 /// too many fields is seen whole.
 pub fn cut_request(buf: &[u8], room: &mut [HeaderSpan]) -> Cut
     requires { MAX_HEAD ≤ length room.old }

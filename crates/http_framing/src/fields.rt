@@ -25,7 +25,7 @@ pub enum Announced {
     NoNumber,
 }
 
-/// Whether the header has this name, which is in lower case.
+/// Returns whether the header has this name, which is in lower case.
 pub(crate) fn has_name(buf: &[u8], header: &HeaderSpan, name: &[u8]) -> bool
     requires within { IsHeaderWithin (length buf.now) header.now }
     requires lower { map to_ascii_lowercase name.now ≡ name.now }
@@ -34,7 +34,7 @@ pub(crate) fn has_name(buf: &[u8], header: &HeaderSpan, name: &[u8]) -> bool
     header.name.of(buf).eq_ignore_ascii_case(name)
 }
 
-/// The values of the headers with this name.
+/// Returns the values of the headers with this name.
 pub(crate) fn values_of<'b>(buf: &'b [u8], headers: &[HeaderSpan], name: &[u8]) -> Found<'b>
     requires within { All (IsHeaderWithin (length buf.now)) headers.now }
     requires lower { map to_ascii_lowercase name.now ≡ name.now }
@@ -52,7 +52,7 @@ pub(crate) fn values_of<'b>(buf: &'b [u8], headers: &[HeaderSpan], name: &[u8]) 
     found
 }
 
-/// Whether a header has this name.
+/// Returns whether a header has this name.
 pub(crate) fn has_header(buf: &[u8], headers: &[HeaderSpan], name: &[u8]) -> bool
     requires within { All (IsHeaderWithin (length buf.now)) headers.now }
     requires lower { map to_ascii_lowercase name.now ≡ name.now }
@@ -66,7 +66,7 @@ pub(crate) fn has_header(buf: &[u8], headers: &[HeaderSpan], name: &[u8]) -> boo
     false
 }
 
-/// The number that the text writes, if it writes one, up to `most`.
+/// Returns the number that the text writes, if it writes one, up to `most`.
 pub(crate) fn length_of(text: &[u8], most: usize) -> Announced
     requires { most < 2 ^ 32 }
     ensures { result ≡ announced most text.now }
@@ -90,7 +90,7 @@ pub(crate) fn length_of(text: &[u8], most: usize) -> Announced
     }
 }
 
-/// The text from the first byte that is no blank.
+/// Returns the text from the first byte that is no blank.
 fn skip_front(text: &[u8]) -> &[u8]
     ensures { result.now ≡ skip_ows text.now }
 {
@@ -101,7 +101,7 @@ fn skip_front(text: &[u8]) -> &[u8]
     rest
 }
 
-/// The text up to the last byte that is no blank.
+/// Returns the text up to the last byte that is no blank.
 fn skip_back(text: &[u8]) -> &[u8]
     ensures { result.now ≡ skip_ows_back text.now }
 {
@@ -112,7 +112,7 @@ fn skip_back(text: &[u8]) -> &[u8]
     rest
 }
 
-/// Whether the text is `close`, blanks at its ends aside.
+/// Returns whether the text is `close`, blanks at its ends aside.
 #[tactic(auto, unfolding(httparse::specs::Grammar::trim_ows))]
 fn is_close_part(text: &[u8]) -> bool
     ensures { result ≡ is_close_part text.now }
@@ -120,7 +120,7 @@ fn is_close_part(text: &[u8]) -> bool
     skip_back(skip_front(text)).eq_ignore_ascii_case(b"close")
 }
 
-/// Whether a part between commas is `close`.
+/// Returns whether a part between commas is `close`.
 fn lists_close(value: &[u8]) -> bool
     ensures { result ≡ lists_close value.now }
 {
@@ -136,7 +136,7 @@ fn lists_close(value: &[u8]) -> bool
     is_close_part(&value[start..])
 }
 
-/// Whether the header asks to close the connection.
+/// Returns whether the header asks to close the connection.
 pub(crate) fn asks_to_close(buf: &[u8], header: &HeaderSpan) -> bool
     requires { IsHeaderWithin (length buf.now) header.now }
     ensures { result ≡ is_close (header_bytes buf.now header.now) }

@@ -14,7 +14,7 @@ pub(crate) fn first_bytes(buf: &[u8]) -> &[u8]
     }
 }
 
-/// Whether a head has more fields than it may.
+/// Returns whether a head has more fields than it may.
 pub(crate) fn has_too_many(fields: usize) -> bool
     ensures over { result ≡ true → MAX_FIELDS < fields }
     ensures fits { result ≡ false → fields ≤ MAX_FIELDS }
@@ -22,7 +22,7 @@ pub(crate) fn has_too_many(fields: usize) -> bool
     fields > MAX_FIELDS
 }
 
-/// Whether the `left` bytes behind a head are less than its body of this size.
+/// Returns whether the `left` bytes behind a head are less than its body of this size.
 pub(crate) fn is_cut_off(left: usize, size: usize) -> bool
     ensures cut { result ≡ true → left < size }
     ensures whole { result ≡ false → size ≤ left }

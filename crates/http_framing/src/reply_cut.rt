@@ -31,7 +31,7 @@ pub enum ReplyCut {
     Unfinished(usize),
 }
 
-/// How long the body of a reply is.
+/// Returns how long the body of a reply is.
 fn length_at(buf: &[u8], headers: &[HeaderSpan]) -> Announced
     requires { All (IsHeaderWithin (length buf.now)) headers.now }
     ensures { result ≡ reply_length (map (header_bytes buf.now) headers.now) }
@@ -45,7 +45,7 @@ fn length_at(buf: &[u8], headers: &[HeaderSpan]) -> Announced
     }
 }
 
-/// What stands at the front of `buf`, whose first bytes `seen` begin with the head.
+/// Returns what stands at the front of `buf`, whose first bytes `seen` begin with the head.
 fn cut_reply_body(buf: &[u8], seen: &[u8], headers: &[HeaderSpan], head: &ResponseSpans) -> ReplyCut
     requires seen { seen.now ≡ take MAX_HEAD buf.now }
     requires few { length headers.now ≤ MAX_FIELDS }
@@ -67,8 +67,8 @@ fn cut_reply_body(buf: &[u8], seen: &[u8], headers: &[HeaderSpan], head: &Respon
     }
 }
 
-/// What stands at the front of `buf`. `room` has a header for each byte that a head may have, so that a head of too
-/// many fields is seen whole.
+/// Returns what stands at the front of `buf`. `room` has a header for each byte that a head may have, so that a head of
+/// too many fields is seen whole.
 pub fn cut_reply(buf: &[u8], room: &mut [HeaderSpan]) -> ReplyCut
     requires { MAX_HEAD ≤ length room.old }
     ensures { IsReplyCut buf.now result }

@@ -6,8 +6,8 @@ use Rattle.std.proofs.lemmas.Str.{IsUtf8-from_is_utf8}
 use Rattle.http_texts.specs.declared.status.Status.{Status}
 use Rattle.values.specs.declared.entity_uid.EntityUid.{EntityUid}
 use Rattle.site_runs.specs.passed_on.entities_EntityFault_variants.{BadShape}
-use Rattle.policy_grammar.specs.declared.fault.ReadFault.{ReadFault}
-use Rattle.policy_grammar.specs.declared.fault.ReadFault.TheVariants.{BadId}
+use Rattle.text_trees.specs.declared.fault.ReadFault.{ReadFault}
+use Rattle.text_trees.specs.declared.fault.ReadFault.TheVariants.{BadId}
 use Rattle.service_replies.specs.passed_on.site.{Seen, schema_of, store_in, IsSameSite}
 use Rattle.service_replies.specs.passed_on.site.{SiteFault}
 use Rattle.service_replies.specs.passed_on.site_SiteFault_variants as fault

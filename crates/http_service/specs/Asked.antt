@@ -7,8 +7,8 @@ use Rattle.json_words.specs.Json.{json_of}
 use Rattle.values.specs.declared.entity_uid.EntityUid.{EntityUid}
 use Rattle.uid_json.specs.Uids.{uid_in}
 use Rattle.policy_grammar.specs.Limits.{most_id_bytes, most_policy_bytes}
-use Rattle.policy_grammar.specs.declared.fault.ReadFault.{ReadFault}
-use Rattle.policy_grammar.specs.declared.fault.ReadFault.TheVariants.{BadId, BadToken, TooLong}
+use Rattle.text_trees.specs.declared.fault.ReadFault.{ReadFault}
+use Rattle.text_trees.specs.declared.fault.ReadFault.TheVariants.{BadId, BadToken, TooLong}
 use Rattle.site_runs.specs.passed_on.entities_EntityFault_variants.{BadShape}
 use Rattle.http_texts.specs.declared.status.Status.{Status}
 use Rattle.http_texts.specs.declared.status.Status.TheVariants.{NotFound, MethodNotAllowed}

@@ -81,7 +81,7 @@ fn delta(alloc: Global, site: &Site, body: &[u8], text: &mut Vec<u8>) -> Status
 
 // ---- changes
 
-/// A body as text, where it is UTF-8.
+/// Returns a body as text, where it is UTF-8.
 fn text_of(body: &[u8]) -> Option<&str>
     ensures { MatchOption result (is_utf8 body.now ≡ false) (λ t. (is_utf8 body.now ≡ true) × (t.now ≡ body.now)) }
 {
@@ -91,7 +91,7 @@ fn text_of(body: &[u8]) -> Option<&str>
     }
 }
 
-/// The first fault where a policy's text is not UTF-8.
+/// Returns the first fault where a policy's text is not UTF-8.
 fn not_text(id: &str, body: &[u8]) -> ReadFault
     ensures { result ≡ not_text id.now body.now }
 {
@@ -140,7 +140,7 @@ fn put_entity(alloc: Global, site: &mut Site, body: &[u8], text: &mut Vec<u8>) -
     report_stamp(text, outcome)
 }
 
-/// The entity that a body names, or None.
+/// Returns the entity that a body names, or None.
 fn named_entity(alloc: Global, body: &[u8]) -> Result<Option<EntityUid>, NoMemory>
     ensures { IfOk result (λ uid. uid ≡ option_and_then uid_in (json_of body.now)) }
 {

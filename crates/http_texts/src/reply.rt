@@ -35,7 +35,7 @@ fn put_number(room: &mut [u8], end: usize, number: usize) -> usize
     itoa::write_digits(number as u64, room, end)
 }
 
-/// What ends the head of a reply.
+/// Returns what ends the head of a reply.
 #[tactic(auto, unfolding(crate::specs::ReplyText::ending))]
 fn ending(last: bool) -> &'static str
     ensures text { result.now ≡ ending last }

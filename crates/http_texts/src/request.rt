@@ -14,7 +14,7 @@ pub struct Ask<'a> {
     pub body: Option<&'a [u8]>,
 }
 
-/// The request's first line, up to the host.
+/// Returns the request's first line, up to the host.
 #[tactic(auto, unfolding(crate::specs::RequestText::request_start))]
 fn request_start(alloc: Global, ask: &Ask<'_>) -> Result<Vec<u8>, AllocError>
     ensures { IfOk result (λ out. out.items ≡ request_start ask.now.method.now ask.now.path.now) }
@@ -57,8 +57,8 @@ fn push_body(out: &mut Vec<u8>, body: Option<&[u8]>) -> Result<(), AllocError>
     }
 }
 
-/// The whole request, with its body, which asks to close the connection after the reply (RFC 9112, section 3). Fails
-/// only where memory is refused.
+/// Returns the whole request, with its body, which asks to close the connection after the reply (RFC 9112, section 3).
+/// Fails only where memory is refused.
 #[tactic(auto, unfolding(crate::specs::RequestText::request_text))]
 pub fn request_text(alloc: Global, ask: &Ask<'_>) -> Result<Vec<u8>, AllocError>
     ensures { IfOk result (λ out. out.items ≡ request_text ask.now) }

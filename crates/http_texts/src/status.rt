@@ -18,7 +18,7 @@ pub enum Status {
 }
 
 impl Status {
-    /// The three digits, as a number.
+    /// Returns the three digits, as a number.
     pub fn code(self) -> u16
         ensures value { result ≡ code self }
         ensures short { result < 1000 }
@@ -37,7 +37,7 @@ impl Status {
         }
     }
 
-    /// What stands behind the digits.
+    /// Returns what stands behind the digits.
     pub fn phrase(self) -> &'static str
         ensures value { result.now ≡ phrase self }
         ensures short { length result.now ≤ 24 }

@@ -23,7 +23,7 @@ use plain::NoMemory;
 use serde_json::{Map, Value};
 use std::alloc::Global;
 
-/// The JSON value that bytes are, or None where they are no UTF-8 or no JSON, or nest deeper than 127.
+/// Returns the JSON value that bytes are, or None where they are no UTF-8 or no JSON, or nest deeper than 127.
 ///
 /// Of a key that stands twice in an object the last value counts. Fails for memory alone.
 pub fn read_json(alloc: Global, bytes: &[u8]) -> Result<Option<Value>, NoMemory>
@@ -41,7 +41,8 @@ pub fn read_json(alloc: Global, bytes: &[u8]) -> Result<Option<Value>, NoMemory>
     }
 }
 
-/// The compact text of a value: no blanks, and in each object the keys ascending by bytes. Fails for memory alone.
+/// Returns the compact text of a value: no blanks, and in each object the keys ascending by bytes. Fails for memory
+/// alone.
 ///
 /// What is written for a float is not said here, but that it reads back.
 pub fn write_json(alloc: Global, value: &Value) -> Result<Vec<u8>, NoMemory>
@@ -52,7 +53,7 @@ pub fn write_json(alloc: Global, value: &Value) -> Result<Vec<u8>, NoMemory>
     value.to_vec(alloc)
 }
 
-/// The text that an object has at a key, or None where there is no object, no such key, or no text.
+/// Returns the text that an object has at a key, or None where there is no object, no such key, or no text.
 pub fn text_at<'v>(value: &'v Value, key: &str) -> Option<&'v str>
     ensures { option_map (λ s. s.now) result ≡ text_at key.now (view value.now) }
 {
@@ -62,7 +63,7 @@ pub fn text_at<'v>(value: &'v Value, key: &str) -> Option<&'v str>
     }
 }
 
-/// Whether a value is an object with no keys but these.
+/// Returns whether a value is an object with no keys but these.
 #[tactic(auto, using(crate::proofs::KeysLemmas::keys_within_view))]
 pub fn only_keys(value: &Value, allowed: &[&str]) -> bool
     ensures { result ≡ has_only (map (λ k. k.now) allowed.now) (view value.now) }

@@ -90,7 +90,7 @@ fn write_lists<G: ParentsOf>(
     Ok(())
 }
 
-/// The ancestors and children by the edges of these entities, where there is room for them.
+/// Returns the ancestors and children by the edges of these entities, where there is room for them.
 pub(crate) fn relatives_among<G: ParentsOf>(
     alloc: Global,
     graph: &G,
@@ -105,7 +105,7 @@ pub(crate) fn relatives_among<G: ParentsOf>(
     Ok(relatives)
 }
 
-/// The set of these entities.
+/// Returns the set of these entities.
 pub(crate) fn set_of(
     alloc: Global,
     relatives: &BTreeMap<EntityUid, Relatives>,

@@ -156,7 +156,7 @@ fn unset(
 }
 
 impl Closed {
-    /// A hierarchy with no entity.
+    /// Returns a hierarchy with no entity.
     pub fn new(alloc: Global) -> Self
         ensures { ⟦<Closed as Ancestry>⟧.parents result ≡ no_parents }
     {
@@ -167,9 +167,9 @@ impl Closed {
         }
     }
 
-    /// How many lists of ancestors the last change wrote anew: that of the entity itself, also where it was taken away,
-    /// and those of all below it; none where it has the parents that it had. A change that was refused leaves the
-    /// number as it was.
+    /// Returns how many lists of ancestors the last change wrote anew: that of the entity itself, also where it was
+    /// taken away, and those of all below it; none where it has the parents that it had. A change that was refused
+    /// leaves the number as it was.
     pub fn touched(&self) -> usize {
         self.kept.touched()
     }

@@ -109,7 +109,7 @@ impl KeptAncestors {
         Ok(())
     }
 
-    /// Whether `a` is above `b`; two look-ups, and no memory.
+    /// Returns whether `a` is above `b`; two look-ups, and no memory.
     pub fn has_ancestor(&self, a: &EntityUid, b: &EntityUid) -> bool
         ensures { (parents : Parents) → AreKept parents self.now → (IsTrue result ↔ Above parents a.now b.now) }
     {
@@ -139,7 +139,7 @@ impl KeptAncestors {
         members(self.alloc, &self.cyclic)
     }
 
-    /// The least, compared item by item, of the shortest cycles through the least entity that is on a cycle, as
+    /// Returns the least, compared item by item, of the shortest cycles through the least entity that is on a cycle, as
     /// [`ancestor_closure::least_cycle`] gives it. Where there is none, there is no search, and it takes no memory.
     pub fn least_cycle<'a, G: Graph>(
         &'a self,
@@ -157,7 +157,7 @@ impl KeptAncestors {
         least_cycle_among(self.alloc, graph, &cyclic)
     }
 
-    /// Whether the entity would be above itself if it had these parents: two look-ups for each, and no memory.
+    /// Returns whether the entity would be above itself if it had these parents: two look-ups for each, and no memory.
     pub fn would_cycle(&self, uid: &EntityUid, parents: &[EntityUid]) -> bool
         ensures { (before : Parents) → AreKept before self.now →
             (IsTrue result ↔ Above (with_parents before uid.now parents.now) uid.now uid.now) }
@@ -165,8 +165,8 @@ impl KeptAncestors {
         leads_back(&self.relatives, uid, parents)
     }
 
-    /// How many lists the last change that was followed wrote anew: that of the entity itself, and those of all below
-    /// it; none where it has the parents that it had. A change that was refused leaves the number as it was.
+    /// Returns how many lists the last change that was followed wrote anew: that of the entity itself, and those of all
+    /// below it; none where it has the parents that it had. A change that was refused leaves the number as it was.
     pub fn touched(&self) -> usize {
         self.touched
     }

@@ -25,7 +25,7 @@ pub(crate) fn both<T: Drop, U: Drop>(
     }
 }
 
-/// A value that was worked on, where the work was done.
+/// Returns a value that was worked on, where the work was done.
 pub(crate) fn finished<T: Drop>(value: T, done: Result<(), NoMemory>) -> Result<T, NoMemory> {
     match done {
         Ok(()) => Ok(value),
@@ -33,7 +33,7 @@ pub(crate) fn finished<T: Drop>(value: T, done: Result<(), NoMemory>) -> Result<
     }
 }
 
-/// What came of it, once nothing more is kept.
+/// Returns what came of it, once nothing more is kept.
 pub(crate) fn ended<T: Drop, R>(_kept: T, came: R) -> R {
     came
 }
@@ -49,7 +49,7 @@ fn is_less<T: Ord>(less: &T, greater: &T) -> bool {
         && greater.partial_cmp(less) == Some(Ordering::Greater)
 }
 
-/// The first of two is less, by each comparison.
+/// Returns the first of two is less, by each comparison.
 pub(crate) fn ascend<T: Ord + Drop>(
     rt: &impl Abort,
     pair: Result<(T, T), NoMemory>,
@@ -82,7 +82,7 @@ fn is_same<T: PartialEq + Drop>(
     Ok(())
 }
 
-/// A copy is equal to what it was made of, which stays as it was where memory was refused.
+/// Returns a copy is equal to what it was made of, which stays as it was where memory was refused.
 pub(crate) fn is_copied<T: Copied + PartialEq + Drop>(
     rt: &impl Abort,
     alloc: Global,
@@ -101,7 +101,7 @@ fn some<T: Drop>(found: Result<Option<T>, NoMemory>) -> Result<T, NoMemory> {
     }
 }
 
-/// The entity of this type and id.
+/// Returns the entity of this type and id.
 pub(crate) fn uid_of(alloc: Global, type_name: &str, id: &str) -> Result<EntityUid, NoMemory> {
     let type_name = some(TypeName::parse(alloc, type_name));
     let (type_name, id) = both(type_name, SharedText::from_str(alloc, id))?;

@@ -1,7 +1,7 @@
 //! Stores: what is looked up, and how they are joined.
 use crate::shared::{both, ended, finished, holds, uid_of};
 use plain::{NoMemory, Text};
-use stamped_store::{Entry, PolicyStore, ReadText, SiteName, Stamp, Stamped, is_site_name, laws};
+use stamped_store::{Entry, PolicyStore, ReadText, SiteName, Stamp, Stamped, laws};
 use std::alloc::{AllocError, Global};
 use std::collections::btree_map::Iter;
 use std::process::Abort;
@@ -55,13 +55,6 @@ fn text_of(entry: &Entry<usize>) -> &str {
     }
 }
 
-fn is_of(entry: Option<&Entry<usize>>, row: Row<'_>) -> bool {
-    match entry {
-        Some(entry) => entry.stamp == stamp(row) && text_of(entry) == row.2,
-        None => false,
-    }
-}
-
 fn is_text_of(entry: Option<&Entry<usize>>, text: &str) -> bool {
     match entry {
         Some(entry) => text_of(entry) == text,
@@ -111,83 +104,6 @@ fn filled(alloc: Global, row: Row<'_>, names: &str) -> Result<Store, NoMemory> {
     let mut store = PolicyStore::new(alloc);
     let done = fill(alloc, &mut store, row, names);
     finished(store, done)
-}
-
-fn merge_one(
-    rt: &impl Abort,
-    alloc: Global,
-    store: &mut Store,
-    second: Row<'_>,
-    greater: Row<'_>,
-) -> Result<(), NoMemory> {
-    let other = filled(alloc, second, "p @x")?;
-    holds(rt, store.merge(other).is_ok(), "it is merged");
-    holds(rt, is_of(store.get_policy("p"), greater), greater.2);
-    Ok(())
-}
-
-fn merge_twice(
-    rt: &impl Abort,
-    alloc: Global,
-    store: &mut Store,
-    second: Row<'_>,
-    greater: Row<'_>,
-) -> Result<(), NoMemory> {
-    merge_one(rt, alloc, store, second, greater)?;
-    merge_one(rt, alloc, store, second, greater)
-}
-
-// The entry that a name has after another was merged, once and twice.
-fn stays(
-    rt: &impl Abort,
-    alloc: Global,
-    first: Row<'_>,
-    second: Row<'_>,
-    greater: Row<'_>,
-) -> Result<(), NoMemory> {
-    let mut store = filled(alloc, first, "p @x")?;
-    let came = merge_twice(rt, alloc, &mut store, second, greater);
-    ended(store, came)
-}
-
-// An entry as a row writes it: its count, its site, and its text in a word.
-fn row_of(written: &str) -> Row<'_> {
-    let (count, rest) = written.split_once(' ').unwrap_or((written, ""));
-    let (site, word) = rest.split_once(' ').unwrap_or((rest, ""));
-    let text = match word {
-        "permit" => PERMIT,
-        "forbid" => FORBID,
-        _ => "",
-    };
-    (count.parse::<u64>().unwrap_or(0), site, text)
-}
-
-// Two entries for one name, of which the first stays, in whatever order they come.
-fn first_stays(rt: &impl Abort, alloc: Global, rows: &str) -> Result<(), NoMemory> {
-    let (greater, less) = rows.split_once(" over ").unwrap_or((rows, ""));
-    let (greater, less) = (row_of(greater), row_of(less));
-    stays(rt, alloc, greater, less, greater)?;
-    stays(rt, alloc, less, greater, greater)
-}
-
-// Of one count the greater site is that whose name's bytes are.
-const GREATER: &str = "\
-    1 2 forbid over 1 1 permit/\
-    7 3 permit over 7 3 forbid/\
-    5 1 nothing over 4 2 permit/\
-    1 9 forbid over 1 10 permit/\
-    1 10 forbid over 1 00002 permit/\
-    1 b forbid over 1 00002 permit/\
-    1 ab forbid over 1 a permit/\
-    2 - nothing over 1 zzzzzzzzzzzzzzzzzzzzzzzzzzzzzzzz permit";
-
-#[test]
-fn the_greater_entry_stays(rt: HostRuntime) -> Result<(), NoMemory> {
-    let alloc = rt.alloc();
-    for rows in GREATER.split('/') {
-        first_stays(&rt, alloc, rows)?;
-    }
-    Ok(())
 }
 
 // How many entries have a stamp of count 9.
@@ -351,46 +267,6 @@ fn a_map_joins_its_values(rt: HostRuntime) -> Result<(), NoMemory> {
     let alloc = rt.alloc();
     let q = String::from_str(alloc, "q")?;
     join_maps(&rt, alloc, &q)
-}
-
-// Whether a text is the name of a site that is written as it stands.
-fn is_name(text: &str) -> bool {
-    match SiteName::parse(text) {
-        Some(site) => is_site_name(text) && site.as_str() == text,
-        None => false,
-    }
-}
-
-fn is_no_name(text: &str) -> bool {
-    !is_site_name(text) && SiteName::parse(text).is_none()
-}
-
-fn is_numbered(name: &str) -> bool {
-    let number = name.parse::<u16>().unwrap_or(0);
-    SiteName::from_number(number).as_str() == name
-}
-
-// Behind `#` stands the name of a number, behind `!` what is no name.
-fn is_told(row: &str) -> bool {
-    if let Some(name) = row.strip_prefix('#') {
-        return is_numbered(name);
-    }
-    match row.strip_prefix('!') {
-        Some(text) => is_no_name(text),
-        None => is_name(row),
-    }
-}
-
-const NAMES: &str = "\
-    1|00001|-|_|.|aZ9-_.|zzzzzzzzzzzzzzzzzzzzzzzzzzzzzzzz|\
-    !|!a b|!a/b|!é|!zzzzzzzzzzzzzzzzzzzzzzzzzzzzzzzzz|\
-    #00001|#00009|#00010|#00205|#04096|#65535";
-
-#[test]
-fn names_of_sites(rt: HostRuntime) {
-    for row in NAMES.split('|') {
-        holds(&rt, is_told(row), row);
-    }
 }
 
 #[test]

@@ -51,9 +51,9 @@ fn load_entities_if_named(
     }
 }
 
-/// The state of a site, as a message, once the policies of a file and the entities of an array are put into it, where
-/// they are given: each policy under its name in the file with its own text from the file, then each entity. It is
-/// what [`Site::state`] gives after these puts, and reads back as the store's updates.
+/// Returns the state of a site, as a message, once the policies of a file and the entities of an array are put into it,
+/// where they are given: each policy under its name in the file with its own text from the file, then each entity. It
+/// is what [`Site::state`] gives after these puts, and reads back as the store's updates.
 ///
 /// Refused whole, in this order: the file of policies (10 to 19, at a byte); the first policy whose put is refused, at
 /// its place in the file, from 0 (18 for a text of over 262,144 bytes, 40 to 46, 62); the array of entities (30 to 38,

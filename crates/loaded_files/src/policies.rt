@@ -30,7 +30,7 @@ fn put_policy(site: &mut Site, place: usize, id: &str, text: &str) -> Result<(),
     }
 }
 
-/// The texts of the policies of a file that is UTF-8 and has tokens.
+/// Returns the texts of the policies of a file that is UTF-8 and has tokens.
 fn texts_of<'t>(alloc: Global, bytes: &'t [u8]) -> Result<Vec<&'t str>, NoMemory>
     requires { HasTokens bytes.now }
     ensures { IfOk result (λ texts. AreTextsOf bytes.now (map (λ t. t.now) texts.items)) }

@@ -6,7 +6,8 @@ use decision_texts::Refusal;
 use plain::NoMemory;
 use site::SiteFault;
 
-/// A fault of a put, told at the place of what was put in its file, counted from 0. Want of memory has no place.
+/// Returns a fault of a put, told at the place of what was put in its file, counted from 0. Want of memory has no
+/// place.
 pub(crate) fn put_refusal(place: usize, fault: SiteFault) -> Refusal
     ensures { result ≡ put_refusal place fault }
 {

@@ -20,7 +20,7 @@ use std::alloc::Global;
 use stored_texts::SchemaTexts;
 use sync_messages::MessageFault;
 
-/// A fault of a message (50 to 56, or 1), with its place and the number of the refusal inside.
+/// Returns a fault of a message (50 to 56, or 1), with its place and the number of the refusal inside.
 pub fn message_refusal(fault: MessageFault) -> Refusal
     ensures { result ≡ message_refusal fault }
 {
@@ -31,7 +31,7 @@ pub fn message_refusal(fault: MessageFault) -> Refusal
     }
 }
 
-/// The updates of a message, or its first fault.
+/// Returns the updates of a message, or its first fault.
 fn updates_of(
     alloc: Global,
     schema: &Schema,
@@ -119,8 +119,8 @@ pub fn join_message(
     Ok(Joined { store, taken })
 }
 
-/// A store as a state of the schema. Where its updates are those of messages of the schema, it is read back as them.
-/// Fails for memory alone.
+/// Returns a store as a state of the schema. Where its updates are those of messages of the schema, it is read back as
+/// them. Fails for memory alone.
 pub fn state_of(
     alloc: Global,
     schema: &Schema,

@@ -14,8 +14,8 @@ use stamped_store::laws::updates_have_one_store;
 use state_messages::messages_have_one_outcome;
 use stored_texts::{SchemaTexts, stored_texts_have_one_reading};
 
-/// That two messages come to the same state whichever way round they are merged, again with either of them, and, with a
-/// third, in whatever groups.
+/// Proves that two messages come to the same state whichever way round they are merged, again with either of them, and,
+/// with a third, in whatever groups.
 pub fn order_and_repeats_do_not_matter()
     ensures order { OrderDoesNotMatter }
     ensures repeats { RepeatsDoNotMatter }
@@ -25,8 +25,8 @@ pub fn order_and_repeats_do_not_matter()
     bytes_have_one_outcome();
 }
 
-/// That the texts of a schema and of two messages come to exactly one thing: a state or a refusal. It is said of bytes
-/// that state a schema, as it is kept, and of those that state none.
+/// Proves that the texts of a schema and of two messages come to exactly one thing: a state or a refusal. It is said of
+/// bytes that state a schema, as it is kept, and of those that state none.
 pub fn merges_have_one_outcome()
     ensures stated { (bytes f g : List ℕ) (schema : SchemaKept) → IsSchemaOf bytes (schema_view schema)
         → HaveOneOutcome bytes f g }

@@ -13,7 +13,7 @@ use stamped_store::PolicyStore;
 use stamped_store::laws::updates_have_one_store;
 use std::alloc::Global;
 
-/// The state of the store of the updates of two messages of a schema, or the refusal of the first that is none.
+/// Returns the state of the store of the updates of two messages of a schema, or the refusal of the first that is none.
 fn merge_under(alloc: Global, schema: &Schema, f: &[u8], g: &[u8]) -> Result<Vec<u8>, Refusal>
     ensures merged { IfOk result (λ b. IsMergedUnder (schema_view schema.now) f.now g.now b.items) }
     ensures refused { IfErr result
@@ -25,9 +25,9 @@ fn merge_under(alloc: Global, schema: &Schema, f: &[u8], g: &[u8]) -> Result<Vec
     Ok(state_of(alloc, schema, &both.store)?)
 }
 
-/// The state of the store of the updates of two messages, each a state or a delta, under the schema that bytes state.
-/// It is the same bytes whichever way round they are, and merged with either again; and it is read back as the updates
-/// of that store.
+/// Returns the state of the store of the updates of two messages, each a state or a delta, under the schema that bytes
+/// state. It is the same bytes whichever way round they are, and merged with either again; and it is read back as the
+/// updates of that store.
 ///
 /// Refused in this order: the schema (20 to 25, without a place), the first message, the second (both 50 to 56, with
 /// its place and the number of the refusal inside). `NoMemory` (1) may come at any point; then there is no state.

@@ -8,7 +8,7 @@ use plain::{NoMemory, Text};
 use std::alloc::Global;
 use values::{EntityUid, SharedText, TypeName};
 
-/// The type of the actions of a namespace.
+/// Returns the type of the actions of a namespace.
 pub fn action_type(alloc: Global, own: &Option<TypeName>) -> Result<TypeName, NoMemory>
     ensures { IfOk result (λ t. t ≡ action_type own.now) }
 {
@@ -23,7 +23,7 @@ fn action_uid(alloc: Global, type_name: TypeName, id: &Text) -> Result<EntityUid
     Ok(EntityUid { type_name, id })
 }
 
-/// The action of this type and id, where it is declared.
+/// Returns the action of this type and id, where it is declared.
 pub fn declared_action(
     alloc: Global,
     names: &Names,
@@ -39,7 +39,7 @@ pub fn declared_action(
     Ok(None)
 }
 
-/// The action that a type as written and an id mean: in the own namespace, then in the empty one.
+/// Returns the action that a type as written and an id mean: in the own namespace, then in the empty one.
 #[tactic(auto, unfolding(crate::specs::Actions::action_of_type))]
 pub fn find_action_of_type(
     alloc: Global,

@@ -25,14 +25,14 @@ pub struct Names {
     pub actions: BTreeSet<EntityUid>,
 }
 
-/// Whether a name has a namespace in it.
+/// Returns whether a name has a namespace in it.
 pub fn is_qualified(word: &str) -> bool
     ensures { result ≡ is_in_namespace word.now }
 {
     word.as_bytes().iter().any(|byte| *byte == b':')
 }
 
-/// A name in full, as it stands in its namespace; None is the empty namespace.
+/// Returns a name in full, as it stands in its namespace; None is the empty namespace.
 pub fn full_name(
     alloc: Global,
     own: &Option<TypeName>,
@@ -56,7 +56,7 @@ fn as_declared(declared: &BTreeSet<String>, word: &TypeName) -> Result<Option<Ty
     Ok(None)
 }
 
-/// The full name of the declaration that a word means in its namespace.
+/// Returns the full name of the declaration that a word means in its namespace.
 #[tactic(auto, unfolding(schema_types::specs::Names::found))]
 pub fn find(
     alloc: Global,
@@ -76,7 +76,7 @@ pub fn find(
     as_declared(declared, word)
 }
 
-/// The type that a word names without any declaration, if it does.
+/// Returns the type that a word names without any declaration, if it does.
 #[tactic(auto, unfolding(schema_types::specs::Names::built_in))]
 pub fn built_in(word: &str) -> Option<QualifiedType>
     ensures { option_map qualified_view result ≡ built_in_of word.now }
@@ -98,7 +98,7 @@ pub fn built_in(word: &str) -> Option<QualifiedType>
     }
 }
 
-/// Whether a word means an entity type, a primitive or an extension.
+/// Returns whether a word means an entity type, a primitive or an extension.
 pub fn is_other(
     alloc: Global,
     names: &Names,
@@ -163,7 +163,7 @@ fn resolve_common(
     }
 }
 
-/// The type with each name found, as a type that stands in the namespace `own`.
+/// Returns the type with each name found, as a type that stands in the namespace `own`.
 ///
 /// Refused where a name is declared nowhere.
 #[cycle(resolve)]

@@ -14,7 +14,7 @@ pub(crate) struct Step {
     followed: usize,
 }
 
-/// The places to which the edges of a place lead; none past the end.
+/// Returns the places to which the edges of a place lead; none past the end.
 fn ends_of(edges: &[Vec<usize>], place: usize) -> &[usize]
     ensures { result.now ≡ ends_at (graph_of edges.now) place }
 {
@@ -25,7 +25,7 @@ fn ends_of(edges: &[Vec<usize>], place: usize) -> &[usize]
     }
 }
 
-/// Whether a place was not seen before, which is seen from now on; nothing past the end.
+/// Returns whether a place was not seen before, which is seen from now on; nothing past the end.
 fn mark(seen: &mut Vec<bool>, place: usize) -> bool
     ensures new { result ≡ is_new seen.old.items place }
     ensures marks { seen.new.items ≡ slice_set seen.old.items place true }
@@ -104,7 +104,8 @@ fn none_seen(alloc: Global, places: usize) -> Result<Vec<bool>, NoMemory>
     Ok(vec![in alloc; false; places]?)
 }
 
-/// The places of a graph, each once, and behind those that its edges lead to, but for those that lead back to it.
+/// Returns the places of a graph, each once, and behind those that its edges lead to, but for those that lead back to
+/// it.
 ///
 /// An edge past the end leads nowhere. Takes time as there are places and edges. Fails for memory alone.
 pub fn ends_first(alloc: Global, edges: &[Vec<usize>]) -> Result<Vec<usize>, NoMemory>

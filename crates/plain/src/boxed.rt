@@ -21,14 +21,14 @@ impl<T> Model for Boxed<T> {
 }
 
 impl<T> Boxed<T> {
-    /// The value of a `Box`; takes no memory.
+    /// Returns the value of a `Box`; takes no memory.
     pub fn from_box(owner: Box<T>) -> Boxed<T>
         ensures { result ≡ owner.value }
     {
         Boxed { owner }
     }
 
-    /// The `Box` again; takes no memory.
+    /// Returns the `Box` again; takes no memory.
     pub fn into_box(self) -> Box<T>
         ensures { result.value ≡ self }
     {
@@ -36,7 +36,7 @@ impl<T> Boxed<T> {
         owner
     }
 
-    /// The value; takes no memory.
+    /// Returns the value; takes no memory.
     pub fn into_inner(self) -> T
         ensures { result ≡ self }
     {
@@ -44,7 +44,7 @@ impl<T> Boxed<T> {
         Box::into_inner(owner)
     }
 
-    /// The value, by reference; takes no memory.
+    /// Returns the value, by reference; takes no memory.
     pub fn get(&self) -> &T
         ensures { result.now ≡ self.now }
     {
@@ -53,7 +53,7 @@ impl<T> Boxed<T> {
 }
 
 impl<T: Drop> Boxed<T> {
-    /// The value in memory of its own, or `NoMemory`.
+    /// Returns the value in memory of its own, or `NoMemory`.
     pub fn new(alloc: Global, value: T) -> Result<Boxed<T>, NoMemory>
         ensures { IfOk result (λ b. b ≡ value) }
     {

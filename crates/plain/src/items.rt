@@ -30,7 +30,7 @@ impl<T> Model for Items<T> {
 }
 
 impl<T> Items<T> {
-    /// The empty list; takes no memory.
+    /// Returns the empty list; takes no memory.
     pub fn new(alloc: Global) -> Items<T>
         ensures { result ≡ [] }
     {
@@ -39,14 +39,14 @@ impl<T> Items<T> {
         }
     }
 
-    /// The items of a `Vec`; takes no memory.
+    /// Returns the items of a `Vec`; takes no memory.
     pub fn from_vec(list: Vec<T>) -> Items<T>
         ensures { result ≡ list.items }
     {
         Items { list }
     }
 
-    /// The `Vec` again; takes no memory.
+    /// Returns the `Vec` again; takes no memory.
     pub fn into_vec(self) -> Vec<T>
         ensures { result.items ≡ self }
     {
@@ -54,28 +54,28 @@ impl<T> Items<T> {
         list
     }
 
-    /// The items in order, as a slice; takes no memory.
+    /// Returns the items in order, as a slice; takes no memory.
     pub fn as_slice(&self) -> &[T]
         ensures { result.now ≡ self.now }
     {
         self.list.as_slice()
     }
 
-    /// How many items there are.
+    /// Returns how many items there are.
     pub fn len(&self) -> usize
         ensures { result ≡ length self.now }
     {
         self.list.len()
     }
 
-    /// Whether there is no item.
+    /// Returns whether there is no item.
     pub fn is_empty(&self) -> bool
         ensures { IsTrue result ↔ (self.now ≡ []) }
     {
         self.list.is_empty()
     }
 
-    /// The item at a place, counted from 0, or None at and behind the end.
+    /// Returns the item at a place, counted from 0, or None at and behind the end.
     pub fn get(&self, at: usize) -> Option<&T>
         ensures item { option_copied result ≡ slice_get self.now at }
         ensures within { OnSome result (at < length self.now) }
@@ -85,7 +85,7 @@ impl<T> Items<T> {
 }
 
 impl<T> Items<T> {
-    /// The items in order, one after the other; takes no memory.
+    /// Returns the items in order, one after the other; takes no memory.
     pub fn iter(&self) -> Iter<'_, T>
         ensures rest { iter_rest result ≡ self.now }
         ensures len { length (iter_rest result) < 2 ^ 64 }

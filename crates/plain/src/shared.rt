@@ -24,7 +24,7 @@ impl<T> Model for Shared<T> {
 }
 
 impl<T> Shared<T> {
-    /// The value, by reference; takes no memory.
+    /// Returns the value, by reference; takes no memory.
     pub fn get(&self) -> &T
         ensures { result.now ≡ self.now }
     {
@@ -33,7 +33,7 @@ impl<T> Shared<T> {
 }
 
 impl<T: Drop> Shared<T> {
-    /// The value in memory of its own with one holder, or `NoMemory`.
+    /// Returns the value in memory of its own with one holder, or `NoMemory`.
     pub fn new(alloc: Global, value: T) -> Result<Shared<T>, NoMemory>
         ensures { IfOk result (λ s. s ≡ value) }
     {
@@ -41,8 +41,8 @@ impl<T: Drop> Shared<T> {
         Ok(Shared { owner })
     }
 
-    /// The same value for one holder more. It takes no memory, and it is `NoMemory` only where the holders are as many
-    /// as can be counted: 2^64 - 1.
+    /// Returns the same value for one holder more. It takes no memory, and it is `NoMemory` only where the holders are
+    /// as many as can be counted: 2^64 - 1.
     pub fn share(&self) -> Result<Shared<T>, NoMemory>
         ensures { IfOk result (λ s. s ≡ self.now) }
     {

@@ -2,7 +2,7 @@
 ghost use Rattle.std.specs.Prelude.{◌≡◌, ◌≤◌, length};
 ghost use Rattle.plain.specs.Words.{is_letter, is_digit, is_word_byte, run};
 
-/// Whether a byte is `_` or an ASCII letter.
+/// Returns whether a byte is `_` or an ASCII letter.
 #[tactic(auto, unfolding(crate::specs::Words::is_letter))]
 pub fn letter(byte: u8) -> bool
     ensures { result ≡ is_letter byte }
@@ -10,7 +10,7 @@ pub fn letter(byte: u8) -> bool
     matches!(byte, b'_' | b'a'..=b'z' | b'A'..=b'Z')
 }
 
-/// Whether a byte is an ASCII digit.
+/// Returns whether a byte is an ASCII digit.
 #[tactic(auto, unfolding(crate::specs::Words::is_digit))]
 pub fn digit(byte: u8) -> bool
     ensures { result ≡ is_digit byte }
@@ -29,14 +29,14 @@ static WORD_BYTES: [u8; 256] = *b"\
     ::::::::::::::::::::::::::::::::\
     ::::::::::::::::::::::::::::::::";
 
-/// Whether a word goes on over this byte: one look into a table, since most bytes of a text are asked so.
+/// Returns whether a word goes on over this byte: one look into a table, since most bytes of a text are asked so.
 fn word_byte(byte: u8) -> bool
     ensures { result ≡ is_word_byte byte }
 {
     WORD_BYTES[byte as usize] != b':'
 }
 
-/// How many bytes of a word come first.
+/// Returns how many bytes of a word come first.
 pub fn word_len(text: &[u8]) -> usize
     ensures is { result ≡ run is_word_byte text.now }
     ensures within { result ≤ length text.now }
@@ -51,7 +51,7 @@ pub fn word_len(text: &[u8]) -> usize
     len
 }
 
-/// How many digits come first.
+/// Returns how many digits come first.
 pub fn digits_len(text: &[u8]) -> usize
     ensures is { result ≡ run is_digit text.now }
     ensures within { result ≤ length text.now }

@@ -17,7 +17,7 @@ use schema::Schema;
 use std::alloc::Global;
 use validator::{CheckFault, Verdict, check};
 
-/// What a policy comes to.
+/// Returns what a policy comes to.
 fn verdict_of(
     alloc: Global,
     schema: &Schema,
@@ -32,7 +32,7 @@ fn verdict_of(
     }
 }
 
-/// Whether a policy is refused.
+/// Returns whether a policy is refused.
 fn refuses(verdict: Result<Verdict, CheckFault>) -> bool
     ensures { result ≡ is_refusal (outcome_of verdict) }
 {
@@ -48,7 +48,7 @@ fn either(first: bool, second: bool) -> bool
     first || second
 }
 
-/// The lines of the policies, in their order, and whether one of them is refused.
+/// Returns the lines of the policies, in their order, and whether one of them is refused.
 fn check_each(
     alloc: Global,
     schema: &Schema,
@@ -67,7 +67,7 @@ fn check_each(
     Ok((text, some_refused))
 }
 
-/// The lines of a file's policies under a schema, and whether one of them is refused.
+/// Returns the lines of a file's policies under a schema, and whether one of them is refused.
 fn check_file(alloc: Global, schema: &Schema, policies: &[u8]) -> Result<(Vec<u8>, bool), Refusal>
     ensures told { IfOk result (λ told. AreReportsOnFile (schema_view schema.now) policies.now told.0.items told.1) }
     ensures refused { IfErr result (λ r. (r ≡ no_memory → ⊥) → ArePoliciesRefused policies.now r) }
@@ -76,8 +76,8 @@ fn check_file(alloc: Global, schema: &Schema, policies: &[u8]) -> Result<(Vec<u8
     Ok(check_each(alloc, schema, &policies)?)
 }
 
-/// What the policies of a file come to under a schema: a line for each, in the file's order, with a line end between
-/// each two, and whether one of them is refused.
+/// Returns what the policies of a file come to under a schema: a line for each, in the file's order, with a line end
+/// between each two, and whether one of them is refused.
 ///
 /// A line is `{"id":"policy0","verdict":"accepted"}`, the same with `"impossible"` where no request that conforms to
 /// the schema satisfies the policy, or `{"code":44,"id":"policy0","verdict":"refused"}`. Refused, in this order: the

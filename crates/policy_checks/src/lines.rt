@@ -41,7 +41,7 @@ fn verdict_value(
     }
 }
 
-/// The line of a policy, without its line end.
+/// Returns the line of a policy, without its line end.
 pub(crate) fn verdict_line(
     alloc: Global,
     id: &str,

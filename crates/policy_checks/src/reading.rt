@@ -10,7 +10,7 @@ use decision_texts::Refusal;
 use schema::{Schema, read_schema};
 use std::alloc::Global;
 
-/// The schema that bytes state, or the refusal (20 to 25), which has no place.
+/// Returns the schema that bytes state, or the refusal (20 to 25), which has no place.
 pub fn schema_in(alloc: Global, bytes: &[u8]) -> Result<Schema, Refusal>
     ensures read { IfOk result (λ s. IsSchemaOf bytes.now (schema_view s)) }
     ensures refused { IfErr result (λ r. (r ≡ no_memory → ⊥) → IsSchemaRefused bytes.now r) }

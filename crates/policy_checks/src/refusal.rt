@@ -7,7 +7,7 @@ use decision_texts::Refusal;
 use schema::SchemaFault;
 use validator::CheckFault;
 
-/// A fault of the schema (20 to 25, or 1), which has no place.
+/// Returns a fault of the schema (20 to 25, or 1), which has no place.
 pub fn schema_refusal(fault: SchemaFault) -> Refusal
     ensures { result ≡ schema_refusal fault }
 {
@@ -18,8 +18,8 @@ pub fn schema_refusal(fault: SchemaFault) -> Refusal
     }
 }
 
-/// A fault of a policy that does not pass (40 to 46): the place is the policy's in its file, counted from 0. Want of
-/// memory (1) has no place.
+/// Returns a fault of a policy that does not pass (40 to 46): the place is the policy's in its file, counted from 0.
+/// Want of memory (1) has no place.
 pub fn check_refusal(place: usize, fault: CheckFault) -> Refusal
     ensures { result ≡ check_refusal place fault }
 {

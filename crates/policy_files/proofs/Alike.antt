@@ -200,7 +200,7 @@ module _ (may : Bool) (inner : Lang _) (each : Kin inner inner) where
   like_kin : (x x' : _) → Kin (e.like may inner x) (e.like may inner x')
   like_kin x x' = behind_kin k.Like (both_kin (of_kin patterns) (λ text text'. empty_kin))
 
-  typed_kin : (x x' : _) → Kin (e.typed may inner x) (e.typed may inner x')
+  typed_kin : (x x' : _) → Kin (e.type_test may inner x) (e.type_test may inner x')
   typed_kin x x' = behind_kin k.Is (both_kin path_kin (λ name name'. both_kin (maybe_kin (behind_kin k.In sum_kin)) (λ y y'. empty_kin)))
 
   relation_kin : Kin (e.relation may inner) (e.relation may inner)

@@ -182,7 +182,7 @@ module _ (may : Bool) (inner : Lang _) (each : Lacks inner) where
   like_lacks : (x : _) → Lacks (e.like may inner x)
   like_lacks x = behind_lacks k.Like refl (both_lack (of_lacks patterns refl) (λ text. empty_lacks _))
 
-  typed_lacks : (x : _) → Lacks (e.typed may inner x)
+  typed_lacks : (x : _) → Lacks (e.type_test may inner x)
   typed_lacks x = behind_lacks k.Is refl (both_lack path_lacks (λ name. both_lack (maybe_lacks (behind_lacks k.In refl sum_lacks)) (λ y. empty_lacks _)))
 
   relation_lacks : Lacks (e.relation may inner)

@@ -8,14 +8,14 @@ use plain::NoMemory;
 use policy_tokens::{LexFault, Token, TokenKind, tokens};
 use std::alloc::Global;
 
-/// Whether a token of this kind ends a policy.
+/// Returns whether a token of this kind ends a policy.
 fn is_end(kind: TokenKind) -> bool
     ensures { result ≡ is_end kind }
 {
     matches!(kind, TokenKind::Semicolon)
 }
 
-/// The parts of a text that end with the tokens which end a policy, without the white space in front of each.
+/// Returns the parts of a text that end with the tokens which end a policy, without the white space in front of each.
 fn cut<'t>(alloc: Global, text: &'t str, tokens: &[Token]) -> Result<Vec<&'t str>, NoMemory>
     requires spelled { AllByRecursion (IsSpelledIn text.now) tokens.now }
     requires ordered { AreInOrder 0 tokens.now }
@@ -33,7 +33,7 @@ fn cut<'t>(alloc: Global, text: &'t str, tokens: &[Token]) -> Result<Vec<&'t str
     Ok(texts)
 }
 
-/// The text of each policy of a file, in the file's order, as it stands there.
+/// Returns the text of each policy of a file, in the file's order, as it stands there.
 ///
 /// A policy's text ends with its `;`, and begins where the one before ended, with the first character that is no white
 /// space: a comment in front of a policy is of its text. What stands behind the last `;` is of none. Nothing is read

@@ -35,11 +35,11 @@ use Rattle.policy_grammar.specs.declared.policy.EntityScope.TheVariants as entit
 use Rattle.policy_grammar.specs.declared.policy.ActionScope.{ActionScope}
 use Rattle.policy_grammar.specs.declared.policy.ActionScope.TheVariants as actions
 use Rattle.policy_grammar.specs.declared.policy.Policy.{Policy}
-use Rattle.policy_grammar.specs.declared.fault.ReadFault.{ReadFault}
-use Rattle.policy_grammar.specs.declared.fault.ReadFault.TheVariants as fault
+use Rattle.text_trees.specs.declared.fault.ReadFault.{ReadFault}
+use Rattle.text_trees.specs.declared.fault.ReadFault.TheVariants as fault
 use Rattle.policy_grammar.specs.Conditions.{conditions_of}
 use Rattle.policy_grammar.specs.CoreOf.{IsUidOf, AreUidsOf, IsEntityScopeOf, IsActionScopeOf, effect_word, IsCoreOf, AreCoresOf, IsValueOf, is_id, IsNameBy, IsNameOf, AreNamesOf}
-use Rattle.policy_grammar.specs.Faults.{of_desugaring}
+use Rattle.text_trees.specs.Faults.{of_desugaring}
 use Rattle.expressions.specs.Size.{most_height, most_forms}
 use Rattle.policy_grammar.specs.Limits.{Shape, height, forms, shape_of, IsSmallShape, IsSmallTree, IsId, most_id_bytes, most_policy_bytes, most_file_bytes}
 use Rattle.policy_grammar.specs.PolicyText.{Derives, byte_of, IsUnread, IsReportedOf, tree_faults, file_faults, IsPolicyOf, HasNoPolicy, ArePoliciesOf, HaveNoPolicies, IsUidText, IsUidRefused, IsPolicyText, IsPolicyRefused, IsFileRefused}

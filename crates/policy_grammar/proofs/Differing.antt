@@ -8,7 +8,7 @@ use Rattle.desugaring.specs.declared.fault.DesugarFault.TheVariants as desugar
 use Rattle.desugaring.specs.Refused.{at, LeastIsLeast}
 use Rattle.desugaring.specs.Repeats.{NameAt, places_of, repeats}
 use Rattle.policy_grammar.specs.CoreOf.{IsCoreOf}
-use Rattle.policy_grammar.specs.Faults.{place_of, of_desugaring}
+use Rattle.text_trees.specs.Faults.{place_of, of_desugaring}
 use Rattle.policy_grammar.specs.PolicyText.{tree_faults}
 use Rattle.policy_grammar.specs.Repeats.{start_of, policy_names}
 use Rattle.policy_grammar.specs.Unique.{ReportedIsLeast, EachIsNamed, NamesDiffer}

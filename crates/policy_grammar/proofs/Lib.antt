@@ -1,5 +1,4 @@
 pub mod Lists
-pub mod Marking
 pub mod Doubtful
 pub mod Naming
 pub mod Joining

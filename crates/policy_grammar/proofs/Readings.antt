@@ -12,15 +12,15 @@ use Rattle.policy_syntax.specs.passed_on.expression_syntax.{nesting_limit}
 use Rattle.policy_syntax.specs.Grammar as grammar
 use Rattle.token_readers.specs.Reads.{IsRefusedWithin, HasOneTree, HasOneAnswer, HasOneAnswerWithin}
 use Rattle.policy_grammar.specs.declared.policy.Policy.{Policy}
-use Rattle.policy_grammar.specs.declared.fault.ReadFault.{ReadFault}
-use Rattle.policy_grammar.specs.declared.fault.ReadFault.TheVariants as fault
+use Rattle.text_trees.specs.declared.fault.ReadFault.{ReadFault}
+use Rattle.text_trees.specs.declared.fault.ReadFault.TheVariants as fault
 use Rattle.policy_grammar.specs.CoreOf.{IsUidOf, AreNamesOf}
 use Rattle.desugaring.specs.declared.fault.DesugarFault.{DesugarFault}
 use Rattle.desugaring.specs.Refused.{least}
-use Rattle.policy_grammar.specs.Faults.{of_desugaring}
+use Rattle.text_trees.specs.Faults.{of_desugaring}
 use Rattle.policy_grammar.specs.Limits.{most_policy_bytes, most_file_bytes, IsId, IsSmallTree}
 use Rattle.policy_grammar.specs.PolicyText.{Derives, IsUnread, IsUidText, IsUidRefused, IsPolicyOf, IsPolicyText, tree_faults, file_faults, IsReportedOf, IsOverLimit, AreOverLimits, HasNoPolicy, IsPolicyRefused, ArePoliciesOf, HaveNoPolicies, IsFileRefused}
-use Rattle.policy_grammar.specs.inner.Parts.{refusal_of}
+use Rattle.text_trees.specs.inner.Parts.{refusal_of}
 use Rattle.policy_grammar.specs.Unique.{HasOneReading, IsFileOf}
 use Rattle.policy_grammar.proofs.Cores.{uid-same, core-same, names-same, cores-same}
 use Rattle.policy_grammar.proofs.Sizes.{small_tree, small_trees}

@@ -1,23 +1,17 @@
 -- From the refusal of trees to the refusal of their text.
-use Rattle.std.proofs.Common.{◌≡◌, ◌↔◌, ℕ, Bool, true, false, IsTrue, List, length, Result, Ok, Err, IfOk, IfErr, ◌⊎◌, ◌∙◌, refl, sym, subst, inl, inr}
+use Rattle.std.proofs.Common.{◌≡◌, ◌↔◌, ℕ, Bool, true, false, IsTrue, List, length, Result, Ok, Err, IfOk, IfErr, ◌⊎◌, ◌∙◌, inr}
 use Rattle.std.specs.List.{enumerate_from}
 use Rattle.std.proofs.lemmas.List.FromFn.{length-enumerate_from}
 use Rattle.std.proofs.lemmas.Slice.Zip.{AllZip-long}
-use Rattle.policy_tokens.specs.declared.token.Token.{Token}
-use Rattle.token_readers.specs.declared.fault.SyntaxFault.{SyntaxFault}
-use Rattle.token_readers.specs.declared.fault.SyntaxFault.TheVariants as syntax
-use Rattle.token_readers.specs.Lang.{Lang}
 use Rattle.policy_syntax.specs.passed_on.expression_syntax.{nesting_limit}
-use Rattle.token_readers.specs.Reads.{IsRefusedWithin}
 use Rattle.policy_syntax.specs.declared.tree.PolicyTree.{PolicyTree}
 use Rattle.policy_syntax.specs.Grammar as grammar
 use Rattle.policy_grammar.specs.declared.policy.Policy.{Policy}
-use Rattle.policy_grammar.specs.declared.fault.ReadFault.{ReadFault}
-use Rattle.policy_grammar.specs.declared.fault.ReadFault.TheVariants as fault
+use Rattle.text_trees.specs.declared.fault.ReadFault.{ReadFault}
+use Rattle.text_trees.specs.declared.fault.ReadFault.TheVariants as fault
 use Rattle.policy_grammar.specs.CoreOf.{IsNameOf, AreNamesOf}
 use Rattle.policy_grammar.specs.Limits.{most_policy_bytes, most_file_bytes}
-use Rattle.policy_grammar.specs.PolicyText.{Derives, IsUnread, HasNoPolicy, HaveNoPolicies, IsPolicyOf, IsPolicyText, IsPolicyRefused, IsFileRefused, OrNoMemory}
-use Rattle.policy_grammar.specs.inner.Parts.{LexedIn, refusal_of}
+use Rattle.policy_grammar.specs.PolicyText.{Derives, HasNoPolicy, HaveNoPolicies, IsPolicyOf, IsPolicyText, IsPolicyRefused, IsFileRefused, OrNoMemory}
 
 pub refuted : (P : Type 0) (b : Bool) → (IsTrue b ↔ P) → b ≡ false → P → ⊥
 refuted P b iff no' p = let yes' : b ≡ true = iff.1 p in absurd (cc)
@@ -51,15 +45,3 @@ pub file-refused : {A : Type 0} (text : List ℕ) (trees : List PolicyTree) (nam
     AreNamesOf text trees names → (r : Result A ReadFault) → IfErr r (OrNoMemory (HaveNoPolicies text trees names)) → IfErr r (OrNoMemory (IsFileRefused text))
 file-refused text trees names derives named (Ok x) none = tt
 file-refused text trees names derives named (Err why) none = file-why text trees names derives named why none
-
--- from the refusal of tokens to the refusal of their text
-module _ {A : Type 0} (L K : Lang A) (most : ℕ) (text : List ℕ) (tokens : List Token) (l : LexedIn most text tokens) where
-  stopped : (e : SyntaxFault) → IsRefusedWithin L K tokens e → OrNoMemory (IsUnread L K most text) (refusal_of text tokens e)
-  stopped syntax.NoMemory r = tt
-  stopped (syntax.Unexpected place) r = record { short = l.short; tokens = tokens; lexed = l.lexed; place = place; refused = r; byte = refl }
-  stopped (syntax.Slot place) r = record { short = l.short; tokens = tokens; lexed = l.lexed; place = place; refused = r; byte = refl }
-  stopped (syntax.TooDeep place) r = record { short = l.short; tokens = tokens; lexed = l.lexed; place = place; refused = r; byte = refl }
-
-  pub unread : (e : SyntaxFault) → (e ≡ syntax.NoMemory) ⊎ IsRefusedWithin L K tokens e → OrNoMemory (IsUnread L K most text) (refusal_of text tokens e)
-  unread e (inl none) = subst (λ f. OrNoMemory (IsUnread L K most text) (refusal_of text tokens f)) (sym none) tt
-  unread e (inr r) = stopped e r

@@ -9,8 +9,8 @@ use Rattle.desugaring.specs.declared.measure.Measure.{Measure}
 use Rattle.desugaring.specs.Measured.{of}
 use Rattle.desugaring.specs.Refused.{earlier_of, least, LeastOfBoth}
 use Rattle.desugaring.specs.Repeats.{repeat_faults}
-use Rattle.policy_grammar.specs.declared.fault.ReadFault.{ReadFault}
-use Rattle.policy_grammar.specs.declared.fault.ReadFault.TheVariants as fault
+use Rattle.text_trees.specs.declared.fault.ReadFault.{ReadFault}
+use Rattle.text_trees.specs.declared.fault.ReadFault.TheVariants as fault
 use Rattle.policy_grammar.specs.declared.verdict.Verdict.{Verdict}
 use Rattle.policy_grammar.specs.Conditions.{conditions_of, condition_faults}
 use Rattle.policy_grammar.specs.Limits.{IsSmallOver, IsSmallTree}

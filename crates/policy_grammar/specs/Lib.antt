@@ -1,4 +1,3 @@
-pub mod Faults
 pub mod Whole
 pub mod Conditions
 pub mod CoreOf
@@ -7,3 +6,5 @@ pub mod Repeats
 pub mod PolicyText
 pub mod inner
 pub mod Unique
+-- what crates above cite of `text_trees`, passed on
+pub use Rattle.text_trees.specs.Faults

@@ -10,6 +10,7 @@ use Rattle.policy_syntax.specs.declared.tree.ActionTree.TheVariants as action
 use Rattle.policy_syntax.specs.declared.tree.PolicyTree.{PolicyTree}
 use Rattle.expressions.specs.Size as size
 use Rattle.expressions.specs.Size.{most_height, most_forms}
+pub use Rattle.text_trees.specs.Texts.{most_policy_bytes, most_file_bytes}
 use Rattle.policy_grammar.specs.declared.policy.Policy.{Policy}
 use Rattle.policy_grammar.specs.Whole.{expression_of}
 use Rattle.policy_grammar.specs.Conditions.{conditions_of}
@@ -67,15 +68,9 @@ shape_of text tree =
     let e = conditions_of text tree.conditions in
     shape_over tree (sized (size.height e) (size.forms e))
 
--- the greatest lengths, in bytes, of an id, a policy text and a file
+-- the greatest length of an id, in bytes
 abbrev pub most_id_bytes : ℕ
 most_id_bytes = 256
-
-abbrev pub most_policy_bytes : ℕ
-most_policy_bytes = 262_144
-
-abbrev pub most_file_bytes : ℕ
-most_file_bytes = 8_388_608
 
 abbrev pub IsSmallShape : Shape → Type 0
 IsSmallShape shape = (height shape ≤ most_height) × (forms shape ≤ most_forms)

@@ -1,37 +1,26 @@
 -- What a text is read as, and why it is refused: lexing, then the grammar, then the core, within the limits.
 -- Source: Cedar reference guide 4.0, "Grammar specification for Cedar policy syntax". The refusals and their order
 -- are rules of this product.
-use Rattle.std.specs.Prelude.{◌≡◌, ◌⊎◌, ℕ, ◌≤◌, ◌<◌, List, [], length, Option, Some, None, slice_get, All, ◌++◌}
+use Rattle.std.specs.Prelude.{◌≡◌, ◌⊎◌, ℕ, List, [], Some, All, ◌++◌}
 use Rattle.std.specs.List.{AllByRecursion, flat_map}
 use Rattle.values.specs.declared.entity_uid.EntityUid.{EntityUid}
-use Rattle.policy_tokens.specs.declared.token.Token.{Token}
-use Rattle.policy_tokens.specs.Lexing.{IsLexed, IsBadAt}
 use Rattle.token_readers.specs.declared.tree.UidTree.{UidTree}
 use Rattle.policy_syntax.specs.declared.tree.PolicyTree.{PolicyTree}
-use Rattle.token_readers.specs.declared.fault.SyntaxFault.{SyntaxFault}
-use Rattle.token_readers.specs.declared.fault.SyntaxFault.TheVariants as syntax
-use Rattle.token_readers.specs.Lang.{Lang, at_any}
+use Rattle.token_readers.specs.Lang.{at_any}
 use Rattle.policy_syntax.specs.passed_on.expression_syntax.{nesting_limit}
 use Rattle.policy_syntax.specs.Grammar as grammar
-use Rattle.token_readers.specs.Reads.{IsRefusedWithin}
+pub use Rattle.text_trees.specs.Texts.{Derives, byte_of, StopsAt, IsUnread, OrNoMemory}
 use Rattle.desugaring.specs.declared.fault.DesugarFault.{DesugarFault}
 use Rattle.desugaring.specs.Refused.{least}
 use Rattle.desugaring.specs.Repeats.{repeat_faults}
 use Rattle.policy_grammar.specs.declared.policy.Policy.{Policy}
-use Rattle.policy_grammar.specs.declared.fault.ReadFault.{ReadFault}
-use Rattle.policy_grammar.specs.declared.fault.ReadFault.TheVariants as fault
+use Rattle.text_trees.specs.declared.fault.ReadFault.{ReadFault}
+use Rattle.text_trees.specs.declared.fault.ReadFault.TheVariants as fault
 use Rattle.policy_grammar.specs.Conditions.{condition_faults}
 use Rattle.policy_grammar.specs.CoreOf.{IsUidOf, IsCoreOf, AreNamesOf, AreCoresOf}
-use Rattle.policy_grammar.specs.Faults.{of_desugaring}
+use Rattle.text_trees.specs.Faults.{of_desugaring}
 use Rattle.policy_grammar.specs.Limits.{IsSmallTree, IsSmallPolicy, IsId, most_policy_bytes, most_file_bytes}
 use Rattle.policy_grammar.specs.Repeats.{annotation_keys, policy_names}
-
--- The text is no longer than so many bytes, and its tokens derive the tree.
-pub record Derives {A : Type 0} (L : Lang A) (most : ℕ) (text : List ℕ) (tree : A) : Type 0 where
-  pub short : length text ≤ most
-  pub tokens : List Token
-  pub lexed : IsLexed text tokens
-  pub derived : L tokens tree
 
 -- The faults of a policy's tree: annotations that stand again, and those of its conditions.
 abbrev pub tree_faults : List ℕ → PolicyTree → List DesugarFault
@@ -76,34 +65,6 @@ pub record IsPolicyFile (text : List ℕ) (names : List (List ℕ)) (policies : 
 
 -- The refusals, in their order: each says that those before it are not due. None is for want of memory, which says
 -- nothing of a text.
-
--- the byte at which this token starts, or the text's length where there is none
-abbrev pub byte_of : List ℕ → Option Token → ℕ
-byte_of text None = length text
-byte_of text (Some token) = token.start
-
--- The tokens leave the language at the token that starts at this byte, or with the text's end: those before it begin
--- some text of the language, and with it they begin none. An example: those of `permit(principal, action);` leave it at
--- `)`, byte 24: `permit(principal, action` begins policies, and with `)` behind it none. K is the language without a
--- limit on nesting, which is 64 levels.
-pub record StopsAt {A : Type 0} (L K : Lang A) (most : ℕ) (text : List ℕ) (why : ℕ → SyntaxFault) (at : ℕ) :
-    Type 0 where
-  pub short : length text ≤ most
-  pub tokens : List Token
-  pub lexed : IsLexed text tokens
-  pub place : ℕ
-  pub refused : IsRefusedWithin L K tokens (why place)
-  pub byte : at ≡ byte_of text (slice_get tokens place)
-
--- Nothing is derived. The text is too long; else no token begins at a byte; else nothing goes on with a token, or it
--- nests too deep.
-abbrev pub IsUnread : {A : Type 0} → Lang A → Lang A → ℕ → List ℕ → ReadFault → Type 0
-IsUnread L K most text fault.TooLong = most < length text
-IsUnread L K most text (fault.BadToken at) = (length text ≤ most) × IsBadAt text at
-IsUnread L K most text (fault.Unexpected at) = StopsAt L K most text syntax.Unexpected at
-IsUnread L K most text (fault.Slot at) = StopsAt L K most text syntax.Slot at
-IsUnread L K most text (fault.TooDeep at) = StopsAt L K most text syntax.TooDeep at
-IsUnread L K most text _ = ⊥
 
 -- Of these faults this one is told: the one at the least place, and of those at one place the one that is listed first.
 pub record IsReportedOf (faults : List DesugarFault) (why : ReadFault) : Type 0 where
@@ -152,8 +113,3 @@ IsFileRefused text why =
     ⊎ ((trees : List PolicyTree) × (names : List (List ℕ))
     × Derives (grammar.policies nesting_limit) most_file_bytes text trees × AreNamesOf text trees names
     × HaveNoPolicies text trees names why)
-
--- What code answers: such a refusal, or that memory was wanting.
-abbrev pub OrNoMemory : (ReadFault → Type 0) → ReadFault → Type 0
-OrNoMemory Refused fault.NoMemory = Unit {0}
-OrNoMemory Refused why = Refused why

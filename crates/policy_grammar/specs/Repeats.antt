@@ -4,17 +4,10 @@
 use Rattle.std.specs.Prelude.{ℕ, List, [], ◌∷◌, map}
 use Rattle.std.specs.List.{zip}
 use Rattle.policy_tokens.specs.declared.token.Token.{Token}
-use Rattle.policy_tokens.specs.Lexing.{spelling_of}
 use Rattle.policy_syntax.specs.declared.tree.Annotation.{Annotation}
 use Rattle.policy_syntax.specs.declared.tree.PolicyTree.{PolicyTree}
 use Rattle.desugaring.specs.Repeats.{NameAt}
-
--- the annotations of a policy, each by its key at its `@`
-abbrev pub key_at : List ℕ → Annotation → NameAt
-key_at text annotation = record { name = spelling_of text annotation.key; at = annotation.at.start }
-
-abbrev pub annotation_keys : List ℕ → PolicyTree → List NameAt
-annotation_keys text tree = map (key_at text) tree.annotations
+pub use Rattle.text_trees.specs.Annotations.{key_at, annotation_keys}
 
 -- where the first token of a policy stands
 abbrev pub start_behind : List Annotation → Token → ℕ

@@ -16,7 +16,7 @@ use plain::NoMemory;
 use policy_syntax::{Condition, ConditionWord};
 use std::alloc::Global;
 
-/// What is told of an expression behind this word.
+/// Returns what is told of an expression behind this word.
 fn judge_asked(word: ConditionWord, measure: Measure) -> Measure
     ensures { result ≡ judged_by word measure }
 {
@@ -36,8 +36,8 @@ fn judge_condition(alloc: Global, text: &str, condition: &Condition) -> Result<M
     Ok(judge_asked(condition.word, measure))
 }
 
-/// How large the core expression of the conditions is, and their fault at the least place. Takes memory for the keys
-/// of records alone.
+/// Returns how large the core expression of the conditions is, and their fault at the least place. Takes memory for the
+/// keys of records alone.
 pub(crate) fn judge_conditions(
     alloc: Global,
     text: &str,
@@ -66,7 +66,7 @@ pub(crate) fn judge_conditions(
     Ok(joined)
 }
 
-/// What is asked by an expression behind this word.
+/// Returns what is asked by an expression behind this word.
 fn asked(alloc: Global, word: ConditionWord, expr: Expr) -> Result<Expr, NoMemory>
     ensures { IfOk result (λ e. e ≡ asked_by word expr) }
 {
@@ -100,7 +100,7 @@ fn join_before(
     Expr::and(alloc, first, joined)
 }
 
-/// The core expression of the conditions. It is made of a policy that keeps to the limits alone.
+/// Returns the core expression of the conditions. It is made of a policy that keeps to the limits alone.
 pub(crate) fn build_conditions(
     alloc: Global,
     text: &str,

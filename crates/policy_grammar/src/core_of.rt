@@ -97,7 +97,7 @@ fn action_scope_of(alloc: Global, text: &str, tree: &ActionTree) -> Result<Actio
     }
 }
 
-/// The effect that a word says.
+/// Returns the effect that a word says.
 fn effect_of(kind: TokenKind) -> Effect
     requires { effects kind ≡ true }
     ensures { kind ≡ effect_word result }
@@ -129,7 +129,7 @@ fn scope_of(alloc: Global, text: &str, tree: &PolicyTree) -> Result<Scope, NoMem
     })
 }
 
-/// What a tree stands for.
+/// Returns what a tree stands for.
 pub(crate) fn core_of(alloc: Global, text: &str, tree: &PolicyTree) -> Result<Policy, NoMemory>
     requires stands { IsBuiltFrom text.now (λ tokens. WellFormedPolicy tokens tree.now) }
     requires sound { condition_faults text.now tree.now.conditions ≡ [] }

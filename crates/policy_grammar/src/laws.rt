@@ -7,8 +7,8 @@ use desugaring::least_fault_is_told;
 use policy_syntax::{reading_is_unique, trees_stand_in_tokens};
 use policy_tokens::{lexing_is_unique, strings_have_one_meaning};
 
-/// That each text comes to exactly one thing, what it stands for or a refusal: it does nothing, and its clauses are
-/// laws of the definitions.
+/// Proves that each text comes to exactly one thing, what it stands for or a refusal: it does nothing, and its clauses
+/// are laws of the definitions.
 pub fn texts_have_one_reading()
     ensures uid { HasOneReading IsUidText IsUidRefused }
     ensures policy { HasOneReading IsPolicyText IsPolicyRefused }
@@ -21,16 +21,16 @@ pub fn texts_have_one_reading()
     least_fault_is_told();
 }
 
-/// That the fault told of a tree or a file is the one at the least place: it does nothing, and its clause is a law of
-/// the definitions.
+/// Proves that the fault told of a tree or a file is the one at the least place: it does nothing, and its clause is a
+/// law of the definitions.
 pub fn told_fault_is_least()
     ensures { ReportedIsLeast }
 {
     least_fault_is_told();
 }
 
-/// That each policy of a file has a name, and no two have one name: it does nothing, and its clauses are laws of the
-/// definitions.
+/// Proves that each policy of a file has a name, and no two have one name: it does nothing, and its clauses are laws of
+/// the definitions.
 pub fn file_names_differ()
     ensures each { EachIsNamed }
     ensures differ { NamesDiffer }

@@ -7,12 +7,6 @@ use expressions::{FORMS_MAX, HEIGHT_MAX};
 use plain::Text;
 use policy_syntax::{ActionTree, PartTree, PolicyTree};
 
-/// The most bytes of a policy text, or of one uid.
-pub const MOST_POLICY_BYTES: usize = 262_144;
-
-/// The most bytes of a file of policies.
-pub const MOST_FILE_BYTES: usize = 8_388_608;
-
 /// The greatest height of the conditions' core expression: three `&&` stand above it, and no head is too high.
 const MOST_CONDITION_HEIGHT: u32 = HEIGHT_MAX - 3;
 
@@ -48,8 +42,8 @@ fn action_forms(action: &ActionTree) -> usize
     }
 }
 
-/// Whether a policy's core expression is low enough and has few enough forms, by the height and the forms of its
-/// conditions.
+/// Returns whether a policy's core expression is low enough and has few enough forms, by the height and the forms of
+/// its conditions.
 pub(crate) fn is_small(tree: &PolicyTree, height: u32, forms: u32) -> bool
     ensures { IsTrue result ↔ IsSmallOver tree.now height forms }
 {
@@ -60,7 +54,7 @@ pub(crate) fn is_small(tree: &PolicyTree, height: u32, forms: u32) -> bool
     height <= MOST_CONDITION_HEIGHT && head + forms as usize <= MOST_FORMS
 }
 
-/// Whether a policy may have this name in a file.
+/// Returns whether a policy may have this name in a file.
 pub(crate) fn is_id(name: &Text) -> bool
     ensures { IsTrue result ↔ IsId name.now }
 {
@@ -74,7 +68,7 @@ pub(crate) fn are_ids(names: &[Text]) -> bool
     names.iter().all(|name| is_id(name))
 }
 
-/// That a policy's size is told as that of its core expression, and that sizes are counted as the language's
+/// Proves that a policy's size is told as that of its core expression, and that sizes are counted as the language's
 /// rewriting says: it does nothing, and its clauses are laws of the definitions.
 pub fn heads_are_small()
     ensures sizes { ShapesAreSizes }

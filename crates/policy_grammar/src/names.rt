@@ -20,7 +20,7 @@ use std::collections::VecDeque;
 /// The bytes of the longest name by a place: `policy` and twenty digits.
 const MOST_PLACED_BYTES: usize = 26;
 
-/// The first annotation with the key `id`.
+/// Returns the first annotation with the key `id`.
 fn id_of<'a>(text: &str, annotations: &'a [Annotation]) -> Option<&'a Annotation>
     requires { IsBuiltFrom text.now (λ tokens. AllByRecursion (WellFormedAnnotation tokens) annotations.now) }
     ensures found { option_copied result ≡ find (is_id text.now) annotations.entry.now }
@@ -34,7 +34,7 @@ fn id_of<'a>(text: &str, annotations: &'a [Annotation]) -> Option<&'a Annotation
     None
 }
 
-/// Whether a policy is named by an `@id`, and not by its place.
+/// Returns whether a policy is named by an `@id`, and not by its place.
 pub(crate) fn has_id(text: &str, tree: &PolicyTree) -> bool
     requires { IsBuiltFrom text.now (λ tokens. WellFormedPolicy tokens tree.now) }
     ensures { result ≡ has_id text.now tree.now }
@@ -42,7 +42,7 @@ pub(crate) fn has_id(text: &str, tree: &PolicyTree) -> bool
     id_of(text, tree.annotations.as_slice()).is_some()
 }
 
-/// The text that an annotation has.
+/// Returns the text that an annotation has.
 fn value_of(alloc: Global, text: &str, annotation: &Annotation) -> Result<Text, NoMemory>
     requires { IsBuiltFrom text.now (λ tokens. WellFormedAnnotation tokens annotation.now) }
     ensures { IfOk result (IsValueOf text.now annotation.now.value) }
@@ -53,7 +53,7 @@ fn value_of(alloc: Global, text: &str, annotation: &Annotation) -> Result<Text, 
     }
 }
 
-/// The name that a policy has by its place: `policy` and the place in decimal. Memory is asked for once.
+/// Returns the name that a policy has by its place: `policy` and the place in decimal. Memory is asked for once.
 fn placed_name(alloc: Global, place: usize) -> Result<Text, NoMemory>
     ensures { IfOk result (λ name. name ≡ codes "policy" ++ decimal place) }
 {
@@ -64,7 +64,7 @@ fn placed_name(alloc: Global, place: usize) -> Result<Text, NoMemory>
     Ok(Text::from_string(name))
 }
 
-/// The name of the policy at this place of its file.
+/// Returns the name of the policy at this place of its file.
 fn name_of(alloc: Global, text: &str, place: usize, tree: &PolicyTree) -> Result<Text, NoMemory>
     requires { IsBuiltFrom text.now (λ tokens. WellFormedPolicy tokens tree.now) }
     ensures { IfOk result (IsNameOf text.now place tree.now) }
@@ -75,7 +75,7 @@ fn name_of(alloc: Global, text: &str, place: usize, tree: &PolicyTree) -> Result
     }
 }
 
-/// The names of a file's policies.
+/// Returns the names of a file's policies.
 pub(crate) fn names_of(
     alloc: Global,
     text: &str,
@@ -92,7 +92,7 @@ pub(crate) fn names_of(
     Ok(names)
 }
 
-/// The policies that a file's trees stand for, each with its name.
+/// Returns the policies that a file's trees stand for, each with its name.
 pub(crate) fn named_of(
     alloc: Global,
     text: &str,

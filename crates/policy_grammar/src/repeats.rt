@@ -1,4 +1,4 @@
-//! Which annotation or policy's name stands a second time, and where first.
+//! Which policy's name stands a second time in a file, and where first.
 ghost use Rattle.std.specs.Prelude.{◌≡◌, ◌||◌, IfOk, length};
 ghost use Rattle.std.specs.List.{AllByRecursion};
 ghost use Rattle.policy_syntax.specs.WellFormed.{WellFormedPolicy};
@@ -6,47 +6,14 @@ ghost use Rattle.policy_grammar.specs.CoreOf.{AreNamesOf};
 ghost use Rattle.desugaring.specs.Refused.{least};
 ghost use Rattle.desugaring.specs.Repeats.{repeat_faults, abstract_names};
 ghost use Rattle.desugaring.specs.BuiltFrom.{IsBuiltFrom};
-ghost use Rattle.policy_grammar.specs.Repeats.{annotation_keys, policy_names, start_of};
+ghost use Rattle.policy_grammar.specs.Repeats.{policy_names, start_of};
 ghost use Rattle.policy_grammar.specs.inner.Parts.{has_id, looks_placed, meets_place, doubtful_marks};
 
 use crate::names::has_id;
 use desugaring::{DesugarFault, NameAt, first_duplicate, repeats_stand_again};
 use plain::{NoMemory, Text};
 use policy_syntax::PolicyTree;
-use policy_tokens::spelling;
 use std::alloc::Global;
-
-/// The annotations of a policy, each at its `@`.
-fn names_of_annotations<'a>(
-    alloc: Global,
-    text: &'a str,
-    tree: &PolicyTree,
-) -> Result<Vec<NameAt<'a>>, NoMemory>
-    requires { IsBuiltFrom text.now (λ tokens. WellFormedPolicy tokens tree.now) }
-    ensures { IfOk result (λ marks. abstract_names marks.items ≡ annotation_keys text.entry.now tree.now) }
-{
-    let mut marks = Vec::new(alloc);
-    for annotation in tree.annotations.as_slice() {
-        marks.push(NameAt {
-            name: spelling(text, annotation.key),
-            at: annotation.at.start,
-        })?;
-    }
-    Ok(marks)
-}
-
-/// The fault of an annotation that stands again in its policy, the one at the least place.
-pub(crate) fn repeated_annotation(
-    alloc: Global,
-    text: &str,
-    tree: &PolicyTree,
-) -> Result<Option<DesugarFault>, NoMemory>
-    requires { IsBuiltFrom text.now (λ tokens. WellFormedPolicy tokens tree.now) }
-    ensures { IfOk result (λ fault. fault ≡ least (repeat_faults (annotation_keys text.now tree.now))) }
-{
-    let keys = names_of_annotations(alloc, text, tree)?;
-    first_duplicate(alloc, &keys)
-}
 
 /// Where the first token of a policy stands.
 fn start(tree: &PolicyTree) -> usize
@@ -58,7 +25,7 @@ fn start(tree: &PolicyTree) -> usize
     }
 }
 
-/// Whether a policy is named by an `@id` that begins as the names by places do.
+/// Returns whether a policy is named by an `@id` that begins as the names by places do.
 fn looks_placed(text: &str, name: &Text, tree: &PolicyTree) -> bool
     requires { IsBuiltFrom text.now (λ tokens. WellFormedPolicy tokens tree.now) }
     ensures { result ≡ looks_placed text.now name.now tree.now }
@@ -66,7 +33,7 @@ fn looks_placed(text: &str, name: &Text, tree: &PolicyTree) -> bool
     has_id(text, tree) && name.as_str().as_bytes().starts_with(b"policy")
 }
 
-/// Whether an `@id` of a file may be the name that a policy has by its place.
+/// Returns whether an `@id` of a file may be the name that a policy has by its place.
 fn meets_place(text: &str, names: &[Text], trees: &[PolicyTree]) -> bool
     requires same { length names.now ≡ length trees.now }
     requires stands { IsBuiltFrom text.now (λ tokens. AllByRecursion (WellFormedPolicy tokens) trees.now) }
@@ -80,7 +47,7 @@ fn meets_place(text: &str, names: &[Text], trees: &[PolicyTree]) -> bool
     false
 }
 
-/// Whether the name of a policy may stand twice.
+/// Returns whether the name of a policy may stand twice.
 fn is_doubtful(text: &str, wide: bool, tree: &PolicyTree) -> bool
     requires { IsBuiltFrom text.now (λ tokens. WellFormedPolicy tokens tree.now) }
     ensures { result ≡ (wide || has_id text.now tree.now) }
@@ -88,7 +55,8 @@ fn is_doubtful(text: &str, wide: bool, tree: &PolicyTree) -> bool
     wide || has_id(text, tree)
 }
 
-/// The policies whose names may stand twice, each at its first token: those that have an `@id`, or all (`wide`).
+/// Returns the policies whose names may stand twice, each at its first token: those that have an `@id`, or all
+/// (`wide`).
 fn doubtful_marks<'a>(
     alloc: Global,
     text: &str,
@@ -114,8 +82,8 @@ fn doubtful_marks<'a>(
     Ok(marks)
 }
 
-/// The fault of a policy's name that stands again in a file, the one at the least place. Names by places are all
-/// different.
+/// Returns the fault of a policy's name that stands again in a file, the one at the least place. Names by places are
+/// all different.
 pub(crate) fn repeated_name(
     alloc: Global,
     text: &str,

@@ -1,109 +1,29 @@
 //! Whole texts: a uid, a policy, a file of policies.
-ghost use Rattle.std.specs.Prelude.{◌≡◌, IfOk, IfErr, map, string_bytes, slice_get};
+ghost use Rattle.std.specs.Prelude.{IfOk, IfErr, map, string_bytes};
 ghost use Rattle.std.specs.List.{AllByRecursion};
-ghost use Rattle.policy_syntax.specs.passed_on.expression_syntax.{nesting_limit};
-ghost use Rattle.token_readers.specs.Lang.{at_any};
-ghost use Rattle.policy_syntax.specs.Grammar as grammar;
-ghost use Rattle.policy_syntax.specs.WellFormed.{WellFormedUid, WellFormedPolicy};
+ghost use Rattle.policy_syntax.specs.WellFormed.{WellFormedPolicy};
 ghost use Rattle.policy_grammar.specs.CoreOf.{AreNamesOf};
-ghost use Rattle.policy_grammar.specs.Limits.{most_policy_bytes, most_file_bytes};
-ghost use Rattle.policy_grammar.specs.PolicyText.{Derives, IsUidText, IsPolicyOf, HasNoPolicy, ArePoliciesOf};
+ghost use Rattle.policy_grammar.specs.PolicyText.{IsUidText, IsPolicyOf, HasNoPolicy, ArePoliciesOf};
 ghost use Rattle.policy_grammar.specs.PolicyText.{HaveNoPolicies};
-ghost use Rattle.policy_grammar.specs.PolicyText.{IsPolicyText, IsPolicyFile, IsUnread, IsUidRefused};
-ghost use Rattle.policy_grammar.specs.PolicyText.{IsPolicyRefused, IsFileRefused, OrNoMemory, byte_of};
+ghost use Rattle.policy_grammar.specs.PolicyText.{IsPolicyText, IsPolicyFile, IsUidRefused};
+ghost use Rattle.policy_grammar.specs.PolicyText.{IsPolicyRefused, IsFileRefused, OrNoMemory};
 ghost use Rattle.desugaring.specs.BuiltFrom.{IsBuiltFrom};
-ghost use Rattle.policy_grammar.specs.inner.Parts.{LexedIn, IsUnlexed, refusal_of};
 
 use crate::core_of::{core_of, uid_of};
-use crate::fault::ReadFault;
 use crate::held::after;
-use crate::limits::{MOST_FILE_BYTES, MOST_POLICY_BYTES, are_ids};
+use crate::limits::are_ids;
 use crate::names::{named_of, names_of};
 use crate::policy::Policy;
 use crate::repeats::repeated_name;
 use crate::verdict::{judge_policies, judge_policy};
 use desugaring::{earlier_of, least_fault_is_told};
 use plain::{NoMemory, Text};
-use policy_syntax::{PolicyTree, SyntaxFault, UidTree, read_policies, read_policy, read_uid};
-use policy_tokens::{Token, tokens};
+use policy_syntax::PolicyTree;
 use std::alloc::Global;
+use text_trees::{ReadFault, policy_tree, policy_trees, uid_tree};
 use values::EntityUid;
 
-/// The tokens of a text that is not too long.
-fn tokens_of(alloc: Global, text: &str, most: usize) -> Result<Vec<Token>, ReadFault>
-    ensures ok { IfOk result (λ tokens. LexedIn most text.now tokens.items) }
-    ensures err { IfErr result (OrNoMemory (IsUnlexed most text.now)) }
-{
-    if text.len() > most {
-        return Err(ReadFault::TooLong);
-    }
-    let found = tokens(alloc, text)?;
-    Ok(found)
-}
-
-/// The byte at which the token at an index starts, or the text's length behind the last.
-fn byte(text: &str, tokens: &[Token], place: usize) -> usize
-    ensures { result ≡ byte_of text.now (slice_get tokens.now place) }
-{
-    match tokens.get(place) {
-        Some(token) => token.start,
-        None => text.len(),
-    }
-}
-
-/// The refusal of tokens as one of their text.
-fn refusal(text: &str, tokens: &[Token], fault: SyntaxFault) -> ReadFault
-    ensures { result ≡ refusal_of text.now tokens.now fault }
-{
-    match fault {
-        SyntaxFault::NoMemory => ReadFault::NoMemory,
-        SyntaxFault::Unexpected(place) => ReadFault::Unexpected(byte(text, tokens, place)),
-        SyntaxFault::Slot(place) => ReadFault::Slot(byte(text, tokens, place)),
-        SyntaxFault::TooDeep(place) => ReadFault::TooDeep(byte(text, tokens, place)),
-    }
-}
-
-fn uid_tree(alloc: Global, text: &str) -> Result<UidTree, ReadFault>
-    ensures derives { IfOk result (Derives grammar.uid most_policy_bytes text.now) }
-    ensures stands { IfOk result (λ tree. IsBuiltFrom text.now (λ tokens. WellFormedUid tokens tree)) }
-    ensures err { IfErr result (OrNoMemory (IsUnread grammar.uid grammar.uid most_policy_bytes text.now)) }
-{
-    let tokens = tokens_of(alloc, text, MOST_POLICY_BYTES)?;
-    match read_uid(alloc, &tokens) {
-        Ok(tree) => Ok(tree),
-        Err(fault) => Err(refusal(text, &tokens, fault)),
-    }
-}
-
-fn policy_tree(alloc: Global, text: &str) -> Result<PolicyTree, ReadFault>
-    ensures derives { IfOk result (Derives (grammar.policy nesting_limit) most_policy_bytes text.now) }
-    ensures stands { IfOk result (λ tree. IsBuiltFrom text.now (λ tokens. WellFormedPolicy tokens tree)) }
-    ensures err { IfErr result
-        (OrNoMemory (IsUnread (grammar.policy nesting_limit) (at_any grammar.policy) most_policy_bytes text.now)) }
-{
-    let tokens = tokens_of(alloc, text, MOST_POLICY_BYTES)?;
-    match read_policy(alloc, &tokens) {
-        Ok(tree) => Ok(tree),
-        Err(fault) => Err(refusal(text, &tokens, fault)),
-    }
-}
-
-fn policy_trees(alloc: Global, text: &str) -> Result<Vec<PolicyTree>, ReadFault>
-    ensures derives { IfOk result
-        (λ trees. Derives (grammar.policies nesting_limit) most_file_bytes text.now trees.items) }
-    ensures stands { IfOk result
-        (λ trees. IsBuiltFrom text.now (λ tokens. AllByRecursion (WellFormedPolicy tokens) trees.items)) }
-    ensures err { IfErr result
-        (OrNoMemory (IsUnread (grammar.policies nesting_limit) (at_any grammar.policies) most_file_bytes text.now)) }
-{
-    let tokens = tokens_of(alloc, text, MOST_FILE_BYTES)?;
-    match read_policies(alloc, &tokens) {
-        Ok(trees) => Ok(trees),
-        Err(fault) => Err(refusal(text, &tokens, fault)),
-    }
-}
-
-/// The uid that a text is, as `User::"alice"`; blanks and comments may stand between its tokens.
+/// Returns the uid that a text is, as `User::"alice"`; blanks and comments may stand between its tokens.
 ///
 /// A text has at most 262,144 bytes. Refused, as every text here: `TooLong` first; then `BadToken` over the whole
 /// text; then `Unexpected` or `Slot`, the first met from the left.
@@ -115,7 +35,7 @@ pub fn parse_uid(alloc: Global, text: &str) -> Result<EntityUid, ReadFault>
     Ok(uid_of(alloc, text, &tree)?)
 }
 
-/// The policy that a tree stands for, within the limits.
+/// Returns the policy that a tree stands for, within the limits.
 fn policy_of(alloc: Global, text: &str, tree: &PolicyTree) -> Result<Policy, ReadFault>
     requires { IsBuiltFrom text.now (λ tokens. WellFormedPolicy tokens tree.now) }
     ensures read { IfOk result (IsPolicyOf text.now tree.now) }
@@ -132,7 +52,7 @@ fn policy_of(alloc: Global, text: &str, tree: &PolicyTree) -> Result<Policy, Rea
     Ok(core_of(alloc, text, tree)?)
 }
 
-/// The policy that a text is. Its annotations are not kept, and an `@id` is not judged.
+/// Returns the policy that a text is. Its annotations are not kept, and an `@id` is not judged.
 ///
 /// A text has at most 262,144 bytes. Refused: `TooLong` first; then `BadToken` over the whole text; then
 /// `Unexpected`, `Slot`, or `TooDeep` at a token that would open level 65 of an expression, the first met from the
@@ -150,7 +70,7 @@ pub fn parse_policy(alloc: Global, text: &str) -> Result<Policy, ReadFault>
     after(tree, made)
 }
 
-/// The policies that a file's trees stand for, each with its name, within the limits.
+/// Returns the policies that a file's trees stand for, each with its name, within the limits.
 fn policies_of(
     alloc: Global,
     text: &str,
@@ -179,8 +99,8 @@ fn policies_of(
     Ok(named_of(alloc, text, names, trees)?)
 }
 
-/// The policies of a file, each with its name: the value of its first `@id`, else `policyN` by its place in the file,
-/// counted from 0.
+/// Returns the policies of a file, each with its name: the value of its first `@id`, else `policyN` by its place in the
+/// file, counted from 0.
 ///
 /// A file has at most 8,388,608 bytes. Refused: `TooLong` first; then `BadToken` over the whole text; then
 /// `Unexpected`, `Slot`, or `TooDeep` at a token that would open level 65 of an expression, the first met from the

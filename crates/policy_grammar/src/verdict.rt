@@ -9,11 +9,11 @@ ghost use Rattle.policy_grammar.specs.inner.Parts.{ReportsPolicy, ReportsFile};
 
 use crate::conditions::judge_conditions;
 use crate::limits::is_small;
-use crate::repeats::repeated_annotation;
 use desugaring::{DesugarFault, earlier_of, least_fault_is_told};
 use plain::NoMemory;
 use policy_syntax::PolicyTree;
 use std::alloc::Global;
+use text_trees::repeated_annotation;
 
 /// What is told of one policy, or of several.
 #[derive(Clone, Copy)]
@@ -35,7 +35,7 @@ fn both(one: Verdict, other: Verdict) -> Verdict
     }
 }
 
-/// What is told of a policy. Takes memory for the keys of annotations and of records alone.
+/// Returns what is told of a policy. Takes memory for the keys of annotations and of records alone.
 pub(crate) fn judge_policy(
     alloc: Global,
     text: &str,
@@ -54,7 +54,7 @@ pub(crate) fn judge_policy(
     })
 }
 
-/// What is told of a file's policies.
+/// Returns what is told of a file's policies.
 pub(crate) fn judge_policies(
     alloc: Global,
     text: &str,

@@ -6,8 +6,8 @@ ghost use Rattle.expression_syntax.specs.Expressions.{nesting_limit};
 ghost use Rattle.token_readers.specs.Lang.{at_any};
 ghost use Rattle.token_readers.specs.Reads.{HasOneTree, HasOneAnswer, HasOneAnswerWithin, OpensNextLevel};
 
-/// That a list of tokens comes to one tree or one refusal, and that a token which is too deep opens
-/// the first level past the limit: it does nothing, and its clauses are laws of the definitions.
+/// Proves that a list of tokens comes to one tree or one refusal, and that a token which is too deep opens the first
+/// level past the limit: it does nothing, and its clauses are laws of the definitions.
 pub fn reading_is_unique()
     ensures one_policy { HasOneTree (policy nesting_limit) }
     ensures one_list { HasOneTree (policies nesting_limit) }
@@ -19,8 +19,8 @@ pub fn reading_is_unique()
     ensures list_too_deep { OpensNextLevel policies nesting_limit }
 {}
 
-/// That a tree is made of the tokens that derive it, each of a kind that its place asks for: it does nothing, and its
-/// clauses are laws of the definitions.
+/// Proves that a tree is made of the tokens that derive it, each of a kind that its place asks for: it does nothing,
+/// and its clauses are laws of the definitions.
 pub fn trees_stand_in_tokens()
     ensures policy { IsMadeOfTokens (policy nesting_limit) WellFormedPolicy }
     ensures list { IsMadeOfTokens (policies nesting_limit) (λ ts. AllByRecursion (WellFormedPolicy ts)) }

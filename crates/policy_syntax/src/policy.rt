@@ -101,7 +101,7 @@ fn scope_tail(alloc: Global, tokens: &mut Cursor<'_>) -> Result<Items<Condition>
     Ok(conditions)
 }
 
-/// What stands behind a policy's scope, with what stands before.
+/// Returns what stands behind a policy's scope, with what stands before.
 #[tactic(auto, using(crate::proofs::ScopeTail::tail_then))]
 fn policy_of(
     alloc: Global,
@@ -139,7 +139,7 @@ pub(crate) fn policy(alloc: Global, tokens: &mut Cursor<'_>) -> Result<PolicyTre
     policy_of(alloc, tokens, annotations, effect, found)
 }
 
-/// A file: any number of policies.
+/// Returns a file: any number of policies.
 #[tactic(auto, unfolding(crate::specs::inner::Parsing::policies))]
 pub(crate) fn policies(alloc: Global, tokens: &mut Cursor<'_>) -> Result<Items<PolicyTree>, Halt>
     ensures { ParsesTo (spec.policies nesting_limit tokens.old.rest.now) result tokens.new.rest.now }

@@ -14,7 +14,7 @@ use policy_tokens::Token;
 use std::alloc::Global;
 use token_readers::{Cursor, SyntaxFault, UidTree, read_to_end, uid};
 
-/// The policy that the tokens are, or the first token with which no policy goes on.
+/// Returns the policy that the tokens are, or the first token with which no policy goes on.
 pub fn read_policy(alloc: Global, tokens: &[Token]) -> Result<PolicyTree, SyntaxFault>
     ensures reads { ReadsWithin (grammar.policy nesting_limit) (at_any grammar.policy) tokens.now result }
     ensures stands { IfOk result (WellFormedPolicy tokens.now) }
@@ -24,8 +24,8 @@ pub fn read_policy(alloc: Global, tokens: &[Token]) -> Result<PolicyTree, Syntax
     read_to_end(tokens, &cursor, read)
 }
 
-/// The policies that the tokens are, in their order, or the first token with which no list of
-/// policies goes on. Takes time and memory in proportion to the tokens.
+/// Returns the policies that the tokens are, in their order, or the first token with which no list of policies goes on.
+/// Takes time and memory in proportion to the tokens.
 pub fn read_policies(alloc: Global, tokens: &[Token]) -> Result<Vec<PolicyTree>, SyntaxFault>
     ensures reads { ReadsWithin (grammar.policies nesting_limit) (at_any grammar.policies)
         tokens.now (with_items result) }
@@ -38,7 +38,7 @@ pub fn read_policies(alloc: Global, tokens: &[Token]) -> Result<Vec<PolicyTree>,
     Ok(found)
 }
 
-/// The uid that the tokens are, or the first token with which no uid goes on.
+/// Returns the uid that the tokens are, or the first token with which no uid goes on.
 pub fn read_uid(alloc: Global, tokens: &[Token]) -> Result<UidTree, SyntaxFault>
     ensures reads { Reads grammar.uid tokens.now result }
     ensures stands { IfOk result (WellFormedUid tokens.now) }

@@ -7,7 +7,7 @@ use crate::token::{Found, TokenKind};
 use crate::words::{pair, single, word_kind};
 use plain::words::{digit, digits_len, letter, word_len};
 
-/// The mark that a text begins with.
+/// Returns the mark that a text begins with.
 pub(crate) fn mark(text: &[u8]) -> Option<Found>
     ensures { result ≡ mark_of text.now }
 {
@@ -21,7 +21,7 @@ pub(crate) fn mark(text: &[u8]) -> Option<Found>
     Some(Found { kind, len: 1 })
 }
 
-/// The slot that a text begins with.
+/// Returns the slot that a text begins with.
 pub(crate) fn slot(text: &[u8]) -> Option<Found>
     requires { (rest : List ℕ) × (text.now ≡ codes "?" ++ rest) }
     ensures { ReportsToken text.now result }
@@ -41,7 +41,7 @@ pub(crate) fn slot(text: &[u8]) -> Option<Found>
     }
 }
 
-/// The token that a text begins with.
+/// Returns the token that a text begins with.
 pub(crate) fn front(text: &str) -> Option<Found>
     ensures { ReportsToken text.now result }
 {

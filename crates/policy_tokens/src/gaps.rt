@@ -4,7 +4,7 @@ ghost use Rattle.policy_tokens.specs.Lexing.{in_line};
 ghost use Rattle.plain.specs.Words.{run};
 ghost use Rattle.policy_tokens.specs.inner.Reading.{ReportsBlank, ReportsGap};
 
-/// Whether a comment goes on over this byte.
+/// Returns whether a comment goes on over this byte.
 #[tactic(auto, unfolding(crate::specs::Lexing::in_line))]
 fn in_line(byte: u8) -> bool
     ensures { result ≡ in_line byte }
@@ -12,7 +12,7 @@ fn in_line(byte: u8) -> bool
     !(byte == b'\n' || byte == b'\r')
 }
 
-/// How many bytes come before the end of the line.
+/// Returns how many bytes come before the end of the line.
 fn line_len(text: &[u8]) -> usize
     ensures is { result ≡ run in_line text.now }
     ensures within { result ≤ length text.now }
@@ -27,7 +27,7 @@ fn line_len(text: &[u8]) -> usize
     len
 }
 
-/// The blank that a text begins with: its number of bytes.
+/// Returns the blank that a text begins with: its number of bytes.
 fn blank(text: &str) -> Option<usize>
     ensures { ReportsBlank text.now result }
 {
@@ -41,7 +41,7 @@ fn blank(text: &str) -> Option<usize>
     }
 }
 
-/// The blank or comment that a text begins with: its number of bytes.
+/// Returns the blank or comment that a text begins with: its number of bytes.
 pub(crate) fn gap(text: &str) -> Option<usize>
     ensures { ReportsGap text.now result }
 {

@@ -9,7 +9,7 @@ use crate::gaps::gap;
 use crate::token::Token;
 use std::alloc::Global;
 
-/// The tokens of a text, each the longest that begins where it does, between blanks and comments.
+/// Returns the tokens of a text, each the longest that begins where it does, between blanks and comments.
 ///
 /// Takes time in proportion to the text, and memory for its tokens. `BadToken` tells the first byte
 /// at which neither a blank nor a comment nor a token begins: of a string that isn't closed, or has

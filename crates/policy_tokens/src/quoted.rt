@@ -9,7 +9,7 @@ ghost use Rattle.policy_tokens.specs.inner.Reading.{kind_with, ReportsEscape, Re
 use crate::piece::{Escape, Piece};
 use crate::token::{Found, TokenKind};
 
-/// What a letter or mark after a backslash stands for.
+/// Returns what a letter or mark after a backslash stands for.
 fn letter_meant(byte: u8) -> Option<char>
     ensures { result ≡ escaped byte }
 {
@@ -25,7 +25,7 @@ fn letter_meant(byte: u8) -> Option<char>
     }
 }
 
-/// Whether this is a hexadecimal digit.
+/// Returns whether this is a hexadecimal digit.
 #[tactic(auto, unfolding(crate::specs::Lexing::is_hex))]
 fn hex(byte: u8) -> bool
     ensures { result ≡ is_hex byte }
@@ -33,7 +33,7 @@ fn hex(byte: u8) -> bool
     (byte as char).to_digit(16).is_some()
 }
 
-/// How many hexadecimal digits come first.
+/// Returns how many hexadecimal digits come first.
 fn hex_len(text: &[u8]) -> usize
     ensures is { result ≡ run is_hex text.now }
     ensures within { result ≤ length text.now }
@@ -48,7 +48,7 @@ fn hex_len(text: &[u8]) -> usize
     len
 }
 
-/// The value of a hexadecimal digit.
+/// Returns the value of a hexadecimal digit.
 #[tactic(auto, unfolding(crate::specs::Lexing::is_hex))]
 fn hex_value(byte: u8) -> Option<u32>
     ensures { SomeIff result (digit_value byte < 16) (digit_value byte) }
@@ -56,7 +56,7 @@ fn hex_value(byte: u8) -> Option<u32>
     (byte as char).to_digit(16)
 }
 
-/// The escape that two hexadecimal digits up to 7F make after `\x`.
+/// Returns the escape that two hexadecimal digits up to 7F make after `\x`.
 fn short_escape(text: &[u8]) -> Option<Escape>
     ensures { ReportsEscape (backslash ∷ 120 ∷ text.now) result }
 {
@@ -73,7 +73,7 @@ fn short_escape(text: &[u8]) -> Option<Escape>
     })
 }
 
-/// The number that up to six hexadecimal digits write.
+/// Returns the number that up to six hexadecimal digits write.
 fn hex_number(digits: &[u8]) -> u32
     requires hex { AllAre is_hex digits.now }
     requires few { length digits.now ≤ 6 }
@@ -86,7 +86,7 @@ fn hex_number(digits: &[u8]) -> u32
     number
 }
 
-/// The escape that hexadecimal digits in braces make after `\u`.
+/// Returns the escape that hexadecimal digits in braces make after `\u`.
 fn long_escape(text: &[u8]) -> Option<Escape>
     ensures { ReportsEscape (backslash ∷ 117 ∷ text.now) result }
 {
@@ -116,7 +116,7 @@ fn long_escape(text: &[u8]) -> Option<Escape>
     })
 }
 
-/// The escape that a text begins with, at a backslash.
+/// Returns the escape that a text begins with, at a backslash.
 pub(crate) fn escape(text: &[u8]) -> Option<Escape>
     requires { (rest : List ℕ) × (text.now ≡ backslash ∷ rest) }
     ensures { ReportsEscape text.now result }
@@ -137,7 +137,7 @@ pub(crate) fn escape(text: &[u8]) -> Option<Escape>
     }
 }
 
-/// The kind of a quoted text that goes on with this piece.
+/// Returns the kind of a quoted text that goes on with this piece.
 fn kind_with(kind: TokenKind, piece: Piece) -> TokenKind
     ensures { result ≡ kind_with kind piece }
 {
@@ -147,7 +147,7 @@ fn kind_with(kind: TokenKind, piece: Piece) -> TokenKind
     }
 }
 
-/// The quoted text that a text begins with, at a quote.
+/// Returns the quoted text that a text begins with, at a quote.
 pub(crate) fn quoted(text: &[u8]) -> Option<Found>
     requires { (rest : List ℕ) × (text.now ≡ quote ∷ rest) }
     ensures { ReportsToken text.now result }

@@ -20,7 +20,7 @@ struct Literal {
     len: usize,
 }
 
-/// Whether a byte between quotes stands for itself; in a pattern a star doesn't.
+/// Returns whether a byte between quotes stands for itself; in a pattern a star doesn't.
 #[tactic(auto, unfolding(crate::specs::inner::Reading::is_plain))]
 fn plain_byte(in_pattern: bool, byte: u8) -> bool
     ensures { result ≡ is_plain in_pattern byte }
@@ -28,7 +28,7 @@ fn plain_byte(in_pattern: bool, byte: u8) -> bool
     !(byte == b'\\' || (in_pattern && byte == b'*'))
 }
 
-/// How many bytes that stand for themselves come first.
+/// Returns how many bytes that stand for themselves come first.
 fn plain_len(in_pattern: bool, text: &[u8]) -> usize
     ensures is { result ≡ run (is_plain in_pattern) text.now }
     ensures within { result ≤ length text.now }
@@ -43,7 +43,7 @@ fn plain_len(in_pattern: bool, text: &[u8]) -> usize
     len
 }
 
-/// The character that an escape stands for.
+/// Returns the character that an escape stands for.
 fn character(piece: Piece) -> char
     ensures { result ≡ character_of piece }
 {
@@ -53,7 +53,7 @@ fn character(piece: Piece) -> char
     }
 }
 
-/// What a body stands for, in a pattern up to its first wildcard.
+/// Returns what a body stands for, in a pattern up to its first wildcard.
 fn read_literal(alloc: Global, body: &str, in_pattern: bool) -> Result<Literal, NoMemory>
     requires { (ps : List Piece) × IsBody ps body.now }
     ensures { IfOk result (λ literal. IsLiteral in_pattern literal.value literal.len body.now) }
@@ -85,8 +85,8 @@ fn read_literal(alloc: Global, body: &str, in_pattern: bool) -> Result<Literal, 
     })
 }
 
-/// The value of a string: what is written between its quotes, with what each escape stands for in
-/// the escape's place.
+/// Returns the value of a string: what is written between its quotes, with what each escape stands for in the escape's
+/// place.
 ///
 /// What stands between two escapes is copied at once, so a string without escapes is copied whole.
 /// The only error is `NoMemory`.
@@ -99,7 +99,7 @@ pub fn decode_string(alloc: Global, text: &str, token: Token) -> Result<Text, No
     Ok(value)
 }
 
-/// What a string is as the pattern of `like`: its literal texts, with a wildcard between each two.
+/// Returns what a string is as the pattern of `like`: its literal texts, with a wildcard between each two.
 ///
 /// The wildcard is a `*` that stands for itself; one that an escape makes, as `\*`, is a literal
 /// star. A pattern without a wildcard is one text. The only error is `NoMemory`.

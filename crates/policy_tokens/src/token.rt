@@ -63,7 +63,7 @@ pub enum TokenKind {
 }
 
 impl TokenKind {
-    /// Whether a token of this kind is an identifier.
+    /// Returns whether a token of this kind is an identifier.
     pub fn is_ident(self) -> bool
         ensures { result ≡ is_ident self }
     {
@@ -81,7 +81,7 @@ impl TokenKind {
         )
     }
 
-    /// Whether a token of this kind is a reserved word.
+    /// Returns whether a token of this kind is a reserved word.
     pub fn is_reserved(self) -> bool
         ensures { result ≡ is_reserved self }
     {

@@ -4,7 +4,7 @@ ghost use Rattle.policy_tokens.specs.Lexing.{kind_of_word, listed, singles, pair
 
 use crate::token::TokenKind;
 
-/// The kind of a word: of one that is no word of the language, an identifier.
+/// Returns the kind of a word: of one that is no word of the language, an identifier.
 #[tactic(auto, unfolding(crate::specs::Lexing::kind_of_word))]
 pub(crate) fn word_kind(word: &str) -> TokenKind
     ensures { result ≡ kind_of_word word.now }
@@ -32,7 +32,7 @@ pub(crate) fn word_kind(word: &str) -> TokenKind
     }
 }
 
-/// The mark of one byte that this byte is.
+/// Returns the mark of one byte that this byte is.
 pub(crate) fn single(byte: u8) -> Option<TokenKind>
     ensures { result ≡ listed singles (byte ∷ []) }
 {
@@ -58,7 +58,7 @@ pub(crate) fn single(byte: u8) -> Option<TokenKind>
     }
 }
 
-/// The mark that these two bytes are.
+/// Returns the mark that these two bytes are.
 pub(crate) fn pair(first: u8, second: u8) -> Option<TokenKind>
     ensures { result ≡ listed pairs (first ∷ second ∷ []) }
 {

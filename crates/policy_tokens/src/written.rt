@@ -7,7 +7,7 @@ ghost use Rattle.policy_tokens.specs.Strings.{is_string};
 
 use crate::token::Token;
 
-/// What is written where a token stands in its text; takes no memory.
+/// Returns what is written where a token stands in its text; takes no memory.
 ///
 /// Whether it is an identifier or a reserved word is told by the token's kind.
 pub fn spelling(text: &str, token: Token) -> &str
@@ -19,7 +19,7 @@ pub fn spelling(text: &str, token: Token) -> &str
     &text[token.start..token.end]
 }
 
-/// What is written between the quotes of a string, escapes as they stand; takes no memory.
+/// Returns what is written between the quotes of a string, escapes as they stand; takes no memory.
 pub fn body(text: &str, token: Token) -> &str
     requires spelled { IsSpelledIn text.now token }
     requires string { is_string token.kind ≡ true }

@@ -32,7 +32,7 @@ pub struct Pulled {
     pub taken: usize,
 }
 
-/// The store of a state; empty where it is absent.
+/// Returns the store of a state; empty where it is absent.
 fn store_in(
     alloc: Global,
     schema: &Schema,
@@ -74,7 +74,7 @@ fn take_reply(
     Ok(Pulled { state, taken })
 }
 
-/// What was pulled, or why not, among the faults of a pull.
+/// Returns what was pulled, or why not, among the faults of a pull.
 fn told(pulled: Result<Pulled, Refusal>) -> Result<Pulled, PullFault>
     ensures { MatchResult pulled (λ p. result ≡ Ok p) (λ r. result ≡ Err (PullFault.Refused r)) }
 {

@@ -28,13 +28,6 @@ impl Line {
         self.is_whole = self.is_whole & is_pushed;
     }
 
-    /// Adds pieces, one behind the other.
-    pub(crate) fn push_all(&mut self, pieces: &[&str]) {
-        for piece in pieces {
-            self.push(piece);
-        }
-    }
-
     pub(crate) fn push_char(&mut self, letter: char) {
         let is_pushed = self.text.push(letter).is_ok();
         self.is_whole = self.is_whole & is_pushed;
@@ -48,7 +41,7 @@ impl Line {
         }
     }
 
-    /// The text, if there was memory for all of it.
+    /// Returns the text, if there was memory for all of it.
     pub(crate) fn ended(self) -> Result<String, NoMemory> {
         whole(self.text, self.is_whole)
     }
@@ -74,15 +67,7 @@ impl Bytes {
         self.is_whole = self.is_whole & is_pushed;
     }
 
-    /// Adds the bytes of a text that was made, if there was memory for it.
-    pub(crate) fn push_made(&mut self, made: Result<String, NoMemory>) {
-        match made {
-            Ok(piece) => self.push(piece.as_bytes()),
-            Err(_) => self.is_whole = false,
-        }
-    }
-
-    /// The bytes, if there was memory for all of them.
+    /// Returns the bytes, if there was memory for all of them.
     pub(crate) fn ended(self) -> Result<Vec<u8>, NoMemory> {
         whole(self.bytes, self.is_whole)
     }

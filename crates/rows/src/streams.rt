@@ -4,11 +4,8 @@ ghost use Rattle.http_streams.specs.Laws.{AgreeOn, AnswersAll, HasOneAnswer, in_
 ghost use Rattle.rows.specs.Counts.{asked_alike, counts};
 
 use crate::pieces::Line;
-use crate::ways::{
-    FIRST_WRITE_FAILS, PLAIN, SEVENS, SLOW, Way, by_reads, reader_of, sevens_failing, writer_of,
-};
+use crate::ways::{PLAIN, SLOW, Way, by_reads, reader_of, writer_of};
 use crate::written::shown;
-use counted_devices::devices::{Sink, Source};
 use http_streams::laws::one_answer;
 use http_streams::serve::{StreamFault, serve};
 use http_streams::service::{Answers, Service};
@@ -75,25 +72,16 @@ fn agrees()
 struct Outcome {
     out: Vec<u8>,
     requests: u64,
-    /// How often memory was refused to the service.
-    refused: u64,
     fault: Option<StreamFault>,
-    /// How much is unread.
-    left: usize,
-    /// How many reads and writes failed.
-    failures: u64,
 }
 
 impl Outcome {
-    /// Whether the stream was answered to its end, by the same replies to as many requests.
+    /// Returns whether the stream was answered to its end, by the same replies to as many requests.
     fn is_as(&self, whole: &Outcome) -> bool {
-        self.out == whole.out
-            && self.requests == whole.requests
-            && self.fault.is_none()
-            && self.failures == 0
+        self.out == whole.out && self.requests == whole.requests && self.fault.is_none()
     }
 
-    /// Whether what went out is a beginning of what went out for the whole.
+    /// Returns whether what went out is a beginning of what went out for the whole.
     fn begins(&self, whole: &Outcome) -> bool {
         whole.out.as_slice().starts_with(self.out.as_slice())
     }
@@ -106,25 +94,21 @@ fn run(alloc: Global, bytes: &[u8], way: Way<'_>) -> Result<Outcome, NoMemory> {
     let mut writer = writer_of(way, alloc);
     let fault = serve(alloc, &mut counter, &mut reader, &mut writer).err();
     let out = Vec::from_slice(alloc, writer.bytes())?;
-    let left = reader.left().len();
-    let failures = reader.failures().saturating_add(writer.failures());
     Ok(Outcome {
         out,
         requests: counter.requests,
-        refused: counter.refused,
         fault,
-        left,
-        failures,
     })
 }
 
-/// Whether the same comes of the bytes in this way.
+/// Returns whether the same comes of the bytes in this way.
 fn is_same(alloc: Global, bytes: &[u8], whole: &Outcome, way: Way<'_>) -> Result<bool, NoMemory> {
     let found = run(alloc, bytes, way)?;
     Ok(found.is_as(whole))
 }
 
-/// Whether one answer is told of the bytes, however they are cut in two, read byte by byte, and written in pieces.
+/// Returns whether one answer is told of the bytes, however they are cut in two, read byte by byte, and written in
+/// pieces.
 fn is_one_answer(alloc: Global, bytes: &[u8], whole: &Outcome) -> Result<bool, NoMemory> {
     agrees();
     if !whole.is_as(whole) {
@@ -139,8 +123,8 @@ fn is_one_answer(alloc: Global, bytes: &[u8], whole: &Outcome) -> Result<bool, N
     is_same(alloc, bytes, whole, SLOW)
 }
 
-/// How much is answered of a part; `None` where that is no beginning of what is answered of the whole, or a fault is
-/// told.
+/// Returns how much is answered of a part; `None` where that is no beginning of what is answered of the whole, or a
+/// fault is told.
 fn answered(alloc: Global, part: &[u8], whole: &Outcome) -> Result<Option<usize>, NoMemory> {
     let found = run(alloc, part, PLAIN)?;
     if found.fault.is_none() && found.begins(whole) {
@@ -198,7 +182,7 @@ fn push_statuses(told: &mut Line, out: &[u8]) {
     }
 }
 
-/// The statuses in what went out.
+/// Returns the statuses in what went out.
 fn statuses(alloc: Global, out: &[u8]) -> Result<String, NoMemory> {
     let mut told = Line::new(alloc);
     push_statuses(&mut told, out);
@@ -209,7 +193,7 @@ fn asked_told(alloc: Global, asked: u64) -> Result<String, NoMemory> {
     format!(in alloc; " ({asked}) at")
 }
 
-/// The statuses, how often the service was asked, and the places; `false` where the places are none.
+/// Returns the statuses, how often the service was asked, and the places; `false` where the places are none.
 fn push_served(
     alloc: Global,
     bytes: &[u8],
@@ -236,145 +220,24 @@ fn served(alloc: Global, bytes: &[u8], whole: &Outcome) -> Result<String, NoMemo
     String::from_str(alloc, "differs")
 }
 
-/// How many replies there are.
-fn replies(out: &[u8]) -> u64 {
-    let mut count: u64 = 0;
-    for at in 0..out.len() {
-        if out[at..].starts_with(b"HTTP/1.1 ".as_slice()) {
-            count = count.saturating_add(1);
-        }
-    }
-    count
-}
-
-/// Whether this is what may stand after a read or a write failed.
-fn is_broken_off(whole: &Outcome, found: &Outcome, of_reads: bool) -> bool {
-    let short = of_reads || found.out.len() < whole.out.len();
-    let answered = replies(found.out.as_slice());
-    let asked = found.requests;
-    let told = match found.fault {
-        Some(StreamFault::Read) => of_reads && asked == answered,
-        Some(StreamFault::Write) => !of_reads && asked <= answered.saturating_add(1),
-        _ => false,
-    };
-    found.begins(whole) && short && told && found.failures == 1
-}
-
-/// What came of a stream of which one call was to fail.
-#[derive(Clone, Copy)]
-enum Failed {
-    /// There was no such call.
-    None,
-    /// It was told, behind so many bytes that were read or written.
-    Behind(usize),
-    /// It was not told, or more came of it than may.
-    Badly,
-}
-
-fn failure_of(size: usize, whole: &Outcome, found: &Outcome, of_reads: bool) -> Failed {
-    if found.is_as(whole) {
-        return Failed::None;
-    }
-    if !is_broken_off(whole, found, of_reads) {
-        return Failed::Badly;
-    }
-    if of_reads {
-        Failed::Behind(size.saturating_sub(found.left))
-    } else {
-        Failed::Behind(found.out.len())
-    }
-}
-
-/// What comes of the bytes, in pieces of 7 and of 50 bytes, where this read or write fails.
-fn failing_at(
-    alloc: Global,
-    bytes: &[u8],
-    whole: &Outcome,
-    of_reads: bool,
-    call: u64,
-) -> Result<Failed, NoMemory> {
-    let found = run(alloc, bytes, sevens_failing(&[50], of_reads, call))?;
-    Ok(failure_of(bytes.len(), whole, &found, of_reads))
-}
-
-/// How many reads or writes there are, each of which is made to fail once. Each moves more before it than the one
-/// before.
-fn failing(
-    alloc: Global,
-    bytes: &[u8],
-    whole: &Outcome,
-    of_reads: bool,
-) -> Result<Option<u64>, NoMemory> {
-    let mut least = 0;
-    for call in 0..1000u64 {
-        match failing_at(alloc, bytes, whole, of_reads, call)? {
-            Failed::None => return Ok(Some(call)),
-            Failed::Behind(moved) if moved >= least => least = moved.saturating_add(1),
-            _ => return Ok(None),
-        }
-    }
-    Ok(None)
-}
-
-fn faults(alloc: Global, bytes: &[u8], whole: &Outcome) -> Result<String, NoMemory> {
-    let reads = failing(alloc, bytes, whole, true)?;
-    let writes = failing(alloc, bytes, whole, false)?;
-    match (reads, writes) {
-        (Some(reads), Some(writes)) => format!(in alloc; "{reads} reads, {writes} writes"),
-        _ => String::from_str(alloc, "differs"),
-    }
-}
-
-/// How many bytes are unread, where the stream ended as it was to.
-fn left(alloc: Global, found: &Outcome, is_broken: bool) -> Result<String, NoMemory> {
-    let left = found.left;
-    match found.fault {
-        None if !is_broken => format!(in alloc; "{left} left"),
-        Some(StreamFault::Write) if is_broken => format!(in alloc; "{left} left"),
-        _ => String::from_str(alloc, "fault"),
-    }
-}
-
-/// How often the service was asked, where memory may be refused.
-fn scarce(alloc: Global, whole: &Outcome) -> Result<String, NoMemory> {
-    let asked = whole.requests;
-    let answered = replies(whole.out.as_slice());
-    match whole.fault {
-        None if whole.refused == 0 => format!(in alloc; "asked {asked}, answered {answered}"),
-        None | Some(StreamFault::NoMemory) if asked == answered => {
-            format!(in alloc; "refused, asked {asked}")
-        }
-        Some(StreamFault::Write) if answered <= asked => {
-            format!(in alloc; "refused, asked {asked}")
-        }
-        _ => String::from_str(alloc, "differs"),
-    }
-}
-
-/// How the stream of a row is cut.
+/// Returns how the stream of a row is cut.
 fn way_of(word: &str) -> Way<'static> {
     match word {
         "slow" => SLOW,
-        "left" | "faults" => SEVENS,
-        "unread" => FIRST_WRITE_FAILS,
         _ => PLAIN,
     }
 }
 
-/// What is told of what came of a stream.
+/// Returns what is told of what came of a stream.
 fn told(alloc: Global, word: &str, bytes: &[u8], found: &Outcome) -> Result<String, NoMemory> {
     match word {
         "serve" => served(alloc, bytes, found),
-        "faults" => faults(alloc, bytes, found),
         "reply" => shown(alloc, found.out.as_slice()),
-        "left" => left(alloc, found, false),
-        "unread" => left(alloc, found, true),
-        "scarce" => scarce(alloc, found),
         _ => statuses(alloc, found.out.as_slice()),
     }
 }
 
-/// What a row comes to.
+/// Returns what a row comes to.
 pub(crate) fn came_to(alloc: Global, word: &str, bytes: &[u8]) -> Result<String, NoMemory> {
     let found = run(alloc, bytes, way_of(word))?;
     told(alloc, word, bytes, &found)

@@ -1,18 +1,13 @@
 -- What was made answers as it is to.
-use Rattle.std.proofs.Common.{◌≡◌, ◌∙◌, ℕ, Bool, true, false, List, [], ◌∷◌, map, Option, Some, None, refl, sym, ap, subst, inl, inr}
-use Rattle.std.specs.Prelude.{Contains, IsTrue, IsSome, ◌↔◌, ◌⊎◌, ◌&&◌, ◌||◌, ◌==◌, nat_lt, option_map}
+use Rattle.std.proofs.Common.{◌≡◌, ◌∙◌, ℕ, List, [], ◌∷◌, map, Option, Some, None, refl, sym, ap, subst, inl, inr}
+use Rattle.std.specs.Prelude.{Contains, IsTrue, IsSome, ◌↔◌, option_map}
 use Rattle.std.specs.BTreeMap.{BTreeMap, get, keys, IsOrdered}
-use Rattle.std.specs.BTreeSet.{BTreeSet}
 use Rattle.std.specs.Map.{keys_of}
-use Rattle.std.specs.List.{slice_get}
-use Rattle.std.proofs.lemmas.Option.{slice_get-map}
-use Rattle.std.proofs.lemmas.Bool.{ltb-true, lt-ltb, eqb-true, eq-eqb}
 use Rattle.std.specs.List.Sorted.{IsStrictlySortedBy}
 use Rattle.std.proofs.lemmas.Map.Views.{btree_map_contains_key_iff, btree_map_get_iff}
 use Rattle.values.specs.declared.entity_uid.EntityUid.{EntityUid}
 use Rattle.values.specs.Names.{uid_cmp, text_cmp, uid_cmp-IsTotalOrder, uid_cmp-IsAntisymmetric}
 use Rattle.ancestor_closure.specs.Hierarchy.{Above, IsAscending, IsAllAbove}
-use Rattle.ancestor_closure.specs.Deciding.{Contains-here, Contains-there, Contains-cases, Contains-none}
 use Rattle.schema_types.specs.Cedar.{Cedar}
 use Rattle.schema_types.specs.CedarViews.{cedar_view}
 use Rattle.schema_types.specs.declared.cedar.CedarType.{CedarType}
@@ -25,23 +20,18 @@ use Rattle.schema.specs.declared.reading.Hierarchies.{Hierarchies}
 use Rattle.sha2.specs.Sha256.{sha256}
 use Rattle.hex.specs.Hex.{encode_lower}
 use Rattle.schema_names.specs.Naming.{StatesNamed}
+use Rattle.schema_names.specs.Laws.{IsEntityType, NamesItsEntityTypes}
 use Rattle.schema.specs.Schemas.{EnvironmentOf, Answers, IsSound, IsSchemaOf, IsShape, IsAction, IsEnvironment, IsPlace, IsRecordOf, action_parents, type_parents, type_uid, place_cmp}
 use Rattle.schema.specs.SchemaEntries.{kept}
 use Rattle.schema_parts.specs.Places.{environment_of}
-use Rattle.schema_parts.specs.LookUps as look_ups
-use Rattle.schema_parts.specs.LookUps.{is_among, is_before, is_above}
+use Rattle.schema_parts.specs.LookUps.{is_numbered_at, stands_below, is_above}
 use Rattle.schema.specs.Views.{environment_view, schema_view}
-use Rattle.schema_parts.specs.declared.parts.LinePlace.{LinePlace}
-use Rattle.schema.specs.declared.lines.Lines.{Lines}
-use Rattle.schema.specs.inner.Lines.{is_in, stands_below, below_by, may_have_in, Before, StandsBelow, AreLines}
+use Rattle.schema.specs.declared.numbering.TypeNumbers.{TypeNumbers}
+use Rattle.schema.specs.inner.Numbering.{AreNumbers}
 use Rattle.schema.specs.inner.Making.{shape_in, Places, AreShapes, ArePlaces, AreAncestors}
 use Rattle.schema.specs.inner.Reading.{AreTypesOf, AreHierarchiesOf}
 use Rattle.schema.proofs.PlaceLemmas.{place_cmp-IsTotalOrder, place_cmp-IsAntisymmetric}
-use Rattle.schema.proofs.HierarchyLemmas.{is_declared}
-
-and_both : (a b : Bool) → (a && b) ≡ true → (a ≡ true) × (b ≡ true)
-and_both true b h = (refl, h)
-and_both false b h = absurd cc
+use Rattle.schema.proofs.HierarchyLemmas.{contains_map, above_declared, below_declared}
 
 some_of : {A : Type 0} (o : Option A) → IsSome o → (x : A) × (o ≡ Some x)
 some_of None h = absurd cc
@@ -61,13 +51,6 @@ not_none x e = absurd cc
 is_none : {A : Type 0} {G : Type 0} (o : Option A) → o ≡ None → IsSome o → G
 is_none None e h = absurd cc
 is_none (Some x) e h = absurd cc
-
-pub contains_map : {A B : Type 0} (f : A → B) (xs : List A) (y : B) → Contains (map f xs) y → (x : A) × Contains xs x × (f x ≡ y)
-contains_map f [] y h = Contains-none y h
-contains_map f (x ∷ xs) y h = elim (Contains-cases (f x) (map f xs) y h) [
-  | inl same ↦ (x, Contains-here x xs, same)
-  | inr later ↦ let found = contains_map f xs y later in (found.0, Contains-there x xs found.0 found.1, found.2)
-]
 
 -- ---- shapes
 
@@ -102,60 +85,26 @@ module _ (s : FoundSchema) (ancestors : BTreeMap EntityUid (List EntityUid)) (ar
 
 -- ---- types above types
 
-pub before_so : (o : Option LinePlace) (s : LinePlace) → is_before o s ≡ true → (t : LinePlace) × (o ≡ Some t) × Before t s
-before_so None s h = absurd cc
-before_so (Some t) s h =
-    let a = and_both (t.is_member && t.line == s.line) (nat_lt t.bound s.bound) h in
-    let b = and_both t.is_member (t.line == s.line) a.0 in
-    (t, refl, record { member = b.0; line = eqb-true t.line s.line b.1; bound = ltb-true t.bound s.bound a.1 })
+module _ (s : FoundSchema) (own : NamesItsEntityTypes s) (t : TypeNumbers) (are : AreNumbers (type_parents s) s.entity_types t) where
+  abbrev IsBelow : List ℕ → List ℕ → Type 0
+  IsBelow child parent = Above (type_parents s) (type_uid parent) (type_uid child)
 
-before_test : (t s : LinePlace) → Before t s → (t.is_member && t.line == s.line && nat_lt t.bound s.bound) ≡ true
-before_test t s h = rw (h.member, eq-eqb t.line s.line h.line, lt-ltb t.bound s.bound h.bound) refl
+  -- a type that is declared has a number
+  numbered : {G : Type 0} (n : List ℕ) → get text_cmp t.numbers n ≡ None → IsEntityType s n → G
+  numbered n e is = is_none (get text_cmp t.numbers n) e (subst (λ (q : List ℕ). IsSome (get text_cmp t.numbers q)) is.2 (are.all is.0 is.1))
 
-before_is : (o : Option LinePlace) (s t : LinePlace) → o ≡ Some t → Before t s → is_before o s ≡ true
-before_is o s t e h = ap (λ (p : Option LinePlace). is_before p s) e ∙ before_test t s h
+  parent_at : (child parent : List ℕ) (i : ℕ) → get text_cmp t.numbers child ≡ Some i → (o : Option ℕ) → get text_cmp t.numbers parent ≡ o
+      → IsTrue (is_numbered_at t.spans i o) ↔ IsBelow child parent
+  parent_at child parent i e None f = ((λ h. cc), (λ h. numbered parent f (above_declared s own child parent h)))
+  parent_at child parent i e (Some j) f = are.exact child parent i j e f
 
-or_cases : (a b : Bool) → (a || b) ≡ true → (a ≡ true) ⊎ (b ≡ true)
-or_cases true b h = inl refl
-or_cases false b h = inr h
+  child_at : (child parent : List ℕ) (o : Option ℕ) → get text_cmp t.numbers child ≡ o
+      → IsTrue (stands_below t.numbers.entries t.spans o parent) ↔ IsBelow child parent
+  child_at child parent None e = ((λ h. cc), (λ h. numbered child e (below_declared s child parent h)))
+  child_at child parent (Some i) e = parent_at child parent i e (get text_cmp t.numbers parent) refl
 
-or_left : (a b : Bool) → a ≡ true → (a || b) ≡ true
-or_left true b h = refl
-or_left false b h = absurd cc
-
-or_right : (a b : Bool) → b ≡ true → (a || b) ≡ true
-or_right true b h = refl
-or_right false b h = h
-
-module _ (at : List ℕ → Option LinePlace) (beyond : List (BTreeSet (List ℕ))) (s : LinePlace) (n : List ℕ) where
-  below_so : stands_below at beyond s n ≡ true → StandsBelow at beyond s n
-  below_so h = elim (or_cases (is_before (at n) s) _ h) [
-    | inl b ↦ inl (before_so (at n) s b)
-    | inr k ↦ inr k
-  ]
-
-  below_is : StandsBelow at beyond s n → stands_below at beyond s n ≡ true
-  below_is (inl (t, e, b)) = or_left (is_before (at n) s) _ (before_is (at n) s t e b)
-  below_is (inr k) = or_right (is_before (at n) s) _ k
-
-module _ (s : FoundSchema) (l : Lines) (are : AreLines (type_parents s) s.entity_types l) where
-  parent_at : (child parent : List ℕ) (o : Option LinePlace) → get text_cmp l.line_places child ≡ o
-      → IsTrue (below_by (get text_cmp l.line_places) l.beyond.items o parent) ↔ Above (type_parents s) (type_uid parent) (type_uid child)
-  parent_at child parent None e = (
-    (λ h. cc),
-    (λ h.
-        let found = is_declared s.entity_types (type_uid child) (type_uid parent) h in
-        is_none (get text_cmp l.line_places child) e
-        (subst (λ (n : List ℕ). IsSome (get text_cmp l.line_places n)) (ap (λ (u : EntityUid). u.type_name) found.2) (are.all found.0 found.1))),
-  )
-  parent_at child parent (Some t) e =
-      let exact = are.keeps.exact child t e parent in (
-        (λ h. exact.0 (below_so (get text_cmp l.line_places) l.beyond.items t parent h)),
-        (λ h. below_is (get text_cmp l.line_places) l.beyond.items t parent (exact.1 h)),
-      )
-
-  pub parents_are : (child parent : List ℕ) → IsTrue (may_have_in l.line_places l.beyond.items child parent) ↔ Above (type_parents s) (type_uid parent) (type_uid child)
-  parents_are child parent = parent_at child parent (get text_cmp l.line_places child) refl
+  pub parents_are : (child parent : List ℕ) → IsTrue (is_above t.numbers.entries t.spans child parent) ↔ IsBelow child parent
+  parents_are child parent = child_at child parent (get text_cmp t.numbers child) refl
 
 -- ---- environments
 
@@ -188,48 +137,30 @@ module _ (s : FoundSchema) (places : Places) (are : ArePlaces s.commons s.action
   pub environments_ascend : IsStrictlySortedBy place_cmp (map (λ e. e.place) (map environment_view (map environment_of places.entries)))
   environments_ascend = subst (λ (ps : List Place). IsStrictlySortedBy place_cmp ps) (sym (places_are places.entries)) ordered
 
--- ---- the same over entries
-
-among_keys : (o : Option (BTreeSet (List ℕ))) (n : List ℕ) → is_among (option_map (λ s. s.keys) o) n ≡ is_in o n
-among_keys None n = refl
-among_keys (Some s) n = refl
-
-among_at : (beyond : List (BTreeSet (List ℕ))) (i : ℕ) (n : List ℕ) → is_among (slice_get (map (λ s. s.keys) beyond) i) n ≡ is_in (slice_get beyond i) n
-among_at beyond i n = ap (λ (o : Option (List (List ℕ))). is_among o n) (slice_get-map (λ (s : BTreeSet (List ℕ)). s.keys) beyond i) ∙ among_keys (slice_get beyond i) n
-
-below_in : (line_places : BTreeMap (List ℕ) LinePlace) (beyond : List (BTreeSet (List ℕ))) (o : Option LinePlace) (n : List ℕ)
-    → look_ups.stands_below line_places.entries (map (λ s. s.keys) beyond) o n ≡ below_by (get text_cmp line_places) beyond o n
-below_in line_places beyond None n = refl
-below_in line_places beyond (Some s) n = ap (λ (b : Bool). is_before (get text_cmp line_places n) s || b) (among_at beyond s.line n)
-
-pub above_in : (line_places : BTreeMap (List ℕ) LinePlace) (beyond : List (BTreeSet (List ℕ))) (child parent : List ℕ)
-    → is_above line_places.entries (map (λ s. s.keys) beyond) child parent ≡ may_have_in line_places beyond child parent
-above_in line_places beyond child parent = below_in line_places beyond (get text_cmp line_places child) parent
-
 -- ---- all together
 
-made_answers : (s : FoundSchema) (label : List ℕ) (t : Types) (h : Hierarchies) → AreTypesOf s.commons s t → AreHierarchiesOf s h
-    → Answers s (schema_view (kept label t.environments h.actions t.shapes h.ancestors h.lines.line_places h.lines.beyond.items))
-made_answers s label t h types hierarchies = record {
+made_answers : (s : FoundSchema) → NamesItsEntityTypes s → (label : List ℕ) (t : Types) (h : Hierarchies) → AreTypesOf s.commons s t → AreHierarchiesOf s h
+    → Answers s (schema_view (kept label t.environments h.actions t.shapes h.ancestors h.types.numbers h.types.spans))
+made_answers s own label t h types hierarchies = record {
   shapes = shape_found s t.shapes types.shapes;
   all_shapes = shape_there s t.shapes types.shapes;
   actions = λ u. subst (λ (us : List EntityUid). Contains us u ↔ IsAction s u) (sym hierarchies.actions) (actions_are s h.ancestors hierarchies.ancestors u);
   actions_ascend = subst (λ (us : List EntityUid). IsAscending us) (sym hierarchies.actions) hierarchies.ascending;
   ancestors = ancestors_found s h.ancestors hierarchies.ancestors;
   all_ancestors = ancestors_there s h.ancestors hierarchies.ancestors;
-  parents = λ child parent. subst (λ (b : Bool). IsTrue b ↔ Above (type_parents s) (type_uid parent) (type_uid child)) (sym (above_in h.lines.line_places h.lines.beyond.items child parent)) (parents_are s h.lines hierarchies.lines child parent);
+  parents = parents_are s own h.types hierarchies.types;
   environments = subst (λ (es : List Environment). (e : EnvironmentOf) → Contains (map environment_view es) e → IsEnvironment s e) (sym types.environments) (environments_are s types.places types.are types.ordered);
   all_environments = subst (λ (es : List Environment). (p : Place) → IsPlace s p → Contains (map (λ e. e.place) (map environment_view es)) p) (sym types.environments) (all_environments s types.places types.are types.ordered);
   environments_ascend = subst (λ (es : List Environment). IsStrictlySortedBy place_cmp (map (λ e. e.place) (map environment_view es))) (sym types.environments) (environments_ascend s types.places types.are types.ordered);
 }
 
 -- what was made is the schema that the bytes state
-pub made_schema : (bytes : List ℕ) (s : FoundSchema) → StatesNamed bytes s → IsSound s → (label : List ℕ) → label ≡ encode_lower (sha256 bytes) → (t : Types) (h : Hierarchies)
-    → AreTypesOf s.commons s t → AreHierarchiesOf s h → IsSchemaOf bytes (schema_view (kept label t.environments h.actions t.shapes h.ancestors h.lines.line_places h.lines.beyond.items))
-made_schema bytes s states sound label is t h types hierarchies = record {
+pub made_schema : (bytes : List ℕ) (s : FoundSchema) → StatesNamed bytes s → NamesItsEntityTypes s → IsSound s → (label : List ℕ) → label ≡ encode_lower (sha256 bytes) → (t : Types) (h : Hierarchies)
+    → AreTypesOf s.commons s t → AreHierarchiesOf s h → IsSchemaOf bytes (schema_view (kept label t.environments h.actions t.shapes h.ancestors h.types.numbers h.types.spans))
+made_schema bytes s states own sound label is t h types hierarchies = record {
   named = s;
   states = states;
   sound = sound;
   label = is;
-  answers = made_answers s label t h types hierarchies;
+  answers = made_answers s own label t h types hierarchies;
 }

@@ -16,7 +16,7 @@ use Rattle.ancestor_closure.specs.Decided.{PathsAreDecided, is_same, reaches}
 use Rattle.ancestor_closure.specs.Deciding.{Contains-here, Contains-there, Contains-cases, Contains-none, any_from, any_at, same_uid, same_self}
 use Rattle.schema_types.specs.Qualified.{Qualified}
 use Rattle.schema_types.specs.Cedar.{Cedar, record_of, no_fields}
-use Rattle.schema_types.specs.Law.{TypesEndOrNot}
+use Rattle.schema_types.specs.Law.{TypesStandForOneOrSomeForNone}
 use Rattle.schema_types.specs.declared.fault.SchemaFault.{SchemaFault}
 use Rattle.schema_names.specs.Qualifying.{FoundEntityType, FoundUse, FoundAction, FoundSchema}
 use Rattle.schema_names.specs.Naming.{StatesNamed}
@@ -27,7 +27,7 @@ use Rattle.schema.specs.Schemas.{EnvironmentOf, StatedSchema, Answers, IsAction,
 use Rattle.schema.specs.Outcomes as outcomes
 use Rattle.schema.specs.Outcomes.{SchemaOrRefusal, SomeOutcome}
 use Rattle.schema_parts.specs.Places.{place_of}
-use Rattle.schema.proofs.AnswersLemmas.{contains_map}
+use Rattle.schema.proofs.HierarchyLemmas.{contains_map}
 use Rattle.schema.proofs.PlaceLemmas.{place_cmp-IsTotalOrder, place_cmp-IsAntisymmetric}
 use Rattle.schema.proofs.InOrder.{in_order, in_order_ascends, from_in_order, all_in_order}
 use Rattle.schema.proofs.SomeOutcomeLemmas.{map_to, map_same, uids_of, above_list, above_ascends, above_all, types_stored, sound_or_not}
@@ -277,7 +277,7 @@ module _ (s : FoundSchema) (sound : IsSound s) where
     unfolding built
     built_schema bytes states = record { named = s; states = states; sound = sound; label = refl; answers = built_answers bytes }
 
-pub some_outcome : names.SomeOutcome → names.FilesDeclareOnce → names.FilesNameTheirOwn → TypesEndOrNot → PathsAreDecided → SomeOutcome
+pub some_outcome : names.SomeOutcome → names.FilesDeclareOnce → names.FilesNameTheirOwn → TypesStandForOneOrSomeForNone → PathsAreDecided → SomeOutcome
 some_outcome some once own ends decided bytes = by (some bytes)
   where
     told : (s : FoundSchema) → StatesNamed bytes s → IsSound s ⊎ ((f : SchemaFault) × IsUnsound s f) → SchemaOrRefusal bytes

@@ -1,60 +1,14 @@
 -- Hierarchies of actions and of entity types.
-use Rattle.std.proofs.Common.{◌≡◌, ◌∙◌, ◌+◌, ◌<◌, ◌≤◌, length, drop, get_or, Bool, true, false, cond, ℕ, List, [], ◌∷◌, map, refl, sym, ap, subst, inl, inr}
-use Rattle.std.specs.Prelude.{Contains, ◌⊎◌, ◌||◌}
-use Rattle.std.specs.Borrow.{Bor}
+use Rattle.std.proofs.Common.{◌≡◌, Bool, true, false, cond, ℕ, List, [], ◌∷◌, map, refl, ap, subst, inl, inr}
+use Rattle.std.specs.Prelude.{Contains, ◌⊎◌}
 use Rattle.std.specs.Ordering.{is_eq}
-use Rattle.std.specs.BTreeSet.{BTreeSet, contains, Updates}
-use Rattle.std.proofs.lemmas.List.{drop_all}
-use Rattle.json_words.proofs.EachSame.{cut}
-use Rattle.std.specs.Cmp.{tied_itself}
-use Rattle.std.proofs.lemmas.Map.Views.{tells_apart}
 use Rattle.values.specs.declared.entity_uid.EntityUid.{EntityUid}
-use Rattle.values.specs.Names.{uid_cmp, text_cmp, text_cmp-IsTotalOrder, text_cmp-IsAntisymmetric}
-use Rattle.ancestor_closure.specs.Hierarchy.{Parents, Path, Above, IsAllAbove, names, no_parents, with_parents}
-use Rattle.ancestor_closure.specs.Deciding.{Contains-here, Contains-there, Contains-cases, Contains-none, any_from, any_at, same_uid}
-use Rattle.schema_names.specs.Qualifying.{FoundEntityType, FoundAction}
-use Rattle.schema.specs.Schemas.{type_uid, with_types, with_actions}
-use Rattle.schema.specs.inner.Making.{AreTypes, IsTypesAbove, has_type}
-
--- ---- types as points of a hierarchy
-
-types_in : (ns : List (List ℕ)) (a : EntityUid) → Contains (map type_uid ns) a → a.id ≡ []
-types_in [] a h = Contains-none a h
-types_in (n ∷ ns) a h = elim (Contains-cases (type_uid n) (map type_uid ns) a h) [
-  | inl same ↦ ap (λ (u : EntityUid). u.id) (sym same)
-  | inr later ↦ types_in ns a later
-]
-
-types_at : (ns : List (List ℕ)) (old : List EntityUid) (a : EntityUid) → (Contains old a → a.id ≡ []) → (b : Bool) → Contains (cond b (map type_uid ns) old) a → a.id ≡ []
-types_at ns old a before true h = types_in ns a h
-types_at ns old a before false h = before h
-
-pub types_are_types : (parents : Parents) (es : List FoundEntityType) → AreTypes parents → AreTypes (with_types parents es)
-types_are_types parents [] are = are
-types_are_types parents (e ∷ es) are =
-    types_are_types (with_parents parents (type_uid e.name) (map type_uid e.parents)) es
-    (λ u a. types_at e.parents (parents u) a (are u a) (is_eq (uid_cmp (type_uid e.name) u)))
-
-pub none_are_types : AreTypes no_parents
-none_are_types u a h = Contains-none a h
-
-last_is_type : (parents : Parents) → AreTypes parents → (b : EntityUid) (through : List EntityUid) (a : EntityUid) → Path parents b through a → a.id ≡ []
-last_is_type parents are b [] a h = are b a h
-last_is_type parents are b (c ∷ cs) a h = last_is_type parents are c cs a h.1
-
-pub uid_from : (a : EntityUid) (n : List ℕ) → a.type_name ≡ n → a.id ≡ [] → a ≡ type_uid n
-uid_from a n names ids i = record { type_name = names i; id = ids i }
-
-pub types_above : (parents : Parents) → AreTypes parents → (n : List ℕ) (us : List EntityUid) (s : BTreeSet (List ℕ))
-    → IsAllAbove parents (type_uid n) us → ((q : List ℕ) → contains text_cmp s q ≡ has_type us q) → IsTypesAbove parents n s
-types_above parents are n us s all has q = (
-  (λ h.
-      let at = any_at (λ u. is_eq (text_cmp u.type_name q)) us (sym (has q) ∙ h) in
-      let above = (all at.0).0 at.1 in
-      subst (λ (u : EntityUid). Above parents u (type_uid n))
-      (uid_from at.0 q (tells_apart text_cmp-IsAntisymmetric at.0.type_name q at.2) (last_is_type parents are (type_uid n) above.0 at.0 above.1)) above),
-  (λ h. has q ∙ any_from (λ u. is_eq (text_cmp u.type_name q)) us (type_uid q) ((all (type_uid q)).1 h) (ap is_eq (tied_itself text_cmp-IsTotalOrder q))),
-)
+use Rattle.values.specs.Names.{uid_cmp}
+use Rattle.ancestor_closure.specs.Hierarchy.{Parents, Path, Above, no_parents, with_parents}
+use Rattle.ancestor_closure.specs.Deciding.{Contains-here, Contains-there, Contains-cases, Contains-none, same_uid}
+use Rattle.schema_names.specs.Qualifying.{FoundEntityType, FoundAction, FoundSchema}
+use Rattle.schema_names.specs.Laws.{IsEntityType, NamesItsEntityTypes}
+use Rattle.schema.specs.Schemas.{type_uid, with_types, with_actions, type_parents}
 
 -- ---- who has parents
 
@@ -129,28 +83,30 @@ action_edge xs u a h = elim (action_edge_from no_parents xs u a h) [
   | inr none ↦ Contains-none a none
 ]
 
--- one more type in a set
-or_none : (a b : Bool) → (a || false) ≡ b → a ≡ b
-or_none true b e = e
-or_none false b e = e
+-- ---- which entity types are declared
 
-or_step : (b c r whole : Bool) → (c || (b || r)) ≡ whole → (cond b true c || r) ≡ whole
-or_step true true r whole e = e
-or_step true false r whole e = e
-or_step false c r whole e = e
+pub contains_map : {A B : Type 0} (f : A → B) (xs : List A) (y : B) → Contains (map f xs) y → (x : A) × Contains xs x × (f x ≡ y)
+contains_map f [] y h = Contains-none y h
+contains_map f (x ∷ xs) y h = elim (Contains-cases (f x) (map f xs) y h) [
+  | inl same ↦ (x, Contains-here x xs, same)
+  | inr later ↦ let found = contains_map f xs y later in (found.0, Contains-there x xs found.0 found.1, found.2)
+]
 
-pub type_added : (xs : List (Bor EntityUid)) (i : ℕ) (x : Bor EntityUid) → i < length xs → x ≡ get_or xs i x → (key : List ℕ) → key ≡ x.now.type_name → (s n : BTreeSet (List ℕ)) (q : List ℕ)
-    → Updates text_cmp s n key true → (contains text_cmp s q || has_type (names (drop i xs)) q) ≡ has_type (names xs) q
-    → (contains text_cmp n q || has_type (names (drop (i + 1) xs)) q) ≡ has_type (names xs) q
-type_added xs i x lt at key is s n q updates h =
-    let rest = has_type (names (drop (i + 1) xs)) q in
-    let here = subst (λ (zs : List (Bor EntityUid)). (contains text_cmp s q || has_type (names zs) q) ≡ has_type (names xs) q) (cut xs i x lt at) h in
-    let now = or_step (is_eq (text_cmp x.now.type_name q)) (contains text_cmp s q) rest (has_type (names xs) q) here in
-    let by_key = subst (λ (k : List ℕ). (cond (is_eq (text_cmp k q)) true (contains text_cmp s q) || rest) ≡ has_type (names xs) q) (sym is) now in
-    ap (λ (b : Bool). b || rest) (updates.0 q) ∙ by_key
+pub last_edge : (parents : Parents) (b : EntityUid) (through : List EntityUid) (a : EntityUid) → Path parents b through a → (u : EntityUid) × Contains (parents u) a
+last_edge parents b [] a h = (b, h)
+last_edge parents b (c ∷ cs) a h = last_edge parents c cs a h.1
 
-pub none_left : (xs : List (Bor EntityUid)) (i : ℕ) → length xs ≤ i → (s : BTreeSet (List ℕ)) (q : List ℕ)
-    → (contains text_cmp s q || has_type (names (drop i xs)) q) ≡ has_type (names xs) q → contains text_cmp s q ≡ has_type (names xs) q
-none_left xs i le s q h =
-    or_none (contains text_cmp s q) (has_type (names xs) q)
-    (subst (λ (zs : List (Bor EntityUid)). (contains text_cmp s q || has_type (names zs) q) ≡ has_type (names xs) q) (drop_all i xs le) h)
+module _ (s : FoundSchema) (own : NamesItsEntityTypes s) where
+  parent_declared : (e : FoundEntityType) (above : List ℕ) → Contains s.entity_types e → (x : List ℕ) × Contains e.parents x × (type_uid x ≡ type_uid above) → IsEntityType s above
+  parent_declared e above here (x, there, same) = subst (λ (q : List ℕ). IsEntityType s q) (ap (λ (u : EntityUid). u.type_name) same) (own.parents e here x there)
+
+  pub above_declared : (child above : List ℕ) → Above (type_parents s) (type_uid above) (type_uid child) → IsEntityType s above
+  above_declared child above h =
+      let edge = last_edge (type_parents s) (type_uid child) h.0 (type_uid above) h.1 in
+      let e = type_edge s.entity_types edge.0 (type_uid above) edge.1 in
+      parent_declared e.0 above e.1 (contains_map type_uid e.0.parents (type_uid above) e.2)
+
+pub below_declared : (s : FoundSchema) (child above : List ℕ) → Above (type_parents s) (type_uid above) (type_uid child) → IsEntityType s child
+below_declared s child above h =
+    let e = is_declared s.entity_types (type_uid child) (type_uid above) h in
+    (e.0, e.1, ap (λ (u : EntityUid). u.type_name) e.2)

@@ -3,8 +3,8 @@ mod BuiltLemmas
 mod FillingLemmas
 mod HierarchyLemmas
 mod InOrder
-mod LineLemmas
 mod NameLemmas
+mod NumberLemmas
 mod OneSchemaLemmas
 mod OutcomeLemmas
 mod PlaceLemmas
@@ -12,4 +12,3 @@ mod SomeOutcomeLemmas
 mod SoundLemmas
 mod UseLemmas
 mod WellFormedLemmas
-mod WayLemmas

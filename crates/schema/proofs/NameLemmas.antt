@@ -28,7 +28,7 @@ use Rattle.schema_names.specs.Qualifying.{qualified_entity_type, qualified_actio
 use Rattle.schema_names.specs.Naming.{StatesNamed}
 use Rattle.schema.specs.Schemas.{IsAction}
 use Rattle.schema.specs.WellFormed.{IsActionType}
-use Rattle.schema.proofs.AnswersLemmas.{contains_map}
+use Rattle.schema.proofs.HierarchyLemmas.{contains_map}
 
 -- ---- steps of reading
 

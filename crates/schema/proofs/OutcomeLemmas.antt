@@ -14,7 +14,7 @@ use Rattle.schema.specs.Outcomes.{NotBoth, OneRefusal}
 sound_or_not : OneWritten → (s : FoundSchema) → DeclaresOnce s → IsSound s → (f : SchemaFault) → IsUnsound s f → ⊥
 sound_or_not one s once sound _ (schemas.type_cycle endless) =
     let at = sound.is_written (common endless.name) (schemas.common endless.name endless.type endless.declared) in
-    endless.no_end at.0 at.1
+    endless.stands_for_none at.0 at.1
 sound_or_not one s once sound _ (schemas.action_cycle ends cycle) = sound.no_cycle cycle
 sound_or_not one s once sound _ (schemas.too_large ends no_cycle large) =
     let at = sound.is_written large.type large.stands in

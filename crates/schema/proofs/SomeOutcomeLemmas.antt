@@ -14,8 +14,8 @@ use Rattle.schema_types.specs.Qualified.{Qualified}
 use Rattle.schema_types.specs.Cedar.{Cedar, parts, deep, IsTooLarge}
 use Rattle.schema_types.specs.WrittenOut.{Declarations, Declares, WrittenOut}
 use Rattle.schema_types.specs.Mentions.{IsClosed}
-use Rattle.schema_types.specs.Law.{TypesEndOrNot}
-use Rattle.schema_types.specs.Outcome.{SomeHasNoEnd}
+use Rattle.schema_types.specs.Law.{TypesStandForOneOrSomeForNone}
+use Rattle.schema_types.specs.Outcome.{SomeStandsForNone}
 use Rattle.schema_types.specs.declared.fault.SchemaFault.{SchemaFault}
 use Rattle.schema_types.specs.declared.fault.SchemaFault.TheVariants.{TypeCycle, ActionCycle, TypeTooLarge}
 use Rattle.schema_names.specs.Qualifying.{FoundEntityType, FoundUse, FoundAction, FoundSchema}
@@ -218,26 +218,26 @@ types_stored es b a h = by (has_parent no_parents es b a h)
 
 -- ---- is the file sound?
 
-module _ (s : FoundSchema) (ends : TypesEndOrNot) (once : DeclaresOnce s) (own : NamesItsOwn s) where
+module _ (s : FoundSchema) (ends : TypesStandForOneOrSomeForNone) (once : DeclaresOnce s) (own : NamesItsOwn s) where
   common_closed : (d : List ℕ × Qualified) → Contains s.commons d → IsClosed s.commons (qualified.common d.0)
   common_closed d h q m = (d.1, subst (λ (x : List ℕ). Declares s.commons x d.1) m (inside_declared s.commons d h))
 
-  written_or_not : (r : Qualified) → IsClosed s.commons r → ((t : Cedar) × WrittenOut s.commons r t) ⊎ SomeHasNoEnd s.commons
+  written_or_not : (r : Qualified) → IsClosed s.commons r → ((t : Cedar) × WrittenOut s.commons r t) ⊎ SomeStandsForNone s.commons
   written_or_not r closed = ends s.commons once.commons own.commons r closed
 
-  some_endless : SomeHasNoEnd s.commons ⊎ (SomeHasNoEnd s.commons → ⊥)
-  some_endless = by (some_or_all (λ d. SomeHasNoEnd s.commons) (λ d. (t : Cedar) × WrittenOut s.commons (qualified.common d.0) t) s.commons (λ d h. turn (written_or_not (qualified.common d.0) (common_closed d h))))
+  some_endless : SomeStandsForNone s.commons ⊎ (SomeStandsForNone s.commons → ⊥)
+  some_endless = by (some_or_all (λ d. SomeStandsForNone s.commons) (λ d. (t : Cedar) × WrittenOut s.commons (qualified.common d.0) t) s.commons (λ d h. turn (written_or_not (qualified.common d.0) (common_closed d h))))
     where
       turn : {A B : Type 0} → A ⊎ B → B ⊎ A
       turn (inl x) = inr x
       turn (inr y) = inl y
 
-      by : ((d : List ℕ × Qualified) × Contains s.commons d × SomeHasNoEnd s.commons) ⊎ ((d : List ℕ × Qualified) → Contains s.commons d → (t : Cedar) × WrittenOut s.commons (qualified.common d.0) t)
-          → SomeHasNoEnd s.commons ⊎ (SomeHasNoEnd s.commons → ⊥)
+      by : ((d : List ℕ × Qualified) × Contains s.commons d × SomeStandsForNone s.commons) ⊎ ((d : List ℕ × Qualified) → Contains s.commons d → (t : Cedar) × WrittenOut s.commons (qualified.common d.0) t)
+          → SomeStandsForNone s.commons ⊎ (SomeStandsForNone s.commons → ⊥)
       by (inl (d, h, endless)) = inl endless
-      by (inr all) = inr (λ endless. let w = all (endless.name, endless.type) (declared_inside s.commons endless.name endless.type endless.declared) in endless.no_end w.0 w.1)
+      by (inr all) = inr (λ endless. let w = all (endless.name, endless.type) (declared_inside s.commons endless.name endless.type endless.declared) in endless.stands_for_none w.0 w.1)
 
-  module _ (none : SomeHasNoEnd s.commons → ⊥) where
+  module _ (none : SomeStandsForNone s.commons → ⊥) where
     fits_or_not : (r : Qualified) → StandsIn s r → IsClosed s.commons r → SomeTypeIsTooLarge s ⊎ IsWritten s.commons r
     fits_or_not r stands closed = by (written_or_not r closed)
       where
@@ -245,7 +245,7 @@ module _ (s : FoundSchema) (ends : TypesEndOrNot) (once : DeclaresOnce s) (own :
         sized t w (inl large) = inl (record { type = r; whole = t; stands = stands; is_written = w; too_large = large })
         sized t w (inr small) = inr (t, w, small)
 
-        by : ((t : Cedar) × WrittenOut s.commons r t) ⊎ SomeHasNoEnd s.commons → SomeTypeIsTooLarge s ⊎ IsWritten s.commons r
+        by : ((t : Cedar) × WrittenOut s.commons r t) ⊎ SomeStandsForNone s.commons → SomeTypeIsTooLarge s ⊎ IsWritten s.commons r
         by (inl (t, w)) = sized t w (large_or_not t)
         by (inr endless) = absurd (none endless)
 
@@ -309,14 +309,14 @@ module _ (s : FoundSchema) (ends : TypesEndOrNot) (once : DeclaresOnce s) (own :
   pub sound_or_not : PathsAreDecided → IsSound s ⊎ ((f : SchemaFault) × IsUnsound s f)
   sound_or_not decided = by some_endless
     where
-      sized : (SomeHasNoEnd s.commons → ⊥) → (SomeActionIsOnCycle s → ⊥) → SomeTypeIsTooLarge s ⊎ ((r : Qualified) → StandsIn s r → IsWritten s.commons r) → IsSound s ⊎ ((f : SchemaFault) × IsUnsound s f)
+      sized : (SomeStandsForNone s.commons → ⊥) → (SomeActionIsOnCycle s → ⊥) → SomeTypeIsTooLarge s ⊎ ((r : Qualified) → StandsIn s r → IsWritten s.commons r) → IsSound s ⊎ ((f : SchemaFault) × IsUnsound s f)
       sized endless cycle (inl large) = inr (TypeTooLarge, schemas.too_large endless cycle large)
       sized endless cycle (inr all) = inl (record { no_cycle = cycle; is_written = all })
 
-      acyclic : (SomeHasNoEnd s.commons → ⊥) → SomeActionIsOnCycle s ⊎ (SomeActionIsOnCycle s → ⊥) → IsSound s ⊎ ((f : SchemaFault) × IsUnsound s f)
+      acyclic : (SomeStandsForNone s.commons → ⊥) → SomeActionIsOnCycle s ⊎ (SomeActionIsOnCycle s → ⊥) → IsSound s ⊎ ((f : SchemaFault) × IsUnsound s f)
       acyclic endless (inl cycle) = inr (ActionCycle, schemas.action_cycle endless cycle)
       acyclic endless (inr none) = sized endless none (sizes_decided endless)
 
-      by : SomeHasNoEnd s.commons ⊎ (SomeHasNoEnd s.commons → ⊥) → IsSound s ⊎ ((f : SchemaFault) × IsUnsound s f)
+      by : SomeStandsForNone s.commons ⊎ (SomeStandsForNone s.commons → ⊥) → IsSound s ⊎ ((f : SchemaFault) × IsUnsound s f)
       by (inl endless) = inr (TypeCycle, schemas.type_cycle endless)
       by (inr none) = acyclic none (on_cycle_or_not s.actions decided)

@@ -6,7 +6,7 @@ use Rattle.schema_types.specs.Cedar.{Cedar}
 use Rattle.schema_types.specs.WrittenOut as written
 use Rattle.schema_types.specs.WrittenOut.{Declarations, Declares, WrittenOut}
 use Rattle.written_types.specs.Knowledge.{Knowledge, AreWritten, AreWhole}
-use Rattle.schema_types.specs.Outcome.{SomeHasNoEnd, CommonsRefused, SizesRefused, TypeRefused}
+use Rattle.schema_types.specs.Outcome.{SomeStandsForNone, CommonsRefused, SizesRefused, TypeRefused}
 use Rattle.schema_types.specs.Outcome as outcome
 use Rattle.schema_types.specs.declared.fault.SchemaFault.{SchemaFault}
 use Rattle.schema_types.specs.declared.fault.SchemaFault.TheVariants.{ActionCycle}
@@ -18,11 +18,11 @@ use Rattle.schema.specs.declared.reading.Types.{Types}
 use Rattle.schema.specs.inner.Reading.{AreTypesOf, TypesRefused, EdgesRefused}
 
 -- every common type ends where all are written
-pub all_end : (commons : Declarations) (known : Knowledge) → AreWritten commons known → SomeHasNoEnd commons → ⊥
+pub all_end : (commons : Declarations) (known : Knowledge) → AreWritten commons known → SomeStandsForNone commons → ⊥
 all_end commons known are endless =
     let at = are.all endless.name endless.type endless.declared in
     let stands = are.table endless.name at.0 at.1 in
-    endless.no_end stands.type stands.is_written
+    endless.stands_for_none stands.type stands.is_written
 
 commons_fault : (s : FoundSchema) (f : SchemaFault) → CommonsRefused s.commons f → IsUnsound s f
 commons_fault s _ (outcome.cycle endless) = schemas.type_cycle endless
@@ -30,16 +30,16 @@ commons_fault s _ (outcome.cycle endless) = schemas.type_cycle endless
 pub commons_refused : (s : FoundSchema) (f : SchemaFault) → CommonsRefused s.commons f → IsUnsound s f
 commons_refused s f h = commons_fault s f h
 
-edges_fault : (s : FoundSchema) → (SomeHasNoEnd s.commons → ⊥) → SomeActionIsOnCycle s → IsUnsound s ActionCycle
+edges_fault : (s : FoundSchema) → (SomeStandsForNone s.commons → ⊥) → SomeActionIsOnCycle s → IsUnsound s ActionCycle
 edges_fault s ends cycle = schemas.action_cycle ends cycle
 
-pub edges_refused : (s : FoundSchema) (f : SchemaFault) → (SomeHasNoEnd s.commons → ⊥) → EdgesRefused s f → IsUnsound s f
+pub edges_refused : (s : FoundSchema) (f : SchemaFault) → (SomeStandsForNone s.commons → ⊥) → EdgesRefused s f → IsUnsound s f
 edges_refused s f ends h = subst (λ (g : SchemaFault). IsUnsound s g) (sym h.0) (edges_fault s ends h.1)
 
 declared_of : (commons : Declarations) (q : List ℕ) (t : Cedar) → WrittenOut commons (qualified.common q) t → (r : Qualified) × Declares commons q r
 declared_of commons _ _ (written.common q r t d w) = (r, d)
 
-sizes_fault : (s : FoundSchema) (f : SchemaFault) → (SomeHasNoEnd s.commons → ⊥) → (SomeActionIsOnCycle s → ⊥) → SizesRefused s.commons f → IsUnsound s f
+sizes_fault : (s : FoundSchema) (f : SchemaFault) → (SomeStandsForNone s.commons → ⊥) → (SomeActionIsOnCycle s → ⊥) → SizesRefused s.commons f → IsUnsound s f
 sizes_fault s _ ends no_cycle (outcome.large_common large) =
     let declared = declared_of s.commons large.name large.type large.is_written in
     schemas.too_large ends no_cycle (record {
@@ -50,10 +50,10 @@ sizes_fault s _ ends no_cycle (outcome.large_common large) =
       too_large = large.too_large;
     })
 
-pub sizes_refused : (s : FoundSchema) (f : SchemaFault) → (SomeHasNoEnd s.commons → ⊥) → (SomeActionIsOnCycle s → ⊥) → SizesRefused s.commons f → IsUnsound s f
+pub sizes_refused : (s : FoundSchema) (f : SchemaFault) → (SomeStandsForNone s.commons → ⊥) → (SomeActionIsOnCycle s → ⊥) → SizesRefused s.commons f → IsUnsound s f
 sizes_refused s f ends no_cycle h = sizes_fault s f ends no_cycle h
 
-type_fault : (s : FoundSchema) (r : Qualified) (f : SchemaFault) → (SomeHasNoEnd s.commons → ⊥) → (SomeActionIsOnCycle s → ⊥) → IsShapeOrContext s r → TypeRefused s.commons r f → IsUnsound s f
+type_fault : (s : FoundSchema) (r : Qualified) (f : SchemaFault) → (SomeStandsForNone s.commons → ⊥) → (SomeActionIsOnCycle s → ⊥) → IsShapeOrContext s r → TypeRefused s.commons r f → IsUnsound s f
 type_fault s r _ ends no_cycle is (outcome.large_type large) =
     schemas.too_large ends no_cycle (record {
       type = r;
@@ -63,7 +63,7 @@ type_fault s r _ ends no_cycle is (outcome.large_type large) =
       too_large = large.large;
     })
 
-pub types_refused : (s : FoundSchema) (f : SchemaFault) → (SomeHasNoEnd s.commons → ⊥) → (SomeActionIsOnCycle s → ⊥) → TypesRefused s.commons s f → IsUnsound s f
+pub types_refused : (s : FoundSchema) (f : SchemaFault) → (SomeStandsForNone s.commons → ⊥) → (SomeActionIsOnCycle s → ⊥) → TypesRefused s.commons s f → IsUnsound s f
 types_refused s f ends no_cycle h = type_fault s h.0 f ends no_cycle h.1 h.2
 
 -- each shape and each context was written out

@@ -1,9 +1,8 @@
 -- What holds of each schema that bytes state.
-use Rattle.std.proofs.Common.{◌≡◌, ℕ, arith, List, [], ◌∷◌, Option, Some, None, refl, sym, ap, subst, inl, inr}
+use Rattle.std.proofs.Common.{◌≡◌, ℕ, arith, List, [], Option, Some, None, refl, sym, subst, inl, inr}
 use Rattle.std.specs.Prelude.{◌⊎◌, Contains, IsSome}
 use Rattle.std.specs.List.Sorted.{IsStrictlySortedBy}
 use Rattle.values.specs.declared.entity_uid.EntityUid.{EntityUid}
-use Rattle.ancestor_closure.specs.Hierarchy.{Parents, Path, Above}
 use Rattle.ancestor_closure.specs.Deciding.{Above-joined}
 use Rattle.schema_types.specs.Qualified.{Qualified}
 use Rattle.schema_types.specs.Cedar.{Cedar, CedarFields, record_of, no_fields, IsTooLarge}
@@ -12,12 +11,11 @@ use Rattle.schema_types.specs.Ascending.{Ascend, KeysAscend}
 use Rattle.schema_types.specs.AscendingLaw.{WrittenTypesAscend}
 use Rattle.schema_types.specs.Law.{OneWritten, WrittenEntitiesAreNamed}
 use Rattle.schema_types.specs.Mentions.{MentionsEntity, NamesEntity}
-use Rattle.schema_names.specs.Qualifying.{FoundEntityType, FoundSchema}
+use Rattle.schema_names.specs.Qualifying.{FoundSchema}
 use Rattle.schema_names.specs.Laws as names
 use Rattle.schema_names.specs.Laws.{IsShapeOrContext, DeclaresOnce, TypesAscend, IsEntityType, NamesItsEntityTypes}
 use Rattle.schema.specs.Schemas.{StatedSchema, Answers, IsAction, IsRecordOf, IsSound, shape_or_context, action_parents, type_parents, type_uid}
-use Rattle.schema.proofs.AnswersLemmas.{contains_map}
-use Rattle.schema.proofs.HierarchyLemmas.{is_declared, type_edge, action_edge}
+use Rattle.schema.proofs.HierarchyLemmas.{last_edge, action_edge, above_declared, below_declared}
 use Rattle.schema.proofs.NameLemmas.{AreNamed, names_of}
 use Rattle.schema.specs.WellFormed.{AreAttributes, IsActionType, IsWellFormed, StatedSchemasAreWellFormed}
 
@@ -47,10 +45,6 @@ is_some None h = absurd cc
 
 -- ---- which entity types are declared
 
-last_edge : (parents : Parents) (b : EntityUid) (through : List EntityUid) (a : EntityUid) → Path parents b through a → (u : EntityUid) × Contains (parents u) a
-last_edge parents b [] a h = (b, h)
-last_edge parents b (c ∷ cs) a h = last_edge parents c cs a h.1
-
 module _ (named : WrittenEntitiesAreNamed) (s : FoundSchema) (own : NamesItsEntityTypes s) where
   names_none : (t : Cedar) → t ≡ record_of no_fields → (q : List ℕ) → NamesEntity t q → IsEntityType s q
   names_none t e q h = absurd (subst (λ (x : Cedar). NamesEntity x q) e h)
@@ -62,20 +56,6 @@ module _ (named : WrittenEntitiesAreNamed) (s : FoundSchema) (own : NamesItsEnti
   names_declared : (o : Option Qualified) → ((r : Qualified) → o ≡ Some r → IsShapeOrContext s r) → (t : Cedar) → IsRecordOf s.commons o t → (q : List ℕ) → NamesEntity t q → IsEntityType s q
   names_declared None here t e q h = names_none t e q h
   names_declared (Some r) here t w q h = from_named r q (here r refl) (named s.commons r t w q h)
-
-  parent_declared : (e : FoundEntityType) (above : List ℕ) → Contains s.entity_types e → (x : List ℕ) × Contains e.parents x × (type_uid x ≡ type_uid above) → IsEntityType s above
-  parent_declared e above here (x, there, same) = subst (λ (q : List ℕ). IsEntityType s q) (ap (λ (u : EntityUid). u.type_name) same) (own.parents e here x there)
-
-  above_declared : (child above : List ℕ) → Above (type_parents s) (type_uid above) (type_uid child) → IsEntityType s above
-  above_declared child above h =
-      let edge = last_edge (type_parents s) (type_uid child) h.0 (type_uid above) h.1 in
-      let e = type_edge s.entity_types edge.0 (type_uid above) edge.1 in
-      parent_declared e.0 above e.1 (contains_map type_uid e.0.parents (type_uid above) e.2)
-
-  below_declared : (child above : List ℕ) → Above (type_parents s) (type_uid above) (type_uid child) → IsEntityType s child
-  below_declared child above h =
-      let e = is_declared s.entity_types (type_uid child) (type_uid above) h in
-      (e.0, e.1, ap (λ (u : EntityUid). u.type_name) e.2)
 
 -- ---- all of it
 
@@ -136,8 +116,8 @@ module _ (one : OneWritten) (written : WrittenTypesAscend) (s : FoundSchema) (on
           there q (names_declared named s own x.0.context (λ r is. inr (x.1.action, x.1.declared, (x.0, x.1.applies, is))) e.context x.2 q m);
       principals = λ e h. let x = answers.environments e h in there e.place.principal (own.principals x.1.action x.0 x.1.declared x.1.applies e.place.principal x.1.principal);
       resources = λ e h. let x = answers.environments e h in there e.place.resource (own.resources x.1.action x.0 x.1.declared x.1.applies e.place.resource x.1.resource);
-      children = λ child parent h. there child (below_declared named s own child parent ((answers.parents child parent).0 h));
-      parents = λ child parent h. there parent (above_declared named s own child parent ((answers.parents child parent).0 h));
+      children = λ child parent h. there child (below_declared s child parent ((answers.parents child parent).0 h));
+      parents = λ child parent h. there parent (above_declared s own child parent ((answers.parents child parent).0 h));
     }
 
 pub stated_schemas_are_well_formed : OneWritten → WrittenTypesAscend → names.FilesDeclareOnce → names.FilesTypesAscend → names.ShapesAreRecords → names.FilesNameTheirEntityTypes → WrittenEntitiesAreNamed → StatedSchemasAreWellFormed

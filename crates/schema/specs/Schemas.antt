@@ -13,7 +13,7 @@ use Rattle.schema_types.specs.Qualified as qualified
 use Rattle.schema_types.specs.Qualified.{Qualified}
 use Rattle.schema_types.specs.Cedar.{Cedar, record_of, no_fields, IsTooLarge}
 use Rattle.schema_types.specs.WrittenOut.{Declarations, Declares, WrittenOut}
-use Rattle.schema_types.specs.Outcome.{SomeHasNoEnd}
+use Rattle.schema_types.specs.Outcome.{SomeStandsForNone}
 use Rattle.schema_types.specs.declared.fault.SchemaFault.{SchemaFault}
 use Rattle.schema_types.specs.declared.fault.SchemaFault.TheVariants.{TypeCycle, ActionCycle, TypeTooLarge}
 use Rattle.schema_names.specs.Qualifying.{FoundEntityType, FoundUse, FoundAction, FoundSchema}
@@ -135,9 +135,9 @@ pub record IsSound (s : FoundSchema) : Type 0 where
 
 -- why it is not so: the first of three causes
 pub data IsUnsound (s : FoundSchema) : SchemaFault → Type 0 where
-  type_cycle : SomeHasNoEnd s.commons → IsUnsound s TypeCycle
-  action_cycle : (SomeHasNoEnd s.commons → ⊥) → SomeActionIsOnCycle s → IsUnsound s ActionCycle
-  too_large : (SomeHasNoEnd s.commons → ⊥) → (SomeActionIsOnCycle s → ⊥) → SomeTypeIsTooLarge s
+  type_cycle : SomeStandsForNone s.commons → IsUnsound s TypeCycle
+  action_cycle : (SomeStandsForNone s.commons → ⊥) → SomeActionIsOnCycle s → IsUnsound s ActionCycle
+  too_large : (SomeStandsForNone s.commons → ⊥) → (SomeActionIsOnCycle s → ⊥) → SomeTypeIsTooLarge s
       → IsUnsound s TypeTooLarge
 
 -- Bytes state this schema. Nothing is declared twice, since no key stands twice in an object that was read: a law of

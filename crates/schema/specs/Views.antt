@@ -24,7 +24,7 @@ schema_view k = record {
   actions = k.actions;
   shape = shape_at k.entity_types;
   ancestors = ancestors_at k.ancestors;
-  may_have_parent = is_above k.line_places k.beyond;
+  may_have_parent = is_above k.type_numbers k.types_above;
 }
 
 -- some bytes state the schema that this is

@@ -1,4 +1,4 @@
 pub mod Filling
-pub mod Lines
 pub mod Making
+pub mod Numbering
 pub mod Reading

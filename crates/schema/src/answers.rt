@@ -1,12 +1,15 @@
 //! What a schema answers.
 
+use number_spans::Span;
 use plain::{Items, Text};
-use schema_parts::{EntityDecl, Environment, LinePlace, ancestors_at, may_have_parent};
-use std::collections::{BTreeMap, BTreeSet};
+use schema_parts::{EntityDecl, Environment, ancestors_at, may_have_parent};
+use std::collections::BTreeMap;
 use std::marker::Model;
 use values::{EntityUid, TypeName};
 
-/// A schema: entity types with their shapes, actions, and environments. Look-ups take no memory, and logarithmic time.
+/// A schema: entity types with their shapes, actions, and environments. Look-ups take no memory, and logarithmic
+/// time; whether a type may be above another also takes time as there are spans of numbers above this one: one in a
+/// chain or in layers.
 ///
 /// Contracts see what it keeps, which is plain data, and speak of what that answers: `schema_view`. Some bytes state
 /// each schema: [`Schema::is_stated`].
@@ -17,10 +20,10 @@ pub struct Schema {
     pub(crate) actions: Items<EntityUid>,
     pub(crate) shapes: BTreeMap<TypeName, EntityDecl>,
     pub(crate) ancestors: BTreeMap<EntityUid, Items<EntityUid>>,
-    /// Where each entity type stands among those above it.
-    pub(crate) line_places: BTreeMap<TypeName, LinePlace>,
-    /// Of each line of types those above its first.
-    pub(crate) beyond: Vec<BTreeSet<TypeName>>,
+    /// The number of each entity type.
+    pub(crate) type_numbers: BTreeMap<TypeName, usize>,
+    /// At each number those of the types above that one.
+    pub(crate) types_above: Items<Items<Span>>,
 }
 
 impl Model for Schema {
@@ -33,10 +36,10 @@ impl Model for Schema {
 
     ghost coded = { Prim.hlevel (codes, cedar.the_row.coded) };
 
-    ghost view = { λ s. kept s.label s.environments s.actions s.shapes s.ancestors s.line_places s.beyond.items };
+    ghost view = { λ s. kept s.label s.environments s.actions s.shapes s.ancestors s.type_numbers s.types_above };
 
     ghost invariant = { λ s. IsStated
-        (kept s.label s.environments s.actions s.shapes s.ancestors s.line_places s.beyond.items) };
+        (kept s.label s.environments s.actions s.shapes s.ancestors s.type_numbers s.types_above) };
 }
 
 impl Schema {
@@ -51,43 +54,48 @@ impl Schema {
         let _ = &self.label;
     }
 
-    /// The environments, ascending by the action, then by the principal's type, then by the resource's.
+    /// Returns the environments, ascending by the action, then by the principal's type, then by the resource's.
     pub fn environments(&self) -> &[Environment]
         ensures { map environment_view result.now ≡ (schema_view self.now).environments }
     {
         self.environments.as_slice()
     }
 
-    /// The actions, ascending.
+    /// Returns the actions, ascending.
     pub fn actions(&self) -> &[EntityUid]
         ensures { result.now ≡ (schema_view self.now).actions }
     {
         self.actions.as_slice()
     }
 
-    /// The entity type of this name, where it is declared.
+    /// Returns the entity type of this name, where it is declared.
     pub fn entity_type(&self, name: &TypeName) -> Option<&EntityDecl>
         ensures { option_map (λ d. cedar_view d.now.shape) result ≡ (schema_view self.now).shape name.now }
     {
         self.shapes.get(name)
     }
 
-    /// The actions above an action, ascending; None where it is not declared.
+    /// Returns the actions above an action, ascending; None where it is not declared.
     pub fn action_ancestors(&self, uid: &EntityUid) -> Option<&[EntityUid]>
         ensures { option_map (λ us. us.now) result ≡ (schema_view self.now).ancestors uid.now }
     {
         ancestors_at(&self.ancestors, uid)
     }
 
-    /// Whether an entity of the child's type may have a parent of the other: whether one or more steps by
+    /// Returns whether an entity of the child's type may have a parent of the other: whether one or more steps by
     /// `memberOfTypes` lead there.
     pub fn may_have_parent(&self, child: &TypeName, parent: &TypeName) -> bool
         ensures { result ≡ (schema_view self.now).may_have_parent child.now parent.now }
     {
-        may_have_parent(&self.line_places, self.beyond.as_slice(), child, parent)
+        may_have_parent(
+            &self.type_numbers,
+            self.types_above.as_slice(),
+            child,
+            parent,
+        )
     }
 
-    /// The label: 64 lower case hexadecimal digits, SHA-256 of the bytes that were read.
+    /// Returns the label: 64 lower case hexadecimal digits, SHA-256 of the bytes that were read.
     pub fn label(&self) -> &str
         ensures { result.now ≡ (schema_view self.now).label }
     {

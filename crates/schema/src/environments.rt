@@ -113,7 +113,7 @@ fn add_action(
     }
 }
 
-/// The places of all actions, each with the type of its context.
+/// Returns the places of all actions, each with the type of its context.
 ///
 /// Refused where one of these types is too large.
 pub(crate) fn make_places(

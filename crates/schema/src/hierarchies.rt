@@ -1,20 +1,18 @@
 //! The hierarchies of actions and of entity types.
-ghost use Rattle.std.specs.Prelude.{◌≡◌, ℕ, List, IfOk, OnOk, map};
+ghost use Rattle.std.specs.Prelude.{◌≡◌, IfOk, OnOk, map};
 ghost use Rattle.std.specs.BTreeMap.{keys};
-ghost use Rattle.std.specs.BTreeSet.{contains};
-ghost use Rattle.values.specs.Names.{text_cmp};
 ghost use Rattle.ancestor_closure.specs.Hierarchy.{IsAllAbove, IsAscending, names, no_parents, with_parents};
 ghost use Rattle.ancestor_closure.specs.contracts.searched.SearchedAncestry.TheImpl as searched;
 ghost use Rattle.schema_names.specs.FoundViews.{found_action_view, found_entity_type_view};
 ghost use Rattle.schema.specs.Schemas.{with_actions, with_types, type_uid};
-ghost use Rattle.schema.specs.inner.Making.{AddsAncestors, AreAncestors, has_type};
+ghost use Rattle.schema.specs.inner.Making.{AddsAncestors, AreAncestors};
 
 use crate::maps::put;
 use ancestor_closure::{Ancestry, Hierarchy, Searched};
 use plain::{Items, NoMemory};
 use schema_names::{FoundAction, FoundEntityType};
 use std::alloc::Global;
-use std::collections::{BTreeMap, BTreeSet};
+use std::collections::BTreeMap;
 use values::{EntityUid, SharedText, TypeName};
 
 fn copy_uids(alloc: Global, uids: &[EntityUid]) -> Result<Vec<EntityUid>, NoMemory>
@@ -38,7 +36,7 @@ fn copy_all(alloc: Global, uids: &[&EntityUid]) -> Result<Items<EntityUid>, NoMe
     Ok(Items::from_vec(copies))
 }
 
-/// An entity type as a point of a hierarchy: the uid of that type whose id is empty.
+/// Returns an entity type as a point of a hierarchy: the uid of that type whose id is empty.
 pub(crate) fn type_uid(alloc: Global, name: &TypeName) -> Result<EntityUid, NoMemory>
     ensures { IfOk result (λ u. u ≡ type_uid name.now) }
 {
@@ -68,7 +66,7 @@ fn set_action(alloc: Global, edges: &mut Searched, action: &FoundAction) -> Resu
     Ok(())
 }
 
-/// The hierarchy of actions.
+/// Returns the hierarchy of actions.
 pub(crate) fn action_edges(alloc: Global, actions: &[FoundAction]) -> Result<Searched, NoMemory>
     ensures { IfOk result (λ s. searched.parents-value.it s
         ≡ with_actions no_parents (map found_action_view actions.now)) }
@@ -96,7 +94,7 @@ fn set_type(
     Ok(())
 }
 
-/// The hierarchy of entity types.
+/// Returns the hierarchy of entity types.
 pub(crate) fn type_edges(
     alloc: Global,
     entity_types: &[FoundEntityType],
@@ -136,7 +134,7 @@ fn add_ancestors(
     Ok(())
 }
 
-/// The ancestors of actions, by their uids.
+/// Returns the ancestors of actions, by their uids.
 pub(crate) fn make_ancestors(
     alloc: Global,
     edges: &Searched,
@@ -152,7 +150,7 @@ pub(crate) fn make_ancestors(
     Ok(ancestors)
 }
 
-/// The keys of a map, ascending.
+/// Returns the keys of a map, ascending.
 pub(crate) fn uids_of(
     alloc: Global,
     ancestors: &BTreeMap<EntityUid, Items<EntityUid>>,
@@ -163,15 +161,4 @@ pub(crate) fn uids_of(
     let _ordered = ancestors.len();
     let uids: Vec<&EntityUid> = ancestors.keys().collect(alloc)?;
     copy_all(alloc, uids.as_slice())
-}
-
-/// The types of some uids.
-pub(crate) fn types_of(alloc: Global, uids: &[&EntityUid]) -> Result<BTreeSet<TypeName>, NoMemory>
-    ensures { IfOk result (λ s. (q : List ℕ) → contains text_cmp s q ≡ has_type (names uids.now) q) }
-{
-    let mut types = BTreeSet::new(alloc);
-    for uid in uids {
-        types.insert(uid.type_name.copy()?)?;
-    }
-    Ok(types)
 }

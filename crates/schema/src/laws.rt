@@ -7,7 +7,9 @@ use schema_names::{
     files_are_in_order, files_name_their_entity_types, files_name_their_own, not_both, one_file,
     one_refusal, shapes_are_records, some_outcome,
 };
-use schema_types::{keys_ascend, one_written, types_end_or_not, written_entities_are_named};
+use schema_types::{
+    keys_ascend, one_written, types_stand_for_one_or_some_for_none, written_entities_are_named,
+};
 
 /// Bytes state exactly one schema, or are refused for exactly one cause.
 pub fn bytes_have_one_outcome()
@@ -25,7 +27,7 @@ pub fn bytes_have_one_outcome()
     one_refusal();
     some_outcome();
     one_written();
-    types_end_or_not();
+    types_stand_for_one_or_some_for_none();
 }
 
 /// A schema that bytes state has records as attributes and contexts, within the limits and with ascending keys; its

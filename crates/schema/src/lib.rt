@@ -6,8 +6,8 @@ mod answers;
 mod environments;
 mod hierarchies;
 mod laws;
-mod lines;
 mod maps;
+mod numbering;
 mod reading;
 mod shapes;
 

@@ -16,11 +16,11 @@ ghost use Rattle.schema.specs.inner.Reading.{AreHierarchiesOf, TypesRefused, Edg
 use crate::answers::Schema;
 use crate::environments::make_places;
 use crate::hierarchies::{action_edges, make_ancestors, type_edges, uids_of};
-use crate::lines::{Lines, make_lines};
+use crate::numbering::{TypeNumbers, number_types};
 use crate::shapes::make_shapes;
 use ancestor_closure::Searched;
 use plain::{Items, NoMemory};
-use schema_names::{Found, files_name_their_own, read_named};
+use schema_names::{Found, files_name_their_entity_types, files_name_their_own, read_named};
 use schema_parts::{EntityDecl, Environment, demand_no_cycle, label_of, listed};
 use schema_types::SchemaFault;
 use std::alloc::Global;
@@ -40,10 +40,10 @@ struct Types {
 struct Hierarchies {
     actions: Items<EntityUid>,
     ancestors: BTreeMap<EntityUid, Items<EntityUid>>,
-    lines: Lines,
+    types: TypeNumbers,
 }
 
-/// The hierarchy of actions, in which none is above itself.
+/// Returns the hierarchy of actions, in which none is above itself.
 fn demand_edges(alloc: Global, found: &Found) -> Result<Searched, SchemaFault>
     ensures { MatchResult result (λ s. AreEdges (found_view found.now) (searched.parents-value.it s))
         (λ f. f ≢ SchemaFault.NoMemory → EdgesRefused (found_view found.now) f) }
@@ -54,7 +54,7 @@ fn demand_edges(alloc: Global, found: &Found) -> Result<Searched, SchemaFault>
     Ok(edges)
 }
 
-/// The shapes and the environments of a file whose common types were written out.
+/// Returns the shapes and the environments of a file whose common types were written out.
 ///
 /// Refused where a type is too large.
 fn make_types(alloc: Global, found: &Found, table: &Table) -> Result<Types, SchemaFault>
@@ -75,7 +75,7 @@ fn make_types(alloc: Global, found: &Found, table: &Table) -> Result<Types, Sche
     })
 }
 
-/// The hierarchies of a file, whose actions have these edges.
+/// Returns the hierarchies of a file, whose actions have these edges.
 fn make_hierarchies(alloc: Global, found: &Found, edges: &Searched) -> Result<Hierarchies, NoMemory>
     requires { AreEdges (found_view found.now) (searched.parents-value.it edges.now) }
     ensures { IfOk result (λ h. AreHierarchiesOf (found_view found.now) h) }
@@ -84,16 +84,16 @@ fn make_hierarchies(alloc: Global, found: &Found, edges: &Searched) -> Result<Hi
     let entity_types = found.entity_types.as_slice();
     let ancestors = make_ancestors(alloc, edges, actions)?;
     let uids = uids_of(alloc, &ancestors)?;
-    let types = type_edges(alloc, entity_types)?;
-    let lines = make_lines(alloc, &types, entity_types)?;
+    let type_edges = type_edges(alloc, entity_types)?;
+    let types = number_types(alloc, &type_edges, entity_types)?;
     Ok(Hierarchies {
         actions: uids,
         ancestors,
-        lines,
+        types,
     })
 }
 
-/// The schema of bytes that state this file, once its actions and its common types were seen to be sound.
+/// Returns the schema of bytes that state this file, once its actions and its common types were seen to be sound.
 ///
 /// Refused where a shape or a context is too large.
 fn make_schema(
@@ -112,6 +112,7 @@ fn make_schema(
         (λ f. f ≢ SchemaFault.NoMemory
         → TypesRefused (found_view found.now).commons (found_view found.now) f) }
 {
+    files_name_their_entity_types();
     let label = label_of(alloc, bytes)?;
     let hierarchies = make_hierarchies(alloc, found, edges)?;
     let types = make_types(alloc, found, table)?;
@@ -121,12 +122,12 @@ fn make_schema(
         actions: hierarchies.actions,
         shapes: types.shapes,
         ancestors: hierarchies.ancestors,
-        line_places: hierarchies.lines.line_places,
-        beyond: hierarchies.lines.beyond,
+        type_numbers: hierarchies.types.numbers,
+        types_above: hierarchies.types.spans,
     })
 }
 
-/// The schema of bytes that state this file.
+/// Returns the schema of bytes that state this file.
 ///
 /// Refused where a common type leads back to itself, then where an action is above itself, and then where a type is too
 /// large.
@@ -143,7 +144,7 @@ fn sound_schema(alloc: Global, bytes: &[u8], found: &Found) -> Result<Schema, Sc
     make_schema(alloc, bytes, found, &edges, &table)
 }
 
-/// The schema that bytes state.
+/// Returns the schema that bytes state.
 ///
 /// Refused for the first of these: the bytes are no JSON; the JSON has not the shape of a schema; a name is declared
 /// nowhere; a common type leads back to itself; an action is above itself; a type, written out in full, is too large.

@@ -21,7 +21,7 @@ use std::collections::BTreeMap;
 use values::TypeName;
 use written_types::{Table, write_whole};
 
-/// The record without attributes.
+/// Returns the record without attributes.
 fn no_attributes(alloc: Global) -> Result<CedarType, SchemaFault>
     ensures { MatchResult result (λ t. cedar_view t ≡ record_of no_fields) (λ f. f ≡ SchemaFault.NoMemory) }
 {
@@ -29,7 +29,7 @@ fn no_attributes(alloc: Global) -> Result<CedarType, SchemaFault>
     Ok(CedarType::Record(fields))
 }
 
-/// A shape or a context, written out; where there is none, a record without attributes.
+/// Returns a shape or a context, written out; where there is none, a record without attributes.
 ///
 /// Refused where it is too large.
 pub(crate) fn make_record(
@@ -68,7 +68,7 @@ fn add_shape(
     Ok(())
 }
 
-/// The shapes of entity types, by their names.
+/// Returns the shapes of entity types, by their names.
 ///
 /// Refused where one is too large.
 pub(crate) fn make_shapes(

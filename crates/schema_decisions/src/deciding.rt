@@ -23,7 +23,7 @@ use schema::Schema;
 use std::alloc::Global;
 use values::Request;
 
-/// The answer to a request over these policies and entities, and the schema's actions.
+/// Returns the answer to a request over these policies and entities, and the schema's actions.
 fn answer_over(
     alloc: Global,
     schema: &Schema,
@@ -38,7 +38,7 @@ fn answer_over(
     decide(alloc, policies, request, &world)
 }
 
-/// The same over the policies of a file, tried in the order of their names.
+/// Returns the same over the policies of a file, tried in the order of their names.
 fn answer_to(
     alloc: Global,
     schema: &Schema,
@@ -54,7 +54,7 @@ fn answer_to(
     answer_over(alloc, schema, &ordered, store, request)
 }
 
-/// The line of that answer.
+/// Returns the line of that answer.
 fn line_of(
     alloc: Global,
     schema: &Schema,
@@ -70,7 +70,7 @@ fn line_of(
     answer_line(alloc, &answer)
 }
 
-/// The line of the answer to the request of a text, over these policies and entities.
+/// Returns the line of the answer to the request of a text, over these policies and entities.
 fn line_to(
     alloc: Global,
     schema: &Schema,
@@ -87,7 +87,7 @@ fn line_to(
     Ok(line_of(alloc, schema, policies, store, &request)?)
 }
 
-/// The line of the answer over these policies and the entities of a text.
+/// Returns the line of the answer over these policies and the entities of a text.
 fn answer_texts(
     alloc: Global,
     schema: &Schema,
@@ -105,7 +105,7 @@ fn answer_texts(
     line_to(alloc, schema, policies, &store, request)
 }
 
-/// The line of the answer under a schema.
+/// Returns the line of the answer under a schema.
 fn decide_texts(
     alloc: Global,
     schema: &Schema,
@@ -122,8 +122,8 @@ fn decide_texts(
     answer_texts(alloc, schema, &policies, entities, request)
 }
 
-/// The line of the answer to a request under a schema, over a file of policies and an array of entities, with the
-/// schema's actions beside them; or the first refusal.
+/// Returns the line of the answer to a request under a schema, over a file of policies and an array of entities, with
+/// the schema's actions beside them; or the first refusal.
 ///
 /// Refused in this order: the schema (20 to 25, without a place); the file of policies (10 to 19, at a byte); in the
 /// file's order the first policy that does not pass (40 to 46, at the policy's place, from 0); the entities in their

@@ -28,7 +28,7 @@ fn bad_shape(place: Option<usize>) -> Refusal
     entity_refusal(place, EntityFault::BadShape)
 }
 
-/// The entity at a place of the array.
+/// Returns the entity at a place of the array.
 fn read_entity_at(
     alloc: Global,
     schema: &Schema,
@@ -44,7 +44,8 @@ fn read_entity_at(
     }
 }
 
-/// The entities of an array, each the only one of its uid. The JSON of each is given up before the next is read.
+/// Returns the entities of an array, each the only one of its uid. The JSON of each is given up before the next is
+/// read.
 fn read_array(alloc: Global, schema: &Schema, values: Vec<Value>) -> Result<EntityStore, Refusal>
     ensures { ReadsStore result (entities_in (schema_view schema.now) (items_view values.items)) }
 {
@@ -65,7 +66,7 @@ fn read_array(alloc: Global, schema: &Schema, values: Vec<Value>) -> Result<Enti
     Ok(store)
 }
 
-/// The items of an array.
+/// Returns the items of an array.
 fn into_array(value: Value) -> Option<Vec<Value>>
     ensures { option_map (λ values. items_view values.items) result ≡ as_array (view value) }
 {
@@ -75,7 +76,7 @@ fn into_array(value: Value) -> Option<Vec<Value>>
     }
 }
 
-/// The entities of a text.
+/// Returns the entities of a text.
 #[tactic(auto, unfolding(crate::specs::EntityArrays::entities_of))]
 pub(crate) fn read_entities(
     alloc: Global,
@@ -93,7 +94,7 @@ pub(crate) fn read_entities(
     }
 }
 
-/// That a text is a JSON array of entities under the schema, each the only one of its uid. Refused as
+/// Checks that a text is a JSON array of entities under the schema, each the only one of its uid. Refused as
 /// [`decide_under`](crate::decide_under) refuses entities (30 to 38).
 pub fn judge_entities(alloc: Global, schema: &Schema, text: &[u8]) -> Result<(), Refusal>
     ensures read { OnOk result ((es : List Entity) × (entities_of (schema_view schema.now) text.now ≡ Ok es)) }

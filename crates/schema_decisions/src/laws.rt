@@ -10,9 +10,9 @@ use policy_grammar::{file_names_differ, texts_have_one_reading};
 use schema::bytes_have_one_outcome;
 use validator::policies_have_one_outcome;
 
-/// That four texts come to exactly one thing, a line or a refusal; that the ids in an answer's line ascend; and that
-/// the answer is the same where an action has as parents what its `memberOf` states, and no more. It does nothing; its
-/// clauses are laws of the definitions.
+/// Proves that four texts come to exactly one thing, a line or a refusal; that the ids in an answer's line ascend; and
+/// that the answer is the same where an action has as parents what its `memberOf` states, and no more. It does nothing;
+/// its clauses are laws of the definitions.
 pub fn texts_have_one_outcome()
     ensures one_line { OneLine }
     ensures not_both { NotBoth }

@@ -12,7 +12,7 @@ use schema::Schema;
 use std::alloc::Global;
 use validator::check;
 
-/// That the policy at a place passes.
+/// Checks that the policy at a place passes.
 fn check_at(alloc: Global, schema: &Schema, place: usize, policy: &Policy) -> Result<(), Refusal>
     ensures passes { IfOk result (λ _. Passes (schema_view schema.now) policy.now) }
     ensures refused { IfErr result (OrNoMemory (IsUnpassed (schema_view schema.now) place policy.now)) }
@@ -23,7 +23,7 @@ fn check_at(alloc: Global, schema: &Schema, place: usize, policy: &Policy) -> Re
     }
 }
 
-/// That each policy passes, in their order.
+/// Checks that each policy passes, in their order.
 fn check_each(alloc: Global, schema: &Schema, policies: &[(String, Policy)]) -> Result<(), Refusal>
     ensures passes { IfOk result (λ _. All (Passes (schema_view schema.now)) (map (λ p. p.1) policies.now)) }
     ensures refused { IfErr result
@@ -35,7 +35,7 @@ fn check_each(alloc: Global, schema: &Schema, policies: &[(String, Policy)]) -> 
     Ok(())
 }
 
-/// What goes on to be asked, or the refusal for which it does not.
+/// Returns what goes on to be asked, or the refusal for which it does not.
 fn where_passing<P: Drop>(policies: P, checked: Result<(), Refusal>) -> Result<P, Refusal>
     ensures { MatchResult checked (λ _. result ≡ Ok policies) (λ r. result ≡ Err r) }
 {
@@ -45,7 +45,7 @@ fn where_passing<P: Drop>(policies: P, checked: Result<(), Refusal>) -> Result<P
     }
 }
 
-/// The policies of a file with their names, in the file's order, each of which passes.
+/// Returns the policies of a file with their names, in the file's order, each of which passes.
 pub(crate) fn passing_policies(
     alloc: Global,
     schema: &Schema,

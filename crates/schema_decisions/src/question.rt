@@ -13,7 +13,7 @@ use schema::Schema;
 use std::alloc::Global;
 use values::Request;
 
-/// The request that bytes state, or the first fault.
+/// Returns the request that bytes state, or the first fault.
 fn read_question(alloc: Global, schema: &Schema, text: &[u8]) -> Result<Request, EntityFault>
     ensures read { IfOk result (IsRequestText (schema_view schema.now) text.now) }
     ensures refused { IfErr result
@@ -25,7 +25,7 @@ fn read_question(alloc: Global, schema: &Schema, text: &[u8]) -> Result<Request,
     }
 }
 
-/// The request that bytes state, or the refusal, which has no place.
+/// Returns the request that bytes state, or the refusal, which has no place.
 pub(crate) fn request_in(alloc: Global, schema: &Schema, text: &[u8]) -> Result<Request, Refusal>
     ensures read { IfOk result (IsRequestText (schema_view schema.now) text.now) }
     ensures refused { IfErr result (OrNoMemory (IsRequestRefused (schema_view schema.now) text.now)) }

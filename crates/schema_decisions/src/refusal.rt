@@ -5,7 +5,8 @@ ghost use Rattle.schema_decisions.specs.Refusals.{entity_refusal};
 use decision_texts::Refusal;
 use entities::EntityFault;
 
-/// A fault of an entity, at its place in the array, or of a request, which has none. Want of memory has no place.
+/// Returns a fault of an entity, at its place in the array, or of a request, which has none. Want of memory has no
+/// place.
 pub(crate) fn entity_refusal(place: Option<usize>, fault: EntityFault) -> Refusal
     ensures { result ≡ entity_refusal place fault }
 {

@@ -12,7 +12,7 @@ use Rattle.json_words.specs.Each.{each, list_of, each_member}
 use Rattle.schema_types.specs.Raw.{Raw}
 use Rattle.schema_types.specs.Forms.{form_named}
 use Rattle.schema_types.specs.Names.{is_qualified}
-use Rattle.schema_types.specs.Optional.{optional, text_at}
+use Rattle.schema_types.specs.Optional.{optional, required_text}
 use Rattle.schema_types.specs.TypeShape.{type_name, type_of}
 use Rattle.schema_types.specs.declared.forms.Form.{Form}
 use Rattle.schema_types.specs.declared.forms.Form.TheVariants.{Text, Long, Boolean, Set, Record, Entity, Extension}
@@ -135,7 +135,7 @@ entity_type_of k d = do
 unfoldable pub parent_of : Data → Result StatedParent SchemaFault
 parent_of d = do
   keys ← demand BadShape (has_only (codes "id" ∷ codes "type" ∷ codes "annotations" ∷ []) d)
-  id ← text_at (codes "id") d
+  id ← required_text (codes "id") d
   type_name ← name_in_place (optional (codes "type") d)
   Ok (record { type_name = type_name; id = id })
 

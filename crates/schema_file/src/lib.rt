@@ -3,6 +3,9 @@
 
 mod laws;
 mod reading;
+mod reading_actions;
+mod reading_names;
+mod reading_types;
 mod stated;
 
 pub use laws::stated_files_are_in_order;

@@ -18,7 +18,7 @@ use std::alloc::Global;
 use std::collections::BTreeSet;
 use values::{EntityUid, TypeName};
 
-/// The full name of a declaration, as a text of its own.
+/// Returns the full name of a declaration, as a text of its own.
 pub(crate) fn full_text(
     alloc: Global,
     own: &Option<TypeName>,
@@ -122,7 +122,7 @@ fn add_namespace(
     Ok(())
 }
 
-/// The names that these namespaces declare. Fails for memory alone.
+/// Returns the names that these namespaces declare. Fails for memory alone.
 pub(crate) fn declare(alloc: Global, stated: &[StatedNamespace]) -> Result<Names, NoMemory>
     ensures { IfOk result (λ n. Declares (map namespace_view stated.now) n) }
 {

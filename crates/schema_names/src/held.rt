@@ -4,7 +4,7 @@ ghost use Rattle.std.specs.Prelude.{◌≡◌, ◌≢◌, ◌++◌, ◌∷◌, [
 use plain::Items;
 use schema_types::SchemaFault;
 
-/// What was read, with a value that was kept while it was.
+/// Returns what was read, with a value that was kept while it was.
 pub(crate) fn beside<T: Drop, U, E>(kept: T, read: Result<U, E>) -> Result<(T, U), E>
     ensures read { IfOk result (λ both. read ≡ Ok both.1) }
     ensures kept { IfOk result (λ both. both.0 ≡ kept) }
@@ -16,7 +16,7 @@ pub(crate) fn beside<T: Drop, U, E>(kept: T, read: Result<U, E>) -> Result<(T, U
     }
 }
 
-/// The items, and behind them the one that was read.
+/// Returns the items, and behind them the one that was read.
 pub(crate) fn followed_by<T: Drop>(
     items: Items<T>,
     read: Result<T, SchemaFault>,

@@ -7,7 +7,7 @@ use crate::qualifying::Found;
 use plain::{Items, NoMemory};
 use std::alloc::Global;
 
-/// The items of the one list and then those of the other.
+/// Returns the items of the one list and then those of the other.
 fn append<T: Drop>(items: Items<T>, more: Items<T>) -> Result<Items<T>, NoMemory>
     ensures { IfOk result (λ whole. whole ≡ items ++ more) }
 {
@@ -30,7 +30,7 @@ fn both<A: Drop, B: Drop>(
     Ok((first, second))
 }
 
-/// What the one declares and then what the other declares.
+/// Returns what the one declares and then what the other declares.
 fn join(first: Found, second: Found) -> Result<Found, NoMemory>
     ensures { IfOk result (λ found. found_view found ≡ both (found_view first) (found_view second)) }
 {
@@ -45,7 +45,7 @@ fn join(first: Found, second: Found) -> Result<Found, NoMemory>
     })
 }
 
-/// What all of them declare.
+/// Returns what all of them declare.
 pub(crate) fn join_all(alloc: Global, parts: Items<Found>) -> Result<Found, NoMemory>
     ensures { IfOk result (λ found. found_view found ≡ together (map found_view parts)) }
 {

@@ -29,7 +29,7 @@ fn read_value(alloc: Global, bytes: &[u8]) -> Result<Value, SchemaFault>
     }
 }
 
-/// The namespaces with each name found.
+/// Returns the namespaces with each name found.
 ///
 /// Refused where a shape or a context is no record, and then where a name is declared nowhere.
 fn name_all(alloc: Global, stated: &[StatedNamespace]) -> Result<Items<Found>, SchemaFault>
@@ -41,7 +41,7 @@ fn name_all(alloc: Global, stated: &[StatedNamespace]) -> Result<Items<Found>, S
     qualify_namespaces(alloc, &names, stated)
 }
 
-/// The namespaces that bytes state, with each name found.
+/// Returns the namespaces that bytes state, with each name found.
 fn read_parts(alloc: Global, bytes: &[u8]) -> Result<Items<Found>, SchemaFault>
     ensures { MatchResult result (λ ps. StatesNamed bytes.now (together (map found_view ps)))
         (λ f. f ≢ SchemaFault.NoMemory → NamingRefused bytes.now f) }
@@ -51,7 +51,7 @@ fn read_parts(alloc: Global, bytes: &[u8]) -> Result<Items<Found>, SchemaFault>
     name_all(alloc, stated.as_slice())
 }
 
-/// What the namespaces that bytes state declare, with each name found.
+/// Returns what the namespaces that bytes state declare, with each name found.
 ///
 /// Refused where the bytes are no JSON, then where the JSON has not the shape of a schema, and then where a name is
 /// declared nowhere.

@@ -43,7 +43,7 @@ fn add_all<'a>(
     Ok(())
 }
 
-/// The common types that a file declares, in their order.
+/// Returns the common types that a file declares, in their order.
 pub(crate) fn list_all<'a>(
     alloc: Global,
     stated: &'a [StatedNamespace],
@@ -58,7 +58,7 @@ pub(crate) fn list_all<'a>(
     Ok(listed)
 }
 
-/// The place of each name that is declared; of one that is declared twice, the last.
+/// Returns the place of each name that is declared; of one that is declared twice, the last.
 fn places_of(
     alloc: Global,
     commons: &[ListedCommon<'_>],
@@ -81,7 +81,7 @@ fn place_at(name: &str, places: &BTreeMap<String, usize>) -> Option<usize>
     places.get(name).copied()
 }
 
-/// The place of the common type that a type names, where it names one.
+/// Returns the place of the common type that a type names, where it names one.
 fn place_meant(
     alloc: Global,
     names: &Names,
@@ -98,7 +98,7 @@ fn place_meant(
     }
 }
 
-/// A list of the place, where there is one.
+/// Returns a list of the place, where there is one.
 fn in_list(alloc: Global, place: Option<usize>) -> Result<Vec<usize>, NoMemory>
     ensures { IfOk result (λ places. places.items ≡ in_list place) }
 {
@@ -109,7 +109,7 @@ fn in_list(alloc: Global, place: Option<usize>) -> Result<Vec<usize>, NoMemory>
     Ok(places)
 }
 
-/// The place of the common type that a common type is a name of, where it is one.
+/// Returns the place of the common type that a common type is a name of, where it is one.
 fn use_of(
     alloc: Global,
     names: &Names,
@@ -142,8 +142,8 @@ fn uses_of(
     Ok(edges)
 }
 
-/// The places of common types, each once, and behind that of the one that it is a name of, but where that leads back:
-/// in this order one round finds each that means no record.
+/// Returns the places of common types, each once, and behind that of the one that it is a name of, but where that leads
+/// back: in this order one round finds each that means no record.
 pub(crate) fn order_of(
     alloc: Global,
     names: &Names,

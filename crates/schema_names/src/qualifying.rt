@@ -59,7 +59,7 @@ pub struct Found {
     pub actions: Items<FoundAction>,
 }
 
-/// The entity type that a word means.
+/// Returns the entity type that a word means.
 fn qualify_name(
     alloc: Global,
     names: &Names,
@@ -90,7 +90,7 @@ fn qualify_names(
     Ok(found)
 }
 
-/// A type that may be missing.
+/// Returns a type that may be missing.
 fn qualify_optional(
     alloc: Global,
     names: &Names,
@@ -106,7 +106,7 @@ fn qualify_optional(
     }
 }
 
-/// The common type of a namespace.
+/// Returns the common type of a namespace.
 #[tactic(auto, unfolding(crate::specs::Qualifying::qualified_common))]
 fn qualify_common(
     alloc: Global,
@@ -122,7 +122,7 @@ fn qualify_common(
     Ok(FoundCommon { name, ty })
 }
 
-/// The entity type of a namespace.
+/// Returns the entity type of a namespace.
 #[tactic(auto, unfolding(crate::specs::Qualifying::qualified_entity_type))]
 fn qualify_entity_type(
     alloc: Global,
@@ -184,7 +184,7 @@ fn qualify_optional_use(
     }
 }
 
-/// The action that a member of `memberOf` means.
+/// Returns the action that a member of `memberOf` means.
 fn find_action(
     alloc: Global,
     names: &Names,
@@ -199,7 +199,7 @@ fn find_action(
     }
 }
 
-/// The action above, which must be declared.
+/// Returns the action above, which must be declared.
 #[tactic(auto, unfolding(crate::specs::Qualifying::parent_named))]
 fn qualify_parent(
     alloc: Global,
@@ -231,7 +231,7 @@ fn qualify_parents(
     Ok(found)
 }
 
-/// The uid of an action of a namespace.
+/// Returns the uid of an action of a namespace.
 pub(crate) fn uid_of(
     alloc: Global,
     own: &Option<TypeName>,
@@ -244,7 +244,7 @@ pub(crate) fn uid_of(
     Ok(EntityUid { type_name, id })
 }
 
-/// The action of a namespace.
+/// Returns the action of a namespace.
 #[tactic(auto, unfolding(crate::specs::Qualifying::qualified_action))]
 fn qualify_action(
     alloc: Global,
@@ -315,7 +315,7 @@ fn qualify_actions(
     Ok(found)
 }
 
-/// A namespace with each name found.
+/// Returns a namespace with each name found.
 #[tactic(auto, unfolding(crate::specs::Qualifying::qualified_namespace))]
 pub(crate) fn qualify_namespace(
     alloc: Global,
@@ -338,7 +338,7 @@ pub(crate) fn qualify_namespace(
     })
 }
 
-/// The namespaces with each name found.
+/// Returns the namespaces with each name found.
 ///
 /// Refused where a name is declared nowhere.
 pub(crate) fn qualify_namespaces(

@@ -24,7 +24,7 @@ use std::alloc::Global;
 use std::collections::BTreeSet;
 use values::TypeName;
 
-/// The common type that a type names, where it names one that is declared.
+/// Returns the common type that a type names, where it names one that is declared.
 pub(crate) fn find_common(
     alloc: Global,
     names: &Names,
@@ -47,7 +47,7 @@ pub(crate) fn find_common(
     }
 }
 
-/// Whether a type is no record, where it names no common type that is declared.
+/// Returns whether a type is no record, where it names no common type that is declared.
 fn is_no_record(
     alloc: Global,
     names: &Names,
@@ -69,7 +69,7 @@ fn is_no_record(
     }
 }
 
-/// Whether a type means no record, as far as it is known which common types mean none.
+/// Returns whether a type means no record, as far as it is known which common types mean none.
 fn means_none(
     alloc: Global,
     names: &Names,
@@ -203,7 +203,7 @@ fn spread_in_order(
     Ok(())
 }
 
-/// The common types that mean no record, by their full names.
+/// Returns the common types that mean no record, by their full names.
 fn no_records(
     alloc: Global,
     names: &Names,
@@ -226,7 +226,7 @@ fn no_records(
     Ok(known)
 }
 
-/// Whether a type, where there is one, means a record.
+/// Returns whether a type, where there is one, means a record.
 fn is_record(
     alloc: Global,
     names: &Names,
@@ -243,7 +243,7 @@ fn is_record(
     }
 }
 
-/// Whether the context of an action, where it has one, is a record.
+/// Returns whether the context of an action, where it has one, is a record.
 fn is_context(
     alloc: Global,
     names: &Names,
@@ -298,7 +298,7 @@ fn are_contexts(
     Ok(true)
 }
 
-/// Whether each shape and each context of a namespace is a record.
+/// Returns whether each shape and each context of a namespace is a record.
 fn are_records_of(
     alloc: Global,
     names: &Names,

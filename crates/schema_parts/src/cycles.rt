@@ -8,7 +8,7 @@ use ancestor_closure::{Ancestry, Searched};
 use plain::NoMemory;
 use schema_types::SchemaFault;
 
-/// Whether something is above itself.
+/// Returns whether something is above itself.
 fn has_cycle(edges: &Searched) -> Result<bool, NoMemory>
     ensures { IfOk result (λ yes. IsTrue yes ↔ HasCycle (searched.parents-value.it edges.now)) }
 {

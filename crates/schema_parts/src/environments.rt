@@ -10,7 +10,7 @@ use std::alloc::Global;
 use std::collections::BTreeMap;
 use values::{EntityUid, TypeName};
 
-/// The place of an action, a type of principals and a type of resources.
+/// Returns the place of an action, a type of principals and a type of resources.
 ///
 /// Refused only for want of memory.
 pub fn make_place(
@@ -30,7 +30,7 @@ pub fn make_place(
     })
 }
 
-/// The entries of a map as environments, in order, each once.
+/// Returns the entries of a map as environments, in order, each once.
 ///
 /// Refused only for want of memory.
 pub fn listed(

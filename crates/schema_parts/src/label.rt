@@ -7,7 +7,7 @@ use plain::{NoMemory, Text};
 use sha2::{Digest, Sha256};
 use std::alloc::Global;
 
-/// The lower case hexadecimal digits of SHA-256 of the bytes: 64 of them.
+/// Returns the lower case hexadecimal digits of SHA-256 of the bytes: 64 of them.
 ///
 /// Refused only for want of memory.
 ///

@@ -12,4 +12,4 @@ pub use cycles::demand_no_cycle;
 pub use environments::{listed, make_place};
 pub use label::label_of;
 pub use lookups::{ancestors_at, may_have_parent};
-pub use parts::{EntityDecl, Environment, LinePlace, Place};
+pub use parts::{EntityDecl, Environment, Place};

@@ -1,16 +1,17 @@
-//! What is found in the parts of a schema. No look-up takes memory, and each takes logarithmic time.
-ghost use Rattle.std.specs.Prelude.{◌≡◌, map, option_map};
+//! What is found in the parts of a schema. No look-up takes memory. Each takes logarithmic time; that of a type
+//! above another also the time that the spans of numbers above it take, which are few where types form layers.
+ghost use Rattle.std.specs.Prelude.{◌≡◌, option_map};
 ghost use Rattle.std.specs.List.{slice_get};
 ghost use Rattle.std.specs.BTreeMap.{get};
 ghost use Rattle.values.specs.Names.{text_cmp};
-ghost use Rattle.schema_parts.specs.LookUps.{ancestors_at, is_among, is_before, is_above};
+ghost use Rattle.schema_parts.specs.LookUps.{ancestors_at, has_number_at, is_numbered_at, is_above};
 
-use crate::parts::LinePlace;
+use number_spans::{Span, has_number};
 use plain::Items;
-use std::collections::{BTreeMap, BTreeSet};
+use std::collections::BTreeMap;
 use values::{EntityUid, TypeName};
 
-/// The actions above an action; None where it is none.
+/// Returns the actions above an action; None where it is none.
 pub fn ancestors_at<'a>(
     ancestors: &'a BTreeMap<EntityUid, Items<EntityUid>>,
     uid: &EntityUid,
@@ -23,46 +24,43 @@ pub fn ancestors_at<'a>(
     }
 }
 
-/// Whether a type stands before another in its line.
-fn stands_before(
-    line_places: &BTreeMap<TypeName, LinePlace>,
+/// Returns whether the spans that stand at a place have a number.
+fn has_number_at(spans: &[Items<Span>], place: usize, number: usize) -> bool
+    ensures { result ≡ has_number_at (slice_get spans.now place) number }
+{
+    match spans.get(place) {
+        Some(found) => has_number(found.as_slice(), number),
+        None => false,
+    }
+}
+
+/// Returns whether a type has a number, which is among those at a place.
+fn is_numbered_at(
+    numbers: &BTreeMap<TypeName, usize>,
+    spans: &[Items<Span>],
+    place: usize,
     name: &TypeName,
-    standing: LinePlace,
 ) -> bool
-    ensures { result ≡ is_before (get text_cmp line_places.now name.now) standing }
+    ensures { result ≡ is_numbered_at spans.now place (get text_cmp numbers.now name.now) }
 {
-    match line_places.get(name) {
-        Some(found) => {
-            found.is_member && found.line == standing.line && found.bound < standing.bound
-        }
+    match numbers.get(name) {
+        Some(number) => has_number_at(spans, place, *number),
         None => false,
     }
 }
 
-/// Whether a type is beyond a line.
-fn is_beyond(beyond: &[BTreeSet<TypeName>], line: usize, name: &TypeName) -> bool
-    ensures { result ≡ is_among (slice_get (map (λ s. s.keys) beyond.now) line) name.now }
-{
-    match beyond.get(line) {
-        Some(types) => types.contains(name),
-        None => false,
-    }
-}
-
-/// Whether the parent is one of the types above the child: it stands before it in its line, or is beyond the line.
+/// Returns whether the parent is one of the types above the child: at the number of each type stand those of the types
+/// above it.
 pub fn may_have_parent(
-    line_places: &BTreeMap<TypeName, LinePlace>,
-    beyond: &[BTreeSet<TypeName>],
+    numbers: &BTreeMap<TypeName, usize>,
+    spans: &[Items<Span>],
     child: &TypeName,
     parent: &TypeName,
 ) -> bool
-    ensures { result ≡ is_above line_places.now.entries (map (λ s. s.keys) beyond.now) child.now parent.now }
+    ensures { result ≡ is_above numbers.now.entries spans.now child.now parent.now }
 {
-    match line_places.get(child) {
-        Some(standing) => {
-            stands_before(line_places, parent, *standing)
-                || is_beyond(beyond, standing.line, parent)
-        }
+    match numbers.get(child) {
+        Some(place) => is_numbered_at(numbers, spans, *place, parent),
         None => false,
     }
 }

@@ -28,15 +28,3 @@ pub struct EntityDecl {
     /// The attributes of its entities, as a record.
     pub shape: CedarType,
 }
-
-/// Where an entity type stands among those above it. They are kept in lines, in each of which a type has the one before
-/// it as its only parent.
-#[derive(Clone, Copy)]
-pub struct LinePlace {
-    /// The number of its line.
-    pub line: usize,
-    /// Those of the line with a lesser number are above it.
-    pub bound: usize,
-    /// Whether it is of the line, with this number.
-    pub is_member: bool,
-}

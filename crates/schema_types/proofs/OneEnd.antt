@@ -7,7 +7,7 @@ use Rattle.schema_types.specs.Cedar.{Cedar, CedarFields}
 use Rattle.schema_types.specs.WrittenOut as written
 use Rattle.schema_types.specs.WrittenOut.{Declarations, Declares, WrittenOut, FieldsWrittenOut}
 use Rattle.schema_types.specs.Mentions.{Mentions, FieldsMention, Leads, step, steps}
-use Rattle.schema_types.specs.Law.{AreOnce, OneWritten, CyclesHaveNoEnd}
+use Rattle.schema_types.specs.Law.{AreOnce, OneWritten, CyclesStandForNone}
 
 mutual
   one : (commons : Declarations) → AreOnce commons → (r : Qualified) (t u : Cedar) → WrittenOut commons r t → WrittenOut commons r u → t ≡ u
@@ -87,9 +87,9 @@ along : (commons : Declarations) → AreOnce commons → (p q : List ℕ) (n : �
 along commons once p q n (step _ _ r d m) b = lower commons once p q r d m n b
 along commons once p q n (steps _ x _ r d m l) b = let i = lower commons once p x r d m n b in along commons once x q n l (i.0, i.1, omega (arith, i.2))
 
-no_end : (commons : Declarations) → AreOnce commons → (q : List ℕ) → Leads commons q q → (n : ℕ) → Below commons q n → ⊥
-no_end commons once q l zero b = none_at_0 commons q b
-no_end commons once q l (suc n) b = no_end commons once q l n (along commons once q q n l b)
+stands_for_none : (commons : Declarations) → AreOnce commons → (q : List ℕ) → Leads commons q q → (n : ℕ) → Below commons q n → ⊥
+stands_for_none commons once q l zero b = none_at_0 commons q b
+stands_for_none commons once q l (suc n) b = stands_for_none commons once q l n (along commons once q q n l b)
 
-pub cycles_have_no_end : CyclesHaveNoEnd
-cycles_have_no_end commons once q l t w = no_end commons once q l (height commons (qualified.common q) t w) (t, w, omega arith)
+pub cycles_stand_for_none : CyclesStandForNone
+cycles_stand_for_none commons once q l t w = stands_for_none commons once q l (height commons (qualified.common q) t w) (t, w, omega arith)

@@ -14,7 +14,7 @@ use Rattle.schema_types.specs.Qualified.{Qualified, QualifiedFields}
 use Rattle.schema_types.specs.Cedar.{Cedar, CedarFields}
 use Rattle.schema_types.specs.Forms.{form_named, keys_of}
 use Rattle.schema_types.specs.Names.{Scope, found, built_in, or_entity, or_common, any_named, entity_named, common_named, qualified_of, fields_of}
-use Rattle.schema_types.specs.Optional.{optional, text_at, closed_in}
+use Rattle.schema_types.specs.Optional.{optional, required_text, closed_in}
 use Rattle.schema_types.specs.TypeShape.{type_name, name_in, reserved_type, or_path, entity_or_common, extension_named, there, by_form, formed, required_in, type_of, type_at, fields_at, attributes_of, fields_in}
 use Rattle.schema_types.specs.WrittenOut as written
 use Rattle.schema_types.specs.WrittenOut.{Declarations, WrittenOut, FieldsWrittenOut}
@@ -105,10 +105,10 @@ form_ascends Record w d element fields r one more e =
     by_ok (raw.record_of b.0) r (more b.0 (stood fields b.0 b.1)) b.2
 form_ascends Entity w d element fields r one more e = let a = bind_ok (name_in d) (λ n. ok (raw.entity n)) r e in by_ok (raw.entity a.0) r tt a.2
 form_ascends Extension w d element fields r one more e =
-    let a = bind_ok (text_at (codes "name") d) (λ n. or_fault BadShape (extension_named n)) r e in
+    let a = bind_ok (required_text (codes "name") d) (λ n. or_fault BadShape (extension_named n)) r e in
     extension_ascends a.0 r (some_there BadShape (extension_named a.0) r a.2)
 form_ascends EntityOrCommon w d element fields r one more e =
-    let a = bind_ok (text_at (codes "name") d) entity_or_common r e in
+    let a = bind_ok (required_text (codes "name") d) entity_or_common r e in
     path_ascends (reserved_type a.0) a.0 r (reserved_ascends a.0) a.2
 form_ascends Common w d element fields r one more e = let a = bind_ok (type_name w) (λ n. ok (raw.common n)) r e in by_ok (raw.common a.0) r tt a.2
 
@@ -116,7 +116,7 @@ formed_ascends : (is_attribute : Bool) (d : Data) (element : Option (Result Raw 
     → ElementAscends element → AttributesAscend fields → formed is_attribute d element fields ≡ ok r → RawAscends r
 unfolding formed
 formed_ascends is_attribute d element fields r one more e =
-    let a = bind_ok (text_at (codes "type") d) (λ w. demand BadShape (has_only (keys_of is_attribute (form_named w)) d) >>= λ keys. by_form (form_named w) w d element fields) r e in
+    let a = bind_ok (required_text (codes "type") d) (λ w. demand BadShape (has_only (keys_of is_attribute (form_named w)) d) >>= λ keys. by_form (form_named w) w d element fields) r e in
     let b = bind_ok (demand BadShape (has_only (keys_of is_attribute (form_named a.0)) d)) (λ keys. by_form (form_named a.0) a.0 d element fields) r a.2 in
     form_ascends (form_named a.0) a.0 d element fields r one more b.2
 

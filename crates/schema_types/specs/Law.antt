@@ -4,10 +4,10 @@ use Rattle.std.specs.Prelude.{◌≡◌, ◌⊎◌, ℕ, List, true, Option, Ok}
 use Rattle.schema_types.specs.Raw.{Raw}
 use Rattle.schema_types.specs.Qualified.{Qualified}
 use Rattle.schema_types.specs.Cedar.{Cedar}
-use Rattle.schema_types.specs.WrittenOut.{Declarations, Declares, WrittenOut, HasNoEnd}
+use Rattle.schema_types.specs.WrittenOut.{Declarations, Declares, WrittenOut, StandsForNone}
 use Rattle.schema_types.specs.Mentions.{IsClosed, Leads, Mentions, MentionsEntity, NamesEntity}
 use Rattle.schema_types.specs.Names.{Scope, qualified_of}
-use Rattle.schema_types.specs.Outcome.{SomeHasNoEnd}
+use Rattle.schema_types.specs.Outcome.{SomeStandsForNone}
 
 -- no name is declared twice
 abbrev pub AreOnce : Declarations → Type 0
@@ -19,25 +19,26 @@ OneWritten =
     (commons : Declarations) → AreOnce commons → (r : Qualified) (t u : Cedar) → WrittenOut commons r t
     → WrittenOut commons r u → t ≡ u
 
--- a common type that leads back to itself has no end
-abbrev pub CyclesHaveNoEnd : Type 0
-CyclesHaveNoEnd = (commons : Declarations) → AreOnce commons → (q : List ℕ) → Leads commons q q → HasNoEnd commons q
+-- a common type that leads back to itself stands for none
+abbrev pub CyclesStandForNone : Type 0
+CyclesStandForNone =
+    (commons : Declarations) → AreOnce commons → (q : List ℕ) → Leads commons q q → StandsForNone commons q
 
 -- each common type that is named is declared
 abbrev pub AreClosed : Declarations → Type 0
 AreClosed commons = (q : List ℕ) (r : Qualified) → Declares commons q r → IsClosed commons r
 
--- and the other way, where that is so: one without an end leads to one that leads back to itself
-abbrev pub EndlessAreCyclic : Type 0
-EndlessAreCyclic =
+-- and the other way, where that is so: one that stands for none leads to one that leads back to itself
+abbrev pub WhatStandsForNoneLeadsBack : Type 0
+WhatStandsForNoneLeadsBack =
     (commons : Declarations) → AreClosed commons → (q : List ℕ) (r : Qualified) → Declares commons q r
-    → HasNoEnd commons q → (p : List ℕ) × ((q ≡ p) ⊎ Leads commons q p) × Leads commons p p
+    → StandsForNone commons q → (p : List ℕ) × ((q ≡ p) ⊎ Leads commons q p) × Leads commons p p
 
--- where each name is declared, once, a type stands for one, or some common type has no end
-abbrev pub TypesEndOrNot : Type 0
-TypesEndOrNot =
+-- where each name is declared, once, a type stands for one, or some common type for none
+abbrev pub TypesStandForOneOrSomeForNone : Type 0
+TypesStandForOneOrSomeForNone =
     (commons : Declarations) → AreOnce commons → AreClosed commons → (r : Qualified) → IsClosed commons r
-    → ((t : Cedar) × WrittenOut commons r t) ⊎ SomeHasNoEnd commons
+    → ((t : Cedar) × WrittenOut commons r t) ⊎ SomeStandsForNone commons
 
 -- a name of a type whose names were found is declared
 abbrev pub FoundCommonsAreDeclared : Type 0

@@ -23,8 +23,8 @@ abbrev pub optional : List ℕ → Data → Option Data
 optional k d = present (get k d)
 
 -- the text at a key that must be there
-abbrev pub text_at : List ℕ → Data → Result (List ℕ) SchemaFault
-text_at k d = do
+abbrev pub required_text : List ℕ → Data → Result (List ℕ) SchemaFault
+required_text k d = do
   found ← or_fault BadShape (get k d)
   or_fault BadShape (as_str found)
 

@@ -3,16 +3,16 @@
 use Rattle.std.specs.Prelude.{ℕ, List}
 use Rattle.schema_types.specs.Qualified.{Qualified, common}
 use Rattle.schema_types.specs.Cedar.{Cedar, IsTooLarge}
-use Rattle.schema_types.specs.WrittenOut.{Declarations, Declares, WrittenOut, HasNoEnd}
+use Rattle.schema_types.specs.WrittenOut.{Declarations, Declares, WrittenOut, StandsForNone}
 use Rattle.schema_types.specs.declared.fault.SchemaFault.{SchemaFault}
 use Rattle.schema_types.specs.declared.fault.SchemaFault.TheVariants.{TypeCycle, TypeTooLarge}
 
 -- some common type leads back to itself: nothing finite is what it stands for
-pub record SomeHasNoEnd (commons : Declarations) : Type 0 where
+pub record SomeStandsForNone (commons : Declarations) : Type 0 where
   pub name : List ℕ
   pub type : Qualified
   pub declared : Declares commons name type
-  pub no_end : HasNoEnd commons name
+  pub stands_for_none : StandsForNone commons name
 
 -- some common type, written out in full, is too large
 pub record SomeIsTooLarge (commons : Declarations) : Type 0 where
@@ -35,7 +35,7 @@ pub record IsLarge (commons : Declarations) (r : Qualified) : Type 0 where
 -- ---- why there is nothing
 
 pub data CommonsRefused (commons : Declarations) : SchemaFault → Type 0 where
-  cycle : SomeHasNoEnd commons → CommonsRefused commons TypeCycle
+  cycle : SomeStandsForNone commons → CommonsRefused commons TypeCycle
 
 pub data SizesRefused (commons : Declarations) : SchemaFault → Type 0 where
   large_common : SomeIsTooLarge commons → SizesRefused commons TypeTooLarge

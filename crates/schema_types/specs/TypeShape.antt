@@ -11,7 +11,7 @@ use Rattle.json_words.specs.Keys.{has_only}
 use Rattle.values.specs.Paths.{is_path}
 use Rattle.schema_types.specs.Raw as raw
 use Rattle.schema_types.specs.Raw.{Raw, RawFields}
-use Rattle.schema_types.specs.Optional.{optional, text_at, truth_or, closed_in}
+use Rattle.schema_types.specs.Optional.{optional, required_text, truth_or, closed_in}
 use Rattle.schema_types.specs.Forms.{form_named, keys_of}
 use Rattle.schema_types.specs.declared.forms.Form.{Form}
 use Rattle.schema_types.specs.declared.forms.Form.TheVariants.{Text, Long, Boolean, Set, Record, Entity, Extension}
@@ -27,7 +27,7 @@ type_name w = do
 
 abbrev pub name_in : Data → Result (List ℕ) SchemaFault
 name_in d = do
-  w ← text_at (codes "name") d
+  w ← required_text (codes "name") d
   type_name w
 
 -- a primitive or an extension, with `__cedar::` in front
@@ -77,10 +77,10 @@ by_form Entity w d element fields = do
   n ← name_in d
   Ok (raw.entity n)
 by_form Extension w d element fields = do
-  n ← text_at (codes "name") d
+  n ← required_text (codes "name") d
   or_fault BadShape (extension_named n)
 by_form EntityOrCommon w d element fields = do
-  n ← text_at (codes "name") d
+  n ← required_text (codes "name") d
   entity_or_common n
 by_form Common w d element fields = do
   n ← type_name w
@@ -89,7 +89,7 @@ by_form Common w d element fields = do
 unfoldable pub formed : Bool → Data → Option (Result Raw SchemaFault) → Option (Result RawFields SchemaFault)
     → Result Raw SchemaFault
 formed is_attribute d element fields = do
-  w ← text_at (codes "type") d
+  w ← required_text (codes "type") d
   keys ← demand BadShape (has_only (keys_of is_attribute (form_named w)) d)
   by_form (form_named w) w d element fields
 

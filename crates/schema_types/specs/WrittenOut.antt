@@ -36,5 +36,5 @@ mutual
         → FieldsWrittenOut commons (qualified.field k r required rs) (cedar.field k t required ts)
 
 -- nothing finite is what q stands for
-abbrev pub HasNoEnd : Declarations → List ℕ → Type 0
-HasNoEnd commons q = (t : Cedar) → WrittenOut commons (qualified.common q) t → ⊥
+abbrev pub StandsForNone : Declarations → List ℕ → Type 0
+StandsForNone commons q = (t : Cedar) → WrittenOut commons (qualified.common q) t → ⊥

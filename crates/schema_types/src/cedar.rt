@@ -28,7 +28,7 @@ pub enum CedarType {
 }
 
 impl CedarType {
-    /// The same type, or `NoMemory`; memory is taken for the name of an entity type alone.
+    /// Returns the same type, or `NoMemory`; memory is taken for the name of an entity type alone.
     ///
     /// A set or a record is `NoMemory` only where what is inside it has as many holders as can be counted; a primitive
     /// type and one of an extension never are.

@@ -26,7 +26,7 @@ pub enum SchemaFault {
 impl SchemaFault {
     ghost use Rattle.schema_types.specs.Codes.{code_of};
 
-    /// The number by which the refusal is told.
+    /// Returns the number by which the refusal is told.
     pub fn code(self) -> u8
         ensures { result ≡ code_of self }
     {

@@ -21,7 +21,7 @@ pub enum Form {
     Common,
 }
 
-/// The form that a word names; any other word names a common type.
+/// Returns the form that a word names; any other word names a common type.
 #[tactic(auto, unfolding(crate::specs::Forms::form_named))]
 pub fn form_named(word: &str) -> Form
     ensures { result ≡ form_of word.now }
@@ -49,7 +49,7 @@ pub fn form_named(word: &str) -> Form
     }
 }
 
-/// Whether a value has no keys but those of its form; `required` is an attribute's alone.
+/// Returns whether a value has no keys but those of its form; `required` is an attribute's alone.
 pub(crate) fn has_keys_of(value: &Value, is_attribute: bool, form: Form) -> bool
     ensures { result ≡ has_only (keys_of is_attribute form) (view value.now) }
 {

@@ -2,13 +2,13 @@
 ghost use Rattle.std.specs.Prelude.{◌≡◌, option_map};
 ghost use Rattle.serde_json.specs.View.{view};
 ghost use Rattle.json_words.specs.ReadsAs.{AlwaysReadsAs};
-ghost use Rattle.schema_types.specs.Optional.{optional as optional_of, text_at as text_of, truth_or as truth_of};
+ghost use Rattle.schema_types.specs.Optional.{optional as optional_of, required_text as text_of, truth_or as truth_of};
 ghost use Rattle.schema_types.specs.Optional.{closed_in};
 
 use crate::SchemaFault;
 use serde_json::Value;
 
-/// What stands at a key; null is as missing.
+/// Returns what stands at a key; null is as missing.
 pub fn optional<'v>(value: &'v Value, key: &str) -> Option<&'v Value>
     ensures { option_map (λ v. view v.now) result ≡ optional_of key.now (view value.now) }
 {
@@ -19,8 +19,8 @@ pub fn optional<'v>(value: &'v Value, key: &str) -> Option<&'v Value>
     }
 }
 
-/// The text at a key.
-pub fn text_at<'v>(value: &'v Value, key: &str) -> Result<&'v str, SchemaFault>
+/// Returns the text at a key.
+pub fn required_text<'v>(value: &'v Value, key: &str) -> Result<&'v str, SchemaFault>
     ensures { AlwaysReadsAs (λ s. s.now) result (text_of key.now (view value.now)) }
 {
     match value.get(key) {
@@ -32,7 +32,7 @@ pub fn text_at<'v>(value: &'v Value, key: &str) -> Result<&'v str, SchemaFault>
     }
 }
 
-/// The truth that a value says, or this one where there is none.
+/// Returns the truth that a value says, or this one where there is none.
 pub(crate) fn truth_or(missing: bool, value: Option<&Value>) -> Result<bool, SchemaFault>
     ensures { AlwaysReadsAs (λ b. b) result (truth_of missing (option_map (λ v. view v.now) value.entry)) }
 {

@@ -1,6 +1,7 @@
 //! Laws of types: of writing out, of the names in them, and of the order of their keys.
 ghost use Rattle.schema_types.specs.AscendingLaw.{JsonAscends, StatedTypesAscend, FoundTypesAscend, WrittenTypesAscend};
-ghost use Rattle.schema_types.specs.Law.{OneWritten, CyclesHaveNoEnd, EndlessAreCyclic, TypesEndOrNot};
+ghost use Rattle.schema_types.specs.Law.{OneWritten, CyclesStandForNone, WhatStandsForNoneLeadsBack};
+ghost use Rattle.schema_types.specs.Law.{TypesStandForOneOrSomeForNone};
 ghost use Rattle.schema_types.specs.Law.{FoundCommonsAreDeclared, FoundEntitiesAreDeclared, WrittenEntitiesAreNamed};
 
 use json_words::json_keys_ascend;
@@ -11,20 +12,20 @@ pub fn one_written()
 {}
 
 /// A common type that leads back to itself stands for no type.
-pub fn cycles_have_no_end()
-    ensures { CyclesHaveNoEnd }
+pub fn cycles_stand_for_none()
+    ensures { CyclesStandForNone }
 {}
 
 /// A common type that stands for no type leads to one that leads back to itself, where all that is named is declared.
-pub fn endless_are_cyclic()
-    ensures { EndlessAreCyclic }
+pub fn what_stands_for_none_leads_back()
+    ensures { WhatStandsForNoneLeadsBack }
 {}
 
-/// Where each name is declared, once, a type stands for one, or some common type has no end.
-pub fn types_end_or_not()
-    ensures { TypesEndOrNot }
+/// Where each name is declared, once, a type stands for one, or some common type for none.
+pub fn types_stand_for_one_or_some_for_none()
+    ensures { TypesStandForOneOrSomeForNone }
 {
-    cycles_have_no_end();
+    cycles_stand_for_none();
 }
 
 /// The names of a type whose names were found are declared.

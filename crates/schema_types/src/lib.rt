@@ -14,10 +14,11 @@ mod types;
 pub use cedar::CedarType;
 pub use fault::SchemaFault;
 pub use forms::{Form, form_named};
-pub use keys::{optional, text_at};
+pub use keys::{optional, required_text};
 pub use laws::{
-    cycles_have_no_end, endless_are_cyclic, found_names_are_declared, keys_ascend, one_written,
-    types_end_or_not, written_entities_are_named,
+    cycles_stand_for_none, found_names_are_declared, keys_ascend, one_written,
+    types_stand_for_one_or_some_for_none, what_stands_for_none_leads_back,
+    written_entities_are_named,
 };
 pub use qualified::{FoundCommon, QualifiedType};
 pub use raw::RawType;

@@ -10,13 +10,13 @@ ghost use Rattle.schema_types.specs.TypeShape.{extension_named as extension_of};
 ghost use Rattle.schema_types.specs.declared.fault.SchemaFault.TheVariants as SchemaFault;
 
 use crate::forms::{form_named, has_keys_of};
-use crate::keys::{demand_closed, optional, text_at, truth_or};
+use crate::keys::{demand_closed, optional, required_text, truth_or};
 use crate::{Form, RawType, SchemaFault};
 use serde_json::{Map, Value};
 use std::alloc::Global;
 use values::{TypeName, paths_are_told};
 
-/// The name that a text is.
+/// Returns the name that a text is.
 pub fn read_type_name(alloc: Global, word: &str) -> Result<TypeName, SchemaFault>
     ensures { ReadsAs SchemaFault.NoMemory (λ t. t) result (type_name word.now) }
 {
@@ -27,15 +27,15 @@ pub fn read_type_name(alloc: Global, word: &str) -> Result<TypeName, SchemaFault
     }
 }
 
-/// The name at the key `name`.
+/// Returns the name at the key `name`.
 fn name_in(alloc: Global, value: &Value) -> Result<TypeName, SchemaFault>
     ensures { ReadsAs SchemaFault.NoMemory (λ t. t) result (name_in (view value.now)) }
 {
-    let word = text_at(value, "name")?;
+    let word = required_text(value, "name")?;
     read_type_name(alloc, word)
 }
 
-/// A primitive or an extension by its name behind `__cedar::`.
+/// Returns a primitive or an extension by its name behind `__cedar::`.
 #[tactic(auto, unfolding(crate::specs::TypeShape::reserved_type))]
 fn reserved_type(word: &str) -> Option<RawType>
     ensures { option_map raw_view result ≡ reserved_type word.now }
@@ -61,7 +61,7 @@ fn reserved_type(word: &str) -> Option<RawType>
     None
 }
 
-/// What the name of an `EntityOrCommon` says before it is looked for.
+/// Returns what the name of an `EntityOrCommon` says before it is looked for.
 fn entity_or_common(alloc: Global, word: &str) -> Result<RawType, SchemaFault>
     ensures { ReadsAs SchemaFault.NoMemory raw_view result (entity_or_common word.now) }
 {
@@ -84,14 +84,14 @@ fn extension_named(word: &str) -> Option<RawType>
     None
 }
 
-/// Whether an attribute is required, as it is where nothing is said.
+/// Returns whether an attribute is required, as it is where nothing is said.
 fn is_required(value: &Value) -> Result<bool, SchemaFault>
     ensures { AlwaysReadsAs (λ b. b) result (required_in (view value.now)) }
 {
     truth_or(true, optional(value, "required"))
 }
 
-/// The type that a value states, which may be an attribute's.
+/// Returns the type that a value states, which may be an attribute's.
 ///
 /// Refused where the value has the shape of no form.
 #[cycle(read_type)]
@@ -106,7 +106,7 @@ pub fn read_type(alloc: Global, value: &Value, is_attribute: bool) -> Result<Raw
 fn read_formed(alloc: Global, value: &Value, is_attribute: bool) -> Result<RawType, SchemaFault>
     ensures { ReadsAs SchemaFault.NoMemory raw_view result (type_rule is_attribute (view value.now)) }
 {
-    let word = text_at(value, "type")?;
+    let word = required_text(value, "type")?;
     let form = form_named(word);
     if !has_keys_of(value, is_attribute, form) {
         return Err(SchemaFault::BadShape);
@@ -131,13 +131,13 @@ fn read_formed(alloc: Global, value: &Value, is_attribute: bool) -> Result<RawTy
         }
         Form::Entity => Ok(RawType::Entity(name_in(alloc, value)?)),
         Form::Extension => {
-            let word = text_at(value, "name")?;
+            let word = required_text(value, "name")?;
             match extension_named(word) {
                 Some(extension) => Ok(extension),
                 None => Err(SchemaFault::BadShape),
             }
         }
-        Form::EntityOrCommon => entity_or_common(alloc, text_at(value, "name")?),
+        Form::EntityOrCommon => entity_or_common(alloc, required_text(value, "name")?),
         Form::Common => Ok(RawType::Common(read_type_name(alloc, word)?)),
     }
 }

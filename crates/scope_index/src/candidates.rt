@@ -129,7 +129,7 @@ fn in_order(found: Vec<&str>) -> Vec<&str>
     ids
 }
 
-/// The ids that a request finds, ascending.
+/// Returns the ids that a request finds, ascending.
 pub(crate) fn offered<'a, A: Ancestry>(
     alloc: Global,
     buckets: &'a Buckets,

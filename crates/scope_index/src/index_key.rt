@@ -17,7 +17,7 @@ pub enum IndexKey {
     Resource(EntityUid),
 }
 
-/// The entity that a part of a scope names by `==` or `in`.
+/// Returns the entity that a part of a scope names by `==` or `in`.
 fn entity_named(part: &EntityScope) -> Option<&EntityUid>
     ensures { option_map (λ u. u.now) result ≡ entity_named part.now }
 {

@@ -3,7 +3,7 @@ use Rattle.std.proofs.Common.{◌≡◌, ◌++◌, ◌∷◌, [], ◌<◌, ◌�
 use Rattle.std.proofs.Common.{append_assoc}
 use Rattle.std.proofs.lemmas.Bool.{cases_lt, agree_below_at}
 use Rattle.std.specs.Prelude.{codes, decimal}
-use Rattle.stamped_store.specs.declared.entry.Stamp.{Stamp}
+use Rattle.stamped_entries.specs.declared.entry.Stamp.{Stamp}
 use Rattle.http_texts.specs.ReplyText.{error_line as stream_line}
 use Rattle.decision_texts.specs.Refusals.{error_line}
 use Rattle.json.specs.Print.{escape_byte, escape}

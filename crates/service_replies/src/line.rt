@@ -104,7 +104,7 @@ pub(crate) fn append_taken(text: &mut Vec<u8>, count: usize)
     append(text, b"}");
 }
 
-/// A place, as a number of 64 bits.
+/// Returns a place, as a number of 64 bits.
 fn place_number(place: Option<usize>) -> Option<u64>
     ensures { result ≡ place }
 {
@@ -114,7 +114,7 @@ fn place_number(place: Option<usize>) -> Option<u64>
     }
 }
 
-/// The number of a refusal inside, as a number of 64 bits.
+/// Returns the number of a refusal inside, as a number of 64 bits.
 fn within_number(within: Option<u8>) -> Option<u64>
     ensures { result ≡ within }
 {

@@ -40,14 +40,14 @@ pub(crate) fn append_answer(
     }
 }
 
-/// The JSON of a policy that was found.
+/// Returns the JSON of a policy that was found.
 fn found_value(alloc: Global, policy: &str, stamp: Stamp) -> Result<Value, NoMemory>
     ensures { IfOk result (λ v. view v ≡ found_json policy.now stamp) }
 {
     json!(in alloc; {"count": stamp.count, "site": stamp.site.as_str(), "text": policy})
 }
 
-/// The line of a policy that was found.
+/// Returns the line of a policy that was found.
 fn found_line(alloc: Global, policy: &str, stamp: Stamp) -> Result<Vec<u8>, NoMemory>
     ensures { IfOk result (λ b. b.items ≡ found_line policy.now stamp) }
 {

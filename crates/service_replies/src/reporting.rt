@@ -94,7 +94,7 @@ pub fn report_taken(text: &mut Vec<u8>, outcome: Result<Taken, SiteFault>) -> St
     }
 }
 
-/// The status of a body that was appended; where memory was refused for it, that is told in its place.
+/// Returns the status of a body that was appended; where memory was refused for it, that is told in its place.
 fn told_or_short(text: &mut Vec<u8>, appended: Result<(), NoMemory>) -> Status
     requires room { OnErr appended (vec_len text.old + LINE_ROOM ≤ vec_capacity text.old) }
     ensures ok { OnOk appended ((result ≡ Status.Ok) × (text.new.items ≡ text.old.items)) }

@@ -4,7 +4,7 @@ ghost use Rattle.service_replies.specs.Statuses.{refusal_status};
 
 use http_texts::status::Status;
 
-/// The status of the refusal with this number.
+/// Returns the status of the refusal with this number.
 pub(crate) fn refusal_status(code: u8) -> Status
     ensures { result ≡ refusal_status code }
 {

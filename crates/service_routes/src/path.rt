@@ -6,7 +6,7 @@ ghost use Rattle.service_routes.specs.Routes.{path_of, segment_of, is_slash};
 /// The bytes that the path of a policy begins with: its id follows.
 const POLICIES: &[u8] = b"/v1/policies/";
 
-/// The target up to its query.
+/// Returns the target up to its query.
 #[tactic(auto, unfolding(crate::specs::Routes::path_of))]
 pub(crate) fn path_of(target: &[u8]) -> &[u8]
     ensures { result.now ≡ path_of target.now }
@@ -19,14 +19,14 @@ pub(crate) fn path_of(target: &[u8]) -> &[u8]
     target
 }
 
-/// Whether a slash is among the bytes, so that they are no one segment.
+/// Returns whether a slash is among the bytes, so that they are no one segment.
 fn has_slash(bytes: &[u8]) -> bool
     ensures { result ≡ list_any is_slash bytes.now }
 {
     bytes.contains(&b'/')
 }
 
-/// The segment that names a policy, where the path is that of one.
+/// Returns the segment that names a policy, where the path is that of one.
 #[tactic(auto, unfolding(crate::specs::Routes::segment_of, crate::specs::Routes::policies))]
 pub(crate) fn segment_of(path: &[u8]) -> Option<&[u8]>
     ensures { option_map (λ s. s.now) result ≡ segment_of path.now }

@@ -9,7 +9,7 @@ use percent_encoding::percent_decode;
 use plain::{NoMemory, Text};
 use std::alloc::Global;
 
-/// The bytes that a segment stands for.
+/// Returns the bytes that a segment stands for.
 fn decoded(alloc: Global, segment: &[u8]) -> Result<Vec<u8>, NoMemory>
     ensures { IfOk result (λ b. b.items ≡ percent_decode segment.now) }
 {
@@ -18,7 +18,7 @@ fn decoded(alloc: Global, segment: &[u8]) -> Result<Vec<u8>, NoMemory>
     Ok(bytes)
 }
 
-/// The id that bytes are. Takes no memory.
+/// Returns the id that bytes are. Takes no memory.
 #[tactic(auto, unfolding(crate::specs::Routes::id_in))]
 fn id_in(bytes: Vec<u8>) -> PolicyId
     ensures { result ≡ id_in bytes.items }
@@ -29,7 +29,7 @@ fn id_in(bytes: Vec<u8>) -> PolicyId
     }
 }
 
-/// The id that a segment stands for.
+/// Returns the id that a segment stands for.
 fn id_of(alloc: Global, segment: &[u8]) -> Result<PolicyId, NoMemory>
     ensures { IfOk result (λ id. id ≡ id_of segment.now) }
 {
@@ -37,7 +37,7 @@ fn id_of(alloc: Global, segment: &[u8]) -> Result<PolicyId, NoMemory>
     Ok(id_in(bytes))
 }
 
-/// The route of a path that has one method.
+/// Returns the route of a path that has one method.
 #[tactic(auto, unfolding(crate::specs::Routes::only))]
 fn only(wanted: &[u8], method: &[u8], route: Route) -> Route
     ensures { result ≡ only wanted.now method.now route }
@@ -49,7 +49,7 @@ fn only(wanted: &[u8], method: &[u8], route: Route) -> Route
     }
 }
 
-/// The route of a path that names no policy.
+/// Returns the route of a path that names no policy.
 #[tactic(auto, unfolding(crate::specs::Routes::plain_route))]
 fn plain_route(method: &[u8], path: &[u8]) -> Route
     ensures { result ≡ plain_route method.now path.now }
@@ -78,7 +78,7 @@ fn plain_route(method: &[u8], path: &[u8]) -> Route
     Route::Unknown
 }
 
-/// The route of the policy that a segment names. Memory is asked for where the method is one that a policy has.
+/// Returns the route of the policy that a segment names. Memory is asked for where the method is one that a policy has.
 #[tactic(auto, unfolding(crate::specs::Routes::policy_route))]
 fn policy_route(alloc: Global, method: &[u8], segment: &[u8]) -> Result<Route, NoMemory>
     ensures route { IfOk result (λ r. r ≡ policy_route method.now segment.now) }
@@ -96,10 +96,10 @@ fn policy_route(alloc: Global, method: &[u8], segment: &[u8]) -> Result<Route, N
     Ok(Route::OtherMethod)
 }
 
-/// What a request with this method and this target asks for. The path is the target up to its first question mark, and
-/// nothing else is cut or decoded but the id of a policy, which is one segment, the empty one too: there a percent sign
-/// with two hexadecimal digits is the byte that they are, and any other percent sign stands for itself (RFC 3986,
-/// section 2.1). Methods are told apart by their exact bytes (RFC 9110, section 9.1).
+/// Returns what a request with this method and this target asks for. The path is the target up to its first question
+/// mark, and nothing else is cut or decoded but the id of a policy, which is one segment, the empty one too: there a
+/// percent sign with two hexadecimal digits is the byte that they are, and any other percent sign stands for itself
+/// (RFC 3986, section 2.1). Methods are told apart by their exact bytes (RFC 9110, section 9.1).
 ///
 /// Fails only where memory is refused for the id of a policy: what has no id takes no memory.
 #[tactic(auto, unfolding(crate::specs::Routes::route_stated))]

@@ -10,8 +10,8 @@ use Rattle.json_words.specs.Json.{json_of}
 use Rattle.ancestor_closure.specs.Deciding.{same_self}
 use Rattle.plain.specs.Words.{IsPath}
 use Rattle.policy_grammar.specs.declared.policy.Policy.{Policy}
-use Rattle.policy_grammar.specs.declared.fault.ReadFault.{ReadFault}
-use Rattle.policy_grammar.specs.declared.fault.ReadFault.TheVariants as reading
+use Rattle.text_trees.specs.declared.fault.ReadFault.{ReadFault}
+use Rattle.text_trees.specs.declared.fault.ReadFault.TheVariants as reading
 use Rattle.policy_grammar.specs.Limits.{IsId}
 use Rattle.policy_grammar.specs.PolicyText.{IsPolicyText, IsPolicyRefused, OrNoMemory}
 use Rattle.schema.specs.Schemas.{StatedSchema}
@@ -21,7 +21,7 @@ use Rattle.entities.specs.Entities.{entity_stated_in}
 use Rattle.stored_texts.specs.passed_on.validator.{CheckFault}
 use Rattle.stored_texts.specs.passed_on.validator_CheckFault_variants as checking
 use Rattle.stored_texts.specs.passed_on.validator.{Passes, IsImpossible, IsCheckRefused}
-use Rattle.stamped_store.specs.declared.entry.ReadText.{ReadText}
+use Rattle.stamped_entries.specs.declared.entry.ReadText.{ReadText}
 use Rattle.stored_texts.specs.Texts.{entity_of_text, ReadsEntity}
 use Rattle.site.specs.declared.fault.SiteFault.{SiteFault}
 use Rattle.site.specs.declared.fault.SiteFault.TheVariants as fault

@@ -10,8 +10,8 @@ use Rattle.policy_grammar.specs.declared.policy.Policy.{Policy}
 use Rattle.schema.specs.Schemas.{StatedSchema}
 use Rattle.entity_worlds.specs.declared.entity.Entity.{Entity}
 use Rattle.entities.specs.Canonical.{canonical_text}
-use Rattle.stamped_store.specs.declared.entry.ReadText.{ReadText}
-use Rattle.stamped_store.specs.declared.entry.Stamp.{Stamp}
+use Rattle.stamped_entries.specs.declared.entry.ReadText.{ReadText}
+use Rattle.stamped_entries.specs.declared.entry.Stamp.{Stamp}
 use Rattle.stamped_store.specs.Contents.{text_under}
 use Rattle.stamped_store.specs.Store.{Store, Update, StoreEntries, updates, store_of, issue, issued, policy_name, entity_name}
 use Rattle.stamped_store.specs.Store.{KeepsOtherNames, abstract_store}

@@ -8,8 +8,8 @@ use Rattle.values.specs.declared.entity_uid.EntityUid.{EntityUid}
 use Rattle.policy_grammar.specs.declared.policy.Policy.{Policy}
 use Rattle.schema.specs.Schemas.{StatedSchema}
 use Rattle.entity_worlds.specs.declared.entity.Entity.{Entity}
-use Rattle.stamped_store.specs.declared.entry.Entry.{Entry}
-use Rattle.stamped_store.specs.declared.entry.ReadText.{ReadText}
+use Rattle.stamped_entries.specs.declared.entry.Entry.{Entry}
+use Rattle.stamped_entries.specs.declared.entry.ReadText.{ReadText}
 use Rattle.stamped_store.specs.EntryOrder.{body_bytes}
 use Rattle.stamped_store.specs.Reading.{AllNamed, IsBodyRead, IsEntryRead}
 use Rattle.stamped_store.specs.Abstraction.{abstract_entries}

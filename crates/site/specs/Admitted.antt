@@ -9,8 +9,8 @@ use Rattle.json_words.specs.ReadsAs.{◌>>=◌, or_fault}
 use Rattle.values.specs.declared.entity_uid.EntityUid.{EntityUid}
 use Rattle.values.specs.declared.request.Request.{Request}
 use Rattle.policy_grammar.specs.declared.policy.Policy.{Policy}
-use Rattle.policy_grammar.specs.declared.fault.ReadFault.{ReadFault}
-use Rattle.policy_grammar.specs.declared.fault.ReadFault.TheVariants.{BadId}
+use Rattle.text_trees.specs.declared.fault.ReadFault.{ReadFault}
+use Rattle.text_trees.specs.declared.fault.ReadFault.TheVariants.{BadId}
 use Rattle.policy_grammar.specs.Limits.{IsId}
 use Rattle.policy_grammar.specs.PolicyText.{IsPolicyText, IsPolicyRefused}
 use Rattle.schema.specs.Schemas.{StatedSchema}

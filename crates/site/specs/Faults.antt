@@ -1,8 +1,8 @@
 -- The refusals of a site by number, which are a rule of this product, and the faults of what it calls among them.
 use Rattle.std.specs.Prelude.{ℕ, Option, Some, None}
 use Rattle.policy_grammar.specs.Faults as policy_faults
-use Rattle.policy_grammar.specs.declared.fault.ReadFault.{ReadFault}
-use Rattle.policy_grammar.specs.declared.fault.ReadFault.TheVariants as reading
+use Rattle.text_trees.specs.declared.fault.ReadFault.{ReadFault}
+use Rattle.text_trees.specs.declared.fault.ReadFault.TheVariants as reading
 use Rattle.entities.specs.Faults as entity_faults
 use Rattle.entities.specs.declared.fault.EntityFault.{EntityFault}
 use Rattle.entities.specs.declared.fault.EntityFault.TheVariants as stating

@@ -13,7 +13,7 @@ use Rattle.authoriser.specs.declared.answer.Answer.{Answer}
 use Rattle.schema.specs.Schemas.{StatedSchema}
 use Rattle.entity_worlds.specs.declared.entity.Entity.{Entity}
 use Rattle.entities.specs.Canonical.{canonical_text}
-use Rattle.stamped_store.specs.declared.entry.Stamp.{Stamp}
+use Rattle.stamped_entries.specs.declared.entry.Stamp.{Stamp}
 use Rattle.stamped_store.specs.EntryOrder.{PlainEntry}
 use Rattle.stamped_store.specs.Contents.{text_under}
 use Rattle.stamped_store.specs.Deltas.{stamp_of}

@@ -34,7 +34,7 @@ pub enum SiteFault {
 }
 
 impl SiteFault {
-    /// The number by which the refusal is told.
+    /// Returns the number by which the refusal is told.
     pub fn code(self) -> u8
         ensures { result ≡ code_of self }
     {
@@ -51,7 +51,7 @@ impl SiteFault {
         }
     }
 
-    /// The byte of a policy's text, or the entry of a message, at which it shows; None for the others.
+    /// Returns the byte of a policy's text, or the entry of a message, at which it shows; None for the others.
     pub fn place(self) -> Option<usize>
         ensures { result ≡ place_of self }
     {
@@ -62,7 +62,8 @@ impl SiteFault {
         }
     }
 
-    /// The number of the refusal inside, where one stands in another: of an entry of a message, or of a request.
+    /// Returns the number of the refusal inside, where one stands in another: of an entry of a message, or of a
+    /// request.
     pub fn within(self) -> Option<u8>
         ensures { result ≡ within_of self }
     {

@@ -28,14 +28,14 @@ use values::{EntityUid, Request};
 
 // ---- policies
 
-/// Whether a policy may have this id.
+/// Returns whether a policy may have this id.
 fn is_id(id: &str) -> bool
     ensures { IsTrue result ↔ IsId id.now }
 {
     1 <= id.len() && id.len() <= 256
 }
 
-/// The policy that a text is, whether it passes or not.
+/// Returns the policy that a text is, whether it passes or not.
 fn policy_of(alloc: Global, text: &str) -> Result<Policy, SiteFault>
     ensures read { IfOk result (IsPolicyText text.now) }
     ensures refused { IfErr result (λ f. (s : StatedSchema) (id : List ℕ) → IsId id
@@ -47,7 +47,7 @@ fn policy_of(alloc: Global, text: &str) -> Result<Policy, SiteFault>
     }
 }
 
-/// Whether a policy that passes is impossible.
+/// Returns whether a policy that passes is impossible.
 fn is_impossible(alloc: Global, schema: &Schema, policy: &Policy) -> Result<bool, SiteFault>
     ensures passes { IfOk result (λ yes. Passes (schema_view schema.now) policy.now
         × (IsTrue yes ↔ IsImpossible (schema_view schema.now) policy.now)) }
@@ -68,7 +68,7 @@ pub(crate) struct CheckedPolicy<P> {
     pub(crate) impossible: bool,
 }
 
-/// What was read, beside its id, its text and its verdict.
+/// Returns what was read, beside its id, its text and its verdict.
 fn with_verdict<P: Drop>(
     read: P,
     verdict: Result<bool, SiteFault>,
@@ -90,15 +90,15 @@ fn with_verdict<P: Drop>(
     })
 }
 
-/// The text of a put: the one that was handed in.
+/// Returns the text of a put: the one that was handed in.
 fn handed_in(alloc: Global, text: &str) -> Result<Text, NoMemory>
     ensures { IfOk result (λ t. t ≡ text.now) }
 {
     Text::from_str(alloc, text)
 }
 
-/// The policy that may be put under an id, beside its text, and whether it is impossible. The id is judged first, then
-/// the text, then the policy.
+/// Returns the policy that may be put under an id, beside its text, and whether it is impossible. The id is judged
+/// first, then the text, then the policy.
 pub(crate) fn judged_policy(
     alloc: Global,
     schema: &Schema,
@@ -126,7 +126,7 @@ pub(crate) fn judged_policy(
 
 // ---- entities
 
-/// The entity that JSON states.
+/// Returns the entity that JSON states.
 fn entity_of(alloc: Global, schema: &Schema, json: &Value) -> Result<Entity, SiteFault>
     ensures states { IfOk result (λ e. entity_stated_in (schema_view schema.now) (view json.now) ≡ Ok e) }
     ensures path { IfOk result (λ e. IsPath e.uid.type_name) }
@@ -140,7 +140,7 @@ fn entity_of(alloc: Global, schema: &Schema, json: &Value) -> Result<Entity, Sit
     }
 }
 
-/// The one text of an entity that some JSON states: it is read as this entity again.
+/// Returns the one text of an entity that some JSON states: it is read as this entity again.
 fn text_of(alloc: Global, schema: &Schema, entity: &Entity) -> Result<Text, NoMemory>
     requires { IsStated (schema_view schema.now) entity.now }
     ensures text { IfOk result (λ t. t ≡ canonical_text entity.now) }
@@ -156,7 +156,7 @@ fn text_of(alloc: Global, schema: &Schema, entity: &Entity) -> Result<Text, NoMe
     }
 }
 
-/// What was read, beside its name and its text.
+/// Returns what was read, beside its name and its text.
 fn beside<N: Drop, P: Drop>(
     read: P,
     name: Result<N, NoMemory>,
@@ -170,7 +170,7 @@ fn beside<N: Drop, P: Drop>(
     Ok((name, ReadText { text, read }))
 }
 
-/// The entity that JSON states, beside its one text, and its uid.
+/// Returns the entity that JSON states, beside its one text, and its uid.
 pub(crate) fn stated_entity(
     alloc: Global,
     schema: &Schema,
@@ -192,7 +192,7 @@ pub(crate) fn stated_entity(
 
 // ---- requests
 
-/// The request that JSON states.
+/// Returns the request that JSON states.
 pub(crate) fn stated_request(
     alloc: Global,
     schema: &Schema,

@@ -4,12 +4,14 @@
 //! read, by an index of the policies and the ancestors that it keeps; no contract speaks of these two.
 #![tactic(auto)]
 
+mod commands;
 mod fault;
 mod judging;
 mod outcome;
 mod ranges;
 mod site;
 mod under_schema;
+mod updates;
 
 pub use fault::SiteFault;
 pub use outcome::{Put, Taken};

@@ -12,9 +12,9 @@ ghost use Rattle.state_messages.specs.Updates.{AreInRange, stamped};
 use stamped_store::COUNT_MAX;
 use stamped_store::laws::{deltas_are_joined, stamps_are_issued, updates_have_one_store};
 
-/// That names and stamps stay in their ranges: those of the empty store, and of a store that an update is joined into
-/// whose own are in range; so are those of what is sent of such a store. Its greatest count is at most 10^18, a name
-/// that has a text is in range, and so is a stamp that is issued. Does nothing.
+/// Proves that names and stamps stay in their ranges: those of the empty store, and of a store that an update is joined
+/// into whose own are in range; so are those of what is sent of such a store. Its greatest count is at most 10^18, a
+/// name that has a text is in range, and so is a stamp that is issued. Does nothing.
 pub(crate) fn ranges_stay()
     ensures empty { AreInRange (updates (store_of [])) }
     ensures joined { (s t : Store) (u : Update) → AreInRange (updates s) → IsStamped (stamped u)

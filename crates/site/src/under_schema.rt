@@ -8,7 +8,7 @@ ghost use Rattle.policy_grammar.specs.declared.policy.Policy.{Policy};
 ghost use Rattle.schema.specs.SchemaEntries.{SchemaEntries as SchemaKept};
 ghost use Rattle.schema.specs.Views.{schema_view};
 ghost use Rattle.entity_worlds.specs.declared.entity.Entity.{Entity};
-ghost use Rattle.stamped_store.specs.declared.entry.Entry.{Entry};
+ghost use Rattle.stamped_entries.specs.declared.entry.Entry.{Entry};
 ghost use Rattle.stamped_store.specs.EntryOrder.{greater};
 ghost use Rattle.stamped_store.specs.Reading.{IsEntryRead};
 ghost use Rattle.stamped_store.specs.Store.{StoreEntries, kept, abstract_store};
@@ -26,7 +26,7 @@ use stamped_store::laws::readings_are_kept;
 use stored_texts::SchemaTexts;
 use values::Request;
 
-/// That each text of a store is read as what stands beside it stays so, whatever is taken that was so read. Does
+/// Proves that each text of a store is read as what stands beside it stays so, whatever is taken that was so read. Does
 /// nothing.
 pub(crate) fn readings_stay()
     ensures empty { (schema : SchemaKept) → IsHeld (schema_view schema) (kept [] []) }
@@ -40,7 +40,7 @@ pub(crate) fn readings_stay()
     readings_are_kept::<Policy, Entity, SchemaTexts<'static>>()
 }
 
-/// The answer to a request over a store whose texts were read under the schema.
+/// Returns the answer to a request over a store whose texts were read under the schema.
 pub(crate) fn answer_under(store: &AcceleratedStore, request: &Request) -> Result<Answer, NoMemory>
     ensures { let schema = schema_view store.now.schema in IfOk result (λ a. IsHeld schema store.now.kept
         → IsAnswerOver (IsPolicyUnder schema) (IsEntityUnder schema) schema (abstract_store store.now.kept)
@@ -49,7 +49,7 @@ pub(crate) fn answer_under(store: &AcceleratedStore, request: &Request) -> Resul
     store.answer::<SchemaTexts<'static>>(request)
 }
 
-/// Whether an entity would be on a cycle once it is put into a store whose texts were read under the schema.
+/// Returns whether an entity would be on a cycle once it is put into a store whose texts were read under the schema.
 pub(crate) fn would_cycle(store: &AcceleratedStore, entity: &Entity) -> Result<bool, NoMemory>
     ensures yes { let schema = schema_view store.now.schema in IfOk result (λ yes. yes ≡ true
         → IsHeld schema store.now.kept

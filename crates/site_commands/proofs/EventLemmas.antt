@@ -4,10 +4,10 @@ use Rattle.command_lines.specs.declared.fault.LineFault.{LineFault}
 use Rattle.site_commands.specs.declared.device.FileFault.{FileFault}
 use Rattle.site_commands.specs.declared.device.FileFault.TheVariants.{Missing, Failed, NoMemory}
 use Rattle.site_commands.specs.declared.device.Stream.{Stream}
-use Rattle.site_commands.specs.declared.device.Stream.TheVariants.{Answers}
+use Rattle.site_commands.specs.declared.device.Stream.TheVariants.{Answers, Faults}
 use Rattle.site_commands.specs.Events.{Event, read, stored, wrote, printed, connected, listened, Runs}
 use Rattle.site_commands.specs.Reports.{ended, status_after, IsReported, IsFileReported, IsFailureReported, IsPrinted}
-use Rattle.site_commands.specs.Courses.{Course, Reads, ReadsIfNamed, ReadsIfThere, GoesOnIfThere, Stores, Connects, Listens, Announces}
+use Rattle.site_commands.specs.Courses.{Course, Reads, ReadsIfNamed, ReadsIfThere, GoesOnIfThere, Stores, Connects, Listens, Announces, WarnsIf}
 use Rattle.site_commands.specs.inner.Loads.{IsFound, IsUnreadIfNamed}
 use Rattle.site_commands.specs.inner.Ways.{IsUnread, IsUnreadThere, found_as}
 
@@ -156,3 +156,17 @@ module _ {L H : Type 0} (does : H → Event L → H → Type 0) where
       → Runs does old new (λ events. Announces line goes_on events end)
   announces_none old new line goes_on end step is =
       (wrote Answers (ended line) false ∷ [], (new, step, refl), (false, [], refl, (refl, is)))
+
+  -- a warning is written, whether or not the stream takes it, and the run goes on
+  pub warns_on : (old next new : H) (due done : Bool) (line : List ℕ) (goes_on : Course L) (end : ℕ) → due ≡ true
+      → does old (wrote Faults (ended line) done) next → Runs does next new (λ events. goes_on events end)
+      → Runs does old new (λ events. WarnsIf due line goes_on events end)
+  warns_on old next new false done line goes_on end due step run = absurd (cc)
+  warns_on old next new true done line goes_on end due step run =
+      (wrote Faults (ended line) done ∷ run.0, (next, step, run.1), (done, run.0, refl, run.2))
+
+  -- none is due
+  pub warns_not : (old new : H) (due : Bool) (line : List ℕ) (goes_on : Course L) (end : ℕ) → due ≡ false
+      → Runs does old new (λ events. goes_on events end) → Runs does old new (λ events. WarnsIf due line goes_on events end)
+  warns_not old new false line goes_on end due run = run
+  warns_not old new true line goes_on end due run = absurd (cc)

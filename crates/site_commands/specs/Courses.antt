@@ -5,7 +5,7 @@ use Rattle.decision_texts.specs.declared.refusal.Refusal.{Refusal}
 use Rattle.site_commands.specs.declared.device.FileFault.{FileFault}
 use Rattle.site_commands.specs.declared.device.FileFault.TheVariants as file
 use Rattle.site_commands.specs.Events.{Event, read, stored, wrote, connected, listened}
-use Rattle.site_commands.specs.declared.device.Stream.TheVariants.{Answers}
+use Rattle.site_commands.specs.declared.device.Stream.TheVariants.{Answers, Faults}
 use Rattle.site_commands.specs.Reports.{ended, IsAnswerReported, IsRefusalReported, IsMemoryReported, IsFileReported}
 use Rattle.site_commands.specs.Reports.{IsFailureReported}
 
@@ -92,3 +92,9 @@ module _ {L : Type 0} where
   abbrev pub Announces : List ℕ → Course L → Course L
   Announces line goes_on events end = (done : Bool) × (rest : List (Event L))
       × (events ≡ wrote Answers (ended line) done ∷ rest) × GoesOnAnnounced goes_on done rest end
+
+  -- where this is so, a line goes to standard error first; the run goes on, whether or not the stream took it
+  abbrev pub WarnsIf : Bool → List ℕ → Course L → Course L
+  WarnsIf false line goes_on events end = goes_on events end
+  WarnsIf true line goes_on events end = (done : Bool) × (rest : List (Event L))
+      × (events ≡ wrote Faults (ended line) done ∷ rest) × goes_on rest end

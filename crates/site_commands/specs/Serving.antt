@@ -5,17 +5,22 @@ use Rattle.std.specs.Prelude.{codes}
 use Rattle.counted_devices.specs.declared.devices.Source.{Ghosts as Source}
 use Rattle.counted_devices.specs.declared.devices.Sink.{Ghosts as Sink}
 use Rattle.http_streams.specs.declared.serve.StreamFault.{StreamFault}
-use Rattle.http_service.specs.passed_on.site_runs.{Seen}
+use Rattle.stamped_store.specs.Stamping.{has_stamps_of}
+use Rattle.http_service.specs.passed_on.site_runs.{Seen, store_in}
 use Rattle.http_service.specs.Serving.{IsServed}
 use Rattle.site_commands.specs.declared.device.Link.{Link}
 use Rattle.site_commands.specs.Events.{Event, accepted, closed, served}
-use Rattle.site_commands.specs.Courses.{Course, Reads, ReadsIfNamed, Listens, Announces, IsRefusedFor}
+use Rattle.site_commands.specs.Courses.{Course, Reads, ReadsIfNamed, Listens, Announces, WarnsIf, IsRefusedFor}
 use Rattle.site_commands.specs.Beginning.{IsBegun, IsNotBegun}
 
 -- the number of connections that is given; where none is, no run comes to the end of it
 abbrev pub most_of : Option ℕ → ℕ
 most_of None = 18446744073709551615
 most_of (Some number) = number
+
+-- what is told of a site that begins with stamps of its own name
+abbrev pub own_stamps_line : List ℕ → List ℕ
+own_stamps_line name = codes "warning: the state has stamps of this name, which is to be used once: " ++ name
 
 module _ {R W : Type 0} (reader : Source R) (writer : Sink W) where
   -- a connection that came was served by the site: what was read was answered, and its serving ended so
@@ -39,12 +44,16 @@ module _ {R W : Type 0} (reader : Source R) (writer : Sink W) where
   abbrev pub AreAllServed : ℕ → Seen → Course (Link R W)
   AreAllServed most site events end = ((last : Seen) × AreServed most site events last) × (end ≡ 0)
 
-  -- the site begins, says where it listens once it does, and serves; or the texts are refused
+  -- a site of this name that has begun says where it listens once it does, and serves; and where it begins with stamps
+  -- of its name, warns of that first
+  abbrev pub IsServedAt : List ℕ → List ℕ → ℕ → Seen → Course (Link R W)
+  IsServedAt name address most site = WarnsIf (has_stamps_of name (store_in site)) (own_stamps_line name)
+      (Listens address (Announces (codes "listening " ++ address) (AreAllServed most site)))
+
+  -- the site begins and is served, or the texts are refused
   abbrev pub IsServedFrom : List ℕ → List ℕ → Option (List ℕ) → List ℕ → Option ℕ → Course (Link R W)
   IsServedFrom schema name state address connections events end =
-      ((site : Seen) × IsBegun schema name state site
-      × Listens address (Announces (codes "listening " ++ address) (AreAllServed (most_of connections) site)) events
-      end)
+      ((site : Seen) × IsBegun schema name state site × IsServedAt name address (most_of connections) site events end)
       ⊎ IsRefusedFor (IsNotBegun schema state) events end
 
   -- first the schema, then the state, if one is named

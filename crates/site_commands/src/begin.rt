@@ -14,7 +14,7 @@ use schema_decisions::schema_in;
 use stamped_store::SiteName;
 use std::alloc::Global;
 
-/// A fault of a site, as it is told.
+/// Returns a fault of a site, as it is told.
 fn site_refusal(fault: SiteFault) -> Refusal
     ensures { result ≡ site_refusal fault }
 {
@@ -25,7 +25,7 @@ fn site_refusal(fault: SiteFault) -> Refusal
     }
 }
 
-/// The site with the updates of a message.
+/// Returns the site with the updates of a message.
 fn with_state(alloc: Global, mut site: Site, bytes: &[u8]) -> Result<Site, Refusal>
     ensures taken { IfOk result (TakesState site bytes.now) }
     ensures refused { IfErr result
@@ -38,7 +38,7 @@ fn with_state(alloc: Global, mut site: Site, bytes: &[u8]) -> Result<Site, Refus
     }
 }
 
-/// The site of this name under a schema, empty or with the updates of a message.
+/// Returns the site of this name under a schema, empty or with the updates of a message.
 fn begin_under(
     alloc: Global,
     schema: Shared<Schema>,
@@ -57,7 +57,7 @@ fn begin_under(
     }
 }
 
-/// The site of this name under a schema of its own, empty or with the updates of a message.
+/// Returns the site of this name under a schema of its own, empty or with the updates of a message.
 fn begin_with(
     alloc: Global,
     schema: Schema,
@@ -75,7 +75,8 @@ fn begin_with(
     }
 }
 
-/// The site of this name, empty or with the updates of a message, a state or a delta. The schema is judged first.
+/// Returns the site of this name, empty or with the updates of a message, a state or a delta. The schema is judged
+/// first.
 pub(crate) fn begin(
     alloc: Global,
     schema: &[u8],

@@ -24,7 +24,7 @@ pub trait Host {
     // This may happen in the first state, and leaves the second.
     ghost does: { Self → Event (Link Self.Reader Self.Writer) → Self → Type 0 };
 
-    /// The bytes of a file.
+    /// Returns the bytes of a file.
     fn read(&mut self, name: &str) -> Result<Vec<u8>, FileFault>
         ensures { MatchResult result (λ bytes. does self.old (read name.now (Ok bytes.items)) self.new)
             (λ fault. does self.old (read name.now (Err fault)) self.new) };

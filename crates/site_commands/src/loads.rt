@@ -17,7 +17,7 @@ use stamped_store::SiteName;
 use std::alloc::Global;
 use std::process::ExitCode;
 
-/// The state of the site of this name that begins so and takes these files.
+/// Returns the state of the site of this name that begins so and takes these files.
 fn state_after(
     alloc: Global,
     schema: &[u8],

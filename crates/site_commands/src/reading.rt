@@ -9,7 +9,7 @@ use crate::host::Host;
 use crate::report::report_file;
 use std::process::ExitCode;
 
-/// What a file holds; where it is not read, that is told, and this is the status of the run.
+/// Returns what a file holds; where it is not read, that is told, and this is the status of the run.
 pub(crate) fn read_file<H: Host>(host: &mut H, name: &str) -> Result<Vec<u8>, ExitCode>
     ensures { MatchResult result (λ bytes. H.does host.old (read name.now (Ok bytes.items)) host.new)
         (λ end. Runs H.does host.old host.new (λ events. IsUnread name.now events (exit_status end))) }
@@ -20,7 +20,7 @@ pub(crate) fn read_file<H: Host>(host: &mut H, name: &str) -> Result<Vec<u8>, Ex
     }
 }
 
-/// The same, of a file that need not be there.
+/// Returns the same, of a file that need not be there.
 pub(crate) fn read_if_there<H: Host>(host: &mut H, name: &str) -> Result<Option<Vec<u8>>, ExitCode>
     ensures { MatchResult result
         (λ found. H.does host.old (read name.now (found_as (option_map (λ bytes. bytes.items) found))) host.new)

@@ -30,7 +30,7 @@ pub(crate) const FAILED: u8 = 3;
 /// The line that tells of want of memory; it takes none.
 const NO_MEMORY_LINE: &[u8; 47] = b"{\"error\":{\"code\":1,\"place\":null,\"within\":null}}";
 
-/// The status of a run whose last writing came to this.
+/// Returns the status of a run whose last writing came to this.
 pub(crate) fn status_of(written: Result<(), StreamFailed>, status: u8) -> ExitCode
     ensures { exit_status result ≡ status_after (is_ok written) status }
 {
@@ -56,7 +56,7 @@ pub(crate) fn report_answer<H: Host>(host: &mut H, line: &[u8]) -> ExitCode
     tell(host, Stream::Answers, "", line, ANSWERED)
 }
 
-/// The status of a run that tells of policies.
+/// Returns the status of a run that tells of policies.
 fn check_status(some_refused: bool) -> u8
     ensures { result ≡ if some_refused then 1 else 0 }
 {

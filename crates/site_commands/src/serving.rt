@@ -4,7 +4,7 @@ ghost use Rattle.std.specs.Process.{exit_status};
 ghost use Rattle.site_commands.specs.Events.{Runs};
 ghost use Rattle.site_commands.specs.Courses.{Announces, Listens};
 ghost use Rattle.site_commands.specs.Serving.{AreServed, AreAllServed, IsNextServed, IsServedOver, IsServedFrom};
-ghost use Rattle.site_commands.specs.Serving.{IsServeRun, most_of};
+ghost use Rattle.site_commands.specs.Serving.{IsServedAt, IsServeRun, most_of};
 ghost use Rattle.site_commands.specs.inner.Served.{IsServeNamed, IsServeUnder};
 
 use crate::begin::begin;
@@ -18,6 +18,9 @@ use http_streams::serve::StreamFault;
 use stamped_store::SiteName;
 use std::alloc::Global;
 use std::process::ExitCode;
+
+/// What stands before the name of a site that begins with stamps of its name.
+const OWN_STAMPS: &str = "warning: the state has stamps of this name, which is to be used once: ";
 
 /// Answers what comes over a connection, as `serve` says, and returns how that ended.
 fn serve_link<R: Source, W: Sink>(
@@ -63,7 +66,7 @@ fn serve_all<H: Host>(
     }
 }
 
-/// How many connections are served: all, where no number is given.
+/// Returns how many connections are served: all, where no number is given.
 fn most_of(connections: Option<u32>) -> u64
     ensures { result ≡ most_of connections }
 {
@@ -119,6 +122,26 @@ fn serve_at<H: Host>(alloc: Global, host: &mut H, site: Site, address: &str, mos
     }
 }
 
+/// Serves a site of this name at an address. Where it begins with stamps of its name, that is told first, since a name
+/// is to be used once: stamps that are given again under it would name other updates. It is served all the same.
+fn serve_begun<H: Host>(
+    alloc: Global,
+    host: &mut H,
+    site: Site,
+    name: SiteName,
+    address: &str,
+    most: u64,
+) -> ExitCode
+    ensures { Runs H.does host.old host.new (λ events.
+        IsServedAt H.Reader.Source H.Writer.Sink name address.now most site events (exit_status result)) }
+{
+    if !site.has_stamps_of(name) {
+        return serve_at(alloc, host, site, address, most);
+    }
+    let _ = host.write_line(Stream::Faults, OWN_STAMPS, name.as_bytes());
+    serve_at(alloc, host, site, address, most)
+}
+
 /// Begins a site, and then serves it.
 fn serve_from<H: Host>(
     alloc: Global,
@@ -134,7 +157,7 @@ fn serve_from<H: Host>(
         connections events (exit_status result)) }
 {
     match begin(alloc, schema, site, state) {
-        Ok(site) => serve_at(alloc, host, site, address, most_of(connections)),
+        Ok(begun) => serve_begun(alloc, host, begun, site, address, most_of(connections)),
         Err(refusal) => report_refusal(alloc, host, refusal),
     }
 }

@@ -76,7 +76,7 @@ pub(crate) fn run_merge<H: Host>(
     merge_under(alloc, host, &schema, first, second)
 }
 
-/// The line that tells how many updates were taken.
+/// Returns the line that tells how many updates were taken.
 #[tactic(auto, unfolding(crate::specs::Reports::taken_report_line))]
 fn taken_line(alloc: Global, count: usize) -> Result<String, NoMemory>
     ensures { IfOk result (λ line. string_bytes line ≡ taken_report_line count) }
@@ -101,7 +101,7 @@ fn keep<H: Host>(alloc: Global, host: &mut H, name: &str, pulled: &Pulled) -> Ex
     }
 }
 
-/// The bytes of a file that need not be there.
+/// Returns the bytes of a file that need not be there.
 pub(crate) fn lent(state: &Option<Vec<u8>>) -> Option<&[u8]>
     ensures { option_map (λ s. s.now) result ≡ option_map (λ s. s.items) state.now }
 {

@@ -62,7 +62,7 @@ fn write_new<R: Files>(files: &R, name: &str, bytes: &[u8]) -> Result<(), FileFa
     Ok(())
 }
 
-/// The name of the file that is written before it takes the name of another: that one's, with `.new` behind it.
+/// Returns the name of the file that is written before it takes the name of another: that one's, with `.new` behind it.
 fn new_name<R: AllocGlobal>(rt: &R, name: &str) -> Result<String, FileFault> {
     match format!(in rt.alloc(); "{name}.new") {
         Ok(new) => Ok(new),
@@ -70,7 +70,7 @@ fn new_name<R: AllocGlobal>(rt: &R, name: &str) -> Result<String, FileFault> {
     }
 }
 
-/// The two ends of a stream of bytes, which goes out as it is written.
+/// Returns the two ends of a stream of bytes, which goes out as it is written.
 fn link<S: io::Read + Write + OpenStream + Drop>(
     stream: S,
 ) -> Result<Link<Counted<S>, Counted<S>>, NetworkFailed> {

@@ -15,7 +15,7 @@ use Rattle.values.specs.declared.name.Name.TheVariants as name
 use Rattle.values.specs.declared.request.Request.{Request}
 use Rattle.values.specs.Names.{uid_cmp}
 use Rattle.policy_grammar.specs.declared.policy.Policy.{Policy}
-use Rattle.policy_grammar.specs.declared.fault.ReadFault.TheVariants.{BadId}
+use Rattle.text_trees.specs.declared.fault.ReadFault.TheVariants.{BadId}
 use Rattle.policy_grammar.specs.Limits.{IsId}
 use Rattle.ancestor_closure.specs.Decided.{HaveAllParents, PathsAreDecided, reaches}
 use Rattle.ancestor_closure.specs.Deciding.{Contains-cases, Contains-here, Contains-none, Contains-there, same_uid}
@@ -31,7 +31,7 @@ use Rattle.entity_worlds.specs.declared.data.EntityData.{EntityData}
 use Rattle.entity_worlds.specs.Entities.{action_or, kept_parents}
 use Rattle.validator.specs.Outcomes.{passes, refused as check_refused, IsCheckResult, PoliciesHaveOneOutcome, PassingIsNotRefused, CheckResult as CheckOutcome}
 use Rattle.validator.specs.Passing.{Passes, IsImpossible}
-use Rattle.stamped_store.specs.declared.entry.Stamp.{Stamp}
+use Rattle.stamped_entries.specs.declared.entry.Stamp.{Stamp}
 use Rattle.stamped_store.specs.Contents.{text_under, policy_text, entities_of}
 use Rattle.stamped_store.specs.Deltas as deltas
 use Rattle.stamped_store.specs.EntryOrder.{PlainEntry, entry_cmp}

@@ -8,7 +8,7 @@ use Rattle.schema.specs.Schemas.{StatedSchema}
 use Rattle.entity_worlds.specs.declared.entity.Entity.{Entity}
 use Rattle.entities.specs.declared.fault.EntityFault.{EntityFault}
 use Rattle.entities.specs.Canonical.{canonical_text}
-use Rattle.stamped_store.specs.declared.entry.Stamp.{Stamp}
+use Rattle.stamped_entries.specs.declared.entry.Stamp.{Stamp}
 use Rattle.stamped_store.specs.Deltas as deltas
 use Rattle.stamped_store.specs.Store.{Store, Update, updates, issued, policy_name, entity_name}
 use Rattle.sync_messages.specs.declared.fault.MessageFault.{MessageFault}

@@ -47,7 +47,7 @@ pub fn put_entity_bytes(alloc: Global, site: &mut Site, bytes: &[u8]) -> Result<
     }
 }
 
-/// The updates of a message, each valid under the schema.
+/// Returns the updates of a message, each valid under the schema.
 fn updates_of(
     alloc: Global,
     schema: &Schema,
@@ -79,8 +79,8 @@ pub fn take_bytes(alloc: Global, site: &mut Site, bytes: &[u8]) -> Result<Taken,
     }
 }
 
-/// The answer to the request that bytes state: JSON in UTF-8. No policy errs in it for a type, an attribute or an
-/// extension function.
+/// Returns the answer to the request that bytes state: JSON in UTF-8. No policy errs in it for a type, an attribute or
+/// an extension function.
 ///
 /// Refused as [`Site::authorize`] refuses; bytes that are no JSON have not a request's form (63, with 30 inside).
 pub fn authorize_bytes(alloc: Global, site: &Site, bytes: &[u8]) -> Result<Answer, SiteFault>
@@ -94,7 +94,7 @@ pub fn authorize_bytes(alloc: Global, site: &Site, bytes: &[u8]) -> Result<Answe
     }
 }
 
-/// The text and the stamp of the policy of this id.
+/// Returns the text and the stamp of the policy of this id.
 fn find_policy(alloc: Global, site: &Site, id: &str) -> Result<Option<Found>, SiteFault>
     ensures { Finds (store_in site.now) id.now result }
 {
@@ -107,7 +107,7 @@ fn find_policy(alloc: Global, site: &Site, id: &str) -> Result<Option<Found>, Si
     }
 }
 
-/// The state, as a message to other sites of the schema. Fails for memory alone.
+/// Returns the state, as a message to other sites of the schema. Fails for memory alone.
 pub fn state_bytes(site: &Site) -> Result<Items<u8>, SiteFault>
     ensures { Writes (state_text (schema_of site.now).label (store_in site.now)) result }
 {
@@ -115,7 +115,7 @@ pub fn state_bytes(site: &Site) -> Result<Items<u8>, SiteFault>
     Ok(Items::from_vec(bytes))
 }
 
-/// The summary, as a message to other sites of the schema. Fails for memory alone.
+/// Returns the summary, as a message to other sites of the schema. Fails for memory alone.
 pub fn summary_bytes(site: &Site) -> Result<Items<u8>, SiteFault>
     ensures { Writes (summary_text (schema_of site.now).label (summary_of (store_in site.now))) result }
 {
@@ -123,7 +123,7 @@ pub fn summary_bytes(site: &Site) -> Result<Items<u8>, SiteFault>
     Ok(Items::from_vec(bytes))
 }
 
-/// What is news to whoever has the summary that bytes are, as a message to that site.
+/// Returns what is news to whoever has the summary that bytes are, as a message to that site.
 ///
 /// Refused where the bytes are no summary of the schema, as [`read_summary`] refuses.
 pub fn delta_bytes(alloc: Global, site: &Site, bytes: &[u8]) -> Result<Items<u8>, SiteFault>
@@ -140,7 +140,7 @@ pub fn delta_bytes(alloc: Global, site: &Site, bytes: &[u8]) -> Result<Items<u8>
 }
 
 /// Answers one input.
-fn apply(alloc: Global, site: &mut Site, input: &Input) -> Reply
+fn reply_to(alloc: Global, site: &mut Site, input: &Input) -> Reply
     ensures step { Step (schema_of site.old) site.old.name (store_in site.old) input.now result (store_in site.new) }
     ensures same { IsSameSite site.old site.new }
 {
@@ -178,7 +178,7 @@ pub fn run(alloc: Global, site: &mut Site, inputs: &[Input]) -> Result<Vec<Reply
     site.schema().is_stated();
     let mut replies = Vec::with_capacity(alloc, inputs.len())?;
     for input in inputs {
-        let reply = apply(alloc, site, input);
+        let reply = reply_to(alloc, site, input);
         if let Err(_) = replies.push(reply) {
             unreachable!();
         }

@@ -22,7 +22,7 @@ use Rattle.entities.specs.Canonical.{canonical_json, canonical_text}
 use Rattle.entities.specs.Entities.{entity_stated_in}
 use Rattle.canonical_texts.specs.Laws.{JsonTextsAreUtf8, IsReadFrom, CanonicalTextsAreJson}
 use Rattle.stored_texts.specs.Laws.{CanonicalTextsAreRead}
-use Rattle.stamped_store.specs.declared.entry.Stamp.{Stamp}
+use Rattle.stamped_entries.specs.declared.entry.Stamp.{Stamp}
 use Rattle.stamped_store.specs.Contents.{text_under}
 use Rattle.stamped_store.specs.EntryOrder.{PlainEntry}
 use Rattle.stamped_store.specs.Greatest.{greatest_count}

@@ -25,7 +25,7 @@ pub(crate) fn has_texts(deed: &Deed)
     }
 }
 
-/// What a site replies to a deed; None where the message or summary that it names was not made yet.
+/// Returns what a site replies to a deed; None where the message or summary that it names was not made yet.
 pub(crate) fn step(
     alloc: Global,
     site: &mut Site,

@@ -47,7 +47,7 @@ fn simulate_at(alloc: Global, mut sites: Vec<Site>, events: &[Event]) -> Result<
     })
 }
 
-/// A site with nothing stored, whose name is the five digits of its number.
+/// Returns a site with nothing stored, whose name is the five digits of its number.
 fn new_site(alloc: Global, schema: &Shared<Schema>, number: u16) -> Result<Site, NoMemory>
     ensures { IfOk result (IsSiteOf (schema_view schema.now) (five_digits number) (store_of [])) }
 {

@@ -1,11 +1,10 @@
-pub mod SiteNames
-pub mod SiteWords
 pub mod Entered
 pub mod Points
 pub mod Lifted
 pub mod GreatestsBy
 pub mod Greatests
 pub mod Showing
+pub mod StampedAt
 pub mod Stores
 pub mod Kept
 pub mod Contents

@@ -6,8 +6,8 @@ use Rattle.std.specs.List.{Contains}
 use Rattle.std.specs.Ordering.{eq_by_cmp, is_le}
 use Rattle.std.specs.FinMap.{FinMap, empty, get, insert, entries}
 use Rattle.std.specs.declared.cmp.Ordering.{Ordering}
-use Rattle.stamped_store.specs.Joins.{option_below}
-use Rattle.stamped_store.specs.EntryOrder.{PlainEntry, greater_of}
+use Rattle.stamped_entries.specs.Joins.{option_below}
+use Rattle.stamped_entries.specs.EntryOrder.{PlainEntry, greater_of}
 use Rattle.stamped_store.specs.Stored.{joined_onto}
 
 -- the greatest count among entries

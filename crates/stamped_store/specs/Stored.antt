@@ -9,7 +9,7 @@ use Rattle.std.specs.declared.alloc.Global.{Global}
 use Rattle.std.specs.declared.string.String.{String}
 use Rattle.std.specs.declared.cmp.Ordering.{Ordering}
 use Rattle.std.specs.declared.cmp.Ordering.TheVariants.{Equal}
-use Rattle.stamped_store.specs.Joins.{option_below, option_joined}
+use Rattle.stamped_entries.specs.Joins.{option_below, option_joined}
 
 -- v, joined onto what is there
 abbrev pub joined_onto : {V : Type 0} → (V → V → V) → Option V → V → V

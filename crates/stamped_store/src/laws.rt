@@ -12,10 +12,10 @@ ghost use Rattle.std.specs.FinMap.{IsAntisymmetric, get};
 ghost use Rattle.values.specs.declared.name.Name.{Name};
 ghost use Rattle.values.specs.declared.entity_uid.EntityUid.{EntityUid};
 ghost use Rattle.values.specs.Names.{name_cmp, uid_cmp};
-ghost use Rattle.stamped_store.specs.Joins.{IsJoin, IsLeastAbove};
-ghost use Rattle.stamped_store.specs.EntryOrder.{PlainEntry, plain_entry, entry_cmp, greater_entry, greater};
-ghost use Rattle.stamped_store.specs.EntryOrder.{entry_below, site_cmp};
-ghost use Rattle.stamped_store.specs.SiteNames.{SiteTestIsExact, SiteNamesAreTexts, SiteDigitsAreNames, five_digits};
+ghost use Rattle.stamped_entries.specs.Joins.{IsJoin, IsLeastAbove};
+ghost use Rattle.stamped_entries.specs.EntryOrder.{PlainEntry, plain_entry, entry_cmp, greater_entry, greater};
+ghost use Rattle.stamped_entries.specs.EntryOrder.{entry_below, site_cmp};
+ghost use Rattle.stamped_entries.specs.SiteNames.{SiteTestIsExact, SiteNamesAreTexts, SiteDigitsAreNames, five_digits};
 ghost use Rattle.stamped_store.specs.Stored.{IsBelowAt, joined_at, value_at, taken};
 ghost use Rattle.stamped_store.specs.Greatest.{greatest_count};
 ghost use Rattle.stamped_store.specs.Store.{Store, Update, updates, store_of, plain_below, IsStoreBelow, IsStoreJoin};
@@ -117,9 +117,9 @@ pub fn deltas_are_joined()
         → joined_stores s (delta t (summary_of old)) ≡ joined_stores s t }
 {}
 
-/// That each text of a store was read as what stands beside it, under its name, stays so: it holds of the empty store,
-/// after a policy or an entity is taken whose own text was so read, and after a merge of two such stores, whole or cut
-/// short.
+/// Proves that each text of a store was read as what stands beside it, under its name, stays so: it holds of the empty
+/// store, after a policy or an entity is taken whose own text was so read, and after a merge of two such stores, whole
+/// or cut short.
 pub fn readings_are_kept<P: Drop, E: Drop, R: Readings<P, E>>()
     ensures empty { (r : R) → AreEntriesRead {P = P} {E = E} (R.reads_policy r) (R.reads_entity r) (kept [] []) }
     ensures policy { (r : R) (k : StoreEntries P E) (id : String Global) (entry : Entry P)

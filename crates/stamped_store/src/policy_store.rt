@@ -9,7 +9,7 @@ ghost use Rattle.std.specs.Map.Iter.{ShowsInOrder, deref_pair};
 ghost use Rattle.std.specs.String.{string_cmp};
 ghost use Rattle.std.specs.List.Sorted.{IsStrictlySortedBy};
 ghost use Rattle.values.specs.Names.{uid_cmp};
-ghost use Rattle.stamped_store.specs.EntryOrder.{plain_entry, greater, entry_below};
+ghost use Rattle.stamped_entries.specs.EntryOrder.{plain_entry, greater, entry_below};
 ghost use Rattle.stamped_store.specs.Greatest.{greatest_count};
 ghost use Rattle.stamped_store.specs.Abstraction.{greatest_kept};
 ghost use Rattle.stamped_store.specs.Stored.{value_at, value_at_text, taken, IsBelow};
@@ -50,7 +50,7 @@ impl<P: Drop, E: Drop> Model for PolicyStore<P, E> {
 }
 
 impl<P: Drop, E: Drop> PolicyStore<P, E> {
-    /// The empty store. Takes no memory.
+    /// Returns the empty store. Takes no memory.
     pub fn new(alloc: Global) -> Self
         ensures kept { result ≡ kept [] [] }
         ensures empty { abstract_store result ≡ store_of [] }
@@ -62,7 +62,7 @@ impl<P: Drop, E: Drop> PolicyStore<P, E> {
         }
     }
 
-    /// The entry of the policy of this id, if there is one, in logarithmic time and without memory.
+    /// Returns the entry of the policy of this id, if there is one, in logarithmic time and without memory.
     pub fn get_policy(&self, id: &str) -> Option<&Entry<P>>
         ensures kept { option_copied result ≡ value_at_text self.now.policies id.now }
         ensures shown { option_map plain_entry (option_copied result) ≡ get (abstract_store self.now)
@@ -71,7 +71,7 @@ impl<P: Drop, E: Drop> PolicyStore<P, E> {
         policy_at(&self.policies, id)
     }
 
-    /// The entry of the entity of this uid, if there is one, in logarithmic time and without memory.
+    /// Returns the entry of the entity of this uid, if there is one, in logarithmic time and without memory.
     pub fn get_entity(&self, uid: &EntityUid) -> Option<&Entry<E>>
         ensures kept { option_copied result ≡ value_at uid_cmp self.now.entities uid.now }
         ensures shown { option_map plain_entry (option_copied result)
@@ -80,7 +80,7 @@ impl<P: Drop, E: Drop> PolicyStore<P, E> {
         entity_at(&self.entities, uid)
     }
 
-    /// The entries of policies, ascending by the bytes of the id.
+    /// Returns the entries of policies, ascending by the bytes of the id.
     pub fn policies(&self) -> Iter<'_, String, Entry<P>>
         ensures rest { result ≡ self.now.policies }
         ensures runs { ShowsInOrder (deref_pair {K = String Global} {X = Entry P}) }
@@ -90,7 +90,7 @@ impl<P: Drop, E: Drop> PolicyStore<P, E> {
         self.policies.iter()
     }
 
-    /// The entries of entities, ascending by uid.
+    /// Returns the entries of entities, ascending by uid.
     pub fn entities(&self) -> Iter<'_, EntityUid, Entry<E>>
         ensures rest { result ≡ self.now.entities }
         ensures runs { ShowsInOrder (deref_pair {K = EntityUid} {X = Entry E}) }
@@ -100,15 +100,15 @@ impl<P: Drop, E: Drop> PolicyStore<P, E> {
         self.entities.iter()
     }
 
-    /// The greatest count in the whole store, and 0 for the empty one, in constant time.
+    /// Returns the greatest count in the whole store, and 0 for the empty one, in constant time.
     pub fn greatest_count(&self) -> u64
         ensures { result ≡ greatest_count (abstract_store self.now) }
     {
         self.greatest
     }
 
-    /// The stamp of the next local command at a site: one more than the greatest count in the whole store, and the
-    /// site's name.
+    /// Returns the stamp of the next local command at a site: one more than the greatest count in the whole store, and
+    /// the site's name.
     pub fn issue(&self, site: SiteName) -> Stamp
         requires { greatest_count (abstract_store self.now) < COUNT_MAX }
         ensures { result ≡ issue (abstract_store self.now) site }
@@ -184,8 +184,8 @@ impl<P: Drop, E: Drop> PolicyStore<P, E> {
         Ok(())
     }
 
-    /// Whether each name of this store is a name of the other, with an entry there that is at least as great. Takes no
-    /// memory.
+    /// Returns whether each name of this store is a name of the other, with an entry there that is at least as great.
+    /// Takes no memory.
     pub fn below(&self, other: &Self) -> bool
         ensures { IsTrue result ↔ IsStoreBelow (abstract_store self.now) (abstract_store other.now) }
     {

@@ -5,7 +5,7 @@ ghost use Rattle.std.specs.List.Sorted.{IsStrictlySortedBy};
 ghost use Rattle.std.specs.BTreeMap.{insert_entry};
 ghost use Rattle.std.specs.Map.{keys_of};
 ghost use Rattle.std.specs.Map.Iter.{ShowsInOrder, deref_pair};
-ghost use Rattle.stamped_store.specs.Joins.{IsLeastAbove, option_below};
+ghost use Rattle.stamped_entries.specs.Joins.{IsLeastAbove, option_below};
 ghost use Rattle.stamped_store.specs.Stored.{value_at, value_at_text, joined_onto, taken, all_taken, KeepsOthers};
 ghost use Rattle.stamped_store.specs.Stored.{IsBelow, IsJoined};
 
@@ -40,7 +40,7 @@ impl<K: Ord, V: Join> Model for Stamped<K, V> {
 }
 
 impl<K: Ord + Drop, V: Join + Drop> Stamped<K, V> {
-    /// The empty store. Takes no memory.
+    /// Returns the empty store. Takes no memory.
     pub fn new(alloc: Global) -> Self
         ensures { result ≡ [] }
     {
@@ -58,14 +58,14 @@ impl<K: Ord + Drop, V: Join + Drop> Stamped<K, V> {
         self.map.len()
     }
 
-    /// The value at the key, if it has one, in logarithmic time and without memory.
+    /// Returns the value at the key, if it has one, in logarithmic time and without memory.
     pub fn get(&self, key: &K) -> Option<&V>
         ensures { option_copied result ≡ value_at K.cmp self.now key.now }
     {
         self.map.get(key)
     }
 
-    /// The entries, in the ascending order of their keys.
+    /// Returns the entries, in the ascending order of their keys.
     pub fn iter(&self) -> Iter<'_, K, V>
         ensures rest { result ≡ self.now }
         ensures runs { ShowsInOrder (deref_pair {K = K} {X = V}) }
@@ -131,7 +131,8 @@ impl<K: Ord + Drop, V: Join + Drop> Stamped<K, V> {
         }
     }
 
-    /// Whether each key is a key of the other store, with a value there that is at least as great. Takes no memory.
+    /// Returns whether each key is a key of the other store, with a value there that is at least as great. Takes no
+    /// memory.
     pub fn below(&self, other: &Self) -> bool
         ensures { IsTrue result ↔ IsBelow K.cmp V.is_below self.now other.now }
     {
@@ -155,7 +156,7 @@ impl<K: Ord + Drop, V: Join + Drop> Stamped<K, V> {
 }
 
 impl<V: Join + Drop> Stamped<String, V> {
-    /// The value at the key of these characters, if it has one, in logarithmic time and without memory.
+    /// Returns the value at the key of these characters, if it has one, in logarithmic time and without memory.
     pub fn get_str(&self, text: &str) -> Option<&V>
         ensures { option_copied result ≡ value_at_text self.now text.now }
     {

@@ -10,7 +10,7 @@ use Rattle.json_words.specs.Json.{json_of, text_at}
 use Rattle.json_words.specs.Keys.{has_only}
 use Rattle.json_words.proofs.EachLemmas.{bind_ok}
 use Rattle.values.specs.declared.name.Name.{Name}
-use Rattle.stamped_store.specs.declared.entry.Stamp.{Stamp}
+use Rattle.stamped_entries.specs.declared.entry.Stamp.{Stamp}
 use Rattle.stamped_store.specs.Store.{Update, issued}
 use Rattle.stamped_store.specs.Raised.{NumberedUpdate, IsSiteNumber, HaveSiteNumbers, raise_update, raise}
 use Rattle.sync_messages.specs.declared.fault.MessageFault.{MessageFault}

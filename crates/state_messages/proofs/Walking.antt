@@ -17,8 +17,8 @@ use Rattle.json.specs.Written.{Written}
 use Rattle.serde_json.specs.Data.{Data}
 use Rattle.values.specs.declared.name.Name.{Name}
 use Rattle.values.specs.Names.{name_cmp, name_cmp-IsTotalOrder, name_cmp-IsAntisymmetric}
-use Rattle.stamped_store.specs.declared.entry.Entry.{Entry}
-use Rattle.stamped_store.specs.declared.entry.Stamp.{Stamp}
+use Rattle.stamped_entries.specs.declared.entry.Entry.{Entry}
+use Rattle.stamped_entries.specs.declared.entry.Stamp.{Stamp}
 use Rattle.stamped_store.specs.EntryOrder.{plain_entry}
 use Rattle.stamped_store.specs.Deltas.{Summary, delta}
 use Rattle.stamped_store.specs.Abstraction.{abstract_entry, abstract_entries}

@@ -2,7 +2,7 @@
 //! each variant.
 ghost use Rattle.std.specs.Prelude.{◌≡◌, IfOk, IfErr, Ok, Err};
 
-/// What was read after another value, with that value; where nothing was read, only why.
+/// Returns what was read after another value, with that value; where nothing was read, only why.
 pub(crate) fn beside<T: Drop, U, F>(kept: T, read: Result<U, F>) -> Result<(T, U), F>
     ensures read { IfOk result (λ both. read ≡ Ok both.1) }
     ensures kept { IfOk result (λ both. both.0 ≡ kept) }

@@ -27,7 +27,7 @@ use std::collections::btree_map::Iter;
 use sync_messages::{Lent, Summary, write_number, write_text};
 use values::Name;
 
-/// The member `body`: a text, or null.
+/// Returns the member `body`: a text, or null.
 fn write_body<P>(out: &mut Writer, body: &Option<ReadText<P>>) -> Result<(), NoMemory>
     ensures { OnOk result (AppendsMember out.old out.new (codes "body") (body_json (body_bytes body.now))) }
 {
@@ -51,7 +51,7 @@ fn write_entry<N: Lent, P>(out: &mut Writer, name: &N, entry: &Entry<P>) -> Resu
     out.end_object()
 }
 
-/// What is left of ascending stamps from a name on, and the stamp of this name.
+/// Returns what is left of ascending stamps from a name on, and the stamp of this name.
 fn from_name<'a, N: Lent>(
     known: &'a [(Name, Stamp)],
     name: &N,
@@ -71,7 +71,7 @@ fn from_name<'a, N: Lent>(
     (left, None)
 }
 
-/// Whether an entry is news where this stamp is known.
+/// Returns whether an entry is news where this stamp is known.
 fn is_news<P>(known: Option<Stamp>, entry: &Entry<P>) -> bool
     ensures { result ≡ is_news_where known (Some (plain_entry entry.now)) }
 {
@@ -116,7 +116,7 @@ fn push_all<'a, N: Lent + Drop, P: Drop>(
     Ok(left)
 }
 
-/// The entries of a store that are news, in the order of the names: one walk over the names of both.
+/// Returns the entries of a store that are news, in the order of the names: one walk over the names of both.
 fn write_entries<P: Drop, E: Drop>(
     out: &mut Writer,
     store: &PolicyStore<P, E>,
@@ -152,7 +152,7 @@ fn write_whole<P: Drop, E: Drop>(
     out.end_object()
 }
 
-/// The message as bytes.
+/// Returns the message as bytes.
 fn write_message<P: Drop, E: Drop>(
     alloc: Global,
     kind: &str,
@@ -171,8 +171,9 @@ fn write_message<P: Drop, E: Drop>(
     Ok(out.into_inner())
 }
 
-/// A store whole, as a state under the schema of this label: compact, keys and names ascending. Where each name and
-/// stamp is one that a message may have, it is read back as the updates that it was written of. Fails for memory alone.
+/// Returns a store whole, as a state under the schema of this label: compact, keys and names ascending. Where each name
+/// and stamp is one that a message may have, it is read back as the updates that it was written of. Fails for memory
+/// alone.
 ///
 /// The bytes are written straight from the store, and take no memory but their own.
 pub fn write_state<P: Drop, E: Drop>(
@@ -189,9 +190,9 @@ pub fn write_state<P: Drop, E: Drop>(
     write_message(alloc, "state", label, store, &[])
 }
 
-/// The part of a store that is news to whoever has this summary, as a delta under the schema of this label: the entries
-/// whose names have no stamp there or a smaller one. Written, and read back, as a state is. One walk over the names of
-/// both, which takes memory for what is news alone. Fails for memory alone.
+/// Returns the part of a store that is news to whoever has this summary, as a delta under the schema of this label: the
+/// entries whose names have no stamp there or a smaller one. Written, and read back, as a state is. One walk over the
+/// names of both, which takes memory for what is news alone. Fails for memory alone.
 pub fn write_delta<P: Drop, E: Drop>(
     alloc: Global,
     label: &str,

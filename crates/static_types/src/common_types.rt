@@ -10,8 +10,9 @@ use crate::static_type::{BooleanType, Leaf, StaticType};
 use plain::{Items, NoMemory, Shared};
 use std::alloc::Global;
 
-/// The common type of two types, where there is one, or `NoMemory`: of equal types that type, of types of booleans that
-/// differ any boolean, of sets by their members, and of records with equal keys and equal requirements field by field.
+/// Returns the common type of two types, where there is one, or `NoMemory`: of equal types that type, of types of
+/// booleans that differ any boolean, of sets by their members, and of records with equal keys and equal requirements
+/// field by field.
 ///
 /// Takes time linear in the smaller one's parts. Where it is the left one, as of one declared type with itself, that is
 /// copied; so memory is taken only where it is another.
@@ -32,7 +33,7 @@ pub fn common<'a>(
     }
 }
 
-/// The common type of two types of booleans.
+/// Returns the common type of two types of booleans.
 fn common_boolean(left: BooleanType, right: BooleanType) -> BooleanType
     ensures { common (boolean_view left) (boolean_view right) ≡ Some (boolean_view result) }
 {
@@ -69,7 +70,7 @@ fn common_leaf<'a>(left: Leaf<'a>, right: Leaf<'a>) -> Option<Leaf<'a>>
     }
 }
 
-/// The type of sets of these members, where there are any.
+/// Returns the type of sets of these members, where there are any.
 fn set_of<'a>(
     alloc: Global,
     member: Option<StaticType<'a>>,
@@ -83,7 +84,7 @@ fn set_of<'a>(
     }
 }
 
-/// The type of records with these fields.
+/// Returns the type of records with these fields.
 fn record_of<'a>(
     alloc: Global,
     fields: Vec<(&'a str, StaticType<'a>, bool)>,

@@ -28,7 +28,7 @@ pub struct TypingEnvironment<'a> {
     pub environment: &'a Environment,
 }
 
-/// Whether the entities of a type are actions: whether the last word of its name is `Action`.
+/// Returns whether the entities of a type are actions: whether the last word of its name is `Action`.
 pub fn is_action_type(name: &TypeName) -> bool
     ensures { result ≡ is_action_type name.now }
 {
@@ -42,7 +42,7 @@ fn no_fields<'a>() -> &'a [(Text, CedarType, bool)]
     &[]
 }
 
-/// The fields of a record; other types have none.
+/// Returns the fields of a record; other types have none.
 fn fields_in<'a>(ty: &'a CedarType) -> &'a [(Text, CedarType, bool)]
     ensures { static_fields (cedar_fields_view result.now) ≡ field_types_in (cedar_view ty.now) }
 {
@@ -58,7 +58,7 @@ fn fields_in<'a>(ty: &'a CedarType) -> &'a [(Text, CedarType, bool)]
     }
 }
 
-/// The attributes of the entities of a type.
+/// Returns the attributes of the entities of a type.
 fn attributes_of<'a>(schema: &'a Schema, name: &TypeName) -> &'a [(Text, CedarType, bool)]
     ensures { static_fields (cedar_fields_view result.now) ≡ attributes_of (schema_view schema.now) name.now }
 {
@@ -71,14 +71,14 @@ fn attributes_of<'a>(schema: &'a Schema, name: &TypeName) -> &'a [(Text, CedarTy
     }
 }
 
-/// How the name of a field compares with another.
+/// Returns how the name of a field compares with another.
 fn compare(field: &(Text, CedarType, bool), key: &str) -> Ordering
     ensures { result ≡ text_cmp field.now.0 key.now }
 {
     field.0.as_str().cmp(key)
 }
 
-/// What fields in order say of a key; takes logarithmic time.
+/// Returns what fields in order say of a key; takes logarithmic time.
 fn found_in_order<'r, 'a>(
     fields: &'a [(Text, CedarType, bool)],
     key: &str,
@@ -96,7 +96,7 @@ fn found_in_order<'r, 'a>(
     }
 }
 
-/// Whether a uid is one of these, which ascend; takes logarithmic time.
+/// Returns whether a uid is one of these, which ascend; takes logarithmic time.
 fn is_among(uids: &[EntityUid], uid: &EntityUid) -> bool
     requires { IsStrictlySortedBy uid_cmp uids.now }
     ensures { IsTrue result ↔ Contains uids.now uid.now }
@@ -105,7 +105,7 @@ fn is_among(uids: &[EntityUid], uid: &EntityUid) -> bool
 }
 
 impl<'a> TypingEnvironment<'a> {
-    /// An environment of a schema; takes no memory.
+    /// Returns an environment of a schema; takes no memory.
     pub fn new(schema: &'a Schema, environment: &'a Environment) -> TypingEnvironment<'a>
         ensures { typing_environment result
             ≡ typing_environment_of (schema_view schema.now) (environment_view environment.now) }
@@ -116,7 +116,7 @@ impl<'a> TypingEnvironment<'a> {
         }
     }
 
-    /// The type of a part of the request; takes no memory.
+    /// Returns the type of a part of the request; takes no memory.
     pub fn variable_type(self, variable: Variable) -> StaticType<'a>
         ensures { static_view result ≡ variable_type (typing_environment self.entry) variable }
     {
@@ -130,7 +130,7 @@ impl<'a> TypingEnvironment<'a> {
         }
     }
 
-    /// The action of each request; takes no memory.
+    /// Returns the action of each request; takes no memory.
     pub fn action(self) -> &'a EntityUid
         ensures { result.now ≡ (typing_environment self.entry).action }
     {
@@ -138,7 +138,7 @@ impl<'a> TypingEnvironment<'a> {
         &environment.place.action
     }
 
-    /// What the type of the entities of a type says of an attribute; takes logarithmic time.
+    /// Returns what the type of the entities of a type says of an attribute; takes logarithmic time.
     pub(crate) fn attribute<'r>(self, name: &TypeName, key: &str) -> Option<(Part<'r, 'a>, bool)>
         ensures declared { found_view result
             ≡ field_declared_at key.now ((typing_environment self.entry).attributes name.now) }
@@ -149,21 +149,21 @@ impl<'a> TypingEnvironment<'a> {
         found_in_order(attributes_of(self.schema, name), key)
     }
 
-    /// Whether the entities of a type are actions; takes no memory.
+    /// Returns whether the entities of a type are actions; takes no memory.
     pub fn is_action_type(self, name: &TypeName) -> bool
         ensures { result ≡ (typing_environment self.entry).is_action_type name.now }
     {
         is_action_type(name)
     }
 
-    /// Whether entities of the first type may have ancestors of the second; takes no memory.
+    /// Returns whether entities of the first type may have ancestors of the second; takes no memory.
     pub fn may_be_below(self, below: &TypeName, above: &TypeName) -> bool
         ensures { result ≡ (typing_environment self.entry).may_be_below below.now above.now }
     {
         self.schema.may_have_parent(below, above)
     }
 
-    /// Whether an entity is an ancestor of an action, by the schema; takes no memory, and logarithmic time.
+    /// Returns whether an entity is an ancestor of an action, by the schema; takes no memory, and logarithmic time.
     pub fn is_action_ancestor(self, action: &EntityUid, above: &EntityUid) -> bool
         ensures { IsTrue result ↔ Contains ((typing_environment self.entry).action_ancestors action.now) above.now }
     {

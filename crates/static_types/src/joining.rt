@@ -109,7 +109,7 @@ pub(crate) fn paired<'r, 's, 'a>(
     }
 }
 
-/// What is known of the common type of two; takes no memory, and time linear in the smaller one's parts.
+/// Returns what is known of the common type of two; takes no memory, and time linear in the smaller one's parts.
 #[cycle(join_of)]
 pub(crate) fn join_of<'a>(left: Part<'_, 'a>, right: Part<'_, 'a>) -> Join
     ensures { Tells result (part_view left.entry) (common (part_view left.entry) (part_view right.entry)) }

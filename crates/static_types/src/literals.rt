@@ -14,7 +14,7 @@ use plain::{Items, NoMemory, Shared};
 use std::alloc::Global;
 use std::collections::BTreeMap;
 
-/// The type of a boolean that is known.
+/// Returns the type of a boolean that is known.
 pub(crate) fn truth_type(truth: bool) -> BooleanType
     ensures { boolean_view result ≡ truth_type truth }
 {
@@ -25,7 +25,7 @@ pub(crate) fn truth_type(truth: bool) -> BooleanType
     }
 }
 
-/// The type of a literal; takes no memory.
+/// Returns the type of a literal; takes no memory.
 pub fn literal_type<'a>(literal: &'a Literal) -> StaticType<'a>
     ensures { static_view result ≡ literal_type literal.now }
 {
@@ -37,7 +37,7 @@ pub fn literal_type<'a>(literal: &'a Literal) -> StaticType<'a>
     }
 }
 
-/// The common type of those so far and one more, where there is one.
+/// Returns the common type of those so far and one more, where there is one.
 fn joined_with<'a>(
     alloc: Global,
     joined: StaticType<'a>,
@@ -51,7 +51,7 @@ fn joined_with<'a>(
     wider
 }
 
-/// The type of sets of these members, of which there is at least one.
+/// Returns the type of sets of these members, of which there is at least one.
 fn set_type_of<'a>(
     alloc: Global,
     first: &StaticType<'a>,
@@ -70,7 +70,7 @@ fn set_type_of<'a>(
     Ok(StaticType::Set(Shared::new(alloc, joined)?))
 }
 
-/// The type of a set literal whose members have these types, or `NoMemory`.
+/// Returns the type of a set literal whose members have these types, or `NoMemory`.
 ///
 /// Refused where there are no members, and where they have no common type.
 pub fn set_literal_type<'a>(
@@ -99,7 +99,7 @@ fn put_field<'a>(
     Ok(map)
 }
 
-/// The fields of a record type, all of them required.
+/// Returns the fields of a record type, all of them required.
 fn listed_fields<'a>(
     alloc: Global,
     map: BTreeMap<&'a str, StaticType<'a>>,
@@ -139,7 +139,8 @@ fn typed_fields<'a>(
     Ok(map)
 }
 
-/// The type of a record literal whose fields have these types, in the order in which they are written, or `NoMemory`.
+/// Returns the type of a record literal whose fields have these types, in the order in which they are written, or
+/// `NoMemory`.
 pub fn record_literal_type<'a>(
     alloc: Global,
     fields: &'a [Named<Expr>],

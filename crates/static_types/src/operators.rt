@@ -21,7 +21,7 @@ use expressions::{Binary, BinaryCall, Unary};
 use std::alloc::Global;
 use values::TypeName;
 
-/// The type of a boolean that is turned round.
+/// Returns the type of a boolean that is turned round.
 fn turned(truth: BooleanType) -> BooleanType
     ensures { unary_type Not (boolean_view truth) ≡ Ok (boolean_view result) }
 {
@@ -52,7 +52,7 @@ fn unary_of<'a>(operator: &Unary, operand: TypeKind<'_, 'a>) -> Result<StaticTyp
     }
 }
 
-/// The type of an operator's result on an operand of this type; takes no memory.
+/// Returns the type of an operator's result on an operand of this type; takes no memory.
 ///
 /// Refused where the operator demands another.
 pub fn unary_type<'a>(
@@ -67,8 +67,8 @@ pub fn unary_type<'a>(
     row
 }
 
-/// The type of an operator's result on operands of these types; takes no memory, and time linear in the smaller one's
-/// parts.
+/// Returns the type of an operator's result on operands of these types; takes no memory, and time linear in the smaller
+/// one's parts.
 ///
 /// Refused where the operator demands other kinds of types, and then where it demands a common type and there is none.
 pub fn binary_type<'a>(
@@ -122,7 +122,7 @@ fn if_common<'a>(left: Part<'_, 'a>, right: Part<'_, 'a>) -> Result<StaticType<'
     }
 }
 
-/// The name where a type is an entity type.
+/// Returns the name where a type is an entity type.
 fn entity_of<'a>(kind: TypeKind<'_, 'a>) -> Option<&'a TypeName>
     ensures { option_map (λ n. n.now) result ≡ entity_type_in (kind_view kind.entry) }
 {
@@ -132,7 +132,7 @@ fn entity_of<'a>(kind: TypeKind<'_, 'a>) -> Option<&'a TypeName>
     }
 }
 
-/// The name where a type is an entity type, or a set of one.
+/// Returns the name where a type is an entity type, or a set of one.
 fn entities_of<'a>(kind: TypeKind<'_, 'a>) -> Option<&'a TypeName>
     ensures { option_map (λ n. n.now) result ≡ entities_in (kind_view kind.entry) }
 {
@@ -153,7 +153,7 @@ fn equal_of<'a>(left: Part<'_, 'a>, right: Part<'_, 'a>) -> Result<StaticType<'a
     if_common(left, right)
 }
 
-/// Whether there are two names, and they differ.
+/// Returns whether there are two names, and they differ.
 fn are_unequal(left: Option<&TypeName>, right: Option<&TypeName>) -> bool
     ensures { result ≡ are_unequal (option_map (λ n. n.now) left.entry) (option_map (λ n. n.now) right.entry) }
 {
@@ -166,7 +166,7 @@ fn are_unequal(left: Option<&TypeName>, right: Option<&TypeName>) -> bool
     }
 }
 
-/// Whether an entity of one type may be in one of another.
+/// Returns whether an entity of one type may be in one of another.
 fn may_be_in(env: TypingEnvironment<'_>, left: &TypeName, right: &TypeName) -> bool
     ensures { result ≡ may_be_in (typing_environment env.entry) left.now right.now }
 {
@@ -230,7 +230,7 @@ fn sets_of<'a>(left: TypeKind<'_, 'a>, right: TypeKind<'_, 'a>) -> Result<Static
     }
 }
 
-/// The type of a test of an address, by its operand's type; takes no memory.
+/// Returns the type of a test of an address, by its operand's type; takes no memory.
 ///
 /// Refused where that is another.
 pub fn address_test_type<'a>(operand: StaticType<'a>) -> Result<StaticType<'a>, TypeFault>
@@ -252,7 +252,7 @@ fn address_test_of<'a>(operand: TypeKind<'_, 'a>) -> Result<StaticType<'a>, Type
     }
 }
 
-/// The type of a method of an extension, by its operands' types; takes no memory.
+/// Returns the type of a method of an extension, by its operands' types; takes no memory.
 ///
 /// Refused where these are not of the extension.
 pub fn call_type<'a>(

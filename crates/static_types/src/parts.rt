@@ -51,7 +51,7 @@ pub(crate) struct Pair<'r, 's, 'a> {
 }
 
 impl<'r, 'a> Part<'r, 'a> {
-    /// What the type is.
+    /// Returns what the type is.
     pub(crate) fn kind(self) -> TypeKind<'r, 'a>
         ensures { kind_view result ≡ part_view self.entry }
     {
@@ -61,7 +61,7 @@ impl<'r, 'a> Part<'r, 'a> {
         }
     }
 
-    /// The type by itself.
+    /// Returns the type by itself.
     pub(crate) fn taken(self) -> Result<StaticType<'a>, NoMemory>
         ensures same { IfOk result (λ t. static_view t ≡ part_view self.entry) }
         ensures memory { IfErr result (λ _. IsTrue (part_held self.entry)) }
@@ -101,7 +101,7 @@ fn declared_kind<'r, 'a>(ty: &'a CedarType) -> TypeKind<'r, 'a>
 }
 
 impl<'r, 'a> Fields<'r, 'a> {
-    /// How many there are.
+    /// Returns how many there are.
     pub(crate) fn len(self) -> usize
         ensures { result ≡ fields_count (fields_view self.entry) }
     {
@@ -111,7 +111,7 @@ impl<'r, 'a> Fields<'r, 'a> {
         }
     }
 
-    /// The field at a place, counted from 0; None at and behind the end.
+    /// Returns the field at a place, counted from 0; None at and behind the end.
     pub(crate) fn get(self, at: usize) -> Option<FieldPart<'r, 'a>>
         ensures { fields_behind at (fields_view self.entry)
             ≡ before result (fields_behind (suc at) (fields_view self.entry)) }

@@ -24,7 +24,7 @@ pub enum BooleanType {
 }
 
 impl BooleanType {
-    /// Whether booleans of this type may be true.
+    /// Returns whether booleans of this type may be true.
     pub fn may_be_true(self) -> bool
         ensures { IsTrue result ↔ MayBeTrue (boolean_view self) }
     {
@@ -35,7 +35,7 @@ impl BooleanType {
         }
     }
 
-    /// Whether booleans of this type are known to be false.
+    /// Returns whether booleans of this type are known to be false.
     pub fn is_false(self) -> bool
         ensures { Decides result (boolean_view self ≡ false_type) }
     {
@@ -45,7 +45,7 @@ impl BooleanType {
         }
     }
 
-    /// Whether booleans of this type may be false.
+    /// Returns whether booleans of this type may be false.
     pub fn may_be_false(self) -> bool
         ensures { IsTrue result ↔ MayBeFalse (boolean_view self) }
     {
@@ -87,7 +87,7 @@ pub enum StaticType<'a> {
 }
 
 impl<'a> StaticType<'a> {
-    /// The type of the values of a type that the schema declares; takes no memory.
+    /// Returns the type of the values of a type that the schema declares; takes no memory.
     pub fn declared(ty: &'a CedarType) -> StaticType<'a>
         ensures { static_view result ≡ static (cedar_view ty.now) }
     {
@@ -103,15 +103,15 @@ impl<'a> StaticType<'a> {
         }
     }
 
-    /// A type of booleans; takes no memory.
+    /// Returns a type of booleans; takes no memory.
     pub fn boolean(truth: BooleanType) -> StaticType<'a>
         ensures { static_view result ≡ boolean_view truth }
     {
         StaticType::Leaf(Leaf::Boolean(truth))
     }
 
-    /// The same type. It takes no memory, and it is `NoMemory` only where it is held, and the holders of what an
-    /// expression built are as many as can be counted.
+    /// Returns the same type. It takes no memory, and it is `NoMemory` only where it is held, and the holders of what
+    /// an expression built are as many as can be counted.
     pub fn copy(&self) -> Result<StaticType<'a>, NoMemory>
         ensures same { IfOk result (λ t. static_view t ≡ static_view self.now) }
         ensures memory { IfErr result (λ _. IsTrue (holding self.now).is_held) }
@@ -125,7 +125,7 @@ impl<'a> StaticType<'a> {
         }
     }
 
-    /// Which type of booleans it is, or None where it is another; takes no memory.
+    /// Returns which type of booleans it is, or None where it is another; takes no memory.
     pub fn as_boolean(&self) -> Option<BooleanType>
         ensures { MatchOption result (¬ IsBoolean (static_view self.now))
             (λ b. static_view self.now ≡ boolean_view b) }
@@ -136,7 +136,7 @@ impl<'a> StaticType<'a> {
         }
     }
 
-    /// Whether it is a type of booleans; takes no memory.
+    /// Returns whether it is a type of booleans; takes no memory.
     pub fn is_boolean(&self) -> bool
         ensures { IsTrue result ↔ IsBoolean (static_view self.now) }
     {
@@ -146,7 +146,7 @@ impl<'a> StaticType<'a> {
         }
     }
 
-    /// Whether it is the type False; takes no memory.
+    /// Returns whether it is the type False; takes no memory.
     pub fn is_false(&self) -> bool
         ensures { Decides result (static_view self.now ≡ false_type) }
     {
@@ -156,7 +156,7 @@ impl<'a> StaticType<'a> {
         }
     }
 
-    /// Whether it is a type of booleans that may be true; takes no memory.
+    /// Returns whether it is a type of booleans that may be true; takes no memory.
     pub fn may_be_true(&self) -> bool
         ensures { IsTrue result ↔ MayBeTrue (static_view self.now) }
     {
@@ -166,7 +166,7 @@ impl<'a> StaticType<'a> {
         }
     }
 
-    /// Whether it is a type of booleans that may be false; takes no memory.
+    /// Returns whether it is a type of booleans that may be false; takes no memory.
     pub fn may_be_false(&self) -> bool
         ensures { IsTrue result ↔ MayBeFalse (static_view self.now) }
     {
@@ -177,7 +177,7 @@ impl<'a> StaticType<'a> {
     }
 }
 
-/// The same leaf.
+/// Returns the same leaf.
 pub(crate) fn same_leaf<'a>(leaf: &Leaf<'a>) -> Leaf<'a>
     ensures { result ≡ leaf.now }
 {

@@ -2,8 +2,8 @@
 use Rattle.std.specs.Prelude.{◌≡◌, ◌≢◌, ℕ, List}
 use Rattle.std.proofs.Common.{sym, subst, refl}
 use Rattle.policy_grammar.specs.declared.policy.Policy.{Policy}
-use Rattle.policy_grammar.specs.declared.fault.ReadFault.{ReadFault}
-use Rattle.policy_grammar.specs.declared.fault.ReadFault.TheVariants as read
+use Rattle.text_trees.specs.declared.fault.ReadFault.{ReadFault}
+use Rattle.text_trees.specs.declared.fault.ReadFault.TheVariants as read
 use Rattle.policy_grammar.specs.Faults as grammar
 use Rattle.policy_grammar.specs.PolicyText as text
 use Rattle.policy_grammar.specs.PolicyText.{IsPolicyText, IsPolicyRefused}

@@ -10,7 +10,7 @@ use Rattle.json_words.specs.Json.{json_of}
 use Rattle.values.specs.declared.entity_uid.EntityUid.{EntityUid}
 use Rattle.ancestor_closure.specs.Decided.{is_same}
 use Rattle.policy_grammar.specs.declared.policy.Policy.{Policy}
-use Rattle.policy_grammar.specs.declared.fault.ReadFault.{ReadFault}
+use Rattle.text_trees.specs.declared.fault.ReadFault.{ReadFault}
 use Rattle.policy_grammar.specs.Faults as grammar
 use Rattle.policy_grammar.specs.PolicyText.{IsPolicyText, IsPolicyRefused}
 use Rattle.schema.specs.Schemas.{StatedSchema}

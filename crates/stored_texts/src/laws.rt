@@ -4,8 +4,8 @@ ghost use Rattle.stored_texts.specs.Laws.{PoliciesHaveNoOtherName, CanonicalText
 
 use validator::policies_have_one_outcome;
 
-/// That under a schema each text is that of one policy that passes, or refused for one fault, and never both; and so of
-/// entities, under each uid.
+/// Proves that under a schema each text is that of one policy that passes, or refused for one fault, and never both;
+/// and so of entities, under each uid.
 pub fn stored_texts_have_one_reading()
     ensures policies { PoliciesHaveOneReading }
     ensures entities { EntitiesHaveOneReading }
@@ -15,7 +15,8 @@ pub fn stored_texts_have_one_reading()
     policies_have_one_outcome();
 }
 
-/// That what is written of an entity which was read from bytes is read again as that entity, under the same schema.
+/// Proves that what is written of an entity which was read from bytes is read again as that entity, under the same
+/// schema.
 pub fn canonical_texts_are_read()
     ensures { CanonicalTextsAreRead }
 {

@@ -53,7 +53,7 @@ impl Readings<Policy, Entity> for SchemaTexts<'_> {
     ghost reads_entity = { λ t uid text e. ReadsEntity (schema_view t.schema.now) uid text e };
 }
 
-/// The fault of a text that is no policy's, by its number.
+/// Returns the fault of a text that is no policy's, by its number.
 fn grammar_fault(fault: ReadFault) -> BodyFault
     ensures memory { fault ≡ ReadFault.NoMemory → result ≡ BodyFault.NoMemory }
     ensures refused { fault ≢ ReadFault.NoMemory → result ≡ BodyFault.Refused (grammar.code_of fault) }
@@ -64,7 +64,7 @@ fn grammar_fault(fault: ReadFault) -> BodyFault
     }
 }
 
-/// The fault of a policy that does not pass, by its number.
+/// Returns the fault of a policy that does not pass, by its number.
 fn validation_fault(fault: CheckFault) -> BodyFault
     ensures memory { fault ≡ CheckFault.NoMemory → result ≡ BodyFault.NoMemory }
     ensures refused { fault ≢ CheckFault.NoMemory → result ≡ BodyFault.Refused (validation.code_of fault) }
@@ -75,7 +75,7 @@ fn validation_fault(fault: CheckFault) -> BodyFault
     }
 }
 
-/// The policy that a text is, whether it passes or not.
+/// Returns the policy that a text is, whether it passes or not.
 fn policy_in(alloc: Global, text: &str) -> Result<Policy, BodyFault>
     ensures read { IfOk result (IsPolicyText text.now) }
     ensures refused { IfErr result (λ f. (s : StatedSchema)
@@ -87,7 +87,7 @@ fn policy_in(alloc: Global, text: &str) -> Result<Policy, BodyFault>
     }
 }
 
-/// That the policy of a text passes.
+/// Checks that the policy of a text passes.
 fn demand_passing(alloc: Global, schema: &Schema, policy: &Policy) -> Result<(), BodyFault>
     ensures passes { IfOk result (λ _. Passes (schema_view schema.now) policy.now) }
     ensures refused { IfErr result (λ f. (text : List ℕ) → IsPolicyText text policy.now
@@ -99,7 +99,7 @@ fn demand_passing(alloc: Global, schema: &Schema, policy: &Policy) -> Result<(),
     }
 }
 
-/// What goes on to be kept, or the fault for which it does not.
+/// Returns what goes on to be kept, or the fault for which it does not.
 fn where_passing<P: Drop>(policy: P, passing: Result<(), BodyFault>) -> Result<P, BodyFault>
     ensures { MatchResult passing (λ _. result ≡ Ok policy) (λ f. result ≡ Err f) }
 {
@@ -109,7 +109,7 @@ fn where_passing<P: Drop>(policy: P, passing: Result<(), BodyFault>) -> Result<P
     }
 }
 
-/// The policy that a text is, where it passes.
+/// Returns the policy that a text is, where it passes.
 fn passing_policy(alloc: Global, schema: &Schema, text: &str) -> Result<Policy, BodyFault>
     ensures read { IfOk result (ReadsPolicy (schema_view schema.now) text.now) }
     ensures refused { IfErr result (OrNoMemory BodyFault.NoMemory (RefusesPolicy (schema_view schema.now) text.now)) }
@@ -123,7 +123,7 @@ fn passing_policy(alloc: Global, schema: &Schema, text: &str) -> Result<Policy, 
     }
 }
 
-/// The JSON of a text.
+/// Returns the JSON of a text.
 fn json_in(alloc: Global, text: &str) -> Result<Value, BodyFault>
     ensures { ReadsAs BodyFault.NoMemory view result (or_fault (BodyFault.Refused 30) (json_of text.now)) }
 {
@@ -133,7 +133,7 @@ fn json_in(alloc: Global, text: &str) -> Result<Value, BodyFault>
     }
 }
 
-/// The entity that JSON states, or its fault by number.
+/// Returns the entity that JSON states, or its fault by number.
 fn allowed_entity(alloc: Global, schema: &Schema, json: &Value) -> Result<Entity, BodyFault>
     ensures { ReadsAs BodyFault.NoMemory (λ e. e) result
         (refused_by (entity_stated_in (schema_view schema.now) (view json.now))) }
@@ -145,7 +145,7 @@ fn allowed_entity(alloc: Global, schema: &Schema, json: &Value) -> Result<Entity
     }
 }
 
-/// That a text is the canonical one of an entity.
+/// Checks that a text is the canonical one of an entity.
 fn demand_canonical(alloc: Global, entity: &Entity, text: &str) -> Result<(), BodyFault>
     ensures { ReadsAs BodyFault.NoMemory (λ u. u) result
         (demand (BodyFault.Refused 57) (bytes_eq (canonical_text entity.now) text.now)) }
@@ -158,7 +158,7 @@ fn demand_canonical(alloc: Global, entity: &Entity, text: &str) -> Result<(), Bo
     }
 }
 
-/// That an entity is of this uid.
+/// Checks that an entity is of this uid.
 fn demand_uid(entity: &Entity, uid: &EntityUid) -> Result<(), BodyFault>
     ensures { AlwaysReadsAs (λ u. u) result (demand BodyFault.OtherName (is_same entity.now.uid uid.now)) }
 {
@@ -169,7 +169,7 @@ fn demand_uid(entity: &Entity, uid: &EntityUid) -> Result<(), BodyFault>
     }
 }
 
-/// The entity whose canonical text this is.
+/// Returns the entity whose canonical text this is.
 #[tactic(auto, unfolding(crate::specs::Texts::entity_of_text))]
 fn canonical_entity(
     alloc: Global,

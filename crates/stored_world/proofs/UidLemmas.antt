@@ -14,8 +14,8 @@ use Rattle.values.specs.declared.entity_uid.EntityUid.{EntityUid}
 use Rattle.values.specs.Names.{uid_cmp, uid_cmp-IsTotalOrder}
 use Rattle.ancestor_closure.specs.Hierarchy.{IsAscending, names}
 use Rattle.entity_worlds.specs.declared.entity.Entity.{Entity}
-use Rattle.stamped_store.specs.declared.entry.Entry.{Entry}
-use Rattle.stamped_store.specs.declared.entry.ReadText.{ReadText}
+use Rattle.stamped_entries.specs.declared.entry.Entry.{Entry}
+use Rattle.stamped_entries.specs.declared.entry.ReadText.{ReadText}
 use Rattle.stamped_store.specs.Stored.{value_at}
 use Rattle.stored_world.specs.TextsRead.{entity_read, entity_at, uids_read}
 use Rattle.stored_world.specs.inner.Listing.{uid_with, uids_with_text}

@@ -10,7 +10,7 @@ use Rattle.values.specs.Names.{uid_cmp}
 use Rattle.ancestor_closure.specs.Deciding.{Contains-here, Contains-there, Contains-cases, Contains-none, same_uid}
 use Rattle.entity_worlds.specs.declared.entity.Entity.{Entity}
 use Rattle.entity_worlds.specs.Entities.{AreListed}
-use Rattle.stamped_store.specs.declared.entry.Entry.{Entry}
+use Rattle.stamped_entries.specs.declared.entry.Entry.{Entry}
 use Rattle.stamped_store.specs.Stored.{value_at}
 use Rattle.stored_world.specs.Said.{data_of, data_in}
 use Rattle.stored_world.specs.TextsRead.{entity_at, uids_read}

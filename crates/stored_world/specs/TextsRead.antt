@@ -9,8 +9,8 @@ use Rattle.values.specs.Names.{uid_cmp}
 use Rattle.policy_grammar.specs.declared.policy.Policy.{Policy}
 use Rattle.authoriser.specs.Answers.{NamedPolicy}
 use Rattle.entity_worlds.specs.declared.entity.Entity.{Entity}
-use Rattle.stamped_store.specs.declared.entry.Entry.{Entry}
-use Rattle.stamped_store.specs.declared.entry.ReadText.{ReadText}
+use Rattle.stamped_entries.specs.declared.entry.Entry.{Entry}
+use Rattle.stamped_entries.specs.declared.entry.ReadText.{ReadText}
 use Rattle.stamped_store.specs.Stored.{value_at}
 
 -- the policy under an id, where there is a text

@@ -11,7 +11,7 @@ use policy_grammar::Policy;
 use stamped_store::PolicyStore;
 use std::alloc::Global;
 
-/// The policies that stand beside the texts of a store, in the order of their names.
+/// Returns the policies that stand beside the texts of a store, in the order of their names.
 fn read_policies<'s>(
     alloc: Global,
     store: &'s PolicyStore<Policy, Entity>,
@@ -28,8 +28,8 @@ fn read_policies<'s>(
     Ok(found)
 }
 
-/// The policies of a store that have a text, each as its text was read, ascending by id: what `decide` takes. One pass
-/// over all names of policies. Errors: `NoMemory` alone.
+/// Returns the policies of a store that have a text, each as its text was read, ascending by id: what `decide` takes.
+/// One pass over all names of policies. Errors: `NoMemory` alone.
 pub fn policies_in<'s>(
     alloc: Global,
     store: &'s PolicyStore<Policy, Entity>,

@@ -33,7 +33,7 @@ impl<'s> StoredEntities<'s> {
     }
 }
 
-/// The entity under a uid, as its text was read; None where there is no text. Takes no memory.
+/// Returns the entity under a uid, as its text was read; None where there is no text. Takes no memory.
 fn entity_in<'s>(store: &'s PolicyStore<Policy, Entity>, uid: &EntityUid) -> Option<&'s Entity>
     ensures { option_copied result ≡ entity_at store.now.entities uid.now }
 {
@@ -72,7 +72,7 @@ impl EntitySource for StoredEntities<'_> {
     }
 }
 
-/// The uids of those entries that have a text, in their order.
+/// Returns the uids of those entries that have a text, in their order.
 fn uids_with_text<'s>(
     alloc: Global,
     store: &'s PolicyStore<Policy, Entity>,
@@ -89,7 +89,7 @@ fn uids_with_text<'s>(
     Ok(found)
 }
 
-/// The uids of the entities of a store, ascending.
+/// Returns the uids of the entities of a store, ascending.
 fn uids_in<'s>(
     alloc: Global,
     store: &'s PolicyStore<Policy, Entity>,

@@ -8,7 +8,7 @@ use Rattle.serde_json.specs.Written.{compact_text}
 use Rattle.values.specs.Paths.{PathTestIsExact}
 use Rattle.values.specs.declared.name.Name.{Name}
 use Rattle.values.specs.declared.name.Name.TheVariants.{Policy, Entity}
-use Rattle.stamped_store.specs.declared.entry.Stamp.{Stamp}
+use Rattle.stamped_entries.specs.declared.entry.Stamp.{Stamp}
 use Rattle.stamped_store.specs.Deltas.{Summary}
 use Rattle.stamped_store.specs.SiteNames.{SiteTestIsExact, SiteNamesAreTexts}
 use Rattle.sync_messages.specs.declared.fault.MessageFault.{MessageFault}

@@ -19,7 +19,7 @@ use Rattle.values.specs.declared.entity_uid.EntityUid.{EntityUid}
 use Rattle.values.specs.Names.{name_cmp}
 use Rattle.values.specs.Paths.{PathTestIsExact}
 use Rattle.uid_json.specs.Uids.{uid_in, plain_uid_in, uid_json}
-use Rattle.stamped_store.specs.declared.entry.Stamp.{Stamp}
+use Rattle.stamped_entries.specs.declared.entry.Stamp.{Stamp}
 use Rattle.stamped_store.specs.Deltas.{Summary, stamp_of, summary_of}
 use Rattle.stamped_store.specs.Store.{Store, Update, updates}
 use Rattle.stamped_store.specs.SiteNames.{SiteTestIsExact}

@@ -17,7 +17,7 @@ use Rattle.values.specs.declared.name.Name.TheVariants.{Policy, Entity}
 use Rattle.values.specs.declared.entity_uid.EntityUid.{EntityUid}
 use Rattle.uid_json.specs.Uids.{IsUid, uid_in}
 use Rattle.uid_json.specs.Laws.{UidsAreFound}
-use Rattle.stamped_store.specs.declared.entry.Stamp.{Stamp}
+use Rattle.stamped_entries.specs.declared.entry.Stamp.{Stamp}
 use Rattle.stamped_store.specs.Deltas.{Summary}
 use Rattle.stamped_store.specs.Raised.{IsSiteNumber}
 use Rattle.stamped_store.specs.SiteNames.{IsSiteName, SiteTestIsExact, SiteDigitsAreNames, is_site_name, five_digits}

@@ -27,7 +27,7 @@ pub enum MessageFault {
 }
 
 impl MessageFault {
-    /// The number by which the refusal is told.
+    /// Returns the number by which the refusal is told.
     pub fn code(self) -> u8
         ensures { result ≡ code_of self }
     {
@@ -43,7 +43,7 @@ impl MessageFault {
         }
     }
 
-    /// The entry, or the stamp, at which it shows; None where the message as a whole is refused.
+    /// Returns the entry, or the stamp, at which it shows; None where the message as a whole is refused.
     pub fn place(self) -> Option<usize>
         ensures { result ≡ place_of self }
     {
@@ -55,7 +55,7 @@ impl MessageFault {
         }
     }
 
-    /// The number of the refusal inside, where one stands in another.
+    /// Returns the number of the refusal inside, where one stands in another.
     pub fn within(self) -> Option<u8>
         ensures { result ≡ within_of self }
     {

@@ -39,7 +39,7 @@ pub trait Lent {
     /// The name.
     ghost named: { Self → Name };
 
-    /// How a name compares with this one. Takes no memory.
+    /// Returns how a name compares with this one. Takes no memory.
     fn compare(&self, other: &Name) -> Ordering
         ensures { result ≡ name_cmp other.now (named self.now) };
 

@@ -21,8 +21,8 @@ use std::alloc::Global;
 use uid_json::read_uid;
 use values::Name;
 
-/// The whole number that an object has at a key, where it fits 64 bits without a sign; else the value has a bad shape.
-/// Takes no memory.
+/// Returns the whole number that an object has at a key, where it fits 64 bits without a sign; else the value has a bad
+/// shape. Takes no memory.
 fn number_at(value: &Value, key: &str) -> Result<u64, MessageFault>
     ensures { AlwaysReadsAs (λ n. n) result (number_of key.now (view value.now)) }
 {
@@ -64,7 +64,7 @@ fn read_entity(alloc: Global, value: &Value) -> Result<Name, MessageFault>
     }
 }
 
-/// The name that an object states.
+/// Returns the name that an object states.
 #[tactic(auto, unfolding(crate::specs::Summaries::name_in))]
 fn read_name(alloc: Global, value: &Value) -> Result<Name, MessageFault>
     ensures { ReadsAs MessageFault.NoMemory (λ n. n) result (name_in (view value.now)) }
@@ -75,8 +75,8 @@ fn read_name(alloc: Global, value: &Value) -> Result<Name, MessageFault>
     read_entity(alloc, value)
 }
 
-/// The version of a message. Another than 1 and 2 is refused for it, and a message without a whole number for a version
-/// has a bad shape. Takes no memory.
+/// Returns the version of a message. Another than 1 and 2 is refused for it, and a message without a whole number for a
+/// version has a bad shape. Takes no memory.
 #[tactic(auto, unfolding(crate::specs::Summaries::version_in))]
 pub fn read_version(value: &Value) -> Result<MessageVersion, MessageFault>
     ensures { AlwaysReadsAs (λ v. v) result (version_in (view value.now)) }
@@ -91,7 +91,7 @@ pub fn read_version(value: &Value) -> Result<MessageVersion, MessageFault>
     Err(MessageFault::Version)
 }
 
-/// The number of a site, which is one from 1 to 65,535.
+/// Returns the number of a site, which is one from 1 to 65,535.
 #[tactic(auto, unfolding(crate::specs::Summaries::numbered_in))]
 fn read_number(value: &Value) -> Result<u16, MessageFault>
     ensures { AlwaysReadsAs (λ n. n) result (numbered_in (view value.now)) }
@@ -103,7 +103,7 @@ fn read_number(value: &Value) -> Result<u16, MessageFault>
     Ok(site as u16)
 }
 
-/// The site whose number stands there.
+/// Returns the site whose number stands there.
 #[tactic(auto, unfolding(crate::specs::Summaries::raised_in))]
 fn read_numbered(value: &Value) -> Result<SiteName, MessageFault>
     ensures { AlwaysReadsAs (λ n. n) result (raised_in (view value.now)) }
@@ -112,7 +112,7 @@ fn read_numbered(value: &Value) -> Result<SiteName, MessageFault>
     Ok(SiteName::from_number(number))
 }
 
-/// The site whose name stands there.
+/// Returns the site whose name stands there.
 #[tactic(auto, unfolding(crate::specs::Summaries::named_in))]
 fn read_named(value: &Value) -> Result<SiteName, MessageFault>
     ensures { AlwaysReadsAs (λ n. n) result (named_in (view value.now)) }
@@ -126,7 +126,7 @@ fn read_named(value: &Value) -> Result<SiteName, MessageFault>
     Ok(SiteName::new(site))
 }
 
-/// The site that an object states, as the version of its message has it.
+/// Returns the site that an object states, as the version of its message has it.
 fn read_site(version: MessageVersion, value: &Value) -> Result<SiteName, MessageFault>
     ensures { AlwaysReadsAs (λ n. n) result (site_in version (view value.now)) }
 {
@@ -136,10 +136,10 @@ fn read_site(version: MessageVersion, value: &Value) -> Result<SiteName, Message
     }
 }
 
-/// The name and the stamp that an object states at its keys `count`, `name` and `site`, whatever other keys it has: a
-/// count of 64 bits without a sign, a site as the message's version has it, and a policy's id or an entity's uid. In
-/// version 1 a site is a number from 1 to 65,535, whose five digits are the site's name; in version 2 it is its name.
-/// Else the value has a bad shape. Fails for memory too.
+/// Returns the name and the stamp that an object states at its keys `count`, `name` and `site`, whatever other keys it
+/// has: a count of 64 bits without a sign, a site as the message's version has it, and a policy's id or an entity's
+/// uid. In version 1 a site is a number from 1 to 65,535, whose five digits are the site's name; in version 2 it is its
+/// name. Else the value has a bad shape. Fails for memory too.
 #[tactic(auto, unfolding(crate::specs::Summaries::stamped_in, crate::specs::Summaries::stamped_by))]
 pub fn read_stamped(
     alloc: Global,
@@ -158,7 +158,7 @@ pub fn read_stamped(
     Ok((name, stamp))
 }
 
-/// A name with its stamp.
+/// Returns a name with its stamp.
 #[tactic(auto, unfolding(crate::specs::Summaries::stamp_in))]
 fn read_stamp(
     alloc: Global,
@@ -188,14 +188,14 @@ fn read_each(
     Ok(stamps)
 }
 
-/// Whether a name comes before another.
+/// Returns whether a name comes before another.
 fn comes_before(first: &Name, second: &Name) -> bool
     ensures { result ≡ is_lt (name_cmp first.now second.now) }
 {
     first.cmp(second).is_lt()
 }
 
-/// Whether each name comes before the one behind it.
+/// Returns whether each name comes before the one behind it.
 fn ascend(stamps: &[(Name, Stamp)]) -> bool
     ensures { result ≡ ascends stamps.now }
 {
@@ -230,7 +230,7 @@ fn read_stamps(
     Ok(stamps)
 }
 
-/// Whether a policy's id has 1 to 256 bytes.
+/// Returns whether a policy's id has 1 to 256 bytes.
 fn has_id(name: &Name) -> bool
     ensures { result ≡ has_id name.now }
 {
@@ -264,7 +264,7 @@ fn judge_all(stamps: &[(Name, Stamp)]) -> Result<(), MessageFault>
     Ok(())
 }
 
-/// The summary that a value is.
+/// Returns the summary that a value is.
 #[tactic(auto, unfolding(crate::specs::Summaries::summary_in))]
 fn read_summary_value(alloc: Global, label: &str, value: &Value) -> Result<Summary, MessageFault>
     ensures { ReadsAs MessageFault.NoMemory (λ m. m) result (summary_in label.now (view value.now)) }
@@ -290,11 +290,11 @@ fn read_summary_value(alloc: Global, label: &str, value: &Value) -> Result<Summa
     Ok(Summary { stamps })
 }
 
-/// The summary that bytes are, under the schema of this label, or the first fault, in this order: bytes that are no
-/// JSON; no object with a whole-number `version`; a version other than 1 and 2; the rest of the shape, all stamps and
-/// the order of their names included; another schema; then stamp by stamp a count out of range, and a policy's id that
-/// has not 1 to 256 bytes. In version 1 each number of a site is read as the site whose name is its five digits. Fails
-/// for memory too.
+/// Returns the summary that bytes are, under the schema of this label, or the first fault, in this order: bytes that
+/// are no JSON; no object with a whole-number `version`; a version other than 1 and 2; the rest of the shape, all
+/// stamps and the order of their names included; another schema; then stamp by stamp a count out of range, and a
+/// policy's id that has not 1 to 256 bytes. In version 1 each number of a site is read as the site whose name is its
+/// five digits. Fails for memory too.
 #[tactic(auto, unfolding(crate::specs::Summaries::summary_stated))]
 pub fn read_summary(alloc: Global, label: &str, bytes: &[u8]) -> Result<Summary, MessageFault>
     ensures { ReadsAs MessageFault.NoMemory (λ m. m) result (summary_stated label.now bytes.now) }

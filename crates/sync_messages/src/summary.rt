@@ -15,7 +15,7 @@ pub struct Summary {
 impl Model for Summary {
     ghost use Rattle.std.specs.Prelude.{◌≡◌, List, true};
     ghost use Rattle.values.specs.declared.name.Name.{Name};
-    ghost use Rattle.stamped_store.specs.declared.entry.Stamp.{Stamp};
+    ghost use Rattle.stamped_entries.specs.declared.entry.Stamp.{Stamp};
     ghost use Rattle.sync_messages.specs.Summaries.{ascend};
 
     ghost Value = { List (Name × Stamp) };
@@ -26,7 +26,7 @@ impl Model for Summary {
 }
 
 impl Summary {
-    /// The names with their stamps, ascending.
+    /// Returns the names with their stamps, ascending.
     pub fn stamps(&self) -> &[(Name, Stamp)]
         ensures all { result.now ≡ self.now }
         ensures ascending { ascend result.now ≡ true }

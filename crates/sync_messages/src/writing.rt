@@ -26,7 +26,7 @@ fn write_stamp<N: Lent>(out: &mut Writer, name: &N, stamp: Stamp) -> Result<(), 
     out.end_object()
 }
 
-/// The stamps of these entries, in their order.
+/// Returns the stamps of these entries, in their order.
 fn write_each<N: Lent + Drop, P: Drop>(
     out: &mut Writer,
     entries: Iter<'_, N, Entry<P>>,
@@ -39,7 +39,7 @@ fn write_each<N: Lent + Drop, P: Drop>(
     Ok(())
 }
 
-/// The stamps of a store, in the order of the names: those of policies, and behind them those of entities.
+/// Returns the stamps of a store, in the order of the names: those of policies, and behind them those of entities.
 fn write_stamps<P: Drop, E: Drop>(
     out: &mut Writer,
     store: &PolicyStore<P, E>,
@@ -70,8 +70,9 @@ fn write_whole<P: Drop, E: Drop>(
     out.end_object()
 }
 
-/// The summary of a store, as a message under the schema of this label: compact, keys and names ascending. Where each
-/// name and stamp is one that a message may have, it is read back as what it was written of. Fails for memory alone.
+/// Returns the summary of a store, as a message under the schema of this label: compact, keys and names ascending.
+/// Where each name and stamp is one that a message may have, it is read back as what it was written of. Fails for
+/// memory alone.
 ///
 /// The bytes are written straight from the store, and take no memory but their own.
 pub fn write_summary<P: Drop, E: Drop>(

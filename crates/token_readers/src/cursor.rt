@@ -18,14 +18,14 @@ pub struct Cursor<'a> {
 }
 
 impl<'a> Cursor<'a> {
-    /// How many tokens are left.
+    /// Returns how many tokens are left.
     pub fn left(&self) -> usize
         ensures { result ≡ length self.now.rest.now }
     {
         self.rest.len()
     }
 
-    /// Whether the next token is of this kind.
+    /// Returns whether the next token is of this kind.
     pub fn sees(&self, kind: TokenKind) -> bool
         ensures { result ≡ reads.sees (spec.only kind) self.now.rest.now }
     {
@@ -35,7 +35,7 @@ impl<'a> Cursor<'a> {
         }
     }
 
-    /// Whether the next token is of one of these kinds.
+    /// Returns whether the next token is of one of these kinds.
     pub fn sees_one_of<S: KindSet>(&self, set: S) -> bool
         ensures { result ≡ reads.sees (S.included set) self.now.rest.now }
     {
@@ -45,7 +45,7 @@ impl<'a> Cursor<'a> {
         }
     }
 
-    /// The next token, which has to be of this kind; else none is taken.
+    /// Returns the next token, which has to be of this kind; else none is taken.
     #[tactic(auto, unfolding(crate::specs::Reading::take))]
     pub fn take(&mut self, kind: TokenKind) -> Result<Token, Halt>
         ensures reads { ParsesTo (reading.token kind self.old.rest.now) result self.new.rest.now }
@@ -60,7 +60,7 @@ impl<'a> Cursor<'a> {
         }
     }
 
-    /// The next token, which has to be of one of these kinds; else none is taken.
+    /// Returns the next token, which has to be of one of these kinds; else none is taken.
     #[tactic(auto, unfolding(crate::specs::Reading::take))]
     pub fn take_one_of<S: KindSet>(&mut self, set: S) -> Result<Token, Halt>
         ensures reads { ParsesTo (reading.take (S.included set) self.old.rest.now) result self.new.rest.now }

@@ -10,7 +10,7 @@ use policy_tokens::TokenKind;
 pub trait KindSet: Copy {
     ghost included: { Self → Kinds };
 
-    /// Whether tokens of this kind are in the set.
+    /// Returns whether tokens of this kind are in the set.
     fn includes(self, kind: TokenKind) -> bool
         ensures { result ≡ included self kind };
 }

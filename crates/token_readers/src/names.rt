@@ -79,7 +79,7 @@ pub fn uid(alloc: Global, tokens: &mut Cursor<'_>) -> Result<UidTree, Halt>
     rest_of_uid(alloc, tokens, first)
 }
 
-/// What stands behind a first identifier makes a Path of it, or a Uid where a String comes.
+/// Returns what stands behind a first identifier makes a Path of it, or a Uid where a String comes.
 pub fn rest_of_name(alloc: Global, tokens: &mut Cursor<'_>, first: Token) -> Result<Name, Halt>
     ensures { ParsesTo (spec.rest_of_name first tokens.old.rest.now) result tokens.new.rest.now }
 {

@@ -7,8 +7,8 @@ use crate::fault::{Halt, SyntaxFault};
 use crate::kind_sets::NameSet;
 use policy_tokens::Token;
 
-/// The refusal of the tokens where reading halted: its place is that of the first token that is
-/// left, or their count where none is.
+/// Returns the refusal of the tokens where reading halted: its place is that of the first token that is left, or their
+/// count where none is.
 fn refusal(tokens: &[Token], cursor: &Cursor<'_>, halt: Halt) -> SyntaxFault
     ensures { result ≡ refusal_of halt (length tokens.now - length cursor.now.rest.now) cursor.now.rest.now }
 {
@@ -26,8 +26,8 @@ fn refusal(tokens: &[Token], cursor: &Cursor<'_>, halt: Halt) -> SyntaxFault
     }
 }
 
-/// What was read, where no token is left behind it; else the refusal. Generic, so that what is let go is one step, and
-/// not one a form of tree.
+/// Returns what was read, where no token is left behind it; else the refusal. Generic, so that what is let go is one
+/// step, and not one a form of tree.
 pub fn read_to_end<T: Drop>(
     tokens: &[Token],
     cursor: &Cursor<'_>,

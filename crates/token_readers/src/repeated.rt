@@ -46,8 +46,8 @@ pub fn read_many<T: Drop, S: KindSet, F: Fn(&mut Cursor<'_>) -> Result<T, Halt>>
     read_on(Items::new(alloc), tokens, set, read)
 }
 
-/// A first piece, and behind it more, as long as a token of the set comes next. Each of these is read by a call.
-/// Answers with the first halt of such a call, or with `NoMemory` where a piece, the first too, finds no room.
+/// Returns a first piece, and behind it more, as long as a token of the set comes next. Each of these is read by a
+/// call. Answers with the first halt of such a call, or with `NoMemory` where a piece, the first too, finds no room.
 pub fn read_more<T: Drop, S: KindSet, F: Fn(&mut Cursor<'_>) -> Result<T, Halt>>(
     alloc: Global,
     tokens: &mut Cursor<'_>,

@@ -68,14 +68,14 @@ pub same_members : {xs ys : List Expr} → form.Set xs ≡ form.Set ys → xs �
 same_members {xs} {ys} e =
     Some-same (sym (ap members_at (form.outs-Set xs)) ∙ (ap (λ x. members_at (out-Expr x)) e ∙ ap members_at (form.outs-Set ys)))
 
-abbrev text_at : Expr-F Expr → Option (List ℕ)
-text_at (Expr-F.Literal (literal.Text t)) = Some t
-text_at y = None
+abbrev literal_text : Expr-F Expr → Option (List ℕ)
+literal_text (Expr-F.Literal (literal.Text t)) = Some t
+literal_text y = None
 
 pub same_text : {s t : List ℕ} → form.Literal (literal.Text s) ≡ form.Literal (literal.Text t) → s ≡ t
 same_text {s} {t} e =
-    Some-same (sym (ap text_at (form.outs-Literal (literal.Text s)))
-    ∙ (ap (λ x. text_at (out-Expr x)) e ∙ ap text_at (form.outs-Literal (literal.Text t))))
+    Some-same (sym (ap literal_text (form.outs-Literal (literal.Text s)))
+    ∙ (ap (λ x. literal_text (out-Expr x)) e ∙ ap literal_text (form.outs-Literal (literal.Text t))))
 
 module _ (env : Environment) where
   abbrev literal_at : Expr-F Expr → Option Literal

@@ -13,7 +13,7 @@ use extensions::{Decimal, IpNet};
 use plain::Text;
 use static_types::{Leaf, StaticType, TypeFault, address_test_type};
 
-/// The text that an expression is a literal of.
+/// Returns the text that an expression is a literal of.
 fn as_text(expr: &Expr) -> Option<&Text>
     ensures { MatchOption result ((t : List ℕ) → expr.now ≢ form.Literal (literal.Text t))
         (λ t. expr.now ≡ form.Literal (literal.Text t.now)) }
@@ -24,7 +24,7 @@ fn as_text(expr: &Expr) -> Option<&Text>
     }
 }
 
-/// Whether an expression is a literal of a decimal's text.
+/// Returns whether an expression is a literal of a decimal's text.
 fn is_decimal(expr: &Expr) -> bool
     ensures { IsTrue result ↔ ReadsLiteral unary_call.Decimal expr.now types.decimal_type }
 {
@@ -37,7 +37,7 @@ fn is_decimal(expr: &Expr) -> bool
     }
 }
 
-/// Whether an expression is a literal of an address's text.
+/// Returns whether an expression is a literal of an address's text.
 fn is_network(expr: &Expr) -> bool
     ensures { IsTrue result ↔ ReadsLiteral unary_call.Ip expr.now types.ipaddr_type }
 {
@@ -50,7 +50,7 @@ fn is_network(expr: &Expr) -> bool
     }
 }
 
-/// A type where the operand is a literal of its extension.
+/// Returns a type where the operand is a literal of its extension.
 fn if_literal<'a>(is_literal: bool, leaf: Leaf<'a>) -> Result<StaticType<'a>, TypeFault>
     ensures { MatchResult result (λ t. (is_literal ≡ true) × (static_view t ≡ leaf_view leaf.entry))
         (λ f. (is_literal ≡ false) × (f ≡ TypeFault.BadExtensionLiteral)) }
@@ -62,7 +62,7 @@ fn if_literal<'a>(is_literal: bool, leaf: Leaf<'a>) -> Result<StaticType<'a>, Ty
     }
 }
 
-/// The type of a call, by its operand and the operand's type.
+/// Returns the type of a call, by its operand and the operand's type.
 pub(crate) fn unary_call_type<'a>(
     called: UnaryCall,
     operand: &Expr,

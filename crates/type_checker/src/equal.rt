@@ -11,7 +11,7 @@ fn same_type(one: &TypeName, other: &TypeName) -> bool
     one.as_str() == other.as_str()
 }
 
-/// Whether two entities are the same.
+/// Returns whether two entities are the same.
 pub(crate) fn same_uid(one: &EntityUid, other: &EntityUid) -> bool
     ensures { IsTrue result ↔ (one.now ≡ other.now) }
 {
@@ -99,7 +99,7 @@ fn same_binary_call(one: BinaryCall, other: BinaryCall) -> bool
     }
 }
 
-/// Whether two expressions are equal, form for form (the fields of a record in their written order).
+/// Returns whether two expressions are equal, form for form (the fields of a record in their written order).
 #[cycle(same)]
 pub(crate) fn same(one: &Expr, other: &Expr) -> bool
     ensures { IsTrue result ↔ (one.now ≡ other.now) }
@@ -130,7 +130,7 @@ pub(crate) fn same(one: &Expr, other: &Expr) -> bool
     }
 }
 
-/// Whether two operands are equal.
+/// Returns whether two operands are equal.
 #[cycle(same)]
 fn same_operand(one: &Shared<Expr>, other: &Shared<Expr>) -> bool
     ensures { IsTrue result ↔ (one.now ≡ other.now) }

@@ -27,7 +27,7 @@ use static_types::{
 };
 use std::alloc::Global;
 
-/// An operator with its operand.
+/// Returns an operator with its operand.
 pub(crate) fn unary_typed<'a>(
     alloc: Global,
     operator: &Unary,
@@ -43,7 +43,7 @@ pub(crate) fn unary_typed<'a>(
     typed_row(alloc, unary_type(operator, operand.kind))
 }
 
-/// An operator with its operands.
+/// Returns an operator with its operands.
 pub(crate) fn binary_typed<'a>(
     alloc: Global,
     env: TypingEnvironment<'a>,
@@ -69,7 +69,7 @@ pub(crate) fn binary_typed<'a>(
     )
 }
 
-/// A method of an extension with its operands.
+/// Returns a method of an extension with its operands.
 pub(crate) fn call_typed<'a>(
     alloc: Global,
     called: BinaryCall,
@@ -90,7 +90,7 @@ pub(crate) fn call_typed<'a>(
     typed_row(alloc, call_type(called, left.kind, right.kind))
 }
 
-/// A function of an extension, or a test of an address, with its operand.
+/// Returns a function of an extension, or a test of an address, with its operand.
 pub(crate) fn unary_call_typed<'a>(
     alloc: Global,
     called: UnaryCall,
@@ -107,7 +107,7 @@ pub(crate) fn unary_call_typed<'a>(
     typed_row(alloc, unary_call_type(called, operand, typed.kind))
 }
 
-/// A field or an attribute.
+/// Returns a field or an attribute.
 pub(crate) fn field_typed<'a>(
     alloc: Global,
     env: TypingEnvironment<'a>,
@@ -130,7 +130,7 @@ pub(crate) fn field_typed<'a>(
     typed_row(alloc, row)
 }
 
-/// Whether `has` of this type learns its pair: where it is neither known nor impossible.
+/// Returns whether `has` of this type learns its pair: where it is neither known nor impossible.
 #[tactic(auto, using(crate::proofs::Carrying::none_learned))]
 fn is_learned(kind: &StaticType<'_>) -> bool
     ensures { (p : learned.Pair) → has_learns (static_view kind.now) p ≡ if_learned result p }
@@ -143,7 +143,7 @@ fn is_learned(kind: &StaticType<'_>) -> bool
     }
 }
 
-/// What `has` learns.
+/// Returns what `has` learns.
 fn learned<'a>(
     alloc: Global,
     kind: &StaticType<'a>,
@@ -160,7 +160,7 @@ fn learned<'a>(
     Ok(learns)
 }
 
-/// The type of `has`, with what it learns.
+/// Returns the type of `has`, with what it learns.
 fn has_row<'a>(
     alloc: Global,
     row: Result<StaticType<'a>, TypeFault>,
@@ -178,7 +178,7 @@ fn has_row<'a>(
     }
 }
 
-/// Whether there is a field or an attribute.
+/// Returns whether there is a field or an attribute.
 pub(crate) fn has_typed<'a>(
     alloc: Global,
     env: TypingEnvironment<'a>,
@@ -201,7 +201,7 @@ pub(crate) fn has_typed<'a>(
     has_row(alloc, row, owner, name)
 }
 
-/// A set literal.
+/// Returns a set literal.
 pub(crate) fn set_typed<'a>(
     alloc: Global,
     types: Result<Vec<StaticType<'a>>, TypeFault>,
@@ -216,7 +216,7 @@ pub(crate) fn set_typed<'a>(
     typed_row(alloc, set_literal_type(alloc, types))
 }
 
-/// A record literal.
+/// Returns a record literal.
 pub(crate) fn record_typed<'a>(
     alloc: Global,
     fields: &'a [Named<Expr>],
@@ -236,7 +236,7 @@ pub(crate) fn record_typed<'a>(
     }
 }
 
-/// The type of `&&`, by those of its sides, the left of which may be true.
+/// Returns the type of `&&`, by those of its sides, the left of which may be true.
 pub(crate) fn and_truth(left: BooleanType, right: BooleanType) -> BooleanType
     ensures { boolean_view result ≡ and_type (boolean_view left) (boolean_view right) }
 {
@@ -299,7 +299,7 @@ pub(crate) fn or_behind_false<'a>(
     }
 }
 
-/// The type of `||`, by that of its right; its left may be true or false.
+/// Returns the type of `||`, by that of its right; its left may be true or false.
 fn or_truth(right: BooleanType) -> BooleanType
     ensures { boolean_view result ≡ or_type (boolean_view right) }
 {
@@ -310,7 +310,7 @@ fn or_truth(right: BooleanType) -> BooleanType
     }
 }
 
-/// What `||` learns, by the type of its right and what its sides learn; its left may be true or false.
+/// Returns what `||` learns, by the type of its right and what its sides learn; its left may be true or false.
 #[tactic(auto, using(crate::proofs::Sides::or_none, crate::proofs::Sides::or_left, crate::proofs::Sides::or_both))]
 fn or_learns<'a>(
     alloc: Global,
@@ -365,7 +365,7 @@ pub(crate) fn or_typed<'a>(
     }
 }
 
-/// The type of an `if` whose branches have this common type, if there is one.
+/// Returns the type of an `if` whose branches have this common type, if there is one.
 fn branch_type<'a>(
     kind: Result<Option<StaticType<'a>>, NoMemory>,
 ) -> Result<StaticType<'a>, TypeFault>
@@ -379,7 +379,7 @@ fn branch_type<'a>(
     }
 }
 
-/// A type with what both branches learn.
+/// Returns a type with what both branches learn.
 fn with_both<'a>(
     alloc: Global,
     kind: Result<StaticType<'a>, TypeFault>,

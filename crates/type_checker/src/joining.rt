@@ -18,7 +18,7 @@ use expressions::Expr;
 use static_types::{BooleanType, StaticType, TypeFault, TypingEnvironment};
 use std::alloc::Global;
 
-/// Which type of booleans a left of `&&` has; what it learns is put on top of what is known.
+/// Returns which type of booleans a left of `&&` has; what it learns is put on top of what is known.
 fn known_left<'a>(known: &mut Vec<Pair<'a>>, typed: &Typed<'a>) -> Result<BooleanType, TypeFault>
     ensures { MatchResult result
         (λ b. (static_view typed.now.kind ≡ boolean_view b)
@@ -34,7 +34,7 @@ fn known_left<'a>(known: &mut Vec<Pair<'a>>, typed: &Typed<'a>) -> Result<Boolea
     }
 }
 
-/// Which type of booleans a left of `&&` has where these pairs are known; what it learns is put on top of them.
+/// Returns which type of booleans a left of `&&` has where these pairs are known; what it learns is put on top of them.
 pub(crate) fn left_type<'a>(
     alloc: Global,
     env: TypingEnvironment<'a>,
@@ -53,7 +53,7 @@ pub(crate) fn left_type<'a>(
     }
 }
 
-/// The type of the parts so far, with one more behind them.
+/// Returns the type of the parts so far, with one more behind them.
 pub(crate) fn and_one_more(so_far: Option<BooleanType>, truth: BooleanType) -> Option<BooleanType>
     ensures { option_map boolean_view result
         ≡ Some (and_so_far (option_map boolean_view so_far) (boolean_view truth)) }
@@ -64,7 +64,7 @@ pub(crate) fn and_one_more(so_far: Option<BooleanType>, truth: BooleanType) -> O
     }
 }
 
-/// The type of the parts with the last one, by the types of both.
+/// Returns the type of the parts with the last one, by the types of both.
 pub(crate) fn and_last<'a>(
     so_far: Option<BooleanType>,
     last: StaticType<'a>,

@@ -20,8 +20,8 @@ use plain::{Items, Shared};
 use static_types::{BooleanType, StaticType, TypeFault, TypingEnvironment, literal_type};
 use std::alloc::Global;
 
-/// What is judged of an expression where these pairs are known. They are a stack, which is as it was wherever there is
-/// a type.
+/// Returns what is judged of an expression where these pairs are known. They are a stack, which is as it was wherever
+/// there is a type.
 #[cycle(judge)]
 pub(crate) fn type_of<'a>(
     alloc: Global,
@@ -88,7 +88,7 @@ pub(crate) fn type_of<'a>(
     }
 }
 
-/// What is judged of an expression where these are known too; what it learns has them in front.
+/// Returns what is judged of an expression where these are known too; what it learns has them in front.
 #[cycle(judge)]
 #[inline(never)]
 fn type_behind<'a>(
@@ -246,7 +246,7 @@ fn type_else<'a>(
     }
 }
 
-/// An operator behind its first operand.
+/// Returns an operator behind its first operand.
 #[cycle(judge)]
 #[inline(never)]
 fn second_operand<'a>(
@@ -271,7 +271,7 @@ fn second_operand<'a>(
     }
 }
 
-/// A method of an extension behind its receiver.
+/// Returns a method of an extension behind its receiver.
 #[cycle(judge)]
 #[inline(never)]
 fn second_called<'a>(
@@ -295,7 +295,7 @@ fn second_called<'a>(
     }
 }
 
-/// The types of the members of a set.
+/// Returns the types of the members of a set.
 #[cycle(judge)]
 #[inline(never)]
 fn types_of<'a>(
@@ -318,7 +318,7 @@ fn types_of<'a>(
     Ok(types)
 }
 
-/// The types of the fields of a record, in the order in which they are written.
+/// Returns the types of the fields of a record, in the order in which they are written.
 #[cycle(judge)]
 #[inline(never)]
 fn types_of_fields<'a>(

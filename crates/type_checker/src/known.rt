@@ -15,14 +15,14 @@ pub(crate) struct Pair<'a> {
     pub(crate) name: &'a str,
 }
 
-/// Whether it is the pair of this expression and this name. Names are compared first.
+/// Returns whether it is the pair of this expression and this name. Names are compared first.
 fn is_pair(pair: &Pair<'_>, whole: &Expr, name: &str) -> bool
     ensures { IsTrue result ↔ (pair_of pair.now ≡ (whole.now, name.now)) }
 {
     pair.name == name && same(pair.whole, whole)
 }
 
-/// Whether the pair stands among these.
+/// Returns whether the pair stands among these.
 pub(crate) fn among(these: &[Pair<'_>], whole: &Expr, name: &str) -> bool
     ensures { IsTrue result ↔ Contains (pairs these.now) (whole.now, name.now) }
 {
@@ -46,7 +46,7 @@ fn keep<'a>(both: &mut Vec<Pair<'a>>, pair: Pair<'a>, right: &[Pair<'a>]) -> Res
     Ok(())
 }
 
-/// The pairs of the one list that stand in the other too.
+/// Returns the pairs of the one list that stand in the other too.
 pub(crate) fn in_both<'a>(
     alloc: Global,
     left: &[Pair<'a>],
@@ -61,14 +61,14 @@ pub(crate) fn in_both<'a>(
     Ok(both)
 }
 
-/// Whether the pair stands in a list.
+/// Returns whether the pair stands in a list.
 pub(crate) fn knows(known: &Vec<Pair<'_>>, whole: &Expr, name: &str) -> bool
     ensures { IsTrue result ↔ Contains (pairs known.now.items) (whole.now, name.now) }
 {
     among(known.as_slice(), whole, name)
 }
 
-/// The pairs of the one list that stand in the other too, of lists.
+/// Returns the pairs of the one list that stand in the other too, of lists.
 pub(crate) fn in_both_lists<'a>(
     alloc: Global,
     left: &Vec<Pair<'a>>,

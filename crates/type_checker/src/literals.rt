@@ -47,7 +47,7 @@ fn same_lent(one: LiteralRef<'_>, other: LiteralRef<'_>) -> bool
     }
 }
 
-/// The literal that an expression is; `action` counts as that of its action.
+/// Returns the literal that an expression is; `action` counts as that of its action.
 fn as_literal<'a>(env: TypingEnvironment<'a>, expr: &'a Expr) -> Option<LiteralRef<'a>>
     ensures { MatchOption result ((l : Literal) → ¬ IsLiteral (typing_environment env.entry) expr.now l)
         (λ b. IsLiteral (typing_environment env.entry) expr.now (literal_of b)) }
@@ -62,7 +62,7 @@ fn as_literal<'a>(env: TypingEnvironment<'a>, expr: &'a Expr) -> Option<LiteralR
     }
 }
 
-/// The entity that an expression is a literal of.
+/// Returns the entity that an expression is a literal of.
 fn as_entity<'a>(env: TypingEnvironment<'a>, expr: &'a Expr) -> Option<&'a EntityUid>
     ensures { MatchOption result
         ((u : EntityUid) → ¬ IsLiteral (typing_environment env.entry) expr.now (literal.Entity u))
@@ -90,21 +90,21 @@ fn settled_equal<'a>(env: TypingEnvironment<'a>, left: &'a Expr, right: &'a Expr
     }
 }
 
-/// Whether an action is an entity or below it, by the schema.
+/// Returns whether an action is an entity or below it, by the schema.
 fn is_action_in(env: TypingEnvironment<'_>, action: &EntityUid, other: &EntityUid) -> bool
     ensures { Decides result (IsActionIn (typing_environment env.entry) action.now other.now) }
 {
     same_uid(action, other) || env.is_action_ancestor(action, other)
 }
 
-/// Whether one of two is so.
+/// Returns whether one of two is so.
 fn either(one: bool, other: bool) -> bool
     ensures { IsTrue result ↔ (IsTrue one ⊎ IsTrue other) }
 {
     one || other
 }
 
-/// Whether an action is in one of these, where all are entity literals.
+/// Returns whether an action is in one of these, where all are entity literals.
 fn in_some<'a>(env: TypingEnvironment<'a>, action: &EntityUid, members: &'a [Expr]) -> Option<bool>
     ensures { let E = typing_environment env.entry in
         MatchOption result ((us : List EntityUid) → ¬ AreEntityLiterals E members.now us)
@@ -123,7 +123,7 @@ fn in_some<'a>(env: TypingEnvironment<'a>, action: &EntityUid, members: &'a [Exp
     Some(found)
 }
 
-/// Whether an action is in the entities that an expression lists, where it does.
+/// Returns whether an action is in the entities that an expression lists, where it does.
 fn in_listed<'a>(env: TypingEnvironment<'a>, action: &EntityUid, listed: &'a Expr) -> Option<bool>
     ensures { let E = typing_environment env.entry in
         MatchOption result ((us : List EntityUid) → ¬ ListsEntities E listed.now us)
@@ -147,7 +147,7 @@ fn in_listed<'a>(env: TypingEnvironment<'a>, action: &EntityUid, listed: &'a Exp
     }
 }
 
-/// An action's `in` entity literals.
+/// Returns an action's `in` entity literals.
 fn settled_in<'a>(env: TypingEnvironment<'a>, left: &'a Expr, right: &'a Expr) -> Option<bool>
     ensures { MatchOption result (IsUnsettled (typing_environment env.entry) binary.In left.now right.now)
         (λ r. Settled (typing_environment env.entry) binary.In left.now right.now r) }
@@ -165,7 +165,7 @@ fn settled_in<'a>(env: TypingEnvironment<'a>, left: &'a Expr, right: &'a Expr) -
     }
 }
 
-/// The answer that literals settle, before any type is looked at.
+/// Returns the answer that literals settle, before any type is looked at.
 pub(crate) fn settled<'a>(
     env: TypingEnvironment<'a>,
     operator: Binary,

@@ -27,7 +27,7 @@ pub(crate) enum Then<'a> {
     Both(Typed<'a>),
 }
 
-/// The type of an answer that is known.
+/// Returns the type of an answer that is known.
 pub(crate) fn truth_type(truth: bool) -> BooleanType
     ensures { boolean_view result ≡ types.truth_type truth }
 {
@@ -38,14 +38,14 @@ pub(crate) fn truth_type(truth: bool) -> BooleanType
     }
 }
 
-/// Whether what stands behind a left of `&&` is looked at: where that may be true.
+/// Returns whether what stands behind a left of `&&` is looked at: where that may be true.
 pub(crate) fn is_looked_at(left: BooleanType) -> bool
     ensures { IsTrue result ↔ MayBeTrue (boolean_view left) }
 {
     left.may_be_true()
 }
 
-/// A type, of what learns nothing.
+/// Returns a type, of what learns nothing.
 pub(crate) fn plain<'a>(alloc: Global, kind: StaticType<'a>) -> Typed<'a>
     ensures kind { result.kind ≡ kind.entry }
     ensures learns { result.learns.items ≡ [] }
@@ -56,7 +56,7 @@ pub(crate) fn plain<'a>(alloc: Global, kind: StaticType<'a>) -> Typed<'a>
     }
 }
 
-/// The type of a row, of what learns nothing.
+/// Returns the type of a row, of what learns nothing.
 pub(crate) fn typed_row<'a>(
     alloc: Global,
     row: Result<StaticType<'a>, TypeFault>,
@@ -69,7 +69,7 @@ pub(crate) fn typed_row<'a>(
     }
 }
 
-/// What learns these pairs too, before its own.
+/// Returns what learns these pairs too, before its own.
 pub(crate) fn learned_too<'a>(
     learns: Vec<Pair<'a>>,
     typed: Result<Typed<'a>, TypeFault>,
@@ -82,7 +82,7 @@ pub(crate) fn learned_too<'a>(
     Ok(Typed { kind, learns })
 }
 
-/// The only branch.
+/// Returns the only branch.
 pub(crate) fn only<'a>(typed: Result<Typed<'a>, TypeFault>) -> Result<Then<'a>, TypeFault>
     ensures { IsBranch (λ t. Then.Only t) typed.entry result }
 {
@@ -92,7 +92,7 @@ pub(crate) fn only<'a>(typed: Result<Typed<'a>, TypeFault>) -> Result<Then<'a>, 
     }
 }
 
-/// The first branch of two.
+/// Returns the first branch of two.
 pub(crate) fn both<'a>(typed: Result<Typed<'a>, TypeFault>) -> Result<Then<'a>, TypeFault>
     ensures { IsBranch (λ t. Then.Both t) typed.entry result }
 {

@@ -13,9 +13,10 @@ use expressions::Expr;
 use static_types::{BooleanType, StaticType, TypeFault, TypingEnvironment};
 use std::alloc::Global;
 
-/// The type of expressions that are joined by `&&`, to the right, the last of them by itself, as `a && (b && last)`, in
-/// an environment where no field is known to be there; else why they have none: the fault of the first operand in order
-/// that has one, and then what the form demands. `NoMemory` where an allocation was refused, and only then.
+/// Returns the type of expressions that are joined by `&&`, to the right, the last of them by itself, as `a && (b &&
+/// last)`, in an environment where no field is known to be there; else why they have none: the fault of the first
+/// operand in order that has one, and then what the form demands. `NoMemory` where an allocation was refused, and only
+/// then.
 ///
 /// Types that the schema declares are borrowed from it. It takes time linear in the expressions, but for the pairs that
 /// it knows, and for the common types of records that are written out. It recurses: its stack grows with the height of

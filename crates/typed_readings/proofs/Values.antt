@@ -21,7 +21,7 @@ use Rattle.schema_types.specs.Cedar.{Cedar, CedarFields, no_fields, field}
 use Rattle.typed_values.specs.Parts.{element_of, fields_in, declared_at}
 use Rattle.uid_json.specs.Uids.{uid_in}
 use Rattle.typed_values.specs.passed_on.extensions.{decimal_of, network_of}
-use Rattle.typed_values.specs.Typing.{argument_in, boolean_in, is_long, long_of, long_in, text_in, entity_in, decimal_in, ipaddr_in, leaf, all_there, with_or, inside, typed, typed_items, typed_members}
+use Rattle.typed_values.specs.Typing.{argument_in, boolean_in, is_long, long_of, long_in, text_in, entity_in, decimal_in, ipaddr_in, leaf, all_there, with_or, inside, typed_value, typed_items, typed_members}
 use Rattle.typing.specs.Types as static_type
 use Rattle.typing.specs.Types.{StaticType, Declared, declared_as, boolean_type, long_type, text_type, entity_type, set_type, record_type, decimal_type, ipaddr_type, undeclared}
 use Rattle.typing.specs.Membership.{Of, of_boolean, of_long, of_text, of_entity, of_set, of_record, of_decimal, of_ipaddr, EachOf, each_none, each_more, FieldOf, absent, left_out, has_optional, has_required}
@@ -255,9 +255,9 @@ more_there l d v ms vs rest k h = elim (text_cmp k l) as (λ o. is_some (match_o
 
 module _ (made : SetsHoldTheirMembers) where
   mutual
-    unfolding typed
+    unfolding typed_value
 
-    pub value_of : (t : Cedar) (d : Data) (v : PlainValue) → typed t d ≡ Ok v → Of v (static t)
+    pub value_of : (t : Cedar) (d : Data) (v : PlainValue) → typed_value t d ≡ Ok v → Of v (static t)
     value_of t json.null v e = leaf_of t json.null v e
     value_of t (json.boolean b) v e = leaf_of t (json.boolean b) v e
     value_of t (json.number n) v e = leaf_of t (json.number n) v e
@@ -271,7 +271,7 @@ module _ (made : SetsHoldTheirMembers) where
     items_of : (t : Cedar) (ds : Items) (vs : List PlainValue) → typed_items t ds ≡ Ok vs → (v : PlainValue) → Contains vs v → Of v (static t)
     items_of t no_items vs e v c = Contains-none v (subst (λ (l : List PlainValue). Contains l v) (sym (is_it [] vs e)) c)
     items_of t (item d ds) vs e v c =
-        let a = bound (typed t d) (λ w. typed_items t ds >>= λ ws. Ok (w ∷ ws)) vs e in
+        let a = bound (typed_value t d) (λ w. typed_items t ds >>= λ ws. Ok (w ∷ ws)) vs e in
         let b = bound (typed_items t ds) (λ ws. Ok (a.0 ∷ ws)) vs a.2 in
         elim (Contains-cases a.0 b.0 v (subst (λ (l : List PlainValue). Contains l v) (sym (is_it (a.0 ∷ b.0) vs b.2)) c)) [
           | inl same ↦ subst (λ (w : PlainValue). Of w (static t)) same (value_of t d a.0 a.1)
@@ -282,8 +282,8 @@ module _ (made : SetsHoldTheirMembers) where
     members_of fs no_members vs e =
         subst (λ (l : List Field). ReadOf fs no_members l) (is_it [] vs e) (record { each = λ k v c. Contains-none (k, v) c; there = λ k h. absurd cc })
     members_of fs (member l d ms) vs e =
-        let a = bound (or_fault Undeclared (declared_at l fs)) (λ t. typed t d >>= λ v. typed_members fs ms >>= λ ws. Ok ((l, v) ∷ ws)) vs e in
-        let b = bound (typed a.0 d) (λ v. typed_members fs ms >>= λ ws. Ok ((l, v) ∷ ws)) vs a.2 in
+        let a = bound (or_fault Undeclared (declared_at l fs)) (λ t. typed_value t d >>= λ v. typed_members fs ms >>= λ ws. Ok ((l, v) ∷ ws)) vs e in
+        let b = bound (typed_value a.0 d) (λ v. typed_members fs ms >>= λ ws. Ok ((l, v) ∷ ws)) vs a.2 in
         let c = bound (typed_members fs ms) (λ ws. Ok ((l, b.0) ∷ ws)) vs b.2 in
         let rest = members_of fs ms c.0 c.1 in
         subst (λ (w : List Field). ReadOf fs (member l d ms) w) (is_it ((l, b.0) ∷ c.0) vs c.2) (record {

@@ -8,7 +8,7 @@ use Rattle.values.specs.Fields.{Field}
 use Rattle.values.specs.Values.{PlainValue, record_of, fields_of}
 use Rattle.schema_types.specs.Cedar.{Cedar}
 use Rattle.schema.specs.Schemas.{EnvironmentOf, StatedSchema}
-use Rattle.typed_values.specs.Typing.{typed, record_in}
+use Rattle.typed_values.specs.Typing.{typed_value, record_in}
 use Rattle.entity_worlds.specs.declared.entity.Entity.{Entity}
 use Rattle.static_types.specs.passed_on.entities.{entity_stated_in}
 use Rattle.static_types.specs.passed_on.entities.{StatesRequest}
@@ -19,7 +19,7 @@ use Rattle.static_types.specs.FromSchemas.{static, field_types_in, attributes_of
 
 -- what JSON is read as by a type is of that type
 abbrev pub ValuesAreOfTheirTypes : Type 0
-ValuesAreOfTheirTypes = (t : Cedar) (d : Data) (v : PlainValue) → typed t d ≡ Ok v → Of v (static t)
+ValuesAreOfTheirTypes = (t : Cedar) (d : Data) (v : PlainValue) → typed_value t d ≡ Ok v → Of v (static t)
 
 -- so it is of the fields of a record: each required one is there, and none that is not declared
 abbrev pub RecordsAreOfTheirTypes : Type 0

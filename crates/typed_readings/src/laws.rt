@@ -12,8 +12,8 @@ use typing::parents_tell_ancestors;
 use validator::passing_policies_go_right;
 use values::sets_hold_their_members;
 
-/// That whatever JSON is read as by a declared type is of that type, as the rules of typing have it: a value, the
-/// attributes of an entity, and the context of a request, whose principal, action and resource are those of an
+/// Proves that whatever JSON is read as by a declared type is of that type, as the rules of typing have it: a value,
+/// the attributes of an entity, and the context of a request, whose principal, action and resource are those of an
 /// environment of the schema.
 pub fn what_is_read_is_of_its_type()
     ensures values { ValuesAreOfTheirTypes }
@@ -24,8 +24,8 @@ pub fn what_is_read_is_of_its_type()
     sets_hold_their_members();
 }
 
-/// That entities each of which was read under a schema, with the schema's actions, and a request that was read under it
-/// conform to the schema: the premise under which policies that pass go right.
+/// Proves that entities each of which was read under a schema, with the schema's actions, and a request that was read
+/// under it conform to the schema: the premise under which policies that pass go right.
 pub fn what_is_read_conforms()
     ensures { WhatIsReadConforms }
 {
@@ -36,9 +36,9 @@ pub fn what_is_read_conforms()
     parents_tell_ancestors();
 }
 
-/// That a policy that passes goes right over what is stored: where each stored entity was read under the schema, and so
-/// was the request, it gives a boolean, or errs since an entity is not stored or a number leaves its bounds; and where
-/// it is impossible it is never true.
+/// Proves that a policy that passes goes right over what is stored: where each stored entity was read under the schema,
+/// and so was the request, it gives a boolean, or errs since an entity is not stored or a number leaves its bounds; and
+/// where it is impossible it is never true.
 pub fn what_is_stored_goes_right()
     ensures { WhatIsStoredGoesRight }
 {
@@ -48,9 +48,9 @@ pub fn what_is_stored_goes_right()
     passing_policies_go_right();
 }
 
-/// That over a store, once each of its texts was read under the schema, each policy gives a boolean, or errs since an
-/// entity is not stored or since a number leaves its bounds, and is never true where it is impossible; so no answer
-/// over the store tells of an error of type, of attribute or of an extension function.
+/// Proves that over a store, once each of its texts was read under the schema, each policy gives a boolean, or errs
+/// since an entity is not stored or since a number leaves its bounds, and is never true where it is impossible; so no
+/// answer over the store tells of an error of type, of attribute or of an extension function.
 pub fn stored_answers_go_right()
     ensures policies { StoredPoliciesGoRight }
     ensures answers { StoredAnswersGoRight }

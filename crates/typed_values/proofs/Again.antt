@@ -14,14 +14,14 @@ use Rattle.values.specs.Sets.{set_list}
 use Rattle.typed_values.specs.declared.fault.ValueFault.TheVariants.{WrongType, Undeclared, Missing}
 use Rattle.schema_types.specs.Cedar.{Cedar, CedarFields, no_fields, field}
 use Rattle.typed_values.specs.Parts.{element_of, fields_in, declared_at}
-use Rattle.typed_values.specs.Typing.{leaf, all_there, with_or, inside, typed, typed_items, typed_members, record_in}
+use Rattle.typed_values.specs.Typing.{leaf, all_there, with_or, inside, typed_value, typed_items, typed_members, record_in}
 use Rattle.typed_values.specs.Canonical.{value_json, values_json, fields_json}
 use Rattle.typed_values.proofs.Sets.{all_set, set_again}
 use Rattle.typed_values.proofs.Leaves.{ok_is, some_from, inside_ok, leaf_again}
 
 -- the JSON of v is read as v
 abbrev ReadsBack : Cedar → PlainValue → Type 0
-ReadsBack t v = typed t (value_json v) ≡ Ok v
+ReadsBack t v = typed_value t (value_json v) ≡ Ok v
 
 -- ---- which keys there are
 
@@ -31,11 +31,11 @@ some_at Equal a b d e h = refl
 some_at Greater a b d e h = h
 
 keys_kept : (fs : CedarFields) (ms : Members) (vs : List (List ℕ × PlainValue)) → typed_members fs ms ≡ Ok vs → (k : List ℕ) → is_some (get_member k ms) ≡ is_some (get_member k (fields_json (fields_of vs)))
-unfolding typed
+unfolding typed_value
 keys_kept fs no_members vs e k = subst (λ (ws : List (List ℕ × PlainValue)). false ≡ is_some (get_member k (fields_json (fields_of ws)))) (ok_is [] vs e) refl
 keys_kept fs (member l d ms) vs e k =
-    let a = bind_ok (or_fault Undeclared (declared_at l fs)) (λ t. typed t d >>= λ v. typed_members fs ms >>= λ ws. Ok ((l, v) ∷ ws)) vs e in
-    let b = bind_ok (typed a.0 d) (λ v. typed_members fs ms >>= λ ws. Ok ((l, v) ∷ ws)) vs a.2 in
+    let a = bind_ok (or_fault Undeclared (declared_at l fs)) (λ t. typed_value t d >>= λ v. typed_members fs ms >>= λ ws. Ok ((l, v) ∷ ws)) vs e in
+    let b = bind_ok (typed_value a.0 d) (λ v. typed_members fs ms >>= λ ws. Ok ((l, v) ∷ ws)) vs a.2 in
     let c = bind_ok (typed_members fs ms) (λ ws. Ok ((l, b.0) ∷ ws)) vs b.2 in
     subst (λ (ws : List (List ℕ × PlainValue)). is_some (get_member k (member l d ms)) ≡ is_some (get_member k (fields_json (fields_of ws)))) (ok_is ((l, b.0) ∷ c.0) vs c.2)
     (some_at (slice_cmp nat_cmp k l) (get_member k ms) (get_member k (fields_json (fields_of c.0))) d (value_json b.0) (keys_kept fs ms c.0 c.1 k))
@@ -46,27 +46,27 @@ there_kept (field k t r fs) ms ns same = rw (same k, there_kept fs ms ns same) r
 
 -- ---- one step of reading, forwards
 
-array_step : (t x : Cedar) (ds : Items) (vs : List PlainValue) → or_fault WrongType (element_of t) ≡ Ok x → typed_items x ds ≡ Ok vs → typed t (json.array ds) ≡ Ok (set (values_of (set_list vs)))
-unfolding typed
+array_step : (t x : Cedar) (ds : Items) (vs : List PlainValue) → or_fault WrongType (element_of t) ≡ Ok x → typed_items x ds ≡ Ok vs → typed_value t (json.array ds) ≡ Ok (set (values_of (set_list vs)))
+unfolding typed_value
 array_step t x ds vs kind read = rw (kind, read) refl
 
 object_step : (t : Cedar) (fs : CedarFields) (ms : Members) (vs : List (List ℕ × PlainValue)) (u : ⊤) → fields_in t ≡ Some fs → typed_members fs ms ≡ Ok vs → demand WrongType (all_there fs (json.object ms)) ≡ Ok u
-    → typed t (json.object ms) ≡ Ok (record_of (fields_of vs))
-unfolding typed
+    → typed_value t (json.object ms) ≡ Ok (record_of (fields_of vs))
+unfolding typed_value
 object_step t fs ms vs u kind read there = rw (kind, read, there) refl
 
-item_step : (t : Cedar) (d : Data) (ds : Items) (v : PlainValue) (vs : List PlainValue) → typed t d ≡ Ok v → typed_items t ds ≡ Ok vs → typed_items t (item d ds) ≡ Ok (v ∷ vs)
-unfolding typed
+item_step : (t : Cedar) (d : Data) (ds : Items) (v : PlainValue) (vs : List PlainValue) → typed_value t d ≡ Ok v → typed_items t ds ≡ Ok vs → typed_items t (item d ds) ≡ Ok (v ∷ vs)
+unfolding typed_value
 item_step t d ds v vs one more = rw (one, more) refl
 
-member_step : (fs : CedarFields) (k : List ℕ) (d : Data) (ms : Members) (t : Cedar) (v : PlainValue) (vs : List (List ℕ × PlainValue)) → or_fault Undeclared (declared_at k fs) ≡ Ok t → typed t d ≡ Ok v → typed_members fs ms ≡ Ok vs
+member_step : (fs : CedarFields) (k : List ℕ) (d : Data) (ms : Members) (t : Cedar) (v : PlainValue) (vs : List (List ℕ × PlainValue)) → or_fault Undeclared (declared_at k fs) ≡ Ok t → typed_value t d ≡ Ok v → typed_members fs ms ≡ Ok vs
     → typed_members fs (member k d ms) ≡ Ok ((k, v) ∷ vs)
-unfolding typed
+unfolding typed_value
 member_step fs k d ms t v vs here one more = rw (here, one, more) refl
 
 -- values that each read back are read, in their order
 all_read : (t : Cedar) (vs : List PlainValue) → AllByRecursion (ReadsBack t) vs → typed_items t (values_json (values_of vs)) ≡ Ok vs
-unfolding typed
+unfolding typed_value
 all_read t [] h = refl
 all_read t (v ∷ vs) h = item_step t (value_json v) (values_json (values_of vs)) v vs h.0 (all_read t vs h.1)
 
@@ -89,9 +89,9 @@ object_again t (Some fs) ms v is more e =
     subst (ReadsBack t) (ok_is (record_of (fields_of b.0)) v c.2) (object_step t fs (fields_json (fields_of b.0)) b.0 c.0 is (more fs b.0 read) (ap (λ (q : Bool). demand WrongType q) (sym kept) ∙ c.1))
 
 mutual
-  unfolding typed
+  unfolding typed_value
 
-  again : (t : Cedar) (d : Data) (v : PlainValue) → typed t d ≡ Ok v → ReadsBack t v
+  again : (t : Cedar) (d : Data) (v : PlainValue) → typed_value t d ≡ Ok v → ReadsBack t v
   again t json.null v e = leaf_again t json.null v e
   again t (json.boolean b) v e = leaf_again t (json.boolean b) v e
   again t (json.number n) v e = leaf_again t (json.number n) v e
@@ -105,19 +105,19 @@ mutual
   items_again : (t : Cedar) (ds : Items) (vs : List PlainValue) → typed_items t ds ≡ Ok vs → AllByRecursion (ReadsBack t) vs
   items_again t no_items vs e = subst (AllByRecursion (ReadsBack t)) (ok_is [] vs e) tt
   items_again t (item d ds) vs e =
-      let a = bind_ok (typed t d) (λ v. typed_items t ds >>= λ ws. Ok (v ∷ ws)) vs e in
+      let a = bind_ok (typed_value t d) (λ v. typed_items t ds >>= λ ws. Ok (v ∷ ws)) vs e in
       let b = bind_ok (typed_items t ds) (λ ws. Ok (a.0 ∷ ws)) vs a.2 in
       subst (AllByRecursion (ReadsBack t)) (ok_is (a.0 ∷ b.0) vs b.2) (again t d a.0 a.1, items_again t ds b.0 b.1)
 
   members_again : (fs : CedarFields) (ms : Members) (vs : List (List ℕ × PlainValue)) → typed_members fs ms ≡ Ok vs → typed_members fs (fields_json (fields_of vs)) ≡ Ok vs
   members_again fs no_members vs e = subst (λ (ws : List (List ℕ × PlainValue)). typed_members fs (fields_json (fields_of ws)) ≡ Ok ws) (ok_is [] vs e) refl
   members_again fs (member l d ms) vs e =
-      let a = bind_ok (or_fault Undeclared (declared_at l fs)) (λ t. typed t d >>= λ v. typed_members fs ms >>= λ ws. Ok ((l, v) ∷ ws)) vs e in
-      let b = bind_ok (typed a.0 d) (λ v. typed_members fs ms >>= λ ws. Ok ((l, v) ∷ ws)) vs a.2 in
+      let a = bind_ok (or_fault Undeclared (declared_at l fs)) (λ t. typed_value t d >>= λ v. typed_members fs ms >>= λ ws. Ok ((l, v) ∷ ws)) vs e in
+      let b = bind_ok (typed_value a.0 d) (λ v. typed_members fs ms >>= λ ws. Ok ((l, v) ∷ ws)) vs a.2 in
       let c = bind_ok (typed_members fs ms) (λ ws. Ok ((l, b.0) ∷ ws)) vs b.2 in
       subst (λ (ws : List (List ℕ × PlainValue)). typed_members fs (fields_json (fields_of ws)) ≡ Ok ws) (ok_is ((l, b.0) ∷ c.0) vs c.2) (member_step fs l (value_json b.0) (fields_json (fields_of c.0)) a.0 b.0 c.0 a.1 (again a.0 d b.0 b.1) (members_again fs ms c.0 c.1))
 
-pub value_again : (t : Cedar) (d : Data) (v : PlainValue) → typed t d ≡ Ok v → typed t (value_json v) ≡ Ok v
+pub value_again : (t : Cedar) (d : Data) (v : PlainValue) → typed_value t d ≡ Ok v → typed_value t (value_json v) ≡ Ok v
 value_again t d v e = again t d v e
 
 -- ---- records

@@ -7,7 +7,7 @@ use Rattle.json_words.proofs.EachLemmas.{bind_ok}
 use Rattle.values.specs.Values.{PlainValue}
 use Rattle.schema_types.specs.Cedar.{Cedar, deep, IsTooLarge}
 use Rattle.typed_values.specs.declared.fault.ValueFault.TheVariants.{WrongType}
-use Rattle.typed_values.specs.Typing.{typed}
+use Rattle.typed_values.specs.Typing.{typed_value}
 use Rattle.typed_values.specs.Texts.{text_typed}
 use Rattle.typed_values.specs.Laws.{JsonIsReadAgain, WrittenIsReadAgain}
 use Rattle.typed_values.specs.Canonical.{value_json}
@@ -15,10 +15,10 @@ use Rattle.typed_values.proofs.Deep.{value_fits}
 use Rattle.typed_values.proofs.Again.{value_again}
 use Rattle.typed_values.proofs.Leaves.{some_of}
 
-pub read_of : (t : Cedar) (bytes : List ℕ) (v : PlainValue) → text_typed t bytes ≡ Ok v → (d : Data) × (json_of bytes ≡ Some d) × (typed t d ≡ Ok v)
+pub read_of : (t : Cedar) (bytes : List ℕ) (v : PlainValue) → text_typed t bytes ≡ Ok v → (d : Data) × (json_of bytes ≡ Some d) × (typed_value t d ≡ Ok v)
 unfolding text_typed
 read_of t bytes v e =
-    let a = bind_ok (or_fault WrongType (json_of bytes)) (λ d. typed t d) v e in
+    let a = bind_ok (or_fault WrongType (json_of bytes)) (λ d. typed_value t d) v e in
     (a.0, some_of (json_of bytes) a.0 a.1, a.2)
 
 pub json_again : JsonIsReadAgain

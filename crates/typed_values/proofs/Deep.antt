@@ -17,7 +17,7 @@ use Rattle.schema_types.specs.Cedar.{Cedar, CedarFields, no_fields, field, deep,
 use Rattle.typed_values.specs.Parts.{element_of, fields_in, declared_at}
 use Rattle.uid_json.specs.Uids.{uid_in}
 use Rattle.extensions.specs.TextsDecided.{decimal_of, network_of}
-use Rattle.typed_values.specs.Typing.{argument_in, boolean_in, is_long, long_of, long_in, text_in, entity_in, decimal_in, ipaddr_in, leaf, all_there, with_or, inside, typed, typed_items, typed_members, record_in}
+use Rattle.typed_values.specs.Typing.{argument_in, boolean_in, is_long, long_of, long_in, text_in, entity_in, decimal_in, ipaddr_in, leaf, all_there, with_or, inside, typed_value, typed_items, typed_members, record_in}
 use Rattle.typed_values.specs.Canonical.{value_json, values_json, fields_json}
 use Rattle.typed_values.proofs.Sets.{all_set}
 use Rattle.typed_values.proofs.Leaves.{ok_is, some_of, some_from, inside_ok}
@@ -104,9 +104,9 @@ object_fits t (Some fs) ms v is more e =
     subst (Fits (room t)) (ok_is (record_of (fields_of b.0)) v c.2) (omega (arith, fields_room t fs is, fields_fit (rooms fs) b.0 (more fs b.0 (inside_ok (typed_members fs ms) b.0 b.1))))
 
 mutual
-  unfolding typed
+  unfolding typed_value
 
-  fits : (t : Cedar) (d : Data) (v : PlainValue) → typed t d ≡ Ok v → Fits (room t) v
+  fits : (t : Cedar) (d : Data) (v : PlainValue) → typed_value t d ≡ Ok v → Fits (room t) v
   fits t json.null v e = leaf_fits t json.null v e
   fits t (json.boolean b) v e = leaf_fits t (json.boolean b) v e
   fits t (json.number n) v e = leaf_fits t (json.number n) v e
@@ -120,20 +120,20 @@ mutual
   items_fits : (t : Cedar) (ds : Items) (vs : List PlainValue) → typed_items t ds ≡ Ok vs → AllByRecursion (Fits (room t)) vs
   items_fits t no_items vs e = subst (AllByRecursion (Fits (room t))) (ok_is [] vs e) tt
   items_fits t (item d ds) vs e =
-      let a = bind_ok (typed t d) (λ v. typed_items t ds >>= λ ws. Ok (v ∷ ws)) vs e in
+      let a = bind_ok (typed_value t d) (λ v. typed_items t ds >>= λ ws. Ok (v ∷ ws)) vs e in
       let b = bind_ok (typed_items t ds) (λ ws. Ok (a.0 ∷ ws)) vs a.2 in
       subst (AllByRecursion (Fits (room t))) (ok_is (a.0 ∷ b.0) vs b.2) (fits t d a.0 a.1, items_fits t ds b.0 b.1)
 
   members_fits : (fs : CedarFields) (ms : Members) (vs : List (List ℕ × PlainValue)) → typed_members fs ms ≡ Ok vs → AllByRecursion (λ f. Fits (rooms fs) f.1) vs
   members_fits fs no_members vs e = subst (AllByRecursion (λ f. Fits (rooms fs) f.1)) (ok_is [] vs e) tt
   members_fits fs (member l d ms) vs e =
-      let a = bind_ok (or_fault Undeclared (declared_at l fs)) (λ t. typed t d >>= λ v. typed_members fs ms >>= λ ws. Ok ((l, v) ∷ ws)) vs e in
-      let b = bind_ok (typed a.0 d) (λ v. typed_members fs ms >>= λ ws. Ok ((l, v) ∷ ws)) vs a.2 in
+      let a = bind_ok (or_fault Undeclared (declared_at l fs)) (λ t. typed_value t d >>= λ v. typed_members fs ms >>= λ ws. Ok ((l, v) ∷ ws)) vs e in
+      let b = bind_ok (typed_value a.0 d) (λ v. typed_members fs ms >>= λ ws. Ok ((l, v) ∷ ws)) vs a.2 in
       let c = bind_ok (typed_members fs ms) (λ ws. Ok ((l, b.0) ∷ ws)) vs b.2 in
       let first : depth (value_json b.0) ≤ room a.0 = fits a.0 d b.0 b.1 in
       subst (AllByRecursion (λ f. Fits (rooms fs) f.1)) (ok_is ((l, b.0) ∷ c.0) vs c.2) (omega (arith, first, room_at l fs a.0 (some_from Undeclared (declared_at l fs) a.0 a.1)), members_fits fs ms c.0 c.1)
 
-pub value_fits : (t : Cedar) (d : Data) (v : PlainValue) → typed t d ≡ Ok v → depth (value_json v) ≤ room t
+pub value_fits : (t : Cedar) (d : Data) (v : PlainValue) → typed_value t d ≡ Ok v → depth (value_json v) ≤ room t
 value_fits t d v e = fits t d v e
 
 pub record_fits : (t : Cedar) (d : Data) (vs : List (List ℕ × PlainValue)) → record_in t d ≡ Ok vs → depth (json.object (fields_json (fields_of vs))) ≤ room t

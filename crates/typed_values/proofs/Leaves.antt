@@ -28,7 +28,7 @@ use Rattle.extensions.specs.Decided.{Decided, found}
 use Rattle.extensions.specs.TextsDecided.{decimal_text_decided, network_text_decided, decimal_of, network_of}
 use Rattle.schema_types.specs.Cedar as cedar
 use Rattle.schema_types.specs.Cedar.{Cedar}
-use Rattle.typed_values.specs.Typing.{plain_call, call_in, argument_in, boolean_in, is_long, long_of, long_in, text_in, entity_in, decimal_in, ipaddr_in, leaf, inside, typed}
+use Rattle.typed_values.specs.Typing.{plain_call, call_in, argument_in, boolean_in, is_long, long_of, long_in, text_in, entity_in, decimal_in, ipaddr_in, leaf, inside, typed_value}
 use Rattle.uid_json.specs.Uids.{uid_in, plain_uid_in, uid_made_of, uid_under, entity_json}
 use Rattle.values.specs.Paths.{is_path}
 use Rattle.typed_values.specs.Canonical.{call_json, value_json}
@@ -133,76 +133,76 @@ fits_if false u e = absurd cc
 
 -- ---- each kind: forwards
 
-long_step : (z : ℤ) → is_long z ≡ true → as_i64 (of_integer z) ≡ Some z → typed cedar.long (value_json (long z)) ≡ Ok (long z)
-unfolding typed long_in
+long_step : (z : ℤ) → is_long z ≡ true → as_i64 (of_integer z) ≡ Some z → typed_value cedar.long (value_json (long z)) ≡ Ok (long z)
+unfolding typed_value long_in
 long_step z fits e = rw (e, fits) refl
 
-entity_step : (name : List ℕ) (u : EntityUid) → is_path u.type_name ≡ true → demand WrongType (bytes_eq u.type_name name) ≡ done tt → typed (cedar.entity name) (value_json (entity u)) ≡ Ok (entity u)
-unfolding typed entity_in
+entity_step : (name : List ℕ) (u : EntityUid) → is_path u.type_name ≡ true → demand WrongType (bytes_eq u.type_name name) ≡ done tt → typed_value (cedar.entity name) (value_json (entity u)) ≡ Ok (entity u)
+unfolding typed_value entity_in
 entity_step name u path same = rw (uid_back u path, same) refl
 
-decimal_step : (z : ℤ) → decimal_of (decimal_text z) ≡ Some z → typed cedar.decimal (value_json (decimal z)) ≡ Ok (decimal z)
-unfolding typed decimal_in
+decimal_step : (z : ℤ) → decimal_of (decimal_text z) ≡ Some z → typed_value cedar.decimal (value_json (decimal z)) ≡ Ok (decimal z)
+unfolding typed_value decimal_in
 decimal_step z e = rw (call_back (codes "decimal") (decimal_text z), e) refl
 
-ipaddr_step : (n : Network) → network_of (network_text n) ≡ Some n → typed cedar.ipaddr (value_json (ipaddr n)) ≡ Ok (ipaddr n)
-unfolding typed ipaddr_in
+ipaddr_step : (n : Network) → network_of (network_text n) ≡ Some n → typed_value cedar.ipaddr (value_json (ipaddr n)) ≡ Ok (ipaddr n)
+unfolding typed_value ipaddr_in
 ipaddr_step n e = rw (call_back (codes "ip") (network_text n), e) refl
 
-boolean_step : (b : Bool) → typed cedar.boolean (value_json (boolean b)) ≡ Ok (boolean b)
-unfolding typed boolean_in
+boolean_step : (b : Bool) → typed_value cedar.boolean (value_json (boolean b)) ≡ Ok (boolean b)
+unfolding typed_value boolean_in
 boolean_step b = refl
 
-text_step : (s : List ℕ) → typed cedar.text (value_json (text s)) ≡ Ok (text s)
-unfolding typed text_in
+text_step : (s : List ℕ) → typed_value cedar.text (value_json (text s)) ≡ Ok (text s)
+unfolding typed_value text_in
 text_step s = refl
 
 -- ---- each kind: again
 
-boolean_again : (d : Data) (v : PlainValue) → boolean_in d ≡ Ok v → typed cedar.boolean (value_json v) ≡ Ok v
+boolean_again : (d : Data) (v : PlainValue) → boolean_in d ≡ Ok v → typed_value cedar.boolean (value_json v) ≡ Ok v
 unfolding boolean_in
 boolean_again d v e =
     let a = bind_ok (or_fault WrongType (as_bool d)) (λ b. Ok (boolean b)) v e in
-    subst (λ (w : PlainValue). typed cedar.boolean (value_json w) ≡ Ok w) (ok_is (boolean a.0) v a.2) (boolean_step a.0)
+    subst (λ (w : PlainValue). typed_value cedar.boolean (value_json w) ≡ Ok w) (ok_is (boolean a.0) v a.2) (boolean_step a.0)
 
-long_again : (d : Data) (v : PlainValue) → long_in d ≡ Ok v → typed cedar.long (value_json v) ≡ Ok v
+long_again : (d : Data) (v : PlainValue) → long_in d ≡ Ok v → typed_value cedar.long (value_json v) ≡ Ok v
 unfolding long_in
 long_again d v e =
     let a = bind_ok (or_fault WrongType (as_number d)) (λ n. or_fault WrongType (as_i64 n) >>= λ z. long_of z) v e in
     let b = bind_ok (or_fault WrongType (as_i64 a.0)) (λ z. long_of z) v a.2 in
     let c = bind_ok (demand WrongType (is_long b.0)) (λ u. Ok (long b.0)) v b.2 in
     let fits : is_long b.0 ≡ true = fits_if (is_long b.0) c.0 c.1 in
-    subst (λ (w : PlainValue). typed cedar.long (value_json w) ≡ Ok w) (ok_is (long b.0) v c.2) (long_step b.0 fits (integer_back b.0 fits))
+    subst (λ (w : PlainValue). typed_value cedar.long (value_json w) ≡ Ok w) (ok_is (long b.0) v c.2) (long_step b.0 fits (integer_back b.0 fits))
 
-text_again : (d : Data) (v : PlainValue) → text_in d ≡ Ok v → typed cedar.text (value_json v) ≡ Ok v
+text_again : (d : Data) (v : PlainValue) → text_in d ≡ Ok v → typed_value cedar.text (value_json v) ≡ Ok v
 unfolding text_in
 text_again d v e =
     let a = bind_ok (or_fault WrongType (as_str d)) (λ s. Ok (text s)) v e in
-    subst (λ (w : PlainValue). typed cedar.text (value_json w) ≡ Ok w) (ok_is (text a.0) v a.2) (text_step a.0)
+    subst (λ (w : PlainValue). typed_value cedar.text (value_json w) ≡ Ok w) (ok_is (text a.0) v a.2) (text_step a.0)
 
-pub entity_again : (name : List ℕ) (d : Data) (v : PlainValue) → entity_in name d ≡ Ok v → typed (cedar.entity name) (value_json v) ≡ Ok v
+pub entity_again : (name : List ℕ) (d : Data) (v : PlainValue) → entity_in name d ≡ Ok v → typed_value (cedar.entity name) (value_json v) ≡ Ok v
 unfolding entity_in
 entity_again name d v e =
     let a = bind_ok (or_fault WrongType (uid_in d)) (λ u. demand WrongType (bytes_eq u.type_name name) >>= λ q. Ok (entity u)) v e in
     let b = bind_ok (demand WrongType (bytes_eq a.0.type_name name)) (λ q. Ok (entity a.0)) v a.2 in
-    subst (λ (w : PlainValue). typed (cedar.entity name) (value_json w) ≡ Ok w) (ok_is (entity a.0) v b.2)
+    subst (λ (w : PlainValue). typed_value (cedar.entity name) (value_json w) ≡ Ok w) (ok_is (entity a.0) v b.2)
     (entity_step name a.0 (path_of_uid d a.0 (some_of (uid_in d) a.0 a.1)) b.1)
 
-pub decimal_again : (d : Data) (v : PlainValue) → decimal_in d ≡ Ok v → typed cedar.decimal (value_json v) ≡ Ok v
+pub decimal_again : (d : Data) (v : PlainValue) → decimal_in d ≡ Ok v → typed_value cedar.decimal (value_json v) ≡ Ok v
 unfolding decimal_in
 decimal_again d v e =
     let a = bind_ok (argument_in (codes "decimal") d) (λ s. or_fault WrongType (decimal_of s) >>= λ z. Ok (decimal z)) v e in
     let b = bind_ok (or_fault WrongType (decimal_of a.0)) (λ z. Ok (decimal z)) v a.2 in
-    subst (λ (w : PlainValue). typed cedar.decimal (value_json w) ≡ Ok w) (ok_is (decimal b.0) v b.2) (decimal_step b.0 (decimal_back a.0 b.0 (some_of (decimal_of a.0) b.0 b.1)))
+    subst (λ (w : PlainValue). typed_value cedar.decimal (value_json w) ≡ Ok w) (ok_is (decimal b.0) v b.2) (decimal_step b.0 (decimal_back a.0 b.0 (some_of (decimal_of a.0) b.0 b.1)))
 
-pub ipaddr_again : (d : Data) (v : PlainValue) → ipaddr_in d ≡ Ok v → typed cedar.ipaddr (value_json v) ≡ Ok v
+pub ipaddr_again : (d : Data) (v : PlainValue) → ipaddr_in d ≡ Ok v → typed_value cedar.ipaddr (value_json v) ≡ Ok v
 unfolding ipaddr_in
 ipaddr_again d v e =
     let a = bind_ok (argument_in (codes "ip") d) (λ s. or_fault WrongType (network_of s) >>= λ n. Ok (ipaddr n)) v e in
     let b = bind_ok (or_fault WrongType (network_of a.0)) (λ n. Ok (ipaddr n)) v a.2 in
-    subst (λ (w : PlainValue). typed cedar.ipaddr (value_json w) ≡ Ok w) (ok_is (ipaddr b.0) v b.2) (ipaddr_step b.0 (network_back a.0 b.0 (some_of (network_of a.0) b.0 b.1)))
+    subst (λ (w : PlainValue). typed_value cedar.ipaddr (value_json w) ≡ Ok w) (ok_is (ipaddr b.0) v b.2) (ipaddr_step b.0 (network_back a.0 b.0 (some_of (network_of a.0) b.0 b.1)))
 
-pub leaf_again : (t : Cedar) (d : Data) (v : PlainValue) → leaf t d ≡ Ok v → typed t (value_json v) ≡ Ok v
+pub leaf_again : (t : Cedar) (d : Data) (v : PlainValue) → leaf t d ≡ Ok v → typed_value t (value_json v) ≡ Ok v
 leaf_again cedar.boolean d v e = boolean_again d v e
 leaf_again cedar.long d v e = long_again d v e
 leaf_again cedar.text d v e = text_again d v e

@@ -12,7 +12,7 @@ use Rattle.json_words.specs.ReadsAs.{◌>>=◌, or_fault}
 use Rattle.typed_values.specs.declared.fault.ValueFault.{ValueFault}
 use Rattle.typed_values.specs.declared.fault.ValueFault.TheVariants.{Undeclared}
 use Rattle.typed_values.specs.Parts.{declared_at}
-use Rattle.typed_values.specs.Typing.{typed, typed_members}
+use Rattle.typed_values.specs.Typing.{typed_value, typed_members}
 use Rattle.typed_values.specs.inner.Ahead.{StateAlikeFrom}
 use Rattle.typed_values.proofs.Walk.{Entry, Ordered, with_front}
 
@@ -25,11 +25,11 @@ abbrev done : List Field → Result (List Field) ValueFault
 done vs = Ok vs
 
 read_alike : (name : List ℕ) (fs gs : CedarFields) → StateAlikeFrom name fs gs → (es : List Entry) → AreFrom name es → typed_members fs (members_view es) ≡ typed_members gs (members_view es)
-unfolding typed
+unfolding typed_value
 read_alike name fs gs alike [] from = refl
 read_alike name fs gs alike (e ∷ es) from =
-    ap (λ (o : Option Cedar). or_fault Undeclared o >>= λ t. typed t (view e.1) >>= λ v. typed_members fs (members_view es) >>= λ vs. done ((string_bytes e.0, v) ∷ vs)) (alike (string_bytes e.0) from.0)
-    ∙ ap (λ (r : Result (List Field) ValueFault). or_fault Undeclared (declared_at (string_bytes e.0) gs) >>= λ t. typed t (view e.1) >>= λ v. r >>= λ vs. done ((string_bytes e.0, v) ∷ vs)) (read_alike name fs gs alike es from.1)
+    ap (λ (o : Option Cedar). or_fault Undeclared o >>= λ t. typed_value t (view e.1) >>= λ v. typed_members fs (members_view es) >>= λ vs. done ((string_bytes e.0, v) ∷ vs)) (alike (string_bytes e.0) from.0)
+    ∙ ap (λ (r : Result (List Field) ValueFault). or_fault Undeclared (declared_at (string_bytes e.0) gs) >>= λ t. typed_value t (view e.1) >>= λ v. r >>= λ vs. done ((string_bytes e.0, v) ∷ vs)) (read_alike name fs gs alike es from.1)
 
 -- names behind the first are not in front of it
 behind : (x y : List ℕ) → text_cmp x y ≡ Less → text_cmp y x ≡ Less → ⊥

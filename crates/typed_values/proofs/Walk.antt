@@ -16,7 +16,7 @@ use Rattle.typed_values.specs.declared.fault.ValueFault.{ValueFault}
 use Rattle.typed_values.specs.declared.fault.ValueFault.TheVariants.{NoMemory, WrongType, Undeclared, Missing}
 use Rattle.schema_types.specs.Cedar.{Cedar, CedarFields}
 use Rattle.typed_values.specs.Parts.{declared_at}
-use Rattle.typed_values.specs.Typing.{inside, typed, typed_items, typed_members}
+use Rattle.typed_values.specs.Typing.{inside, typed_value, typed_items, typed_members}
 use Rattle.typed_values.specs.inner.Inside.{inside_fault}
 
 abbrev pub with_front : {A F : Type 0} → List A → Result (List A) F → Result (List A) F
@@ -39,21 +39,21 @@ ends front first rest total memory e one so_far = λ other. so_far ∙ rw (one o
 cut : (vs : List Value) (i : ℕ) (v : Value) → i < length vs → v ≡ get_or vs i v → drop i vs ≡ v ∷ drop (i + 1) vs
 cut vs i v lt at = drop_more vs i v lt ∙ ap (λ (w : Value). w ∷ drop (i + 1) vs) (sym at)
 
-pub item_goes : (t : Cedar) (vs : List Value) (i : ℕ) (v : Value) (front : List PlainValue) (y : PlainValue) (total : Result (List PlainValue) ValueFault) → i < length vs → v ≡ get_or vs i v → typed t (view v) ≡ Ok y
+pub item_goes : (t : Cedar) (vs : List Value) (i : ℕ) (v : Value) (front : List PlainValue) (y : PlainValue) (total : Result (List PlainValue) ValueFault) → i < length vs → v ≡ get_or vs i v → typed_value t (view v) ≡ Ok y
     → total ≡ with_front front (typed_items t (items_view (drop i vs))) → total ≡ with_front (front ++ y ∷ []) (typed_items t (items_view (drop (i + 1) vs)))
-unfolding typed
+unfolding typed_value
 item_goes t vs i v front y total lt at one so_far =
-    goes_on front y (typed t (view v)) (typed_items t (items_view (drop (i + 1) vs))) total one (so_far ∙ ap (λ (l : List Value). with_front front (typed_items t (items_view l))) (cut vs i v lt at))
+    goes_on front y (typed_value t (view v)) (typed_items t (items_view (drop (i + 1) vs))) total one (so_far ∙ ap (λ (l : List Value). with_front front (typed_items t (items_view l))) (cut vs i v lt at))
 
-pub item_ends : (t : Cedar) (vs : List Value) (i : ℕ) (v : Value) (front : List PlainValue) (total : Result (List PlainValue) ValueFault) (e : ValueFault) → i < length vs → v ≡ get_or vs i v → Fails NoMemory e (typed t (view v))
+pub item_ends : (t : Cedar) (vs : List Value) (i : ℕ) (v : Value) (front : List PlainValue) (total : Result (List PlainValue) ValueFault) (e : ValueFault) → i < length vs → v ≡ get_or vs i v → Fails NoMemory e (typed_value t (view v))
     → total ≡ with_front front (typed_items t (items_view (drop i vs))) → Fails NoMemory e total
-unfolding typed
+unfolding typed_value
 item_ends t vs i v front total e lt at one so_far =
-    ends front (typed t (view v)) (typed_items t (items_view (drop (i + 1) vs))) total NoMemory e one (so_far ∙ ap (λ (l : List Value). with_front front (typed_items t (items_view l))) (cut vs i v lt at))
+    ends front (typed_value t (view v)) (typed_items t (items_view (drop (i + 1) vs))) total NoMemory e one (so_far ∙ ap (λ (l : List Value). with_front front (typed_items t (items_view l))) (cut vs i v lt at))
 
 pub items_done : (t : Cedar) (vs : List Value) (n : ℕ) (front : List PlainValue) (total : Result (List PlainValue) ValueFault) → length vs ≤ n
     → total ≡ with_front front (typed_items t (items_view (drop n vs))) → total ≡ Ok front
-unfolding typed
+unfolding typed_value
 items_done t vs n front total le so_far =
     so_far ∙ ap (λ (l : List Value). with_front front (typed_items t (items_view l))) (drop_all n vs le) ∙ ap (λ (l : List PlainValue). Ok l) (append-nil front)
 
@@ -107,25 +107,25 @@ unfolding IsStrictlySortedBy
 next_ordered fs e left v h = (h.0.1, behind_push fs e.0 v left h.1.1 h.0.0)
 
 pub member_goes : (fs : CedarFields) (e : Entry) (left : List Entry) (t : Cedar) (front : List Field) (y : PlainValue) (total : Result (List Field) ValueFault)
-    → Some t ≡ declared_at (string_bytes e.0) fs → typed t (view e.1) ≡ Ok y
+    → Some t ≡ declared_at (string_bytes e.0) fs → typed_value t (view e.1) ≡ Ok y
     → total ≡ with_front front (typed_members fs (members_view (e ∷ left))) → total ≡ with_front (front ++ (string_bytes e.0, y) ∷ []) (typed_members fs (members_view left))
-unfolding typed
+unfolding typed_value
 member_goes fs e left t front y total here one so_far =
     goes_on front (string_bytes e.0, y) (Ok (string_bytes e.0, y)) (typed_members fs (members_view left)) total refl (so_far ∙ rw (← here, one) refl)
 
 pub member_ends : (fs : CedarFields) (e : Entry) (left : List Entry) (t : Cedar) (front : List Field) (total : Result (List Field) ValueFault) (f : ValueFault)
-    → Some t ≡ declared_at (string_bytes e.0) fs → Fails NoMemory f (typed t (view e.1))
+    → Some t ≡ declared_at (string_bytes e.0) fs → Fails NoMemory f (typed_value t (view e.1))
     → total ≡ with_front front (typed_members fs (members_view (e ∷ left))) → Fails NoMemory f total
-unfolding typed
+unfolding typed_value
 member_ends fs e left t front total f here one so_far = λ other. so_far ∙ rw (← here, one other) refl
 
 pub member_unknown : (fs : CedarFields) (e : Entry) (left : List Entry) (front : List Field) (total : Result (List Field) ValueFault)
     → None ≡ declared_at (string_bytes e.0) fs → total ≡ with_front front (typed_members fs (members_view (e ∷ left))) → total ≡ Err Undeclared
-unfolding typed
+unfolding typed_value
 member_unknown fs e left front total here so_far = so_far ∙ rw (← here) refl
 
 pub members_done : (fs : CedarFields) (front : List Field) (total : Result (List Field) ValueFault) → total ≡ with_front front (typed_members fs (members_view [])) → total ≡ Ok front
-unfolding typed
+unfolding typed_value
 members_done fs front total so_far = so_far ∙ ap (λ (l : List Field). Ok l) (append-nil front)
 
 pub front_none : {A F : Type 0} (read : Result (List A) F) → read ≡ with_front [] read

@@ -1,4 +1,4 @@
--- Laws of typed reading.
+-- Laws of typed_value reading.
 use Rattle.std.specs.Prelude.{◌≡◌, ◌≤◌, ℕ, suc, List, false, Some, Ok}
 use Rattle.serde_json.specs.Data.{Data, object, depth}
 use Rattle.json_words.specs.Json.{json_of}
@@ -7,13 +7,13 @@ use Rattle.values.specs.Fields.{Field}
 use Rattle.schema_types.specs.Cedar.{Cedar, deep, IsTooLarge}
 use Rattle.serde_json.specs.Read.{max_depth}
 use Rattle.serde_json.specs.Written.{has_float}
-use Rattle.typed_values.specs.Typing.{typed, record_in}
+use Rattle.typed_values.specs.Typing.{typed_value, record_in}
 use Rattle.typed_values.specs.Canonical.{value_json, fields_json}
 use Rattle.typed_values.specs.Texts.{text_typed}
 
 -- the one JSON of a value that was read is read as that value
 abbrev pub CanonicalIsRead : Type 0
-CanonicalIsRead = (t : Cedar) (d : Data) (v : PlainValue) → typed t d ≡ Ok v → typed t (value_json v) ≡ Ok v
+CanonicalIsRead = (t : Cedar) (d : Data) (v : PlainValue) → typed_value t d ≡ Ok v → typed_value t (value_json v) ≡ Ok v
 
 -- whatever bytes were read as v, bytes that are the one JSON of v are read as v
 abbrev pub JsonIsReadAgain : Type 0
@@ -22,7 +22,7 @@ JsonIsReadAgain = (t : Cedar) (bytes text : List ℕ) (v : PlainValue) → text_
 
 -- The one JSON of a value nests as deep as its type, and once more at most: an entity and an extension are two deep.
 abbrev pub CanonicalNests : Type 0
-CanonicalNests = (t : Cedar) (d : Data) (v : PlainValue) → typed t d ≡ Ok v → depth (value_json v) ≤ suc (deep t)
+CanonicalNests = (t : Cedar) (d : Data) (v : PlainValue) → typed_value t d ≡ Ok v → depth (value_json v) ≤ suc (deep t)
 
 -- Whatever bytes were read as v by a type that a schema may have, bytes that are the one JSON of v where that nests
 -- within the limit of a reader are read as v.

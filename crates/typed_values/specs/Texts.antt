@@ -6,10 +6,10 @@ use Rattle.values.specs.Values.{PlainValue}
 use Rattle.schema_types.specs.Cedar.{Cedar}
 use Rattle.typed_values.specs.declared.fault.ValueFault.{ValueFault}
 use Rattle.typed_values.specs.declared.fault.ValueFault.TheVariants.{WrongType}
-use Rattle.typed_values.specs.Typing.{typed}
+use Rattle.typed_values.specs.Typing.{typed_value}
 
 -- the value of this type that bytes are
 unfoldable pub text_typed : Cedar → List ℕ → Result PlainValue ValueFault
 text_typed t bytes = do
   d ← or_fault WrongType (json_of bytes)
-  typed t d
+  typed_value t d

@@ -125,16 +125,16 @@ inside (Ok x) = Ok x
 inside (Err f) = Err WrongType
 
 unfoldable mutual
-  pub typed : Cedar → Data → Result PlainValue ValueFault
-  typed t json.null = leaf t json.null
-  typed t (json.boolean b) = leaf t (json.boolean b)
-  typed t (json.number n) = leaf t (json.number n)
-  typed t (json.string s) = leaf t (json.string s)
-  typed t (json.array ds) = do
+  pub typed_value : Cedar → Data → Result PlainValue ValueFault
+  typed_value t json.null = leaf t json.null
+  typed_value t (json.boolean b) = leaf t (json.boolean b)
+  typed_value t (json.number n) = leaf t (json.number n)
+  typed_value t (json.string s) = leaf t (json.string s)
+  typed_value t (json.array ds) = do
     e ← or_fault WrongType (element_of t)
     vs ← typed_items e ds
     Ok (set (values_of (set_list vs)))
-  typed t (json.object ms) = with_or (fields_in t)
+  typed_value t (json.object ms) = with_or (fields_in t)
       (λ fs. inside (typed_members fs ms) >>= λ vs. demand WrongType (all_there fs (json.object ms)) >>= λ there.
       Ok (record_of (fields_of vs)))
       (leaf t (json.object ms))
@@ -142,7 +142,7 @@ unfoldable mutual
   pub typed_items : Cedar → Items → Result (List PlainValue) ValueFault
   typed_items t no_items = Ok []
   typed_items t (item d ds) = do
-    v ← typed t d
+    v ← typed_value t d
     vs ← typed_items t ds
     Ok (v ∷ vs)
 
@@ -150,7 +150,7 @@ unfoldable mutual
   typed_members fs no_members = Ok []
   typed_members fs (member k d ms) = do
     t ← or_fault Undeclared (declared_at k fs)
-    v ← typed t d
+    v ← typed_value t d
     vs ← typed_members fs ms
     Ok ((k, v) ∷ vs)
 

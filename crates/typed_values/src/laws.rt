@@ -2,8 +2,8 @@
 ghost use Rattle.typed_values.specs.Laws.{CanonicalIsRead, JsonIsReadAgain, CanonicalNests, WrittenIsReadAgain};
 ghost use Rattle.typed_values.specs.Laws.{RecordIsReadAgain, RecordNests, NoFloatIsWritten};
 
-/// That the one JSON of a value that was read is read as that value: it does nothing, and its clause is a law of the
-/// definitions.
+/// Proves that the one JSON of a value that was read is read as that value: it does nothing, and its clause is a law of
+/// the definitions.
 pub fn canonical_is_read()
     ensures { CanonicalIsRead }
 {}
@@ -14,8 +14,8 @@ pub fn json_is_read_again()
     ensures { JsonIsReadAgain }
 {}
 
-/// That the one JSON of a value that was read nests no deeper than its type allows: it does nothing, and its clause is
-/// a law of the definitions.
+/// Proves that the one JSON of a value that was read nests no deeper than its type allows: it does nothing, and its
+/// clause is a law of the definitions.
 pub fn canonical_nests_within_its_type()
     ensures { CanonicalNests }
 {}
@@ -26,15 +26,15 @@ pub fn written_is_read_again()
     ensures { WrittenIsReadAgain }
 {}
 
-/// That the one JSON of a record that was read is read as that record, and nests no deeper than its type allows: it
-/// does nothing, and its clauses are laws of the definitions.
+/// Proves that the one JSON of a record that was read is read as that record, and nests no deeper than its type allows:
+/// it does nothing, and its clauses are laws of the definitions.
 pub fn records_are_read_again()
     ensures again { RecordIsReadAgain }
     ensures nests { RecordNests }
 {}
 
-/// That the one JSON of a value has no float, so its text is known to the byte: it does nothing, and its clause is a
-/// law of the definitions.
+/// Proves that the one JSON of a value has no float, so its text is known to the byte: it does nothing, and its clause
+/// is a law of the definitions.
 pub fn values_have_no_float()
     ensures { NoFloatIsWritten }
 {}

@@ -8,7 +8,7 @@ ghost use Rattle.typed_values.specs.declared.fault.ValueFault.TheVariants as Val
 ghost use Rattle.extensions.specs.TextsDecided.{decimal_of, network_of};
 ghost use Rattle.typed_values.specs.Parts.{element_of, fields_in, declared_at};
 ghost use Rattle.typed_values.specs.Typing.{plain_call, call_in, argument_in, boolean_in, long_of, long_in, text_in};
-ghost use Rattle.typed_values.specs.Typing.{entity_in, decimal_in, ipaddr_in, leaf, all_there, typed as typed_of};
+ghost use Rattle.typed_values.specs.Typing.{entity_in, decimal_in, ipaddr_in, leaf, all_there, typed_value as typed_of};
 ghost use Rattle.typed_values.specs.Typing.{record_in};
 ghost use Rattle.typed_values.specs.inner.Inside.{inside_fault};
 ghost use Rattle.typed_values.specs.inner.InPlace.{IsInPlace};
@@ -31,7 +31,7 @@ type Fields = Items<Field>;
 
 // ---- types
 
-/// The type of a set's members.
+/// Returns the type of a set's members.
 fn element(ty: &CedarType) -> Option<&CedarType>
     ensures { option_map (λ t. cedar_view t.now) result ≡ element_of (cedar_view ty.now) }
 {
@@ -41,7 +41,7 @@ fn element(ty: &CedarType) -> Option<&CedarType>
     }
 }
 
-/// The fields of a record.
+/// Returns the fields of a record.
 fn fields(ty: &CedarType) -> Option<&Fields>
     ensures { option_map (λ fs. cedar_fields_view fs.now) result ≡ fields_in (cedar_view ty.now) }
 {
@@ -51,8 +51,8 @@ fn fields(ty: &CedarType) -> Option<&Fields>
     }
 }
 
-/// The fields from the first on whose name is not before this one. Those in front of it have other names, so whoever
-/// looks for names in ascending order need not look at them again.
+/// Returns the fields from the first on whose name is not before this one. Those in front of it have other names, so
+/// whoever looks for names in ascending order need not look at them again.
 fn from_name<'t>(fields: &'t [Field], name: &str) -> &'t [Field]
     ensures { StateAlikeFrom name.now (cedar_fields_view fields.now) (cedar_fields_view result.now) }
 {
@@ -64,7 +64,7 @@ fn from_name<'t>(fields: &'t [Field], name: &str) -> &'t [Field]
     &[]
 }
 
-/// The type of a field.
+/// Returns the type of a field.
 fn declared<'t>(fields: &'t [Field], name: &str) -> Option<&'t CedarType>
     ensures { option_map (λ t. cedar_view t.now) result ≡ declared_at name.now (cedar_fields_view fields.now) }
 {
@@ -76,7 +76,7 @@ fn declared<'t>(fields: &'t [Field], name: &str) -> Option<&'t CedarType>
     None
 }
 
-/// Whether each required field is there.
+/// Returns whether each required field is there.
 fn has_required(fields: &Fields, value: &Json) -> bool
     ensures { result ≡ all_there (cedar_fields_view fields.now) (view value.now) }
 {
@@ -90,7 +90,7 @@ fn has_required(fields: &Fields, value: &Json) -> bool
 
 // ---- values that are neither sets nor records
 
-/// The text at a key, which must be there.
+/// Returns the text at a key, which must be there.
 fn read_text_at<'v>(value: &'v Json, key: &str) -> Result<&'v str, ValueFault>
     ensures { AlwaysReadsAs (λ s. s.now) result
         (or_fault ValueFault.WrongType (text_in_json key.now (view value.now))) }
@@ -101,7 +101,7 @@ fn read_text_at<'v>(value: &'v Json, key: &str) -> Result<&'v str, ValueFault>
     }
 }
 
-/// The argument of a call of this name.
+/// Returns the argument of a call of this name.
 #[tactic(auto, unfolding(crate::specs::Typing::plain_call))]
 fn read_plain_call<'v>(value: &'v Json, name: &str) -> Result<&'v str, ValueFault>
     ensures { AlwaysReadsAs (λ s. s.now) result (plain_call name.now (view value.now)) }
@@ -117,7 +117,7 @@ fn read_plain_call<'v>(value: &'v Json, name: &str) -> Result<&'v str, ValueFaul
     Ok(argument)
 }
 
-/// The same, also under `__extn`.
+/// Returns the same, also under `__extn`.
 #[tactic(auto, unfolding(crate::specs::Typing::call_in))]
 fn read_call<'v>(value: &'v Json, name: &str) -> Result<&'v str, ValueFault>
     ensures { AlwaysReadsAs (λ s. s.now) result (call_in name.now (view value.now)) }
@@ -133,7 +133,7 @@ fn read_call<'v>(value: &'v Json, name: &str) -> Result<&'v str, ValueFault>
     }
 }
 
-/// The argument alone, or that of a call.
+/// Returns the argument alone, or that of a call.
 #[tactic(auto, unfolding(crate::specs::Typing::argument_in))]
 fn read_argument<'v>(value: &'v Json, name: &str) -> Result<&'v str, ValueFault>
     ensures { AlwaysReadsAs (λ s. s.now) result (argument_in name.now (view value.now)) }
@@ -166,7 +166,7 @@ fn read_boolean(value: &Json) -> Result<Value, ValueFault>
     }
 }
 
-/// A number of 64 bits, which is within what a Long can be.
+/// Returns a number of 64 bits, which is within what a Long can be.
 fn long_value(number: i64) -> Result<Value, ValueFault>
     ensures { AlwaysReadsAs (λ v. v) result (long_of number) }
 {
@@ -196,7 +196,7 @@ fn read_text(alloc: Global, value: &Json) -> Result<Value, ValueFault>
     }
 }
 
-/// The entity that a value names, which is of this type.
+/// Returns the entity that a value names, which is of this type.
 #[tactic(auto, unfolding(crate::specs::Typing::entity_in))]
 fn read_entity(alloc: Global, value: &Json, name: &TypeName) -> Result<Value, ValueFault>
     ensures { ReadsAs ValueFault.NoMemory (λ v. v) result (entity_in name.now (view value.now)) }
@@ -232,7 +232,8 @@ fn read_network(value: &Json) -> Result<Value, ValueFault>
     }
 }
 
-/// A value that is neither a set nor a record. Reading a boolean, a number, a decimal or an address takes no memory.
+/// Returns a value that is neither a set nor a record. Reading a boolean, a number, a decimal or an address takes no
+/// memory.
 #[tactic(auto, using(crate::proofs::Nothing::always_reads))]
 fn read_leaf(alloc: Global, value: &Json, ty: &CedarType) -> Result<Value, ValueFault>
     ensures reads { ReadsAs ValueFault.NoMemory (λ v. v) result (leaf (cedar_view ty.now) (view value.now)) }
@@ -253,7 +254,7 @@ fn read_leaf(alloc: Global, value: &Json, ty: &CedarType) -> Result<Value, Value
 
 // ---- all values
 
-/// What a fault inside a value makes of the value.
+/// Returns what a fault inside a value makes of the value.
 fn inside(fault: ValueFault) -> ValueFault
     ensures { result ≡ inside_fault fault }
 {
@@ -263,14 +264,14 @@ fn inside(fault: ValueFault) -> ValueFault
     }
 }
 
-/// The value of this type that a JSON value states.
+/// Returns the value of this type that a JSON value states.
 ///
 /// Refused as `WrongType` where it states none: another kind of JSON, a number that is no Long, a text that is no
 /// decimal or address, an entity of another type, a field that the type does not have, or a required one that is
 /// missing. Reading a boolean, a number, a decimal or an address takes no memory.
-#[cycle(typed)]
-#[tactic(auto, unfolding(crate::specs::Typing::typed))]
-fn typed(alloc: Global, value: &Json, ty: &CedarType) -> Result<Value, ValueFault>
+#[cycle(typed_value)]
+#[tactic(auto, unfolding(crate::specs::Typing::typed_value))]
+fn typed_value(alloc: Global, value: &Json, ty: &CedarType) -> Result<Value, ValueFault>
     ensures reads { ReadsAs ValueFault.NoMemory (λ v. v) result (typed_of (cedar_view ty.now) (view value.now)) }
     ensures always { IsInPlace (cedar_view ty.now)
         → AlwaysReadsAs (λ v. v) result (typed_of (cedar_view ty.now) (view value.now)) }
@@ -303,20 +304,20 @@ fn typed(alloc: Global, value: &Json, ty: &CedarType) -> Result<Value, ValueFaul
     }
 }
 
-#[cycle(typed)]
+#[cycle(typed_value)]
 fn typed_items(alloc: Global, items: &Vec<Json>, ty: &CedarType) -> Result<Vec<Value>, ValueFault>
     ensures { ReadsAs ValueFault.NoMemory (λ vs. vs.items) result
         (items_of_type (cedar_view ty.now) (items_view items.now.items)) }
 {
     let mut values = Vec::new(alloc);
     for item in items {
-        let value = typed(alloc, item, ty)?;
+        let value = typed_value(alloc, item, ty)?;
         values.push(value)?;
     }
     Ok(values)
 }
 
-#[cycle(typed)]
+#[cycle(typed_value)]
 fn typed_members(
     alloc: Global,
     members: &Map<String, Json>,
@@ -334,14 +335,14 @@ fn typed_members(
             Some(ty) => ty,
             None => return Err(ValueFault::Undeclared),
         };
-        let value = typed(alloc, member, ty)?;
+        let value = typed_value(alloc, member, ty)?;
         let name = Text::from_str(alloc, name)?;
         record.insert(name, value)?;
     }
     Ok(record)
 }
 
-/// The record of this type that a JSON object states, as attributes and contexts are.
+/// Returns the record of this type that a JSON object states, as attributes and contexts are.
 ///
 /// The first fault is told: of the object's members, ascending by key, that one is `Undeclared` or its value of the
 /// `WrongType`; and then that a required field is `Missing`. No object, or a type that is no record, is `WrongType`.

@@ -14,7 +14,7 @@ use std::alloc::Global;
 use uid_json::entity_value;
 use values::{Kind, Record, Value};
 
-/// A decimal as a call.
+/// Returns a decimal as a call.
 fn decimal_value(alloc: Global, number: &Decimal) -> Result<Json, NoMemory>
     ensures { IfOk result (λ j. view j ≡ call_json (codes "decimal") (decimal_text number.now)) }
 {
@@ -23,7 +23,7 @@ fn decimal_value(alloc: Global, number: &Decimal) -> Result<Json, NoMemory>
     json!(in alloc; {"__extn": {"arg": text.as_str(), "fn": "decimal"}})
 }
 
-/// An address as a call.
+/// Returns an address as a call.
 fn network_value(alloc: Global, network: &IpNet) -> Result<Json, NoMemory>
     ensures { IfOk result (λ j. view j ≡ call_json (codes "ip") (network_text network.now)) }
 {
@@ -32,7 +32,7 @@ fn network_value(alloc: Global, network: &IpNet) -> Result<Json, NoMemory>
     json!(in alloc; {"__extn": {"arg": text.as_str(), "fn": "ip"}})
 }
 
-/// The one JSON of a value. Fails for memory alone.
+/// Returns the one JSON of a value. Fails for memory alone.
 #[cycle(json)]
 fn json_value(alloc: Global, value: &Value) -> Result<Json, NoMemory>
     ensures { IfOk result (λ j. view j ≡ json_of_value value.now) }
@@ -73,7 +73,7 @@ fn json_members(alloc: Global, fields: &Record) -> Result<Json, NoMemory>
     Ok(Json::Object(members))
 }
 
-/// The one JSON of a record. Fails for memory alone.
+/// Returns the one JSON of a record. Fails for memory alone.
 pub fn record_json(alloc: Global, fields: &Record) -> Result<Json, NoMemory>
     ensures { IfOk result (λ j. view j ≡ object (fields_json (fields_of fields.now))) }
 {

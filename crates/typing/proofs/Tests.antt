@@ -344,11 +344,11 @@ module _ (env : Environment) where
 
 -- ---- literals of extensions
 
-abbrev text_at : Expr-F Expr → Option (List ℕ)
-text_at (Expr-F.Literal (literal.Text t)) = Some t
-text_at y = None
+abbrev literal_text : Expr-F Expr → Option (List ℕ)
+literal_text (Expr-F.Literal (literal.Text t)) = Some t
+literal_text y = None
 
-text_from : (x : Expr) (y : Expr-F Expr) → out-Expr x ≡ y → (t : List ℕ) → text_at y ≡ Some t → x ≡ form.Literal (literal.Text t)
+text_from : (x : Expr) (y : Expr-F Expr) → out-Expr x ≡ y → (t : List ℕ) → literal_text y ≡ Some t → x ≡ form.Literal (literal.Text t)
 text_from x (Expr-F.Literal (literal.Text s)) e t h =
     (rebuilt x _ e ∙ form.rolls-Literal (literal.Text s)) ∙ ap (λ s. form.Literal (literal.Text s)) (Some-same h)
 text_from x y e t h = None-Some h
@@ -377,12 +377,12 @@ reads_from unary_call.Ip t h = Literals.reads_address h.1
 reads_from called t h = absurd h
 
 reads_parts : {called : UnaryCall} {x : Expr} {t : StaticType} → ReadsLiteral called x t
-    → (s : List ℕ) × (text_at (out-Expr x) ≡ Some s) × Reads called s × (type_read called ≡ t)
+    → (s : List ℕ) × (literal_text (out-Expr x) ≡ Some s) × Reads called s × (type_read called ≡ t)
 unfolding Reads
-reads_parts (Literals.reads_decimal {t} {z} h) = (t, ap text_at (form.outs-Literal (literal.Text t)), (z, h), refl)
-reads_parts (Literals.reads_address {t} {n} h) = (t, ap text_at (form.outs-Literal (literal.Text t)), (n, h), refl)
+reads_parts (Literals.reads_decimal {t} {z} h) = (t, ap literal_text (form.outs-Literal (literal.Text t)), (z, h), refl)
+reads_parts (Literals.reads_address {t} {n} h) = (t, ap literal_text (form.outs-Literal (literal.Text t)), (n, h), refl)
 
-reading_case : (called : UnaryCall) (x : Expr) (o : Option (List ℕ)) → text_at (out-Expr x) ≡ o
+reading_case : (called : UnaryCall) (x : Expr) (o : Option (List ℕ)) → literal_text (out-Expr x) ≡ o
     → Decided (ReadsLiteral called x (type_read called))
 reading_case called x None e = inr (λ h. let p = reads_parts h in None-Some (sym e ∙ p.1))
 reading_case called x (Some t) e =
@@ -392,7 +392,7 @@ reading_case called x (Some t) e =
     (reads_decided called t)
 
 pub reading_known : (called : UnaryCall) (x : Expr) → Decided (ReadsLiteral called x (type_read called))
-reading_known called x = reading_case called x (text_at (out-Expr x)) refl
+reading_known called x = reading_case called x (literal_text (out-Expr x)) refl
 
 pub reading_type : {called : UnaryCall} {x : Expr} {t : StaticType} → ReadsLiteral called x t → type_read called ≡ t
 reading_type h = (reads_parts h).3

@@ -40,8 +40,8 @@ pub fn something_conforms()
     ensures faulty { SomethingIsFaulty }
 {}
 
-/// That entities conform can be told of each by itself: where each parent of an entity is of a type that its own may be
-/// below, so is each ancestor.
+/// Proves that entities conform can be told of each by itself: where each parent of an entity is of a type that its own
+/// may be below, so is each ancestor.
 pub fn parents_tell_ancestors()
     ensures { ParentsTellAncestors }
 {}

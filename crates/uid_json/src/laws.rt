@@ -4,8 +4,8 @@ ghost use Rattle.uid_json.specs.Laws.{OneUid, OneName, UidsAreFound, WrittenIsRe
 use policy_grammar::texts_have_one_reading;
 use values::paths_are_told;
 
-/// That a JSON value names one entity at most, that `uid_in` finds it, and that a name that was written is read back:
-/// it does nothing, and its clauses are laws of the definitions.
+/// Proves that a JSON value names one entity at most, that `uid_in` finds it, and that a name that was written is read
+/// back: it does nothing, and its clauses are laws of the definitions.
 pub fn names_read_back()
     ensures one { OneUid }
     ensures name { OneName }

@@ -1,7 +1,7 @@
 //! Uids as requests name them: as JSON, or as one text.
 ghost use Rattle.std.specs.Prelude.{◌≢◌, IfOk, OnOk};
 ghost use Rattle.serde_json.specs.View.{view};
-ghost use Rattle.policy_grammar.specs.declared.fault.ReadFault.TheVariants as ReadFault;
+ghost use Rattle.text_trees.specs.declared.fault.ReadFault.TheVariants as ReadFault;
 ghost use Rattle.policy_grammar.specs.PolicyText.{IsUidText};
 ghost use Rattle.uid_json.specs.Uids.{IsRead, NamesEntity};
 
@@ -22,7 +22,7 @@ fn refused(fault: ReadFault) -> Result<(), NoMemory>
     }
 }
 
-/// The uid that a text is.
+/// Returns the uid that a text is.
 fn read_text(alloc: Global, text: &str) -> Result<Option<EntityUid>, NoMemory>
     ensures { IfOk result (IsRead (IsUidText text.now)) }
 {
@@ -36,8 +36,8 @@ fn read_text(alloc: Global, text: &str) -> Result<Option<EntityUid>, NoMemory>
     }
 }
 
-/// The entity that a value names where a text may stand for it, as a request's principal: `User::"alice"` in policy
-/// syntax, or a uid as [`read_uid`] reads it. None where it is neither. Fails for memory alone.
+/// Returns the entity that a value names where a text may stand for it, as a request's principal: `User::"alice"` in
+/// policy syntax, or a uid as [`read_uid`] reads it. None where it is neither. Fails for memory alone.
 pub fn read_name(alloc: Global, value: &Value) -> Result<Option<EntityUid>, NoMemory>
     ensures { IfOk result (IsRead (NamesEntity (view value.now))) }
 {

@@ -10,7 +10,7 @@ use serde_json::{Value, json};
 use std::alloc::Global;
 use values::{EntityUid, SharedText, TypeName};
 
-/// The name that an object of a type and an id states.
+/// Returns the name that an object of a type and an id states.
 fn read_plain_uid(alloc: Global, value: &Value) -> Result<Option<EntityUid>, NoMemory>
     ensures { IfOk result (IsRead (IsPlainUid (view value.now))) }
 {
@@ -30,7 +30,7 @@ fn read_plain_uid(alloc: Global, value: &Value) -> Result<Option<EntityUid>, NoM
     Ok(Some(EntityUid { type_name, id }))
 }
 
-/// The name that a value states in one of the two spellings.
+/// Returns the name that a value states in one of the two spellings.
 #[tactic(auto, using(crate::proofs::UidLemmas::plain, crate::proofs::UidLemmas::under_entity))]
 fn read_either(alloc: Global, value: &Value) -> Result<Option<EntityUid>, NoMemory>
     ensures { IfOk result (IsRead (IsUid (view value.now))) }
@@ -46,8 +46,8 @@ fn read_either(alloc: Global, value: &Value) -> Result<Option<EntityUid>, NoMemo
     }
 }
 
-/// The entity that a value names, as `{"type": .., "id": ..}` or as that under `__entity`, or None where it is no such
-/// name: another shape, another key, or a type that is no Path. Fails for memory alone.
+/// Returns the entity that a value names, as `{"type": .., "id": ..}` or as that under `__entity`, or None where it is
+/// no such name: another shape, another key, or a type that is no Path. Fails for memory alone.
 #[tactic(auto, using(crate::proofs::FoundLemmas::same))]
 pub fn read_uid(alloc: Global, value: &Value) -> Result<Option<EntityUid>, NoMemory>
     ensures names { IfOk result (IsRead (IsUid (view value.now))) }
@@ -57,15 +57,15 @@ pub fn read_uid(alloc: Global, value: &Value) -> Result<Option<EntityUid>, NoMem
     read_either(alloc, value)
 }
 
-/// The name of an entity as JSON: `{"id":"alice","type":"User"}`. Fails for memory alone.
+/// Returns the name of an entity as JSON: `{"id":"alice","type":"User"}`. Fails for memory alone.
 pub fn uid_value(alloc: Global, uid: &EntityUid) -> Result<Value, NoMemory>
     ensures { IfOk result (λ v. view v ≡ uid_json uid.now) }
 {
     json!(in alloc; {"id": uid.id.as_str(), "type": uid.type_name.as_str()})
 }
 
-/// The name of an entity where it stands as a value: `{"__entity":{"id":"alice","type":"User"}}`. Fails for memory
-/// alone.
+/// Returns the name of an entity where it stands as a value: `{"__entity":{"id":"alice","type":"User"}}`. Fails for
+/// memory alone.
 pub fn entity_value(alloc: Global, uid: &EntityUid) -> Result<Value, NoMemory>
     ensures { IfOk result (λ v. view v ≡ entity_json uid.now) }
 {

@@ -24,7 +24,7 @@ pub struct Verdict {
     pub impossible: bool,
 }
 
-/// The first name of a policy that the schema does not know: those of its scope, then those of its conditions.
+/// Returns the first name of a policy that the schema does not know: those of its scope, then those of its conditions.
 fn check_names(schema: &Schema, parts: &[Expr], condition: &Expr) -> Result<(), CheckFault>
     ensures { result ≡ parts_told (schema_view schema.now) parts.now condition.now }
 {
@@ -32,7 +32,7 @@ fn check_names(schema: &Schema, parts: &[Expr], condition: &Expr) -> Result<(), 
     walk(schema, condition)
 }
 
-/// Whether the type that was found is False, or why none was found.
+/// Returns whether the type that was found is False, or why none was found.
 fn told<'a>(found: Result<StaticType<'a>, TypeFault>) -> Result<bool, CheckFault>
     ensures { ReportsFalse found.entry result }
 {
@@ -42,7 +42,7 @@ fn told<'a>(found: Result<StaticType<'a>, TypeFault>) -> Result<bool, CheckFault
     }
 }
 
-/// Whether a policy is False in an environment, or why it has no type there.
+/// Returns whether a policy is False in an environment, or why it has no type there.
 fn is_false_at(
     alloc: Global,
     schema: &Schema,
@@ -65,7 +65,7 @@ fn both(first: bool, second: bool) -> bool
     first && second
 }
 
-/// Whether a policy is False in each environment; the first environment that has a fault tells it.
+/// Returns whether a policy is False in each environment; the first environment that has a fault tells it.
 fn is_false_everywhere(
     alloc: Global,
     schema: &Schema,
@@ -84,8 +84,8 @@ fn is_false_everywhere(
     Ok(all_false)
 }
 
-/// Whether a policy passes under a schema, and whether it can ever be true; or the first cause for which it does not
-/// pass.
+/// Returns whether a policy passes under a schema, and whether it can ever be true; or the first cause for which it
+/// does not pass.
 ///
 /// Refused in this order: a name that is not declared (40, 41), the first in the order of the text, over the whole
 /// policy; then the first fault of typing (42 to 46), in the order of evaluation, in the first environment that has

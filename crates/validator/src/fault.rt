@@ -29,7 +29,7 @@ pub enum CheckFault {
 }
 
 impl CheckFault {
-    /// The number by which the refusal is told.
+    /// Returns the number by which the refusal is told.
     pub fn code(self) -> u8
         ensures { result ≡ code_of self }
     {

@@ -20,14 +20,14 @@ fn is_entity_type(schema: &Schema, name: &TypeName) -> bool
     }
 }
 
-/// Whether an action's type comes before a name.
+/// Returns whether an action's type comes before a name.
 fn is_before(action: &EntityUid, name: &TypeName) -> bool
     ensures { result ≡ is_lt (text_cmp action.now.type_name name.now) }
 {
     action.type_name.cmp(name).is_lt()
 }
 
-/// Whether the action at a place of a list has a type.
+/// Returns whether the action at a place of a list has a type.
 fn has_type_at(actions: &[EntityUid], at: usize, name: &TypeName) -> bool
     ensures { result ≡ type_at name.now (slice_get actions.now at) }
 {
@@ -37,7 +37,7 @@ fn has_type_at(actions: &[EntityUid], at: usize, name: &TypeName) -> bool
     }
 }
 
-/// Whether some action has this type; takes logarithmic time.
+/// Returns whether some action has this type; takes logarithmic time.
 fn is_type_of_action(schema: &Schema, name: &TypeName) -> bool
     ensures { result ≡ is_type_of_action (schema_view schema.now) name.now }
 {
@@ -60,7 +60,7 @@ fn is_declared_action(schema: &Schema, uid: &EntityUid) -> bool
     }
 }
 
-/// A type behind `is`: an entity type, or the type of an action.
+/// Returns a type behind `is`: an entity type, or the type of an action.
 pub(crate) fn check_tested_type(schema: &Schema, name: &TypeName) -> Result<(), CheckFault>
     ensures { result ≡ tested_type_told (schema_view schema.now) name.now }
 {
@@ -88,7 +88,7 @@ fn check_other(schema: &Schema, uid: &EntityUid) -> Result<(), CheckFault>
     Err(CheckFault::UnknownType)
 }
 
-/// An entity that is written out: a declared action, or one of a declared type.
+/// Returns an entity that is written out: a declared action, or one of a declared type.
 pub(crate) fn check_entity(schema: &Schema, uid: &EntityUid) -> Result<(), CheckFault>
     ensures { result ≡ entity_told (schema_view schema.now) uid.now }
 {

@@ -49,7 +49,7 @@ fn of_type_within(
     Expr::is_in(alloc, Expr::Variable(variable), name, uid)
 }
 
-/// What the scope asks of the principal or of the resource.
+/// Returns what the scope asks of the principal or of the resource.
 fn entity_part(alloc: Global, variable: Variable, scope: &EntityScope) -> Result<Expr, NoMemory>
     ensures { IfOk result (λ x. x ≡ entity_part variable scope.now) }
 {
@@ -84,7 +84,7 @@ fn within_list(alloc: Global, uids: &Items<EntityUid>) -> Result<Expr, NoMemory>
     }
 }
 
-/// What the scope asks of the action.
+/// Returns what the scope asks of the action.
 fn action_part(alloc: Global, scope: &ActionScope) -> Result<Expr, NoMemory>
     ensures { IfOk result (λ x. x ≡ action_part scope.now) }
 {
@@ -96,7 +96,7 @@ fn action_part(alloc: Global, scope: &ActionScope) -> Result<Expr, NoMemory>
     }
 }
 
-/// The three parts of a scope, in order.
+/// Returns the three parts of a scope, in order.
 pub(crate) fn parts_of(alloc: Global, scope: &Scope) -> Result<Vec<Expr>, NoMemory>
     ensures { IfOk result (λ parts. parts.items ≡ scope_parts scope.now) }
 {

@@ -28,8 +28,8 @@ fn check_operator(schema: &Schema, operator: &Unary) -> Result<(), CheckFault>
     }
 }
 
-/// The first name of an expression that the schema does not know, whether or not the operand that it stands in is ever
-/// looked at. Takes no memory; its stack grows with the height of the expression.
+/// Returns the first name of an expression that the schema does not know, whether or not the operand that it stands in
+/// is ever looked at. Takes no memory; its stack grows with the height of the expression.
 #[cycle(walk)]
 pub(crate) fn walk(schema: &Schema, expr: &Expr) -> Result<(), CheckFault>
     ensures { result ≡ walk (schema_view schema.now) expr.now }
@@ -70,7 +70,7 @@ pub(crate) fn walk(schema: &Schema, expr: &Expr) -> Result<(), CheckFault>
     }
 }
 
-/// The first of several expressions in turn.
+/// Returns the first of several expressions in turn.
 #[cycle(walk)]
 pub(crate) fn walk_each(schema: &Schema, exprs: &[Expr]) -> Result<(), CheckFault>
     ensures { result ≡ in_turn (map (walk (schema_view schema.now)) exprs.now) }

@@ -1,9 +1,9 @@
 -- The values that borrowed parts are of.
 use Rattle.values.specs.Values.{PlainValue, boolean, long, text, entity, set, record_of, decimal, ipaddr, values_of}
 use Rattle.values.specs.Values.{fields_of}
-use Rattle.values.specs.declared.value.BorrowedKind.{BorrowedKind}
-use Rattle.values.specs.declared.value.BorrowedKind.TheVariants.{Boolean, Long, Text, Entity, Set, Record, Decimal}
-use Rattle.values.specs.declared.value.BorrowedKind.TheVariants.{IpAddr}
+use Rattle.values.specs.declared.value_ref.BorrowedKind.{BorrowedKind}
+use Rattle.values.specs.declared.value_ref.BorrowedKind.TheVariants.{Boolean, Long, Text, Entity, Set, Record, Decimal}
+use Rattle.values.specs.declared.value_ref.BorrowedKind.TheVariants.{IpAddr}
 
 abbrev pub of_borrowed : BorrowedKind → PlainValue
 of_borrowed (Boolean b) = boolean b

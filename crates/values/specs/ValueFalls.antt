@@ -7,7 +7,7 @@ use Rattle.values.specs.Values.{PlainValue, height, heights, field_heights, valu
 use Rattle.values.specs.ValueView.{of_kind, of_entries}
 use Rattle.values.specs.declared.value.Kind.{Kind}
 use Rattle.values.specs.declared.value.Kind.TheVariants.{Boolean, Long, Text, Entity, Set, Record, Decimal, IpAddr}
-use Rattle.values.specs.declared.value.Record.TheDeep.{deep-Kind}
+use Rattle.values.specs.declared.record.Record.TheDeep.{deep-Kind}
 
 pub most_le-heights : (vs : List PlainValue) → most (λ v. height v + 1) vs ≤ heights (values_of vs)
 most_le-heights [] = omega arith

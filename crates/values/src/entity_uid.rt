@@ -18,8 +18,8 @@ pub struct EntityUid {
 }
 
 impl EntityUid {
-    /// The same uid, its texts shared. It takes no memory, and it is `NoMemory` only where the holders of a text are as
-    /// many as can be counted.
+    /// Returns the same uid, its texts shared. It takes no memory, and it is `NoMemory` only where the holders of a
+    /// text are as many as can be counted.
     pub fn copy(&self) -> Result<EntityUid, NoMemory>
         ensures { IfOk result (λ u. u ≡ self.now) }
     {

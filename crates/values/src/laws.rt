@@ -7,7 +7,8 @@ ghost use Rattle.values.specs.Laws.{SetsAreWellFormed, MembersAreWellFormed, Rec
 ghost use Rattle.values.specs.Laws.{FieldsAreWellFormed};
 ghost use Rattle.values.specs.Paths.{IdentTestIsExact, PathTestIsExact};
 
-use crate::value::{Record, Value};
+use crate::record::Record;
+use crate::value::Value;
 
 /// A set is its members: the list of a set ascends strictly, has the members that it was made of, and is the only list
 /// that does. The test for a member and a binary search tell them.

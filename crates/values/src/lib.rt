@@ -7,10 +7,13 @@ mod laws;
 mod name;
 mod orders;
 mod path;
+mod record;
 mod request;
+mod set;
 mod shared_text;
 mod type_name;
 mod value;
+mod value_ref;
 
 pub use entity_uid::EntityUid;
 pub use laws::{
@@ -21,7 +24,10 @@ pub use orders::{
     entity_uids_are_ordered, names_are_ordered, records_are_ordered, requests_are_ordered,
     sets_are_ordered, type_names_are_ordered, values_are_ordered,
 };
+pub use record::Record;
 pub use request::Request;
+pub use set::Set;
 pub use shared_text::SharedText;
 pub use type_name::TypeName;
-pub use value::{BorrowedKind, Kind, Record, Set, Value, ValueRef};
+pub use value::{Kind, Value};
+pub use value_ref::{BorrowedKind, ValueRef};

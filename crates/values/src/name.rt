@@ -17,7 +17,7 @@ pub enum Name {
 }
 
 impl Name {
-    /// The same name, or `NoMemory`.
+    /// Returns the same name, or `NoMemory`.
     pub fn copy(&self) -> Result<Name, NoMemory>
         ensures { IfOk result (λ n. n ≡ self.now) }
     {

@@ -9,9 +9,11 @@ ghost use Rattle.values.specs.ValueOrder.{value_cmp, field_cmp};
 
 use crate::entity_uid::EntityUid;
 use crate::name::Name;
+use crate::record::Record;
 use crate::request::Request;
+use crate::set::Set;
 use crate::type_name::TypeName;
-use crate::value::{Record, Set, Value};
+use crate::value::Value;
 
 /// Type names are compared by their bytes: `cmp` is that order, which is total, and `Equal` only at equal names; `==`
 /// holds exactly at equal values.

@@ -9,14 +9,14 @@ const RESERVED: [&[u8]; 10] = [
     b"true", b"false", b"if", b"then", b"else", b"in", b"is", b"like", b"has", b"__cedar",
 ];
 
-/// Whether no identifier may be this word.
+/// Returns whether no identifier may be this word.
 fn is_reserved(word: &[u8]) -> bool
     ensures { IsTrue result ↔ IsReserved word.now }
 {
     RESERVED.contains(&word)
 }
 
-/// Whether bytes of words are an identifier.
+/// Returns whether bytes of words are an identifier.
 fn is_ident(word: &[u8]) -> bool
     requires { AllAre is_word_byte word.now }
     ensures { IsTrue result ↔ IsIdent word.now }
@@ -27,7 +27,7 @@ fn is_ident(word: &[u8]) -> bool
     }
 }
 
-/// Whether a text is identifiers with `::` between each two.
+/// Returns whether a text is identifiers with `::` between each two.
 pub(crate) fn is_path(text: &[u8]) -> bool
     ensures { IsTrue result ↔ IsPath text.now }
 {

@@ -2,7 +2,7 @@
 ghost use Rattle.std.specs.Prelude.{◌≡◌, IfOk};
 
 use crate::entity_uid::EntityUid;
-use crate::value::Record;
+use crate::record::Record;
 use plain::NoMemory;
 use std::alloc::Global;
 
@@ -22,7 +22,7 @@ pub struct Request {
 }
 
 impl Request {
-    /// The same request, or `NoMemory`.
+    /// Returns the same request, or `NoMemory`.
     pub fn copy(&self, alloc: Global) -> Result<Request, NoMemory>
         ensures { IfOk result (λ q. q ≡ self.now) }
     {

@@ -28,7 +28,7 @@ impl Model for SharedText {
 }
 
 impl SharedText {
-    /// A text of these characters with one holder, or `NoMemory`.
+    /// Returns a text of these characters with one holder, or `NoMemory`.
     pub fn from_str(alloc: Global, content: &str) -> Result<SharedText, NoMemory>
         ensures { IfOk result (λ t. t ≡ content.now) }
     {
@@ -36,7 +36,7 @@ impl SharedText {
         SharedText::from_text(alloc, text)
     }
 
-    /// The text with one holder, without a copy of its characters, or `NoMemory`.
+    /// Returns the text with one holder, without a copy of its characters, or `NoMemory`.
     pub fn from_text(alloc: Global, text: Text) -> Result<SharedText, NoMemory>
         ensures { IfOk result (λ t. t ≡ text) }
     {
@@ -44,22 +44,22 @@ impl SharedText {
         Ok(SharedText { content })
     }
 
-    /// The characters; takes no memory.
+    /// Returns the characters; takes no memory.
     pub fn as_str(&self) -> &str
         ensures { result.now ≡ self.now }
     {
         self.content.get().as_str()
     }
 
-    /// Whether two texts have the same bytes; takes no memory.
+    /// Returns whether two texts have the same bytes; takes no memory.
     pub fn same(&self, other: &SharedText) -> bool
         ensures { IsTrue result ↔ (self.now ≡ other.now) }
     {
         self.as_str() == other.as_str()
     }
 
-    /// The same text for one holder more. It takes no memory, and it is `NoMemory` only where the holders are as many
-    /// as can be counted: 2^64 - 1.
+    /// Returns the same text for one holder more. It takes no memory, and it is `NoMemory` only where the holders are
+    /// as many as can be counted: 2^64 - 1.
     pub fn copy(&self) -> Result<SharedText, NoMemory>
         ensures { IfOk result (λ t. t ≡ self.now) }
     {

@@ -38,7 +38,7 @@ impl Model for TypeName {
 }
 
 impl TypeName {
-    /// The type name that this text is, or None where it is no Path without blanks and comments.
+    /// Returns the type name that this text is, or None where it is no Path without blanks and comments.
     pub fn parse(alloc: Global, text: &str) -> Result<Option<TypeName>, NoMemory>
         ensures { IfOk result (λ o. MatchOption o (IsPath text.now → ⊥) (λ t. IsPath text.now × (t ≡ text.now))) }
     {
@@ -49,8 +49,8 @@ impl TypeName {
         Ok(Some(TypeName { text }))
     }
 
-    /// The type name that these identifiers make, `::` between each two: that of a Path that was read with blanks or
-    /// comments between its words.
+    /// Returns the type name that these identifiers make, `::` between each two: that of a Path that was read with
+    /// blanks or comments between its words.
     pub fn from_words(alloc: Global, words: &[&str]) -> Result<TypeName, NoMemory>
         requires some { 0 < length words.now }
         requires idents { AreIdents (map (λ w. w.now) words.now) }
@@ -78,15 +78,15 @@ impl TypeName {
         Ok(TypeName { text })
     }
 
-    /// The name as a text; takes no memory.
+    /// Returns the name as a text; takes no memory.
     pub fn as_str(&self) -> &str
         ensures { result.now ≡ self.now }
     {
         self.text.as_str()
     }
 
-    /// The same name, its text shared. It takes no memory, and it is `NoMemory` only where the holders of the text are
-    /// as many as can be counted.
+    /// Returns the same name, its text shared. It takes no memory, and it is `NoMemory` only where the holders of the
+    /// text are as many as can be counted.
     pub fn copy(&self) -> Result<TypeName, NoMemory>
         ensures { IfOk result (λ t. t ≡ self.now) }
     {

@@ -15,7 +15,7 @@ use Rattle.written_types.specs.inner.Table.{fits, size_in, written_in, built_of,
 use Rattle.written_types.specs.TableViews.{known_view, knowledge}
 use Rattle.written_types.specs.inner.Rounds.{Adds, KeepsTable, Steps, Rounds}
 use Rattle.written_types.specs.Knowledge.{AreWritten}
-use Rattle.schema_types.specs.Outcome.{SomeHasNoEnd}
+use Rattle.schema_types.specs.Outcome.{SomeStandsForNone}
 use Rattle.schema_types.specs.QualifiedViews.{qualified_view, found_common_view}
 use Rattle.schema_types.specs.declared.qualified.FoundCommon.{FoundCommon}
 use Rattle.json_words.proofs.EachSame.{cut}
@@ -142,13 +142,13 @@ unknown_has_no_size : (known : Knowledge) (q : List ℕ) → known q ≡ None �
 unfolding size_in
 unknown_has_no_size known q none s e = none_some (sym (ap (λ (o : Option KnownType). option_map (λ k. k.size) o) none) ∙ e)
 
-pub no_end : (commons : Declarations) (known : Knowledge) → AreSettled known commons → all_known known commons ≡ false → SomeHasNoEnd commons
-no_end commons known settled lacks =
+pub stands_for_none : (commons : Declarations) (known : Knowledge) → AreSettled known commons → all_known known commons ≡ false → SomeStandsForNone commons
+stands_for_none commons known settled lacks =
     let p = none_of known commons lacks in record {
       name = p.0;
       type = p.1;
       declared = p.2;
-      no_end = λ t w. let s = has_size commons known settled (qualified.common p.0) t w in unknown_has_no_size known p.0 p.3 s.0 s.1;
+      stands_for_none = λ t w. let s = has_size commons known settled (qualified.common p.0) t w in unknown_has_no_size known p.0 p.3 s.0 s.1;
     }
 
 -- ---- what an insertion adds

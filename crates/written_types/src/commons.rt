@@ -20,7 +20,7 @@ use schema_types::{CedarType, FoundCommon, QualifiedType, SchemaFault};
 use std::alloc::Global;
 use std::collections::BTreeMap;
 
-/// A type of a size that was counted, unless it is too large: then nothing is built.
+/// Returns a type of a size that was counted, unless it is too large: then nothing is built.
 #[tactic(auto, using(crate::proofs::Sizes::counted))]
 fn write_within(
     alloc: Global,

@@ -66,7 +66,7 @@ fn add_place(place: Option<usize>, found: &mut Vec<usize>) -> Result<(), NoMemor
     Ok(())
 }
 
-/// The place of each name that is declared; of one that is declared twice, the last.
+/// Returns the place of each name that is declared; of one that is declared twice, the last.
 fn places_of(alloc: Global, commons: &[FoundCommon]) -> Result<BTreeMap<String, usize>, NoMemory>
     ensures { IfOk result (λ places. (q : List ℕ)
         → get_by_text places q ≡ place_of (map found_common_view commons.now) q) }
@@ -79,7 +79,7 @@ fn places_of(alloc: Global, commons: &[FoundCommon]) -> Result<BTreeMap<String, 
     Ok(places)
 }
 
-/// The places of the common types that a type names.
+/// Returns the places of the common types that a type names.
 fn named_in(
     alloc: Global,
     ty: &QualifiedType,
@@ -110,8 +110,8 @@ fn uses_of(
     Ok(edges)
 }
 
-/// The places of common types, each once, and behind those of the common types that it names, but for those that lead
-/// back to it: in this order one round writes out each that has an end.
+/// Returns the places of common types, each once, and behind those of the common types that it names, but for those
+/// that lead back to it: in this order one round writes out each that has an end.
 pub(crate) fn order_of(alloc: Global, commons: &[FoundCommon]) -> Result<Vec<usize>, NoMemory>
     ensures { IfOk result (λ order. IsEndsFirst (uses (map found_common_view commons.now)) order.items) }
 {

@@ -9,7 +9,7 @@ ghost use Rattle.schema_types.specs.QualifiedViews.{qualified_view, qualified_fi
 use crate::{Size, Table};
 use schema_types::QualifiedType;
 
-/// Whether a type of this size is not too large.
+/// Returns whether a type of this size is not too large.
 pub(crate) fn is_within(size: Size) -> bool
     ensures { result ≡ fits (size_view size) }
 {
@@ -55,7 +55,7 @@ fn known_size(name: &str, table: &Table) -> Option<Size>
     }
 }
 
-/// The size of a type, where each common type in it is known.
+/// Returns the size of a type, where each common type in it is known.
 #[cycle(size_of)]
 #[tactic(auto, unfolding(crate::specs::inner::Table::size_in))]
 pub(crate) fn size_of(ty: &QualifiedType, table: &Table) -> Option<Size>

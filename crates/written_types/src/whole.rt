@@ -15,7 +15,7 @@ use crate::write::write;
 use schema_types::{CedarType, QualifiedType, SchemaFault};
 use std::alloc::Global;
 
-/// A type whose common types are all declared, written out in full.
+/// Returns a type whose common types are all declared, written out in full.
 ///
 /// Refused where it is too large.
 pub fn write_whole(

@@ -10,7 +10,7 @@ use plain::{Items, NoMemory, Shared, Text};
 use schema_types::{CedarType, QualifiedType};
 use std::alloc::Global;
 
-/// A known type that is at hand.
+/// Returns a known type that is at hand.
 fn known_type(name: &str, table: &Table) -> Result<Option<CedarType>, NoMemory>
     ensures { IfOk result (λ o. option_map cedar_view o
         ≡ option_and_then (λ k. k.whole) (knowledge table.now name.now)) }
@@ -24,7 +24,7 @@ fn known_type(name: &str, table: &Table) -> Result<Option<CedarType>, NoMemory>
     }
 }
 
-/// A type that is not too large, with each common type in it replaced, where each is at hand.
+/// Returns a type that is not too large, with each common type in it replaced, where each is at hand.
 ///
 /// So nothing that is too large is ever built: whoever calls this has counted before.
 pub(crate) fn write(
@@ -38,7 +38,7 @@ pub(crate) fn write(
     write_type(alloc, ty, table)
 }
 
-/// The type, with each common type in it replaced, where each is at hand.
+/// Returns the type, with each common type in it replaced, where each is at hand.
 #[cycle(write_type)]
 #[tactic(auto, unfolding(crate::specs::inner::Table::written_in))]
 fn write_type(

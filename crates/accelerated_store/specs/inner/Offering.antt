@@ -3,7 +3,7 @@ use Rattle.std.specs.Prelude.{ℕ, List, [], ◌∷◌, Option, Some, None}
 use Rattle.std.specs.List.{flat_map}
 use Rattle.policy_grammar.specs.declared.policy.Policy.{Policy}
 use Rattle.authoriser.specs.Answers.{NamedPolicy}
-use Rattle.accelerated_store.specs.Indexed.{PolicyEntries, policy_at}
+use Rattle.store_index.specs.Indexed.{PolicyEntries, policy_at}
 
 -- the policy under an id, if there is one
 abbrev pub found_at : List ℕ → Option Policy → List NamedPolicy

@@ -10,8 +10,8 @@ use Rattle.std.specs.Borrow.{Bor}
 use Rattle.std.specs.BTreeMap.{BTreeMap, get_by}
 use Rattle.values.specs.declared.entity_uid.EntityUid.{EntityUid}
 use Rattle.values.specs.Names.{uid_cmp}
-use Rattle.ancestor_closure.specs.Hierarchy.{Parents, Path, names}
-use Rattle.ancestor_closure.specs.Decided.{is_same}
+use Rattle.parent_graphs.specs.Hierarchy.{Parents, Path, names}
+use Rattle.parent_graphs.specs.Decided.{is_same}
 
 -- ---- edges turned round
 abbrev pub names_or_none : Option (Vec (Bor EntityUid) Global) → List EntityUid

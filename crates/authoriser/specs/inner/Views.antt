@@ -1,5 +1,6 @@
 -- How the values that the code holds are read by the definitions.
-use Rattle.std.specs.Prelude.{◌≡◌, ◌⊎◌, ℕ, List, map, Contains, Bool, true, false, Option, Some, None, Ok}
+use Rattle.std.specs.Prelude.{◌≡◌, ◌⊎◌, ⊤, ℕ, List, [], map, Contains, Bool, true, false, Option, Some, None, Ok}
+use Rattle.std.specs.Prelude.{MatchOption, option_map}
 use Rattle.std.specs.Borrow.{Bor}
 use Rattle.values.specs.declared.entity_uid.EntityUid.{EntityUid}
 use Rattle.values.specs.declared.request.Request.{Request}
@@ -16,40 +17,61 @@ use Rattle.authoriser.specs.declared.outcome.Outcome.{Outcome}
 use Rattle.authoriser.specs.declared.outcome.Outcome.TheVariants.{Satisfied, NotSatisfied, Errs}
 use Rattle.authoriser.specs.declared.outcome.PolicyError.{PolicyError}
 use Rattle.authoriser.specs.declared.outcome.PolicyError.TheVariants.{TypeError}
-use Rattle.authoriser.specs.declared.with_ancestors.WithAncestors.{WithAncestors}
-use Rattle.authoriser.specs.declared.with_ancestors.RequestAncestors.{RequestAncestors}
+use Rattle.authoriser.specs.declared.request_entities.KnownEntity.{KnownEntity}
+use Rattle.authoriser.specs.declared.request_entities.RequestEntities.{RequestEntities}
 use Rattle.authoriser.specs.declared.tally.Tally.{Tally}
 use Rattle.scope_index.specs.Scopes.{IsEntityScopeTrue, IsActionScopeTrue}
 use Rattle.authoriser.specs.Answers.{PolicyOutcome, fault_of, satisfied, erring}
 
 -- the entity is `of` itself, or `of` is among the ancestors that were looked up
-abbrev pub IsWithin : WithAncestors → EntityUid → Type 0
+abbrev pub IsWithin : KnownEntity → EntityUid → Type 0
 IsWithin p of = (p.uid.now ≡ of) ⊎ Contains (names p.ancestors.items) of
 
 -- its ancestors are all that lie above it, ascending
-pub record HasItsAncestors (parents : Parents) (entity : EntityUid) (p : WithAncestors) : Type 0 where
+pub record HasItsAncestors (parents : Parents) (entity : EntityUid) (p : KnownEntity) : Type 0 where
   pub same : p.uid.now ≡ entity
   pub all : IsAllAbove parents entity (names p.ancestors.items)
   pub ascending : IsAscending (names p.ancestors.items)
 
-pub record HasRequestAncestors (parents : Parents) (q : Request) (s : RequestAncestors) : Type 0 where
+pub record HasRequestAncestors (parents : Parents) (q : Request) (s : RequestEntities) : Type 0 where
   pub principal : HasItsAncestors parents q.principal s.principal
   pub action : HasItsAncestors parents q.action s.action
   pub resource : HasItsAncestors parents q.resource s.resource
 
 -- the ancestors of each of the three are all that lie above it
-pub record AllHaveTheirAncestors (parents : Parents) (s : RequestAncestors) : Type 0 where
+pub record AllHaveTheirAncestors (parents : Parents) (s : RequestEntities) : Type 0 where
   pub principal : HasItsAncestors parents s.principal.uid.now s.principal
   pub action : HasItsAncestors parents s.action.uid.now s.action
   pub resource : HasItsAncestors parents s.resource.uid.now s.resource
 
-pub record AreAscending (s : RequestAncestors) : Type 0 where
+-- its attributes are those that are stored; where none are, it has no parents
+pub record HasItsAttributes (W : World) (entity : EntityUid) (p : KnownEntity) : Type 0 where
+  pub given : option_map (λ r. r.now) p.attributes ≡ W.stored entity
+  pub alone : MatchOption p.attributes (W.parents entity ≡ []) (λ _. ⊤)
+
+pub record HasRequestAttributes (W : World) (q : Request) (s : RequestEntities) : Type 0 where
+  pub principal : HasItsAttributes W q.principal s.principal
+  pub action : HasItsAttributes W q.action s.action
+  pub resource : HasItsAttributes W q.resource s.resource
+
+-- what was looked up for a request's three entities is what the world says of them
+pub record AreLookedUp (W : World) (q : Request) (s : RequestEntities) : Type 0 where
+  pub ancestors : HasRequestAncestors W.parents q s
+  pub attributes : HasRequestAttributes W q s
+
+-- the attributes of each of the three are those that are stored
+pub record AllHaveTheirAttributes (W : World) (s : RequestEntities) : Type 0 where
+  pub principal : HasItsAttributes W s.principal.uid.now s.principal
+  pub action : HasItsAttributes W s.action.uid.now s.action
+  pub resource : HasItsAttributes W s.resource.uid.now s.resource
+
+pub record AreAscending (s : RequestEntities) : Type 0 where
   pub principal : IsAscending (names s.principal.ancestors.items)
   pub action : IsAscending (names s.action.ancestors.items)
   pub resource : IsAscending (names s.resource.ancestors.items)
 
 -- the scope is true, by the ancestors that were looked up
-abbrev pub IsTrueOf : Scope → RequestAncestors → Type 0
+abbrev pub IsTrueOf : Scope → RequestEntities → Type 0
 IsTrueOf scope s =
     IsEntityScopeTrue (IsWithin s.principal) scope.principal s.principal.uid.now
     × IsActionScopeTrue (IsWithin s.action) scope.action s.action.uid.now

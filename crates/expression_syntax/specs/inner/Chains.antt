@@ -5,6 +5,10 @@ use Rattle.token_readers.specs.Reading.{Parser, many, pure, ◌>>=◌}
 use Rattle.expression_trees.specs.declared.tree.ExprTree.{ExprTree}
 use Rattle.expression_syntax.specs.Expressions.{joined}
 
+-- the pieces behind an operand, joined to it
+abbrev pub chained_on : {A : Type 0} → Kinds → Parser A → (ExprTree → List A → ExprTree) → ExprTree → Parser ExprTree
+chained_on ks piece make x = many ks piece >>= (λ more. pure (joined make x more))
+
 abbrev pub chained : {A : Type 0} → Parser ExprTree → Kinds → Parser A → (ExprTree → List A → ExprTree)
     → Parser ExprTree
 chained operand ks piece make = operand >>= (λ x. many ks piece >>= (λ more. pure (joined make x more)))

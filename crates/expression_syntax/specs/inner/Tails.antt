@@ -40,15 +40,15 @@ module _ (may : Bool) (inner : Parser ExprTree) where
     y ← sum may inner
     pure (Some (Compared operator y))
 
-  unfoldable pub typed : Parser (Option Tail)
-  typed = do
+  unfoldable pub type_test : Parser (Option Tail)
+  type_test = do
     token k.Is
     type_name ← path
     y ← maybe_inside may inner
     pure (Some (Is type_name y))
 
   unfoldable pub test_tail : Parser (Option Tail)
-  test_tail = either (only k.Has) has (either (only k.Like) like (either (only k.Is) typed (pure None)))
+  test_tail = either (only k.Has) has (either (only k.Like) like (either (only k.Is) type_test (pure None)))
 
   unfoldable pub tail : Parser (Option Tail)
   tail = either comparisons compared test_tail

@@ -1,11 +1,7 @@
 -- What the parts of the reader tell one another.
-use Rattle.std.specs.Prelude.{◌≡◌, ◌↔◌, ◌&&◌, ◌||◌, ◌==◌, Bool, false, IsTrue, ℕ, ◌≤◌, ◌<◌, List, [], ◌∷◌, length}
-use Rattle.std.specs.Prelude.{slice_get, is_some, find, codes, if◌then◌else◌}
+use Rattle.std.specs.Prelude.{◌≡◌, ◌↔◌, ◌&&◌, ◌||◌, ◌==◌, Bool, false, IsTrue, ℕ, List, [], ◌∷◌}
+use Rattle.std.specs.Prelude.{is_some, find, codes, if◌then◌else◌}
 use Rattle.std.specs.List.{AllByRecursion, flat_map, starts_with}
-use Rattle.policy_tokens.specs.declared.token.Token.{Token}
-use Rattle.policy_tokens.specs.Lexing.{IsLexed, IsSpelledIn, IsBadAt}
-use Rattle.token_readers.specs.declared.fault.SyntaxFault.{SyntaxFault}
-use Rattle.token_readers.specs.declared.fault.SyntaxFault.TheVariants as syntax
 use Rattle.policy_syntax.specs.declared.tree.Condition.{Condition}
 use Rattle.policy_syntax.specs.declared.tree.ConditionWord.{ConditionWord}
 use Rattle.policy_syntax.specs.declared.tree.ConditionWord.TheVariants as word
@@ -17,30 +13,9 @@ use Rattle.desugaring.specs.declared.measure.Measure.{Measure}
 use Rattle.desugaring.specs.Sums.{above}
 use Rattle.policy_grammar.specs.declared.verdict.Verdict.{Verdict}
 use Rattle.policy_grammar.specs.Limits.{IsSmallTree}
-use Rattle.policy_grammar.specs.declared.fault.ReadFault.{ReadFault}
-use Rattle.policy_grammar.specs.declared.fault.ReadFault.TheVariants as fault
-use Rattle.policy_grammar.specs.PolicyText.{byte_of, tree_faults}
+use Rattle.policy_grammar.specs.PolicyText.{tree_faults}
 use Rattle.policy_grammar.specs.CoreOf.{is_id}
 use Rattle.policy_grammar.specs.Repeats.{start_of}
-
--- the tokens of a text that is not too long
-pub record LexedIn (most : ℕ) (text : List ℕ) (tokens : List Token) : Type 0 where
-  pub short : length text ≤ most
-  pub lexed : IsLexed text tokens
-  pub spelled : AllByRecursion (IsSpelledIn text) tokens
-
--- why there are none
-abbrev pub IsUnlexed : ℕ → List ℕ → ReadFault → Type 0
-IsUnlexed most text fault.TooLong = most < length text
-IsUnlexed most text (fault.BadToken at) = (length text ≤ most) × IsBadAt text at
-IsUnlexed most text _ = ⊥
-
--- the refusal that a token's index tells, by the byte at which that token starts
-abbrev pub refusal_of : List ℕ → List Token → SyntaxFault → ReadFault
-refusal_of text tokens syntax.NoMemory = fault.NoMemory
-refusal_of text tokens (syntax.Unexpected place) = fault.Unexpected (byte_of text (slice_get tokens place))
-refusal_of text tokens (syntax.Slot place) = fault.Slot (byte_of text (slice_get tokens place))
-refusal_of text tokens (syntax.TooDeep place) = fault.TooDeep (byte_of text (slice_get tokens place))
 
 -- whether a policy is named by an `@id`
 abbrev pub has_id : List ℕ → PolicyTree → Bool

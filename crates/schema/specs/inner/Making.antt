@@ -1,12 +1,9 @@
 -- What the parts of a schema are made of, as code makes them one after the other.
-use Rattle.std.specs.Prelude.{◌≡◌, ◌↔◌, ⊤, ℕ, List, [], Contains, IsTrue, Bool, Option, Some, None, option_map}
-use Rattle.std.specs.List.{list_any}
-use Rattle.std.specs.Ordering.{is_eq}
+use Rattle.std.specs.Prelude.{◌≡◌, ⊤, ℕ, List, Contains, Option, Some, None, option_map}
 use Rattle.std.specs.BTreeMap.{BTreeMap, get}
-use Rattle.std.specs.BTreeSet.{BTreeSet, contains}
 use Rattle.values.specs.declared.entity_uid.EntityUid.{EntityUid}
 use Rattle.values.specs.Names.{uid_cmp, text_cmp}
-use Rattle.ancestor_closure.specs.Hierarchy.{Parents, Above, IsAllAbove, IsAscending}
+use Rattle.ancestor_closure.specs.Hierarchy.{Parents, IsAllAbove, IsAscending}
 use Rattle.schema_types.specs.Qualified.{Qualified}
 use Rattle.schema_types.specs.Cedar.{Cedar}
 use Rattle.schema_types.specs.CedarViews.{cedar_view}
@@ -19,7 +16,7 @@ use Rattle.schema_names.specs.Qualifying.{FoundEntityType, FoundUse, FoundAction
 use Rattle.schema_parts.specs.declared.parts.Place.{Place}
 use Rattle.schema_parts.specs.declared.parts.EntityDecl.{EntityDecl}
 use Rattle.schema_parts.specs.Places.{place_cmp, place_of}
-use Rattle.schema.specs.Schemas.{type_uid, IsRecordOf, IsWritten}
+use Rattle.schema.specs.Schemas.{IsRecordOf, IsWritten}
 use Rattle.schema.specs.inner.Filling.{Adds, AddsEach, SomeMay, SomeMust, AllTold}
 
 -- ---- types, written out
@@ -166,13 +163,3 @@ AddsAllAncestors parents us old new =
 abbrev pub AreAncestors : Parents → List FoundAction → BTreeMap EntityUid (List EntityUid) → Type 0
 AreAncestors parents us ancestors =
     AddsEach (AncestorsMay parents) AncestorsMust (λ a. ⊤) us (λ u. None) (get uid_cmp ancestors)
-
--- each parent of a type is a type
-abbrev pub AreTypes : Parents → Type 0
-AreTypes parents = (u a : EntityUid) → Contains (parents u) a → a.id ≡ []
-
-abbrev pub IsTypesAbove : Parents → List ℕ → BTreeSet (List ℕ) → Type 0
-IsTypesAbove parents n s = (q : List ℕ) → IsTrue (contains text_cmp s q) ↔ Above parents (type_uid q) (type_uid n)
-
-abbrev pub has_type : List EntityUid → List ℕ → Bool
-has_type us q = list_any (λ u. is_eq (text_cmp u.type_name q)) us

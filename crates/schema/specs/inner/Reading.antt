@@ -16,7 +16,7 @@ use Rattle.schema.specs.declared.reading.Types.{Types}
 use Rattle.schema.specs.declared.reading.Hierarchies.{Hierarchies}
 use Rattle.schema.specs.Schemas.{action_parents, type_parents, SomeActionIsOnCycle, place_cmp}
 use Rattle.schema.specs.inner.Making.{AreShapes, ArePlaces, Places, AreAncestors}
-use Rattle.schema.specs.inner.Lines.{AreLines}
+use Rattle.schema.specs.inner.Numbering.{AreNumbers}
 
 -- these are the edges of the actions, and none is above itself
 pub record AreEdges (s : FoundSchema) (parents : Parents) : Type 0 where
@@ -45,4 +45,4 @@ pub record AreHierarchiesOf (s : FoundSchema) (h : Hierarchies) : Type 0 where
   pub ancestors : AreAncestors (action_parents s) s.actions h.ancestors
   pub actions : h.actions ≡ keys h.ancestors
   pub ascending : IsAscending (keys h.ancestors)
-  pub lines : AreLines (type_parents s) s.entity_types h.lines
+  pub types : AreNumbers (type_parents s) s.entity_types h.types

@@ -10,8 +10,8 @@ use Rattle.schema.specs.Schemas.{StatedSchema}
 use Rattle.entity_worlds.specs.declared.entity.Entity.{Entity}
 use Rattle.entities.specs.Canonical.{canonical_text}
 use Rattle.entities.specs.Entities.{entity_stated_in}
-use Rattle.stamped_store.specs.declared.entry.ReadText.{ReadText}
-use Rattle.stamped_store.specs.declared.entry.Stamp.{Stamp}
+use Rattle.stamped_entries.specs.declared.entry.ReadText.{ReadText}
+use Rattle.stamped_entries.specs.declared.entry.Stamp.{Stamp}
 use Rattle.stamped_store.specs.Greatest.{greatest_count}
 use Rattle.stamped_store.specs.Store.{Store, entity_name, issue}
 use Rattle.stored_texts.specs.passed_on.validator.{IsImpossible}

@@ -6,7 +6,7 @@ use Rattle.std.specs.FinMap.Entries.{is_sorted}
 use Rattle.json.specs.Written.{Written}
 use Rattle.values.specs.declared.name.Name.{Name}
 use Rattle.values.specs.Names.{name_cmp}
-use Rattle.stamped_store.specs.declared.entry.Entry.{Entry}
+use Rattle.stamped_entries.specs.declared.entry.Entry.{Entry}
 use Rattle.stamped_store.specs.Abstraction.{abstract_entries}
 use Rattle.stamped_store.specs.Deltas.{Summary}
 use Rattle.stamped_store.specs.Store.{Update}

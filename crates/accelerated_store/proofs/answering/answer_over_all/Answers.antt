@@ -7,6 +7,6 @@ use Rattle.accelerated_store.proofs.answering.answer_over_all.Goals as goal
 
 pub returns : goal.returns
 returns g c =
-    over_same c.decide.result (world_of (g.L.Lookup.stored c.args.lookup.now) (g.L.Ancestry.parents c.args.lookup.now)) c.args.request.now
+    over_same c.decide_known.result (world_of (g.L.Lookup.stored c.args.known.now.0) (g.L.Ancestry.parents c.args.known.now.0)) c.args.known.now.1
     (named c.deref.result.now) (policies_read c.args.store.now.policies)
-    (ap named c.deref.ensures.value ∙ c.in_ok-policies.ensures.read) c.decide.ensures
+    (ap named c.deref.ensures.value ∙ c.in_ok-policies.ensures.read) c.decide_known.ensures

@@ -5,6 +5,6 @@ use Rattle.accelerated_store.proofs.answering.answer_over_candidates.Goals as go
 
 pub returns : goal.returns
 returns g c =
-    over_candidates c.decide.result (world_of (g.L.Lookup.stored c.args.lookup.now) (g.L.Ancestry.parents c.args.lookup.now))
-    (g.L.Ancestry.above c.args.lookup.now) (g.met.L.Ancestry.above_is c.args.lookup.now) c.candidates_suffice.ensures c.args.request.now
-    c.args.store.now (named c.args.policies.now) c.is_in_order.ensures c.requires.candidates c.requires.ascending c.decide.ensures
+    over_candidates c.decide_known.result (world_of (g.L.Lookup.stored c.args.known.now.0) (g.L.Ancestry.parents c.args.known.now.0))
+    (g.L.Ancestry.above c.args.known.now.0) (g.met.L.Ancestry.above_is c.args.known.now.0) c.candidates_suffice.ensures c.args.known.now.1
+    c.args.store.now (named c.args.policies.now) c.is_in_order.ensures c.requires.candidates c.requires.ascending c.decide_known.ensures

@@ -5,7 +5,7 @@ use Rattle.std.specs.Option.{option_copied}
 use Rattle.std.proofs.lemmas.List.{take_more}
 use Rattle.scope_index.specs.Keys.{texts}
 use Rattle.authoriser.specs.Views.{named}
-use Rattle.accelerated_store.specs.Indexed.{policy_at}
+use Rattle.store_index.specs.Indexed.{policy_at}
 use Rattle.accelerated_store.specs.inner.Offering.{found_under}
 use Rattle.accelerated_store.proofs.Found.{more_found, none_more}
 use Rattle.accelerated_store.proofs.offering.policies_under.Goals as goal

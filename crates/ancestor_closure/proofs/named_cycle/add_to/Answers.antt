@@ -1,7 +1,7 @@
 use Rattle.std.proofs.Common.{◌∙◌, ap, ◌++◌, ◌∷◌, []}
-use Rattle.ancestor_closure.specs.Hierarchy.{names}
+use Rattle.parent_graphs.specs.Hierarchy.{names}
 use Rattle.ancestor_closure.specs.inner.Backwards.{children_of}
-use Rattle.ancestor_closure.proofs.Members.{names-push}
+use Rattle.parent_graphs.proofs.Members.{names-push}
 use Rattle.ancestor_closure.proofs.Turned.{children_of-put, one_child_more}
 use Rattle.ancestor_closure.proofs.named_cycle.add_to.Goals as goal
 

@@ -1,8 +1,8 @@
 use Rattle.std.proofs.Common.{[], ◌∷◌, ◌++◌, take, ap, sym, subst, ◌∙◌}
 use Rattle.std.proofs.lemmas.List.{take_more, take_all}
-use Rattle.ancestor_closure.specs.Hierarchy.{names}
+use Rattle.parent_graphs.specs.Hierarchy.{names}
 use Rattle.ancestor_closure.specs.inner.Backwards.{AddsChild, AreChildrenAmong, children_of}
-use Rattle.ancestor_closure.proofs.Members.{names-push}
+use Rattle.parent_graphs.proofs.Members.{names-push}
 use Rattle.ancestor_closure.proofs.Turned.{Among-more}
 use Rattle.ancestor_closure.proofs.named_cycle.children_among.Goals as goal
 

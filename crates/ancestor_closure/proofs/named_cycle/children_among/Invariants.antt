@@ -1,5 +1,5 @@
 use Rattle.std.proofs.Common.{take}
-use Rattle.ancestor_closure.specs.Hierarchy.{names}
+use Rattle.parent_graphs.specs.Hierarchy.{names}
 use Rattle.ancestor_closure.specs.inner.Backwards.{AreChildrenAmong, children_of}
 use Rattle.ancestor_closure.proofs.named_cycle.children_among.Given as goal
 

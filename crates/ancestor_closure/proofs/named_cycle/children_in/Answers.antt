@@ -1,5 +1,5 @@
 use Rattle.std.proofs.Common.{◌∙◌, ap}
-use Rattle.ancestor_closure.specs.Hierarchy.{names}
+use Rattle.parent_graphs.specs.Hierarchy.{names}
 use Rattle.ancestor_closure.specs.inner.Backwards.{children_of}
 use Rattle.ancestor_closure.proofs.Turned.{all_children}
 use Rattle.ancestor_closure.proofs.named_cycle.children_in.Goals as goal

@@ -1,9 +1,9 @@
 use Rattle.std.proofs.Common.{◌≡◌, ◌+◌, ◌<◌, [], sym, subst, ◌∙◌, arith, vec_len}
 use Rattle.std.specs.BTreeMap.{btree_map_len}
 use Rattle.std.proofs.lemmas.Bool.Decides.{nat_tests}
-use Rattle.ancestor_closure.specs.Hierarchy.{names}
+use Rattle.parent_graphs.specs.Hierarchy.{names}
 use Rattle.ancestor_closure.specs.inner.Backwards.{dist_of, children_of, is_child_of, Reaches}
-use Rattle.ancestor_closure.proofs.Members.{names-none, length-names}
+use Rattle.parent_graphs.proofs.Members.{names-none, length-names}
 use Rattle.ancestor_closure.proofs.Levels.{none_from_test, Reaching-step, not_on_cycle, level_is, adds_level, IsLevel-step}
 use Rattle.ancestor_closure.proofs.named_cycle.distances.Goals as goal
 

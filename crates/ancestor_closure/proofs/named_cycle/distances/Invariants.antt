@@ -1,6 +1,6 @@
 use Rattle.std.proofs.Common.{◌-◌, ◌^◌, ◌≤◌, ◌<◌}
 use Rattle.std.specs.BTreeMap.{btree_map_len}
-use Rattle.ancestor_closure.specs.Hierarchy.{names}
+use Rattle.parent_graphs.specs.Hierarchy.{names}
 use Rattle.ancestor_closure.specs.inner.Backwards.{dist_of}
 use Rattle.ancestor_closure.proofs.Levels.{Reaching, IsLevel}
 use Rattle.ancestor_closure.proofs.named_cycle.distances.Given as goal

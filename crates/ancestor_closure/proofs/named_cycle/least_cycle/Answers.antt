@@ -1,5 +1,5 @@
 use Rattle.std.proofs.Common.{sym, subst}
-use Rattle.ancestor_closure.specs.Hierarchy.{names, AreOnCycles}
+use Rattle.parent_graphs.specs.Hierarchy.{names, AreOnCycles}
 use Rattle.ancestor_closure.proofs.named_cycle.least_cycle.Goals as goal
 
 pub least_cycle_among-requires-clause-all : goal.least_cycle_among-requires-clause-all

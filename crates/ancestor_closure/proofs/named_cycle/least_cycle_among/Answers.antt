@@ -1,7 +1,7 @@
 use Rattle.std.proofs.Common.{subst}
 use Rattle.std.specs.Prelude.{Contains}
-use Rattle.ancestor_closure.specs.Hierarchy.{names}
-use Rattle.ancestor_closure.specs.Deciding.{Contains-none}
+use Rattle.parent_graphs.specs.Hierarchy.{names}
+use Rattle.parent_graphs.specs.Deciding.{Contains-none}
 use Rattle.ancestor_closure.proofs.First.{none_first, first_in, first_least, cycle_from_walk}
 use Rattle.ancestor_closure.proofs.named_cycle.least_cycle_among.Goals as goal
 

@@ -1,9 +1,9 @@
 use Rattle.std.proofs.Common.{[], ◌∷◌, ◌++◌, take, ap, sym, ◌∙◌}
 use Rattle.std.specs.BTreeMap.{btree_map_len}
 use Rattle.std.proofs.lemmas.List.{take_more}
-use Rattle.ancestor_closure.specs.Hierarchy.{names}
+use Rattle.parent_graphs.specs.Hierarchy.{names}
 use Rattle.ancestor_closure.specs.inner.Backwards.{dist_of, children_of}
-use Rattle.ancestor_closure.proofs.Members.{names-push}
+use Rattle.parent_graphs.proofs.Members.{names-push}
 use Rattle.ancestor_closure.proofs.Reached.{Reaches-children}
 use Rattle.ancestor_closure.proofs.named_cycle.next_level.Goals as goal
 

@@ -1,6 +1,6 @@
 use Rattle.std.proofs.Common.{take, []}
 use Rattle.std.specs.BTreeMap.{btree_map_len}
-use Rattle.ancestor_closure.specs.Hierarchy.{names}
+use Rattle.parent_graphs.specs.Hierarchy.{names}
 use Rattle.ancestor_closure.specs.inner.Backwards.{Reaches, is_child_of, children_of, dist_of}
 use Rattle.ancestor_closure.proofs.named_cycle.next_level.Given as goal
 

@@ -1,10 +1,10 @@
 use Rattle.std.proofs.Common.{◌+◌, [], ◌∷◌, ◌++◌, take, ap, sym, ◌∙◌, cond, is_some}
 use Rattle.std.specs.BTreeMap.{btree_map_len}
 use Rattle.std.proofs.lemmas.List.{take_more}
-use Rattle.ancestor_closure.specs.Hierarchy.{names}
+use Rattle.parent_graphs.specs.Hierarchy.{names}
 use Rattle.ancestor_closure.specs.inner.Backwards.{dist_of}
 use Rattle.ancestor_closure.proofs.Levels.{none_from_test}
-use Rattle.ancestor_closure.proofs.Members.{names-push}
+use Rattle.parent_graphs.proofs.Members.{names-push}
 use Rattle.ancestor_closure.proofs.Reached.{Reaches-seen, Reaches-new, dist_of-insert}
 use Rattle.ancestor_closure.proofs.named_cycle.reach.Goals as goal
 use Rattle.ancestor_closure.proofs.named_cycle.reach.Goals.{then-not-contains_key+in_ok-insert+in_ok-push, else-not-contains_key}

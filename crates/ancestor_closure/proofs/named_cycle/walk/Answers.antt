@@ -1,7 +1,7 @@
 use Rattle.std.proofs.Common.{◌≡◌, ◌+◌, ◌-◌, Some, ap, subst, arith}
-use Rattle.ancestor_closure.specs.Hierarchy.{names}
+use Rattle.parent_graphs.specs.Hierarchy.{names}
 use Rattle.ancestor_closure.specs.inner.Backwards.{dist_of, IsLeastAt}
-use Rattle.ancestor_closure.proofs.Members.{names-push}
+use Rattle.parent_graphs.proofs.Members.{names-push}
 use Rattle.ancestor_closure.proofs.Walks.{Walking, Walking-step, Walking-end, IsLeastAt-there, dist_pos}
 use Rattle.ancestor_closure.proofs.named_cycle.walk.Goals as goal
 

@@ -1,4 +1,4 @@
-use Rattle.ancestor_closure.specs.Hierarchy.{names}
+use Rattle.parent_graphs.specs.Hierarchy.{names}
 use Rattle.ancestor_closure.specs.inner.Backwards.{dist_of}
 use Rattle.ancestor_closure.proofs.Walks.{Walking}
 use Rattle.ancestor_closure.proofs.named_cycle.walk.Given as goal

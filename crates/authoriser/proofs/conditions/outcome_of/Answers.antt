@@ -13,12 +13,12 @@ returns-then-is_scope_true g c =
     let q = c.args.request.now in
     let policy = c.args.policy.now in
     IfOk-weaker c.outcome_of_condition.result (ConditionEvaluatesTo W q policy.condition) (PolicyEvaluatesTo W q policy)
-    (λ o comes. true_scope c.scopes_do_not_err.ensures.leaves W q c.args.request_ancestors.now policy o c.requires (c.if-is_scope_true.ensures.0 refl) comes)
+    (λ o comes. true_scope c.scopes_do_not_err.ensures.leaves W q c.args.entities.now policy o c.requires (c.if-is_scope_true.ensures.0 refl) comes)
     c.outcome_of_condition.ensures
 
 pub returns-else-is_scope_true : goal.returns-else-is_scope_true
 returns-else-is_scope_true g c =
     let store = c.args.store.now in
     let W = world_of (g.L.Lookup.stored store) (g.L.Ancestry.parents store) in
-    other_scope c.scopes_do_not_err.ensures.idle W (g.L.Ancestry.above store) (g.met.L.Ancestry.above_is store) c.args.request.now c.args.request_ancestors.now c.args.policy.now c.requires
+    other_scope c.scopes_do_not_err.ensures.idle W (g.L.Ancestry.above store) (g.met.L.Ancestry.above_is store) c.args.request.now c.args.entities.now c.args.policy.now c.requires
     (λ h. let t = c.if-is_scope_true.ensures.1 h in cc t)

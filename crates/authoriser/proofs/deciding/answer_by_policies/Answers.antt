@@ -9,8 +9,8 @@ use Rattle.authoriser.proofs.deciding.answer_by_policies.Goals as goal
 
 pub returns : goal.returns
 returns g c =
-    let W = world_of (g.L.Lookup.stored c.args.store.now) (g.L.Ancestry.parents c.args.store.now) in
-    let q = c.args.request.now in
+    let k = c.args.known.now in
+    let W = world_of (g.L.Lookup.stored k.0) (g.L.Ancestry.parents k.0) in
     let ps = named c.args.policies.now in
-    let told = subst (λ k. IfOk c.answer_by_known.result (λ a. (js : List PolicyOutcome) × ArePolicyOutcomes (world_of (g.L.Lookup.stored k.0) (g.L.Ancestry.parents k.0)) q ps js × (a ≡ answer_by js))) c.in_ok-known.ensures c.answer_by_known.ensures in
-    IfOk-weaker c.answer_by_known.result _ (λ a. IsAnswer W q ps a) (λ a h. by_policies W q ps a c.requires h) told
+    let told = subst (λ q. IfOk c.answer_by_known.result (λ a. (js : List PolicyOutcome) × ArePolicyOutcomes W q ps js × (a ≡ answer_by js))) c.request.ensures c.answer_by_known.ensures in
+    IfOk-weaker c.answer_by_known.result _ (λ a. IsAnswer W k.1 ps a) (λ a h. by_policies W k.1 ps a c.requires h) told

@@ -7,7 +7,7 @@ use Rattle.authoriser.proofs.scopes.is_within_any.Goals as goal
 
 pub loop-entity-preserved : goal.loop-entity-preserved
 loop-entity-preserved c =
-    none_before (IsWithin c.args.placed.now) c.args.entities.now c.loop-entity.entity-index c.entity-item.result c.loop-entity-test.true c.entity-item.is
+    none_before (IsWithin c.args.known.now) c.args.entities.now c.loop-entity.entity-index c.entity-item.result c.loop-entity-test.true c.entity-item.is
     (λ w. cc (c.if-is_within.ensures.1 w)) c.loop-entity.invariant
 
 pub returns : goal.returns

@@ -14,8 +14,8 @@ use Rattle.desugaring.specs.Strings.{pattern_of}
 use Rattle.desugaring.specs.Meaning.{path_name, name_of, sign_of}
 use Rattle.desugaring.specs.Core.{core_of, negated, field, in_entry, in_term, in_access, added, accessed, joined_by, compared, called, method_called, function}
 use Rattle.desugaring.specs.Names.{method_of}
-use Rattle.desugaring.specs.declared.leaves.Chain.{Chain}
-use Rattle.desugaring.specs.declared.leaves.Chain.TheVariants as chain
+use Rattle.desugaring.specs.declared.forms.Chain.{Chain}
+use Rattle.desugaring.specs.declared.forms.Chain.TheVariants as chain
 use Rattle.policy_tokens.specs.Lexing.{spelling_of}
 use Rattle.desugaring.specs.inner.WellFormed.{WellFormed, AllWellFormed, WellFormedEntry, WellFormedTerm, WellFormedAccess}
 use Rattle.desugaring.specs.inner.Giving.{Gave}

@@ -13,4 +13,4 @@ pub returns-clause-one_schema : goal.returns-clause-one_schema
 returns-clause-one_schema c = one_schema c.one_written.ensures c.files_are_in_order.ensures.once c.ascending_lists_are_one.ensures c.one_file.ensures
 
 pub returns-clause-some_outcome : goal.returns-clause-some_outcome
-returns-clause-some_outcome c = some_outcome c.some_outcome.ensures c.files_are_in_order.ensures.once c.files_name_their_own.ensures c.types_end_or_not.ensures c.paths_are_decided.ensures
+returns-clause-some_outcome c = some_outcome c.some_outcome.ensures c.files_are_in_order.ensures.once c.files_name_their_own.ensures c.types_stand_for_one_or_some_for_none.ensures c.paths_are_decided.ensures

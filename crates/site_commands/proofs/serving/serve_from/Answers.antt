@@ -7,8 +7,8 @@ use Rattle.site_commands.proofs.serving.serve_from.Goals as goal
 
 pub returns-in-Ok : goal.returns-in-Ok
 returns-in-Ok g c =
-    runs_as g.H.Host.does _ _ _ _ (λ events told. inl (c.in-Ok.site, c.in-Ok.ensures.begun, told))
-    (rw c.most_of.ensures at c.serve_at.ensures)
+    runs_as g.H.Host.does _ _ _ _ (λ events told. inl (c.in-Ok.begun, c.in-Ok.ensures.begun, told))
+    (rw c.most_of.ensures at c.serve_begun.ensures)
 
 pub returns-in-Err : goal.returns-in-Err
 returns-in-Err g c =

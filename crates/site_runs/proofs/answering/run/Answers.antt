@@ -18,13 +18,13 @@ loop-input-preserved c =
     let n = c.args.site.now.name in
     let s = store_in c.args.site.now in
     let m = store_in c.loop-input.site in
-    let t = store_in c.apply-reply.new.site in
+    let t = store_in c.reply_to-reply.new.site in
     let replies = c.loop-input.replies.items in
-    let reply = c.apply-reply.result in
+    let reply = c.reply_to-reply.result in
     let items = c.in_default.ensures.items in
     let input = c.input-item.result in
     let step : Step a n m input reply t = same_step (schema_of c.loop-input.site) a c.loop-input.site.name n m input
-    reply t (ap schema_view i.same.0) i.same.1 c.apply-reply.ensures.step in
+    reply t (ap schema_view i.same.0) i.same.1 c.reply_to-reply.ensures.step in
     let grown = run_push a n s (take c.loop-input.input-index inputs) replies m input reply t i.run step in
     let first : take (c.loop-input.input-index + 1) inputs ≡ take c.loop-input.input-index inputs ++ input ∷ [] =
     take_more inputs c.loop-input.input-index input (omega arith)
@@ -32,7 +32,7 @@ loop-input-preserved c =
     record {
       room = omega arith;
       count = omega (arith, length-append replies (reply ∷ []), ap length items);
-      same = (c.apply-reply.ensures.same.0 ∙ i.same.0, c.apply-reply.ensures.same.1 ∙ i.same.1);
+      same = (c.reply_to-reply.ensures.same.0 ∙ i.same.0, c.reply_to-reply.ensures.same.1 ∙ i.same.1);
       run = subst (λ (is : List Input). Run a n s is c.push.new.self.items t) (sym first)
           (subst (λ (rs : List Reply). Run a n s (take c.loop-input.input-index inputs ++ input ∷ []) rs t) (sym items)
           grown);

@@ -1,6 +1,7 @@
 use Rattle.schema.specs.Views.{schema_view}
 use Rattle.site_runs.proofs.RunLemmas.{texts_of, texts_are_one}
-use Rattle.site_runs.proofs.OneOutcome.{MessagesAreOne, LawsOfOne, one_step}
+use Rattle.site_runs.proofs.OneAnswered.{MessagesAreOne}
+use Rattle.site_runs.proofs.OneOutcome.{LawsOfOne, one_step}
 use Rattle.site_runs.proofs.SomeOutcome.{LawsOfStores, LawsOfSome, some_step}
 use Rattle.site_runs.proofs.laws.inputs_have_one_outcome.Goals as goal
 

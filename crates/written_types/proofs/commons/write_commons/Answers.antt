@@ -3,12 +3,12 @@ use Rattle.written_types.specs.Knowledge.{IsTable}
 use Rattle.written_types.specs.TableViews.{knowledge}
 use Rattle.schema_types.specs.QualifiedViews.{found_common_view}
 use Rattle.schema_types.specs.Outcome.{cycle}
-use Rattle.written_types.proofs.Rounds.{are_written, no_end}
+use Rattle.written_types.proofs.Rounds.{are_written, stands_for_none}
 use Rattle.written_types.proofs.commons.write_commons.Goals as goal
 
 pub returns-then-not-are_all_known : goal.returns-then-not-are_all_known
 returns-then-not-are_all_known c other =
-    cycle (no_end (map found_common_view c.args.commons.now) (knowledge c.has_grown.new.table) (c.in_ok-has_grown.ensures.settled c.if-branch.false) (sym c.if-not-are_all_known.ensures))
+    cycle (stands_for_none (map found_common_view c.args.commons.now) (knowledge c.has_grown.new.table) (c.in_ok-has_grown.ensures.settled c.if-branch.false) (sym c.if-not-are_all_known.ensures))
 
 pub returns : goal.returns
 returns c =

@@ -9,7 +9,7 @@ use Rattle.authoriser.proofs.known.KnownAncestry.ancestors.Goals as goal
 
 pub returns-in-Some-clause-all : goal.returns-in-Some-clause-all
 returns-in-Some-clause-all g c =
-    let placed = c.in-Some.ensures (g.L.Ancestry.parents c.self.inside.store.now) (all_placed _ _ _ c.self.invariant) in
+    let placed = c.in-Some.ensures.ancestors (g.L.Ancestry.parents c.self.inside.store.now) (all_placed _ _ _ c.self.invariant.ancestors) in
     IfOk-weaker c.copied.result (λ v. v.items ≡ c.deref.result.now) (λ v. IsAllAbove (g.L.Ancestry.parents c.args.self.now.0) c.args.uid.now (names v.items))
     (λ v e. subst (λ s. IsAllAbove (g.L.Ancestry.parents s.0) c.args.uid.now (names v.items)) c.self.view_is
     (subst (λ (us : List (Bor EntityUid)). IsAllAbove (g.L.Ancestry.parents c.self.inside.store.now) c.args.uid.now (names us)) (sym (e ∙ c.deref.ensures.value)) placed.all))
@@ -17,7 +17,7 @@ returns-in-Some-clause-all g c =
 
 pub returns-in-Some-clause-ascending : goal.returns-in-Some-clause-ascending
 returns-in-Some-clause-ascending g c =
-    let placed = c.in-Some.ensures (g.L.Ancestry.parents c.self.inside.store.now) (all_placed _ _ _ c.self.invariant) in
+    let placed = c.in-Some.ensures.ancestors (g.L.Ancestry.parents c.self.inside.store.now) (all_placed _ _ _ c.self.invariant.ancestors) in
     IfOk-weaker c.copied.result (λ v. v.items ≡ c.deref.result.now) (λ v. IsAscending (names v.items))
     (λ v e. subst (λ (us : List (Bor EntityUid)). IsAscending (names us)) (sym (e ∙ c.deref.ensures.value)) placed.ascending)
     c.copied.ensures

@@ -8,12 +8,12 @@ use Rattle.authoriser.proofs.known.KnownAncestry.is_ancestor.Goals as goal
 
 pub is_among-requires : goal.is_among-requires
 is_among-requires g c =
-    let placed = c.in-Some.ensures (g.L.Ancestry.parents c.self.inside.store.now) (all_placed _ _ _ c.self.invariant) in
+    let placed = c.in-Some.ensures.ancestors (g.L.Ancestry.parents c.self.inside.store.now) (all_placed _ _ _ c.self.invariant.ancestors) in
     subst (λ (us : List (Bor EntityUid)). IsAscending (names us)) (sym c.deref.ensures.value) placed.ascending
 
 pub returns-in-Some : goal.returns-in-Some
 returns-in-Some g c =
-    let placed = c.in-Some.ensures (g.L.Ancestry.parents c.self.inside.store.now) (all_placed _ _ _ c.self.invariant) in
+    let placed = c.in-Some.ensures.ancestors (g.L.Ancestry.parents c.self.inside.store.now) (all_placed _ _ _ c.self.invariant.ancestors) in
     let among = subst (λ (us : List (Bor EntityUid)). IsTrue c.is_among.result ↔ Contains (names us) c.args.a.now) c.deref.ensures.value c.is_among.ensures in
     subst (λ s. IsTrue c.is_among.result ↔ Above (g.L.Ancestry.parents s.0) c.args.a.now c.args.b.now) c.self.view_is
     (λ t. (placed.all c.args.a.now).0 (among.0 t), λ above. among.1 ((placed.all c.args.a.now).1 above))

@@ -4,8 +4,8 @@ use Rattle.schema.specs.Views.{schema_view}
 use Rattle.values.specs.Names.{uid_cmp}
 use Rattle.policy_grammar.specs.declared.policy.Policy.{Policy}
 use Rattle.entity_worlds.specs.declared.entity.Entity.{Entity}
-use Rattle.stamped_store.specs.declared.entry.Entry.{Entry}
-use Rattle.stamped_store.specs.declared.entry.Stamp.{Stamp}
+use Rattle.stamped_entries.specs.declared.entry.Entry.{Entry}
+use Rattle.stamped_entries.specs.declared.entry.Stamp.{Stamp}
 use Rattle.stamped_store.specs.EntryOrder.{greater, plain_entry}
 use Rattle.stamped_store.specs.Reading.{IsBodyRead}
 use Rattle.stamped_store.specs.Store.{StoreEntries, kept, entity_name, abstract_store}

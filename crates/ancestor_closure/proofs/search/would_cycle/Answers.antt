@@ -1,5 +1,0 @@
-use Rattle.std.proofs.Common.{rules}
-use Rattle.ancestor_closure.proofs.search.would_cycle.Goals as goal
-
-pub returns : goal.returns
-returns g c = search rules

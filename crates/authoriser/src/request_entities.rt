@@ -1,0 +1,108 @@
+//! A request's three entities: where they stand in the hierarchy, and what they have, looked up once.
+ghost use Rattle.std.specs.Prelude.{◌≡◌, ◌↔◌, ⊤, IsTrue, IfOk, MatchOption};
+ghost use Rattle.ancestor_closure.specs.Hierarchy.{Parents, IsAscending, names};
+ghost use Rattle.evaluator.specs.Operators.{World, world_of};
+ghost use Rattle.authoriser.specs.inner.Views.{IsWithin, HasItsAncestors, HasRequestAncestors, AllHaveTheirAncestors};
+ghost use Rattle.authoriser.specs.inner.Views.{HasItsAttributes, HasRequestAttributes, AllHaveTheirAttributes};
+
+use ancestor_closure::is_among;
+use evaluator::Lookup;
+use plain::NoMemory;
+use values::{EntityUid, Record, Request, TypeName};
+
+/// An entity, with what was looked up for it.
+#[derive(Drop)]
+pub(crate) struct KnownEntity<'a> {
+    pub(crate) uid: &'a EntityUid,
+    /// Its ancestors, ascending.
+    pub(crate) ancestors: Vec<&'a EntityUid>,
+    /// Its attributes; None exactly where it is not stored.
+    pub(crate) attributes: Option<&'a Record>,
+}
+
+/// The three entities of a request.
+#[derive(Drop)]
+pub(crate) struct RequestEntities<'a> {
+    pub(crate) principal: KnownEntity<'a>,
+    pub(crate) action: KnownEntity<'a>,
+    pub(crate) resource: KnownEntity<'a>,
+}
+
+fn look_up<'a, L: Lookup>(store: &'a L, uid: &'a EntityUid) -> Result<KnownEntity<'a>, NoMemory>
+    ensures ancestors { IfOk result (λ p. HasItsAncestors (L.parents store.now) uid.now p) }
+    ensures attributes { IfOk result
+        (λ p. HasItsAttributes (world_of (L.stored store.now) (L.parents store.now)) uid.now p) }
+{
+    let ancestors = store.ancestors(uid)?;
+    let attributes = store.attrs_of(uid);
+    Ok(KnownEntity {
+        uid,
+        ancestors,
+        attributes,
+    })
+}
+
+/// Returns the request's entities with their ancestors and attributes, each asked for once.
+pub(crate) fn request_entities_of<'a, L: Lookup>(
+    store: &'a L,
+    request: &'a Request,
+) -> Result<RequestEntities<'a>, NoMemory>
+    ensures ancestors { IfOk result (λ s. HasRequestAncestors (L.parents store.now) request.now s) }
+    ensures attributes { IfOk result
+        (λ s. HasRequestAttributes (world_of (L.stored store.now) (L.parents store.now)) request.now s) }
+{
+    let principal = look_up(store, &request.principal)?;
+    let action = look_up(store, &request.action)?;
+    let resource = look_up(store, &request.resource)?;
+    Ok(RequestEntities {
+        principal,
+        action,
+        resource,
+    })
+}
+
+/// Returns whether two uids are one. Ids are compared first, since they differ more often than types do.
+pub(crate) fn is_same(a: &EntityUid, b: &EntityUid) -> bool
+    ensures { IsTrue result ↔ (a.now ≡ b.now) }
+{
+    a.id.same(&b.id) && is_same_type(&a.type_name, &b.type_name)
+}
+
+/// Returns whether two names of types are one.
+pub(crate) fn is_same_type(a: &TypeName, b: &TypeName) -> bool
+    ensures { IsTrue result ↔ (a.now ≡ b.now) }
+{
+    a.as_str() == b.as_str()
+}
+
+impl KnownEntity<'_> {
+    /// Returns whether this is `of`, or `of` is among its ancestors: O(log n), without memory.
+    pub(crate) fn is_within(&self, of: &EntityUid) -> bool
+        requires { IsAscending (names self.now.ancestors.items) }
+        ensures { IsTrue result ↔ IsWithin self.now of.now }
+    {
+        is_same(self.uid, of) || is_among(&self.ancestors, of)
+    }
+}
+
+impl<'a> RequestEntities<'a> {
+    /// Returns what was looked up for an entity, if it is one of the three.
+    pub(crate) fn find(&self, uid: &EntityUid) -> Option<&KnownEntity<'a>>
+        ensures ancestors { MatchOption result ⊤
+            (λ p. (parents : Parents) → AllHaveTheirAncestors parents self.now
+            → HasItsAncestors parents uid.now p.now) }
+        ensures attributes { MatchOption result ⊤
+            (λ p. (W : World) → AllHaveTheirAttributes W self.now → HasItsAttributes W uid.now p.now) }
+    {
+        if is_same(self.principal.uid, uid) {
+            return Some(&self.principal);
+        }
+        if is_same(self.resource.uid, uid) {
+            return Some(&self.resource);
+        }
+        if is_same(self.action.uid, uid) {
+            return Some(&self.action);
+        }
+        None
+    }
+}

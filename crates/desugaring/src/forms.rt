@@ -1,0 +1,211 @@
+//! Core expressions from their operands.
+ghost use Rattle.std.specs.Prelude.{◌≡◌, IfOk};
+ghost use Rattle.policy_tokens.specs.Lexing.{spelling_of};
+ghost use Rattle.expressions.specs.declared.operator.Unary.TheVariants as unary;
+ghost use Rattle.expressions.specs.declared.operator.Binary.TheVariants as binary;
+ghost use Rattle.expressions.specs.declared.expr.Expr.TheVariants as core;
+ghost use Rattle.expression_trees.specs.Patterns.{patterns};
+ghost use Rattle.desugaring.specs.Strings.{pattern_of};
+ghost use Rattle.desugaring.specs.Meaning.{sign_of, path_name, name_of};
+ghost use Rattle.desugaring.specs.Core as spec;
+ghost use Rattle.desugaring.specs.inner.Giving.{Gave};
+ghost use Rattle.desugaring.specs.inner.WellFormed.{TokenIn, KeyIn, PathIn};
+
+use crate::pairs::{all_three, beside, both};
+use crate::words::{name, path_type, pattern, sign};
+use expression_trees::{Comparison, KeyTree, PathTree, Sign};
+use expressions::{Binary, Expr, Named, Unary};
+use plain::{Items, NoMemory, Text};
+use policy_tokens::Token;
+use std::alloc::Global;
+
+/// How the operands of a chain are joined.
+#[derive(Clone, Copy)]
+pub(crate) enum Chain {
+    Product,
+    And,
+    Or,
+}
+
+/// `owner.name`
+pub(crate) fn field(alloc: Global, text: &str, owner: Expr, key: KeyTree) -> Result<Expr, NoMemory>
+    requires { KeyIn text.now key }
+    ensures { IfOk result (λ e. e ≡ core.Field owner (name_of text.entry.now key)) }
+{
+    let (owner, name) = both(Ok(owner), name(alloc, text, key))?;
+    Expr::field(alloc, owner, name)
+}
+
+/// `owner has name`
+pub(crate) fn has(
+    alloc: Global,
+    text: &str,
+    owner: Result<Expr, NoMemory>,
+    key: KeyTree,
+) -> Result<Expr, NoMemory>
+    requires { KeyIn text.now key }
+    ensures { IfOk result (λ e. Gave owner (λ a. e ≡ core.Has a (name_of text.now key))) }
+{
+    let (owner, name) = both(owner, name(alloc, text, key))?;
+    Expr::has(alloc, owner, name)
+}
+
+/// `operand like pattern`
+pub(crate) fn like(
+    alloc: Global,
+    text: &str,
+    operand: Result<Expr, NoMemory>,
+    token: Token,
+) -> Result<Expr, NoMemory>
+    requires { TokenIn text.now patterns token }
+    ensures { IfOk result (λ e. Gave operand
+        (λ a. e ≡ core.Unary (unary.Like (pattern_of (spelling_of text.now token))) a)) }
+{
+    let (operand, pattern) = both(operand, pattern(alloc, text, token))?;
+    Expr::unary(alloc, Unary::Like(pattern), operand)
+}
+
+/// `operand is path`
+pub(crate) fn is(
+    alloc: Global,
+    text: &str,
+    operand: Result<Expr, NoMemory>,
+    path: &PathTree,
+) -> Result<Expr, NoMemory>
+    requires { PathIn text.now path.now }
+    ensures { IfOk result (λ e. Gave operand (λ a. e ≡ core.Unary (unary.Is (path_name text.now path.now)) a)) }
+{
+    let (operand, type_name) = both(operand, path_type(alloc, text, path))?;
+    Expr::unary(alloc, Unary::Is(type_name), operand)
+}
+
+/// `operand is path in ancestor`
+pub(crate) fn is_in(
+    alloc: Global,
+    text: &str,
+    operand: Result<Expr, NoMemory>,
+    ancestor: Result<Expr, NoMemory>,
+    path: &PathTree,
+) -> Result<Expr, NoMemory>
+    requires { PathIn text.now path.now }
+    ensures { IfOk result
+        (λ e. Gave operand
+        (λ a. Gave ancestor
+        (λ b. e
+        ≡ core.And (core.Unary (unary.Is (path_name text.now path.now)) a)
+        (core.Binary binary.In a b)))) }
+{
+    let type_name = path_type(alloc, text, path);
+    let (operand, ancestor, type_name) = all_three(operand, ancestor, type_name)?;
+    Expr::is_in(alloc, operand, type_name, ancestor)
+}
+
+/// Returns an operator with one operand.
+pub(crate) fn apply(
+    alloc: Global,
+    operator: Unary,
+    operand: Result<Expr, NoMemory>,
+) -> Result<Expr, NoMemory>
+    ensures { IfOk result (λ e. Gave operand (λ a. e ≡ core.Unary operator a)) }
+{
+    let operand = operand?;
+    Expr::unary(alloc, operator, operand)
+}
+
+/// `if test then consequent else alternative`
+pub(crate) fn if_then_else(
+    alloc: Global,
+    test: Result<Expr, NoMemory>,
+    consequent: Result<Expr, NoMemory>,
+    alternative: Result<Expr, NoMemory>,
+) -> Result<Expr, NoMemory>
+    ensures { IfOk result
+        (λ e. Gave test (λ a. Gave consequent (λ b. Gave alternative (λ c. e ≡ core.If a b c)))) }
+{
+    let (test, consequent, alternative) = all_three(test, consequent, alternative)?;
+    Expr::if_then_else(alloc, test, consequent, alternative)
+}
+
+/// `[members]`
+pub(crate) fn set(members: Result<Items<Expr>, NoMemory>) -> Result<Expr, NoMemory>
+    ensures { IfOk result (λ e. Gave members (λ es. e ≡ core.Set es)) }
+{
+    Ok(Expr::Set(members?))
+}
+
+/// `name: value`
+pub(crate) fn named(
+    name: Result<Text, NoMemory>,
+    value: Result<Expr, NoMemory>,
+) -> Result<Named<Expr>, NoMemory>
+    ensures { IfOk result
+        (λ f. Gave name (λ n. Gave value (λ e. f ≡ record { name = n; value = e }))) }
+{
+    let (name, value) = both(name, value)?;
+    Ok(Named { name, value })
+}
+
+/// `{fields}`
+pub(crate) fn record(fields: Result<Items<Named<Expr>>, NoMemory>) -> Result<Expr, NoMemory>
+    ensures { IfOk result (λ e. Gave fields (λ fs. e ≡ core.Record fs)) }
+{
+    Ok(Expr::Record(fields?))
+}
+
+/// Returns a comparison: `!=`, `>` and `>=` are the negations of `==`, `<=` and `<`.
+pub(crate) fn compare(
+    alloc: Global,
+    operator: Comparison,
+    left: Result<Expr, NoMemory>,
+    right: Result<Expr, NoMemory>,
+) -> Result<Expr, NoMemory>
+    ensures { IfOk result (λ e. Gave left (λ a. Gave right (λ b. e ≡ spec.compared operator a b))) }
+{
+    let (left, right) = both(left, right)?;
+    match operator {
+        Comparison::Less => Expr::binary(alloc, Binary::Less, left, right),
+        Comparison::LessOrEqual => Expr::binary(alloc, Binary::LessOrEqual, left, right),
+        Comparison::Greater => Expr::greater(alloc, left, right),
+        Comparison::GreaterOrEqual => Expr::greater_or_equal(alloc, left, right),
+        Comparison::Equal => Expr::binary(alloc, Binary::Equal, left, right),
+        Comparison::NotEqual => Expr::not_equal(alloc, left, right),
+        Comparison::In => Expr::binary(alloc, Binary::In, left, right),
+    }
+}
+
+/// Two operands of a chain.
+fn join(alloc: Global, chain: Chain, left: Expr, right: Expr) -> Result<Expr, NoMemory>
+    ensures { IfOk result (λ e. e ≡ spec.joined_by chain left right) }
+{
+    match chain {
+        Chain::Product => Expr::binary(alloc, Binary::Multiply, left, right),
+        Chain::And => Expr::and(alloc, left, right),
+        Chain::Or => Expr::or(alloc, left, right),
+    }
+}
+
+/// Returns a chain with what was made as its next operand.
+pub(crate) fn join_next(
+    alloc: Global,
+    chain: Chain,
+    left: Expr,
+    right: Result<Expr, NoMemory>,
+) -> Result<Expr, NoMemory>
+    ensures { IfOk result (λ e. Gave right (λ b. e ≡ spec.joined_by chain left b)) }
+{
+    let (left, right) = beside(left, right)?;
+    join(alloc, chain, left, right)
+}
+
+/// Returns a sum with what was made as its next term.
+pub(crate) fn add_term(
+    alloc: Global,
+    before: Sign,
+    left: Expr,
+    right: Result<Expr, NoMemory>,
+) -> Result<Expr, NoMemory>
+    ensures { IfOk result (λ e. Gave right (λ b. e ≡ core.Binary (sign_of before) left b)) }
+{
+    let (left, right) = beside(left, right)?;
+    Expr::binary(alloc, sign(before), left, right)
+}

@@ -1,0 +1,30 @@
+-- An operand behind which no piece begins is a whole level.
+use Rattle.std.proofs.Common.{◌≡◌, ℕ, zero, suc, Bool, true, false, List, [], Result, Ok, Err, refl, ap, ◌∙◌}
+use Rattle.policy_tokens.specs.declared.token.Token.{Token}
+use Rattle.expression_trees.specs.declared.tree.ExprTree.{ExprTree}
+use Rattle.token_readers.specs.Kinds.{Kinds}
+use Rattle.token_readers.specs.Reads.{sees}
+use Rattle.token_readers.specs.Reading.{Parser, Read, and_then, pure, chosen, loop_from}
+use Rattle.token_readers.specs.ParsesTo.{ParsesTo}
+use Rattle.token_readers.specs.declared.fault.Halt.{Halt}
+use Rattle.token_readers.specs.declared.fault.Halt.TheVariants as halt
+use Rattle.expression_syntax.specs.Expressions.{joined}
+use Rattle.expression_syntax.specs.inner.Chains.{chained, chained_on}
+
+skipped : {A : Type 0} (b : Bool) (p q : Parser A) (ts : List Token) → b ≡ false → chosen b p q ts ≡ q ts
+skipped false p q ts h = refl
+skipped true p q ts h = absurd (cc)
+
+none_from : {A : Type 0} (ks : Kinds) (p : Parser A) (n : ℕ) (ts : List Token) → sees ks ts ≡ false
+    → loop_from (λ s a. s) (λ s. ks) (λ s. p) n (tt {0}) ts ≡ Read [] ts
+unfolding loop_from
+none_from ks p zero ts h = refl
+none_from ks p (suc n) ts h = skipped (sees ks ts) _ _ ts h
+
+module _ {A : Type 0} (operand : Parser ExprTree) (ks : Kinds) (piece : Parser A) (make : ExprTree → List A → ExprTree) (ts rest : List Token) where
+  pub unfollowed : (r : Result ExprTree Halt) → ParsesTo (operand ts) r rest → sees ks rest ≡ false → ParsesTo (chained operand ks piece make ts) r rest
+  unfollowed (Ok x) e h =
+      ap (λ o. and_then o (chained_on ks piece make)) e ∙ ap (λ o. and_then o (λ more. pure (joined make x more))) (none_from ks piece _ rest h)
+  unfollowed (Err halt.NoMemory) e h = tt
+  unfollowed (Err halt.Unexpected) e h = ap (λ o. and_then o (chained_on ks piece make)) e
+  unfollowed (Err halt.TooDeep) e h = ap (λ o. and_then o (chained_on ks piece make)) e

@@ -1,0 +1,12 @@
+pub mod Members
+pub mod Steps
+pub mod Sets
+pub mod Cycles
+pub mod Groups
+pub mod Marks
+pub mod Stepping
+pub mod Reading
+pub mod Beginning
+pub mod Bridge
+pub mod Picking
+pub mod Found

@@ -1,0 +1,5 @@
+pub mod Decided
+pub mod Deciding
+pub mod Hierarchy
+pub mod Search
+pub mod inner

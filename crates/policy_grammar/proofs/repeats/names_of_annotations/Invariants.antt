@@ -1,8 +1,0 @@
-use Rattle.std.proofs.Common.{◌≡◌, map, take}
-use Rattle.desugaring.specs.Repeats.{abstract_names}
-use Rattle.policy_grammar.specs.Repeats.{key_at}
-use Rattle.policy_grammar.proofs.repeats.names_of_annotations.Given as goal
-
--- the marks up to here
-abbrev pub invariant-loop-annotation : goal.invariant-loop-annotation
-invariant-loop-annotation l = abstract_names l.marks.items ≡ map (key_at l.text) (take l.annotation-index l.annotation-items)

@@ -1,0 +1,410 @@
+//! What is above each entity, kept as numbers.
+//!
+//! Entities are numbered, each behind those above it where these do not lead back to it. So the numbers of those above
+//! one mostly stand in a row, and few spans hold them: one span each in a chain, in layers, and where each is a member
+//! of several before it.
+ghost use Rattle.std.specs.Prelude.{◌≡◌, ◌++◌, ◌∷◌, ⊤, List, [], Contains, Some, None, true, IfOk, OnOk, MatchOption, map, option_map};
+ghost use Rattle.std.specs.List.{slice_get};
+ghost use Rattle.std.specs.BTreeMap.{get, Updates};
+ghost use Rattle.values.specs.Names.{uid_cmp, text_cmp};
+ghost use Rattle.values.specs.declared.entity_uid.EntityUid.{EntityUid};
+ghost use Rattle.ancestor_closure.specs.Hierarchy.{names};
+ghost use Rattle.ancestor_closure.specs.contracts.searched.SearchedAncestry.TheImpl as searched;
+ghost use Rattle.schema_names.specs.FoundViews.{found_entity_type_view};
+ghost use Rattle.schema.specs.inner.Numbering.{IsApart, IsNumbering, IsNumbered, NumbersAll, AddsNumber};
+ghost use Rattle.schema.specs.inner.Numbering.{KeepsAbove, HasAbove};
+ghost use Rattle.schema.specs.inner.Numbering.{AddsParent, AddsParents, single, single_of, singles, HasSpans};
+ghost use Rattle.schema.specs.inner.Numbering.{AreAbove, AddsName, AreNames, type_points, AreNumbers};
+
+use crate::hierarchies::type_uid;
+use crate::maps::put;
+use ancestor_closure::{Ancestry, ParentsOf, Searched};
+use number_spans::{Span, joined};
+use place_orders::ends_first;
+use plain::{Items, NoMemory};
+use schema_names::FoundEntityType;
+use std::alloc::Global;
+use std::collections::BTreeMap;
+use values::{EntityUid, TypeName};
+
+/// Entities that have numbers: the number of each is its place in the list.
+#[derive(Drop)]
+pub(crate) struct Numbered<'e> {
+    numbers: BTreeMap<EntityUid, usize>,
+    listed: Vec<&'e EntityUid>,
+}
+
+/// The numbers of entities, and at each number those of what is above.
+#[derive(Drop)]
+pub(crate) struct Above {
+    pub(crate) numbers: BTreeMap<EntityUid, usize>,
+    pub(crate) spans: Items<Items<Span>>,
+}
+
+/// The same of entity types, by their names.
+#[derive(Drop)]
+pub(crate) struct TypeNumbers {
+    pub(crate) numbers: BTreeMap<TypeName, usize>,
+    pub(crate) spans: Items<Items<Span>>,
+}
+
+/// Returns the place of each in the list.
+fn places_of(alloc: Global, uids: &[EntityUid]) -> Result<BTreeMap<EntityUid, usize>, NoMemory> {
+    let mut places = BTreeMap::new(alloc);
+    for place in 0..uids.len() {
+        let uid = uids[place].copy()?;
+        put(&mut places, uid, place)?;
+    }
+    Ok(places)
+}
+
+/// Returns the places of the parents of an entity.
+fn parents_at(
+    alloc: Global,
+    edges: &Searched,
+    places: &BTreeMap<EntityUid, usize>,
+    uid: &EntityUid,
+) -> Result<Vec<usize>, NoMemory> {
+    let mut found = Vec::new(alloc);
+    for parent in edges.parents_of(uid) {
+        if let Some(place) = places.get(parent) {
+            found.push(*place)?;
+        }
+    }
+    Ok(found)
+}
+
+/// Returns the hierarchy of the list, by places.
+fn edges_by_place(
+    alloc: Global,
+    edges: &Searched,
+    uids: &[EntityUid],
+) -> Result<Vec<Vec<usize>>, NoMemory> {
+    let places = places_of(alloc, uids)?;
+    let mut found = Vec::new(alloc);
+    for uid in uids {
+        found.push(parents_at(alloc, edges, &places, uid)?)?;
+    }
+    Ok(found)
+}
+
+fn those_at<'e>(
+    alloc: Global,
+    uids: &'e [EntityUid],
+    places: &[usize],
+) -> Result<Vec<&'e EntityUid>, NoMemory> {
+    let mut found = Vec::new(alloc);
+    for place in places {
+        if let Some(uid) = uids.get(*place) {
+            found.push(uid)?;
+        }
+    }
+    Ok(found)
+}
+
+fn append_all<'e>(uids: &'e [EntityUid], found: &mut Vec<&'e EntityUid>) -> Result<(), NoMemory>
+    ensures { OnOk result (names found.new.items ≡ names found.old.items ++ uids.now) }
+{
+    for uid in uids {
+        found.push(uid)?;
+    }
+    Ok(())
+}
+
+/// All of the list, and some of them twice: first each behind its parents, as far as these do not lead back to it. In
+/// any order the same is found; in this one it takes least.
+fn in_order<'e>(
+    alloc: Global,
+    edges: &Searched,
+    uids: &'e [EntityUid],
+) -> Result<Vec<&'e EntityUid>, NoMemory>
+    ensures { IfOk result (λ found. (u : EntityUid) → Contains uids.now u → Contains (names found.items) u) }
+{
+    let graph = edges_by_place(alloc, edges, uids)?;
+    let order = ends_first(alloc, graph.as_slice())?;
+    let mut found = those_at(alloc, uids, order.as_slice())?;
+    append_all(uids, &mut found)?;
+    Ok(found)
+}
+
+/// Gives an entity the next number, where it has none.
+fn add_number<'e>(uid: &'e EntityUid, numbered: &mut Numbered<'e>) -> Result<(), NoMemory>
+    ensures { OnOk result (AddsNumber uid.now numbered.old numbered.new) }
+{
+    if numbered.numbers.contains_key(uid) {
+        return Ok(());
+    }
+    let key = uid.copy()?;
+    put(&mut numbered.numbers, key, numbered.listed.len())?;
+    numbered.listed.push(uid)?;
+    Ok(())
+}
+
+/// No entity has a number.
+fn none_numbered<'e>(alloc: Global) -> Numbered<'e>
+    ensures numbered { IsNumbered result }
+    ensures none { (u : EntityUid) → get uid_cmp result.numbers u ≡ None }
+{
+    Numbered {
+        numbers: BTreeMap::new(alloc),
+        listed: Vec::new(alloc),
+    }
+}
+
+/// Numbers the entities of a list, as they come.
+fn number_all<'e>(alloc: Global, uids: &[&'e EntityUid]) -> Result<Numbered<'e>, NoMemory>
+    ensures numbered { IfOk result (λ n. IsNumbered n) }
+    ensures all { IfOk result (λ n. NumbersAll (names uids.now) (get uid_cmp n.numbers)) }
+{
+    let mut numbered = none_numbered(alloc);
+    for uid in uids {
+        add_number(*uid, &mut numbered)?;
+    }
+    Ok(numbered)
+}
+
+/// Returns what was reached at a number.
+fn reached_at(reached: &[Items<Span>], number: usize) -> Option<&[Span]>
+    ensures { option_map (λ s. s.now) result ≡ slice_get reached.now number }
+{
+    match reached.get(number) {
+        Some(spans) => Some(spans.as_slice()),
+        None => None,
+    }
+}
+
+/// Adds a number, and those of what is above it.
+fn add_reached(
+    reached: &[Items<Span>],
+    number: usize,
+    spans: &mut Vec<Span>,
+) -> Result<bool, NoMemory>
+    ensures { IfOk result (λ known. known ≡ true → HasSpans reached.now number spans.old.items spans.new.items) }
+{
+    let Some(further) = reached_at(reached, number) else {
+        return Ok(false);
+    };
+    push_single(number, spans)?;
+    spans.extend_from_slice(further)?;
+    Ok(true)
+}
+
+/// Adds a parent, and those above it; false where it was not reached yet.
+fn add_parent(
+    numbers: &BTreeMap<EntityUid, usize>,
+    reached: &[Items<Span>],
+    parent: &EntityUid,
+    spans: &mut Vec<Span>,
+) -> Result<bool, NoMemory>
+    ensures { IfOk result (λ known. known ≡ true
+        → AddsParent (get uid_cmp numbers.now) reached.now parent.now spans.old.items spans.new.items) }
+{
+    match numbers.get(parent) {
+        Some(number) => add_reached(reached, *number, spans),
+        None => Ok(false),
+    }
+}
+
+/// Some parents, and those above them; None where one was not reached yet.
+fn add_parents(
+    alloc: Global,
+    numbers: &BTreeMap<EntityUid, usize>,
+    reached: &[Items<Span>],
+    parents: &[EntityUid],
+) -> Result<Option<Vec<Span>>, NoMemory>
+    ensures { IfOk result (λ o. MatchOption o ⊤
+        (λ spans. AddsParents (get uid_cmp numbers.now) reached.now parents.now [] spans.items)) }
+{
+    let mut spans = Vec::new(alloc);
+    for parent in parents {
+        if !add_parent(numbers, reached, parent, &mut spans)? {
+            return Ok(None);
+        }
+    }
+    Ok(Some(spans))
+}
+
+/// Adds a number.
+fn push_single(number: usize, spans: &mut Vec<Span>) -> Result<(), NoMemory>
+    ensures { OnOk result (spans.new.items ≡ spans.old.items ++ single number ∷ []) }
+{
+    spans.push(Span {
+        first: number,
+        last: number,
+    })?;
+    Ok(())
+}
+
+/// Adds the number of an entity, where it has one.
+fn add_single(
+    numbers: &BTreeMap<EntityUid, usize>,
+    uid: &EntityUid,
+    spans: &mut Vec<Span>,
+) -> Result<(), NoMemory>
+    ensures { OnOk result (spans.new.items ≡ spans.old.items ++ single_of (get uid_cmp numbers.now uid.now)) }
+{
+    match numbers.get(uid) {
+        Some(number) => push_single(*number, spans),
+        None => Ok(()),
+    }
+}
+
+/// Returns the numbers of some entities.
+fn numbers_of(
+    alloc: Global,
+    numbers: &BTreeMap<EntityUid, usize>,
+    uids: &[&EntityUid],
+) -> Result<Vec<Span>, NoMemory>
+    ensures { IfOk result (λ spans. spans.items ≡ singles (get uid_cmp numbers.now) (names uids.now)) }
+{
+    let mut spans = Vec::new(alloc);
+    for uid in uids {
+        add_single(numbers, *uid, &mut spans)?;
+    }
+    Ok(spans)
+}
+
+/// Returns what is above an entity, by a search.
+fn spans_found(
+    alloc: Global,
+    edges: &Searched,
+    numbers: &BTreeMap<EntityUid, usize>,
+    uid: &EntityUid,
+) -> Result<Items<Span>, NoMemory>
+    requires { IsApart (get uid_cmp numbers.now) }
+    ensures { IfOk result (λ spans.
+        HasAbove (searched.parents-value.it edges.now) (get uid_cmp numbers.now) uid.now spans) }
+{
+    let found = edges.ancestors(uid)?;
+    let spans = numbers_of(alloc, numbers, found.as_slice())?;
+    joined(alloc, spans)
+}
+
+/// Returns what is above an entity: by its parents, where these were reached, and else by a search.
+fn spans_above(
+    alloc: Global,
+    edges: &Searched,
+    numbers: &BTreeMap<EntityUid, usize>,
+    reached: &[Items<Span>],
+    uid: &EntityUid,
+) -> Result<Items<Span>, NoMemory>
+    requires apart { IsApart (get uid_cmp numbers.now) }
+    requires keeps { KeepsAbove (searched.parents-value.it edges.now) (get uid_cmp numbers.now) reached.now }
+    ensures { IfOk result (λ spans.
+        HasAbove (searched.parents-value.it edges.now) (get uid_cmp numbers.now) uid.now spans) }
+{
+    let by_parents = add_parents(alloc, numbers, reached, edges.parents_of(uid))?;
+    match by_parents {
+        Some(spans) => joined(alloc, spans),
+        None => spans_found(alloc, edges, numbers, uid),
+    }
+}
+
+/// Returns what is above each of the entities that have numbers, in the order of these.
+fn all_spans(
+    alloc: Global,
+    edges: &Searched,
+    numbers: &BTreeMap<EntityUid, usize>,
+    uids: &[&EntityUid],
+) -> Result<Items<Items<Span>>, NoMemory>
+    requires { IsNumbering (get uid_cmp numbers.now) (names uids.now) }
+    ensures { IfOk result (λ spans.
+        AreAbove (searched.parents-value.it edges.now) (get uid_cmp numbers.now) spans) }
+{
+    let mut reached = Items::new(alloc);
+    for uid in uids {
+        let spans = spans_above(alloc, edges, numbers, reached.as_slice(), *uid)?;
+        reached.push(spans)?;
+    }
+    Ok(reached)
+}
+
+/// Returns what is above each of some entities.
+pub(crate) fn above_each(
+    alloc: Global,
+    edges: &Searched,
+    uids: &[EntityUid],
+) -> Result<Above, NoMemory>
+    ensures are { IfOk result (λ a.
+        AreAbove (searched.parents-value.it edges.now) (get uid_cmp a.numbers) a.spans) }
+    ensures all { IfOk result (λ a. NumbersAll uids.now (get uid_cmp a.numbers)) }
+{
+    let order = in_order(alloc, edges, uids)?;
+    let numbered = number_all(alloc, order.as_slice())?;
+    let spans = all_spans(alloc, edges, &numbered.numbers, numbered.listed.as_slice())?;
+    Ok(Above {
+        numbers: numbered.numbers,
+        spans,
+    })
+}
+
+/// Gives the type of an entity this number.
+fn put_name(
+    uid: &EntityUid,
+    number: usize,
+    named: &mut BTreeMap<TypeName, usize>,
+) -> Result<(), NoMemory>
+    ensures { OnOk result (Updates text_cmp named.old named.new uid.now.type_name (Some number)) }
+{
+    let name = uid.type_name.copy()?;
+    put(named, name, number)?;
+    Ok(())
+}
+
+/// Gives the type of an entity the number of that entity.
+fn add_name(
+    numbers: &BTreeMap<EntityUid, usize>,
+    uid: &EntityUid,
+    named: &mut BTreeMap<TypeName, usize>,
+) -> Result<(), NoMemory>
+    ensures { OnOk result (AddsName (get uid_cmp numbers.now) uid.now named.old named.new) }
+{
+    match numbers.get(uid) {
+        Some(number) => put_name(uid, *number, named),
+        None => Ok(()),
+    }
+}
+
+/// Returns the numbers of some entities, by their types.
+fn numbers_by_name(
+    alloc: Global,
+    numbers: &BTreeMap<EntityUid, usize>,
+    uids: &[EntityUid],
+) -> Result<BTreeMap<TypeName, usize>, NoMemory>
+    ensures { IfOk result (λ named. AreNames (get uid_cmp numbers.now) uids.now named) }
+{
+    let mut named = BTreeMap::new(alloc);
+    for uid in uids {
+        add_name(numbers, uid, &mut named)?;
+    }
+    Ok(named)
+}
+
+/// Entity types as points of a hierarchy.
+fn points_of(alloc: Global, entity_types: &[FoundEntityType]) -> Result<Vec<EntityUid>, NoMemory>
+    ensures { IfOk result (λ uids. uids.items ≡ type_points (map found_entity_type_view entity_types.now)) }
+{
+    let mut uids = Vec::new(alloc);
+    for entity_type in entity_types {
+        uids.push(type_uid(alloc, &entity_type.name)?)?;
+    }
+    Ok(uids)
+}
+
+/// Returns the numbers of entity types, and what is above each.
+pub(crate) fn number_types(
+    alloc: Global,
+    edges: &Searched,
+    entity_types: &[FoundEntityType],
+) -> Result<TypeNumbers, NoMemory>
+    ensures { IfOk result (λ t. AreNumbers (searched.parents-value.it edges.now)
+        (map found_entity_type_view entity_types.now) t) }
+{
+    let uids = points_of(alloc, entity_types)?;
+    let above = above_each(alloc, edges, uids.as_slice())?;
+    let numbers = numbers_by_name(alloc, &above.numbers, uids.as_slice())?;
+    Ok(TypeNumbers {
+        numbers,
+        spans: above.spans,
+    })
+}

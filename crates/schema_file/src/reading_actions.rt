@@ -1,0 +1,127 @@
+//! Reading the actions of a schema file.
+ghost use Rattle.std.specs.Prelude.{◌≡◌, option_map};
+ghost use Rattle.serde_json.specs.View.{view, items_view};
+ghost use Rattle.json_words.specs.ReadsAs.{ReadsAs};
+ghost use Rattle.schema_file.specs.StatedViews.{use_view, action_view};
+ghost use Rattle.schema_file.specs.Stated.{parent_of, parents_of, parents_in, use_of, use_in, is_empty_in, action_of};
+ghost use Rattle.schema_types.specs.declared.fault.SchemaFault.TheVariants as SchemaFault;
+
+use crate::reading_names::{read_names_at, read_optional_name};
+use crate::reading_types::read_optional_type;
+use crate::stated::{StatedAction, StatedParent, StatedUse};
+use json_words::only_keys;
+use plain::{Items, Text};
+use schema_types::{SchemaFault, optional, required_text};
+use serde_json::Value;
+use std::alloc::Global;
+
+/// One of the actions above an action.
+#[tactic(auto, unfolding(crate::specs::Stated::parent_of))]
+fn read_parent(alloc: Global, value: &Value) -> Result<StatedParent, SchemaFault>
+    ensures { ReadsAs SchemaFault.NoMemory (λ p. p) result (parent_of (view value.now)) }
+{
+    if !only_keys(value, &["id", "type", "annotations"]) {
+        return Err(SchemaFault::BadShape);
+    }
+    let id = required_text(value, "id")?;
+    let type_name = read_optional_name(alloc, optional(value, "type"))?;
+    let id = Text::from_str(alloc, id)?;
+    Ok(StatedParent { type_name, id })
+}
+
+fn read_parents(alloc: Global, values: &[Value]) -> Result<Items<StatedParent>, SchemaFault>
+    ensures { ReadsAs SchemaFault.NoMemory (λ ps. ps) result (parents_of (items_view values.now)) }
+{
+    let mut parents = Items::new(alloc);
+    for value in values {
+        let parent = read_parent(alloc, value)?;
+        parents.push(parent)?;
+    }
+    Ok(parents)
+}
+
+/// Returns the actions above an action, in an array that may be missing.
+fn read_optional_parents(
+    alloc: Global,
+    found: Option<&Value>,
+) -> Result<Items<StatedParent>, SchemaFault>
+    ensures { ReadsAs SchemaFault.NoMemory (λ ps. ps) result (parents_in (option_map (λ v. view v.now) found.entry)) }
+{
+    match found {
+        None => Ok(Items::new(alloc)),
+        Some(value) => match value.as_array() {
+            Some(list) => read_parents(alloc, list),
+            None => Err(SchemaFault::BadShape),
+        },
+    }
+}
+
+/// To what an action applies.
+#[tactic(auto, unfolding(crate::specs::Stated::use_of))]
+fn read_use(alloc: Global, value: &Value) -> Result<StatedUse, SchemaFault>
+    ensures { ReadsAs SchemaFault.NoMemory use_view result (use_of (view value.now)) }
+{
+    if !only_keys(
+        value,
+        &["principalTypes", "resourceTypes", "context", "annotations"],
+    ) {
+        return Err(SchemaFault::BadShape);
+    }
+    let principals = read_names_at(alloc, value, "principalTypes")?;
+    let resources = read_names_at(alloc, value, "resourceTypes")?;
+    let context = read_optional_type(alloc, optional(value, "context"))?;
+    Ok(StatedUse {
+        principals,
+        resources,
+        context,
+    })
+}
+
+/// To what an action applies, where that is said.
+fn read_optional_use(alloc: Global, found: Option<&Value>) -> Result<Option<StatedUse>, SchemaFault>
+    ensures { ReadsAs SchemaFault.NoMemory (option_map use_view) result
+        (use_in (option_map (λ v. view v.now) found.entry)) }
+{
+    match found {
+        None => Ok(None),
+        Some(value) => Ok(Some(read_use(alloc, value)?)),
+    }
+}
+
+/// Returns whether nothing stands there, or an object with no members.
+fn is_empty(found: Option<&Value>) -> bool
+    ensures { result ≡ is_empty_in (option_map (λ v. view v.now) found.entry) }
+{
+    match found {
+        None => true,
+        Some(value) => only_keys(value, &[]),
+    }
+}
+
+/// Returns the action under a key.
+#[tactic(auto, unfolding(crate::specs::Stated::action_of))]
+pub(crate) fn read_action(
+    alloc: Global,
+    key: &str,
+    value: &Value,
+) -> Result<StatedAction, SchemaFault>
+    ensures { ReadsAs SchemaFault.NoMemory action_view result (action_of key.now (view value.now)) }
+{
+    if !only_keys(
+        value,
+        &["memberOf", "appliesTo", "attributes", "annotations"],
+    ) {
+        return Err(SchemaFault::BadShape);
+    }
+    if !is_empty(optional(value, "attributes")) {
+        return Err(SchemaFault::BadShape);
+    }
+    let parents = read_optional_parents(alloc, optional(value, "memberOf"))?;
+    let applies_to = read_optional_use(alloc, optional(value, "appliesTo"))?;
+    let id = Text::from_str(alloc, key)?;
+    Ok(StatedAction {
+        id,
+        parents,
+        applies_to,
+    })
+}

@@ -1,5 +1,0 @@
-use Rattle.schema_types.proofs.OneEnd.{cycles_have_no_end as law}
-use Rattle.schema_types.proofs.laws.cycles_have_no_end.Goals as goal
-
-pub returns : goal.returns
-returns c = law

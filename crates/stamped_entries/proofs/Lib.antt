@@ -1,0 +1,2 @@
+pub mod SiteNames
+pub mod SiteWords

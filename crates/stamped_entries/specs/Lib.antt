@@ -1,0 +1,4 @@
+pub mod SiteNames
+pub mod Joins
+pub mod EntryOrder
+pub mod EntryJoins

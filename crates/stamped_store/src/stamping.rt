@@ -1,0 +1,39 @@
+//! At which sites the updates of a store were stamped.
+ghost use Rattle.std.specs.Prelude.{◌≡◌};
+ghost use Rattle.std.specs.List.{list_any};
+ghost use Rattle.std.specs.Str.{bytes_eq};
+ghost use Rattle.stamped_store.specs.Store.{abstract_store};
+ghost use Rattle.stamped_store.specs.Stamping.{has_stamps_of};
+
+use crate::{Entry, PolicyStore, SiteName, Stamp};
+use std::collections::btree_map::Iter;
+
+/// Returns whether a stamp was given at the site of this name.
+fn is_stamped_at(stamp: &Stamp, site: SiteName) -> bool
+    ensures { result ≡ bytes_eq stamp.now.site site }
+{
+    stamp.site.as_str() == site.as_str()
+}
+
+/// Returns whether one of these entries was stamped at the site of this name.
+fn is_any_stamped_at<K, P>(entries: Iter<'_, K, Entry<P>>, site: SiteName) -> bool
+    ensures { result ≡ list_any (λ e. bytes_eq e.1.stamp.site site) entries.entry }
+{
+    let mut found = false;
+    for (_, entry) in entries {
+        found |= is_stamped_at(&entry.stamp, site);
+    }
+    found
+}
+
+impl<P: Drop, E: Drop> PolicyStore<P, E> {
+    /// Returns whether some update of the store, a deletion too, was stamped at the site of this name. In time in
+    /// proportion to the store, and without memory.
+    pub fn has_stamps_of(&self, site: SiteName) -> bool
+        ensures { result ≡ has_stamps_of site (abstract_store self.now) }
+    {
+        let of_policies = is_any_stamped_at(self.policies(), site);
+        let of_entities = is_any_stamped_at(self.entities(), site);
+        of_policies | of_entities
+    }
+}

@@ -1,0 +1,2 @@
+mod Follows
+pub mod Unchanged

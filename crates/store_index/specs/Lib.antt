@@ -1,0 +1,3 @@
+pub mod Indexed
+pub mod Staying
+pub mod inner

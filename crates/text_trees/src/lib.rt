@@ -1,0 +1,10 @@
+//! Texts of policies as trees, why a text is not read, and annotations that stand twice.
+#![tactic(auto)]
+
+mod annotations;
+mod fault;
+mod trees;
+
+pub use annotations::repeated_annotation;
+pub use fault::ReadFault;
+pub use trees::{MOST_FILE_BYTES, MOST_POLICY_BYTES, policy_tree, policy_trees, uid_tree};

@@ -1,0 +1,486 @@
+#!/usr/bin/env python3
+"""What a served site keeps beside its store (the ancestors, and an index of policies by their scopes): that no answer
+differs without it, that answers use it, and that each change keeps it, or makes it anew where it was dropped.
+
+    tools/kept_parts.py PROGRAM
+
+A site drops what it keeps where memory is refused for it. A small library before the C library, bench/refuse.c, refuses
+the allocations that are asked here, and counts all: so it is told whether an answer was found by what is kept.
+
+- Twins: two sites of one name begin empty, and each is sent the same 30 requests, drawn from those of rows/drawn.json,
+  of which a message has counts that no command comes to before it. At the second, one allocation of each change is
+  refused, by chance. Where the reply tells of it, or none comes, the change is asked for once more. All replies are
+  alike, and so are the states at the end. All kinds of answers come: allowed, denied, denied for a cycle, with a policy
+  that errs, and a put that is refused for a cycle. Some answers have to be found without what is kept.
+- Hierarchies: the same with eight entities, of which each is put below some others, or taken away, a thousand times, by
+  commands and by messages, which may bring cycles. Behind each change each of the eight is asked for, with a policy for
+  each that it may be in.
+- Index: policies that name others make no answer ask for more memory, nor do those that were taken away (against
+  index_unused and index_offers_all).
+- Ancestors: no more does a longer way from an entity to the group that a policy names, but for the list of the groups.
+- Upkeep: behind each change of a script an answer asks for as much as at a new site that took the whole state as one
+  message; and so it does where what is kept was dropped before the change (against accelerators_stay_dropped).
+
+Needs `cc`. The last line is `N passed, M failed`.
+"""
+import json
+import mmap
+import os
+import random
+import signal
+import struct
+import subprocess
+import sys
+import tempfile
+
+sys.dont_write_bytecode = True
+
+from row_sites import Processes, Site, label_of, policy_path
+
+TOP = os.path.dirname(os.path.dirname(os.path.abspath(__file__)))
+SHAPE = {
+    "type": "Record",
+    "attributes": {"name": {"type": "String"}, "age": {"type": "Long", "required": False}},
+}
+OWNED = {"type": "Record", "attributes": {"owner": {"type": "Entity", "name": "User"}}}
+CONTEXT = {"type": "Record", "attributes": {"src": {"type": "Extension", "name": "ipaddr"}}}
+USES = {"principalTypes": ["User"], "resourceTypes": ["Doc"], "context": CONTEXT}
+SCHEMA = {
+    "": {
+        "entityTypes": {
+            "User": {"memberOfTypes": ["Group"], "shape": SHAPE},
+            "Group": {"memberOfTypes": ["Group"]},
+            "Doc": {"shape": OWNED},
+        },
+        "actions": {"read": {}, "view": {"memberOf": [{"id": "read"}], "appliesTo": USES}},
+    }
+}
+# entities that may all be in one another
+MEMBERS = [*(("Group", it) for it in "abcdef"), *(("User", it) for it in "uv")]
+KINDS_OF_MEMBERS = ["Group", "User"]
+MEMBERS_SCHEMA = {
+    "": {
+        "entityTypes": {kind: {"memberOfTypes": KINDS_OF_MEMBERS} for kind in KINDS_OF_MEMBERS},
+        "actions": {"view": {"appliesTo": {"principalTypes": KINDS_OF_MEMBERS, "resourceTypes": KINDS_OF_MEMBERS}}},
+    }
+}
+STEPS = 1000
+# a seed, and how often two sites begin
+DRAWS = ((9, 40), (28, 40), (34, 40))
+DRAWN = 30
+# what the replies of each kind hold
+KINDS = (b'"decision":"Allow"', b'"cycle":[{', b'"cycle":[],"decision":"Deny"', b'"errors":[{', b'"code":61,')
+REFUSED = b'{"error":{"code":1,'
+# how many policies name others, and how many groups a way leads over
+OTHERS, GROUPS = 300, 100
+# how often at most lists ask for memory that have each of so many groups: they double
+GROWTH = 16
+
+
+class Fault(Exception):
+    """Something that is not as it should be."""
+
+
+def compact(value):
+    """The compact text of JSON as bytes."""
+    return json.dumps(value, separators=(",", ":"), sort_keys=True).encode()
+
+
+def drawn_requests():
+    """The requests to draw from: methods, paths and bodies. The label in them is that of the schema above."""
+    with open(f"{TOP}/rows/drawn.json", encoding="utf-8") as file:
+        return [(method, path, *(it.encode() for it in body)) for method, path, *body in json.load(file)]
+
+
+def is_change(asked):
+    """Whether a request may change what is stored."""
+    return asked[1] != "/v1/authorize"
+
+
+class Counted:
+    """A site with nothing stored, whose allocations are counted, and are refused where that is asked."""
+
+    def __init__(self, program, folder, number, schema):
+        path = f"{folder}/asked{number}"
+        with open(path, "w+b") as file:
+            file.write(bytes(16))
+            file.flush()
+            self.memory = mmap.mmap(file.fileno(), 16)
+        self.processes = Processes(LD_PRELOAD=f"{folder}/refuse.so", ASKED=path)
+        self.site = Site(self.processes, program, f"{folder}/{schema}", "00001")
+
+    def asked(self):
+        """How often the site asked for memory so far."""
+        return struct.unpack_from("q", self.memory)[0]
+
+    def refuse(self, number):
+        """Has the allocation of this number, from those asked for so far, be refused; 0 is none."""
+        struct.pack_into("q", self.memory, 8, self.asked() + number if number else 0)
+
+    def ask(self, asked):
+        """Status and body of the reply, and how often the site asked for memory."""
+        before = self.asked()
+        reply = self.site.ask(*asked)
+        return (reply.status, reply.body), self.asked() - before
+
+    def ask_refused(self, asked, number):
+        """Status and body of the reply where one allocation is refused; where it tells of that, or none comes, the
+        reply to the same once more. Tells, too, whether it was asked once."""
+        self.refuse(number)
+        try:
+            came, _ = self.ask(asked)
+        except (ConnectionError, ValueError):
+            came = None
+            self.reconnect()
+        self.refuse(0)
+        if came is None or came[1].startswith(REFUSED):
+            return self.ask(asked)[0], False
+        return came, True
+
+    def reconnect(self):
+        """Lets a connection go that has ended."""
+        self.site.incoming.close()
+        self.site.link.close()
+        self.site.link = None
+
+    def given(self, *asked):
+        """Has requests be answered by 200."""
+        for one in asked:
+            (status, body), _ = self.ask(one)
+            if status != 200:
+                raise Fault(f"{one} is answered {status} {body!r}")
+
+    def cost(self, question):
+        """How often a question asks for memory, once it was asked before: a connection keeps what it asked for."""
+        self.ask(question)
+        return self.ask(question)[1]
+
+    def state(self):
+        """The state."""
+        return self.site.state().body
+
+    def close(self):
+        """Ends the site."""
+        self.site.end()
+        self.processes.close()
+        self.memory.close()
+
+
+class Sites:
+    """Sites that begin with nothing stored, and end together."""
+
+    def __init__(self, program, folder):
+        self.program, self.folder, self.number, self.going = program, folder, 0, []
+
+    def begin(self, schema="schema"):
+        """Begins a site under the schema of this file."""
+        self.number += 1
+        site = Counted(self.program, self.folder, self.number, schema)
+        self.going.append(site)
+        return site
+
+    def end(self):
+        """Ends those that go on."""
+        while self.going:
+            self.going.pop().close()
+
+
+# ---- twins
+
+
+class Twins:
+    """Two sites that are sent the same, of which the second lacks memory now and then."""
+
+    def __init__(self, sites, chance, schema="schema"):
+        self.keeping, self.dropping = sites.begin(schema), sites.begin(schema)
+        self.chance, self.seen, self.answers, self.without = chance, set(), 0, 0
+
+    def alike(self, asked, came, wanted):
+        """Fails where both do not answer alike."""
+        if came != wanted:
+            raise Fault(f"{asked} is answered {came} where memory was refused, and {wanted} elsewhere")
+        self.seen |= {kind for kind in KINDS if kind in wanted[1]}
+
+    def change(self, asked):
+        """Has both be changed, the second while one allocation is refused."""
+        wanted, count = self.keeping.ask(asked)
+        came, _ = self.dropping.ask_refused(asked, self.chance.randint(1, max(count, 1)))
+        self.alike(asked, came, wanted)
+
+    def answer(self, asked):
+        """Has both answer a request, and counts whether the second does so without what is kept."""
+        (wanted, count), (came, other) = self.keeping.ask(asked), self.dropping.ask(asked)
+        self.alike(asked, came, wanted)
+        self.answers += 1
+        # a connection asks for memory, too, so that a difference has to be there once more
+        self.without += other != count and self.keeping.ask(asked)[1] != self.dropping.ask(asked)[1]
+
+    def end(self):
+        """Fails where the states differ."""
+        if self.keeping.state() != self.dropping.state():
+            raise Fault("the states differ")
+
+
+def drawn(sites, chance, requests):
+    """Has two sites be sent requests that are drawn."""
+    twins = Twins(sites, chance)
+    for _ in range(DRAWN):
+        asked = chance.choice(requests)
+        if is_change(asked):
+            twins.change(asked)
+        else:
+            twins.answer(asked)
+    twins.end()
+    sites.end()
+    return twins
+
+
+def told(answers, without):
+    """What is told of answers; it fails where few of them are found without what is kept."""
+    if without < answers // 50:
+        raise Fault(f"{without} of {answers} answers without what is kept")
+    return f"{answers} answers alike, {without} of them without what is kept"
+
+
+def draws_alike(sites, seed, count):
+    """Has twins begin so often."""
+    chance, requests = random.Random(seed), drawn_requests()
+    all_twins = [drawn(sites, chance, requests) for _ in range(count)]
+    missing = set(KINDS).difference(*(twins.seen for twins in all_twins))
+    if missing:
+        raise Fault(f"no answers of these kinds: {missing}")
+    return told(sum(twins.answers for twins in all_twins), sum(twins.without for twins in all_twins))
+
+
+def member_json(member):
+    """The uid of an entity."""
+    return {"id": member[1], "type": member[0]}
+
+
+def random_change(chance, label, step):
+    """Puts one of eight entities below some others, or takes it away, by a command or by a message, which wins."""
+    kind, name = chance.choice(MEMBERS)
+    uid, word = {"id": name, "type": kind}, chance.choice(("put", "put", "put", "put", "gone", "message"))
+    if word == "gone":
+        return entity_gone(kind, name)
+    others = sorted(chance.sample(MEMBERS, chance.randint(0, 3)))
+    stated = {"attrs": {}, "parents": [member_json(it) for it in others if it != (kind, name)], "uid": uid}
+    if word == "put":
+        return "PUT", "/v1/entities", compact(stated)
+    entry = {"body": compact(stated).decode(), "count": 10 * STEPS * (step + 1), "name": {"entity": uid}, "site": "2"}
+    return "POST", "/v1/merge", compact({"entries": [entry], "kind": "state", "schema": label, "version": 2})
+
+
+def hierarchies_alike(sites, seed):
+    """Has twins follow changes of a hierarchy."""
+    twins = Twins(sites, random.Random(seed), "members")
+    for kind, name in MEMBERS:
+        twins.change(put(f"in_{name}", f'permit(principal in {kind}::"{name}", action, resource);'))
+    view = {"type": "Action", "id": "view"}
+    asks = [compact({"principal": it, "action": view, "resource": it}) for it in map(member_json, MEMBERS)]
+    label = label_of(twins.keeping.site)
+    for step in range(STEPS):
+        twins.change(random_change(twins.chance, label, step))
+        for asked in asks:
+            twins.answer(("POST", "/v1/authorize", asked))
+    twins.end()
+    if not {KINDS[0], KINDS[1], KINDS[4]} <= twins.seen:
+        raise Fault(f"no answers of each kind: {twins.seen}")
+    return told(twins.answers, twins.without)
+
+
+# ---- what answers ask for
+
+
+def put(policy, text):
+    """Puts a policy."""
+    return "PUT", policy_path(policy), text.encode()
+
+
+def delete(policy):
+    """Takes a policy away."""
+    return "DELETE", policy_path(policy)
+
+
+def entity(kind, name, *groups):
+    """Puts an entity below these groups."""
+    attrs = {"User": {"name": name}, "Doc": {"owner": {"type": "User", "id": name}}}.get(kind, {})
+    uid, parents = {"type": kind, "id": name}, [{"type": "Group", "id": it} for it in groups]
+    return "PUT", "/v1/entities", compact({"uid": uid, "attrs": attrs, "parents": parents})
+
+
+def entity_gone(kind, name):
+    """Takes an entity away."""
+    return "POST", "/v1/entities/delete", compact({"type": kind, "id": name})
+
+
+def question(user):
+    """Asks whether a user may view document d."""
+    asked = {"principal": f'User::"{user}"', "action": 'Action::"view"', "resource": 'Doc::"d"'}
+    return "POST", "/v1/authorize", compact({**asked, "context": {"src": "10.1.2.3"}})
+
+
+def message(site, count, *entries):
+    """Hands in a message with these names and bodies, all of one count."""
+    made = [{"body": body, "count": count, "name": name, "site": "2"} for name, body in entries]
+    return "POST", "/v1/merge", compact({"entries": made, "kind": "state", "schema": label_of(site.site), "version": 2})
+
+
+def same(what, one, other):
+    """Fails where an answer asks for more memory than another."""
+    if one != other:
+        raise Fault(f"{what}: {one} allocations, and {other} elsewhere")
+
+
+BASE = (
+    put("p", "permit(principal, action, resource);"),
+    entity("User", "alice", "g"),
+    put("f", 'forbid(principal in Group::"g", action, resource);'),
+    put("b", 'permit(principal == User::"bob", action, resource);'),
+)
+
+
+def index_is_used(sites):
+    """Whether policies that name others, or are taken away, leave answers as they are."""
+    few, many = sites.begin(), sites.begin()
+    few.given(*BASE)
+    many.given(*BASE)
+    others = [(f"o{at}", f'permit(principal == User::"o{at}", action, resource);') for at in range(OTHERS)]
+    for stand in ("stand beside", "were put again", "name a group"):
+        if stand == "name a group":
+            others = [(name, f'forbid(principal in Group::"{name}", action, resource);') for name, _ in others]
+        many.given(*(put(*it) for it in others))
+        for user in ("alice", "bob"):
+            same(f"{OTHERS} policies {stand}, {user}", many.cost(question(user)), few.cost(question(user)))
+    every = many.cost(question("alice"))
+    dropped = drop(many, BASE[0], question("alice"))
+    many.given(*(delete(name) for name, _ in others))
+    for user in ("alice", "bob"):
+        same(f"{OTHERS} policies taken away, {user}", many.cost(question(user)), few.cost(question(user)))
+    return f"{every} allocations beside {OTHERS} policies more, and {dropped} without what is kept"
+
+
+def drop(site, change, asked):
+    """Has a site drop its index, by a policy that is put while an allocation is refused, or its ancestors, by an entity:
+    one of the last is that for what is kept. Returns what an answer asks for then."""
+    site.given(change)
+    kept, (_, count) = site.cost(asked), site.ask(change)
+    for number in range(count, 0, -1):
+        _, is_asked_once = site.ask_refused(change, number)
+        cost = site.cost(asked)
+        if is_asked_once and cost != kept:
+            return cost
+    raise Fault("no allocation of a change is one for what is kept")
+
+
+def ancestors_are_used(sites):
+    """Whether a longer way leaves answers as they are."""
+    near, far = sites.begin(), sites.begin()
+    near.given(*way(1))
+    far.given(*way(GROUPS))
+    one, other = near.cost(question("z")), far.cost(question("z"))
+    if other > one + GROWTH:
+        raise Fault(f"{other} allocations over {GROUPS} groups, and {one} over one")
+    dropped = drop(far, way(GROUPS)[-1], question("z"))
+    if dropped <= other + GROWTH:
+        raise Fault(f"{dropped} allocations over {GROUPS} groups without what is kept")
+    return f"{one} allocations over one group, {other} over {GROUPS}, and {dropped} without what is kept"
+
+
+def way(groups):
+    """Puts a policy for a group, and user z into the last of so many groups, each of which is in the one before it."""
+    above = [entity("Group", f"w{at}", f"w{at - 1}") for at in range(1, groups)]
+    bound = put("z", 'permit(principal in Group::"w0", action, resource);')
+    return bound, entity("Group", "w0"), *above, entity("User", "z", f"w{groups - 1}")
+
+
+def script(site):
+    """Changes of every kind, each with a question that it bears on: policies and groups that come, change and go, a
+    cycle that a message brings, and a deletion that ends it."""
+    group = {"id": "b", "type": "Group"}
+    below = compact({"attrs": {}, "parents": [{"id": "a", "type": "Group"}], "uid": group}).decode()
+    bound = 'permit(principal == User::"bob", action, resource);'
+    yield from ((change, "alice") for change in BASE)
+    yield delete("p"), "alice"
+    yield put("b", 'permit(principal, action, resource == Doc::"d");'), "alice"
+    yield put("f", 'forbid(principal in Group::"h", action, resource);'), "alice"
+    for change in (
+        entity("Group", "g3"),
+        entity("User", "u", "g1"),
+        entity("Group", "g1", "g2"),
+        entity("Group", "g2", "g3"),
+        put("f3", 'forbid(principal in Group::"g3", action, resource);'),
+        entity_gone("Group", "g2"),
+        entity("Group", "g2", "g3"),
+        entity("User", "u", "g2"),
+        entity("Group", "g1"),
+    ):
+        yield change, "u"
+    yield entity("Group", "a", "b"), "alice"
+    yield message(site, 1, ({"entity": group}, below)), "alice"
+    yield entity_gone("Group", "b"), "alice"
+    yield message(site, 1, ({"policy": "q"}, bound)), "alice"
+    yield delete("q"), "bob"
+
+
+def upkeep(sites, drops):
+    """Whether what is kept follows each change, as a new site makes it of the whole state; perhaps once dropped."""
+    site, count = sites.begin(), 0
+    site.given(*way(GROUPS))
+    for change, user in script(site):
+        asked = question(user)
+        if drops:
+            bound, *_, user_put = way(GROUPS)
+            drop(site, user_put if count % 2 else bound, question("z"))
+        site.given(change)
+        anew = sites.begin()
+        anew.given(("POST", "/v1/merge", site.state()))
+        same(f"behind {change}", site.cost(asked), anew.cost(asked))
+        sites.going.remove(anew)
+        anew.close()
+        count += 1
+    return f"{count} changes"
+
+
+TRIES = (
+    *((f"twins, {seed}", lambda sites, it=(seed, count): draws_alike(sites, *it)) for seed, count in DRAWS),
+    ("hierarchies", lambda sites: hierarchies_alike(sites, 1)),
+    ("index", index_is_used),
+    ("ancestors", ancestors_are_used),
+    ("upkeep", lambda sites: upkeep(sites, drops=False)),
+    ("upkeep of what was dropped", lambda sites: upkeep(sites, drops=True)),
+)
+
+
+def interrupt(*_):
+    """What ends this ends it as Ctrl-C does, so that the sites that it began end too."""
+    raise KeyboardInterrupt
+
+
+def main(words):
+    if len(words) != 1:
+        print(__doc__, file=sys.stderr)
+        return 2
+    signal.signal(signal.SIGTERM, interrupt)
+    passed = failed = 0
+    with tempfile.TemporaryDirectory() as folder:
+        library = f"{folder}/refuse.so"
+        subprocess.run(["cc", "-O2", "-shared", "-fPIC", "-o", library, f"{TOP}/bench/refuse.c"], check=True)
+        for schema, text in (("schema", SCHEMA), ("members", MEMBERS_SCHEMA)):
+            with open(f"{folder}/{schema}", "wb") as file:
+                file.write(json.dumps(text, separators=(",", ":")).encode())
+        sites = Sites(os.path.abspath(words[0]), folder)
+        for name, tries in TRIES:
+            try:
+                came, passed = tries(sites), passed + 1
+            except (Fault, OSError) as fault:
+                came, failed = f"FAILED: {fault or type(fault).__name__}", failed + 1
+            finally:
+                sites.end()
+            print(f"{name}: {came}", flush=True)
+    print(f"{passed} passed, {failed} failed")
+    return 1 if failed else 0
+
+
+if __name__ == "__main__":
+    sys.exit(main(sys.argv[1:]))
