@@ -40,7 +40,7 @@ MOST_BYTES = 152_000
 LONG = {
     "crates/decision_texts/src/request.rt": 1,
     "crates/entities/src/requests.rt": 1,
-    "crates/schema/src/numbering.rt": 1,
+    "crates/known_pairs/src/compared.rt": 2,
 }
 
 

@@ -10,7 +10,7 @@ use crate::held::beside;
 use json_words::only_keys;
 use plain::{Items, NoMemory};
 use serde_json::Value;
-use std::alloc::{AllocFailed, Global};
+use std::alloc::Global;
 use values::EntityUid;
 
 /// Why a value is not read.
@@ -32,16 +32,6 @@ impl From<NoMemory> for ShapeFault {
     }
 }
 
-impl<T: Drop> From<AllocFailed<T>> for ShapeFault {
-    ghost use Rattle.decision_texts.specs.declared.bare.ShapeFault.TheVariants.{NoMemory};
-
-    ghost from_gives = { λ _ e. e ≡ NoMemory };
-
-    fn from(_error: AllocFailed<T>) -> ShapeFault {
-        ShapeFault::NoMemory
-    }
-}
-
 /// An entity with no attributes.
 #[derive(Drop)]
 pub struct BareEntity {
@@ -59,15 +49,14 @@ pub(crate) fn read_uid(alloc: Global, value: &Value) -> Result<EntityUid, ShapeF
     }
 }
 
-fn read_uids(alloc: Global, values: &[Value]) -> Result<Items<EntityUid>, ShapeFault>
+/// Returns the uids that the parents of an entity are.
+fn parent_uids(alloc: Global, values: &[Value]) -> Result<Items<EntityUid>, ShapeFault>
     ensures { ReadsAs ShapeFault.NoMemory (λ us. us) result (uids_of (items_view values.now)) }
 {
-    let mut uids = Vec::with_capacity(alloc, values.len())?;
-    for value in values {
-        let uid = read_uid(alloc, value)?;
-        uids.push(uid)?;
+    match uid_json::read_uids(alloc, values)? {
+        Some(uids) => Ok(uids),
+        None => Err(ShapeFault::BadShape),
     }
-    Ok(Items::from_vec(uids))
 }
 
 fn read_parents(alloc: Global, parents: Option<&Value>) -> Result<Items<EntityUid>, ShapeFault>
@@ -77,7 +66,7 @@ fn read_parents(alloc: Global, parents: Option<&Value>) -> Result<Items<EntityUi
     match parents {
         None => Ok(Items::new(alloc)),
         Some(value) => match value.as_array() {
-            Some(list) => read_uids(alloc, list),
+            Some(list) => parent_uids(alloc, list),
             None => Err(ShapeFault::BadShape),
         },
     }

@@ -151,6 +151,7 @@ negated text x = (meaning text x).negated
 -- how the operands of a chain are joined
 abbrev pub joined_by : Chain → Expr → Expr → Expr
 joined_by chain.Product = core.Binary Multiply
+joined_by (chain.Sum sign) = core.Binary (sign_of sign)
 joined_by chain.And = core.And
 joined_by chain.Or = core.Or
 

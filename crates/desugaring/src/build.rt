@@ -3,25 +3,23 @@ ghost use Rattle.std.specs.Prelude.{◌≡◌, IfOk, map};
 ghost use Rattle.std.specs.List.{AllByRecursion, fold};
 ghost use Rattle.desugaring.specs.Core as spec;
 ghost use Rattle.desugaring.specs.Core.{core_of, negated};
-ghost use Rattle.desugaring.specs.inner.Giving.{Gave};
 ghost use Rattle.desugaring.specs.inner.WellFormed.{WellFormed, AllWellFormed, WellFormedEntry, WellFormedTerm};
 ghost use Rattle.desugaring.specs.inner.WellFormed.{WellFormedAccess};
 
 use crate::calls::{call, call_with_row};
 use crate::forms::{
-    Chain, add_term, apply, compare, field, has, if_then_else, is, is_in, join_next, like, named,
-    record, set,
+    Chain, apply, compare, field, has, if_then_else, is, is_in, join_next, like, named, record, set,
 };
 use crate::leaves::{
     boolean_literal, negated_literal, number_literal, text_literal, uid_literal, variable,
 };
 use crate::measuring::function_at;
 use crate::names::method_named;
-use crate::pairs::add;
+use crate::pairs::{add, both};
 use crate::words::name;
 use expression_trees::{Access, Entry, ExprTree, Term};
 use expressions::{Expr, Named, Unary};
-use plain::{Items, NoMemory};
+use plain::{Boxed, Items, NoMemory};
 use policy_tokens::spelling;
 use std::alloc::Global;
 
@@ -45,44 +43,24 @@ pub(crate) fn build_tree(alloc: Global, text: &str, tree: &ExprTree) -> Result<E
         ExprTree::Parentheses(inner) => build_tree(alloc, text, inner.get()),
         ExprTree::Set(members) => set(build_all(alloc, text, members.as_slice())),
         ExprTree::Record(entries) => record(build_entries(alloc, text, entries.as_slice())),
-        ExprTree::Member(inner, accesses) => {
-            let first = build_tree(alloc, text, inner.get());
-            build_accesses(alloc, text, accesses.as_slice(), first)
-        }
+        ExprTree::Member(inner, accesses) => build_accesses(alloc, text, accesses, inner),
         ExprTree::Not(inner) => apply(alloc, Unary::Not, build_tree(alloc, text, inner.get())),
         ExprTree::Minus(inner) => build_behind_minus(alloc, text, inner.get()),
-        ExprTree::Product(inner, more) => {
-            let first = build_tree(alloc, text, inner.get());
-            build_chain(alloc, text, more.as_slice(), first, Chain::Product)
+        ExprTree::Product(inner, more) => build_chain(alloc, text, more, inner, Chain::Product),
+        ExprTree::Sum(inner, terms) => build_terms(alloc, text, terms, inner),
+        ExprTree::Compare(left, operator, right) => {
+            compare(alloc, *operator, build_both(alloc, text, left, right))
         }
-        ExprTree::Sum(inner, terms) => {
-            let first = build_tree(alloc, text, inner.get());
-            build_terms(alloc, text, terms.as_slice(), first)
-        }
-        ExprTree::Compare(left, operator, right) => compare(
-            alloc,
-            *operator,
-            build_tree(alloc, text, left.get()),
-            build_tree(alloc, text, right.get()),
-        ),
         ExprTree::Has(inner, key) => has(alloc, text, build_tree(alloc, text, inner.get()), *key),
         ExprTree::Like(inner, token) => {
             like(alloc, text, build_tree(alloc, text, inner.get()), *token)
         }
         ExprTree::Is(inner, path) => is(alloc, text, build_tree(alloc, text, inner.get()), path),
         ExprTree::IsIn(inner, path, outer) => {
-            let operand = build_tree(alloc, text, inner.get());
-            let ancestor = build_tree(alloc, text, outer.get());
-            is_in(alloc, text, operand, ancestor, path)
+            is_in(alloc, text, build_both(alloc, text, inner, outer), path)
         }
-        ExprTree::And(inner, more) => {
-            let first = build_tree(alloc, text, inner.get());
-            build_chain(alloc, text, more.as_slice(), first, Chain::And)
-        }
-        ExprTree::Or(inner, more) => {
-            let first = build_tree(alloc, text, inner.get());
-            build_chain(alloc, text, more.as_slice(), first, Chain::Or)
-        }
+        ExprTree::And(inner, more) => build_chain(alloc, text, more, inner, Chain::And),
+        ExprTree::Or(inner, more) => build_chain(alloc, text, more, inner, Chain::Or),
         ExprTree::If(test, consequent, alternative) => {
             let first = build_tree(alloc, text, test.get());
             let second = build_tree(alloc, text, consequent.get());
@@ -102,6 +80,21 @@ fn build_behind_minus(alloc: Global, text: &str, tree: &ExprTree) -> Result<Expr
         ExprTree::Number(token) => Ok(negated_literal(text, *token)),
         _ => apply(alloc, Unary::Negate, build_tree(alloc, text, tree)),
     }
+}
+
+/// Returns the core expressions of two trees.
+#[cycle(build)]
+fn build_both(
+    alloc: Global,
+    text: &str,
+    left: &Boxed<ExprTree>,
+    right: &Boxed<ExprTree>,
+) -> Result<(Expr, Expr), NoMemory>
+    requires { WellFormed text.now left.now × WellFormed text.now right.now }
+    ensures { IfOk result (λ pair. pair ≡ (core_of text.now left.now, core_of text.now right.now)) }
+{
+    let first = build_tree(alloc, text, left.get());
+    both(first, build_tree(alloc, text, right.get()))
 }
 
 #[cycle(build)]
@@ -133,60 +126,64 @@ fn build_entries(
     Ok(Items::from_vec(row))
 }
 
+/// Returns a chain of operands.
 #[cycle(build)]
 fn build_chain(
     alloc: Global,
     text: &str,
-    more: &[ExprTree],
-    first: Result<Expr, NoMemory>,
+    more: &Items<ExprTree>,
+    first: &Boxed<ExprTree>,
     chain: Chain,
 ) -> Result<Expr, NoMemory>
-    requires { AllWellFormed text.now more.now }
-    ensures { IfOk result (λ e. Gave first (λ a. e ≡ fold (spec.joined_by chain) a (map (core_of text.now) more.now))) }
+    requires { WellFormed text.now first.now × AllWellFormed text.now more.now }
+    ensures { IfOk result
+        (λ e. e ≡ fold (spec.joined_by chain) (core_of text.now first.now) (map (core_of text.now) more.now)) }
 {
-    let mut left = first?;
-    for tree in more {
+    let trees = more.as_slice();
+    let mut left = build_tree(alloc, text, first.get())?;
+    for tree in trees {
         left = join_next(alloc, chain, left, build_tree(alloc, text, tree))?;
     }
     Ok(left)
 }
 
+/// Returns a sum.
 #[cycle(build)]
 fn build_terms(
     alloc: Global,
     text: &str,
-    terms: &[Term<ExprTree>],
-    first: Result<Expr, NoMemory>,
+    more: &Items<Term<ExprTree>>,
+    first: &Boxed<ExprTree>,
 ) -> Result<Expr, NoMemory>
-    requires { AllByRecursion (WellFormedTerm text.now) terms.now }
-    ensures { IfOk result (λ e. Gave first
-        (λ a. e ≡ fold spec.added a (map (spec.in_term (core_of text.now)) terms.now))) }
+    requires { WellFormed text.now first.now × AllByRecursion (WellFormedTerm text.now) more.now }
+    ensures { IfOk result
+        (λ e. e ≡ fold spec.added (core_of text.now first.now) (map (spec.in_term (core_of text.now)) more.now)) }
 {
-    let mut left = first?;
+    let terms = more.as_slice();
+    let mut left = build_tree(alloc, text, first.get())?;
     for term in terms {
-        left = add_term(
-            alloc,
-            term.sign,
-            left,
-            build_tree(alloc, text, &term.operand),
-        )?;
+        let right = build_tree(alloc, text, &term.operand);
+        left = join_next(alloc, Chain::Sum(term.sign), left, right)?;
     }
     Ok(left)
 }
 
+/// Returns what is reached by accesses.
 #[cycle(build)]
 fn build_accesses(
     alloc: Global,
     text: &str,
-    accesses: &[Access<Items<ExprTree>>],
-    receiver: Result<Expr, NoMemory>,
+    more: &Items<Access<Items<ExprTree>>>,
+    receiver: &Boxed<ExprTree>,
 ) -> Result<Expr, NoMemory>
-    requires { AllByRecursion (WellFormedAccess text.now) accesses.now }
+    requires { WellFormed text.now receiver.now × AllByRecursion (WellFormedAccess text.now) more.now }
     ensures { IfOk result
-        (λ e. Gave receiver
-        (λ a. e ≡ fold (spec.accessed text.now) a (map (spec.in_access (core_of text.now)) accesses.now))) }
+        (λ e. e
+        ≡ fold (spec.accessed text.now) (core_of text.now receiver.now)
+        (map (spec.in_access (core_of text.now)) more.now)) }
 {
-    let mut left = receiver?;
+    let accesses = more.as_slice();
+    let mut left = build_tree(alloc, text, receiver.get())?;
     for access in accesses {
         left = build_access(alloc, text, access, left)?;
     }

@@ -6,7 +6,7 @@ ghost use Rattle.expressions.specs.declared.operator.Binary.TheVariants as binar
 ghost use Rattle.expressions.specs.declared.expr.Expr.TheVariants as core;
 ghost use Rattle.expression_trees.specs.Patterns.{patterns};
 ghost use Rattle.desugaring.specs.Strings.{pattern_of};
-ghost use Rattle.desugaring.specs.Meaning.{sign_of, path_name, name_of};
+ghost use Rattle.desugaring.specs.Meaning.{path_name, name_of};
 ghost use Rattle.desugaring.specs.Core as spec;
 ghost use Rattle.desugaring.specs.inner.Giving.{Gave};
 ghost use Rattle.desugaring.specs.inner.WellFormed.{TokenIn, KeyIn, PathIn};
@@ -23,6 +23,8 @@ use std::alloc::Global;
 #[derive(Clone, Copy)]
 pub(crate) enum Chain {
     Product,
+    /// The sign of the further term.
+    Sum(Sign),
     And,
     Or,
 }
@@ -83,20 +85,18 @@ pub(crate) fn is(
 pub(crate) fn is_in(
     alloc: Global,
     text: &str,
-    operand: Result<Expr, NoMemory>,
-    ancestor: Result<Expr, NoMemory>,
+    operands: Result<(Expr, Expr), NoMemory>,
     path: &PathTree,
 ) -> Result<Expr, NoMemory>
     requires { PathIn text.now path.now }
     ensures { IfOk result
-        (λ e. Gave operand
-        (λ a. Gave ancestor
-        (λ b. e
-        ≡ core.And (core.Unary (unary.Is (path_name text.now path.now)) a)
-        (core.Binary binary.In a b)))) }
+        (λ e. Gave operands
+        (λ pair. e
+        ≡ core.And (core.Unary (unary.Is (path_name text.now path.now)) pair.0)
+        (core.Binary binary.In pair.0 pair.1))) }
 {
-    let type_name = path_type(alloc, text, path);
-    let (operand, ancestor, type_name) = all_three(operand, ancestor, type_name)?;
+    let (operands, type_name) = both(operands, path_type(alloc, text, path))?;
+    let (operand, ancestor) = operands;
     Expr::is_in(alloc, operand, type_name, ancestor)
 }
 
@@ -156,12 +156,11 @@ pub(crate) fn record(fields: Result<Items<Named<Expr>>, NoMemory>) -> Result<Exp
 pub(crate) fn compare(
     alloc: Global,
     operator: Comparison,
-    left: Result<Expr, NoMemory>,
-    right: Result<Expr, NoMemory>,
+    operands: Result<(Expr, Expr), NoMemory>,
 ) -> Result<Expr, NoMemory>
-    ensures { IfOk result (λ e. Gave left (λ a. Gave right (λ b. e ≡ spec.compared operator a b))) }
+    ensures { IfOk result (λ e. Gave operands (λ pair. e ≡ spec.compared operator pair.0 pair.1)) }
 {
-    let (left, right) = both(left, right)?;
+    let (left, right) = operands?;
     match operator {
         Comparison::Less => Expr::binary(alloc, Binary::Less, left, right),
         Comparison::LessOrEqual => Expr::binary(alloc, Binary::LessOrEqual, left, right),
@@ -179,6 +178,7 @@ fn join(alloc: Global, chain: Chain, left: Expr, right: Expr) -> Result<Expr, No
 {
     match chain {
         Chain::Product => Expr::binary(alloc, Binary::Multiply, left, right),
+        Chain::Sum(before) => Expr::binary(alloc, sign(before), left, right),
         Chain::And => Expr::and(alloc, left, right),
         Chain::Or => Expr::or(alloc, left, right),
     }
@@ -195,17 +195,4 @@ pub(crate) fn join_next(
 {
     let (left, right) = beside(left, right)?;
     join(alloc, chain, left, right)
-}
-
-/// Returns a sum with what was made as its next term.
-pub(crate) fn add_term(
-    alloc: Global,
-    before: Sign,
-    left: Expr,
-    right: Result<Expr, NoMemory>,
-) -> Result<Expr, NoMemory>
-    ensures { IfOk result (λ e. Gave right (λ b. e ≡ core.Binary (sign_of before) left b)) }
-{
-    let (left, right) = beside(left, right)?;
-    Expr::binary(alloc, sign(before), left, right)
 }

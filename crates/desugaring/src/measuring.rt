@@ -25,12 +25,15 @@ use crate::numbers::{fits, fits_negated};
 use crate::repeats::repeated_key;
 use expression_trees::{Access, Comparison, Entry, ExprTree, PathTree, Term};
 use expressions::UnaryCall;
-use plain::{Items, NoMemory};
+use plain::{Boxed, Items, NoMemory};
 use policy_tokens::{Token, spelling};
 use std::alloc::Global;
 
 /// What is told, but for want of memory.
 type Told = Result<Measure, NoMemory>;
+
+/// What is told of two.
+type BothTold = Result<(Measure, Measure), NoMemory>;
 
 /// Returns the fault of a number that is out of range.
 fn range_fault(within: bool, token: Token) -> Option<DesugarFault>
@@ -146,20 +149,20 @@ fn record(fault: Result<Option<DesugarFault>, NoMemory>, entries: Told) -> Told
 }
 
 /// `left operator right`
-fn compare(operator: Comparison, left: Told, right: Told) -> Told
-    ensures { IfOk result (λ j. Gave left (λ i. Gave right (λ k. j ≡ spec.measured_compared operator i k))) }
+fn compare(operator: Comparison, operands: BothTold) -> Told
+    ensures { IfOk result (λ j. Gave operands (λ pair. j ≡ spec.measured_compared operator pair.0 pair.1)) }
 {
-    let left = left?;
-    Ok(measure_comparison(operator, left, right?))
+    let (left, right) = operands?;
+    Ok(measure_comparison(operator, left, right))
 }
 
 /// `operand is path in ancestor`, in which the operand stands twice.
-fn is_in(operand: Told, ancestor: Told) -> Told
-    ensures { IfOk result (λ j. Gave operand (λ i. Gave ancestor
-        (λ k. j ≡ spec.paired (spec.above i) (spec.paired i k)))) }
+fn is_in(operands: BothTold) -> Told
+    ensures { IfOk result
+        (λ j. Gave operands (λ pair. j ≡ spec.paired (spec.above pair.0) (spec.paired pair.0 pair.1))) }
 {
-    let operand = operand?;
-    Ok(operand.above().paired(operand.paired(ancestor?)))
+    let (operand, ancestor) = operands?;
+    Ok(operand.above().paired(operand.paired(ancestor)))
 }
 
 /// `if test then consequent else alternative`
@@ -194,40 +197,20 @@ pub(crate) fn measure_tree(alloc: Global, text: &str, tree: &ExprTree) -> Told
             repeated_key(alloc, text, entries.as_slice()),
             measure_entries(alloc, text, entries.as_slice()),
         ),
-        ExprTree::Member(inner, accesses) => {
-            let first = measure_tree(alloc, text, inner.get());
-            measure_accesses(alloc, text, accesses.as_slice(), first)
-        }
+        ExprTree::Member(inner, accesses) => measure_accesses(alloc, text, accesses, inner),
         ExprTree::Not(inner) => above(measure_tree(alloc, text, inner.get())),
         ExprTree::Minus(inner) => measure_behind_minus(alloc, text, inner.get()),
-        ExprTree::Product(inner, more) => {
-            let first = measure_tree(alloc, text, inner.get());
-            measure_chain(alloc, text, more.as_slice(), first)
+        ExprTree::Product(inner, more) => measure_chain(alloc, text, more, inner),
+        ExprTree::Sum(inner, terms) => measure_terms(alloc, text, terms, inner),
+        ExprTree::Compare(left, operator, right) => {
+            compare(*operator, measure_both(alloc, text, left, right))
         }
-        ExprTree::Sum(inner, terms) => {
-            let first = measure_tree(alloc, text, inner.get());
-            measure_terms(alloc, text, terms.as_slice(), first)
-        }
-        ExprTree::Compare(left, operator, right) => compare(
-            *operator,
-            measure_tree(alloc, text, left.get()),
-            measure_tree(alloc, text, right.get()),
-        ),
         ExprTree::Has(inner, _) => above(measure_tree(alloc, text, inner.get())),
         ExprTree::Like(inner, _) => above(measure_tree(alloc, text, inner.get())),
         ExprTree::Is(inner, _) => above(measure_tree(alloc, text, inner.get())),
-        ExprTree::IsIn(inner, _, outer) => is_in(
-            measure_tree(alloc, text, inner.get()),
-            measure_tree(alloc, text, outer.get()),
-        ),
-        ExprTree::And(inner, more) => {
-            let first = measure_tree(alloc, text, inner.get());
-            measure_chain(alloc, text, more.as_slice(), first)
-        }
-        ExprTree::Or(inner, more) => {
-            let first = measure_tree(alloc, text, inner.get());
-            measure_chain(alloc, text, more.as_slice(), first)
-        }
+        ExprTree::IsIn(inner, _, outer) => is_in(measure_both(alloc, text, inner, outer)),
+        ExprTree::And(inner, more) => measure_chain(alloc, text, more, inner),
+        ExprTree::Or(inner, more) => measure_chain(alloc, text, more, inner),
         ExprTree::If(test, consequent, alternative) => {
             let first = measure_tree(alloc, text, test.get());
             let second = measure_tree(alloc, text, consequent.get());
@@ -247,6 +230,22 @@ fn measure_behind_minus(alloc: Global, text: &str, tree: &ExprTree) -> Told
         ExprTree::Number(token) => Ok(measure_negated_number(text, *token)),
         _ => above(measure_tree(alloc, text, tree)),
     }
+}
+
+/// Of two trees, each by itself.
+#[cycle(measuring)]
+fn measure_both(
+    alloc: Global,
+    text: &str,
+    left: &Boxed<ExprTree>,
+    right: &Boxed<ExprTree>,
+) -> BothTold
+    requires { WellFormed text.now left.now × WellFormed text.now right.now }
+    ensures { IfOk result (λ pair. pair ≡ (measured text.now left.now, measured text.now right.now)) }
+{
+    let first = measure_tree(alloc, text, left.get())?;
+    let second = measure_tree(alloc, text, right.get())?;
+    Ok((first, second))
 }
 
 #[cycle(measuring)]
@@ -273,41 +272,52 @@ fn measure_entries(alloc: Global, text: &str, entries: &[Entry<ExprTree>]) -> To
     Ok(row)
 }
 
+/// Of a chain of operands.
 #[cycle(measuring)]
-fn measure_chain(alloc: Global, text: &str, more: &[ExprTree], first: Told) -> Told
-    requires { AllWellFormed text.now more.now }
-    ensures { IfOk result (λ j. Gave first (λ i. j ≡ spec.measured_chain text.now i more.now)) }
+fn measure_chain(alloc: Global, text: &str, more: &Items<ExprTree>, first: &Boxed<ExprTree>) -> Told
+    requires { WellFormed text.now first.now × AllWellFormed text.now more.now }
+    ensures { IfOk result (λ j. j ≡ spec.measured_chain text.now (measured text.now first.now) more.now) }
 {
-    let mut left = first?;
-    for tree in more {
+    let trees = more.as_slice();
+    let mut left = measure_tree(alloc, text, first.get())?;
+    for tree in trees {
         left = left.paired(measure_tree(alloc, text, tree)?);
     }
     Ok(left)
 }
 
+/// Of a sum.
 #[cycle(measuring)]
-fn measure_terms(alloc: Global, text: &str, terms: &[Term<ExprTree>], first: Told) -> Told
-    requires { AllByRecursion (WellFormedTerm text.now) terms.now }
-    ensures { IfOk result (λ j. Gave first (λ i. j ≡ fold (spec.measured_term text.now) i terms.now)) }
+fn measure_terms(
+    alloc: Global,
+    text: &str,
+    more: &Items<Term<ExprTree>>,
+    first: &Boxed<ExprTree>,
+) -> Told
+    requires { WellFormed text.now first.now × AllByRecursion (WellFormedTerm text.now) more.now }
+    ensures { IfOk result (λ j. j ≡ fold (spec.measured_term text.now) (measured text.now first.now) more.now) }
 {
-    let mut left = first?;
+    let terms = more.as_slice();
+    let mut left = measure_tree(alloc, text, first.get())?;
     for term in terms {
         left = left.paired(measure_tree(alloc, text, &term.operand)?);
     }
     Ok(left)
 }
 
+/// Of what is reached by accesses.
 #[cycle(measuring)]
 fn measure_accesses(
     alloc: Global,
     text: &str,
-    accesses: &[Access<Items<ExprTree>>],
-    receiver: Told,
+    more: &Items<Access<Items<ExprTree>>>,
+    receiver: &Boxed<ExprTree>,
 ) -> Told
-    requires { AllByRecursion (WellFormedAccess text.now) accesses.now }
-    ensures { IfOk result (λ j. Gave receiver (λ i. j ≡ fold (spec.measured_access text.now) i accesses.now)) }
+    requires { WellFormed text.now receiver.now × AllByRecursion (WellFormedAccess text.now) more.now }
+    ensures { IfOk result (λ j. j ≡ fold (spec.measured_access text.now) (measured text.now receiver.now) more.now) }
 {
-    let mut left = receiver?;
+    let accesses = more.as_slice();
+    let mut left = measure_tree(alloc, text, receiver.get())?;
     for access in accesses {
         left = measure_access(alloc, text, access, left)?;
     }

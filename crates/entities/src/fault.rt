@@ -4,7 +4,6 @@ ghost use Rattle.entities.specs.Faults.{code_of, of_value};
 ghost use Rattle.entities.specs.declared.fault.EntityFault.TheVariants.{NoMemory};
 
 use plain::NoMemory;
-use std::alloc::AllocFailed;
 use typed_values::ValueFault;
 
 /// The first cause for which JSON states no entity, no context or no request under a schema.
@@ -59,14 +58,6 @@ impl From<NoMemory> for EntityFault {
     ghost from_gives = { λ _ e. e ≡ NoMemory };
 
     fn from(_error: NoMemory) -> EntityFault {
-        EntityFault::NoMemory
-    }
-}
-
-impl<T: Drop> From<AllocFailed<T>> for EntityFault {
-    ghost from_gives = { λ _ e. e ≡ NoMemory };
-
-    fn from(_error: AllocFailed<T>) -> EntityFault {
         EntityFault::NoMemory
     }
 }

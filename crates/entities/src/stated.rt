@@ -30,15 +30,14 @@ fn read_uid(alloc: Global, value: &Value) -> Result<EntityUid, EntityFault>
     }
 }
 
-fn read_uids(alloc: Global, values: &[Value]) -> Result<Items<EntityUid>, EntityFault>
+/// Returns the uids that the parents of an entity are.
+fn parent_uids(alloc: Global, values: &[Value]) -> Result<Items<EntityUid>, EntityFault>
     ensures { ReadsAs EntityFault.NoMemory (λ us. us) result (uids_of (items_view values.now)) }
 {
-    let mut uids = Vec::with_capacity(alloc, values.len())?;
-    for value in values {
-        let uid = read_uid(alloc, value)?;
-        uids.push(uid)?;
+    match uid_json::read_uids(alloc, values)? {
+        Some(uids) => Ok(uids),
+        None => Err(EntityFault::BadShape),
     }
-    Ok(Items::from_vec(uids))
 }
 
 fn read_parents(alloc: Global, parents: Option<&Value>) -> Result<Items<EntityUid>, EntityFault>
@@ -48,7 +47,7 @@ fn read_parents(alloc: Global, parents: Option<&Value>) -> Result<Items<EntityUi
     match parents {
         None => Ok(Items::new(alloc)),
         Some(value) => match value.as_array() {
-            Some(list) => read_uids(alloc, list),
+            Some(list) => parent_uids(alloc, list),
             None => Err(EntityFault::BadShape),
         },
     }

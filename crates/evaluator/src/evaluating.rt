@@ -4,20 +4,20 @@ ghost use Rattle.values.specs.Values.{set, record_of, values_of, fields_of};
 ghost use Rattle.values.specs.Sets.{set_list};
 ghost use Rattle.evaluator.specs.Operators.{world_of};
 ghost use Rattle.evaluator.specs.Evaluation.{AnswersWhatIsGiven, AnswersAllThatIsGiven};
-ghost use Rattle.evaluator.specs.inner.Computing.{decided_world, Answers, meaning, named_meaning, each, each_field};
-ghost use Rattle.evaluator.specs.inner.Computing.{and_then, as_test, truth, apply_unary, apply_binary};
+ghost use Rattle.evaluator.specs.inner.Computing.{decided_world, Answers, AnswersNext, meaning, named_meaning, each};
+ghost use Rattle.evaluator.specs.inner.Computing.{each_field, and_then, apply_unary, apply_binary};
 ghost use Rattle.evaluator.specs.inner.Computing.{apply_unary_call, apply_binary_call, field_of, has_field};
 
 use crate::borrowed_or_owned::BorrowedOrOwned;
+use crate::choosing::{both_of, choice_of, either_of};
 use crate::fault::EvalFault;
 use crate::laws::meanings_are_given;
 use crate::leaves::{literal_of, variable_of};
 use crate::lookup::Lookup;
 use crate::steps::{
     add_field, add_value, called_on, called_on_two, field_in, has_in, on_operand, on_operands,
-    record_with, set_with, tested, truth_of,
+    record_with, set_with,
 };
-use evaluation_steps::decides_and;
 use expressions::{Binary, BinaryCall, Expr, Named, Unary, UnaryCall};
 use plain::{Items, Shared, Text};
 use std::alloc::Global;
@@ -47,10 +47,11 @@ pub fn evaluate<'a, L: Lookup>(
     outcome_of(alloc, expr, request, store)
 }
 
-// The arms that hold a value are functions of their own, so that a level of the recursion takes little stack. What is
-// made of an operand's outcome is a function outside the recursion (steps.rt), which reads the outcome where it stands.
+// Each arm is one call, so that a level of the recursion takes little stack and prepares no room for the outcomes that
+// other arms hold: a function begins by clearing all that it has room for. What is made of an operand's outcome is a
+// function outside the recursion (steps.rt), which reads the outcome where it stands.
 #[cycle(evaluate)]
-fn outcome_of<'a, L: Lookup>(
+pub(crate) fn outcome_of<'a, L: Lookup>(
     alloc: Global,
     expr: &'a Expr,
     request: &'a Request,
@@ -62,32 +63,13 @@ fn outcome_of<'a, L: Lookup>(
         Expr::Literal(literal) => literal_of(literal),
         Expr::Variable(variable) => variable_of(*variable, request),
         Expr::If(test, consequent, alternative) => {
-            if test_of(alloc, test, request, store)? {
-                outcome_of(alloc, consequent.get(), request, store)
-            } else {
-                outcome_of(alloc, alternative.get(), request, store)
-            }
+            choice_of(alloc, test, consequent, alternative, request, store)
         }
-        Expr::And(left, right) => {
-            let first = test_of(alloc, left, request, store)?;
-            if decides_and(first) {
-                truth_of(Ok(first))
-            } else {
-                last_test(alloc, right, request, store)
-            }
-        }
-        Expr::Or(left, right) => {
-            let first = test_of(alloc, left, request, store)?;
-            if first {
-                truth_of(Ok(first))
-            } else {
-                last_test(alloc, right, request, store)
-            }
-        }
+        Expr::And(left, right) => both_of(alloc, left, right, request, store),
+        Expr::Or(left, right) => either_of(alloc, left, right, request, store),
         Expr::Unary(operator, operand) => one_operand(alloc, operator, operand, request, store),
         Expr::Binary(operator, left, right) => {
-            let left = outcome_of(alloc, left.get(), request, store)?;
-            second_operand(alloc, right, *operator, left, request, store)
+            two_operands(alloc, *operator, left, right, request, store)
         }
         Expr::Field(owner, name) => field_of(alloc, owner, name, request, store),
         Expr::Has(owner, name) => has_of(alloc, owner, name, request, store),
@@ -95,41 +77,47 @@ fn outcome_of<'a, L: Lookup>(
         Expr::Record(fields) => record_of(alloc, fields, request, store),
         Expr::UnaryCall(called, operand) => one_called(alloc, *called, operand, request, store),
         Expr::BinaryCall(called, left, right) => {
-            let left = outcome_of(alloc, left.get(), request, store)?;
-            second_called(alloc, right, *called, left, request, store)
+            two_called(alloc, *called, left, right, request, store)
         }
     }
 }
 
-/// Returns what an expression gives as a test.
+/// Returns what an operator gives on two expressions' values.
 #[cycle(evaluate)]
 #[inline(never)]
-fn test_of<'a, L: Lookup>(
+fn two_operands<'a, L: Lookup>(
     alloc: Global,
-    test: &'a Shared<Expr>,
-    request: &'a Request,
-    store: &'a L,
-) -> Result<bool, EvalFault>
-    ensures { Answers result (as_test
-        (meaning request.now (decided_world (L.stored store.now) (L.above store.now)) test.now)) }
-{
-    let given = outcome_of(alloc, test.get(), request, store);
-    tested(&given)
-}
-
-/// Returns what `&&` or `||` gives where its second operand decides.
-#[cycle(evaluate)]
-#[inline(never)]
-fn last_test<'a, L: Lookup>(
-    alloc: Global,
-    test: &'a Shared<Expr>,
+    operator: Binary,
+    left: &'a Shared<Expr>,
+    right: &'a Shared<Expr>,
     request: &'a Request,
     store: &'a L,
 ) -> Result<BorrowedOrOwned<'a>, EvalFault>
-    ensures { Answers result (and_then (as_test
-        (meaning request.now (decided_world (L.stored store.now) (L.above store.now)) test.now)) truth) }
+    ensures { let world = decided_world (L.stored store.now) (L.above store.now) in
+        Answers result (and_then (meaning request.now world left.now)
+        (λ v. and_then (meaning request.now world right.now) (apply_binary world operator v))) }
 {
-    truth_of(test_of(alloc, test, request, store))
+    let left = outcome_of(alloc, left.get(), request, store);
+    second_operand(alloc, right, operator, &left, request, store)
+}
+
+/// Returns what a call gives on two expressions' values.
+#[cycle(evaluate)]
+#[inline(never)]
+fn two_called<'a, L: Lookup>(
+    alloc: Global,
+    called: BinaryCall,
+    left: &'a Shared<Expr>,
+    right: &'a Shared<Expr>,
+    request: &'a Request,
+    store: &'a L,
+) -> Result<BorrowedOrOwned<'a>, EvalFault>
+    ensures { let world = decided_world (L.stored store.now) (L.above store.now) in
+        Answers result (and_then (meaning request.now world left.now)
+        (λ v. and_then (meaning request.now world right.now) (apply_binary_call called v))) }
+{
+    let left = outcome_of(alloc, left.get(), request, store);
+    second_called(alloc, right, called, &left, request, store)
 }
 
 /// Returns what an operator gives on an expression's value.
@@ -150,22 +138,28 @@ fn one_operand<'a, L: Lookup>(
     on_operand(operator, &given)
 }
 
-/// Returns what an operator gives on a value and an expression's value.
+/// Returns what an operator gives on what was given and an expression's value; where nothing was given, only why.
 #[cycle(evaluate)]
 #[inline(never)]
 fn second_operand<'a, L: Lookup>(
     alloc: Global,
     right: &'a Shared<Expr>,
     operator: Binary,
-    left: BorrowedOrOwned<'a>,
+    left: &Result<BorrowedOrOwned<'a>, EvalFault>,
     request: &'a Request,
     store: &'a L,
 ) -> Result<BorrowedOrOwned<'a>, EvalFault>
     ensures { let world = decided_world (L.stored store.now) (L.above store.now) in
-        Answers result (and_then (meaning request.now world right.now) (apply_binary world operator left.entry)) }
+        AnswersNext left.now
+        (λ v. and_then (meaning request.now world right.now) (apply_binary world operator v)) result }
 {
-    let right = outcome_of(alloc, right.get(), request, store);
-    on_operands(store, operator, &left, &right)
+    match left {
+        Ok(value) => {
+            let right = outcome_of(alloc, right.get(), request, store);
+            on_operands(store, operator, value, &right)
+        }
+        Err(fault) => Err(*fault),
+    }
 }
 
 /// Returns what a call gives on an expression's value.
@@ -186,23 +180,28 @@ fn one_called<'a, L: Lookup>(
     called_on(called, &given)
 }
 
-/// Returns what a call gives on a value and an expression's value.
+/// Returns what a call gives on what was given and an expression's value; where nothing was given, only why.
 #[cycle(evaluate)]
 #[inline(never)]
 fn second_called<'a, L: Lookup>(
     alloc: Global,
     right: &'a Shared<Expr>,
     called: BinaryCall,
-    left: BorrowedOrOwned<'a>,
+    left: &Result<BorrowedOrOwned<'a>, EvalFault>,
     request: &'a Request,
     store: &'a L,
 ) -> Result<BorrowedOrOwned<'a>, EvalFault>
-    ensures { Answers result (and_then
-        (meaning request.now (decided_world (L.stored store.now) (L.above store.now)) right.now)
-        (apply_binary_call called left.entry)) }
+    ensures { let world = decided_world (L.stored store.now) (L.above store.now) in
+        AnswersNext left.now
+        (λ v. and_then (meaning request.now world right.now) (apply_binary_call called v)) result }
 {
-    let right = outcome_of(alloc, right.get(), request, store);
-    called_on_two(called, &left, &right)
+    match left {
+        Ok(value) => {
+            let right = outcome_of(alloc, right.get(), request, store);
+            called_on_two(called, value, &right)
+        }
+        Err(fault) => Err(*fault),
+    }
 }
 
 /// Returns a field or an attribute of an expression's value.

@@ -3,6 +3,7 @@
 
 mod borrowed_or_owned;
 mod calls;
+mod choosing;
 mod evaluating;
 mod fault;
 mod fields;

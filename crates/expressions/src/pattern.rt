@@ -40,6 +40,14 @@ impl Pattern {
         }
     }
 
+    /// Returns the literal texts that a wildcard follows, in order, and the one behind the last wildcard, or the only
+    /// one; takes no memory.
+    pub fn literals(&self) -> (&[Text], &Text)
+        ensures { result.0.now ++ result.1.now ∷ [] ≡ self.now }
+    {
+        (self.before.as_slice(), &self.last)
+    }
+
     /// Returns whether two patterns are equal, literal text by literal text; takes no memory.
     pub fn same(&self, other: &Pattern) -> bool
         ensures { IsTrue result ↔ (self.now ≡ other.now) }

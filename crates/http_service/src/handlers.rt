@@ -4,14 +4,17 @@ ghost use Rattle.std.specs.Str.{is_utf8};
 ghost use Rattle.std.specs.Vec.{vec_capacity};
 ghost use Rattle.json_words.specs.Json.{json_of};
 ghost use Rattle.uid_json.specs.Uids.{uid_in};
+ghost use Rattle.service_replies.specs.passed_on.site.{schema_of, store_in, IsSameSite};
+ghost use Rattle.site.specs.Steps.{Answers, PutsEntity};
 ghost use Rattle.http_streams.specs.declared.TheConstants.{REPLY_ROOM};
 ghost use Rattle.service_routes.specs.Routes.{route_stated};
 ghost use Rattle.site_runs.specs.declared.input.Input.TheVariants as input;
 ghost use Rattle.http_service.specs.Asked.{asked, hands, put_asked, removal_asked, not_text};
 ghost use Rattle.http_service.specs.inner.Dealing.{Deals};
 
+use authoriser::Answer;
 use http_texts::status::Status;
-use json_words::read_json;
+use json_values::{Scratch, read_json_by};
 use plain::NoMemory;
 use policy_grammar::{MOST_ID_BYTES, MOST_POLICY_BYTES, ReadFault};
 use service_replies::{
@@ -19,23 +22,43 @@ use service_replies::{
     report_stamp, report_status, report_taken,
 };
 use service_routes::{PolicyId, Route, route_of};
-use site_runs::{
-    EntityFault, authorize_bytes, delta_bytes, put_entity_bytes, state_bytes, summary_bytes,
-    take_bytes,
-};
+use site_runs::{EntityFault, delta_bytes, state_bytes, summary_bytes, take_bytes};
+use stamped_store::Stamp;
 use std::alloc::Global;
 use uid_json::read_uid;
 use values::EntityUid;
 
 // ---- questions
 
+/// Returns the answer to the request that a body states, as `authorize_bytes` of `site_runs` does.
+fn answer_to(
+    alloc: Global,
+    scratch: &mut Scratch,
+    site: &Site,
+    body: &[u8],
+) -> Result<Answer, SiteFault>
+    ensures { Answers (schema_of site.now) (store_in site.now) (json_of body.now) result }
+{
+    match read_json_by(scratch, alloc, body) {
+        Ok(Some(json)) => site.authorize(&json),
+        Ok(None) => Err(SiteFault::Request(EntityFault::BadShape)),
+        Err(_) => Err(SiteFault::NoMemory),
+    }
+}
+
 /// Answers the request that a body states.
-fn authorize(alloc: Global, site: &Site, body: &[u8], text: &mut Vec<u8>) -> Status
+fn authorize(
+    alloc: Global,
+    scratch: &mut Scratch,
+    site: &Site,
+    body: &[u8],
+    text: &mut Vec<u8>,
+) -> Status
     requires room { vec_len text.old + REPLY_ROOM ≤ vec_capacity text.old }
     ensures reply { Deals site.now (hands (input.Authorize body.now)) result text.old.items text.new.items site.now }
     ensures kept { vec_capacity text.old ≤ vec_capacity text.new }
 {
-    let outcome = authorize_bytes(alloc, site, body);
+    let outcome = answer_to(alloc, scratch, site, body);
     report_answer(alloc, text, &outcome)
 }
 
@@ -130,34 +153,68 @@ fn delete_policy(site: &mut Site, id: &str, text: &mut Vec<u8>) -> Status
     report_stamp(text, outcome)
 }
 
+/// Puts the entity that a body states, as `put_entity_bytes` of `site_runs` does.
+fn put_stated(
+    alloc: Global,
+    scratch: &mut Scratch,
+    site: &mut Site,
+    body: &[u8],
+) -> Result<Stamp, SiteFault>
+    ensures puts { PutsEntity (schema_of site.old) site.old.name (store_in site.old) (json_of body.now) result
+        (store_in site.new) }
+    ensures same { IsSameSite site.old site.new }
+{
+    match read_json_by(scratch, alloc, body) {
+        Ok(Some(json)) => site.put_entity(&json),
+        Ok(None) => Err(SiteFault::Entity(EntityFault::BadShape)),
+        Err(_) => Err(SiteFault::NoMemory),
+    }
+}
+
 /// Puts the entity that a body states.
-fn put_entity(alloc: Global, site: &mut Site, body: &[u8], text: &mut Vec<u8>) -> Status
+fn put_entity(
+    alloc: Global,
+    scratch: &mut Scratch,
+    site: &mut Site,
+    body: &[u8],
+    text: &mut Vec<u8>,
+) -> Status
     requires room { vec_len text.old + REPLY_ROOM ≤ vec_capacity text.old }
     ensures reply { Deals site.old (hands (input.PutEntity body.now)) result text.old.items text.new.items site.new }
     ensures kept { vec_capacity text.old ≤ vec_capacity text.new }
 {
-    let outcome = put_entity_bytes(alloc, site, body);
+    let outcome = put_stated(alloc, scratch, site, body);
     report_stamp(text, outcome)
 }
 
 /// Returns the entity that a body names, or None.
-fn named_entity(alloc: Global, body: &[u8]) -> Result<Option<EntityUid>, NoMemory>
+fn named_entity(
+    alloc: Global,
+    scratch: &mut Scratch,
+    body: &[u8],
+) -> Result<Option<EntityUid>, NoMemory>
     ensures { IfOk result (λ uid. uid ≡ option_and_then uid_in (json_of body.now)) }
 {
-    match read_json(alloc, body)? {
+    match read_json_by(scratch, alloc, body)? {
         Some(json) => read_uid(alloc, &json),
         None => Ok(None),
     }
 }
 
 /// Takes the entity away that a body names.
-fn delete_entity(alloc: Global, site: &mut Site, body: &[u8], text: &mut Vec<u8>) -> Status
+fn delete_entity(
+    alloc: Global,
+    scratch: &mut Scratch,
+    site: &mut Site,
+    body: &[u8],
+    text: &mut Vec<u8>,
+) -> Status
     requires room { vec_len text.old + REPLY_ROOM ≤ vec_capacity text.old }
     ensures reply { Deals site.old (removal_asked (option_and_then uid_in (json_of body.now))) result text.old.items
         text.new.items site.new }
     ensures kept { vec_capacity text.old ≤ vec_capacity text.new }
 {
-    match named_entity(alloc, body) {
+    match named_entity(alloc, scratch, body) {
         Ok(Some(uid)) => {
             let outcome = site.delete_entity(&uid);
             report_stamp(text, outcome)
@@ -182,6 +239,7 @@ fn merge(alloc: Global, site: &mut Site, body: &[u8], text: &mut Vec<u8>) -> Sta
 /// Answers what a route asks with this body.
 fn answer_route(
     alloc: Global,
+    scratch: &mut Scratch,
     site: &mut Site,
     route: &Route,
     body: &[u8],
@@ -192,7 +250,7 @@ fn answer_route(
     ensures kept { vec_capacity text.old ≤ vec_capacity text.new }
 {
     match route {
-        Route::Authorize => authorize(alloc, site, body, text),
+        Route::Authorize => authorize(alloc, scratch, site, body, text),
         Route::PutPolicy(PolicyId::Named(id)) => put_policy(site, id.as_str(), body, text),
         Route::GetPolicy(PolicyId::Named(id)) => get_policy(alloc, site, id.as_str(), text),
         Route::DeletePolicy(PolicyId::Named(id)) => delete_policy(site, id.as_str(), text),
@@ -201,8 +259,8 @@ fn answer_route(
         | Route::DeletePolicy(PolicyId::NotUtf8) => {
             report_fault(text, SiteFault::Policy(ReadFault::BadId))
         }
-        Route::PutEntity => put_entity(alloc, site, body, text),
-        Route::DeleteEntity => delete_entity(alloc, site, body, text),
+        Route::PutEntity => put_entity(alloc, scratch, site, body, text),
+        Route::DeleteEntity => delete_entity(alloc, scratch, site, body, text),
         Route::State => state(site, text),
         Route::Summary => summary(site, text),
         Route::Delta => delta(alloc, site, body, text),
@@ -212,9 +270,11 @@ fn answer_route(
     }
 }
 
-/// Answers a request: one step of the site at most, and the reply to it behind the text that is there.
+/// Answers a request: one step of the site at most, and the reply to it behind the text that is there. Nothing of what
+/// the scratch held before is told.
 pub(crate) fn answer(
     alloc: Global,
+    scratch: &mut Scratch,
     site: &mut Site,
     method: &[u8],
     target: &[u8],
@@ -227,7 +287,7 @@ pub(crate) fn answer(
     ensures kept { vec_capacity text.old ≤ vec_capacity text.new }
 {
     match route_of(alloc, method, target) {
-        Ok(route) => answer_route(alloc, site, &route, body, text),
+        Ok(route) => answer_route(alloc, scratch, site, &route, body, text),
         Err(_) => report_fault(text, SiteFault::NoMemory),
     }
 }

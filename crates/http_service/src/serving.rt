@@ -5,6 +5,7 @@ ghost use Rattle.http_service.specs.Serving.{IsServed};
 use crate::site_service::SiteService;
 use counted_devices::devices::{Sink, Source};
 use http_streams::serve::{StreamFault, serve as serve_stream};
+use json_values::Scratch;
 use service_replies::Site;
 use site_runs::runs_leave_what_they_took;
 use std::alloc::Global;
@@ -39,6 +40,11 @@ pub fn serve<R: Source, W: Sink>(
     ensures { IsServed R.left R.failed R.reads R.fails W.holds W.failed W.fails reader.old reader.new writer.old
         writer.new site.old site.new result }
 {
-    let mut service = SiteService { alloc, site };
+    let mut scratch = Scratch::new(alloc);
+    let mut service = SiteService {
+        alloc,
+        kept: &mut scratch,
+        site,
+    };
     serve_borrowed(alloc, &mut service, reader, writer)
 }

@@ -2,6 +2,7 @@
 use crate::handlers::answer;
 use http_streams::service::{Answers, Service};
 use http_texts::status::Status;
+use json_values::Scratch;
 use service_replies::Site;
 use std::alloc::Global;
 use std::marker::Model;
@@ -11,6 +12,8 @@ use std::marker::Model;
 #[derive(Drop)]
 pub struct SiteService<'a> {
     pub(crate) alloc: Global,
+    // lent to each body that is read, since a new one is zeroed whole
+    pub(crate) kept: &'a mut Scratch,
     pub(crate) site: &'a mut Site,
 }
 
@@ -49,6 +52,6 @@ impl Answers for Stated {
 
 impl Service for SiteService<'_> {
     fn call(&mut self, method: &[u8], target: &[u8], body: &[u8], text: &mut Vec<u8>) -> Status {
-        answer(self.alloc, self.site, method, target, body, text)
+        answer(self.alloc, self.kept, self.site, method, target, body, text)
     }
 }

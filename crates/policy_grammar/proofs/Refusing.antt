@@ -1,5 +1,5 @@
 -- From the refusal of trees to the refusal of their text.
-use Rattle.std.proofs.Common.{◌≡◌, ◌↔◌, ℕ, Bool, true, false, IsTrue, List, length, Result, Ok, Err, IfOk, IfErr, ◌⊎◌, ◌∙◌, inr}
+use Rattle.std.proofs.Common.{◌≡◌, ◌↔◌, ℕ, Bool, true, false, IsTrue, List, length, Result, Ok, Err, IfOk, IfErr, ◌∙◌, inr}
 use Rattle.std.specs.List.{enumerate_from}
 use Rattle.std.proofs.lemmas.List.FromFn.{length-enumerate_from}
 use Rattle.std.proofs.lemmas.Slice.Zip.{AllZip-long}

@@ -2,40 +2,49 @@
 ghost use Rattle.std.specs.Prelude.{◌≡◌, [], true, IfOk};
 ghost use Rattle.std.specs.List.{AllByRecursion};
 ghost use Rattle.policy_syntax.specs.Grammar.{effects};
-ghost use Rattle.policy_syntax.specs.WellFormed.{WellFormedPath, WellFormedUid, WellFormedPart, WellFormedAction};
+ghost use Rattle.policy_syntax.specs.WellFormed.{WellFormedUid, WellFormedPart, WellFormedAction};
 ghost use Rattle.policy_syntax.specs.WellFormed.{WellFormedPolicy};
 ghost use Rattle.policy_grammar.specs.Conditions.{condition_faults};
-ghost use Rattle.desugaring.specs.Meaning.{path_name};
 ghost use Rattle.policy_grammar.specs.CoreOf.{IsUidOf, AreUidsOf, IsEntityScopeOf, IsActionScopeOf, effect_word};
 ghost use Rattle.policy_grammar.specs.CoreOf.{IsCoreOf};
 ghost use Rattle.desugaring.specs.BuiltFrom.{IsBuiltFrom};
 
 use crate::conditions::build_conditions;
 use crate::held::beside;
+use crate::known_names::{
+    action_in, id_like, id_of, principal_in, resource_in, type_in, type_name_like, type_of, uid_in,
+};
 use crate::policy::{ActionScope, Effect, EntityScope, Policy, Scope};
-use desugaring::{strings_are_read, type_name};
+use desugaring::strings_are_read;
 use plain::{Items, NoMemory};
-use policy_syntax::{ActionTree, PartTree, PathTree, PolicyTree, UidTree};
+use policy_syntax::{ActionTree, PartTree, PolicyTree, UidTree};
 use policy_tokens::{TokenKind, decode_string};
 use std::alloc::Global;
-use values::{EntityUid, SharedText, TypeName};
+use values::EntityUid;
 
-fn type_name_of(alloc: Global, text: &str, path: &PathTree) -> Result<TypeName, NoMemory>
-    requires { IsBuiltFrom text.now (λ tokens. WellFormedPath tokens path.now) }
-    ensures { IfOk result (λ name. name ≡ path_name text.now path.now) }
-{
-    type_name(alloc, text, path)
-}
-
-pub(crate) fn uid_of(alloc: Global, text: &str, tree: &UidTree) -> Result<EntityUid, NoMemory>
+/// Returns the uid that a tree of one stands for, or `NoMemory`; it shares the texts that the known one has too.
+fn uid_like(
+    alloc: Global,
+    text: &str,
+    tree: &UidTree,
+    known: Option<&EntityUid>,
+) -> Result<EntityUid, NoMemory>
     requires { IsBuiltFrom text.now (λ tokens. WellFormedUid tokens tree.now) }
     ensures { IfOk result (IsUidOf text.now tree.now) }
 {
     strings_are_read();
-    let type_name = type_name_of(alloc, text, &tree.path)?;
+    let type_name = type_name_like(alloc, text, &tree.path, type_of(known))?;
     let decoded = decode_string(alloc, text, tree.id)?;
-    let id = SharedText::from_text(alloc, decoded)?;
+    let id = id_like(alloc, decoded, id_of(known))?;
     Ok(EntityUid { type_name, id })
+}
+
+/// Returns the uid that a tree of one stands for, or `NoMemory`.
+pub(crate) fn uid_of(alloc: Global, text: &str, tree: &UidTree) -> Result<EntityUid, NoMemory>
+    requires { IsBuiltFrom text.now (λ tokens. WellFormedUid tokens tree.now) }
+    ensures { IfOk result (IsUidOf text.now tree.now) }
+{
+    uid_like(alloc, text, tree, None)
 }
 
 fn uids_of(alloc: Global, text: &str, trees: &Items<UidTree>) -> Result<Items<EntityUid>, NoMemory>
@@ -50,44 +59,54 @@ fn uids_of(alloc: Global, text: &str, trees: &Items<UidTree>) -> Result<Items<En
     Ok(Items::from_vec(uids))
 }
 
-fn entity_scope_of(alloc: Global, text: &str, tree: &PartTree) -> Result<EntityScope, NoMemory>
+fn entity_scope_of(
+    alloc: Global,
+    text: &str,
+    tree: &PartTree,
+    known: Option<&EntityScope>,
+) -> Result<EntityScope, NoMemory>
     requires { IsBuiltFrom text.now (λ tokens. WellFormedPart tokens tree.now) }
     ensures { IfOk result (IsEntityScopeOf text.now tree.now) }
 {
     match tree {
         PartTree::Any => Ok(EntityScope::Any),
         PartTree::Equal(uid) => {
-            let uid = uid_of(alloc, text, uid)?;
+            let uid = uid_like(alloc, text, uid, uid_in(known))?;
             Ok(EntityScope::Equal(uid))
         }
         PartTree::In(uid) => {
-            let uid = uid_of(alloc, text, uid)?;
+            let uid = uid_like(alloc, text, uid, uid_in(known))?;
             Ok(EntityScope::In(uid))
         }
         PartTree::Is(path) => {
-            let name = type_name_of(alloc, text, path)?;
+            let name = type_name_like(alloc, text, path, type_in(known))?;
             Ok(EntityScope::Is(name))
         }
         PartTree::IsIn(path, uid) => {
-            let name = type_name_of(alloc, text, path)?;
-            let uid = uid_of(alloc, text, uid)?;
+            let name = type_name_like(alloc, text, path, type_in(known))?;
+            let uid = uid_like(alloc, text, uid, uid_in(known))?;
             Ok(EntityScope::IsIn(name, uid))
         }
     }
 }
 
-fn action_scope_of(alloc: Global, text: &str, tree: &ActionTree) -> Result<ActionScope, NoMemory>
+fn action_scope_of(
+    alloc: Global,
+    text: &str,
+    tree: &ActionTree,
+    known: Option<&EntityUid>,
+) -> Result<ActionScope, NoMemory>
     requires { IsBuiltFrom text.now (λ tokens. WellFormedAction tokens tree.now) }
     ensures { IfOk result (IsActionScopeOf text.now tree.now) }
 {
     match tree {
         ActionTree::Any => Ok(ActionScope::Any),
         ActionTree::Equal(uid) => {
-            let uid = uid_of(alloc, text, uid)?;
+            let uid = uid_like(alloc, text, uid, known)?;
             Ok(ActionScope::Equal(uid))
         }
         ActionTree::In(uid) => {
-            let uid = uid_of(alloc, text, uid)?;
+            let uid = uid_like(alloc, text, uid, known)?;
             Ok(ActionScope::In(uid))
         }
         ActionTree::InList(uids) => {
@@ -109,17 +128,26 @@ fn effect_of(kind: TokenKind) -> Effect
     }
 }
 
-fn scope_of(alloc: Global, text: &str, tree: &PolicyTree) -> Result<Scope, NoMemory>
+/// Returns what a tree asks of a request, or `NoMemory`; it shares the names that the known scope has too.
+fn scope_of(
+    alloc: Global,
+    text: &str,
+    tree: &PolicyTree,
+    known: Option<&Scope>,
+) -> Result<Scope, NoMemory>
     requires { IsBuiltFrom text.now (λ tokens. WellFormedPolicy tokens tree.now) }
     ensures principal { IfOk result (λ scope. IsEntityScopeOf text.now tree.now.principal scope.principal) }
     ensures action { IfOk result (λ scope. IsActionScopeOf text.now tree.now.action scope.action) }
     ensures resource { IfOk result (λ scope. IsEntityScopeOf text.now tree.now.resource scope.resource) }
 {
-    let principal = entity_scope_of(alloc, text, &tree.principal)?;
-    let (principal, action) = beside(principal, action_scope_of(alloc, text, &tree.action))?;
+    let principal = entity_scope_of(alloc, text, &tree.principal, principal_in(known))?;
+    let (principal, action) = beside(
+        principal,
+        action_scope_of(alloc, text, &tree.action, action_in(known)),
+    )?;
     let (first, resource) = beside(
         (principal, action),
-        entity_scope_of(alloc, text, &tree.resource),
+        entity_scope_of(alloc, text, &tree.resource, resource_in(known)),
     )?;
     let (principal, action) = first;
     Ok(Scope {
@@ -129,14 +157,20 @@ fn scope_of(alloc: Global, text: &str, tree: &PolicyTree) -> Result<Scope, NoMem
     })
 }
 
-/// Returns what a tree stands for.
-pub(crate) fn core_of(alloc: Global, text: &str, tree: &PolicyTree) -> Result<Policy, NoMemory>
+/// Returns what a tree stands for, or `NoMemory`; it shares the names that the known scope, as that of the policy
+/// before, has too.
+pub(crate) fn core_like(
+    alloc: Global,
+    text: &str,
+    tree: &PolicyTree,
+    known: Option<&Scope>,
+) -> Result<Policy, NoMemory>
     requires stands { IsBuiltFrom text.now (λ tokens. WellFormedPolicy tokens tree.now) }
     requires sound { condition_faults text.now tree.now.conditions ≡ [] }
     ensures { IfOk result (IsCoreOf text.now tree.now) }
 {
     let effect = effect_of(tree.effect.kind);
-    let scope = scope_of(alloc, text, tree)?;
+    let scope = scope_of(alloc, text, tree, known)?;
     let (scope, condition) = beside(
         scope,
         build_conditions(alloc, text, tree.conditions.as_slice()),
@@ -146,4 +180,13 @@ pub(crate) fn core_of(alloc: Global, text: &str, tree: &PolicyTree) -> Result<Po
         scope,
         condition,
     })
+}
+
+/// Returns what a tree stands for.
+pub(crate) fn core_of(alloc: Global, text: &str, tree: &PolicyTree) -> Result<Policy, NoMemory>
+    requires stands { IsBuiltFrom text.now (λ tokens. WellFormedPolicy tokens tree.now) }
+    requires sound { condition_faults text.now tree.now.conditions ≡ [] }
+    ensures { IfOk result (IsCoreOf text.now tree.now) }
+{
+    core_like(alloc, text, tree, None)
 }

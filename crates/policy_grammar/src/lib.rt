@@ -4,6 +4,7 @@
 mod conditions;
 mod core_of;
 mod held;
+mod known_names;
 mod laws;
 mod limits;
 mod names;

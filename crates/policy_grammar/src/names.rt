@@ -8,8 +8,8 @@ ghost use Rattle.policy_grammar.specs.CoreOf.{IsValueOf, is_id, IsNameOf, AreNam
 ghost use Rattle.desugaring.specs.BuiltFrom.{IsBuiltFrom};
 ghost use Rattle.policy_grammar.specs.inner.Parts.{has_id};
 
-use crate::core_of::core_of;
-use crate::policy::Policy;
+use crate::core_of::core_like;
+use crate::policy::{Policy, Scope};
 use itoa::Buffer;
 use plain::{NoMemory, Text};
 use policy_syntax::{Annotation, PolicyTree};
@@ -92,7 +92,16 @@ pub(crate) fn names_of(
     Ok(names)
 }
 
-/// Returns the policies that a file's trees stand for, each with its name.
+/// Returns what the last of these policies asks of a request.
+fn last_scope(named: &[(String, Policy)]) -> Option<&Scope> {
+    match named {
+        [.., (_, policy)] => Some(&policy.scope),
+        [] => None,
+    }
+}
+
+/// Returns the policies that a file's trees stand for, each with its name, or `NoMemory`. One shares the type names,
+/// and the action's id, that the one before has too.
 pub(crate) fn named_of(
     alloc: Global,
     text: &str,
@@ -108,7 +117,7 @@ pub(crate) fn named_of(
     let mut named = Vec::with_capacity(alloc, trees.len())?;
     let mut rest = VecDeque::from_vec(names);
     for tree in trees {
-        let policy = core_of(alloc, text, tree)?;
+        let policy = core_like(alloc, text, tree, last_scope(&named))?;
         let Some(name) = rest.pop_front() else {
             unreachable!();
         };

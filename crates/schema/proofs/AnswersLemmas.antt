@@ -26,7 +26,7 @@ use Rattle.schema.specs.SchemaEntries.{kept}
 use Rattle.schema_parts.specs.Places.{environment_of}
 use Rattle.schema_parts.specs.LookUps.{is_numbered_at, stands_below, is_above}
 use Rattle.schema.specs.Views.{environment_view, schema_view}
-use Rattle.schema.specs.declared.numbering.TypeNumbers.{TypeNumbers}
+use Rattle.schema.specs.declared.type_numbers.TypeNumbers.{TypeNumbers}
 use Rattle.schema.specs.inner.Numbering.{AreNumbers}
 use Rattle.schema.specs.inner.Making.{shape_in, Places, AreShapes, ArePlaces, AreAncestors}
 use Rattle.schema.specs.inner.Reading.{AreTypesOf, AreHierarchiesOf}

@@ -20,7 +20,7 @@ use Rattle.ancestor_closure.specs.Deciding.{Contains-here, Contains-there, Conta
 use Rattle.schema_names.specs.Qualifying.{FoundEntityType}
 use Rattle.schema_parts.specs.LookUps.{has_number_at}
 use Rattle.schema.specs.declared.numbering.Numbered.{Numbered}
-use Rattle.schema.specs.declared.numbering.TypeNumbers.{TypeNumbers}
+use Rattle.schema.specs.declared.type_numbers.TypeNumbers.{TypeNumbers}
 use Rattle.schema.specs.Schemas.{type_uid}
 use Rattle.schema.specs.inner.Filling as filling
 use Rattle.schema.specs.inner.Numbering.{Numbers, IsApart, IsNumbering, NumbersAll, AddsNumber, HasAbove, KeepsAbove, single, HasSpans, AddsParent, AddsParents, single_of, singles, AreAbove, AddsName, AreNames, type_points, AreNumbers}

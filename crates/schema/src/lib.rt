@@ -10,6 +10,7 @@ mod maps;
 mod numbering;
 mod reading;
 mod shapes;
+mod type_numbers;
 
 pub use answers::Schema;
 pub use laws::{bytes_have_one_outcome, stated_schemas_are_well_formed};

@@ -3,29 +3,27 @@
 //! Entities are numbered, each behind those above it where these do not lead back to it. So the numbers of those above
 //! one mostly stand in a row, and few spans hold them: one span each in a chain, in layers, and where each is a member
 //! of several before it.
-ghost use Rattle.std.specs.Prelude.{◌≡◌, ◌++◌, ◌∷◌, ⊤, List, [], Contains, Some, None, true, IfOk, OnOk, MatchOption, map, option_map};
+ghost use Rattle.std.specs.Prelude.{◌≡◌, ◌++◌, ◌∷◌, ⊤, [], Contains, Some, None, true, IfOk, OnOk, MatchOption};
+ghost use Rattle.std.specs.Prelude.{option_map};
 ghost use Rattle.std.specs.List.{slice_get};
-ghost use Rattle.std.specs.BTreeMap.{get, Updates};
-ghost use Rattle.values.specs.Names.{uid_cmp, text_cmp};
+ghost use Rattle.std.specs.BTreeMap.{get};
+ghost use Rattle.values.specs.Names.{uid_cmp};
 ghost use Rattle.values.specs.declared.entity_uid.EntityUid.{EntityUid};
 ghost use Rattle.ancestor_closure.specs.Hierarchy.{names};
 ghost use Rattle.ancestor_closure.specs.contracts.searched.SearchedAncestry.TheImpl as searched;
-ghost use Rattle.schema_names.specs.FoundViews.{found_entity_type_view};
 ghost use Rattle.schema.specs.inner.Numbering.{IsApart, IsNumbering, IsNumbered, NumbersAll, AddsNumber};
 ghost use Rattle.schema.specs.inner.Numbering.{KeepsAbove, HasAbove};
 ghost use Rattle.schema.specs.inner.Numbering.{AddsParent, AddsParents, single, single_of, singles, HasSpans};
-ghost use Rattle.schema.specs.inner.Numbering.{AreAbove, AddsName, AreNames, type_points, AreNumbers};
+ghost use Rattle.schema.specs.inner.Numbering.{AreAbove};
 
-use crate::hierarchies::type_uid;
 use crate::maps::put;
 use ancestor_closure::{Ancestry, ParentsOf, Searched};
 use number_spans::{Span, joined};
 use place_orders::ends_first;
 use plain::{Items, NoMemory};
-use schema_names::FoundEntityType;
 use std::alloc::Global;
 use std::collections::BTreeMap;
-use values::{EntityUid, TypeName};
+use values::EntityUid;
 
 /// Entities that have numbers: the number of each is its place in the list.
 #[derive(Drop)]
@@ -38,13 +36,6 @@ pub(crate) struct Numbered<'e> {
 #[derive(Drop)]
 pub(crate) struct Above {
     pub(crate) numbers: BTreeMap<EntityUid, usize>,
-    pub(crate) spans: Items<Items<Span>>,
-}
-
-/// The same of entity types, by their names.
-#[derive(Drop)]
-pub(crate) struct TypeNumbers {
-    pub(crate) numbers: BTreeMap<TypeName, usize>,
     pub(crate) spans: Items<Items<Span>>,
 }
 
@@ -335,76 +326,5 @@ pub(crate) fn above_each(
     Ok(Above {
         numbers: numbered.numbers,
         spans,
-    })
-}
-
-/// Gives the type of an entity this number.
-fn put_name(
-    uid: &EntityUid,
-    number: usize,
-    named: &mut BTreeMap<TypeName, usize>,
-) -> Result<(), NoMemory>
-    ensures { OnOk result (Updates text_cmp named.old named.new uid.now.type_name (Some number)) }
-{
-    let name = uid.type_name.copy()?;
-    put(named, name, number)?;
-    Ok(())
-}
-
-/// Gives the type of an entity the number of that entity.
-fn add_name(
-    numbers: &BTreeMap<EntityUid, usize>,
-    uid: &EntityUid,
-    named: &mut BTreeMap<TypeName, usize>,
-) -> Result<(), NoMemory>
-    ensures { OnOk result (AddsName (get uid_cmp numbers.now) uid.now named.old named.new) }
-{
-    match numbers.get(uid) {
-        Some(number) => put_name(uid, *number, named),
-        None => Ok(()),
-    }
-}
-
-/// Returns the numbers of some entities, by their types.
-fn numbers_by_name(
-    alloc: Global,
-    numbers: &BTreeMap<EntityUid, usize>,
-    uids: &[EntityUid],
-) -> Result<BTreeMap<TypeName, usize>, NoMemory>
-    ensures { IfOk result (λ named. AreNames (get uid_cmp numbers.now) uids.now named) }
-{
-    let mut named = BTreeMap::new(alloc);
-    for uid in uids {
-        add_name(numbers, uid, &mut named)?;
-    }
-    Ok(named)
-}
-
-/// Entity types as points of a hierarchy.
-fn points_of(alloc: Global, entity_types: &[FoundEntityType]) -> Result<Vec<EntityUid>, NoMemory>
-    ensures { IfOk result (λ uids. uids.items ≡ type_points (map found_entity_type_view entity_types.now)) }
-{
-    let mut uids = Vec::new(alloc);
-    for entity_type in entity_types {
-        uids.push(type_uid(alloc, &entity_type.name)?)?;
-    }
-    Ok(uids)
-}
-
-/// Returns the numbers of entity types, and what is above each.
-pub(crate) fn number_types(
-    alloc: Global,
-    edges: &Searched,
-    entity_types: &[FoundEntityType],
-) -> Result<TypeNumbers, NoMemory>
-    ensures { IfOk result (λ t. AreNumbers (searched.parents-value.it edges.now)
-        (map found_entity_type_view entity_types.now) t) }
-{
-    let uids = points_of(alloc, entity_types)?;
-    let above = above_each(alloc, edges, uids.as_slice())?;
-    let numbers = numbers_by_name(alloc, &above.numbers, uids.as_slice())?;
-    Ok(TypeNumbers {
-        numbers,
-        spans: above.spans,
     })
 }

@@ -16,8 +16,8 @@ ghost use Rattle.schema.specs.inner.Reading.{AreHierarchiesOf, TypesRefused, Edg
 use crate::answers::Schema;
 use crate::environments::make_places;
 use crate::hierarchies::{action_edges, make_ancestors, type_edges, uids_of};
-use crate::numbering::{TypeNumbers, number_types};
 use crate::shapes::make_shapes;
+use crate::type_numbers::{TypeNumbers, number_types};
 use ancestor_closure::Searched;
 use plain::{Items, NoMemory};
 use schema_names::{Found, files_name_their_entity_types, files_name_their_own, read_named};

@@ -28,7 +28,7 @@ use Rattle.static_types.specs.declared.fault.TypeFault.TheVariants.{NoMemory, No
 use Rattle.type_checker.specs.declared.typed.Typed.{Typed}
 use Rattle.type_checker.specs.declared.typed.Then.{Then}
 use Rattle.type_checker.specs.declared.typed.Then.TheVariants as then
-use Rattle.type_checker.specs.inner.Pairs.{pairs}
+use Rattle.known_pairs.specs.Pairs.{pairs}
 use Rattle.type_checker.specs.inner.Judged.{Judged, JudgedBehind, JudgedEach, ThenTyped, ThenJudged, ThenIs, IsBranch, IsRow, IsHasRow, CallTyped}
 
 pub is_boolean_view : (b : BooleanType) → types.IsBoolean (boolean_view b)

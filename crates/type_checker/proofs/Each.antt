@@ -10,12 +10,12 @@ use Rattle.typing.specs.Typing as typing
 use Rattle.typing.specs.Typing.{Types, TypesEach}
 use Rattle.typing.specs.Faults as faults
 use Rattle.typing.specs.Faults.{Faults, FaultsEach}
-use Rattle.static_types.specs.Views.{static_view, fault_view}
+use Rattle.static_types.specs.Views.{static_view}
 use Rattle.static_types.specs.declared.static_type.StaticType.{StaticType}
 use Rattle.static_types.specs.declared.fault.TypeFault.{TypeFault}
-use Rattle.type_checker.specs.declared.known.Pair.{Pair}
+use Rattle.known_pairs.specs.declared.pair.Pair.{Pair}
 use Rattle.type_checker.specs.declared.typed.Typed.{Typed}
-use Rattle.type_checker.specs.inner.Pairs.{pair_of, pairs}
+use Rattle.known_pairs.specs.Pairs.{pair_of, pairs}
 use Rattle.type_checker.specs.inner.Judged.{Judged, JudgedBehind, AddsLearned}
 use Rattle.type_checker.proofs.Learning.{back_again}
 use Rattle.type_checker.proofs.Carrying.{typed_so, faulty_so}
@@ -63,20 +63,16 @@ map_itself [] = refl
 map_itself (x ∷ xs) = ap (λ ys. x ∷ ys) (map_itself xs)
 
 -- one behind pairs that were put on top of those that were known
-pub behind_judged : (env : Environment) (x : Expr) (ks ls ms : List Pair) (typed r : Result Typed TypeFault)
-    → Judged env (pairs (ks ++ ls)) x typed (pairs ms) → AddsLearned ls typed r
-    → JudgedBehind env (pairs ks) (pairs ls) x r (pairs (take (length ks) ms))
-behind_judged env x ks ls ms typed (Ok t) h (u, e, k, l) =
-    let apart : pairs (ks ++ ls) ≡ pairs ks ++ pairs ls = map-append pair_of ks ls in
-    let s = typed_so env (pairs (ks ++ ls)) (pairs ms) x e h in
-    let there = subst (λ M. Types env M x (static_view u.kind) (pairs u.learns.items)) apart s.1 in (
-      back_again ks ms (pairs ls) (s.0 ∙ apart),
+pub behind_judged : (env : Environment) (x : Expr) (K : Pairs) (ls : List Pair) (M : Pairs) (typed r : Result Typed TypeFault)
+    → Judged env (K ++ pairs ls) x typed M → AddsLearned ls typed r
+    → JudgedBehind env K (pairs ls) x r (take (length K) M)
+behind_judged env x K ls M typed (Ok t) h (u, e, k, l) =
+    let s = typed_so env (K ++ pairs ls) M x e h in (
+      back_again K (pairs ls) M s.0,
       (
         pairs u.learns.items,
-        subst (λ y. Types env (pairs ks ++ pairs ls) x (static_view y) (pairs u.learns.items)) (sym k) there,
+        subst (λ y. Types env (K ++ pairs ls) x (static_view y) (pairs u.learns.items)) (sym k) s.1,
         ap pairs l ∙ map-append pair_of ls u.learns.items,
       ),
     )
-behind_judged env x ks ls ms typed (Err f) h e = λ n.
-    subst (λ M. Faults env M x (fault_view f)) (map-append pair_of ks ls)
-    (faulty_so env (pairs (ks ++ ls)) (pairs ms) x (e n) h n)
+behind_judged env x K ls M typed (Err f) h e = λ n. faulty_so env (K ++ pairs ls) M x (e n) h n

@@ -1,6 +1,6 @@
 -- What leads from the parts of a whole to the next, and to what is judged of it.
 use Rattle.std.proofs.Common.{◌≡◌, ◌≢◌, ◌<◌, ◌≤◌, ◌+◌, ◌++◌, ℕ, List, [], length, get_or, drop, Option, Some, None, Result, Ok, Err, refl, sym, subst, ap, ◌∙◌}
-use Rattle.std.proofs.lemmas.List.{drop_more, drop_all, map-append}
+use Rattle.std.proofs.lemmas.List.{drop_more, drop_all}
 use Rattle.std.specs.Prelude.{IfOk, IfErr, MatchResult}
 use Rattle.std.specs.Option.{option_map}
 use Rattle.expressions.specs.declared.expr.Expr.{Expr}
@@ -20,10 +20,9 @@ use Rattle.static_types.specs.declared.fault.TypeFault as fault
 use Rattle.static_types.specs.declared.fault.TypeFault.TheVariants.{NoMemory, Unexpected}
 use Rattle.static_types.specs.declared.static_type.BooleanType.{BooleanType}
 use Rattle.static_types.specs.declared.static_type.StaticType.{StaticType}
-use Rattle.type_checker.specs.declared.known.Pair.{Pair}
 use Rattle.type_checker.specs.declared.typed.Typed.{Typed}
 use Rattle.type_checker.specs.Joined.{joined}
-use Rattle.type_checker.specs.inner.Pairs.{pair_of, pairs}
+use Rattle.known_pairs.specs.Pairs.{pairs}
 use Rattle.type_checker.specs.inner.Joining as joining
 use Rattle.type_checker.specs.inner.Joining.{and_so_far, IsSide, Leads}
 use Rattle.type_checker.proofs.Carrying.{boolean_so}
@@ -93,16 +92,16 @@ module _ (env : Environment) where
       h.types types.false_type [] (typing.and_of_false x y g) (joining.behind types.is_false)
 
 -- which type of booleans a left of `&&` has, by its type
-pub left_so : (env : Environment) (K : Pairs) (a : Expr) (t : Typed) (mid after : List Pair)
-    (r : Result BooleanType fault.TypeFault) → pairs mid ≡ K → Types env K a (static_view t.kind) (pairs t.learns.items)
-    → MatchResult r (λ b. (static_view t.kind ≡ boolean_view b) × (after ≡ mid ++ t.learns.items))
+pub left_so : (env : Environment) (K : Pairs) (a : Expr) (t : Typed) (mid after : Pairs)
+    (r : Result BooleanType fault.TypeFault) → mid ≡ K → Types env K a (static_view t.kind) (pairs t.learns.items)
+    → MatchResult r (λ b. (static_view t.kind ≡ boolean_view b) × (after ≡ mid ++ pairs t.learns.items))
     (λ f. f ≢ NoMemory → (f ≡ Unexpected) × ¬ IsBoolean (static_view t.kind))
-    → MatchResult r (λ b. (L : Pairs) × Types env K a (boolean_view b) L × (pairs after ≡ K ++ L))
+    → MatchResult r (λ b. (L : Pairs) × Types env K a (boolean_view b) L × (after ≡ K ++ L))
     (λ f. f ≢ NoMemory → (b : Expr) → Faults env K (form.And a b) (fault_view f))
 left_so env K a t mid after (Ok b) same h (e, g) = (
   pairs t.learns.items,
   subst (λ s. Types env K a s (pairs t.learns.items)) e h,
-  ap pairs g ∙ (map-append pair_of mid t.learns.items ∙ ap (λ M. M ++ pairs t.learns.items) same),
+  g ∙ ap (λ M. M ++ pairs t.learns.items) same,
 )
 left_so env K a t mid after (Err f) same h g = λ n b.
     let w = g n in

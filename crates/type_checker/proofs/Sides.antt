@@ -6,8 +6,8 @@ use Rattle.typing.specs.Learned.{Pairs, InBoth}
 use Rattle.static_types.specs.Views.{boolean_view}
 use Rattle.static_types.specs.declared.static_type.BooleanType.{BooleanType}
 use Rattle.static_types.specs.declared.static_type.BooleanType.TheVariants as truth
-use Rattle.type_checker.specs.declared.known.Pair.{Pair}
-use Rattle.type_checker.specs.inner.Pairs.{pairs}
+use Rattle.known_pairs.specs.declared.pair.Pair.{Pair}
+use Rattle.known_pairs.specs.Pairs.{pairs}
 
 pub or_none : {b : BooleanType} {L M : Pairs} {ps : List Pair} → b ≡ truth.True → ps ≡ []
     → learned.OrLearns (boolean_view b) L M (pairs ps)

@@ -7,22 +7,23 @@ ghost use Rattle.typing.specs.Learned.{Pairs};
 ghost use Rattle.typing.specs.Typing.{Types};
 ghost use Rattle.typing.specs.Faults.{Faults};
 ghost use Rattle.static_types.specs.Views.{boolean_view, static_view, fault_view, typing_environment};
-ghost use Rattle.type_checker.specs.inner.Pairs.{pairs};
+ghost use Rattle.known_pairs.specs.Pairs.{pairs};
 ghost use Rattle.type_checker.specs.inner.Joining.{and_so_far, IsSide};
 
-use crate::finishing::and_truth;
+use crate::branching::and_truth;
 use crate::judging::type_of;
-use crate::known::{Pair, know_too};
+use crate::known::know_too;
 use crate::typed::Typed;
 use expressions::Expr;
+use known_pairs::Known;
 use static_types::{BooleanType, StaticType, TypeFault, TypingEnvironment};
 use std::alloc::Global;
 
 /// Returns which type of booleans a left of `&&` has; what it learns is put on top of what is known.
-fn known_left<'a>(known: &mut Vec<Pair<'a>>, typed: &Typed<'a>) -> Result<BooleanType, TypeFault>
+fn known_left<'a>(known: &mut Known<'a>, typed: &Typed<'a>) -> Result<BooleanType, TypeFault>
     ensures { MatchResult result
         (λ b. (static_view typed.now.kind ≡ boolean_view b)
-        × (known.new.items ≡ known.old.items ++ typed.now.learns.items))
+        × (known.new ≡ known.old ++ pairs typed.now.learns.items))
         (λ f. f ≢ TypeFault.NoMemory → (f ≡ TypeFault.Unexpected) × ¬ IsBoolean (static_view typed.now.kind)) }
 {
     match typed.kind.as_boolean() {
@@ -39,13 +40,13 @@ pub(crate) fn left_type<'a>(
     alloc: Global,
     env: TypingEnvironment<'a>,
     left: &'a Expr,
-    known: &mut Vec<Pair<'a>>,
+    known: &mut Known<'a>,
 ) -> Result<BooleanType, TypeFault>
     ensures { let E = typing_environment env.entry in MatchResult result
-        (λ b. (L : Pairs) × Types E (pairs known.old.items) left.entry.now (boolean_view b) L
-        × (pairs known.new.items ≡ pairs known.old.items ++ L))
+        (λ b. (L : Pairs) × Types E known.old left.entry.now (boolean_view b) L
+        × (known.new ≡ known.old ++ L))
         (λ f. f ≢ TypeFault.NoMemory
-        → (b : Expr) → Faults E (pairs known.old.items) (form.And left.entry.now b) (fault_view f)) }
+        → (b : Expr) → Faults E known.old (form.And left.entry.now b) (fault_view f)) }
 {
     match type_of(alloc, left, env, known) {
         Ok(typed) => known_left(known, &typed),

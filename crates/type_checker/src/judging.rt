@@ -5,18 +5,20 @@ ghost use Rattle.expressions.specs.declared.expr.Expr.TheVariants as form;
 ghost use Rattle.typing.specs.Learned.{Pairs};
 ghost use Rattle.typing.specs.Literals.{IsUnsettled};
 ghost use Rattle.static_types.specs.Views.{typing_environment};
-ghost use Rattle.type_checker.specs.inner.Pairs.{pairs};
+ghost use Rattle.known_pairs.specs.Pairs.{pairs};
 ghost use Rattle.type_checker.specs.inner.Judged.{Judged, JudgedBehind, JudgedEach, ThenJudged};
 
+use crate::branching::{and_typed, branches, or_behind_false, or_typed};
 use crate::finishing::{
-    and_typed, binary_typed, branches, call_typed, field_typed, has_typed, or_behind_false,
-    or_typed, put_type, record_typed, set_typed, unary_call_typed, unary_typed,
+    binary_typed, call_typed, field_typed, has_typed, put_type, record_typed, set_typed,
+    unary_call_typed, unary_typed,
 };
-use crate::known::{Pair, forget_above, know_too};
+use crate::known::know_too;
 use crate::literals::settled;
 use crate::typed::{Then, Typed, both, is_looked_at, learned_too, only, plain, truth_type};
-use expressions::{Binary, BinaryCall, Expr, Named};
-use plain::{Items, Shared};
+use expressions::{Binary, BinaryCall, Expr, Named, Unary, UnaryCall};
+use known_pairs::{Known, Pair};
+use plain::{Items, Shared, Text};
 use static_types::{BooleanType, StaticType, TypeFault, TypingEnvironment, literal_type};
 use std::alloc::Global;
 
@@ -27,10 +29,9 @@ pub(crate) fn type_of<'a>(
     alloc: Global,
     expr: &'a Expr,
     env: TypingEnvironment<'a>,
-    known: &mut Vec<Pair<'a>>,
+    known: &mut Known<'a>,
 ) -> Result<Typed<'a>, TypeFault>
-    ensures { Judged (typing_environment env.entry) (pairs known.old.items) expr.entry.now result
-        (pairs known.new.items) }
+    ensures { Judged (typing_environment env.entry) known.old expr.entry.now result known.new }
 {
     match expr {
         Expr::Literal(literal) => Ok(plain(alloc, literal_type(literal))),
@@ -48,10 +49,7 @@ pub(crate) fn type_of<'a>(
             let left = type_of(alloc, left.get(), env, known);
             second_disjunct(alloc, right, env, known, left)
         }
-        Expr::Unary(operator, operand) => {
-            let operand = type_of(alloc, operand.get(), env, known);
-            unary_typed(alloc, operator, operand)
-        }
+        Expr::Unary(operator, operand) => type_unary(alloc, operator, operand, env, known),
         Expr::Binary(operator, left, right) => {
             match settled(env, *operator, left.get(), right.get()) {
                 Some(truth) => Ok(plain(alloc, StaticType::boolean(truth_type(truth)))),
@@ -61,31 +59,87 @@ pub(crate) fn type_of<'a>(
                 }
             }
         }
-        Expr::Field(owner, name) => {
-            let typed = type_of(alloc, owner.get(), env, known);
-            field_typed(alloc, env, known, owner.get(), name.as_str(), typed)
-        }
-        Expr::Has(owner, name) => {
-            let typed = type_of(alloc, owner.get(), env, known);
-            has_typed(alloc, env, known, owner.get(), name.as_str(), typed)
-        }
-        Expr::Set(members) => {
-            let types = types_of(alloc, members, env, known);
-            set_typed(alloc, types)
-        }
+        Expr::Field(owner, name) => type_field(alloc, owner, name, env, known),
+        Expr::Has(owner, name) => type_has(alloc, owner, name, env, known),
+        Expr::Set(members) => set_typed(alloc, types_of(alloc, members, env, known)),
         Expr::Record(fields) => {
             let types = types_of_fields(alloc, fields, env, known);
             record_typed(alloc, fields.as_slice(), types)
         }
-        Expr::UnaryCall(called, operand) => {
-            let typed = type_of(alloc, operand.get(), env, known);
-            unary_call_typed(alloc, *called, operand.get(), typed)
-        }
+        Expr::UnaryCall(called, operand) => type_unary_call(alloc, *called, operand, env, known),
         Expr::BinaryCall(called, left, right) => {
             let left = type_of(alloc, left.get(), env, known);
             second_called(alloc, right, env, known, *called, left)
         }
     }
+}
+
+/// Returns an operator with its operand.
+#[cycle(judge)]
+#[inline(never)]
+fn type_unary<'a>(
+    alloc: Global,
+    operator: &Unary,
+    operand: &'a Shared<Expr>,
+    env: TypingEnvironment<'a>,
+    known: &mut Known<'a>,
+) -> Result<Typed<'a>, TypeFault>
+    ensures { Judged (typing_environment env.entry) known.old (form.Unary operator.now operand.entry.now) result
+        known.new }
+{
+    let operand = type_of(alloc, operand.get(), env, known);
+    unary_typed(alloc, operator, operand)
+}
+
+/// Returns a field or an attribute.
+#[cycle(judge)]
+#[inline(never)]
+fn type_field<'a>(
+    alloc: Global,
+    owner: &'a Shared<Expr>,
+    name: &'a Text,
+    env: TypingEnvironment<'a>,
+    known: &mut Known<'a>,
+) -> Result<Typed<'a>, TypeFault>
+    ensures { Judged (typing_environment env.entry) known.old (form.Field owner.entry.now name.entry.now) result
+        known.new }
+{
+    let typed = type_of(alloc, owner.get(), env, known);
+    field_typed(alloc, env, known, owner.get(), name.as_str(), typed)
+}
+
+/// Returns whether there is a field or an attribute.
+#[cycle(judge)]
+#[inline(never)]
+fn type_has<'a>(
+    alloc: Global,
+    owner: &'a Shared<Expr>,
+    name: &'a Text,
+    env: TypingEnvironment<'a>,
+    known: &mut Known<'a>,
+) -> Result<Typed<'a>, TypeFault>
+    ensures { Judged (typing_environment env.entry) known.old (form.Has owner.entry.now name.entry.now) result
+        known.new }
+{
+    let typed = type_of(alloc, owner.get(), env, known);
+    has_typed(alloc, env, known, owner.get(), name.as_str(), typed)
+}
+
+/// Returns a function of an extension, or a test of an address, with its operand.
+#[cycle(judge)]
+#[inline(never)]
+fn type_unary_call<'a>(
+    alloc: Global,
+    called: UnaryCall,
+    operand: &'a Shared<Expr>,
+    env: TypingEnvironment<'a>,
+    known: &mut Known<'a>,
+) -> Result<Typed<'a>, TypeFault>
+    ensures { Judged (typing_environment env.entry) known.old (form.UnaryCall called operand.entry.now) result
+        known.new }
+{
+    let typed = type_of(alloc, operand.get(), env, known);
+    unary_call_typed(alloc, called, operand.get(), typed)
 }
 
 /// Returns what is judged of an expression where these are known too; what it learns has them in front.
@@ -95,17 +149,17 @@ fn type_behind<'a>(
     alloc: Global,
     expr: &'a Shared<Expr>,
     env: TypingEnvironment<'a>,
-    known: &mut Vec<Pair<'a>>,
+    known: &mut Known<'a>,
     learns: Vec<Pair<'a>>,
 ) -> Result<Typed<'a>, TypeFault>
-    ensures { JudgedBehind (typing_environment env.entry) (pairs known.old.items) (pairs learns.entry.items)
-        expr.entry.now result (pairs known.new.items) }
+    ensures { JudgedBehind (typing_environment env.entry) known.old (pairs learns.entry.items)
+        expr.entry.now result known.new }
 {
     let height = known.len();
     match know_too(known, &learns) {
         Ok(()) => {
             let typed = type_of(alloc, expr.get(), env, known);
-            forget_above(known, height);
+            known.forget_above(height);
             learned_too(learns, typed)
         }
         Err(_) => Err(TypeFault::NoMemory),
@@ -119,12 +173,12 @@ fn second_conjunct<'a>(
     alloc: Global,
     right: &'a Shared<Expr>,
     env: TypingEnvironment<'a>,
-    known: &mut Vec<Pair<'a>>,
+    known: &mut Known<'a>,
     left: Result<Typed<'a>, TypeFault>,
 ) -> Result<Typed<'a>, TypeFault>
     ensures { let E = typing_environment env.entry in
-        (K : Pairs) (a : Expr) → Judged E K a left.entry (pairs known.old.items)
-        → Judged E K (form.And a right.entry.now) result (pairs known.new.items) }
+        (K : Pairs) (a : Expr) → Judged E K a left.entry known.old
+        → Judged E K (form.And a right.entry.now) result known.new }
 {
     match left {
         Ok(left) => match left.kind.as_boolean() {
@@ -152,12 +206,12 @@ fn second_disjunct<'a>(
     alloc: Global,
     right: &'a Shared<Expr>,
     env: TypingEnvironment<'a>,
-    known: &mut Vec<Pair<'a>>,
+    known: &mut Known<'a>,
     left: Result<Typed<'a>, TypeFault>,
 ) -> Result<Typed<'a>, TypeFault>
     ensures { let E = typing_environment env.entry in
-        (K : Pairs) (a : Expr) → Judged E K a left.entry (pairs known.old.items)
-        → Judged E K (form.Or a right.entry.now) result (pairs known.new.items) }
+        (K : Pairs) (a : Expr) → Judged E K a left.entry known.old
+        → Judged E K (form.Or a right.entry.now) result known.new }
 {
     match left {
         Ok(left) => match left.kind.as_boolean() {
@@ -191,12 +245,12 @@ fn type_then<'a>(
     alloc: Global,
     consequent: &'a Shared<Expr>,
     env: TypingEnvironment<'a>,
-    known: &mut Vec<Pair<'a>>,
+    known: &mut Known<'a>,
     test: Result<Typed<'a>, TypeFault>,
 ) -> Result<Then<'a>, TypeFault>
     ensures { let E = typing_environment env.entry in
-        (K : Pairs) (a : Expr) → Judged E K a test.entry (pairs known.old.items)
-        → ThenJudged E K a consequent.entry.now result (pairs known.new.items) }
+        (K : Pairs) (a : Expr) → Judged E K a test.entry known.old
+        → ThenJudged E K a consequent.entry.now result known.new }
 {
     match test {
         Ok(test) => match test.kind.as_boolean() {
@@ -228,12 +282,12 @@ fn type_else<'a>(
     alloc: Global,
     alternative: &'a Shared<Expr>,
     env: TypingEnvironment<'a>,
-    known: &mut Vec<Pair<'a>>,
+    known: &mut Known<'a>,
     then: Result<Then<'a>, TypeFault>,
 ) -> Result<Typed<'a>, TypeFault>
     ensures { let E = typing_environment env.entry in
-        (K : Pairs) (a b : Expr) → ThenJudged E K a b then.entry (pairs known.old.items)
-        → Judged E K (form.If a b alternative.entry.now) result (pairs known.new.items) }
+        (K : Pairs) (a b : Expr) → ThenJudged E K a b then.entry known.old
+        → Judged E K (form.If a b alternative.entry.now) result known.new }
 {
     match then {
         Ok(Then::Skipped) => type_of(alloc, alternative.get(), env, known),
@@ -253,14 +307,14 @@ fn second_operand<'a>(
     alloc: Global,
     right: &'a Shared<Expr>,
     env: TypingEnvironment<'a>,
-    known: &mut Vec<Pair<'a>>,
+    known: &mut Known<'a>,
     operator: Binary,
     left: Result<Typed<'a>, TypeFault>,
 ) -> Result<Typed<'a>, TypeFault>
     ensures { let E = typing_environment env.entry in
         (K : Pairs) (a : Expr) → IsUnsettled E operator a right.entry.now
-        → Judged E K a left.entry (pairs known.old.items)
-        → Judged E K (form.Binary operator a right.entry.now) result (pairs known.new.items) }
+        → Judged E K a left.entry known.old
+        → Judged E K (form.Binary operator a right.entry.now) result known.new }
 {
     match left {
         Ok(left) => {
@@ -278,13 +332,13 @@ fn second_called<'a>(
     alloc: Global,
     right: &'a Shared<Expr>,
     env: TypingEnvironment<'a>,
-    known: &mut Vec<Pair<'a>>,
+    known: &mut Known<'a>,
     called: BinaryCall,
     left: Result<Typed<'a>, TypeFault>,
 ) -> Result<Typed<'a>, TypeFault>
     ensures { let E = typing_environment env.entry in
-        (K : Pairs) (a : Expr) → Judged E K a left.entry (pairs known.old.items)
-        → Judged E K (form.BinaryCall called a right.entry.now) result (pairs known.new.items) }
+        (K : Pairs) (a : Expr) → Judged E K a left.entry known.old
+        → Judged E K (form.BinaryCall called a right.entry.now) result known.new }
 {
     match left {
         Ok(left) => {
@@ -302,10 +356,9 @@ fn types_of<'a>(
     alloc: Global,
     exprs: &'a Items<Expr>,
     env: TypingEnvironment<'a>,
-    known: &mut Vec<Pair<'a>>,
+    known: &mut Known<'a>,
 ) -> Result<Vec<StaticType<'a>>, TypeFault>
-    ensures { JudgedEach (typing_environment env.entry) (pairs known.old.items) exprs.entry.now result
-        (pairs known.new.items) }
+    ensures { JudgedEach (typing_environment env.entry) known.old exprs.entry.now result known.new }
 {
     let mut types = Vec::new(alloc);
     for expr in exprs.as_slice() {
@@ -325,10 +378,10 @@ fn types_of_fields<'a>(
     alloc: Global,
     fields: &'a Items<Named<Expr>>,
     env: TypingEnvironment<'a>,
-    known: &mut Vec<Pair<'a>>,
+    known: &mut Known<'a>,
 ) -> Result<Vec<StaticType<'a>>, TypeFault>
-    ensures { JudgedEach (typing_environment env.entry) (pairs known.old.items)
-        (map (λ f. f.value) fields.entry.now) result (pairs known.new.items) }
+    ensures { JudgedEach (typing_environment env.entry) known.old
+        (map (λ f. f.value) fields.entry.now) result known.new }
 {
     let mut types = Vec::new(alloc);
     for field in fields.as_slice() {

@@ -1,52 +1,57 @@
-//! Known pairs: an expression, and a field that it is known to have.
-ghost use Rattle.std.specs.Prelude.{◌≡◌, ◌↔◌, [], ◌∷◌, ◌++◌, IsTrue, IfOk, Contains, take};
+//! Known pairs, as typing puts them and asks for them.
+ghost use Rattle.std.specs.Prelude.{◌≡◌, ◌↔◌, ◌∷◌, [], ◌++◌, IsTrue, IfOk, Contains};
 ghost use Rattle.typing.specs.Learned.{Pairs, InBoth};
-ghost use Rattle.type_checker.specs.inner.Pairs.{pair_of, pairs};
+ghost use Rattle.known_pairs.specs.Pairs.{pair_of, pairs};
 
-use crate::equal::same;
 use expressions::Expr;
+use known_pairs::{Known, Pair};
 use plain::NoMemory;
 use std::alloc::Global;
 
-/// An expression that is known to have a field of this name; both are borrowed.
-#[derive(Clone, Copy)]
-pub(crate) struct Pair<'a> {
-    pub(crate) whole: &'a Expr,
-    pub(crate) name: &'a str,
+/// Returns whether the pair is known.
+pub(crate) fn knows<'a>(known: &Known<'a>, whole: &'a Expr, name: &'a str) -> bool
+    ensures { IsTrue result ↔ Contains known.now (whole.entry.now, name.entry.now) }
+{
+    known.knows(&Pair { whole, name })
 }
 
-/// Returns whether it is the pair of this expression and this name. Names are compared first.
-fn is_pair(pair: &Pair<'_>, whole: &Expr, name: &str) -> bool
-    ensures { IsTrue result ↔ (pair_of pair.now ≡ (whole.now, name.now)) }
+/// Puts the pair behind those of both lists, where it is one of the second.
+fn keep<'a>(both: &mut Vec<Pair<'a>>, pair: Pair<'a>, right: &Known<'a>) -> Result<(), NoMemory>
+    ensures { (L : Pairs) → InBoth L right.now (pairs both.old.items)
+        → IfOk result (λ _. InBoth (L ++ pair_of pair.entry ∷ []) right.now (pairs both.new.items)) }
 {
-    pair.name == name && same(pair.whole, whole)
-}
-
-/// Returns whether the pair stands among these.
-pub(crate) fn among(these: &[Pair<'_>], whole: &Expr, name: &str) -> bool
-    ensures { IsTrue result ↔ Contains (pairs these.now) (whole.now, name.now) }
-{
-    for pair in these {
-        if is_pair(pair, whole, name) {
-            return true;
-        }
-    }
-    false
-}
-
-/// Puts the pair behind those of both lists, where it stands in the second.
-fn keep<'a>(both: &mut Vec<Pair<'a>>, pair: Pair<'a>, right: &[Pair<'a>]) -> Result<(), NoMemory>
-    ensures { (L : Pairs) → InBoth L (pairs right.now) (pairs both.old.items)
-        → IfOk result (λ _. InBoth (L ++ pair_of pair.entry ∷ []) (pairs right.now) (pairs both.new.items)) }
-{
-    if !among(right, pair.whole, pair.name) {
+    if !right.knows(&pair) {
         return Ok(());
     }
     both.push(pair)?;
     Ok(())
 }
 
-/// Returns the pairs of the one list that stand in the other too.
+/// Returns those of the pairs that are known.
+fn known_of<'a>(
+    alloc: Global,
+    these: &[Pair<'a>],
+    known: &Known<'a>,
+) -> Result<Vec<Pair<'a>>, NoMemory>
+    ensures { IfOk result (λ both. InBoth (pairs these.now) known.now (pairs both.items)) }
+{
+    let mut both = Vec::new(alloc);
+    for pair in these {
+        keep(&mut both, *pair, known)?;
+    }
+    Ok(both)
+}
+
+/// Returns the pairs as a stack, where they are found by halves.
+fn stacked<'a>(alloc: Global, these: &[Pair<'a>]) -> Result<Known<'a>, NoMemory>
+    ensures { IfOk result (λ known. known ≡ pairs these.now) }
+{
+    let mut known = Known::new(alloc);
+    known.push_all(these)?;
+    Ok(known)
+}
+
+/// Returns the pairs of the one list that stand in the other too, which is put where they are found by halves.
 pub(crate) fn in_both<'a>(
     alloc: Global,
     left: &[Pair<'a>],
@@ -54,18 +59,8 @@ pub(crate) fn in_both<'a>(
 ) -> Result<Vec<Pair<'a>>, NoMemory>
     ensures { IfOk result (λ both. InBoth (pairs left.now) (pairs right.now) (pairs both.items)) }
 {
-    let mut both = Vec::new(alloc);
-    for pair in left {
-        keep(&mut both, *pair, right)?;
-    }
-    Ok(both)
-}
-
-/// Returns whether the pair stands in a list.
-pub(crate) fn knows(known: &Vec<Pair<'_>>, whole: &Expr, name: &str) -> bool
-    ensures { IsTrue result ↔ Contains (pairs known.now.items) (whole.now, name.now) }
-{
-    among(known.as_slice(), whole, name)
+    let known = stacked(alloc, right)?;
+    known_of(alloc, left, &known)
 }
 
 /// Returns the pairs of the one list that stand in the other too, of lists.
@@ -79,20 +74,18 @@ pub(crate) fn in_both_lists<'a>(
     in_both(alloc, left.as_slice(), right.as_slice())
 }
 
-/// Puts what is learned behind what is known.
-pub(crate) fn know_too<'a>(
-    known: &mut Vec<Pair<'a>>,
-    learns: &Vec<Pair<'a>>,
-) -> Result<(), NoMemory>
-    ensures { IfOk result (λ _. known.new.items ≡ known.old.items ++ learns.now.items) }
+/// Puts what is learned on top of what is known.
+pub(crate) fn know_too<'a>(known: &mut Known<'a>, learns: &Vec<Pair<'a>>) -> Result<(), NoMemory>
+    ensures { IfOk result (λ _. known.new ≡ known.old ++ pairs learns.now.items) }
 {
-    known.extend_from_slice(learns.as_slice())?;
+    known.push_all(learns.as_slice())?;
     Ok(())
 }
 
-/// What is known again, where what stood above this height is taken away.
-pub(crate) fn forget_above(known: &mut Vec<Pair<'_>>, height: usize)
-    ensures { known.new.items ≡ take height known.old.items }
+/// Puts what is learned behind what is learned before.
+pub(crate) fn learn_too<'a>(learns: &mut Vec<Pair<'a>>, own: &Vec<Pair<'a>>) -> Result<(), NoMemory>
+    ensures { IfOk result (λ _. learns.new.items ≡ learns.old.items ++ own.now.items) }
 {
-    known.truncate(height);
+    learns.extend_from_slice(own.as_slice())?;
+    Ok(())
 }

@@ -5,7 +5,8 @@ ghost use Rattle.typing.specs.Rows.{MayBeTrue};
 ghost use Rattle.static_types.specs.Views.{boolean_view};
 ghost use Rattle.type_checker.specs.inner.Judged.{IsRow, AddsLearned, IsBranch};
 
-use crate::known::{Pair, know_too};
+use crate::known::learn_too;
+use known_pairs::Pair;
 use static_types::{BooleanType, StaticType, TypeFault};
 use std::alloc::Global;
 
@@ -78,7 +79,7 @@ pub(crate) fn learned_too<'a>(
 {
     let Typed { kind, learns: own } = typed?;
     let mut learns = learns;
-    know_too(&mut learns, &own)?;
+    learn_too(&mut learns, &own)?;
     Ok(Typed { kind, learns })
 }
 

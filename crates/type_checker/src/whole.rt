@@ -10,6 +10,7 @@ use crate::joining::{and_last, and_one_more, left_type};
 use crate::judging::type_of;
 use crate::typed::is_looked_at;
 use expressions::Expr;
+use known_pairs::Known;
 use static_types::{BooleanType, StaticType, TypeFault, TypingEnvironment};
 use std::alloc::Global;
 
@@ -19,8 +20,8 @@ use std::alloc::Global;
 /// then.
 ///
 /// Types that the schema declares are borrowed from it. It takes time linear in the expressions, but for the pairs that
-/// it knows, and for the common types of records that are written out. It recurses: its stack grows with the height of
-/// the highest part, and not with their number.
+/// it knows, each of which it looks for by halves, and for the common types of records that are written out. It
+/// recurses: its stack grows with the height of the highest part, and not with their number.
 ///
 /// Source: Cedar reference guide, "Policy validation".
 pub fn judge_all<'a>(
@@ -34,7 +35,7 @@ pub fn judge_all<'a>(
     ensures faulty { IfErr result (λ f. f ≢ TypeFault.NoMemory
         → Faults (typing_environment env.entry) [] (joined parts.entry.now last.entry.now) (fault_view f)) }
 {
-    let mut known = Vec::new(alloc);
+    let mut known = Known::new(alloc);
     let mut so_far = None;
     for part in parts {
         match left_type(alloc, env, part, &mut known) {

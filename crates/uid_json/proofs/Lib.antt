@@ -1,4 +1,5 @@
 pub mod Adding
 mod FoundLemmas
+pub mod ListLemmas
 mod NameLemmas
 mod UidLemmas

@@ -54,6 +54,16 @@ uid_under d (Some inner) = if has_only (codes "__entity" ∷ []) d then plain_ui
 unfoldable pub uid_in : Data → Option EntityUid
 uid_in d = uid_under d (get (codes "__entity") d)
 
+-- those of several values, in their order, or None where one of them is none
+abbrev pub with_first : Option EntityUid → Option (List EntityUid) → Option (List EntityUid)
+with_first (Some uid) (Some uids) = Some (uid ∷ uids)
+with_first (Some uid) None = None
+with_first None uids = None
+
+abbrev pub uids_in : List Data → Option (List EntityUid)
+uids_in [] = Some []
+uids_in (d ∷ ds) = with_first (uid_in d) (uids_in ds)
+
 -- ---- writing
 
 -- how a name is written: {"id":"alice","type":"User"}

@@ -1,11 +1,11 @@
 //! Uids as JSON.
-ghost use Rattle.std.specs.Prelude.{◌≡◌, IfOk};
+ghost use Rattle.std.specs.Prelude.{◌≡◌, IfOk, map};
 ghost use Rattle.serde_json.specs.View.{view};
-ghost use Rattle.uid_json.specs.Uids.{IsPlainUid, IsUid, IsRead, uid_in, uid_json, entity_json};
+ghost use Rattle.uid_json.specs.Uids.{IsPlainUid, IsUid, IsRead, uid_in, uids_in, uid_json, entity_json};
 
 use crate::laws::names_read_back;
 use json_words::{only_keys, text_at};
-use plain::NoMemory;
+use plain::{Items, NoMemory};
 use serde_json::{Value, json};
 use std::alloc::Global;
 use values::{EntityUid, SharedText, TypeName};
@@ -55,6 +55,21 @@ pub fn read_uid(alloc: Global, value: &Value) -> Result<Option<EntityUid>, NoMem
 {
     names_read_back();
     read_either(alloc, value)
+}
+
+/// Returns the entities that values name, each as [`read_uid`] reads it, in the order of the values and with repeats;
+/// None where one of them is no such name. Fails for memory alone.
+pub fn read_uids(alloc: Global, values: &[Value]) -> Result<Option<Items<EntityUid>>, NoMemory>
+    ensures { IfOk result (λ o. o ≡ uids_in (map view values.now)) }
+{
+    let mut uids = Vec::with_capacity(alloc, values.len())?;
+    for value in values {
+        match read_uid(alloc, value)? {
+            Some(uid) => uids.push(uid)?,
+            None => return Ok(None),
+        }
+    }
+    Ok(Some(Items::from_vec(uids)))
 }
 
 /// Returns the name of an entity as JSON: `{"id":"alice","type":"User"}`. Fails for memory alone.

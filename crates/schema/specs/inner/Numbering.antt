@@ -10,7 +10,7 @@ use Rattle.ancestor_closure.specs.Hierarchy.{Parents, Above, names}
 use Rattle.schema_names.specs.Qualifying.{FoundEntityType}
 use Rattle.schema_parts.specs.LookUps.{has_number_at}
 use Rattle.schema.specs.declared.numbering.Numbered.{Numbered}
-use Rattle.schema.specs.declared.numbering.TypeNumbers.{TypeNumbers}
+use Rattle.schema.specs.declared.type_numbers.TypeNumbers.{TypeNumbers}
 use Rattle.schema.specs.Schemas.{type_uid}
 use Rattle.schema.specs.inner.Filling.{Adds, AddsEach}
 

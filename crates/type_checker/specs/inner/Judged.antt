@@ -17,11 +17,11 @@ use Rattle.static_types.specs.Views.{static_view, fault_view}
 use Rattle.static_types.specs.declared.static_type.StaticType as built
 use Rattle.static_types.specs.declared.fault.TypeFault.{TypeFault}
 use Rattle.static_types.specs.declared.fault.TypeFault.TheVariants.{NoMemory}
-use Rattle.type_checker.specs.declared.known.Pair.{Pair}
+use Rattle.known_pairs.specs.declared.pair.Pair.{Pair}
 use Rattle.type_checker.specs.declared.typed.Typed.{Typed}
 use Rattle.type_checker.specs.declared.typed.Then.{Then}
 use Rattle.type_checker.specs.declared.typed.Then.TheVariants as then
-use Rattle.type_checker.specs.inner.Pairs.{pairs}
+use Rattle.known_pairs.specs.Pairs.{pairs}
 use Rattle.std.specs.declared.alloc.Global.{Global}
 
 -- the pairs of K are known, and the expression is judged

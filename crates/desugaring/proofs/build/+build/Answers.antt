@@ -1,4 +1,4 @@
-use Rattle.std.proofs.Common.{rules, refl, ◌≡◌, ◌∙◌, ◌+◌, ◌++◌, ◌∷◌, [], ap, sym, subst, ℕ, List, map, drop, take, IfOk}
+use Rattle.std.proofs.Common.{rules, refl, ◌≡◌, ◌∙◌, ◌+◌, ◌++◌, ◌∷◌, [], ap, sym, subst, ℕ, List, map, take, IfOk}
 use Rattle.std.proofs.lemmas.List.{at_drop_all}
 use Rattle.std.specs.List.{AllByRecursion, fold}
 use Rattle.expression_trees.specs.declared.tree.Access.{Access}
@@ -15,12 +15,11 @@ use Rattle.desugaring.specs.Meaning.{path_name, name_of, sign_of}
 use Rattle.desugaring.specs.Core.{core_of, negated, field, in_entry, in_term, in_access, added, accessed, joined_by, compared, called, method_called, function}
 use Rattle.desugaring.specs.Names.{method_of}
 use Rattle.desugaring.specs.declared.forms.Chain.{Chain}
-use Rattle.desugaring.specs.declared.forms.Chain.TheVariants as chain
 use Rattle.policy_tokens.specs.Lexing.{spelling_of}
 use Rattle.desugaring.specs.inner.WellFormed.{WellFormed, AllWellFormed, WellFormedEntry, WellFormedTerm, WellFormedAccess}
 use Rattle.desugaring.specs.inner.Giving.{Gave}
 use Rattle.desugaring.proofs.Lists.{all-at, map_map, stepped, taken}
-use Rattle.desugaring.proofs.Gaving.{given, one, two, three, still}
+use Rattle.desugaring.proofs.Gaving.{given, one, two, three}
 use Rattle.desugaring.proofs.PartsOf.{of-Number, of-Text, of-Uid, of-Call, of-Parentheses, of-Not, of-Minus, of-Set, of-Record, of-Member, of-Product, of-Sum, of-Compare, of-Has, of-Like, of-Is, of-IsIn, of-And, of-Or, of-If}
 use Rattle.desugaring.proofs.Cores.{core-Boolean, core-Number, core-Text, core-Variable, core-Uid, core-Call, core-Parentheses, core-Minus, core-Set, core-Record, core-Member, core-Not, core-Product, core-Sum, core-Compare, core-Has, core-Like, core-Is, core-IsIn, core-And, core-Or, core-If, negated-Number, negated-other}
 use Rattle.desugaring.proofs.build.+build.Goals as goal
@@ -44,20 +43,18 @@ build_all-loop-tree-preserved t c =
 
 pub build_chain-loop-tree-preserved : goal.build_chain-loop-tree-preserved
 build_chain-loop-tree-preserved t c =
-    still (λ a. chained c.args.text.now c.args.chain a c.args.more.now) (chained c.args.text.now c.args.chain c.in_ok-left-2.left (drop (c.loop-tree.tree-index + 1) c.args.more.now)) (chained c.args.text.now c.args.chain c.loop-tree.left (drop c.loop-tree.tree-index c.args.more.now)) c.args.first
-    (stepped (chained c.args.text.now c.args.chain) (λ e x. joined_by c.args.chain e (core_of c.args.text.now x)) (λ e x xs. refl) c.args.more.now c.loop-tree.tree-index c.tree-item.result c.loop-tree.left c.in_ok-left-2.left c.tree-item.is c.loop-tree-test.true
-    (given (λ b. c.in_ok-left-2.left ≡ joined_by c.args.chain c.loop-tree.left b) (core_of c.args.text.now c.tree-item.result) c.build_tree.result c.build_tree.ensures c.in_ok-left-2.ensures)) c.loop-tree.invariant
+    stepped (chained c.args.text.now c.args.chain) (λ e x. joined_by c.args.chain e (core_of c.args.text.now x)) (λ e x xs. refl) c.as_slice-trees.result.now c.loop-tree.tree-index c.tree-item.result c.loop-tree.left c.in_ok-left-2.left c.tree-item.is c.loop-tree-test.true
+    (given (λ b. c.in_ok-left-2.left ≡ joined_by c.args.chain c.loop-tree.left b) (core_of c.args.text.now c.tree-item.result) c.build_tree-in-loop-tree.result c.build_tree-in-loop-tree.ensures c.in_ok-left-2.ensures) ∙ c.loop-tree.invariant
 
 pub build_terms-loop-term-preserved : goal.build_terms-loop-term-preserved
 build_terms-loop-term-preserved t c =
-    still (λ a. summed c.args.text.now a c.args.terms.now) (summed c.args.text.now c.in_ok-left-2.left (drop (c.loop-term.term-index + 1) c.args.terms.now)) (summed c.args.text.now c.loop-term.left (drop c.loop-term.term-index c.args.terms.now)) c.args.first
-    (stepped (summed c.args.text.now) (λ e x. added e (in_term (core_of c.args.text.now) x)) (λ e x xs. refl) c.args.terms.now c.loop-term.term-index c.term-item.result c.loop-term.left c.in_ok-left-2.left c.term-item.is c.loop-term-test.true
-    (given (λ b. c.in_ok-left-2.left ≡ core.Binary (sign_of c.term-item.result.sign) c.loop-term.left b) (core_of c.args.text.now c.term-item.result.operand) c.build_tree.result c.build_tree.ensures c.in_ok-left-2.ensures)) c.loop-term.invariant
+    stepped (summed c.args.text.now) (λ e x. added e (in_term (core_of c.args.text.now) x)) (λ e x xs. refl) c.as_slice-terms.result.now c.loop-term.term-index c.term-item.result c.loop-term.left c.in_ok-left-2.left c.term-item.is c.loop-term-test.true
+    (given (λ b. c.in_ok-left-2.left ≡ core.Binary (sign_of c.term-item.result.sign) c.loop-term.left b) (core_of c.args.text.now c.term-item.result.operand) c.build_tree-right.result c.build_tree-right.ensures c.in_ok-left-2.ensures) ∙ c.loop-term.invariant
 
 pub build_accesses-loop-access-preserved : goal.build_accesses-loop-access-preserved
 build_accesses-loop-access-preserved t c =
-    still (λ a. reached c.args.text.now a c.args.accesses.now) (reached c.args.text.now c.in_ok-left-2.left (drop (c.loop-access.access-index + 1) c.args.accesses.now)) (reached c.args.text.now c.loop-access.left (drop c.loop-access.access-index c.args.accesses.now)) c.args.receiver
-    (stepped (reached c.args.text.now) (λ e x. accessed c.args.text.now e (in_access (core_of c.args.text.now) x)) (λ e x xs. refl) c.args.accesses.now c.loop-access.access-index c.access-item.result c.loop-access.left c.in_ok-left-2.left c.access-item.is c.loop-access-test.true c.in_ok-left-2.ensures) c.loop-access.invariant
+    stepped (reached c.args.text.now) (λ e x. accessed c.args.text.now e (in_access (core_of c.args.text.now) x)) (λ e x xs. refl) c.as_slice-accesses.result.now c.loop-access.access-index c.access-item.result c.loop-access.left c.in_ok-left-2.left c.access-item.is c.loop-access-test.true
+    (c.in_ok-left-2.ensures) ∙ c.loop-access.invariant
 
 pub build_tree-build_all-requires : goal.build_tree-build_all-requires
 build_tree-build_all-requires t c = (search (rules, the_lemmas), subst (AllWellFormed c.args.text.now) (sym c.as_slice.ensures) (of-Call c.args.text.now c.args.tree.now c.in-Call.path c.in-Call.arguments c.in-Call.is c.requires.1.1).1)
@@ -71,29 +68,14 @@ build_tree-build_all-requires-in-Set t c = (search (rules, the_lemmas), subst (A
 pub build_tree-build_entries-requires : goal.build_tree-build_entries-requires
 build_tree-build_entries-requires t c = (search (rules, the_lemmas), subst (AllByRecursion (WellFormedEntry c.args.text.now)) (sym c.as_slice-in-Record.ensures) (of-Record c.args.text.now c.args.tree.now c.in-Record.entries c.in-Record.is c.requires.1.1))
 
-pub build_tree-build_tree-first-requires : goal.build_tree-build_tree-first-requires
-build_tree-build_tree-first-requires t c = (search (rules, the_lemmas), subst (WellFormed c.args.text.now) (sym c.get-in-Member.ensures) (of-Member c.args.text.now c.args.tree.now c.in-Member.inner c.in-Member.accesses c.in-Member.is c.requires.1.1).0)
-
 pub build_tree-build_accesses-requires : goal.build_tree-build_accesses-requires
-build_tree-build_accesses-requires t c = (search (rules, the_lemmas), subst (AllByRecursion (WellFormedAccess c.args.text.now)) (sym c.as_slice-in-Member.ensures) (of-Member c.args.text.now c.args.tree.now c.in-Member.inner c.in-Member.accesses c.in-Member.is c.requires.1.1).1)
-
-pub build_tree-build_tree-first-requires-in-Product : goal.build_tree-build_tree-first-requires-in-Product
-build_tree-build_tree-first-requires-in-Product t c = (search (rules, the_lemmas), subst (WellFormed c.args.text.now) (sym c.get-in-Product.ensures) (of-Product c.args.text.now c.args.tree.now c.in-Product.inner c.in-Product.more c.in-Product.is c.requires.1.1).0)
+build_tree-build_accesses-requires t c = (search (rules, the_lemmas), of-Member c.args.text.now c.args.tree.now c.in-Member.inner c.in-Member.accesses c.in-Member.is c.requires.1.1)
 
 pub build_tree-build_chain-requires : goal.build_tree-build_chain-requires
-build_tree-build_chain-requires t c = (search (rules, the_lemmas), subst (AllWellFormed c.args.text.now) (sym c.as_slice-in-Product.ensures) (of-Product c.args.text.now c.args.tree.now c.in-Product.inner c.in-Product.more c.in-Product.is c.requires.1.1).1)
-
-pub build_tree-build_tree-first-requires-in-Sum : goal.build_tree-build_tree-first-requires-in-Sum
-build_tree-build_tree-first-requires-in-Sum t c = (search (rules, the_lemmas), subst (WellFormed c.args.text.now) (sym c.get-in-Sum.ensures) (of-Sum c.args.text.now c.args.tree.now c.in-Sum.inner c.in-Sum.terms c.in-Sum.is c.requires.1.1).0)
+build_tree-build_chain-requires t c = (search (rules, the_lemmas), of-Product c.args.text.now c.args.tree.now c.in-Product.inner c.in-Product.more c.in-Product.is c.requires.1.1)
 
 pub build_tree-build_terms-requires : goal.build_tree-build_terms-requires
-build_tree-build_terms-requires t c = (search (rules, the_lemmas), subst (AllByRecursion (WellFormedTerm c.args.text.now)) (sym c.as_slice-in-Sum.ensures) (of-Sum c.args.text.now c.args.tree.now c.in-Sum.inner c.in-Sum.terms c.in-Sum.is c.requires.1.1).1)
-
-pub build_tree-build_tree-requires-in-Compare : goal.build_tree-build_tree-requires-in-Compare
-build_tree-build_tree-requires-in-Compare t c = (search (rules, the_lemmas), subst (WellFormed c.args.text.now) (sym c.get-in-Compare.ensures) (of-Compare c.args.text.now c.args.tree.now c.in-Compare.left c.in-Compare.operator c.in-Compare.right c.in-Compare.is c.requires.1.1).0)
-
-pub build_tree-build_tree-requires-in-Compare-2 : goal.build_tree-build_tree-requires-in-Compare-2
-build_tree-build_tree-requires-in-Compare-2 t c = (search (rules, the_lemmas), subst (WellFormed c.args.text.now) (sym c.get-in-Compare-2.ensures) (of-Compare c.args.text.now c.args.tree.now c.in-Compare.left c.in-Compare.operator c.in-Compare.right c.in-Compare.is c.requires.1.1).1)
+build_tree-build_terms-requires t c = (search (rules, the_lemmas), of-Sum c.args.text.now c.args.tree.now c.in-Sum.inner c.in-Sum.terms c.in-Sum.is c.requires.1.1)
 
 pub build_tree-build_tree-requires-in-Has : goal.build_tree-build_tree-requires-in-Has
 build_tree-build_tree-requires-in-Has t c = (search (rules, the_lemmas), subst (WellFormed c.args.text.now) (sym c.get-in-Has.ensures) (of-Has c.args.text.now c.args.tree.now c.in-Has.inner c.in-Has.key c.in-Has.is c.requires.1.1).0)
@@ -116,29 +98,17 @@ build_tree-like-requires t c = (of-Like c.args.text.now c.args.tree.now c.in-Lik
 pub build_tree-is-requires : goal.build_tree-is-requires
 build_tree-is-requires t c = (of-Is c.args.text.now c.args.tree.now c.in-Is.inner c.in-Is.path c.in-Is.is c.requires.1.1).1
 
-pub build_tree-build_tree-operand-requires : goal.build_tree-build_tree-operand-requires
-build_tree-build_tree-operand-requires t c = (search (rules, the_lemmas), subst (WellFormed c.args.text.now) (sym c.get-in-IsIn.ensures) (of-IsIn c.args.text.now c.args.tree.now c.in-IsIn.inner c.in-IsIn.path c.in-IsIn.outer c.in-IsIn.is c.requires.1.1).0)
-
-pub build_tree-build_tree-ancestor-requires : goal.build_tree-build_tree-ancestor-requires
-build_tree-build_tree-ancestor-requires t c = (search (rules, the_lemmas), subst (WellFormed c.args.text.now) (sym c.get-in-IsIn-2.ensures) (of-IsIn c.args.text.now c.args.tree.now c.in-IsIn.inner c.in-IsIn.path c.in-IsIn.outer c.in-IsIn.is c.requires.1.1).1.1)
-
 pub build_tree-is_in-requires : goal.build_tree-is_in-requires
 build_tree-is_in-requires t c = (of-IsIn c.args.text.now c.args.tree.now c.in-IsIn.inner c.in-IsIn.path c.in-IsIn.outer c.in-IsIn.is c.requires.1.1).1.0
 
-pub build_tree-build_tree-first-requires-in-And : goal.build_tree-build_tree-first-requires-in-And
-build_tree-build_tree-first-requires-in-And t c = (search (rules, the_lemmas), subst (WellFormed c.args.text.now) (sym c.get-in-And.ensures) (of-And c.args.text.now c.args.tree.now c.in-And.inner c.in-And.more c.in-And.is c.requires.1.1).0)
-
 pub build_tree-build_chain-requires-in-And : goal.build_tree-build_chain-requires-in-And
-build_tree-build_chain-requires-in-And t c = (search (rules, the_lemmas), subst (AllWellFormed c.args.text.now) (sym c.as_slice-in-And.ensures) (of-And c.args.text.now c.args.tree.now c.in-And.inner c.in-And.more c.in-And.is c.requires.1.1).1)
-
-pub build_tree-build_tree-first-requires-in-Or : goal.build_tree-build_tree-first-requires-in-Or
-build_tree-build_tree-first-requires-in-Or t c = (search (rules, the_lemmas), subst (WellFormed c.args.text.now) (sym c.get-in-Or.ensures) (of-Or c.args.text.now c.args.tree.now c.in-Or.inner c.in-Or.more c.in-Or.is c.requires.1.1).0)
+build_tree-build_chain-requires-in-And t c = (search (rules, the_lemmas), of-And c.args.text.now c.args.tree.now c.in-And.inner c.in-And.more c.in-And.is c.requires.1.1)
 
 pub build_tree-build_chain-requires-in-Or : goal.build_tree-build_chain-requires-in-Or
-build_tree-build_chain-requires-in-Or t c = (search (rules, the_lemmas), subst (AllWellFormed c.args.text.now) (sym c.as_slice-in-Or.ensures) (of-Or c.args.text.now c.args.tree.now c.in-Or.inner c.in-Or.more c.in-Or.is c.requires.1.1).1)
+build_tree-build_chain-requires-in-Or t c = (search (rules, the_lemmas), of-Or c.args.text.now c.args.tree.now c.in-Or.inner c.in-Or.more c.in-Or.is c.requires.1.1)
 
-pub build_tree-build_tree-first-requires-in-If : goal.build_tree-build_tree-first-requires-in-If
-build_tree-build_tree-first-requires-in-If t c = (search (rules, the_lemmas), subst (WellFormed c.args.text.now) (sym c.get-in-If.ensures) (of-If c.args.text.now c.args.tree.now c.in-If.test c.in-If.consequent c.in-If.alternative c.in-If.is c.requires.1.1).0)
+pub build_tree-build_tree-first-requires : goal.build_tree-build_tree-first-requires
+build_tree-build_tree-first-requires t c = (search (rules, the_lemmas), subst (WellFormed c.args.text.now) (sym c.get-in-If.ensures) (of-If c.args.text.now c.args.tree.now c.in-If.test c.in-If.consequent c.in-If.alternative c.in-If.is c.requires.1.1).0)
 
 pub build_tree-build_tree-second-requires : goal.build_tree-build_tree-second-requires
 build_tree-build_tree-second-requires t c = (search (rules, the_lemmas), subst (WellFormed c.args.text.now) (sym c.get-in-If-2.ensures) (of-If c.args.text.now c.args.tree.now c.in-If.test c.in-If.consequent c.in-If.alternative c.in-If.is c.requires.1.1).1.0)
@@ -150,7 +120,7 @@ pub build_access-build_all-requires : goal.build_access-build_all-requires
 build_access-build_all-requires t c = (search (rules, the_lemmas), subst (AllWellFormed c.args.text.now) (sym c.as_slice.ensures) (subst (WellFormedAccess c.args.text.now) c.in-Method.is c.requires.1.1).1)
 
 pub build_accesses-build_access-requires : goal.build_accesses-build_access-requires
-build_accesses-build_access-requires t c = (search (rules, the_lemmas), subst (WellFormedAccess c.args.text.now) (sym c.access-item.is) (all-at (WellFormedAccess c.args.text.now) c.args.accesses.now c.loop-access.access-index c.access-item.result c.requires.1.1 c.loop-access-test.true))
+build_accesses-build_access-requires t c = (search (rules, the_lemmas), subst (WellFormedAccess c.args.text.now) (sym c.access-item.is) (all-at (WellFormedAccess c.args.text.now) c.as_slice-accesses.result.now c.loop-access.access-index c.access-item.result (subst (AllByRecursion (WellFormedAccess c.args.text.now)) (sym c.as_slice-accesses.ensures) c.requires.1.1.1) c.loop-access-test.true))
 
 pub build_tree-returns-in-Boolean : goal.build_tree-returns-in-Boolean
 build_tree-returns-in-Boolean t c = c.boolean_literal.ensures ∙ (sym (core-Boolean c.args.text.now c.in-Boolean.value) ∙ ap (core_of c.args.text.now) (sym c.in-Boolean.is))
@@ -191,44 +161,34 @@ pub build_tree-returns-in-Is : goal.build_tree-returns-in-Is
 build_tree-returns-in-Is t c = one (core.Unary (unary.Is (path_name c.args.text.now c.in-Is.path))) (core_of c.args.text.now c.in-Is.inner) (core_of c.args.text.now c.args.tree.now) c.build_tree-in-Is.result c.is.result (subst (λ y. IfOk c.build_tree-in-Is.result (λ e. e ≡ core_of c.args.text.now y)) c.get-in-Is.ensures c.build_tree-in-Is.ensures) c.is.ensures (sym (core-Is c.args.text.now c.in-Is.inner c.in-Is.path) ∙ ap (core_of c.args.text.now) (sym c.in-Is.is))
 
 pub build_tree-returns-in-Member : goal.build_tree-returns-in-Member
-build_tree-returns-in-Member t c =
-    one (λ e. fold (accessed c.args.text.now) e (map (in_access (core_of c.args.text.now)) c.in-Member.accesses)) (core_of c.args.text.now c.in-Member.inner) (core_of c.args.text.now c.args.tree.now) c.build_tree-first.result c.build_accesses.result (subst (λ y. IfOk c.build_tree-first.result (λ e. e ≡ core_of c.args.text.now y)) c.get-in-Member.ensures c.build_tree-first.ensures)
-    (subst (λ xs. IfOk c.build_accesses.result (λ e. Gave c.build_tree-first.result (λ a. e ≡ fold (accessed c.args.text.now) a (map (in_access (core_of c.args.text.now)) xs)))) c.as_slice-in-Member.ensures c.build_accesses.ensures) (sym (core-Member c.args.text.now c.in-Member.inner c.in-Member.accesses) ∙ ap (core_of c.args.text.now) (sym c.in-Member.is))
+build_tree-returns-in-Member t c = subst (λ y. IfOk c.build_accesses.result (λ e. e ≡ y)) (sym (core-Member c.args.text.now c.in-Member.inner c.in-Member.accesses) ∙ ap (core_of c.args.text.now) (sym c.in-Member.is)) c.build_accesses.ensures
 
 pub build_tree-returns-in-Product : goal.build_tree-returns-in-Product
-build_tree-returns-in-Product t c =
-    one (λ e. fold (joined_by chain.Product) e (map (core_of c.args.text.now) c.in-Product.more)) (core_of c.args.text.now c.in-Product.inner) (core_of c.args.text.now c.args.tree.now) c.build_tree-first-in-Product.result c.build_chain.result (subst (λ y. IfOk c.build_tree-first-in-Product.result (λ e. e ≡ core_of c.args.text.now y)) c.get-in-Product.ensures c.build_tree-first-in-Product.ensures)
-    (subst (λ xs. IfOk c.build_chain.result (λ e. Gave c.build_tree-first-in-Product.result (λ a. e ≡ fold (joined_by chain.Product) a (map (core_of c.args.text.now) xs)))) c.as_slice-in-Product.ensures c.build_chain.ensures) (sym (core-Product c.args.text.now c.in-Product.inner c.in-Product.more) ∙ ap (core_of c.args.text.now) (sym c.in-Product.is))
+build_tree-returns-in-Product t c = subst (λ y. IfOk c.build_chain.result (λ e. e ≡ y)) (sym (core-Product c.args.text.now c.in-Product.inner c.in-Product.more) ∙ ap (core_of c.args.text.now) (sym c.in-Product.is)) c.build_chain.ensures
 
 pub build_tree-returns-in-Sum : goal.build_tree-returns-in-Sum
-build_tree-returns-in-Sum t c =
-    one (λ e. fold added e (map (in_term (core_of c.args.text.now)) c.in-Sum.terms)) (core_of c.args.text.now c.in-Sum.inner) (core_of c.args.text.now c.args.tree.now) c.build_tree-first-in-Sum.result c.build_terms.result (subst (λ y. IfOk c.build_tree-first-in-Sum.result (λ e. e ≡ core_of c.args.text.now y)) c.get-in-Sum.ensures c.build_tree-first-in-Sum.ensures)
-    (subst (λ xs. IfOk c.build_terms.result (λ e. Gave c.build_tree-first-in-Sum.result (λ a. e ≡ fold added a (map (in_term (core_of c.args.text.now)) xs)))) c.as_slice-in-Sum.ensures c.build_terms.ensures) (sym (core-Sum c.args.text.now c.in-Sum.inner c.in-Sum.terms) ∙ ap (core_of c.args.text.now) (sym c.in-Sum.is))
+build_tree-returns-in-Sum t c = subst (λ y. IfOk c.build_terms.result (λ e. e ≡ y)) (sym (core-Sum c.args.text.now c.in-Sum.inner c.in-Sum.terms) ∙ ap (core_of c.args.text.now) (sym c.in-Sum.is)) c.build_terms.ensures
 
 pub build_tree-returns-in-And : goal.build_tree-returns-in-And
-build_tree-returns-in-And t c =
-    one (λ e. fold (joined_by chain.And) e (map (core_of c.args.text.now) c.in-And.more)) (core_of c.args.text.now c.in-And.inner) (core_of c.args.text.now c.args.tree.now) c.build_tree-first-in-And.result c.build_chain-in-And.result (subst (λ y. IfOk c.build_tree-first-in-And.result (λ e. e ≡ core_of c.args.text.now y)) c.get-in-And.ensures c.build_tree-first-in-And.ensures)
-    (subst (λ xs. IfOk c.build_chain-in-And.result (λ e. Gave c.build_tree-first-in-And.result (λ a. e ≡ fold (joined_by chain.And) a (map (core_of c.args.text.now) xs)))) c.as_slice-in-And.ensures c.build_chain-in-And.ensures) (sym (core-And c.args.text.now c.in-And.inner c.in-And.more) ∙ ap (core_of c.args.text.now) (sym c.in-And.is))
+build_tree-returns-in-And t c = subst (λ y. IfOk c.build_chain-in-And.result (λ e. e ≡ y)) (sym (core-And c.args.text.now c.in-And.inner c.in-And.more) ∙ ap (core_of c.args.text.now) (sym c.in-And.is)) c.build_chain-in-And.ensures
 
 pub build_tree-returns-in-Or : goal.build_tree-returns-in-Or
-build_tree-returns-in-Or t c =
-    one (λ e. fold (joined_by chain.Or) e (map (core_of c.args.text.now) c.in-Or.more)) (core_of c.args.text.now c.in-Or.inner) (core_of c.args.text.now c.args.tree.now) c.build_tree-first-in-Or.result c.build_chain-in-Or.result (subst (λ y. IfOk c.build_tree-first-in-Or.result (λ e. e ≡ core_of c.args.text.now y)) c.get-in-Or.ensures c.build_tree-first-in-Or.ensures)
-    (subst (λ xs. IfOk c.build_chain-in-Or.result (λ e. Gave c.build_tree-first-in-Or.result (λ a. e ≡ fold (joined_by chain.Or) a (map (core_of c.args.text.now) xs)))) c.as_slice-in-Or.ensures c.build_chain-in-Or.ensures) (sym (core-Or c.args.text.now c.in-Or.inner c.in-Or.more) ∙ ap (core_of c.args.text.now) (sym c.in-Or.is))
+build_tree-returns-in-Or t c = subst (λ y. IfOk c.build_chain-in-Or.result (λ e. e ≡ y)) (sym (core-Or c.args.text.now c.in-Or.inner c.in-Or.more) ∙ ap (core_of c.args.text.now) (sym c.in-Or.is)) c.build_chain-in-Or.ensures
 
 pub build_tree-returns-in-Compare : goal.build_tree-returns-in-Compare
 build_tree-returns-in-Compare t c =
-    two (compared c.in-Compare.operator) (core_of c.args.text.now c.in-Compare.left) (core_of c.args.text.now c.in-Compare.right) (core_of c.args.text.now c.args.tree.now) c.build_tree-in-Compare.result c.build_tree-in-Compare-2.result c.compare.result
-    (subst (λ y. IfOk c.build_tree-in-Compare.result (λ e. e ≡ core_of c.args.text.now y)) c.get-in-Compare.ensures c.build_tree-in-Compare.ensures) (subst (λ y. IfOk c.build_tree-in-Compare-2.result (λ e. e ≡ core_of c.args.text.now y)) c.get-in-Compare-2.ensures c.build_tree-in-Compare-2.ensures) c.compare.ensures (sym (core-Compare c.args.text.now c.in-Compare.left c.in-Compare.operator c.in-Compare.right) ∙ ap (core_of c.args.text.now) (sym c.in-Compare.is))
+    one (λ pair. compared c.in-Compare.operator pair.0 pair.1) (core_of c.args.text.now c.in-Compare.left, core_of c.args.text.now c.in-Compare.right) (core_of c.args.text.now c.args.tree.now) c.build_both.result c.compare.result
+    c.build_both.ensures c.compare.ensures (sym (core-Compare c.args.text.now c.in-Compare.left c.in-Compare.operator c.in-Compare.right) ∙ ap (core_of c.args.text.now) (sym c.in-Compare.is))
 
 pub build_tree-returns-in-IsIn : goal.build_tree-returns-in-IsIn
 build_tree-returns-in-IsIn t c =
-    two (λ a b. core.And (core.Unary (unary.Is (path_name c.args.text.now c.in-IsIn.path)) a) (core.Binary binary.In a b)) (core_of c.args.text.now c.in-IsIn.inner) (core_of c.args.text.now c.in-IsIn.outer) (core_of c.args.text.now c.args.tree.now) c.build_tree-operand.result c.build_tree-ancestor.result c.is_in.result
-    (subst (λ y. IfOk c.build_tree-operand.result (λ e. e ≡ core_of c.args.text.now y)) c.get-in-IsIn.ensures c.build_tree-operand.ensures) (subst (λ y. IfOk c.build_tree-ancestor.result (λ e. e ≡ core_of c.args.text.now y)) c.get-in-IsIn-2.ensures c.build_tree-ancestor.ensures) c.is_in.ensures (sym (core-IsIn c.args.text.now c.in-IsIn.inner c.in-IsIn.path c.in-IsIn.outer) ∙ ap (core_of c.args.text.now) (sym c.in-IsIn.is))
+    one (λ pair. core.And (core.Unary (unary.Is (path_name c.args.text.now c.in-IsIn.path)) pair.0) (core.Binary binary.In pair.0 pair.1)) (core_of c.args.text.now c.in-IsIn.inner, core_of c.args.text.now c.in-IsIn.outer) (core_of c.args.text.now c.args.tree.now) c.build_both-in-IsIn.result c.is_in.result
+    c.build_both-in-IsIn.ensures c.is_in.ensures (sym (core-IsIn c.args.text.now c.in-IsIn.inner c.in-IsIn.path c.in-IsIn.outer) ∙ ap (core_of c.args.text.now) (sym c.in-IsIn.is))
 
 pub build_tree-returns-in-If : goal.build_tree-returns-in-If
 build_tree-returns-in-If t c =
-    three core.If (core_of c.args.text.now c.in-If.test) (core_of c.args.text.now c.in-If.consequent) (core_of c.args.text.now c.in-If.alternative) (core_of c.args.text.now c.args.tree.now) c.build_tree-first-in-If.result c.build_tree-second.result c.build_tree-third.result c.if_then_else.result
-    (subst (λ y. IfOk c.build_tree-first-in-If.result (λ e. e ≡ core_of c.args.text.now y)) c.get-in-If.ensures c.build_tree-first-in-If.ensures) (subst (λ y. IfOk c.build_tree-second.result (λ e. e ≡ core_of c.args.text.now y)) c.get-in-If-2.ensures c.build_tree-second.ensures) (subst (λ y. IfOk c.build_tree-third.result (λ e. e ≡ core_of c.args.text.now y)) c.get-in-If-3.ensures c.build_tree-third.ensures) c.if_then_else.ensures (sym (core-If c.args.text.now c.in-If.test c.in-If.consequent c.in-If.alternative) ∙ ap (core_of c.args.text.now) (sym c.in-If.is))
+    three core.If (core_of c.args.text.now c.in-If.test) (core_of c.args.text.now c.in-If.consequent) (core_of c.args.text.now c.in-If.alternative) (core_of c.args.text.now c.args.tree.now) c.build_tree-first.result c.build_tree-second.result c.build_tree-third.result c.if_then_else.result
+    (subst (λ y. IfOk c.build_tree-first.result (λ e. e ≡ core_of c.args.text.now y)) c.get-in-If.ensures c.build_tree-first.ensures) (subst (λ y. IfOk c.build_tree-second.result (λ e. e ≡ core_of c.args.text.now y)) c.get-in-If-2.ensures c.build_tree-second.ensures) (subst (λ y. IfOk c.build_tree-third.result (λ e. e ≡ core_of c.args.text.now y)) c.get-in-If-3.ensures c.build_tree-third.ensures) c.if_then_else.ensures (sym (core-If c.args.text.now c.in-If.test c.in-If.consequent c.in-If.alternative) ∙ ap (core_of c.args.text.now) (sym c.in-If.is))
 
 pub build_behind_minus-returns-in-Number : goal.build_behind_minus-returns-in-Number
 build_behind_minus-returns-in-Number t c = c.negated_literal.ensures ∙ sym (negated-Number c.args.text.now c.in-Number.token) ∙ ap (negated c.args.text.now) (sym c.in-Number.is)
@@ -271,14 +231,14 @@ build_behind_minus-build_tree-requires t c = (search (rules, the_lemmas), c.requ
 pub build_all-build_tree-requires : goal.build_all-build_tree-requires
 build_all-build_tree-requires t c = (search (rules, the_lemmas), subst (WellFormed c.args.text.now) (sym c.tree-item.is) (all-at (WellFormed c.args.text.now) c.args.trees.now c.loop-tree.tree-index c.tree-item.result c.requires.1.1 c.loop-tree-test.true))
 
-pub build_chain-build_tree-requires : goal.build_chain-build_tree-requires
-build_chain-build_tree-requires t c = (search (rules, the_lemmas), subst (WellFormed c.args.text.now) (sym c.tree-item.is) (all-at (WellFormed c.args.text.now) c.args.more.now c.loop-tree.tree-index c.tree-item.result c.requires.1.1 c.loop-tree-test.true))
+pub build_chain-build_tree-requires-in-loop-tree : goal.build_chain-build_tree-requires-in-loop-tree
+build_chain-build_tree-requires-in-loop-tree t c = (search (rules, the_lemmas), subst (WellFormed c.args.text.now) (sym c.tree-item.is) (all-at (WellFormed c.args.text.now) c.as_slice-trees.result.now c.loop-tree.tree-index c.tree-item.result (subst (AllByRecursion (WellFormed c.args.text.now)) (sym c.as_slice-trees.ensures) c.requires.1.1.1) c.loop-tree-test.true))
 
 pub build_entries-build_tree-requires : goal.build_entries-build_tree-requires
 build_entries-build_tree-requires t c = (search (rules, the_lemmas), (subst (WellFormedEntry c.args.text.now) (sym c.entry-item.is) (all-at (WellFormedEntry c.args.text.now) c.args.entries.now c.loop-entry.entry-index c.entry-item.result c.requires.1.1 c.loop-entry-test.true)).value)
 
-pub build_terms-build_tree-requires : goal.build_terms-build_tree-requires
-build_terms-build_tree-requires t c = (search (rules, the_lemmas), (subst (WellFormedTerm c.args.text.now) (sym c.term-item.is) (all-at (WellFormedTerm c.args.text.now) c.args.terms.now c.loop-term.term-index c.term-item.result c.requires.1.1 c.loop-term-test.true)).operand)
+pub build_terms-build_tree-right-requires : goal.build_terms-build_tree-right-requires
+build_terms-build_tree-right-requires t c = (search (rules, the_lemmas), (subst (WellFormedTerm c.args.text.now) (sym c.term-item.is) (all-at (WellFormedTerm c.args.text.now) c.as_slice-terms.result.now c.loop-term.term-index c.term-item.result (subst (AllByRecursion (WellFormedTerm c.args.text.now)) (sym c.as_slice-terms.ensures) c.requires.1.1.1) c.loop-term-test.true)).operand)
 
 pub build_entries-name-key-requires : goal.build_entries-name-key-requires
 build_entries-name-key-requires t c = (subst (WellFormedEntry c.args.text.now) (sym c.entry-item.is) (all-at (WellFormedEntry c.args.text.now) c.args.entries.now c.loop-entry.entry-index c.entry-item.result c.requires.1.1 c.loop-entry-test.true)).key
@@ -299,10 +259,39 @@ pub build_tree-returns-in-Minus : goal.build_tree-returns-in-Minus
 build_tree-returns-in-Minus t c = subst (λ y. IfOk c.build_behind_minus.result (λ e. e ≡ y)) (ap (negated c.args.text.now) c.get-in-Minus.ensures ∙ sym (core-Minus c.args.text.now c.in-Minus.inner) ∙ ap (core_of c.args.text.now) (sym c.in-Minus.is)) c.build_behind_minus.ensures
 
 pub build_chain-returns : goal.build_chain-returns
-build_chain-returns t c = still (λ a. chained c.args.text.now c.args.chain a c.args.more.now) c.loop-tree.left (chained c.args.text.now c.args.chain c.loop-tree.left (drop c.loop-tree.tree-index c.args.more.now)) c.args.first (sym (at_drop_all (chained c.args.text.now c.args.chain c.loop-tree.left) c.args.more.now c.loop-tree.tree-index c.loop-tree-test.false)) c.loop-tree.invariant
+build_chain-returns t c =
+    sym (at_drop_all (chained c.args.text.now c.args.chain c.loop-tree.left) c.as_slice-trees.result.now c.loop-tree.tree-index c.loop-tree-test.false) ∙ c.loop-tree.invariant ∙ ap (chained c.args.text.now c.args.chain (core_of c.args.text.now c.args.first.now)) c.as_slice-trees.ensures
 
 pub build_terms-returns : goal.build_terms-returns
-build_terms-returns t c = still (λ a. summed c.args.text.now a c.args.terms.now) c.loop-term.left (summed c.args.text.now c.loop-term.left (drop c.loop-term.term-index c.args.terms.now)) c.args.first (sym (at_drop_all (summed c.args.text.now c.loop-term.left) c.args.terms.now c.loop-term.term-index c.loop-term-test.false)) c.loop-term.invariant
+build_terms-returns t c =
+    sym (at_drop_all (summed c.args.text.now c.loop-term.left) c.as_slice-terms.result.now c.loop-term.term-index c.loop-term-test.false) ∙ c.loop-term.invariant ∙ ap (summed c.args.text.now (core_of c.args.text.now c.args.first.now)) c.as_slice-terms.ensures
 
 pub build_accesses-returns : goal.build_accesses-returns
-build_accesses-returns t c = still (λ a. reached c.args.text.now a c.args.accesses.now) c.loop-access.left (reached c.args.text.now c.loop-access.left (drop c.loop-access.access-index c.args.accesses.now)) c.args.receiver (sym (at_drop_all (reached c.args.text.now c.loop-access.left) c.args.accesses.now c.loop-access.access-index c.loop-access-test.false)) c.loop-access.invariant
+build_accesses-returns t c =
+    sym (at_drop_all (reached c.args.text.now c.loop-access.left) c.as_slice-accesses.result.now c.loop-access.access-index c.loop-access-test.false) ∙ c.loop-access.invariant ∙ ap (reached c.args.text.now (core_of c.args.text.now c.args.receiver.now)) c.as_slice-accesses.ensures
+
+pub build_tree-build_both-requires : goal.build_tree-build_both-requires
+build_tree-build_both-requires t c = (search (rules, the_lemmas), of-Compare c.args.text.now c.args.tree.now c.in-Compare.left c.in-Compare.operator c.in-Compare.right c.in-Compare.is c.requires.1.1)
+
+pub build_tree-build_both-requires-in-IsIn : goal.build_tree-build_both-requires-in-IsIn
+build_tree-build_both-requires-in-IsIn t c = let parts = of-IsIn c.args.text.now c.args.tree.now c.in-IsIn.inner c.in-IsIn.path c.in-IsIn.outer c.in-IsIn.is c.requires.1.1 in (search (rules, the_lemmas), (parts.0, parts.1.1))
+
+pub build_both-build_tree-first-requires : goal.build_both-build_tree-first-requires
+build_both-build_tree-first-requires t c = (search (rules, the_lemmas), subst (WellFormed c.args.text.now) (sym c.get.ensures) c.requires.1.1.0)
+
+pub build_both-build_tree-requires : goal.build_both-build_tree-requires
+build_both-build_tree-requires t c = (search (rules, the_lemmas), subst (WellFormed c.args.text.now) (sym c.get-2.ensures) c.requires.1.1.1)
+
+pub build_both-returns : goal.build_both-returns
+build_both-returns t c =
+    two (λ a b. (a, b)) (core_of c.args.text.now c.args.left.now) (core_of c.args.text.now c.args.right.now) (core_of c.args.text.now c.args.left.now, core_of c.args.text.now c.args.right.now) c.build_tree-first.result c.build_tree.result c.both.result
+    (subst (λ y. IfOk c.build_tree-first.result (λ e. e ≡ core_of c.args.text.now y)) c.get.ensures c.build_tree-first.ensures) (subst (λ y. IfOk c.build_tree.result (λ e. e ≡ core_of c.args.text.now y)) c.get-2.ensures c.build_tree.ensures) c.both.ensures refl
+
+pub build_chain-build_tree-requires : goal.build_chain-build_tree-requires
+build_chain-build_tree-requires t c = (search (rules, the_lemmas), subst (WellFormed c.args.text.now) (sym c.get.ensures) c.requires.1.1.0)
+
+pub build_terms-build_tree-requires : goal.build_terms-build_tree-requires
+build_terms-build_tree-requires t c = (search (rules, the_lemmas), subst (WellFormed c.args.text.now) (sym c.get.ensures) c.requires.1.1.0)
+
+pub build_accesses-build_tree-requires : goal.build_accesses-build_tree-requires
+build_accesses-build_tree-requires t c = (search (rules, the_lemmas), subst (WellFormed c.args.text.now) (sym c.get.ensures) c.requires.1.1.0)

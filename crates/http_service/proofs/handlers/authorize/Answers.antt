@@ -7,5 +7,5 @@ use Rattle.http_service.proofs.handlers.authorize.Goals as goal
 
 pub returns-clause-reply : goal.returns-clause-reply
 returns-clause-reply c =
-    asked_of c.args.site.now (input.Authorize c.args.body.now) (reply.Answered c.authorize_bytes-outcome.result) (reply.Answered (Err fault.NoMemory))
-    _ _ _ (c.authorize_bytes-outcome.ensures.answers, refl) (tt, refl) refl c.report_answer.ensures.reply
+    asked_of c.args.site.now (input.Authorize c.args.body.now) (reply.Answered c.answer_to-outcome.result) (reply.Answered (Err fault.NoMemory))
+    _ _ _ (c.answer_to-outcome.ensures, refl) (tt, refl) refl c.report_answer.ensures.reply

@@ -5,5 +5,5 @@ use Rattle.http_service.proofs.handlers.put_entity.Goals as goal
 
 pub returns-clause-reply : goal.returns-clause-reply
 returns-clause-reply c =
-    handed c.args.site.now c.put_entity_bytes-outcome.new.site (input.PutEntity c.args.body.now) (reply.Stamped c.put_entity_bytes-outcome.result) _ _ _
-    c.put_entity_bytes-outcome.ensures.puts c.put_entity_bytes-outcome.ensures.same c.report_stamp.ensures.status c.report_stamp.ensures.body
+    handed c.args.site.now c.put_stated-outcome.new.site (input.PutEntity c.args.body.now) (reply.Stamped c.put_stated-outcome.result) _ _ _
+    c.put_stated-outcome.ensures.puts c.put_stated-outcome.ensures.same c.report_stamp.ensures.status c.report_stamp.ensures.body

@@ -5,7 +5,6 @@ use Rattle.typing.specs.Learned as learned
 use Rattle.typing.specs.Typing as typing
 use Rattle.typing.specs.Faults as faults
 use Rattle.static_types.specs.Views.{typing_environment}
-use Rattle.type_checker.specs.inner.Pairs.{pairs}
 use Rattle.type_checker.proofs.Carrying.{typed_so, faulty_so, has_judged}
 use Rattle.type_checker.proofs.finishing.has_typed.Goals as goal
 
@@ -13,14 +12,14 @@ pub returns-in-Err : goal.returns-in-Err
 returns-in-Err c = λ K h n.
     let a = c.args.owner.now in
     faults.fault_in_operand (faults.of_has a c.args.name.now)
-    (faults.fault_here (faulty_so (typing_environment c.args.env) K (pairs c.args.known.now.items) a c.in-Err.is h n))
+    (faults.fault_here (faulty_so (typing_environment c.args.env) K c.args.known.now a c.in-Err.is h n))
 
 pub returns : goal.returns
 returns c = λ K h.
     let E = typing_environment c.args.env in
     let a = c.args.owner.now in
     let k = c.args.name.now in
-    let after = pairs c.args.known.now.items in
+    let after = c.args.known.now in
     let t = typed_so E K after a c.in-Ok.is h in
     let p : learned.Pair = (a, k) in
     let d = subst (λ M. Decides c.knows-is_known.result (Contains M p)) t.0 c.knows-is_known.ensures in

@@ -1,5 +1,4 @@
-use Rattle.std.proofs.Common.{◌≡◌, ◌<◌, ◌++◌, [], ◌∷◌, List, map, length, get_or, take, Ok, refl, sym, subst, ap, ◌∙◌, arith}
-use Rattle.std.specs.Vec.{vec_len}
+use Rattle.std.proofs.Common.{◌≡◌, ◌<◌, ◌++◌, [], ◌∷◌, List, map, length, get_or, take, Ok, refl, sym, subst, ap, ◌∙◌}
 use Rattle.std.proofs.lemmas.Bool.{false≢true}
 use Rattle.std.proofs.lemmas.List.{take_more}
 use Rattle.expressions.specs.declared.expr.Named.{Named}
@@ -11,7 +10,7 @@ use Rattle.typing.specs.Typing.{Types, TypesEach}
 use Rattle.typing.specs.Faults.{FaultsEach}
 use Rattle.typing.specs.Faults as faults
 use Rattle.static_types.specs.Views.{static_view, boolean_view, fault_view, typing_environment}
-use Rattle.type_checker.specs.inner.Pairs.{pairs}
+use Rattle.known_pairs.specs.Pairs.{pairs}
 use Rattle.type_checker.proofs.Carrying.{typed_so, faulty_so, plain_judged, moved, behind_moved, at_form, false_so, then_so, then_faulty}
 use Rattle.typing.specs.Literals.{Settled, IsUnsettled}
 use Rattle.type_checker.specs.inner.Judged.{Judged, JudgedBehind, JudgedEach}
@@ -23,7 +22,7 @@ pub second_operand-returns-in-Ok : goal.second_operand-returns-in-Ok
 second_operand-returns-in-Ok level c = λ K a n h.
     let E = typing_environment c.args.env in
     let b = c.args.right.now in
-    let before = pairs c.args.known.now.items in
+    let before = c.args.known.now in
     let t = typed_so E K before a c.in-Ok.is h in
     c.binary_typed.ensures K _ a b n t.1 (moved E b _ _ t.0 (at_form E _ _ _ (sym c.get.ensures) c.type_of-right.ensures))
 
@@ -31,13 +30,13 @@ pub second_operand-returns-in-Err : goal.second_operand-returns-in-Err
 second_operand-returns-in-Err level c = λ K a n h m.
     let E = typing_environment c.args.env in
     faults.fault_in_operand (faults.of_binary c.args.operator a c.args.right.now n)
-    (faults.fault_here (faulty_so E K (pairs c.args.known.now.items) a c.in-Err.is h m))
+    (faults.fault_here (faulty_so E K c.args.known.now a c.in-Err.is h m))
 
 pub second_called-returns-in-Ok : goal.second_called-returns-in-Ok
 second_called-returns-in-Ok level c = λ K a h.
     let E = typing_environment c.args.env in
     let b = c.args.right.now in
-    let before = pairs c.args.known.now.items in
+    let before = c.args.known.now in
     let t = typed_so E K before a c.in-Ok.is h in
     c.call_typed.ensures E K _ a b t.1 (moved E b _ _ t.0 (at_form E _ _ _ (sym c.get.ensures) c.type_of-right.ensures))
 
@@ -45,13 +44,13 @@ pub second_called-returns-in-Err : goal.second_called-returns-in-Err
 second_called-returns-in-Err level c = λ K a h m.
     let E = typing_environment c.args.env in
     faults.fault_in_operand (faults.of_binary_call c.args.called a c.args.right.now)
-    (faults.fault_here (faulty_so E K (pairs c.args.known.now.items) a c.in-Err.is h m))
+    (faults.fault_here (faulty_so E K c.args.known.now a c.in-Err.is h m))
 
 pub second_conjunct-returns-then-not-is_looked_at : goal.second_conjunct-returns-then-not-is_looked_at
 second_conjunct-returns-then-not-is_looked_at level c = λ K a h.
     let E = typing_environment c.args.env in
     let b = c.args.right.now in
-    let before = pairs c.args.known.now.items in
+    let before = c.args.known.now in
     let t = typed_so E K before a c.in-Ok.is h in
     let n = λ (m : rows.MayBeTrue (boolean_view c.in-Some.truth)). false≢true (sym c.if-not-is_looked_at.true ∙ c.is_looked_at.ensures.1 m) in
     let e = c.in-Some.ensures ∙ false_so c.in-Some.truth n in
@@ -63,7 +62,7 @@ pub second_conjunct-returns-in-Some : goal.second_conjunct-returns-in-Some
 second_conjunct-returns-in-Some level c = λ K a h.
     let E = typing_environment c.args.env in
     let b = c.args.right.now in
-    let t = typed_so E K (pairs c.args.known.now.items) a c.in-Ok.is h in
+    let t = typed_so E K c.args.known.now a c.in-Ok.is h in
     let left = subst (λ s. Types E K a s (pairs c.in-Ok.left.learns.items)) c.in-Some.ensures t.1 in
     let m = c.is_looked_at.ensures.0 c.if-not-is_looked_at.false in
     c.and_typed.ensures E K _ _ a b left m (behind_moved E b _ _ _ t.0 c.type_behind-right.ensures)
@@ -71,18 +70,18 @@ second_conjunct-returns-in-Some level c = λ K a h.
 pub second_conjunct-returns-in-Ok : goal.second_conjunct-returns-in-Ok
 second_conjunct-returns-in-Ok level c = λ K a h n.
     let E = typing_environment c.args.env in
-    let t = typed_so E K (pairs c.args.known.now.items) a c.in-Ok.is h in
+    let t = typed_so E K c.args.known.now a c.in-Ok.is h in
     faults.left_of_and_no_boolean a c.args.right.now t.1 c.in-None.ensures
 
 pub second_conjunct-returns : goal.second_conjunct-returns
 second_conjunct-returns level c = λ K a h n.
-    faults.fault_left_of_and a c.args.right.now (faulty_so (typing_environment c.args.env) K (pairs c.args.known.now.items) a c.in-Err.is h n)
+    faults.fault_left_of_and a c.args.right.now (faulty_so (typing_environment c.args.env) K c.args.known.now a c.in-Err.is h n)
 
 pub second_disjunct-returns-in-Some-True : goal.second_disjunct-returns-in-Some-True
 second_disjunct-returns-in-Some-True level c = λ K a h.
     let E = typing_environment c.args.env in
     let b = c.args.right.now in
-    let before = pairs c.args.known.now.items in
+    let before = c.args.known.now in
     let t = typed_so E K before a c.in-Ok.is h in
     let e = c.in-Some-True.ensures ∙ ap boolean_view c.in-Some-True.field-0-is in
     let left = subst (λ s. Types E K a s (pairs c.in-Ok.left.learns.items)) e t.1 in
@@ -93,7 +92,7 @@ pub second_disjunct-returns-in-Some-False : goal.second_disjunct-returns-in-Some
 second_disjunct-returns-in-Some-False level c = λ K a h.
     let E = typing_environment c.args.env in
     let b = c.args.right.now in
-    let t = typed_so E K (pairs c.args.known.now.items) a c.in-Ok.is h in
+    let t = typed_so E K c.args.known.now a c.in-Ok.is h in
     let e = c.in-Some-False.ensures ∙ ap boolean_view c.in-Some-False.field-0-is in
     let left = subst (λ s. Types E K a s (pairs c.in-Ok.left.learns.items)) e t.1 in
     c.or_behind_false.ensures E K _ _ a b left (moved E b _ _ t.0 (at_form E _ _ _ (sym c.get.ensures) c.type_of-right.ensures))
@@ -102,7 +101,7 @@ pub second_disjunct-returns-in-Some-Either : goal.second_disjunct-returns-in-Som
 second_disjunct-returns-in-Some-Either level c = λ K a h.
     let E = typing_environment c.args.env in
     let b = c.args.right.now in
-    let t = typed_so E K (pairs c.args.known.now.items) a c.in-Ok.is h in
+    let t = typed_so E K c.args.known.now a c.in-Ok.is h in
     let e = c.in-Some-Either.ensures ∙ ap boolean_view c.in-Some-Either.field-0-is in
     let left = subst (λ s. Types E K a s (pairs c.in-Ok.left.learns.items)) e t.1 in
     c.or_typed.ensures E K _ a b left (moved E b _ _ t.0 (at_form E _ _ _ (sym c.get-in-Some-Either.ensures) c.type_of-right-in-Some-Either.ensures))
@@ -110,18 +109,18 @@ second_disjunct-returns-in-Some-Either level c = λ K a h.
 pub second_disjunct-returns-in-None : goal.second_disjunct-returns-in-None
 second_disjunct-returns-in-None level c = λ K a h n.
     let E = typing_environment c.args.env in
-    let t = typed_so E K (pairs c.args.known.now.items) a c.in-Ok.is h in
+    let t = typed_so E K c.args.known.now a c.in-Ok.is h in
     faults.left_of_or_no_boolean a c.args.right.now t.1 c.in-None.ensures
 
 pub second_disjunct-returns-in-Err : goal.second_disjunct-returns-in-Err
 second_disjunct-returns-in-Err level c = λ K a h n.
-    faults.fault_left_of_or a c.args.right.now (faulty_so (typing_environment c.args.env) K (pairs c.args.known.now.items) a c.in-Err.is h n)
+    faults.fault_left_of_or a c.args.right.now (faulty_so (typing_environment c.args.env) K c.args.known.now a c.in-Err.is h n)
 
 pub type_then-returns-in-Some-True : goal.type_then-returns-in-Some-True
 type_then-returns-in-Some-True level c = λ K a h.
     let E = typing_environment c.args.env in
     let b = c.args.consequent.now in
-    let t = typed_so E K (pairs c.args.known.now.items) a c.in-Ok.is h in
+    let t = typed_so E K c.args.known.now a c.in-Ok.is h in
     let e = c.in-Some-True.ensures ∙ ap boolean_view c.in-Some-True.field-0-is in
     let test = subst (λ s. Types E K a s (pairs c.in-Ok.test.learns.items)) e t.1 in
     then_only E K _ _ a b _ _ c.only.ensures test (behind_moved E b _ _ _ t.0 c.type_behind.ensures)
@@ -130,7 +129,7 @@ pub type_then-returns-in-Some-Either : goal.type_then-returns-in-Some-Either
 type_then-returns-in-Some-Either level c = λ K a h.
     let E = typing_environment c.args.env in
     let b = c.args.consequent.now in
-    let t = typed_so E K (pairs c.args.known.now.items) a c.in-Ok.is h in
+    let t = typed_so E K c.args.known.now a c.in-Ok.is h in
     let e = c.in-Some-Either.ensures ∙ ap boolean_view c.in-Some-Either.field-0-is in
     let test = subst (λ s. Types E K a s (pairs c.in-Ok.test.learns.items)) e t.1 in
     then_both E K _ _ a b _ _ c.both.ensures test (behind_moved E b _ _ _ t.0 c.type_behind-in-Some-Either.ensures)
@@ -138,37 +137,37 @@ type_then-returns-in-Some-Either level c = λ K a h.
 pub type_then-returns-in-Some-False : goal.type_then-returns-in-Some-False
 type_then-returns-in-Some-False level c = λ K a h.
     let E = typing_environment c.args.env in
-    let t = typed_so E K (pairs c.args.known.now.items) a c.in-Ok.is h in
+    let t = typed_so E K c.args.known.now a c.in-Ok.is h in
     let e = c.in-Some-False.ensures ∙ ap boolean_view c.in-Some-False.field-0-is in
     (t.0, (_, subst (λ s. Types E K a s (pairs c.in-Ok.test.learns.items)) e t.1))
 
 pub type_then-returns-in-None : goal.type_then-returns-in-None
 type_then-returns-in-None level c = λ K a h n x.
     let E = typing_environment c.args.env in
-    let t = typed_so E K (pairs c.args.known.now.items) a c.in-Ok.is h in
+    let t = typed_so E K c.args.known.now a c.in-Ok.is h in
     faults.test_no_boolean a c.args.consequent.now x t.1 c.in-None.ensures
 
 pub type_then-returns-in-Err : goal.type_then-returns-in-Err
 type_then-returns-in-Err level c = λ K a h n x.
     faults.fault_in_test a c.args.consequent.now x
-    (faulty_so (typing_environment c.args.env) K (pairs c.args.known.now.items) a c.in-Err.is h n)
+    (faulty_so (typing_environment c.args.env) K c.args.known.now a c.in-Err.is h n)
 
 pub type_else-returns-in-Ok-Skipped : goal.type_else-returns-in-Ok-Skipped
 type_else-returns-in-Ok-Skipped level c = λ K a b h.
     let E = typing_environment c.args.env in
-    let t = then_so E K (pairs c.args.known.now.items) a b c.in-Ok-Skipped.is h in
+    let t = then_so E K c.args.known.now a b c.in-Ok-Skipped.is h in
     let i = rw c.in-Ok-Skipped.field-0-is at t.1 in
     else_only E K i.0 _ a b c.args.alternative.now _ i.1 (moved E c.args.alternative.now _ _ t.0 (at_form E _ _ _ (sym c.get.ensures) c.type_of.ensures))
 
 pub type_else-returns-in-Err : goal.type_else-returns-in-Err
 type_else-returns-in-Err level c = λ K a b h n.
-    then_faulty (typing_environment c.args.env) K (pairs c.args.known.now.items) a b c.in-Err.is h n c.args.alternative.now
+    then_faulty (typing_environment c.args.env) K c.args.known.now a b c.in-Err.is h n c.args.alternative.now
 
 pub type_else-returns-in-Ok-Only : goal.type_else-returns-in-Ok-Only
 type_else-returns-in-Ok-Only level c = λ K a b h.
     let E = typing_environment c.args.env in
     let x = c.args.alternative.now in
-    let t = then_so E K (pairs c.args.known.now.items) a b c.in-Ok-Only.is h in
+    let t = then_so E K c.args.known.now a b c.in-Ok-Only.is h in
     let i = rw c.in-Ok-Only.field-0-is at t.1 in
     (t.0, subst (λ N. Types E K (form.If a b x) (static_view c.in-Ok-Only.typed.kind) N) (sym i.4) (typing.if_of_true a b x i.2 i.3))
 
@@ -176,7 +175,7 @@ pub type_else-returns-in-Ok-Both : goal.type_else-returns-in-Ok-Both
 type_else-returns-in-Ok-Both level c = λ K a b h.
     let E = typing_environment c.args.env in
     let x = c.args.alternative.now in
-    let t = then_so E K (pairs c.args.known.now.items) a b c.in-Ok-Both.is h in
+    let t = then_so E K c.args.known.now a b c.in-Ok-Both.is h in
     let i = rw c.in-Ok-Both.field-0-is at t.1 in
     c.branches.ensures E K _ a b x i (moved E x _ _ t.0 (at_form E _ _ _ (sym c.get-in-Ok-Both.ensures) c.type_of-other.ensures))
 
@@ -184,20 +183,50 @@ pub type_behind-returns-in-Ok : goal.type_behind-returns-in-Ok
 type_behind-returns-in-Ok level c =
     let E = typing_environment c.args.env in
     let x = c.args.expr.now in
-    let ks = c.args.known.now.items in
+    let K = c.args.known.now in
     let ls = c.args.learns.items in
-    let ms = c.type_of-typed.new.known.items in
-    let q : vec_len c.args.known.now ≡ length ks = omega (arith, c.args.known.now.ok.0) in
-    let j = subst (λ zs. Judged E (pairs zs) x c.type_of-typed.result (pairs ms)) c.in-Ok.ensures
+    let M = c.type_of-typed.new.known in
+    let j = subst (λ N. Judged E N x c.type_of-typed.result M) c.in-Ok.ensures
     (at_form E _ _ _ (sym c.get.ensures) c.type_of-typed.ensures) in
-    subst (λ zs. JudgedBehind E (pairs ks) (pairs ls) x c.learned_too.result (pairs zs))
-    (sym (c.forget_above.ensures ∙ ap (λ n. take n ms) (c.len-height.ensures ∙ q)))
-    (behind_judged E x ks ls ms _ _ j c.learned_too.ensures)
+    subst (λ N. JudgedBehind E K (pairs ls) x c.learned_too.result N)
+    (sym (c.forget_above.ensures ∙ ap (λ n. take n M) c.len-height.ensures))
+    (behind_judged E x K ls M _ _ j c.learned_too.ensures)
+
+pub type_unary-returns : goal.type_unary-returns
+type_unary-returns level c =
+    let E = typing_environment c.args.env in
+    let K = c.args.known.now in
+    c.unary_typed.ensures E K _ c.args.operand.now (at_form E K _ _ (sym c.get.ensures) c.type_of-operand.ensures)
+
+pub type_field-returns : goal.type_field-returns
+type_field-returns level c =
+    let E = typing_environment c.args.env in
+    let K = c.args.known.now in
+    let j = at_form E K _ _ (c.get-2.ensures ∙ sym c.get.ensures) c.type_of-typed.ensures in
+    at_form E K _ _ (ap (λ x. form.Field x c.args.name.now) (sym c.get-2.ensures)
+    ∙ ap (λ n. form.Field c.get-2.result.now n) (sym c.as_str.ensures))
+    (c.field_typed.ensures K j)
+
+pub type_has-returns : goal.type_has-returns
+type_has-returns level c =
+    let E = typing_environment c.args.env in
+    let K = c.args.known.now in
+    let j = at_form E K _ _ (c.get-2.ensures ∙ sym c.get.ensures) c.type_of-typed.ensures in
+    at_form E K _ _ (ap (λ x. form.Has x c.args.name.now) (sym c.get-2.ensures)
+    ∙ ap (λ n. form.Has c.get-2.result.now n) (sym c.as_str.ensures))
+    (c.has_typed.ensures K j)
+
+pub type_unary_call-returns : goal.type_unary_call-returns
+type_unary_call-returns level c =
+    let E = typing_environment c.args.env in
+    let K = c.args.known.now in
+    let j = at_form E K _ _ (c.get-2.ensures ∙ sym c.get.ensures) c.type_of-typed.ensures in
+    at_form E K _ _ (ap (λ x. form.UnaryCall c.args.called x) (sym c.get-2.ensures)) (c.unary_call_typed.ensures E K _ j)
 
 pub type_of-returns-in-Literal : goal.type_of-returns-in-Literal
 type_of-returns-in-Literal level c =
     let E = typing_environment c.args.env in
-    let K = pairs c.args.known.now.items in
+    let K = c.args.known.now in
     at_form E K K (Ok c.plain.result) c.in-Literal.is
     (plain_judged E K K (form.Literal c.in-Literal.literal) c.plain.result (ap static_view c.plain.ensures.kind ∙ c.literal_type.ensures)
     c.plain.ensures.learns refl (typing.types_literal c.in-Literal.literal))
@@ -205,7 +234,7 @@ type_of-returns-in-Literal level c =
 pub type_of-returns-in-Variable : goal.type_of-returns-in-Variable
 type_of-returns-in-Variable level c =
     let E = typing_environment c.args.env in
-    let K = pairs c.args.known.now.items in
+    let K = c.args.known.now in
     let v = c.in-Variable.variable in
     at_form E K K (Ok c.plain-in-Variable.result) c.in-Variable.is
     (plain_judged E K K (form.Variable v) c.plain-in-Variable.result (ap static_view c.plain-in-Variable.ensures.kind ∙ c.variable_type.ensures)
@@ -214,7 +243,7 @@ type_of-returns-in-Variable level c =
 pub type_of-returns-in-If : goal.type_of-returns-in-If
 type_of-returns-in-If level c =
     let E = typing_environment c.args.env in
-    let K = pairs c.args.known.now.items in
+    let K = c.args.known.now in
     let a = c.in-If.test in
     let j = at_form E K _ _ (sym c.get.ensures) c.type_of-test.ensures in
     at_form E K _ _ c.in-If.is (c.type_else.ensures K a c.in-If.consequent (c.type_then-then.ensures K a j))
@@ -222,35 +251,32 @@ type_of-returns-in-If level c =
 pub type_of-returns-in-And : goal.type_of-returns-in-And
 type_of-returns-in-And level c =
     let E = typing_environment c.args.env in
-    let K = pairs c.args.known.now.items in
+    let K = c.args.known.now in
     at_form E K _ _ c.in-And.is
     (c.second_conjunct.ensures K c.in-And.left (at_form E K _ _ (sym c.get-in-And.ensures) c.type_of-left.ensures))
 
 pub type_of-returns-in-Or : goal.type_of-returns-in-Or
 type_of-returns-in-Or level c =
     let E = typing_environment c.args.env in
-    let K = pairs c.args.known.now.items in
+    let K = c.args.known.now in
     at_form E K _ _ c.in-Or.is
     (c.second_disjunct.ensures K c.in-Or.left (at_form E K _ _ (sym c.get-in-Or.ensures) c.type_of-left-in-Or.ensures))
 
 pub type_of-returns-in-BinaryCall : goal.type_of-returns-in-BinaryCall
 type_of-returns-in-BinaryCall level c =
     let E = typing_environment c.args.env in
-    let K = pairs c.args.known.now.items in
+    let K = c.args.known.now in
     at_form E K _ _ c.in-BinaryCall.is
     (c.second_called.ensures K c.in-BinaryCall.left (at_form E K _ _ (sym c.get-in-BinaryCall.ensures) c.type_of-left-in-BinaryCall.ensures))
 
 pub type_of-returns-in-Unary : goal.type_of-returns-in-Unary
 type_of-returns-in-Unary level c =
-    let E = typing_environment c.args.env in
-    let K = pairs c.args.known.now.items in
-    at_form E K _ _ c.in-Unary.is
-    (c.unary_typed.ensures E K _ c.in-Unary.operand (at_form E K _ _ (sym c.get-in-Unary.ensures) c.type_of-operand.ensures))
+    at_form (typing_environment c.args.env) c.args.known.now _ _ c.in-Unary.is c.type_unary.ensures
 
 pub type_of-returns-in-Some : goal.type_of-returns-in-Some
 type_of-returns-in-Some level c =
     let E = typing_environment c.args.env in
-    let K = pairs c.args.known.now.items in
+    let K = c.args.known.now in
     let op = c.in-Binary.operator in
     let a = c.in-Binary.left in
     let b = c.in-Binary.right in
@@ -264,7 +290,7 @@ type_of-returns-in-Some level c =
 pub type_of-returns-in-None : goal.type_of-returns-in-None
 type_of-returns-in-None level c =
     let E = typing_environment c.args.env in
-    let K = pairs c.args.known.now.items in
+    let K = c.args.known.now in
     let op = c.in-Binary.operator in
     let a = c.in-Binary.left in
     let b = c.in-Binary.right in
@@ -275,65 +301,46 @@ type_of-returns-in-None level c =
 
 pub type_of-returns-in-Field : goal.type_of-returns-in-Field
 type_of-returns-in-Field level c =
-    let E = typing_environment c.args.env in
-    let K = pairs c.args.known.now.items in
-    let k = c.in-Field.name in
-    let j = at_form E K _ _ (c.get-in-Field-2.ensures ∙ sym c.get-in-Field.ensures) c.type_of-typed.ensures in
-    at_form E K _ _ (c.in-Field.is ∙ (ap (λ x. form.Field x k) (sym c.get-in-Field-2.ensures)
-    ∙ ap (λ n. form.Field c.get-in-Field-2.result.now n) (sym c.as_str.ensures)))
-    (c.field_typed.ensures K j)
+    at_form (typing_environment c.args.env) c.args.known.now _ _ c.in-Field.is c.type_field.ensures
 
 pub type_of-returns-in-Has : goal.type_of-returns-in-Has
 type_of-returns-in-Has level c =
-    let E = typing_environment c.args.env in
-    let K = pairs c.args.known.now.items in
-    let k = c.in-Has.name in
-    let j = at_form E K _ _ (c.get-in-Has-2.ensures ∙ sym c.get-in-Has.ensures) c.type_of-typed-in-Has.ensures in
-    at_form E K _ _ (c.in-Has.is ∙ (ap (λ x. form.Has x k) (sym c.get-in-Has-2.ensures)
-    ∙ ap (λ n. form.Has c.get-in-Has-2.result.now n) (sym c.as_str-in-Has.ensures)))
-    (c.has_typed.ensures K j)
+    at_form (typing_environment c.args.env) c.args.known.now _ _ c.in-Has.is c.type_has.ensures
 
 pub type_of-returns-in-Set : goal.type_of-returns-in-Set
 type_of-returns-in-Set level c =
     let E = typing_environment c.args.env in
-    let K = pairs c.args.known.now.items in
-    at_form E K _ _ c.in-Set.is (c.set_typed.ensures E K _ c.in-Set.members c.types_of-types.ensures)
+    let K = c.args.known.now in
+    at_form E K _ _ c.in-Set.is (c.set_typed.ensures E K _ c.in-Set.members c.types_of.ensures)
 
 pub type_of-returns-in-Record : goal.type_of-returns-in-Record
 type_of-returns-in-Record level c =
     let E = typing_environment c.args.env in
-    let K = pairs c.args.known.now.items in
+    let K = c.args.known.now in
     let t = c.types_of_fields-types.result in
-    let after = pairs c.types_of_fields-types.new.known.items in
+    let after = c.types_of_fields-types.new.known in
     let j = subst (λ (gs : List (Named Expr)). JudgedEach E K (map (λ (f : Named Expr). f.value) gs) t after)
     (sym c.as_slice.ensures) c.types_of_fields-types.ensures in
     at_form E K _ _ (c.in-Record.is ∙ ap form.Record (sym c.as_slice.ensures)) (c.record_typed.ensures E K _ j)
 
 pub type_of-returns-in-UnaryCall : goal.type_of-returns-in-UnaryCall
 type_of-returns-in-UnaryCall level c =
-    let E = typing_environment c.args.env in
-    let K = pairs c.args.known.now.items in
-    let o = c.in-UnaryCall.called in
-    let j = at_form E K _ _ (c.get-in-UnaryCall-2.ensures ∙ sym c.get-in-UnaryCall.ensures) c.type_of-typed-in-UnaryCall.ensures in
-    at_form E K _ _ (c.in-UnaryCall.is ∙ ap (λ x. form.UnaryCall o x) (sym c.get-in-UnaryCall-2.ensures))
-    (c.unary_call_typed.ensures E K _ j)
+    at_form (typing_environment c.args.env) c.args.known.now _ _ c.in-UnaryCall.is c.type_unary_call.ensures
 
 pub types_of-loop-expr-init : goal.types_of-loop-expr-init
 types_of-loop-expr-init level c =
     let E = typing_environment c.args.env in
-    let K = pairs c.args.known.now.items in
-    (refl, subst (λ zs. TypesEach E K [] (map static_view zs)) (sym c.new-types.ensures.items) typing.types_none)
+    (refl, subst (λ zs. TypesEach E c.args.known.now [] (map static_view zs)) (sym c.new-types.ensures.items) typing.types_none)
 
 pub types_of_fields-loop-field-init : goal.types_of_fields-loop-field-init
 types_of_fields-loop-field-init level c =
     let E = typing_environment c.args.env in
-    let K = pairs c.args.known.now.items in
-    (refl, subst (λ zs. TypesEach E K [] (map static_view zs)) (sym c.new-types.ensures.items) typing.types_none)
+    (refl, subst (λ zs. TypesEach E c.args.known.now [] (map static_view zs)) (sym c.new-types.ensures.items) typing.types_none)
 
 pub types_of-returns-in-Err : goal.types_of-returns-in-Err
 types_of-returns-in-Err level c =
     let E = typing_environment c.args.env in
-    let K = pairs c.args.known.now.items in
+    let K = c.args.known.now in
     let xs = c.args.exprs.now in
     let i = c.loop-expr.expr-index in
     let x = c.expr-item.result in
@@ -349,7 +356,7 @@ types_of-returns-in-Err level c =
 pub types_of-loop-expr-preserved : goal.types_of-loop-expr-preserved
 types_of-loop-expr-preserved level c =
     let E = typing_environment c.args.env in
-    let K = pairs c.args.known.now.items in
+    let K = c.args.known.now in
     let xs = c.args.exprs.now in
     let i = c.loop-expr.expr-index in
     let x = c.expr-item.result in
@@ -365,7 +372,7 @@ types_of-loop-expr-preserved level c =
 pub types_of_fields-returns-in-Err : goal.types_of_fields-returns-in-Err
 types_of_fields-returns-in-Err level c =
     let E = typing_environment c.args.env in
-    let K = pairs c.args.known.now.items in
+    let K = c.args.known.now in
     let xs = c.args.fields.now in
     let i = c.loop-field.field-index in
     let x = c.field-item.result in
@@ -380,7 +387,7 @@ types_of_fields-returns-in-Err level c =
 pub types_of_fields-loop-field-preserved : goal.types_of_fields-loop-field-preserved
 types_of_fields-loop-field-preserved level c =
     let E = typing_environment c.args.env in
-    let K = pairs c.args.known.now.items in
+    let K = c.args.known.now in
     let xs = c.args.fields.now in
     let i = c.loop-field.field-index in
     let x = c.field-item.result in

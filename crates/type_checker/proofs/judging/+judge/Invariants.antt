@@ -1,16 +1,15 @@
 use Rattle.std.proofs.Common.{◌≡◌, map, take}
 use Rattle.typing.specs.Typing.{TypesEach}
 use Rattle.static_types.specs.Views.{static_view, typing_environment}
-use Rattle.type_checker.specs.inner.Pairs.{pairs}
 use Rattle.type_checker.proofs.judging.+judge.Given as goal
 
 abbrev pub invariant-types_of-loop-expr : goal.invariant-types_of-loop-expr
 invariant-types_of-loop-expr l =
-    (pairs l.known.items ≡ pairs l.fn.known.items)
-    × TypesEach (typing_environment l.env) (pairs l.fn.known.items) (take l.expr-index l.exprs) (map static_view l.types.items)
+    (l.known ≡ l.fn.known)
+    × TypesEach (typing_environment l.env) l.fn.known (take l.expr-index l.exprs) (map static_view l.types.items)
 
 abbrev pub invariant-types_of_fields-loop-field : goal.invariant-types_of_fields-loop-field
 invariant-types_of_fields-loop-field l =
-    (pairs l.known.items ≡ pairs l.fn.known.items)
-    × TypesEach (typing_environment l.env) (pairs l.fn.known.items) (map (λ f. f.value) (take l.field-index l.fields))
+    (l.known ≡ l.fn.known)
+    × TypesEach (typing_environment l.env) l.fn.known (map (λ f. f.value) (take l.field-index l.fields))
     (map static_view l.types.items)

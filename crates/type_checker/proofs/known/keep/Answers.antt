@@ -2,18 +2,18 @@ use Rattle.std.proofs.Common.{◌∷◌, [], ◌++◌, sym, subst, ◌∙◌}
 use Rattle.std.proofs.lemmas.Bool.{false≢true}
 use Rattle.std.proofs.lemmas.List.{map-append}
 use Rattle.typing.specs.Learned.{InBoth}
-use Rattle.type_checker.specs.inner.Pairs.{pair_of, pairs}
+use Rattle.known_pairs.specs.Pairs.{pair_of, pairs}
 use Rattle.type_checker.proofs.Learning.{one_more_kept, one_more_dropped}
 use Rattle.type_checker.proofs.known.keep.Goals as goal
 
-pub returns-then-not-among : goal.returns-then-not-among
-returns-then-not-among c = λ L h.
-    one_more_dropped (pair_of c.args.pair) (λ m. false≢true (sym c.if-not-among.true ∙ c.among.ensures.1 m)) h
+pub returns-then-not-knows : goal.returns-then-not-knows
+returns-then-not-knows c = λ L h.
+    one_more_dropped (pair_of c.args.pair) (λ m. false≢true (sym c.if-not-knows.true ∙ c.knows.ensures.1 m)) h
 
 pub returns : goal.returns
 returns c = λ L h.
     let p = pair_of c.args.pair in
-    let M = pairs c.args.right.now in
+    let M = c.args.right.now in
     subst (λ ps. InBoth (L ++ p ∷ []) M (pairs ps)) (sym c.in_ok-push.ensures.items)
     (subst (λ qs. InBoth (L ++ p ∷ []) M qs) (sym (map-append pair_of c.args.both.now.items (c.args.pair ∷ [])))
-    (one_more_kept p (c.among.ensures.0 c.if-not-among.false) h))
+    (one_more_kept p (c.knows.ensures.0 c.if-not-knows.false) h))

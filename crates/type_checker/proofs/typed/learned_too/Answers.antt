@@ -2,4 +2,4 @@ use Rattle.std.proofs.Common.{refl}
 use Rattle.type_checker.proofs.typed.learned_too.Goals as goal
 
 pub returns : goal.returns
-returns c = (c.in_ok-kind.field-0, c.in_ok-kind.was, refl, c.in_ok-know_too.ensures)
+returns c = (c.in_ok-kind.field-0, c.in_ok-kind.was, refl, c.in_ok-learn_too.ensures)

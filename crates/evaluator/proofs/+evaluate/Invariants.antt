@@ -1,0 +1,69 @@
+use Rattle.std.proofs.Common.{◌≡◌, ◌+◌, ◌*◌, max, drop, ◌++◌, map, Ok, []}
+use Rattle.expressions.specs.declared.expr.Expr.{size-Expr}
+use Rattle.evaluator.specs.inner.Computing.{decided_world, and_then, meaning, named_meaning, each, each_field}
+use Rattle.evaluator.proofs.+evaluate.Given as goal
+
+abbrev pub invariant-evaluating::evaluate_each-loop-expr : goal.invariant-evaluating::evaluate_each-loop-expr
+invariant-evaluating::evaluate_each-loop-expr g l =
+    let gives = meaning l.request (decided_world (g.L.Lookup.stored l.store) (g.L.Ancestry.above l.store)) in
+    each (map gives l.exprs) ≡ and_then (each (map gives (drop l.expr-index l.exprs))) (λ rest. Ok (l.values.items ++ rest))
+
+abbrev pub invariant-evaluating::evaluate_fields-loop-field : goal.invariant-evaluating::evaluate_fields-loop-field
+invariant-evaluating::evaluate_fields-loop-field g l =
+    let gives = named_meaning l.request (decided_world (g.L.Lookup.stored l.store) (g.L.Ancestry.above l.store)) in
+    each_field (map gives l.fields) [] ≡ each_field (map gives (drop l.field-index l.fields)) l.record
+
+-- What goes down two or three operands is as deep as the deepest of them.
+abbrev pub decreases-evaluating::outcome_of : goal.decreases-evaluating::outcome_of
+decreases-evaluating::outcome_of g l = 4 * goal.size-evaluating::outcome_of g l + 0
+
+abbrev pub decreases-choosing::test_of : goal.decreases-choosing::test_of
+decreases-choosing::test_of g l = 4 * goal.size-choosing::test_of g l + 1
+
+abbrev pub decreases-choosing::last_test : goal.decreases-choosing::last_test
+decreases-choosing::last_test g l = 4 * goal.size-choosing::last_test g l + 2
+
+abbrev pub decreases-evaluating::one_operand : goal.decreases-evaluating::one_operand
+decreases-evaluating::one_operand g l = 4 * goal.size-evaluating::one_operand g l + 1
+
+abbrev pub decreases-evaluating::second_operand : goal.decreases-evaluating::second_operand
+decreases-evaluating::second_operand g l = 4 * goal.size-evaluating::second_operand g l + 1
+
+abbrev pub decreases-evaluating::one_called : goal.decreases-evaluating::one_called
+decreases-evaluating::one_called g l = 4 * goal.size-evaluating::one_called g l + 1
+
+abbrev pub decreases-evaluating::second_called : goal.decreases-evaluating::second_called
+decreases-evaluating::second_called g l = 4 * goal.size-evaluating::second_called g l + 1
+
+abbrev pub decreases-evaluating::field_of : goal.decreases-evaluating::field_of
+decreases-evaluating::field_of g l = 4 * goal.size-evaluating::field_of g l + 1
+
+abbrev pub decreases-evaluating::has_of : goal.decreases-evaluating::has_of
+decreases-evaluating::has_of g l = 4 * goal.size-evaluating::has_of g l + 1
+
+abbrev pub decreases-evaluating::set_of : goal.decreases-evaluating::set_of
+decreases-evaluating::set_of g l = 4 * goal.size-evaluating::set_of g l + 2
+
+abbrev pub decreases-evaluating::record_of : goal.decreases-evaluating::record_of
+decreases-evaluating::record_of g l = 4 * goal.size-evaluating::record_of g l + 2
+
+abbrev pub decreases-evaluating::evaluate_each : goal.decreases-evaluating::evaluate_each
+decreases-evaluating::evaluate_each g l = 4 * goal.size-evaluating::evaluate_each g l + 1
+
+abbrev pub decreases-evaluating::evaluate_fields : goal.decreases-evaluating::evaluate_fields
+decreases-evaluating::evaluate_fields g l = 4 * goal.size-evaluating::evaluate_fields g l + 1
+
+abbrev pub decreases-choosing::choice_of : goal.decreases-choosing::choice_of
+decreases-choosing::choice_of g l = 4 * max (size-Expr l.test.now) (max (size-Expr l.consequent.now) (size-Expr l.alternative.now)) + 3
+
+abbrev pub decreases-choosing::both_of : goal.decreases-choosing::both_of
+decreases-choosing::both_of g l = 4 * max (size-Expr l.left.now) (size-Expr l.right.now) + 3
+
+abbrev pub decreases-choosing::either_of : goal.decreases-choosing::either_of
+decreases-choosing::either_of g l = 4 * max (size-Expr l.left.now) (size-Expr l.right.now) + 3
+
+abbrev pub decreases-evaluating::two_operands : goal.decreases-evaluating::two_operands
+decreases-evaluating::two_operands g l = 4 * max (size-Expr l.left.now) (size-Expr l.right.now) + 3
+
+abbrev pub decreases-evaluating::two_called : goal.decreases-evaluating::two_called
+decreases-evaluating::two_called g l = 4 * max (size-Expr l.left.now) (size-Expr l.right.now) + 3

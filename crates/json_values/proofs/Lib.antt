@@ -1,0 +1,3 @@
+mod Numbered
+mod Turns
+mod Whole

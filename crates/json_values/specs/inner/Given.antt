@@ -1,0 +1,64 @@
+-- The value at the front of a reader's tokens, and what of it an array or an object that has begun is.
+-- Source: RFC 8259, sections 2 to 5, by the grammar of `json`, and by what `serde_json` makes of its values.
+use Rattle.std.specs.Prelude.{◌≡◌, ℕ, List, length, Bool, true, false, Option, Some, None, option_map}
+use Rattle.json.specs.Token.{Token}
+use Rattle.json.specs.Token as token
+use Rattle.json.specs.Json as json
+use Rattle.serde_json.specs.Data.{Data, null, boolean, number, string}
+use Rattle.serde_json.specs.Read.{number_of, of_json, converted}
+use Rattle.serde_json.specs.View.{view}
+use Rattle.serde_json.specs.declared.value.Value.{Value}
+
+-- the value at the front of tokens, with the tokens behind it
+abbrev pub value_at : ℕ → List Token → Option (Data × List Token)
+value_at deep ts = converted of_json (json.value deep ts)
+
+-- the array whose opening bracket has passed
+abbrev pub array_at : ℕ → List Token → Option (Data × List Token)
+array_at deep ts = converted of_json (json.parse_map json.array (json.items (json.value deep) (length ts) ts))
+
+-- the object whose opening brace has passed
+abbrev pub object_at : ℕ → List Token → Option (Data × List Token)
+object_at deep ts = converted of_json (json.parse_map json.object (json.members (json.value deep) (length ts) ts))
+
+-- what was read, or that there is nothing to read, is what is given
+abbrev pub IsGiven : Option (Data × List Token) → Option Value → List Token → Type 0
+IsGiven given None left = given ≡ None
+IsGiven given (Some v) left = given ≡ Some (view v, left)
+
+-- the value that one token is, unless it opens an array or an object
+abbrev pub scalar : Token → Option Data
+scalar token.begin_object = None
+scalar token.end_object = None
+scalar token.begin_array = None
+scalar token.end_array = None
+scalar (token.key s) = None
+scalar (token.string s) = Some (string s)
+scalar (token.number s) = option_map number (number_of s)
+scalar (token.boolean b) = Some (boolean b)
+scalar token.null = Some null
+scalar token.bad = None
+
+abbrev pub is_array_start : Token → Bool
+is_array_start token.begin_object = false
+is_array_start token.end_object = false
+is_array_start token.begin_array = true
+is_array_start token.end_array = false
+is_array_start (token.key s) = false
+is_array_start (token.string s) = false
+is_array_start (token.number s) = false
+is_array_start (token.boolean b) = false
+is_array_start token.null = false
+is_array_start token.bad = false
+
+abbrev pub is_object_start : Token → Bool
+is_object_start token.begin_object = true
+is_object_start token.end_object = false
+is_object_start token.begin_array = false
+is_object_start token.end_array = false
+is_object_start (token.key s) = false
+is_object_start (token.string s) = false
+is_object_start (token.number s) = false
+is_object_start (token.boolean b) = false
+is_object_start token.null = false
+is_object_start token.bad = false

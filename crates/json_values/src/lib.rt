@@ -1,0 +1,65 @@
+//! JSON read as a value, with memory that is kept from text to text.
+//!
+//! `serde_json::Value::from_slice` takes 16 KiB for each text, and sets each byte of them to zero. Whoever reads many
+//! texts keeps one [`Scratch`] and lends it here.
+#![tactic(auto)]
+
+ghost use Rattle.std.specs.Prelude.{◌≡◌, ◌≤◌, option_map, IfOk, IfSome, MatchOption};
+ghost use Rattle.std.specs.Str.{IsUtf8};
+ghost use Rattle.serde_json.specs.Data.{depth};
+ghost use Rattle.serde_json.specs.Read.{max_depth, read};
+ghost use Rattle.serde_json.specs.View.{view};
+ghost use Rattle.json_words.specs.Json.{json_of};
+
+mod numbers;
+mod reading;
+
+use crate::reading::value_in;
+use json::Reader;
+pub use json::Scratch;
+use plain::NoMemory;
+use serde_json::Value;
+use std::alloc::Global;
+
+const MOST_DEPTH: usize = 127;
+
+/// Returns the JSON value that bytes are, or None where they are no UTF-8 or no JSON, or nest deeper than 127.
+///
+/// Of a key that stands twice in an object the last value counts. The scratch grows to the longest text, and what it
+/// held before plays no part. Fails for memory alone.
+pub fn read_json_by(
+    scratch: &mut Scratch,
+    alloc: Global,
+    bytes: &[u8],
+) -> Result<Option<Value>, NoMemory>
+    ensures value { IfOk result (λ o. option_map view o ≡ json_of bytes.now) }
+    ensures nests { IfOk result (λ o. IfSome o (λ v. depth (view v) ≤ max_depth)) }
+{
+    match text_of(bytes) {
+        Some(text) => read_text(scratch, alloc, text),
+        None => Ok(None),
+    }
+}
+
+/// Returns bytes as text, where they are UTF-8.
+fn text_of(bytes: &[u8]) -> Option<&str>
+    ensures { MatchOption result (¬ IsUtf8 bytes.now) (λ t. IsUtf8 bytes.now × (t.now ≡ bytes.now)) }
+{
+    match str::from_utf8(bytes) {
+        Ok(text) => Some(text),
+        Err(_) => None,
+    }
+}
+
+/// Returns the JSON value that a text is, or None.
+fn read_text(scratch: &mut Scratch, alloc: Global, text: &str) -> Result<Option<Value>, NoMemory>
+    ensures value { IfOk result (λ o. option_map view o ≡ read text.now) }
+    ensures nests { IfOk result (λ o. IfSome o (λ v. depth (view v) ≤ max_depth)) }
+{
+    let mut reader = Reader::new(text, scratch)?;
+    let value = value_in(alloc, &mut reader, MOST_DEPTH)?;
+    match reader.next() {
+        Some(_) => Ok(None),
+        None => Ok(value),
+    }
+}

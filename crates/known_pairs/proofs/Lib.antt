@@ -1,0 +1,4 @@
+mod Lists
+mod Patterns
+mod Records
+mod Stacked

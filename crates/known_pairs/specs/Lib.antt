@@ -1,0 +1,5 @@
+pub mod Order
+pub mod Ordered
+pub mod Pairs
+pub mod Stacks
+pub mod Tokens

@@ -1,0 +1,16 @@
+//! Pairs of an expression and the name of a field: a stack in which a pair is looked for by halves.
+//!
+//! The order of pairs, by names and then by expressions, is for these look-ups alone, and has no meaning in the policy
+//! language.
+#![tactic(auto)]
+
+mod compared;
+mod known;
+mod laws;
+mod leaves;
+mod pair;
+
+pub use compared::compare;
+pub use known::Known;
+pub use laws::pairs_are_ordered;
+pub use pair::Pair;

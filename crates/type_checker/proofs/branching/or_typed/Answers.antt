@@ -1,0 +1,25 @@
+use Rattle.std.proofs.Common.{IfOk, subst, ◌∙◌}
+use Rattle.typing.specs.Learned.{OrLearns}
+use Rattle.typing.specs.Rows as rows
+use Rattle.typing.specs.Faults as faults
+use Rattle.static_types.specs.Views.{boolean_view}
+use Rattle.known_pairs.specs.Pairs.{pairs}
+use Rattle.type_checker.proofs.Carrying.{typed_so, faulty_so, or_judged}
+use Rattle.type_checker.proofs.branching.or_typed.Goals as goal
+
+pub returns-in-Err : goal.returns-in-Err
+returns-in-Err c = λ env K after a b h g n.
+    faults.fault_right_of_or a b h rows.perhaps_not (faulty_so env K after b c.in-Err.is g n)
+
+pub returns-in-Ok-learns : goal.returns-in-Ok-learns
+returns-in-Ok-learns c = λ env K after a b h g.
+    let t = typed_so env K after b c.in-Ok.is g in
+    let r = c.in-Some.truth in
+    let learns = subst (λ ps. IfOk ps (λ both. OrLearns (boolean_view r) (pairs c.args.left.items)
+    (pairs c.in-Ok.right.learns.items) (pairs both.items))) c.in-Ok-learns.is c.or_learns-learns.ensures in
+    (t.0, or_judged env K after a b r h t.1 c.in-Some.ensures (c.boolean.ensures ∙ c.or_truth.ensures) learns)
+
+pub returns-in-None : goal.returns-in-None
+returns-in-None c = λ env K after a b h g n.
+    let t = typed_so env K after b c.in-Ok.is g in
+    faults.right_of_or_no_boolean a b h rows.perhaps_not t.1 c.in-None.ensures

@@ -1,0 +1,209 @@
+//! What is judged of `&&`, `||` and `if`, by what is judged of their last operand.
+//!
+//! Each clause says: whatever the operands are, wherever so is judged of them, so is judged of the form.
+ghost use Rattle.std.specs.Prelude.{◌≡◌, ◌≢◌, IfOk, MatchResult, Ok, Err, Some, None};
+ghost use Rattle.expressions.specs.declared.expr.Expr.{Expr};
+ghost use Rattle.expressions.specs.declared.expr.Expr.TheVariants as form;
+ghost use Rattle.typing.specs.Types.{false_type, boolean_type};
+ghost use Rattle.typing.specs.Rows.{MayBeTrue, and_type, or_type};
+ghost use Rattle.typing.specs.Environment as environment;
+ghost use Rattle.typing.specs.Learned.{Pairs, InBoth, OrLearns};
+ghost use Rattle.typing.specs.Typing.{Types};
+ghost use Rattle.static_types.specs.Views.{boolean_view};
+ghost use Rattle.known_pairs.specs.Pairs.{pairs};
+ghost use Rattle.type_checker.specs.inner.Judged.{Judged, JudgedBehind, ThenTyped};
+
+use crate::known::in_both_lists;
+use crate::typed::Typed;
+use known_pairs::Pair;
+use plain::NoMemory;
+use static_types::{BooleanType, StaticType, TypeFault, common};
+use std::alloc::Global;
+
+/// Returns the type of `&&`, by those of its sides, the left of which may be true.
+pub(crate) fn and_truth(left: BooleanType, right: BooleanType) -> BooleanType
+    ensures { boolean_view result ≡ and_type (boolean_view left) (boolean_view right) }
+{
+    match right {
+        BooleanType::False => BooleanType::False,
+        BooleanType::True => match left {
+            BooleanType::True => BooleanType::True,
+            BooleanType::False => BooleanType::Either,
+            BooleanType::Either => BooleanType::Either,
+        },
+        BooleanType::Either => BooleanType::Either,
+    }
+}
+
+/// `&&`, whose left may be true.
+pub(crate) fn and_typed<'a>(
+    left: BooleanType,
+    right: Result<Typed<'a>, TypeFault>,
+) -> Result<Typed<'a>, TypeFault>
+    ensures { (env : environment.Environment) (K L after : Pairs) (a b : Expr) → Types env K a (boolean_view left) L
+        → MayBeTrue (boolean_view left) → JudgedBehind env K L b right.entry after
+        → Judged env K (form.And a b) result after }
+{
+    let right = match right {
+        Ok(right) => right,
+        Err(fault) => return Err(fault),
+    };
+    match right.kind.as_boolean() {
+        Some(truth) => {
+            drop(right.kind);
+            Ok(Typed {
+                kind: StaticType::boolean(and_truth(left, truth)),
+                learns: right.learns,
+            })
+        }
+        None => {
+            drop(right);
+            Err(TypeFault::Unexpected)
+        }
+    }
+}
+
+/// `||`, whose left is False.
+pub(crate) fn or_behind_false<'a>(
+    right: Result<Typed<'a>, TypeFault>,
+) -> Result<Typed<'a>, TypeFault>
+    ensures { (env : environment.Environment) (K L after : Pairs) (a b : Expr) → Types env K a false_type L
+        → Judged env K b right.entry after → Judged env K (form.Or a b) result after }
+{
+    let right = match right {
+        Ok(right) => right,
+        Err(fault) => return Err(fault),
+    };
+    match right.kind.as_boolean() {
+        Some(_) => Ok(right),
+        None => {
+            drop(right);
+            Err(TypeFault::Unexpected)
+        }
+    }
+}
+
+/// Returns the type of `||`, by that of its right; its left may be true or false.
+fn or_truth(right: BooleanType) -> BooleanType
+    ensures { boolean_view result ≡ or_type (boolean_view right) }
+{
+    match right {
+        BooleanType::True => BooleanType::True,
+        BooleanType::False => BooleanType::Either,
+        BooleanType::Either => BooleanType::Either,
+    }
+}
+
+/// Returns what `||` learns, by the type of its right and what its sides learn; its left may be true or false.
+#[tactic(auto, using(crate::proofs::Sides::or_none, crate::proofs::Sides::or_left, crate::proofs::Sides::or_both))]
+fn or_learns<'a>(
+    alloc: Global,
+    right: BooleanType,
+    of_left: Vec<Pair<'a>>,
+    of_right: &Vec<Pair<'a>>,
+) -> Result<Vec<Pair<'a>>, NoMemory>
+    ensures { IfOk result (λ both. OrLearns (boolean_view right) (pairs of_left.entry.items)
+        (pairs of_right.now.items) (pairs both.items)) }
+{
+    match right {
+        BooleanType::True => Ok(Vec::new(alloc)),
+        BooleanType::False => Ok(of_left),
+        BooleanType::Either => Ok(in_both_lists(alloc, &of_left, of_right)?),
+    }
+}
+
+/// `||`, whose left may be true or false, and learns these pairs.
+pub(crate) fn or_typed<'a>(
+    alloc: Global,
+    left: Vec<Pair<'a>>,
+    right: Result<Typed<'a>, TypeFault>,
+) -> Result<Typed<'a>, TypeFault>
+    ensures { (env : environment.Environment) (K after : Pairs) (a b : Expr)
+        → Types env K a boolean_type (pairs left.entry.items) → Judged env K b right.entry after
+        → Judged env K (form.Or a b) result after }
+{
+    let right = match right {
+        Ok(right) => right,
+        Err(fault) => {
+            drop(left);
+            return Err(fault);
+        }
+    };
+    match right.kind.as_boolean() {
+        Some(truth) => {
+            let learns = or_learns(alloc, truth, left, &right.learns);
+            drop(right);
+            match learns {
+                Ok(learns) => Ok(Typed {
+                    kind: StaticType::boolean(or_truth(truth)),
+                    learns,
+                }),
+                Err(_) => Err(TypeFault::NoMemory),
+            }
+        }
+        None => {
+            drop(left);
+            drop(right);
+            Err(TypeFault::Unexpected)
+        }
+    }
+}
+
+/// Returns the type of an `if` whose branches have this common type, if there is one.
+fn branch_type<'a>(
+    kind: Result<Option<StaticType<'a>>, NoMemory>,
+) -> Result<StaticType<'a>, TypeFault>
+    ensures { MatchResult result (λ t. kind.entry ≡ Ok (Some t))
+        (λ f. f ≢ TypeFault.NoMemory → (f ≡ TypeFault.NoCommonType) × (kind.entry ≡ Ok None)) }
+{
+    match kind {
+        Ok(Some(kind)) => Ok(kind),
+        Ok(None) => Err(TypeFault::NoCommonType),
+        Err(_) => Err(TypeFault::NoMemory),
+    }
+}
+
+/// Returns a type with what both branches learn.
+fn with_both<'a>(
+    alloc: Global,
+    kind: Result<StaticType<'a>, TypeFault>,
+    consequent: &Vec<Pair<'a>>,
+    alternative: &Vec<Pair<'a>>,
+) -> Result<Typed<'a>, TypeFault>
+    ensures { MatchResult result
+        (λ t. (kind.entry ≡ Ok t.kind)
+        × InBoth (pairs alternative.now.items) (pairs consequent.now.items) (pairs t.learns.items))
+        (λ f. f ≢ TypeFault.NoMemory → kind.entry ≡ Err f) }
+{
+    match kind {
+        Ok(kind) => match in_both_lists(alloc, alternative, consequent) {
+            Ok(learns) => Ok(Typed { kind, learns }),
+            Err(_) => Err(TypeFault::NoMemory),
+        },
+        Err(fault) => Err(fault),
+    }
+}
+
+/// `if`, whose test may be true or false.
+pub(crate) fn branches<'a>(
+    alloc: Global,
+    then: Typed<'a>,
+    other: Result<Typed<'a>, TypeFault>,
+) -> Result<Typed<'a>, TypeFault>
+    ensures { (env : environment.Environment) (K after : Pairs) (a b c : Expr)
+        → ThenTyped env K a b boolean_type then.entry → Judged env K c other.entry after
+        → Judged env K (form.If a b c) result after }
+{
+    let other = match other {
+        Ok(other) => other,
+        Err(fault) => {
+            drop(then);
+            return Err(fault);
+        }
+    };
+    let kind = branch_type(common(alloc, &then.kind, &other.kind));
+    let row = with_both(alloc, kind, &then.learns, &other.learns);
+    drop(then);
+    drop(other);
+    row
+}
