@@ -12,13 +12,15 @@
 #   known     one fact more, where a condition tells so many records apart of which each has the same field
 #   field     one `context.f` more, of the last of so many fields
 #   members   a set of `context`, so many times, compared with another, where the context has so many fields
+#   apart     the same, but that no two of these expressions are equal: `{a: context, b: n}.a`
 #   shared    a condition whose shared forms, counted each time they stand, are some fifteen times so many
 #   asked     one request more at a served site, under so many environments
 #   above     one condition more with `in` of an entity that the request does not name, below a chain of so many groups
 #
 # Taken off is, by row: a condition of one `is`; for the next two a schema as long that is refused at its first byte; a
-# file without policies; half as many facts; a condition of one `context.f`; the same schema with one member; without a
-# condition; what HTTP takes; the same condition with `==`. PROGRAM names another binary. Needs python3 and valgrind.
+# file without policies; half as many facts; a condition of one `context.f`; for the next two the same schema with one
+# member; without a condition; what HTTP takes; the same condition with `==`. PROGRAM names another binary. Needs python3
+# and valgrind.
 set -euo pipefail
 source "$(dirname "${BASH_SOURCE[0]}")/counting.sh"
 whole
@@ -84,8 +86,8 @@ def wide_context(count, required):
     return compact(TYPES, {"view": {"appliesTo": USES | {"context": context}}})
 
 
-def members(count):
-    return "permit(principal, action, resource) when { [" + ", ".join(["context"] * count) + "] == [context] };"
+def members(expressions):
+    return "permit(principal, action, resource) when { [" + ", ".join(expressions) + "] == [context] };"
 
 
 def shared(count):
@@ -173,7 +175,12 @@ def field(size):
 
 def joined(size):
     schema = wide_context(size, False)
-    return checked(schema, members(size)) - checked(schema, members(1))
+    return checked(schema, members(["context"] * size)) - checked(schema, members(["context"]))
+
+
+def joined_apart(size):
+    schema, many = wide_context(size, False), [f"{{a: context, b: {n}}}.a" for n in range(size)]
+    return checked(schema, members(many)) - checked(schema, members(many[:1]))
 
 
 def forms(size):
@@ -189,6 +196,7 @@ MEASURES = {
     "known": facts,
     "field": field,
     "members": joined,
+    "apart": joined_apart,
     "shared": forms,
     "asked": asked,
     "above": lambda size: (searched(size, "in") - searched(size, "==")) / POLICIES,

@@ -18,6 +18,7 @@ the allocations that are asked here, and counts all: so it is told whether an an
 - Index: policies that name others make no answer ask for more memory, nor do those that were taken away (against
   index_unused and index_offers_all).
 - Ancestors: no more does a longer way from an entity to the group that a policy names, but for the list of the groups.
+- New: a site that nothing was put into answers as it does behind a change, over so many actions in one another.
 - Upkeep: behind each change of a script an answer asks for as much as at a new site that took the whole state as one
   message; and so it does where what is kept was dropped before the change (against accelerators_stay_dropped).
 
@@ -64,6 +65,16 @@ MEMBERS_SCHEMA = {
         "actions": {"view": {"appliesTo": {"principalTypes": KINDS_OF_MEMBERS, "resourceTypes": KINDS_OF_MEMBERS}}},
     }
 }
+# how many policies name others, and how many groups a way leads over
+OTHERS, GROUPS = 300, 100
+# actions, each in the next
+ACTIONS = {f"w{at}": {"memberOf": [{"id": f"w{at + 1}"}]} for at in range(GROUPS)}
+CHAIN_SCHEMA = {
+    "": {
+        "entityTypes": {"User": {}, "Doc": {}},
+        "actions": {**ACTIONS, f"w{GROUPS}": {}, "view": {"memberOf": [{"id": "w0"}], "appliesTo": USES}},
+    }
+}
 STEPS = 1000
 # a seed, and how often two sites begin
 DRAWS = ((9, 40), (28, 40), (34, 40))
@@ -71,8 +82,6 @@ DRAWN = 30
 # what the replies of each kind hold
 KINDS = (b'"decision":"Allow"', b'"cycle":[{', b'"cycle":[],"decision":"Deny"', b'"errors":[{', b'"code":61,')
 REFUSED = b'{"error":{"code":1,'
-# how many policies name others, and how many groups a way leads over
-OTHERS, GROUPS = 300, 100
 # how often at most lists ask for memory that have each of so many groups: they double
 GROWTH = 16
 
@@ -387,6 +396,15 @@ def ancestors_are_used(sites):
     return f"{one} allocations over one group, {other} over {GROUPS}, and {dropped} without what is kept"
 
 
+def new_site_keeps(sites):
+    """Whether a site that nothing was put into answers by what is kept."""
+    site = sites.begin("chain")
+    new = site.cost(question("z"))
+    site.given(put("z", 'permit(principal == User::"y", action, resource);'))
+    same(f"nothing put, {len(ACTIONS)} actions in one another", new, site.cost(question("z")))
+    return f"{new} allocations under {len(ACTIONS)} actions in one another"
+
+
 def way(groups):
     """Puts a policy for a group, and user z into the last of so many groups, each of which is in the one before it."""
     above = [entity("Group", f"w{at}", f"w{at - 1}") for at in range(1, groups)]
@@ -447,6 +465,7 @@ TRIES = (
     ("hierarchies", lambda sites: hierarchies_alike(sites, 1)),
     ("index", index_is_used),
     ("ancestors", ancestors_are_used),
+    ("new", new_site_keeps),
     ("upkeep", lambda sites: upkeep(sites, drops=False)),
     ("upkeep of what was dropped", lambda sites: upkeep(sites, drops=True)),
 )
@@ -466,7 +485,7 @@ def main(words):
     with tempfile.TemporaryDirectory() as folder:
         library = f"{folder}/refuse.so"
         subprocess.run(["cc", "-O2", "-shared", "-fPIC", "-o", library, f"{TOP}/bench/refuse.c"], check=True)
-        for schema, text in (("schema", SCHEMA), ("members", MEMBERS_SCHEMA)):
+        for schema, text in (("schema", SCHEMA), ("members", MEMBERS_SCHEMA), ("chain", CHAIN_SCHEMA)):
             with open(f"{folder}/{schema}", "wb") as file:
                 file.write(json.dumps(text, separators=(",", ":")).encode())
         sites = Sites(os.path.abspath(words[0]), folder)

@@ -217,7 +217,7 @@ def cited_names(walk):
     """Of each file of specs/ the names that public contracts cite."""
     cited = {}
     for crate in reading_list.crates_in_order():
-        for text, imports in public_specs.public_texts(crate, public_specs.given_out(crate)):
+        for (text, _), imports in public_specs.public_texts(crate, public_specs.given_out(crate)):
             words = set(reading_list.WORD.findall(re.sub(r"(?m)--.*$", "", text)))
             for shown, (at, module, name) in imports.items():
                 found = name and shown in words and defined_at(walk, at, module, name)

@@ -3,10 +3,12 @@
 
     tools/public_specs.py [--top FOLDER] [--names] [CRATE ..]
 
-A public contract is a clause of a function, of a method or of a trait, or a ghost member (`view`, `invariant`, `from_gives` ..), of what a crate's
-lib.rt gives out. From the names that these cite it walks as tools/reading_list.py does. It prints each module outside specs/inner/ that none reaches,
-and each inside that one reaches; its status is 1 where there is any. A module outside is as it should be where one of its names is reached: with --names
-it prints those of its names that none is, for a contributor to look at, and how many they are; these change no status. Standard library alone.
+A public contract is a clause of a function, of a method or of a trait, or a ghost member (`view`, `from_gives` ..), of what a crate's lib.rt gives out.
+From the names that these cite it walks as tools/reading_list.py does. It prints each module outside specs/inner/ that none reaches, and each inside
+that one reaches; its status is 1 where there is any. An `invariant` is a fact about private fields, and callers see the value alone: what it alone
+cites may stand outside, for who asks what a type keeps, or inside, where it speaks of private types. A module outside is as it should be where one of
+its names is reached: with --names it prints those of its names that none is, for a contributor to look at, and how many they are; these change no
+status. Standard library alone.
 """
 import os
 import re
@@ -69,9 +71,9 @@ ITEM = re.compile(
 
 
 def clauses(text):
-    """The texts of the clauses and ghost members in a piece of code."""
-    for found in re.finditer(r"(?:\b(?:requires|ensures|measure)\b(?: \w+)? ?|\bghost \w+(?:: |\s*=\s*))(?=\{)", text):
-        yield blocks(text, found.end())[0]
+    """The clauses and ghost members in a piece of code: of each its text, and whether it is an invariant."""
+    for found in re.finditer(r"(?:\b(?:requires|ensures|measure)\b(?: \w+)? ?|\bghost (\w+)(?:: |\s*=\s*))(?=\{)", text):
+        yield blocks(text, found.end())[0], found[1] == "invariant"
 
 
 def functions(text, only_public):
@@ -91,7 +93,7 @@ def functions(text, only_public):
 
 
 def public_texts(crate, names):
-    """The clauses that are public, each with the file's imports."""
+    """The clauses that are public, as `clauses` gives them, each with the file's imports."""
     top = f"{reading_list.TOP}/crates/{crate}/src"
     for folder, _, files in os.walk(top):
         for file in sorted(files):
@@ -151,10 +153,12 @@ def main(words):
         del words[at : at + 2]
     names = "--names" in words
     crates = [it for it in words if not it.startswith("--")] or reading_list.crates_in_order()
-    walk = Walk()
+    # of what callers see, and of that and the invariants
+    walk, whole = Walk(), Walk()
     for crate in reading_list.crates_in_order():
-        for text, imports in public_texts(crate, given_out(crate)):
-            walk.follow(re.sub(r"(?m)--.*$", "", text), imports)
+        for (text, is_invariant), imports in public_texts(crate, given_out(crate)):
+            for it in [whole] if is_invariant else [walk, whole]:
+                it.follow(re.sub(r"(?m)--.*$", "", text), imports)
     status, left = 0, {}
     for crate in crates:
         for path in modules_of(crate):
@@ -163,17 +167,17 @@ def main(words):
             if "/formers" in short or "/specs/passed_on" in short or short.endswith("/specs/inner.antt"):
                 continue
             inner = "/specs/inner/" in short
-            reached = sorted(walk.reached.get(path, {}))
+            reached = sorted((walk if inner else whole).reached.get(path, {}))
             if inner and reached:
                 print(f"{short}: public contracts rest on {', '.join(reached)}")
                 status = 1
             elif not inner and not reached:
                 print(f"{short}: no public contract rests on it")
                 status = 1
-            elif not inner and set(walk.modules[path].items) > set(reached):
-                left[short] = sorted(set(walk.modules[path].items) - set(reached))
+            elif not inner and set(whole.modules[path].items) > set(reached):
+                left[short] = sorted(set(whole.modules[path].items) - set(reached))
                 if names:
-                    print(f"    {short}: {len(left[short])} of {len(walk.modules[path].items)} names not reached: {', '.join(left[short])}")
+                    print(f"    {short}: {len(left[short])} of {len(whole.modules[path].items)} names not reached: {', '.join(left[short])}")
     if names:
         print(f"{sum(map(len, left.values()))} names in {len(left)} modules outside specs/inner/ are reached by no public contract")
     return status

@@ -33,7 +33,7 @@ entities_stay es uid entry q apart = sym (ap (option_and_then (λ e. entity_read
 pub edges_stay : (schema : StatedSchema) (es : EntityEntries) (uid : EntityUid) (entry : Entry Entity)
     → AgreeBut uid (edges_under schema es) (edges_under schema (taken uid_cmp greater es uid entry))
 edges_stay schema es uid entry q apart =
-    ap (λ o. kept_parents (action_or (schema.ancestors q) (option_map data_of o))) (entities_stay es uid entry q apart)
+    ap (λ o. kept_parents (action_or (schema.member_of q) (option_map data_of o))) (entities_stay es uid entry q apart)
 
 -- so what was right is right but at the one entity
 pub right_elsewhere : (schema : StatedSchema) (es es' : EntityEntries) (uid : EntityUid) (entry : Entry Entity)

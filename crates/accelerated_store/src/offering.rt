@@ -25,7 +25,7 @@ fn policies_under<'s>(
 ) -> Result<Vec<(&'s str, &'s Policy)>, NoMemory>
     ensures { IfOk result (λ ps. named ps.items ≡ found_under store.now.policies (texts ids.now)) }
 {
-    let mut found = Vec::new(alloc);
+    let mut found = Vec::with_capacity(alloc, ids.len())?;
     for id in ids {
         if let Some(policy) = policy_under(store, id) {
             found.push((*id, policy))?;

@@ -1,12 +1,11 @@
 -- From what is looked up once to the truth of scopes, and from policy to policy.
-use Rattle.std.specs.Prelude.{◌≡◌, ◌≢◌, ℕ, ◌+◌, ◌<◌, ◌≤◌, List, [], ◌∷◌, ◌++◌, length, slice_index_or, Bool, true, false, Contains, Ok, Err, refl}
+use Rattle.std.specs.Prelude.{◌≡◌, ◌≢◌, ℕ, ◌+◌, ◌<◌, ◌≤◌, List, [], ◌∷◌, ◌++◌, length, slice_index_or, Bool, true, false, Contains, refl}
 use Rattle.std.specs.Borrow.{Bor}
 use Rattle.std.proofs.Common.{inl, inr, sym, ap, subst, ◌∙◌, take}
 use Rattle.std.proofs.lemmas.List.{take_more, take_all}
 use Rattle.std.proofs.lemmas.List.Elements.{Contains-push_cases}
 use Rattle.values.specs.declared.entity_uid.EntityUid.{EntityUid}
 use Rattle.values.specs.declared.request.Request.{Request}
-use Rattle.values.specs.Values.{PlainValue, boolean, long, text, entity, set, record_of, decimal, ipaddr}
 use Rattle.ancestor_closure.specs.Hierarchy.{Parents, IsAllAbove, names, IsIn}
 use Rattle.ancestor_closure.specs.LeastCycle.{HasNoCycle, IsLeastCycle}
 use Rattle.ancestor_closure.specs.Decided.{Decides}
@@ -20,7 +19,8 @@ use Rattle.policy_grammar.specs.declared.policy.Scope.{Scope}
 use Rattle.evaluator.specs.declared.fault.EvalFault.{EvalFault}
 use Rattle.evaluator.specs.declared.fault.EvalFault.TheVariants as fault
 use Rattle.evaluator.specs.Operators.{World}
-use Rattle.evaluator.specs.Evaluation.{EvaluatesTo, test_errs, no_boolean}
+use Rattle.evaluator.specs.Evaluation.{TestFails}
+use Rattle.authoriser.specs.declared.others.Other.{Other}
 use Rattle.authoriser.specs.declared.outcome.PolicyError.{PolicyError}
 use Rattle.authoriser.specs.declared.outcome.PolicyError.TheVariants.{EntityDoesNotExist, AttrDoesNotExist, TypeError, ArithBoundsError, ExtensionError}
 use Rattle.authoriser.specs.declared.outcome.Outcome.{Outcome}
@@ -33,8 +33,8 @@ use Rattle.authoriser.specs.declared.tally.Tally.{Tally}
 use Rattle.scope_index.specs.Scopes.{IsEntityScopeTrue, IsActionScopeTrue, IsScopeTrue}
 use Rattle.authoriser.specs.Answers.{NamedPolicy, PolicyOutcome, IsPolicyOutcome, ArePolicyOutcomes, fault_of, PolicyEvaluatesTo, decided, answer_by, IsAnswer}
 use Rattle.authoriser.specs.Views.{named}
-use Rattle.authoriser.specs.inner.Views.{HasItsAttributes, AreLookedUp, AllHaveTheirAttributes}
-use Rattle.authoriser.specs.inner.Views.{IsWithin, HasItsAncestors, HasRequestAncestors, AllHaveTheirAncestors, AreAscending, IsTrueOf, ConditionEvaluatesTo, outcome_by, ids, faults, Counts}
+use Rattle.authoriser.specs.inner.Views.{HasItsAttributes, AreLookedUp, AllHaveTheirAttributes, HasAllAbove}
+use Rattle.authoriser.specs.inner.Views.{IsWithin, HasItsAncestors, HasRequestAncestors, AllHaveTheirAncestors, AreAscending, IsTrueOf, ConditionEvaluatesTo, ids, faults, Counts}
 use Rattle.authoriser.specs.Parts.{TrueScopesLeaveToConditions, OtherScopesGiveFalse}
 
 -- ---- scopes
@@ -82,17 +82,6 @@ scope_back parents q s scope request_entities h =
     (entity_back request_entities.principal scope.principal h.0, action_back request_entities.action scope.action h.1, entity_back request_entities.resource scope.resource h.2)
 
 -- ---- conditions
-pub value_comes_to : (W : World) (q : Request) (x : Expr) (v : PlainValue) → EvaluatesTo W q x (Ok v) → ConditionEvaluatesTo W q x (outcome_by v)
-value_comes_to W q x (boolean true) g = g
-value_comes_to W q x (boolean false) g = g
-value_comes_to W q x (long z) g = no_boolean g refl
-value_comes_to W q x (text t) g = no_boolean g refl
-value_comes_to W q x (entity u) g = no_boolean g refl
-value_comes_to W q x (set vs) g = no_boolean g refl
-value_comes_to W q x (record_of fs) g = no_boolean g refl
-value_comes_to W q x (decimal z) g = no_boolean g refl
-value_comes_to W q x (ipaddr n) g = no_boolean g refl
-
 no_refused_memory : (error : PolicyError) → fault_of error ≡ fault.NoMemory → ⊥
 no_refused_memory EntityDoesNotExist e = absurd (cc)
 no_refused_memory AttrDoesNotExist e = absurd (cc)
@@ -100,9 +89,9 @@ no_refused_memory TypeError e = absurd (cc)
 no_refused_memory ArithBoundsError e = absurd (cc)
 no_refused_memory ExtensionError e = absurd (cc)
 
-pub fault_comes_to : (W : World) (q : Request) (x : Expr) (f : EvalFault) (error : PolicyError) → f ≡ fault_of error → (f ≢ fault.NoMemory → EvaluatesTo W q x (Err f)) → ConditionEvaluatesTo W q x (Errs error)
+pub fault_comes_to : (W : World) (q : Request) (x : Expr) (f : EvalFault) (error : PolicyError) → f ≡ fault_of error → (f ≢ fault.NoMemory → TestFails W q x f) → ConditionEvaluatesTo W q x (Errs error)
 fault_comes_to W q x f error is g =
-    test_errs (subst (λ e. EvaluatesTo W q x (Err e)) is (g (λ refused. no_refused_memory error (sym is ∙ refused))))
+    subst (λ e. TestFails W q x e) is (g (λ refused. no_refused_memory error (sym is ∙ refused)))
 
 -- ---- policies
 pub true_scope : TrueScopesLeaveToConditions → (W : World) (q : Request) (s : RequestEntities) (p : Policy) (o : Outcome) → HasRequestAncestors W.parents q s → IsTrueOf p.scope s → ConditionEvaluatesTo W q p.condition o → PolicyEvaluatesTo W q p o
@@ -174,6 +163,10 @@ none_before P xs i x within is not_here before e h p =
       | inl earlier ↦ before e earlier p
       | inr here ↦ not_here (subst P (sym here) p)
     ]
+
+-- ---- entities beside the request's three
+pub above_it : (parents : Parents) (o : Other) (uid : EntityUid) → HasAllAbove parents o → o.uid ≡ uid → IsAllAbove parents uid (names o.ancestors.items)
+above_it parents o uid right same = subst (λ (u : EntityUid). IsAllAbove parents u (names o.ancestors.items)) same right.all
 
 -- ---- no cycle, or a cycle
 pub by_policies : (W : World) (q : Request) (ps : List NamedPolicy) (a : Answer) → HasNoCycle W.parents →

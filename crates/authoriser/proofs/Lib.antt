@@ -1,4 +1,5 @@
 pub mod Lawful
+pub mod AmongNames
 pub mod Existing
 pub mod Policies
 pub mod PartsTold

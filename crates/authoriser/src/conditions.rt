@@ -3,13 +3,13 @@ ghost use Rattle.std.specs.Prelude.{◌≡◌, IfOk, MatchResult};
 ghost use Rattle.evaluator.specs.declared.fault.EvalFault.TheVariants as evaluating;
 ghost use Rattle.evaluator.specs.Operators.{world_of};
 ghost use Rattle.authoriser.specs.Answers.{fault_of, PolicyEvaluatesTo};
-ghost use Rattle.authoriser.specs.inner.Views.{HasRequestAncestors, ConditionEvaluatesTo, outcome_by};
+ghost use Rattle.authoriser.specs.inner.Views.{HasRequestAncestors, ConditionEvaluatesTo};
 
 use crate::laws::scopes_do_not_err;
 use crate::outcome::{Outcome, PolicyError};
 use crate::request_entities::RequestEntities;
 use crate::scopes::is_scope_true;
-use evaluator::{BorrowedOrOwned, EvalFault, Lookup, evaluate};
+use evaluator::{EvalFault, Lookup, evaluate_test};
 use expressions::Expr;
 use plain::NoMemory;
 use policy_grammar::Policy;
@@ -30,17 +30,6 @@ fn error_by(fault: EvalFault) -> Result<PolicyError, NoMemory>
     }
 }
 
-/// Returns what a condition that gives this comes to: it has to give a boolean.
-fn outcome_by(given: &BorrowedOrOwned<'_>) -> Outcome
-    ensures { result ≡ outcome_by given.now }
-{
-    match given.as_boolean() {
-        Some(true) => Outcome::Satisfied,
-        Some(false) => Outcome::NotSatisfied,
-        None => Outcome::Errs(PolicyError::TypeError),
-    }
-}
-
 /// Returns what a condition comes to.
 fn outcome_of_condition<L: Lookup>(
     alloc: Global,
@@ -51,12 +40,9 @@ fn outcome_of_condition<L: Lookup>(
     ensures { IfOk result (ConditionEvaluatesTo (world_of (L.stored store.now) (L.parents store.now)) request.now
         condition.now) }
 {
-    match evaluate(alloc, condition, request, store) {
-        Ok(given) => {
-            let outcome = outcome_by(&given);
-            drop(given);
-            Ok(outcome)
-        }
+    match evaluate_test(alloc, condition, request, store) {
+        Ok(true) => Ok(Outcome::Satisfied),
+        Ok(false) => Ok(Outcome::NotSatisfied),
         Err(fault) => Ok(Outcome::Errs(error_by(fault)?)),
     }
 }

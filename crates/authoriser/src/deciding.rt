@@ -10,6 +10,7 @@ ghost use Rattle.authoriser.specs.Views.{named};
 use crate::answer::{Answer, Decision};
 use crate::conditions::outcome_of;
 use crate::known::Known;
+use crate::remembering::Remembering;
 use crate::tally::Tally;
 use ancestor_closure::Ancestry;
 use evaluator::Lookup;
@@ -49,17 +50,46 @@ fn answer_by_known<L: Lookup>(
     tally.into_answer(alloc)
 }
 
+/// Returns the same, where the hierarchy is searched: who is above other entities is kept from policy to policy.
+fn answer_by_search<L: Lookup>(
+    alloc: Global,
+    policies: &[(&str, &Policy)],
+    request: &Request,
+    known: &Known<'_, L>,
+) -> Result<Answer, NoMemory>
+    requires { known.now.1 ≡ request.now }
+    ensures { let W = world_of (L.stored known.now.0) (L.parents known.now.0) in
+        IfOk result (λ a. (js : List PolicyOutcome) × ArePolicyOutcomes W request.now (named policies.now) js
+        × (a ≡ answer_by js)) }
+{
+    let entities = known.request_entities();
+    let mut world = Remembering::new(alloc, known, request);
+    let mut tally = Tally::new(alloc);
+    for (id, policy) in policies {
+        world.keep_next();
+        let outcome = outcome_of(alloc, policy, entities, request, &world)?;
+        tally.note(id, policy.effect, outcome)?;
+    }
+    tally.into_answer(alloc)
+}
+
 /// Returns the answer where the hierarchy has no cycle: by what the policies come to.
 fn answer_by_policies<L: Lookup>(
     alloc: Global,
     policies: &[(&str, &Policy)],
     known: &Known<'_, L>,
+    is_searched: bool,
 ) -> Result<Answer, NoMemory>
     requires { HasNoCycle (L.parents known.now.0) }
     ensures { IfOk result (λ a. IsAnswer (world_of (L.stored known.now.0) (L.parents known.now.0)) known.now.1
         (named policies.now) a) }
 {
-    answer_by_known(alloc, policies, known.request(), known)
+    let request = known.request();
+    if is_searched {
+        answer_by_search(alloc, policies, request, known)
+    } else {
+        answer_by_known(alloc, policies, request, known)
+    }
 }
 
 /// Returns a denial that names this cycle, and no policy.
@@ -76,7 +106,25 @@ fn denial_by_cycle(alloc: Global, cycle: &[&EntityUid]) -> Result<Answer, NoMemo
     })
 }
 
-/// Returns the answer to the request whose entities were looked up, over these policies; as [`decide`] answers.
+/// Returns the answer to the request whose entities were looked up. `is_searched` says that the hierarchy is searched
+/// for the ancestors of any other entity, so that it is worth while to keep them.
+fn answer_over<L: Lookup>(
+    alloc: Global,
+    policies: &[(&str, &Policy)],
+    known: &Known<'_, L>,
+    is_searched: bool,
+) -> Result<Answer, NoMemory>
+    ensures { IfOk result (λ a. IsAnswer (world_of (L.stored known.now.0) (L.parents known.now.0)) known.now.1
+        (named policies.now) a) }
+{
+    match known.least_cycle()? {
+        None => answer_by_policies(alloc, policies, known, is_searched),
+        Some(cycle) => denial_by_cycle(alloc, &cycle),
+    }
+}
+
+/// Returns the answer to the request whose entities were looked up, over these policies; as [`decide`] answers, but
+/// that nothing is kept of other entities.
 ///
 /// Whoever asks more of the request's entities, as an index does, has them looked up once for both. Errors: `NoMemory`
 /// alone.
@@ -88,18 +136,17 @@ pub fn decide_known<L: Lookup>(
     ensures { IfOk result (λ a. IsAnswer (world_of (L.stored known.now.0) (L.parents known.now.0)) known.now.1
         (named policies.now) a) }
 {
-    match known.least_cycle()? {
-        None => answer_by_policies(alloc, policies, known),
-        Some(cycle) => denial_by_cycle(alloc, &cycle),
-    }
+    answer_over(alloc, policies, known, false)
 }
 
 /// Returns the answer to a request over these policies and these stored entities.
 ///
 /// The caller's condition is that the ids ascend strictly; the lists of the answer then ascend by id, which is the law
 /// `ascending` of `answers_are_lawful`. One pass over the policies; the ancestors and the attributes of the request's
-/// three entities are asked for once each, and a condition is evaluated only where the scope before it is true. Where
-/// some entity is on a cycle no policy is tried: it is denied, and the answer names the least cycle.
+/// three entities are asked for once each, and a condition is evaluated only where the scope before it is true. The
+/// ancestors of other entities, as in `User::"u" in Group::"g"`, are kept once a condition has asked for them, one more
+/// with each policy and 64 at most. Where some entity is on a cycle no policy is tried: it is denied, and the answer
+/// names the least cycle.
 ///
 /// Source: Cedar reference guide, "Authorization". Errors: `NoMemory` alone.
 pub fn decide<L: Lookup>(
@@ -112,5 +159,5 @@ pub fn decide<L: Lookup>(
         (named policies.now) a) }
 {
     let known = Known::of(alloc, store, request)?;
-    decide_known(alloc, policies, &known)
+    answer_over(alloc, policies, &known, true)
 }

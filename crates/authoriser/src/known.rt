@@ -67,7 +67,10 @@ impl<'a, L: Lookup> Known<'a, L> {
 }
 
 /// Returns the same references once more.
-fn copied<'a>(alloc: Global, uids: &[&'a EntityUid]) -> Result<Vec<&'a EntityUid>, NoMemory>
+pub(crate) fn copied<'a>(
+    alloc: Global,
+    uids: &[&'a EntityUid],
+) -> Result<Vec<&'a EntityUid>, NoMemory>
     ensures { IfOk result (λ copies. copies.items ≡ uids.now) }
 {
     uids.iter().copied().collect(alloc)

@@ -9,6 +9,33 @@ use crate::request_entities::{KnownEntity, RequestEntities, is_same, is_same_typ
 use policy_grammar::{ActionScope, EntityScope, Scope};
 use values::EntityUid;
 
+// So few ancestors are compared one by one, ids first, which differ early; a search by halves compares types first.
+const FEW: usize = 16;
+
+/// Returns whether an entity is one of these.
+fn is_one_of(entities: &[&EntityUid], of: &EntityUid) -> bool
+    ensures { IsTrue result ↔ Contains (names entities.now) of.now }
+{
+    for entity in entities {
+        if is_same(entity, of) {
+            return true;
+        }
+    }
+    false
+}
+
+/// Returns whether an entity is `of`, or `of` is among its ancestors: in at most logarithmic time, without memory.
+fn is_within(known: &KnownEntity<'_>, of: &EntityUid) -> bool
+    requires { IsAscending (names known.now.ancestors.items) }
+    ensures { IsTrue result ↔ IsWithin known.now of.now }
+{
+    if known.ancestors.len() <= FEW {
+        is_same(known.uid, of) || is_one_of(&known.ancestors, of)
+    } else {
+        known.is_within(of)
+    }
+}
+
 fn is_entity_scope_true(scope: &EntityScope, known: &KnownEntity<'_>) -> bool
     requires { IsAscending (names known.now.ancestors.items) }
     ensures { IsTrue result ↔ IsEntityScopeTrue (IsWithin known.now) scope.now known.now.uid.now }
@@ -16,10 +43,10 @@ fn is_entity_scope_true(scope: &EntityScope, known: &KnownEntity<'_>) -> bool
     match scope {
         EntityScope::Any => true,
         EntityScope::Equal(entity) => is_same(known.uid, entity),
-        EntityScope::In(entity) => known.is_within(entity),
+        EntityScope::In(entity) => is_within(known, entity),
         EntityScope::Is(type_name) => is_same_type(&known.uid.type_name, type_name),
         EntityScope::IsIn(type_name, entity) => {
-            is_same_type(&known.uid.type_name, type_name) && known.is_within(entity)
+            is_same_type(&known.uid.type_name, type_name) && is_within(known, entity)
         }
     }
 }
@@ -31,7 +58,7 @@ fn is_action_scope_true(scope: &ActionScope, known: &KnownEntity<'_>) -> bool
     match scope {
         ActionScope::Any => true,
         ActionScope::Equal(action) => is_same(known.uid, action),
-        ActionScope::In(action) => known.is_within(action),
+        ActionScope::In(action) => is_within(known, action),
         ActionScope::InList(actions) => is_within_any(actions.as_slice(), known),
     }
 }
@@ -41,7 +68,7 @@ fn is_within_any(entities: &[EntityUid], known: &KnownEntity<'_>) -> bool
     ensures { IsTrue result ↔ ((entity : EntityUid) × Contains entities.now entity × IsWithin known.now entity) }
 {
     for entity in entities {
-        if known.is_within(entity) {
+        if is_within(known, entity) {
             return true;
         }
     }

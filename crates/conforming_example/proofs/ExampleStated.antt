@@ -168,6 +168,18 @@ ancestors_there u us true e h = (
 )
 ancestors_there u us false e h = some_none h
 
+no_parents_here : (u : EntityUid) → [] ≡ action_parents named u
+no_parents_here u = none (is_same view u) []
+  where
+    none : (b : Bool) (us : List EntityUid) → us ≡ (if b then us else us)
+    none true us = refl
+    none false us = refl
+
+member_of_there : (u : EntityUid) (us : List EntityUid) (b : Bool) → is_same view u ≡ b → (if b then Some [] else None) ≡ Some us
+    → IsAction named u × (us ≡ action_parents named u)
+member_of_there u us true e h = (is_view u (same_uid view u e), sym (some_same h) ∙ no_parents_here u)
+member_of_there u us false e h = some_none h
+
 one_ascends : IsAscending (view ∷ [])
 unfolding IsStrictlySortedBy
 one_ascends = (tt, tt)
@@ -193,6 +205,8 @@ answers = record {
   all_shapes = λ e c. subst (λ (x : FoundEntityType). IsSome (schema.shape x.name)) (only c) refl;
   actions = λ u. ((λ c. is_view u (only c)), (λ a. subst (λ (x : EntityUid). Contains (view ∷ []) x) (action_is u a) (Contains-here view [])));
   actions_ascend = one_ascends;
+  member_of = λ u us h. member_of_there u us (is_same view u) refl h;
+  all_member_of = λ u a. subst (λ (x : EntityUid). IsSome (schema.member_of x)) (action_is u a) refl;
   ancestors = λ u us h. ancestors_there u us (is_same view u) refl h;
   all_ancestors = λ u a. subst (λ (x : EntityUid). IsSome (schema.ancestors x)) (action_is u a) refl;
   parents = λ child above. ((λ h. absurd cc), (λ p. absurd (no_path (type_parents named) no_type_parent (type_uid above) (type_uid child) p)));

@@ -45,6 +45,7 @@ schema = record {
   environments = viewing ∷ [];
   actions = view ∷ [];
   shape = λ n. if bytes_eq n user then Some user_shape else None;
+  member_of = λ u. if is_same view u then Some [] else None;
   ancestors = λ u. if is_same view u then Some [] else None;
   may_have_parent = λ child parent. false;
 }

@@ -1,20 +1,20 @@
 //! The entities of a file.
-ghost use Rattle.std.specs.Prelude.{◌≡◌, Some, option_map};
-ghost use Rattle.serde_json.specs.Find.{as_array};
-ghost use Rattle.serde_json.specs.View.{view, items_view};
+ghost use Rattle.std.specs.Prelude.{◌≡◌, ◌<◌, ◌^◌, List, length, None, Some};
+ghost use Rattle.serde_json.specs.View.{view};
 ghost use Rattle.json_words.specs.ReadsAs.{ReadsAs};
-ghost use Rattle.decision_texts.specs.Refusals.{no_memory, refusal_at};
-ghost use Rattle.decision_texts.specs.Bare.{entity_of, placed, entities_in, entities_of};
-ghost use Rattle.decision_texts.specs.inner.Stores.{ReadsStore};
+ghost use Rattle.json_values.specs.Arrays.{to_come, each_of, told};
+ghost use Rattle.decision_texts.specs.declared.bare.BareEntity.{BareEntity as Stated};
+ghost use Rattle.decision_texts.specs.Refusals.{no_memory, bad_shape, refusal_at};
+ghost use Rattle.decision_texts.specs.Bare.{entity_of, entity_at, placed, entities_of};
+ghost use Rattle.decision_texts.specs.inner.Stores.{Holds, KeepsNext, ReadsStore};
 
 use crate::bare::{BareEntity, ShapeFault, read_entity};
 use crate::refusal::Refusal;
 use crate::store::without_attributes;
 use entity_worlds::EntityStore;
-use json_words::read_json;
+use json_values::{Member, Members, Scratch, members_of};
 use serde_json::Value;
 use std::alloc::Global;
-use std::collections::VecDeque;
 
 /// Returns a fault of shape as a refusal at a place.
 pub(crate) fn refusal_at(place: Option<usize>, fault: ShapeFault) -> Refusal
@@ -36,48 +36,64 @@ fn read_entity_at(alloc: Global, value: &Value, place: usize) -> Result<BareEnti
     }
 }
 
-/// Returns the entities of an array, each the only one of its uid. The JSON of each is given up before the next is
-/// read.
-fn read_array(alloc: Global, values: Vec<Value>) -> Result<EntityStore, Refusal>
-    ensures { ReadsStore result (entities_in (items_view values.items)) }
+/// Keeps the entity that a value states at a place of the array, behind those that the store has. Its JSON is given up
+/// before it is kept.
+fn keep_entity(
+    alloc: Global,
+    store: &mut EntityStore,
+    value: Value,
+    place: usize,
+) -> Result<(), Refusal>
+    ensures { (es : List Stated) → Holds store.old es → KeepsNext es place (view value) result store.new }
 {
-    let count = values.len();
-    let mut rest = VecDeque::from_vec(values);
-    let mut store = EntityStore::new(alloc);
-    for place in 0..count {
-        let Some(value) = rest.pop_front() else {
-            unreachable!();
-        };
-        let read = read_entity_at(alloc, &value, place);
-        drop(value);
-        let entity = read?;
-        if !store.put(without_attributes(alloc, entity))? {
-            return Err(Refusal::bad_shape(Some(place)));
-        }
+    let read = read_entity_at(alloc, &value, place);
+    drop(value);
+    let entity = read?;
+    if !store.put(without_attributes(alloc, entity))? {
+        return Err(Refusal::bad_shape(Some(place)));
     }
-    Ok(store)
+    Ok(())
 }
 
-/// Returns the items of an array.
-fn into_array(value: Value) -> Option<Vec<Value>>
-    ensures { option_map (λ values. items_view values.items) result ≡ as_array (view value) }
+/// Returns a member's refusal, or that of a file that is no JSON: what stands behind the member is read first.
+fn if_json(alloc: Global, members: &mut Members<'_>, refusal: Refusal) -> Refusal
+    ensures { (result ≡ no_memory → ⊥) → result ≡ told (bad_shape None) refusal (to_come members.old) }
 {
-    match value {
-        Value::Array(values) => Some(values),
-        _ => None,
+    match members.rest_is_json(alloc) {
+        Ok(true) => refusal,
+        Ok(false) => Refusal::bad_shape(None),
+        Err(_) => Refusal::no_memory(),
+    }
+}
+
+/// Returns the entities of an array, each the only one of its uid. One member's JSON is held at a time.
+fn read_array(alloc: Global, members: &mut Members<'_>) -> Result<EntityStore, Refusal>
+    requires { length members.old.reader < 2 ^ 63 }
+    ensures { ReadsStore result (each_of (bad_shape None) entity_at (to_come members.old)) }
+{
+    let mut store = EntityStore::new(alloc);
+    let mut place = 0;
+    'members: loop {
+        match members.next(alloc)? {
+            Member::Value(value) => {
+                if let Err(refusal) = keep_entity(alloc, &mut store, value, place) {
+                    return Err(if_json(alloc, members, refusal));
+                }
+            }
+            Member::End => return Ok(store),
+            Member::NotJson => return Err(Refusal::bad_shape(None)),
+        }
+        place += 1;
     }
 }
 
 /// Returns the entities of a file.
-#[tactic(auto, unfolding(crate::specs::Bare::entities_of))]
 pub(crate) fn read_entities(alloc: Global, text: &[u8]) -> Result<EntityStore, Refusal>
     ensures { ReadsStore result (entities_of text.now) }
 {
-    let Some(value) = read_json(alloc, text)? else {
-        return Err(Refusal::bad_shape(None));
-    };
-    match into_array(value) {
-        Some(values) => read_array(alloc, values),
+    let mut scratch = Scratch::new(alloc);
+    match members_of(&mut scratch, text)? {
+        Some(mut members) => read_array(alloc, &mut members),
         None => Err(Refusal::bad_shape(None)),
     }
 }

@@ -1,5 +1,6 @@
 //! The policies of a file, each with its name.
 ghost use Rattle.std.specs.Prelude.{◌≡◌, IfOk, IfErr, map, string_bytes};
+ghost use Rattle.text_trees.specs.declared.fault.ReadFault.TheVariants as ReadFault;
 ghost use Rattle.policy_grammar.specs.PolicyText.{OrNoMemory};
 ghost use Rattle.decision_texts.specs.Decisions.{ArePoliciesOf, ArePoliciesRefused, IsFileFault, refusal_by};
 ghost use Rattle.decision_texts.specs.Refusals.{no_memory};
@@ -24,7 +25,7 @@ fn refusal_by(fault: ReadFault) -> Refusal
 fn read_policies(alloc: Global, bytes: &[u8]) -> Result<Vec<(String, Policy)>, ReadFault>
     ensures read { IfOk result
         (λ named. ArePoliciesOf bytes.now (map (λ p. string_bytes p.0) named.items) (map (λ p. p.1) named.items)) }
-    ensures refused { IfErr result (OrNoMemory (IsFileFault bytes.now)) }
+    ensures refused { IfErr result (OrNoMemory ReadFault.NoMemory (IsFileFault bytes.now)) }
 {
     if bytes.len() > MOST_FILE_BYTES {
         return Err(ReadFault::TooLong);

@@ -15,7 +15,7 @@ use Rattle.schema.specs.passed_on.schema_parts.{Place}
 use Rattle.schema.specs.Schemas.{EnvironmentOf, place_cmp}
 use Rattle.entities.specs.declared.requests.Asked.{Asked}
 use Rattle.entities.specs.Contexts.{context_where, is_of_action, is_place}
-use Rattle.entities.specs.inner.Halves.{context_if, place_asked}
+use Rattle.entities.specs.inner.Halves.{context_if, place_asked, order_of_action, order_of_asked, Rises, AreSought}
 
 -- ---- orders
 
@@ -55,13 +55,10 @@ less_then Less s h = inl refl
 less_then Equal s h = inr refl
 less_then Greater s h = absurd (cc)
 
-abbrev pub Rises : (Place → Ordering) → Type 0
-Rises ord = (p q : Place) → place_cmp p q ≡ Less → ordering_index (ord p) ≤ ordering_index (ord q)
-
-pub places_rise : (x : Place) → Rises (λ p. place_cmp p x)
+places_rise : (x : Place) → Rises (λ p. place_cmp p x)
 places_rise x p q lt = rises places_total p q x lt (place_cmp q x) refl
 
-pub actions_rise : (action : EntityUid) → Rises (λ p. uid_cmp p.action action)
+actions_rise : (action : EntityUid) → Rises (λ p. uid_cmp p.action action)
 actions_rise action p q lt = elim (less_then (uid_cmp p.action q.action) _ lt) [
   | inl below ↦ rises uid_cmp-IsTotalOrder p.action q.action action below (uid_cmp q.action action) refl
   | inr tied ↦ subst (λ (u : EntityUid). ordering_index (uid_cmp p.action action) ≤ ordering_index (uid_cmp u action)) (uid_cmp-IsAntisymmetric p.action q.action tied) (omega arith)
@@ -95,13 +92,13 @@ module _ {X : Type 0} (view : X → EnvironmentOf) where
       not_above (ord (view (get_or es i d)).place)
       (subst (λ (o : Ordering). ordering_index (ord (view (get_or es i d)).place) ≤ ordering_index o) (lt_only (ord (view (get_or es j d)).place) h) (ascends ord rise es s i j d le lt))
 
-module _ {X : Type 0} (view : X → EnvironmentOf) (ord : Place → Ordering) (passes : Place → Bool) (same : (p : Place) → passes p ≡ is_eq (ord p)) where
+module _ {X : Type 0} (view : X → EnvironmentOf) (ord : Place → Ordering) (passes : Place → Bool) (sought : AreSought ord passes) where
   off : (e : X) (es : List X) → passes (view e).place ≡ false
       → context_where passes (map view (e ∷ es)) ≡ context_where passes (map view es)
   off e es h = ap (λ (b : Bool). if b then Some (view e).context else context_where passes (map view es)) h
 
   fails : (p : Place) (o : Ordering) → ord p ≡ o → is_eq o ≡ false → passes p ≡ false
-  fails p o e h = same p ∙ ap is_eq e ∙ h
+  fails p o e h = sought.same p ∙ ap is_eq e ∙ h
 
   none_above : (es : List X) → ((k : ℕ) (d : X) → k < length es → ord (view (get_or es k d)).place ≡ Greater) → context_where passes (map view es) ≡ None
   none_above [] h = refl
@@ -113,7 +110,7 @@ module _ {X : Type 0} (view : X → EnvironmentOf) (ord : Place → Ordering) (p
       → context_where passes (map view (e ∷ es)) ≡ context_if passes (Some (view e))
   front e es up Less at h = absurd (cc)
   front e es up Equal at h =
-      let passed : passes (view e).place ≡ true = same (view e).place ∙ ap is_eq at in
+      let passed : passes (view e).place ≡ true = sought.same (view e).place ∙ ap is_eq at in
       ap (λ (b : Bool). if b then Some (view e).context else context_where passes (map view es)) passed
       ∙ sym (ap (λ (b : Bool). let none : Option Cedar = None in if b then Some (view e).context else none) passed)
   front e es up Greater at h =
@@ -135,10 +132,12 @@ module _ {X : Type 0} (view : X → EnvironmentOf) (ord : Place → Ordering) (p
       (λ k d lt in_es. below (suc k) d (omega (arith, lt)) (omega (arith, in_es)))
       (λ k d le in_es. above (suc k) d (omega (arith, le)) (omega (arith, in_es)))
 
-  pub by_halves : Rises ord → (es : List X) (i : ℕ) → AreSorted view es → i ≤ length es
+  pub by_halves : (es : List X) (i : ℕ) → AreSorted view es → i ≤ length es
       → IsPartitionPoint (λ e. is_lt (ord (view e).place) ≡ true) (λ e. is_lt (ord (view e).place) ≡ false) es i
-      → context_where passes (map view es) ≡ context_if passes (option_map view (slice_get es i))
-  by_halves rise es i s bound at = first_passes es i (ascends view ord rise es s) (λ k d lt in_es. at.0 k d (omega arith) lt) (λ k d le in_es. at.1 k d le in_es)
+      → context_if (λ p. is_eq (ord p)) (option_map view (slice_get es i)) ≡ context_where passes (map view es)
+  by_halves es i s bound at =
+      sym (ap (λ (test : Place → Bool). context_if test (option_map view (slice_get es i))) (λ j p. sought.same p j))
+      ∙ sym (first_passes es i (ascends view ord sought.rises es s) (λ k d lt in_es. at.0 k d (omega arith) lt) (λ k d le in_es. at.1 k d le in_es))
 
 -- ---- the two tests
 
@@ -147,10 +146,10 @@ ties Less p = refl
 ties Equal p = refl
 ties Greater p = refl
 
-pub same_action : (action : EntityUid) (p : Place) → is_of_action action p ≡ is_eq (uid_cmp p.action action)
-same_action action p = refl
+pub action_sought : (action : EntityUid) → AreSought (order_of_action action) (is_of_action action)
+action_sought action = record { same = λ p. refl; rises = actions_rise action }
 
-pub same_place : (asked : Asked) (p : Place) → is_place asked.action asked.principal.type_name asked.resource.type_name p ≡ is_eq (place_cmp p (place_asked asked))
+same_place : (asked : Asked) (p : Place) → is_place asked.action asked.principal.type_name asked.resource.type_name p ≡ is_eq (place_cmp p (place_asked asked))
 same_place asked p =
     let a = uid_cmp p.action asked.action in
     let principals = text_cmp p.principal asked.principal.type_name in
@@ -158,3 +157,6 @@ same_place asked p =
     ap (λ (b : Bool). is_eq a && b)
     (ap₂ (λ (x y : Bool). x && y) (sym (is_eq-slice_cmp p.principal asked.principal.type_name)) (sym (is_eq-slice_cmp p.resource asked.resource.type_name)) ∙ ties principals resources)
     ∙ ties a (ordering_then principals resources)
+
+pub asked_sought : (asked : Asked) → AreSought (order_of_asked asked) (is_place asked.action asked.principal.type_name asked.resource.type_name)
+asked_sought asked = record { same = same_place asked; rises = places_rise (place_asked asked) }

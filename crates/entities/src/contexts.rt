@@ -1,68 +1,38 @@
 //! Contexts, read by the action's environments.
-ghost use Rattle.std.specs.Prelude.{◌≡◌, Some, option_map, slice_get};
-ghost use Rattle.std.specs.Ordering.{is_lt};
+ghost use Rattle.std.specs.Prelude.{◌≡◌, option_map};
 ghost use Rattle.serde_json.specs.View.{view};
 ghost use Rattle.json_words.specs.ReadsAs.{ReadsAs};
-ghost use Rattle.values.specs.Names.{uid_cmp};
 ghost use Rattle.schema_types.specs.CedarViews.{cedar_view};
-ghost use Rattle.schema.specs.Views.{schema_view, environment_view};
+ghost use Rattle.schema.specs.Views.{schema_view};
 ghost use Rattle.entities.specs.declared.fault.EntityFault.TheVariants as EntityFault;
 ghost use Rattle.entities.specs.Contexts.{context_where, is_of_action, context_in};
-ghost use Rattle.entities.specs.inner.Halves.{context_if};
+ghost use Rattle.entities.specs.inner.Halves.{order_of_action};
 
+use crate::environments::{Sought, context_of};
 use crate::fault::EntityFault;
-use crate::parents::is_same;
 use crate::reading::read_fields;
-use schema::{Environment, Schema, stated_schemas_are_well_formed};
+use schema::{Place, Schema};
 use schema_types::CedarType;
 use serde_json::Value;
 use std::alloc::Global;
+use std::cmp::Ordering;
 use values::{EntityUid, Record};
 
-/// Returns whether an environment stands before those of an action.
-fn is_before(environment: &Environment, action: &EntityUid) -> bool
-    ensures { result ≡ is_lt (uid_cmp environment.now.place.action action.now) }
-{
-    environment.place.action.cmp(action).is_lt()
-}
+/// The places of an action.
+impl Sought for EntityUid {
+    ghost order = { order_of_action };
 
-/// Returns the type of the context of an environment, where it is one of this action.
-fn context_if_of<'s>(environment: &'s Environment, action: &EntityUid) -> Option<&'s CedarType>
-    ensures { option_map (λ t. cedar_view t.now) result
-        ≡ context_if (is_of_action action.now) (Some (environment_view environment.now)) }
-{
-    if is_same(&environment.place.action, action) {
-        Some(environment.context.get())
-    } else {
-        None
-    }
-}
-
-/// Returns the same of the environment at a place of a list.
-fn context_at<'s>(
-    environments: &'s [Environment],
-    at: usize,
-    action: &EntityUid,
-) -> Option<&'s CedarType>
-    ensures { option_map (λ t. cedar_view t.now) result ≡ context_if (is_of_action action.now)
-        (option_map environment_view (slice_get environments.now at)) }
-{
-    match environments.get(at) {
-        Some(environment) => context_if_of(environment, action),
-        None => None,
+    fn compare(&self, place: &Place) -> Ordering {
+        place.action.cmp(self)
     }
 }
 
 /// Returns the type of the context of an action, where some environment has it; takes logarithmic time.
-fn context_of<'s>(schema: &'s Schema, action: &EntityUid) -> Option<&'s CedarType>
+fn context_of_action<'s>(schema: &'s Schema, action: &EntityUid) -> Option<&'s CedarType>
     ensures { option_map (λ t. cedar_view t.now) result
         ≡ context_where (is_of_action action.now) (schema_view schema.now).environments }
 {
-    schema.is_stated();
-    stated_schemas_are_well_formed();
-    let all = schema.environments();
-    let first = all.partition_point(|environment| is_before(environment, action));
-    context_at(all, first, action)
+    context_of(schema, action)
 }
 
 /// Returns the context that a JSON object states for requests of an action.
@@ -82,7 +52,7 @@ pub fn read_context(
     if value.as_object().is_none() {
         return Err(EntityFault::BadShape);
     }
-    match context_of(schema, action) {
+    match context_of_action(schema, action) {
         Some(ty) => read_fields(alloc, Some(value), ty),
         None => Err(EntityFault::NotApplicable),
     }

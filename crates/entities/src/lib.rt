@@ -6,6 +6,7 @@
 
 mod canonical;
 mod contexts;
+mod environments;
 mod fault;
 mod laws;
 mod parents;

@@ -13,7 +13,7 @@ use schema::Schema;
 use values::EntityUid;
 
 /// Returns whether two uids are one.
-pub(crate) fn is_same(a: &EntityUid, b: &EntityUid) -> bool
+fn is_same(a: &EntityUid, b: &EntityUid) -> bool
     ensures { result ≡ is_same a.now b.now }
 {
     a.cmp(b).is_eq()

@@ -1,5 +1,5 @@
 -- Edges by `memberOf` lead as far as edges to all that is above an action, and no cycle goes through an action.
-use Rattle.std.proofs.Common.{◌≡◌, List, [], ◌∷◌, Option, Some, None, Bool, true, false, refl, subst, inl, inr}
+use Rattle.std.proofs.Common.{◌≡◌, List, [], ◌∷◌, Option, Some, None, Bool, true, false, refl, ap, subst, inl, inr}
 use Rattle.std.specs.Prelude.{Contains, IsSome, ◌⊎◌, ◌↔◌, option_map, if◌then◌else◌}
 use Rattle.std.specs.Ordering.{is_eq}
 use Rattle.values.specs.declared.entity_uid.EntityUid.{EntityUid}
@@ -10,8 +10,9 @@ use Rattle.schema_names.specs.Qualifying.{FoundAction, FoundSchema}
 use Rattle.schema.specs.Schemas.{StatedSchema, Answers, IsAction, action_parents}
 use Rattle.schema.specs.Schemas.{with_actions as with_action_parents}
 use Rattle.schema.specs.WellFormed.{IsWellFormed}
-use Rattle.entity_worlds.specs.Entities.{EntityMap, kept_parents, attributes_of, action_or}
-use Rattle.entity_store.specs.Laws.{stated_world, closed_world}
+use Rattle.evaluator.specs.Operators.{world_of}
+use Rattle.entity_worlds.specs.Entities.{EntityMap, kept_parents, attributes_of, action_or, with_actions, world_in}
+use Rattle.entity_store.specs.Laws.{by_member_of, stated_world, closed_world}
 use Rattle.entity_store.specs.Alike.{LeadAlike, HaveSameCycles}
 use Rattle.entity_store.proofs.PutLemmas.{cycles_alike}
 
@@ -142,3 +143,20 @@ module _ (s : FoundSchema) (v : StatedSchema) (answers : Answers s v) (entities 
 
   pub same_stored : (stated_world s v entities).stored ≡ (closed_world v entities).stored
   same_stored = λ i u. attributes_at u (v.ancestors u) i
+
+  -- ---- what is kept are the parents that are stated
+  none_here : {A G : Type 0} (o : Option A) → o ≡ None → IsSome o → G
+  none_here None e h = absurd cc
+  none_here (Some x) e h = absurd cc
+
+  member_at : (u : EntityUid) (o p : Option (List EntityUid)) → v.member_of u ≡ o → v.ancestors u ≡ p → o ≡ option_map (λ above. action_parents s u) p
+  member_at u None None e f = refl
+  member_at u (Some ps) (Some us) e f = ap (λ (xs : List EntityUid). Some xs) (answers.member_of u ps e).1
+  member_at u None (Some us) e f = none_here (v.member_of u) e (answers.all_member_of u (answers.ancestors u us f).0)
+  member_at u (Some ps) None e f = none_here (v.ancestors u) f (answers.all_ancestors u (answers.member_of u ps e).0)
+
+  member_is : (u : EntityUid) → v.member_of u ≡ by_member_of s v u
+  member_is u = member_at u (v.member_of u) (v.ancestors u) refl refl
+
+  pub members_kept : world_in (with_actions v.member_of entities) ≡ stated_world s v entities
+  members_kept = λ i. world_of (λ u. attributes_of (action_or (member_is u i) (entities u))) (λ u. kept_parents (action_or (member_is u i) (entities u)))

@@ -3,14 +3,14 @@
 use Rattle.std.specs.Prelude.{List, map}
 use Rattle.values.specs.declared.entity_uid.EntityUid.{EntityUid}
 use Rattle.schema.specs.SchemaEntries.{SchemaEntries}
-use Rattle.schema.specs.Views.{ancestors_at}
+use Rattle.schema.specs.Views.{parents_at}
 use Rattle.entity_worlds.specs.Entities.{EntityMap, Actions, AreActions, with_actions}
 use Rattle.entity_worlds.specs.Listing.{keys_are_found}
 
--- The actions of a schema, of each as parents all that are above it by `memberOf`. That edges by `memberOf` alone would
--- lead to the same entities, and every answer be the same, is a law of this crate.
+-- The actions of a schema, of each as parents those that its `memberOf` states. That edges to all that is above an
+-- action would lead to the same entities, and every answer be the same, is a law of this crate.
 abbrev pub actions_under : SchemaEntries → Actions
-actions_under schema u = ancestors_at schema.ancestors u
+actions_under schema u = parents_at schema.member_of u
 
 -- the entities that are kept, and under a schema its actions
 abbrev pub entities_under : SchemaEntries → EntityMap → EntityMap
@@ -18,7 +18,7 @@ entities_under schema entities = with_actions (actions_under schema) entities
 
 -- the uids of the actions
 abbrev pub action_uids : SchemaEntries → List EntityUid
-action_uids schema = map (λ e. e.0) schema.ancestors
+action_uids schema = map (λ e. e.0) schema.member_of
 
 pub actions_are_listed : (schema : SchemaEntries) → AreActions (actions_under schema) (action_uids schema)
-actions_are_listed schema = keys_are_found schema.ancestors
+actions_are_listed schema = keys_are_found schema.member_of

@@ -1,6 +1,6 @@
--- What is true of the definitions: an action has as parents all that is above it by `memberOf`, and that is no matter:
--- over the edges by `memberOf` alone the same entities are above one another, each expression gives the same, and each
--- answer is the same, since no cycle goes through an action; and the same entity makes a cycle once it is put.
+-- What is true of the definitions: an action has as parents those that its `memberOf` states; were all that is above it
+-- its parents, the same entities would be above one another, each expression give the same, and each answer be the
+-- same, since no cycle goes through an action; and the same entity would make a cycle once it is put.
 use Rattle.std.specs.Prelude.{◌≡◌, ◌↔◌, ℕ, List, Option, None, Ok, option_map}
 use Rattle.serde_json.specs.Data.{Data}
 use Rattle.values.specs.declared.entity_uid.EntityUid.{EntityUid}
@@ -33,6 +33,11 @@ stated_world s v entities = world_in (with_actions (by_member_of s v) entities)
 
 abbrev pub closed_world : StatedSchema → EntityMap → World
 closed_world v entities = world_in (with_actions v.ancestors entities)
+
+-- what is kept of an action under a schema are the parents that its `memberOf` states
+abbrev pub MemberOfIsKept : Type 0
+MemberOfIsKept = (bytes : List ℕ) (v : StatedSchema) (stated : IsSchemaOf bytes v) (entities : EntityMap)
+    → world_in (with_actions v.member_of entities) ≡ stated_world stated.named v entities
 
 -- the same entities are above one another,
 abbrev pub MemberOfLeadsAlike : Type 0

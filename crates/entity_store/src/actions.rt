@@ -7,7 +7,7 @@ use schema::{Schema, stated_schemas_are_well_formed};
 use std::marker::Model;
 use values::EntityUid;
 
-/// The actions that a schema declares, each with all that are above it. Contracts see the schema.
+/// The actions that a schema declares, each with its parents. Contracts see the schema.
 #[derive(Drop)]
 pub struct SchemaActions<'a> {
     schema: &'a Schema,
@@ -48,6 +48,6 @@ impl ActionSource for SchemaActions<'_> {
     }
 
     fn ancestors_of(&self, uid: &EntityUid) -> Option<&[EntityUid]> {
-        self.schema.action_ancestors(uid)
+        self.schema.action_parents(uid)
     }
 }

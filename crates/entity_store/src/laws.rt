@@ -1,6 +1,6 @@
 //! Laws of the definitions; the functions do nothing.
-ghost use Rattle.entity_store.specs.Laws.{ReachDecides, MemberOfLeadsAlike, MemberOfGivesAlike, MemberOfAnswersAlike};
-ghost use Rattle.entity_store.specs.Laws.{MemberOfPutsAlike, NoEntityIsAnAction};
+ghost use Rattle.entity_store.specs.Laws.{ReachDecides, MemberOfIsKept, MemberOfLeadsAlike, MemberOfGivesAlike};
+ghost use Rattle.entity_store.specs.Laws.{MemberOfAnswersAlike, MemberOfPutsAlike, NoEntityIsAnAction};
 
 use entities::action_types_are_told;
 use schema::stated_schemas_are_well_formed;
@@ -12,11 +12,13 @@ pub fn reach_decides()
     ensures { ReachDecides }
 {}
 
-/// Proves that an action may have all that is above it as its parents: over the edges by `memberOf` alone the same
-/// entities are above one another and on cycles, each expression gives the same, and each request has the same answer.
+/// Proves that an action has the parents that its `memberOf` states, and may have all that is above it as its parents:
+/// the same entities are above one another and on cycles, each expression gives the same, and each request has the same
+/// answer.
 /// No cycle goes through an action, whatever entities are kept. An entity that is put, under whatever uid and with
 /// whatever parents, is then on a cycle over the one exactly where it is over the other.
 pub fn actions_may_be_closed()
+    ensures kept { MemberOfIsKept }
     ensures alike { MemberOfLeadsAlike }
     ensures gives { MemberOfGivesAlike }
     ensures answers { MemberOfAnswersAlike }

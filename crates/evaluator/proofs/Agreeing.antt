@@ -26,7 +26,8 @@ use Rattle.evaluator.specs.Evaluation.{literal_value, variable_value, HasOperand
 use Rattle.evaluator.specs.Laws.{HasOneOutcome}
 use Rattle.evaluator.specs.inner.Meanings.{GivesOnly, MeaningsAreGiven}
 use Rattle.evaluator.specs.inner.Computing.{DecidedWorld, decided_world, and_then, demanded, truth, as_test, apply_unary, apply_binary, field_of, has_field, apply_unary_call, apply_binary_call, each, each_field, meaning, meaning_step, named_meaning, Answers}
-use Rattle.evaluator.proofs.Applied.{LawsBelow, unary_exists, unary_is, unary_call_exists, unary_call_is, binary_call_exists, binary_call_is, binary_exists, binary_is, field_exists, field_is, has_exists, has_is}
+use Rattle.evaluator.proofs.Applied.{LawsBelow, unary_exists, unary_is, binary_exists, binary_is, field_exists, field_is, has_exists, has_is}
+use Rattle.evaluator.proofs.AppliedCalls.{unary_call_exists, unary_call_is, binary_call_exists, binary_call_is}
 
 -- the values as a set
 to_set : List PlainValue → EvaluationResult

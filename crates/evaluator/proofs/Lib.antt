@@ -1,7 +1,9 @@
 pub mod Agreeing
 pub mod Applied
+pub mod AppliedCalls
 pub mod ByKind
 pub mod Conversions
 pub mod Membership
 pub mod Telling
+pub mod TestsTold
 pub mod Wanting

@@ -125,3 +125,8 @@ AnswersWhatIsGiven W q x answer = MatchResult answer (λ v. EvaluatesTo W q x (O
 -- whatever the expression gives is returned, but where memory was refused
 abbrev pub AnswersAllThatIsGiven : World → Request → Expr → EvaluationResult → Type 0
 AnswersAllThatIsGiven W q x answer = (r : EvaluationResult) → EvaluatesTo W q x r → answer ≢ Err NoMemory → answer ≡ r
+
+-- the boolean that the expression gives is returned, or why it gives none
+abbrev pub AnswersTest : World → Request → Expr → Result Bool EvalFault → Type 0
+AnswersTest W q x answer = MatchResult answer (λ t. EvaluatesTo W q x (Ok (boolean t)))
+    (λ e. e ≢ NoMemory → TestFails W q x e)

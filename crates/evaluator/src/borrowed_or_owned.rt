@@ -1,7 +1,7 @@
 //! What expressions give.
 ghost use Rattle.std.specs.Prelude.{◌≡◌, IfOk};
 ghost use Rattle.values.specs.ValueOrder.{value_cmp};
-ghost use Rattle.evaluator.specs.Outcomes.{boolean_in};
+ghost use Rattle.evaluator.specs.Outcomes.{boolean_in, long_in};
 ghost use Rattle.values.specs.BorrowedView.{of_borrowed};
 
 use plain::NoMemory;
@@ -103,6 +103,16 @@ impl<'a> BorrowedOrOwned<'a> {
     {
         match self.kind() {
             BorrowedKind::Boolean(truth) => Some(truth),
+            _ => None,
+        }
+    }
+
+    /// Returns the number that it is, or None where it is of another kind.
+    pub(crate) fn as_long(&self) -> Option<i64>
+        ensures { result ≡ long_in self.now }
+    {
+        match self.kind() {
+            BorrowedKind::Long(number) => Some(number),
             _ => None,
         }
     }

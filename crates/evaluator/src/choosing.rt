@@ -6,28 +6,13 @@ use crate::borrowed_or_owned::BorrowedOrOwned;
 use crate::evaluating::outcome_of;
 use crate::fault::EvalFault;
 use crate::lookup::Lookup;
-use crate::steps::{tested, truth_of};
+use crate::steps::truth_of;
+use crate::testing::test_of;
 use evaluation_steps::decides_and;
 use expressions::Expr;
 use plain::Shared;
 use std::alloc::Global;
 use values::Request;
-
-/// Returns what an expression gives as a test.
-#[cycle(evaluate)]
-#[inline(never)]
-fn test_of<'a, L: Lookup>(
-    alloc: Global,
-    test: &'a Shared<Expr>,
-    request: &'a Request,
-    store: &'a L,
-) -> Result<bool, EvalFault>
-    ensures { Answers result (as_test
-        (meaning request.now (decided_world (L.stored store.now) (L.above store.now)) test.now)) }
-{
-    let given = outcome_of(alloc, test.get(), request, store);
-    tested(&given)
-}
 
 /// Returns what `&&` or `||` gives where its second operand decides.
 #[cycle(evaluate)]
@@ -41,7 +26,7 @@ fn last_test<'a, L: Lookup>(
     ensures { Answers result (and_then (as_test
         (meaning request.now (decided_world (L.stored store.now) (L.above store.now)) test.now)) truth) }
 {
-    truth_of(test_of(alloc, test, request, store))
+    truth_of(test_of(alloc, test.get(), request, store))
 }
 
 /// Returns what one branch gives, by the test.
@@ -58,7 +43,7 @@ pub(crate) fn choice_of<'a, L: Lookup>(
     ensures { let gives = meaning request.now (decided_world (L.stored store.now) (L.above store.now)) in
         Answers result (choice (gives test.now) (gives consequent.now) (gives alternative.now)) }
 {
-    if test_of(alloc, test, request, store)? {
+    if test_of(alloc, test.get(), request, store)? {
         outcome_of(alloc, consequent.get(), request, store)
     } else {
         outcome_of(alloc, alternative.get(), request, store)
@@ -78,7 +63,7 @@ pub(crate) fn both_of<'a, L: Lookup>(
     ensures { let gives = meaning request.now (decided_world (L.stored store.now) (L.above store.now)) in
         Answers result (both (gives left.now) (gives right.now)) }
 {
-    let first = test_of(alloc, left, request, store)?;
+    let first = test_of(alloc, left.get(), request, store)?;
     if decides_and(first) {
         truth_of(Ok(first))
     } else {
@@ -99,7 +84,7 @@ pub(crate) fn either_of<'a, L: Lookup>(
     ensures { let gives = meaning request.now (decided_world (L.stored store.now) (L.above store.now)) in
         Answers result (either (gives left.now) (gives right.now)) }
 {
-    let first = test_of(alloc, left, request, store)?;
+    let first = test_of(alloc, left.get(), request, store)?;
     if first {
         truth_of(Ok(first))
     } else {

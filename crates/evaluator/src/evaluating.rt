@@ -3,7 +3,7 @@ ghost use Rattle.std.specs.Prelude.{◌≡◌, ◌≢◌, [], map, MatchResult, 
 ghost use Rattle.values.specs.Values.{set, record_of, values_of, fields_of};
 ghost use Rattle.values.specs.Sets.{set_list};
 ghost use Rattle.evaluator.specs.Operators.{world_of};
-ghost use Rattle.evaluator.specs.Evaluation.{AnswersWhatIsGiven, AnswersAllThatIsGiven};
+ghost use Rattle.evaluator.specs.Evaluation.{AnswersWhatIsGiven, AnswersAllThatIsGiven, AnswersTest};
 ghost use Rattle.evaluator.specs.inner.Computing.{decided_world, Answers, AnswersNext, meaning, named_meaning, each};
 ghost use Rattle.evaluator.specs.inner.Computing.{each_field, and_then, apply_unary, apply_binary};
 ghost use Rattle.evaluator.specs.inner.Computing.{apply_unary_call, apply_binary_call, field_of, has_field};
@@ -11,6 +11,7 @@ ghost use Rattle.evaluator.specs.inner.Computing.{apply_unary_call, apply_binary
 use crate::borrowed_or_owned::BorrowedOrOwned;
 use crate::choosing::{both_of, choice_of, either_of};
 use crate::fault::EvalFault;
+use crate::fields::{lent, variable_field};
 use crate::laws::meanings_are_given;
 use crate::leaves::{literal_of, variable_of};
 use crate::lookup::Lookup;
@@ -18,6 +19,7 @@ use crate::steps::{
     add_field, add_value, called_on, called_on_two, field_in, has_in, on_operand, on_operands,
     record_with, set_with,
 };
+use crate::testing::test_of;
 use expressions::{Binary, BinaryCall, Expr, Named, Unary, UnaryCall};
 use plain::{Items, Shared, Text};
 use std::alloc::Global;
@@ -45,6 +47,20 @@ pub fn evaluate<'a, L: Lookup>(
 {
     meanings_are_given();
     outcome_of(alloc, expr, request, store)
+}
+
+/// Returns whether an expression gives true, as a condition does; it gives a boolean, or the answer is why not. Of a
+/// value of another kind that is `TypeError`. Otherwise as [`evaluate`].
+pub fn evaluate_test<L: Lookup>(
+    alloc: Global,
+    expr: &Expr,
+    request: &Request,
+    store: &L,
+) -> Result<bool, EvalFault>
+    ensures { AnswersTest (world_of (L.stored store.now) (L.parents store.now)) request.now expr.now result }
+{
+    meanings_are_given();
+    test_of(alloc, expr, request, store)
 }
 
 // Each arm is one call, so that a level of the recursion takes little stack and prepares no room for the outcomes that
@@ -85,7 +101,7 @@ pub(crate) fn outcome_of<'a, L: Lookup>(
 /// Returns what an operator gives on two expressions' values.
 #[cycle(evaluate)]
 #[inline(never)]
-fn two_operands<'a, L: Lookup>(
+pub(crate) fn two_operands<'a, L: Lookup>(
     alloc: Global,
     operator: Binary,
     left: &'a Shared<Expr>,
@@ -207,7 +223,7 @@ fn second_called<'a, L: Lookup>(
 /// Returns a field or an attribute of an expression's value.
 #[cycle(evaluate)]
 #[inline(never)]
-fn field_of<'a, L: Lookup>(
+pub(crate) fn field_of<'a, L: Lookup>(
     alloc: Global,
     owner: &'a Shared<Expr>,
     name: &Text,
@@ -218,8 +234,15 @@ fn field_of<'a, L: Lookup>(
         (meaning request.now (decided_world (L.stored store.now) (L.above store.now)) owner.now)
         (field_of (decided_world (L.stored store.now) (L.above store.now)) name.now)) }
 {
-    let given = outcome_of(alloc, owner.get(), request, store);
-    field_in(alloc, store, &given, name)
+    match owner.get() {
+        Expr::Variable(variable) => {
+            lent(variable_field(store, *variable, request, name.as_str()))
+        }
+        other => {
+            let given = outcome_of(alloc, other, request, store);
+            field_in(alloc, store, &given, name)
+        }
+    }
 }
 
 /// Returns whether an expression's value has a field or an attribute.

@@ -10,12 +10,14 @@ mod fields;
 mod laws;
 mod leaves;
 mod lookup;
+mod numbers;
 mod operands;
 mod operators;
 mod steps;
+mod testing;
 
 pub use borrowed_or_owned::BorrowedOrOwned;
-pub use evaluating::evaluate;
+pub use evaluating::{evaluate, evaluate_test};
 pub use fault::EvalFault;
 pub use laws::expressions_have_one_outcome;
 pub use lookup::Lookup;

@@ -1,12 +1,13 @@
 //! What forms make of what their operands gave, outside the recursion: an error stays. An outcome is read where it
 //! stands, since each function that takes one by value copies it.
 ghost use Rattle.std.specs.Prelude.{◌≡◌, ◌≢◌, ◌++◌, ◌∷◌, [], List, MatchResult, Result, Ok, Err};
+ghost use Rattle.expressions.specs.declared.operator.Unary.TheVariants.{Not};
 ghost use Rattle.values.specs.Fields.{put};
 ghost use Rattle.values.specs.Sets.{set_list};
 ghost use Rattle.values.specs.Values.{PlainValue, set, record_of, values_of, fields_of};
 ghost use Rattle.evaluator.specs.Outcomes.{boolean_in, EvaluationResult};
 ghost use Rattle.evaluator.specs.inner.Computing.{decided_world, Answers, AnswersNext, AnswersInto, demanded};
-ghost use Rattle.evaluator.specs.inner.Computing.{and_then, truth, apply_unary, apply_binary};
+ghost use Rattle.evaluator.specs.inner.Computing.{and_then, as_test, truth, apply_unary, apply_binary};
 ghost use Rattle.evaluator.specs.inner.Computing.{apply_unary_call, apply_binary_call, field_of, has_field};
 
 use crate::borrowed_or_owned::BorrowedOrOwned;
@@ -47,6 +48,30 @@ pub(crate) fn tested(given: &Result<BorrowedOrOwned<'_>, EvalFault>) -> Result<b
 {
     match given {
         Ok(value) => boolean_of(value),
+        Err(fault) => Err(*fault),
+    }
+}
+
+/// Returns the opposite of a test; an error stays.
+pub(crate) fn opposite(found: Result<bool, EvalFault>) -> Result<bool, EvalFault>
+    ensures { (m : EvaluationResult) → Answers found (as_test m)
+        → Answers result (as_test (and_then m (apply_unary Not))) }
+{
+    Ok(!found?)
+}
+
+/// Returns whether what was given has a field or an attribute, as a test.
+#[inline(never)]
+pub(crate) fn has_told<L: Lookup>(
+    store: &L,
+    given: &Result<BorrowedOrOwned<'_>, EvalFault>,
+    name: &Text,
+) -> Result<bool, EvalFault>
+    ensures { (m : EvaluationResult) → Answers given.now m → Answers result (as_test
+        (and_then m (has_field (decided_world (L.stored store.now) (L.above store.now)) name.now))) }
+{
+    match given {
+        Ok(owner) => has(store, owner, name.as_str()),
         Err(fault) => Err(*fault),
     }
 }
@@ -146,7 +171,7 @@ pub(crate) fn has_in<'a, L: Lookup>(
         (has_field (decided_world (L.stored store.now) (L.above store.now)) name.now) result }
 {
     match given {
-        Ok(owner) => computed(has(store, owner, name.as_str())),
+        Ok(owner) => truth_of(has(store, owner, name.as_str())),
         Err(fault) => Err(*fault),
     }
 }

@@ -1,8 +1,11 @@
 pub mod Follows
 pub mod SymbolRules
 pub mod NamedRules
+pub mod AlivePrimaries
 pub mod Alive
+pub mod PrimaryRules
 pub mod ExpressionRules
+pub mod PrimaryFirm
 pub mod ExpressionFirm
 pub mod ExpressionExact
 pub mod Tails

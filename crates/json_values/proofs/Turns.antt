@@ -36,7 +36,7 @@ object_start (Token.boolean b) e = absurd (true≢false (sym e))
 object_start Token.null e = absurd (true≢false (sym e))
 object_start Token.bad e = absurd (true≢false (sym e))
 
-scalar_at : (deep : ℕ) (t : Token) (ts : List Token) → is_array_start t ≡ false → is_object_start t ≡ false → value_at deep (t ∷ ts) ≡ option_map (λ d. (d, ts)) (scalar t)
+pub scalar_at : (deep : ℕ) (t : Token) (ts : List Token) → is_array_start t ≡ false → is_object_start t ≡ false → value_at deep (t ∷ ts) ≡ option_map (λ d. (d, ts)) (scalar t)
 scalar_at deep Token.begin_object ts a o = absurd (true≢false o)
 scalar_at deep Token.end_object ts a o = ap (converted of_json) (value_is deep (Token.end_object ∷ ts))
 scalar_at deep Token.begin_array ts a o = absurd (true≢false a)

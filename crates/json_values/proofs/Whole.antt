@@ -11,13 +11,7 @@ use Rattle.serde_json.specs.declared.value.Value.{Value}
 use Rattle.serde_json.proofs.Nesting.{depth-read}
 use Rattle.json_words.specs.Json.{json_of}
 use Rattle.json_words.proofs.JsonLemmas.{json_of-text}
-use Rattle.json_values.specs.inner.Given.{value_at, IsGiven}
-
--- a value with nothing behind it
-abbrev whole : Option (Data × List Token) → Option Data
-whole None = None
-whole (Some (d, [])) = Some d
-whole (Some (d, t ∷ ts)) = None
+use Rattle.json_values.specs.inner.Given.{value_at, whole, IsGiven}
 
 alone : (x : Option Data) → x ≡ whole (option_map (λ b. (b, [])) x)
 alone None = refl

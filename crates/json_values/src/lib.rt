@@ -11,9 +11,11 @@ ghost use Rattle.serde_json.specs.Read.{max_depth, read};
 ghost use Rattle.serde_json.specs.View.{view};
 ghost use Rattle.json_words.specs.Json.{json_of};
 
+mod array_members;
 mod numbers;
 mod reading;
 
+pub use crate::array_members::{Member, Members, members_of};
 use crate::reading::value_in;
 use json::Reader;
 pub use json::Scratch;

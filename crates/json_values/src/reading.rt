@@ -40,7 +40,7 @@ pub(crate) fn value_in(
     scalar_in(alloc, token)
 }
 
-fn opens_array(token: &Token<'_>) -> bool
+pub(crate) fn opens_array(token: &Token<'_>) -> bool
     ensures { result ≡ is_array_start (token_of token.now) }
 {
     matches!(token, Token::BeginArray)

@@ -6,12 +6,10 @@ use Rattle.std.proofs.lemmas.Slice.Zip.{AllZip-long}
 use Rattle.std.specs.declared.alloc.Global.{Global}
 use Rattle.serde_json.specs.Data.{Data, Items}
 use Rattle.serde_json.specs.Find.{as_array}
-use Rattle.serde_json.specs.View.{view, items_view}
-use Rattle.serde_json.specs.declared.value.Value.{Value}
 use Rattle.json_words.specs.Json.{json_of}
 use Rattle.json_words.specs.Each.{list_of}
 use Rattle.json_words.specs.ReadsAs.{◌>>=◌, or_fault}
-use Rattle.json_words.proofs.EachLemmas.{list_of-items_view}
+use Rattle.json_values.specs.Arrays.{array_of}
 use Rattle.schema.specs.Schemas.{StatedSchema}
 use Rattle.schema.specs.Views.{schema_view}
 use Rattle.entity_worlds.specs.declared.entity.Entity.{Entity}
@@ -19,7 +17,8 @@ use Rattle.stamped_store.specs.Store.{Store, updates}
 use Rattle.state_messages.specs.Messages.{state_text, updates_stated}
 use Rattle.decision_texts.specs.declared.refusal.Refusal.{Refusal}
 use Rattle.decision_texts.specs.Refusals.{bad_shape}
-use Rattle.schema_decisions.specs.Refusals.{OrNoMemory}
+use Rattle.policy_grammar.specs.PolicyText.{OrNoMemory}
+use Rattle.decision_texts.specs.Refusals.{no_memory}
 use Rattle.schema_decisions.specs.EntityArrays.{entities_in, entities_of}
 use Rattle.site.specs.Seen.{Seen, schema_of, store_in, IsSameSite}
 use Rattle.policy_tokens.specs.Lexing.{IsBadAt, BadIsNotLexed}
@@ -27,7 +26,7 @@ use Rattle.policy_grammar.specs.declared.policy.Policy.{Policy}
 use Rattle.policy_grammar.specs.CoreOf.{IsCoreOf}
 use Rattle.policy_files.specs.Cuts.{AreTextsOf, AreAsManyAsPolicies}
 use Rattle.decision_texts.specs.Decisions.{ArePoliciesOf}
-use Rattle.loaded_files.specs.Puts.{Deed, policy_put, entity_put, AcceptsAll, RefusesFirst}
+use Rattle.loaded_files.specs.Puts.{policy_put, entity_put, AcceptsAll, RefusesFirst}
 use Rattle.loaded_files.specs.Loads.{policy_puts, items_of, AreNamedTexts, LoadsPolicies, RefusesPolicies, LoadsEntities, RefusesEntities, by_put, by_stored}
 use Rattle.loaded_files.specs.Loads.{LoadsIfNamed, RefusesIfNamed, IsLoadedState, IsRefused, by_entities}
 use Rattle.loaded_files.specs.inner.Steps.{HasTokens}
@@ -63,13 +62,6 @@ next_puts ps ts i p lt same e =
     ap (λ (x : Files). policy_puts (words x) (nows (drop i ts))) (turn ps i p lt e)
     ∙ ap (λ (x : List (Bor (List ℕ))). policy_puts (string_bytes p.0 ∷ words (drop (i + 1) ps)) (nows x))
     (turn ts i (get_or ts i none) below (same_get ts i none (get_or ts i none) below))
-
--- entities
-abbrev pub entity_puts : List Value → List Deed
-entity_puts vs = map entity_put (map view vs)
-
-pub next_entities : (vs : List Value) (i : ℕ) (v : Value) → i < length vs → v ≡ get_or vs i v → entity_puts (drop i vs) ≡ entity_put (view v) ∷ entity_puts (drop (i + 1) vs)
-next_entities vs i v lt e = ap (λ (x : List Value). entity_puts x) (turn vs i v lt e)
 
 pub no_puts : (ps : Files) (ts : List (Bor (List ℕ))) (i : ℕ) → length ps ≤ i → policy_puts (words (drop i ps)) (nows (drop i ts)) ≡ []
 no_puts ps ts i h = ap (λ (x : Files). policy_puts (words x) (nows (drop i ts))) (drop_all i ps h)
@@ -108,8 +100,8 @@ policies_loaded law schema n s t bytes ps ts (Ok done) a cut puts = record { nam
 policies_loaded law schema n s t bytes ps ts (Err e) a cut puts = tt
 
 pub policies_refused : AreAsManyAsPolicies → (schema : StatedSchema) (n : List ℕ) (s : Store) (bytes : List ℕ) (ps : Files) (ts : List (Bor (List ℕ))) (r : Result ⊤ Refusal)
-    → ArePoliciesOf bytes (words ps) (cores ps) → AreTextsOf bytes (nows ts) → IfErr r (OrNoMemory (RefusesFirst schema n s 0 (policy_puts (words ps) (nows ts))))
-    → IfErr r (OrNoMemory (RefusesPolicies schema n s bytes))
+    → ArePoliciesOf bytes (words ps) (cores ps) → AreTextsOf bytes (nows ts) → IfErr r (OrNoMemory no_memory (RefusesFirst schema n s 0 (policy_puts (words ps) (nows ts))))
+    → IfErr r (OrNoMemory no_memory (RefusesPolicies schema n s bytes))
 policies_refused law schema n s bytes ps ts (Ok done) a cut puts = tt
 policies_refused law schema n s bytes ps ts (Err e) a cut puts = λ other. by_put (words ps) (nows ts) (named_texts law bytes ps (nows ts) a cut) (puts other)
 
@@ -126,27 +118,34 @@ judged_is : (s : StatedSchema) (bytes : List ℕ) → entities_of s bytes ≡ ju
 unfolding entities_of
 judged_is s bytes = refl
 
-none_judged : (s : StatedSchema) (o : Option Data) (es : List Entity) → judged s o ≡ Ok es → o ≡ None → ⊥
-none_judged s None es h e = absurd cc
-none_judged s (Some d) es h e = absurd cc
-
 none_array : (s : StatedSchema) (o : Option Items) (es : List Entity) → judged_array s o ≡ Ok es → o ≡ None → ⊥
 none_array s None es h e = absurd cc
 none_array s (Some d) es h e = absurd cc
 
--- it is JSON
-pub some_json : (s : StatedSchema) (bytes : List ℕ) (es : List Entity) → entities_of s bytes ≡ Ok es → None ≡ json_of bytes → ⊥
-some_json s bytes es h none = none_judged s (json_of bytes) es (sym (judged_is s bytes) ∙ h) (sym none)
+none_judged : (s : StatedSchema) (o : Option Data) (es : List Entity) → judged s o ≡ Ok es → option_and_then as_array o ≡ None → ⊥
+none_judged s None es h e = absurd cc
+none_judged s (Some d) es h e = none_array s (as_array d) es h e
 
--- which is an array
-pub some_array : (s : StatedSchema) (bytes : List ℕ) (es : List Entity) (d : Data) → entities_of s bytes ≡ Ok es → Some d ≡ json_of bytes → None ≡ as_array d → ⊥
-some_array s bytes es d h some none = none_array s (as_array d) es (ap (judged s) some ∙ sym (judged_is s bytes) ∙ h) (sym none)
+no_list : (o : Option Items) → option_map list_of o ≡ None → o ≡ None
+no_list None e = refl
+no_list (Some ds) e = absurd cc
 
--- with these items
-pub items_are : (bytes : List ℕ) (d : Data) (xs vs : List Value) → Some d ≡ json_of bytes → Some (items_view vs) ≡ as_array d → xs ≡ vs → items_of bytes ≡ Some (map view xs)
-items_are bytes d xs vs some is same =
-    ap (λ (o : Option Data). option_map list_of (option_and_then as_array o)) (sym some) ∙ ap (λ (o : Option Items). option_map list_of o) (sym is)
-    ∙ ap (λ (ds : List Data). Some ds) (list_of-items_view vs ∙ ap (map view) (sym same))
+-- it has members
+pub some_members : (s : StatedSchema) (bytes : List ℕ) (es : List Entity) → entities_of s bytes ≡ Ok es → array_of bytes ≡ None → ⊥
+unfolding array_of
+some_members s bytes es h none = none_judged s (json_of bytes) es (sym (judged_is s bytes) ∙ h) (no_list (option_and_then as_array (json_of bytes)) none)
+
+some_list : (o : Option (List Data)) → (o ≡ None → ⊥) → (ds : List Data) × (o ≡ Some ds)
+some_list None some = absurd (some refl)
+some_list (Some ds) some = (ds, refl)
+
+-- namely these
+pub members_are : (s : StatedSchema) (bytes : List ℕ) (es : List Entity) → entities_of s bytes ≡ Ok es → (ds : List Data) × (array_of bytes ≡ Some ds)
+members_are s bytes es h = some_list (array_of bytes) (some_members s bytes es h)
+
+pub items_are : (bytes : List ℕ) → items_of bytes ≡ array_of bytes
+unfolding array_of
+items_are bytes = refl
 
 pub entities_loaded : (schema : StatedSchema) (n : List ℕ) (s t : Store) (bytes : List ℕ) (es : List Entity) (xs : List Data) (r : Result ⊤ Refusal) → entities_of schema bytes ≡ Ok es
     → items_of bytes ≡ Some xs → OnOk r (AcceptsAll schema n s (map entity_put xs) t) → OnOk r (LoadsEntities schema n s bytes t)
@@ -154,7 +153,7 @@ entities_loaded schema n s t bytes es xs (Ok done) read array puts = record { en
 entities_loaded schema n s t bytes es xs (Err e) read array puts = tt
 
 pub entities_refused : (schema : StatedSchema) (n : List ℕ) (s : Store) (bytes : List ℕ) (es : List Entity) (xs : List Data) (r : Result ⊤ Refusal) → entities_of schema bytes ≡ Ok es
-    → items_of bytes ≡ Some xs → IfErr r (OrNoMemory (RefusesFirst schema n s 0 (map entity_put xs))) → IfErr r (OrNoMemory (RefusesEntities schema n s bytes))
+    → items_of bytes ≡ Some xs → IfErr r (OrNoMemory no_memory (RefusesFirst schema n s 0 (map entity_put xs))) → IfErr r (OrNoMemory no_memory (RefusesEntities schema n s bytes))
 entities_refused schema n s bytes es xs (Ok done) read array puts = tt
 entities_refused schema n s bytes es xs (Err e) read array puts = λ other. by_stored es xs read array (puts other)
 
@@ -166,7 +165,7 @@ alike a b P same h = subst (λ (x : StatedSchema). P x a.name) (ap schema_view s
 
 -- the entities are refused, behind policies that were put
 pub refused_behind : (a b : Seen) (ps es : Option (List ℕ)) (r : Refusal) → IsSameSite a b → LoadsIfNamed (LoadsPolicies (schema_of a) a.name) (store_in a) ps (store_in b)
-    → OrNoMemory (RefusesIfNamed (RefusesEntities (schema_of b) b.name) (store_in b) es) r → OrNoMemory (IsRefused (schema_of a) a.name (store_in a) ps es) r
+    → OrNoMemory no_memory (RefusesIfNamed (RefusesEntities (schema_of b) b.name) (store_in b) es) r → OrNoMemory no_memory (IsRefused (schema_of a) a.name (store_in a) ps es) r
 refused_behind a b ps es r same loads refused = λ other. by_entities (store_in b) loads
     (alike a b (λ (x : StatedSchema) (n : List ℕ). RefusesIfNamed (RefusesEntities x n) (store_in b) es r) same (refused other))
 

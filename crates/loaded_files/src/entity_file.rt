@@ -1,14 +1,17 @@
 //! The entities of an array, each put in its turn.
-ghost use Rattle.std.specs.Prelude.{map, IfErr, OnOk};
+ghost use Rattle.std.specs.Prelude.{◌≡◌, ◌<◌, ◌^◌, List, length, map, Some, IfErr, OnOk};
+ghost use Rattle.serde_json.specs.Data.{Data};
 ghost use Rattle.serde_json.specs.View.{view};
+ghost use Rattle.json_values.specs.Arrays.{to_come};
 ghost use Rattle.site.specs.Seen.{schema_of, store_in, IsSameSite};
-ghost use Rattle.schema_decisions.specs.Refusals.{OrNoMemory};
+ghost use Rattle.policy_grammar.specs.PolicyText.{OrNoMemory};
+ghost use Rattle.decision_texts.specs.Refusals.{no_memory};
 ghost use Rattle.loaded_files.specs.Puts.{entity_put, Accepts, AcceptsAll, RefusesAt, RefusesFirst};
 ghost use Rattle.loaded_files.specs.Loads.{LoadsEntities, RefusesEntities};
 
 use crate::refusal::put_refusal;
 use decision_texts::Refusal;
-use json_words::read_json;
+use json_values::{Member, Members, Scratch, members_of};
 use schema_decisions::judge_entities;
 use serde_json::Value;
 use site::Site;
@@ -18,7 +21,8 @@ use std::alloc::Global;
 fn put_entity(site: &mut Site, place: usize, value: &Value) -> Result<(), Refusal>
     ensures accepted { OnOk result (Accepts (schema_of site.old) site.old.name (store_in site.old)
         (entity_put (view value.now)) (store_in site.new)) }
-    ensures refused { IfErr result (OrNoMemory (RefusesAt (schema_of site.old) site.old.name (store_in site.old)
+    ensures refused { IfErr result (OrNoMemory no_memory
+        (RefusesAt (schema_of site.old) site.old.name (store_in site.old)
         place (entity_put (view value.now)))) }
     ensures same { IsSameSite site.old site.new }
 {
@@ -28,38 +32,45 @@ fn put_entity(site: &mut Site, place: usize, value: &Value) -> Result<(), Refusa
     }
 }
 
-/// Puts the entities that these values state, in their order, up to the first that is refused.
-fn put_each(site: &mut Site, values: &[Value]) -> Result<(), Refusal>
-    ensures accepted { OnOk result (AcceptsAll (schema_of site.old) site.old.name (store_in site.old)
-        (map entity_put (map view values.now)) (store_in site.new)) }
-    ensures refused { IfErr result (OrNoMemory (RefusesFirst (schema_of site.old) site.old.name (store_in site.old) 0
-        (map entity_put (map view values.now)))) }
+/// Puts the entities that are still to come of an array, in their order, up to the first that is refused.
+fn put_each(alloc: Global, site: &mut Site, members: &mut Members<'_>) -> Result<(), Refusal>
+    requires few { length members.old.reader < 2 ^ 63 }
+    requires json { (ds : List Data) × (to_come members.old ≡ Some ds) }
+    ensures accepted { (ds : List Data) → to_come members.old ≡ Some ds →
+        OnOk result (AcceptsAll (schema_of site.old) site.old.name (store_in site.old) (map entity_put ds)
+        (store_in site.new)) }
+    ensures refused { (ds : List Data) → to_come members.old ≡ Some ds →
+        IfErr result (OrNoMemory no_memory (RefusesFirst (schema_of site.old) site.old.name (store_in site.old) 0
+        (map entity_put ds))) }
     ensures same { IsSameSite site.old site.new }
 {
-    for (place, value) in values.iter().enumerate() {
-        put_entity(site, place, value)?;
+    let mut place = 0;
+    'members: loop {
+        match members.next(alloc)? {
+            Member::Value(value) => put_entity(site, place, &value)?,
+            Member::End => return Ok(()),
+            Member::NotJson => unreachable!(),
+        }
+        place += 1;
     }
-    Ok(())
 }
 
 /// Puts the entities of an array, each in its turn.
 ///
 /// Refused in this order: the array, as it is read where a request is decided (30 to 38, at the entity's place in the
 /// array, from 0, or 30 without a place where there is no array); then the first put that is refused, at the entity's
-/// place.
+/// place. The array is read twice, one member's JSON at a time.
 pub(crate) fn load_entities(alloc: Global, site: &mut Site, bytes: &[u8]) -> Result<(), Refusal>
     ensures loaded { OnOk result (LoadsEntities (schema_of site.old) site.old.name (store_in site.old) bytes.now
         (store_in site.new)) }
-    ensures refused { IfErr result (OrNoMemory (RefusesEntities (schema_of site.old) site.old.name
+    ensures refused { IfErr result (OrNoMemory no_memory (RefusesEntities (schema_of site.old) site.old.name
         (store_in site.old) bytes.now)) }
     ensures same { IsSameSite site.old site.new }
 {
     judge_entities(alloc, site.schema(), bytes)?;
-    let Some(value) = read_json(alloc, bytes)? else {
+    let mut scratch = Scratch::new(alloc);
+    let Some(mut members) = members_of(&mut scratch, bytes)? else {
         unreachable!();
     };
-    let Some(values) = value.as_array() else {
-        unreachable!();
-    };
-    put_each(site, values)
+    put_each(alloc, site, &mut members)
 }

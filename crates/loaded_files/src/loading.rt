@@ -1,7 +1,8 @@
 //! The state of a site that files are put into.
 ghost use Rattle.std.specs.Prelude.{◌≡◌, option_map, IfOk, IfErr, OnOk};
 ghost use Rattle.site.specs.Seen.{schema_of, store_in, IsSameSite};
-ghost use Rattle.schema_decisions.specs.Refusals.{OrNoMemory};
+ghost use Rattle.policy_grammar.specs.PolicyText.{OrNoMemory};
+ghost use Rattle.decision_texts.specs.Refusals.{no_memory};
 ghost use Rattle.loaded_files.specs.Loads.{IsLoadedState, IsRefused, LoadsIfNamed, RefusesIfNamed};
 ghost use Rattle.loaded_files.specs.Loads.{LoadsPolicies, RefusesPolicies, LoadsEntities, RefusesEntities};
 
@@ -20,7 +21,7 @@ fn load_policies_if_named(
     ensures loaded { OnOk result (LoadsIfNamed
         (LoadsPolicies (schema_of site.old) site.old.name) (store_in site.old) (option_map (λ b. b.now) bytes.entry)
         (store_in site.new)) }
-    ensures refused { IfErr result (OrNoMemory (RefusesIfNamed
+    ensures refused { IfErr result (OrNoMemory no_memory (RefusesIfNamed
         (RefusesPolicies (schema_of site.old) site.old.name) (store_in site.old)
         (option_map (λ b. b.now) bytes.entry))) }
     ensures same { IsSameSite site.old site.new }
@@ -40,7 +41,7 @@ fn load_entities_if_named(
     ensures loaded { OnOk result (LoadsIfNamed
         (LoadsEntities (schema_of site.old) site.old.name) (store_in site.old) (option_map (λ b. b.now) bytes.entry)
         (store_in site.new)) }
-    ensures refused { IfErr result (OrNoMemory (RefusesIfNamed
+    ensures refused { IfErr result (OrNoMemory no_memory (RefusesIfNamed
         (RefusesEntities (schema_of site.old) site.old.name) (store_in site.old)
         (option_map (λ b. b.now) bytes.entry))) }
     ensures same { IsSameSite site.old site.new }
@@ -67,7 +68,7 @@ pub fn loaded_state(
 ) -> Result<Vec<u8>, Refusal>
     ensures loaded { IfOk result (λ b. IsLoadedState (schema_of site) site.name (store_in site)
         (option_map (λ p. p.now) policies.entry) (option_map (λ e. e.now) entities.entry) b.items) }
-    ensures refused { IfErr result (OrNoMemory (IsRefused (schema_of site) site.name (store_in site)
+    ensures refused { IfErr result (OrNoMemory no_memory (IsRefused (schema_of site) site.name (store_in site)
         (option_map (λ p. p.now) policies.entry) (option_map (λ e. e.now) entities.entry))) }
 {
     let mut site = site;

@@ -2,7 +2,8 @@
 ghost use Rattle.std.specs.Prelude.{◌≡◌, length, map, string_bytes, IfOk, IfErr, OnOk};
 ghost use Rattle.policy_files.specs.Cuts.{AreTextsOf};
 ghost use Rattle.site.specs.Seen.{schema_of, store_in, IsSameSite};
-ghost use Rattle.schema_decisions.specs.Refusals.{OrNoMemory};
+ghost use Rattle.policy_grammar.specs.PolicyText.{OrNoMemory};
+ghost use Rattle.decision_texts.specs.Refusals.{no_memory};
 ghost use Rattle.loaded_files.specs.Puts.{policy_put, Accepts, AcceptsAll, RefusesAt, RefusesFirst};
 ghost use Rattle.loaded_files.specs.Loads.{policy_puts, LoadsPolicies, RefusesPolicies};
 ghost use Rattle.loaded_files.specs.inner.Steps.{HasTokens};
@@ -20,7 +21,8 @@ use std::alloc::Global;
 fn put_policy(site: &mut Site, place: usize, id: &str, text: &str) -> Result<(), Refusal>
     ensures accepted { OnOk result (Accepts (schema_of site.old) site.old.name (store_in site.old)
         (policy_put id.now text.now) (store_in site.new)) }
-    ensures refused { IfErr result (OrNoMemory (RefusesAt (schema_of site.old) site.old.name (store_in site.old)
+    ensures refused { IfErr result (OrNoMemory no_memory
+        (RefusesAt (schema_of site.old) site.old.name (store_in site.old)
         place (policy_put id.now text.now))) }
     ensures same { IsSameSite site.old site.new }
 {
@@ -51,7 +53,8 @@ fn put_each(site: &mut Site, policies: &[(String, Policy)], texts: &[&str]) -> R
     requires { length texts.now ≡ length policies.now }
     ensures accepted { OnOk result (AcceptsAll (schema_of site.old) site.old.name (store_in site.old)
         (policy_puts (map (λ p. string_bytes p.0) policies.now) (map (λ t. t.now) texts.now)) (store_in site.new)) }
-    ensures refused { IfErr result (OrNoMemory (RefusesFirst (schema_of site.old) site.old.name (store_in site.old) 0
+    ensures refused { IfErr result (OrNoMemory no_memory
+        (RefusesFirst (schema_of site.old) site.old.name (store_in site.old) 0
         (policy_puts (map (λ p. string_bytes p.0) policies.now) (map (λ t. t.now) texts.now)))) }
     ensures same { IsSameSite site.old site.new }
 {
@@ -68,7 +71,7 @@ fn put_each(site: &mut Site, policies: &[(String, Policy)], texts: &[&str]) -> R
 pub(crate) fn load_policies(alloc: Global, site: &mut Site, bytes: &[u8]) -> Result<(), Refusal>
     ensures loaded { OnOk result (LoadsPolicies (schema_of site.old) site.old.name (store_in site.old) bytes.now
         (store_in site.new)) }
-    ensures refused { IfErr result (OrNoMemory (RefusesPolicies (schema_of site.old) site.old.name
+    ensures refused { IfErr result (OrNoMemory no_memory (RefusesPolicies (schema_of site.old) site.old.name
         (store_in site.old) bytes.now)) }
     ensures same { IsSameSite site.old site.new }
 {

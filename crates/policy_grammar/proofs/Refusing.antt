@@ -21,27 +21,17 @@ pub names-long : (text : List ℕ) (trees : List PolicyTree) (names : List (List
 names-long text trees names named =
     AllZip-long (λ (placed : ℕ × PolicyTree). IsNameOf text placed.0 placed.1) (enumerate_from 0 trees) names named ∙ length-enumerate_from 0 trees
 
-policy-why : (text : List ℕ) (tree : PolicyTree) → Derives (grammar.policy nesting_limit) most_policy_bytes text tree → (why : ReadFault) → OrNoMemory (HasNoPolicy text tree) why →
-    OrNoMemory (IsPolicyRefused text) why
-policy-why text tree derives fault.NoMemory none = tt
-policy-why text tree derives _ none = inr (tree, derives, none)
-
 pub policy_refused : {A : Type 0} (text : List ℕ) (tree : PolicyTree) → Derives (grammar.policy nesting_limit) most_policy_bytes text tree → (r : Result A ReadFault) →
-    IfErr r (OrNoMemory (HasNoPolicy text tree)) → IfErr r (OrNoMemory (IsPolicyRefused text))
+    IfErr r (OrNoMemory fault.NoMemory (HasNoPolicy text tree)) → IfErr r (OrNoMemory fault.NoMemory (IsPolicyRefused text))
 policy_refused text tree derives (Ok x) none = tt
-policy_refused text tree derives (Err why) none = policy-why text tree derives why none
+policy_refused text tree derives (Err why) none = λ other. inr (tree, derives, none other)
 
 pub policy_read : (text : List ℕ) (tree : PolicyTree) → Derives (grammar.policy nesting_limit) most_policy_bytes text tree → (r : Result Policy ReadFault) →
     IfOk r (IsPolicyOf text tree) → IfOk r (IsPolicyText text)
 policy_read text tree derives (Ok policy) is = record { tree = tree; derives = derives; is = is }
 policy_read text tree derives (Err why) is = tt
 
-file-why : (text : List ℕ) (trees : List PolicyTree) (names : List (List ℕ)) → Derives (grammar.policies nesting_limit) most_file_bytes text trees → AreNamesOf text trees names →
-    (why : ReadFault) → OrNoMemory (HaveNoPolicies text trees names) why → OrNoMemory (IsFileRefused text) why
-file-why text trees names derives named fault.NoMemory none = tt
-file-why text trees names derives named _ none = inr (trees, names, derives, named, none)
-
 pub file-refused : {A : Type 0} (text : List ℕ) (trees : List PolicyTree) (names : List (List ℕ)) → Derives (grammar.policies nesting_limit) most_file_bytes text trees →
-    AreNamesOf text trees names → (r : Result A ReadFault) → IfErr r (OrNoMemory (HaveNoPolicies text trees names)) → IfErr r (OrNoMemory (IsFileRefused text))
+    AreNamesOf text trees names → (r : Result A ReadFault) → IfErr r (OrNoMemory fault.NoMemory (HaveNoPolicies text trees names)) → IfErr r (OrNoMemory fault.NoMemory (IsFileRefused text))
 file-refused text trees names derives named (Ok x) none = tt
-file-refused text trees names derives named (Err why) none = file-why text trees names derives named why none
+file-refused text trees names derives named (Err why) none = λ other. inr (trees, names, derives, named, none other)

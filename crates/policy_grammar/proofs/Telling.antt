@@ -9,12 +9,10 @@ use Rattle.desugaring.specs.declared.measure.Measure.{Measure}
 use Rattle.desugaring.specs.Measured.{of}
 use Rattle.desugaring.specs.Refused.{earlier_of, least, LeastOfBoth}
 use Rattle.desugaring.specs.Repeats.{repeat_faults}
-use Rattle.text_trees.specs.declared.fault.ReadFault.{ReadFault}
-use Rattle.text_trees.specs.declared.fault.ReadFault.TheVariants as fault
 use Rattle.policy_grammar.specs.declared.verdict.Verdict.{Verdict}
 use Rattle.policy_grammar.specs.Conditions.{conditions_of, condition_faults}
 use Rattle.policy_grammar.specs.Limits.{IsSmallOver, IsSmallTree}
-use Rattle.policy_grammar.specs.PolicyText.{tree_faults, file_faults, OrNoMemory}
+use Rattle.policy_grammar.specs.PolicyText.{tree_faults, file_faults}
 use Rattle.policy_grammar.specs.Repeats.{annotation_keys, policy_names}
 use Rattle.policy_grammar.specs.inner.Parts.{ReportsPolicy, ReportsFile}
 use Rattle.policy_grammar.proofs.Lists.{all-left, all-right}
@@ -67,7 +65,3 @@ pub told-file : LeastOfBoth → (text : List ℕ) (trees : List PolicyTree) (nam
 told-file both text trees names repeat verdict told again tells is =
     is ∙ ap (λ o. earlier_of o verdict.fault) again ∙ ap (earlier_of (least (repeat_faults (policy_names names trees)))) tells.fault
     ∙ sym (both (repeat_faults (policy_names names trees)) (flat_map (tree_faults text) trees))
-
-pub or_no_memory : (Refused : ReadFault → Type 0) (why : ReadFault) → Refused why → OrNoMemory Refused why
-or_no_memory Refused fault.NoMemory refused = tt
-or_no_memory Refused _ refused = refused

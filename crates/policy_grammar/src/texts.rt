@@ -2,6 +2,7 @@
 ghost use Rattle.std.specs.Prelude.{IfOk, IfErr, map, string_bytes};
 ghost use Rattle.std.specs.List.{AllByRecursion};
 ghost use Rattle.policy_syntax.specs.WellFormed.{WellFormedPolicy};
+ghost use Rattle.text_trees.specs.declared.fault.ReadFault.TheVariants as ReadFault;
 ghost use Rattle.policy_grammar.specs.CoreOf.{AreNamesOf};
 ghost use Rattle.policy_grammar.specs.PolicyText.{IsUidText, IsPolicyOf, HasNoPolicy, ArePoliciesOf};
 ghost use Rattle.policy_grammar.specs.PolicyText.{HaveNoPolicies};
@@ -29,7 +30,7 @@ use values::EntityUid;
 /// text; then `Unexpected` or `Slot`, the first met from the left.
 pub fn parse_uid(alloc: Global, text: &str) -> Result<EntityUid, ReadFault>
     ensures read { IfOk result (IsUidText text.now) }
-    ensures refused { IfErr result (OrNoMemory (IsUidRefused text.now)) }
+    ensures refused { IfErr result (OrNoMemory ReadFault.NoMemory (IsUidRefused text.now)) }
 {
     let tree = uid_tree(alloc, text)?;
     Ok(uid_of(alloc, text, &tree)?)
@@ -39,7 +40,7 @@ pub fn parse_uid(alloc: Global, text: &str) -> Result<EntityUid, ReadFault>
 fn policy_of(alloc: Global, text: &str, tree: &PolicyTree) -> Result<Policy, ReadFault>
     requires { IsBuiltFrom text.now (λ tokens. WellFormedPolicy tokens tree.now) }
     ensures read { IfOk result (IsPolicyOf text.now tree.now) }
-    ensures refused { IfErr result (OrNoMemory (HasNoPolicy text.now tree.now)) }
+    ensures refused { IfErr result (OrNoMemory ReadFault.NoMemory (HasNoPolicy text.now tree.now)) }
 {
     least_fault_is_told();
     let verdict = judge_policy(alloc, text, tree)?;
@@ -63,7 +64,7 @@ fn policy_of(alloc: Global, text: &str, tree: &PolicyTree) -> Result<Policy, Rea
 /// Source: Cedar reference guide 4.0, "Grammar specification for Cedar policy syntax" and "Basic policy construction".
 pub fn parse_policy(alloc: Global, text: &str) -> Result<Policy, ReadFault>
     ensures read { IfOk result (IsPolicyText text.now) }
-    ensures refused { IfErr result (OrNoMemory (IsPolicyRefused text.now)) }
+    ensures refused { IfErr result (OrNoMemory ReadFault.NoMemory (IsPolicyRefused text.now)) }
 {
     let tree = policy_tree(alloc, text)?;
     let made = policy_of(alloc, text, &tree);
@@ -82,7 +83,7 @@ fn policies_of(
     ensures read { IfOk result
         (λ named. ArePoliciesOf text.now trees.now
         (map (λ p. string_bytes p.0) named.items) (map (λ p. p.1) named.items)) }
-    ensures refused { IfErr result (OrNoMemory (HaveNoPolicies text.now trees.now names.items)) }
+    ensures refused { IfErr result (OrNoMemory ReadFault.NoMemory (HaveNoPolicies text.now trees.now names.items)) }
 {
     least_fault_is_told();
     let repeat = repeated_name(alloc, text, &names, trees)?;
@@ -111,7 +112,7 @@ fn policies_of(
 pub fn parse_policies(alloc: Global, text: &str) -> Result<Vec<(String, Policy)>, ReadFault>
     ensures read { IfOk result
         (λ named. IsPolicyFile text.now (map (λ p. string_bytes p.0) named.items) (map (λ p. p.1) named.items)) }
-    ensures refused { IfErr result (OrNoMemory (IsFileRefused text.now)) }
+    ensures refused { IfErr result (OrNoMemory ReadFault.NoMemory (IsFileRefused text.now)) }
 {
     let trees = policy_trees(alloc, text)?;
     let names = names_of(alloc, text, &trees)?;

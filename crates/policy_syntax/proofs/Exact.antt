@@ -9,7 +9,7 @@ use Rattle.policy_syntax.specs.inner.Parsing.{policy_firsts}
 use Rattle.token_readers.specs.ParsesTo.{ParsesTo}
 use Rattle.token_readers.specs.Reads.{HasOneTree, HasOneAnswerWithin, OpensNextLevel, ReadsWithin, whole_of}
 use Rattle.token_readers.proofs.Steps.{none}
-use Rattle.policy_syntax.proofs.ScopeRules.{policy_rule, alive_policy, policies_rule, alive_policies}
+use Rattle.policy_syntax.proofs.PolicyRules.{policy_rule, alive_policy, policies_rule, alive_policies}
 use Rattle.expression_syntax.specs.Expressions.{nesting_limit}
 use Rattle.token_readers.specs.Lang.{at_any}
 use Rattle.token_readers.proofs.Depths as depths

@@ -4,6 +4,7 @@ use Rattle.std.specs.Prelude.{Contains, IsTrue, IsSome, ◌↔◌, option_map}
 use Rattle.std.specs.BTreeMap.{BTreeMap, get, keys, IsOrdered}
 use Rattle.std.specs.Map.{keys_of}
 use Rattle.std.specs.List.Sorted.{IsStrictlySortedBy}
+use Rattle.std.proofs.lemmas.List.Kept.{IsStrictlySortedBy-filter}
 use Rattle.std.proofs.lemmas.Map.Views.{btree_map_contains_key_iff, btree_map_get_iff}
 use Rattle.values.specs.declared.entity_uid.EntityUid.{EntityUid}
 use Rattle.values.specs.Names.{uid_cmp, text_cmp, uid_cmp-IsTotalOrder, uid_cmp-IsAntisymmetric}
@@ -24,14 +25,16 @@ use Rattle.schema_names.specs.Laws.{IsEntityType, NamesItsEntityTypes}
 use Rattle.schema.specs.Schemas.{EnvironmentOf, Answers, IsSound, IsSchemaOf, IsShape, IsAction, IsEnvironment, IsPlace, IsRecordOf, action_parents, type_parents, type_uid, place_cmp}
 use Rattle.schema.specs.SchemaEntries.{kept}
 use Rattle.schema_parts.specs.Places.{environment_of}
-use Rattle.schema_parts.specs.LookUps.{is_numbered_at, stands_below, is_above}
-use Rattle.schema.specs.Views.{environment_view, schema_view}
+use Rattle.schema_parts.specs.LookUps.{is_numbered_at, stands_below, is_above, stands_below_action, is_action_above}
+use Rattle.schema.specs.Views.{environment_view, schema_view, above_in}
 use Rattle.schema.specs.declared.type_numbers.TypeNumbers.{TypeNumbers}
 use Rattle.schema.specs.inner.Numbering.{AreNumbers}
-use Rattle.schema.specs.inner.Making.{shape_in, Places, AreShapes, ArePlaces, AreAncestors}
+use Rattle.schema.specs.inner.Making.{shape_in, Places, AreShapes, ArePlaces, AreMembers}
 use Rattle.schema.specs.inner.Reading.{AreTypesOf, AreHierarchiesOf}
 use Rattle.schema.proofs.PlaceLemmas.{place_cmp-IsTotalOrder, place_cmp-IsAntisymmetric}
-use Rattle.schema.proofs.HierarchyLemmas.{contains_map, above_declared, below_declared}
+use Rattle.schema.proofs.HierarchyLemmas.{contains_map, last_edge, action_edge, above_declared, below_declared}
+use Rattle.schema.proofs.NameLemmas.{AreNamed, names_of}
+use Rattle.schema.proofs.AboveLemmas.{passes, stays}
 
 some_of : {A : Type 0} (o : Option A) → IsSome o → (x : A) × (o ≡ Some x)
 some_of None h = absurd cc
@@ -68,20 +71,74 @@ module _ (s : FoundSchema) (shapes : BTreeMap (List ℕ) EntityDecl) (are : AreS
 
 -- ---- actions
 
-module _ (s : FoundSchema) (ancestors : BTreeMap EntityUid (List EntityUid)) (are : AreAncestors (action_parents s) s.actions ancestors) where
-  pub ancestors_found : (u : EntityUid) (us : List EntityUid) → get uid_cmp ancestors u ≡ Some us → IsAction s u × IsAscending us × IsAllAbove (action_parents s) u us
-  ancestors_found u us e = elim (are.sound u us e) [
-    | inl m ↦ ((m.0, m.1, m.2.0), m.2.1, m.2.2)
+module _ (s : FoundSchema) (members : BTreeMap EntityUid (List EntityUid)) (are : AreMembers (action_parents s) s.actions members) where
+  pub members_found : (u : EntityUid) (us : List EntityUid) → get uid_cmp members u ≡ Some us → IsAction s u × (us ≡ action_parents s u)
+  members_found u us e = elim (are.sound u us e) [
+    | inl m ↦ ((m.0, m.1, m.2.0), m.2.1)
     | inr none ↦ not_none us none
   ]
 
-  pub ancestors_there : (u : EntityUid) → IsAction s u → IsSome (get uid_cmp ancestors u)
-  ancestors_there u a = are.all u a
+  pub members_there : (u : EntityUid) → IsAction s u → IsSome (get uid_cmp members u)
+  members_there u a = are.all u a
 
-  pub actions_are : (u : EntityUid) → Contains (keys ancestors) u ↔ IsAction s u
+  pub actions_are : (u : EntityUid) → Contains (keys members) u ↔ IsAction s u
   actions_are u =
-      let iff = btree_map_contains_key_iff uid_cmp-IsTotalOrder uid_cmp-IsAntisymmetric ancestors u in
-      ((λ h. let at = some_of (get uid_cmp ancestors u) (iff.1 h) in (ancestors_found u at.0 at.1).0), (λ a. iff.0 (ancestors_there u a)))
+      let iff = btree_map_contains_key_iff uid_cmp-IsTotalOrder uid_cmp-IsAntisymmetric members u in
+      ((λ h. let at = some_of (get uid_cmp members u) (iff.1 h) in (members_found u at.0 at.1).0), (λ a. iff.0 (members_there u a)))
+
+-- ---- actions above actions
+
+module _ (s : FoundSchema) (called : AreNamed s) (h : Hierarchies) (are : AreHierarchiesOf s h) where
+  abbrev at : EntityUid → Option ℕ
+  at u = get uid_cmp h.above.numbers u
+
+  action_listed : (u : EntityUid) → IsAction s u → Contains h.actions u
+  action_listed u a = subst (λ (us : List EntityUid). Contains us u) (sym are.actions) ((actions_are s h.members are.members u).1 a)
+
+  listed_action : (u : EntityUid) → Contains h.actions u → IsAction s u
+  listed_action u c = (actions_are s h.members are.members u).0 (subst (λ (us : List EntityUid). Contains us u) are.actions c)
+
+  action_numbered : {G : Type 0} (u : EntityUid) → at u ≡ None → IsAction s u → G
+  action_numbered u e a = is_none (at u) e (are.numbered u (action_listed u a))
+
+  -- what is above an action is a parent of one
+  above_is_action : (u w : EntityUid) → Above (action_parents s) w u → IsAction s w
+  above_is_action u w above =
+      let last = last_edge (action_parents s) u above.0 w above.1 in
+      let edge = action_edge s.actions last.0 w last.1 in
+      called.parents edge.0 edge.1 w edge.2
+
+  below_at : (u w : EntityUid) (i : ℕ) → at u ≡ Some i → (o : Option ℕ) → at w ≡ o → IsTrue (is_numbered_at h.above.spans i o) ↔ Above (action_parents s) w u
+  below_at u w i e None f = ((λ t. cc), (λ above. action_numbered w f (above_is_action u w above)))
+  below_at u w i e (Some j) f = are.above u w i j e f
+
+  above_told : (u w : EntityUid) → IsAction s u → (o : Option ℕ) → at u ≡ o
+      → IsTrue (stands_below_action h.above.numbers.entries h.above.spans o w) ↔ Above (action_parents s) w u
+  above_told u w a None e = ((λ t. cc), (λ above. action_numbered u e a))
+  above_told u w a (Some i) e = below_at u w i e (at w) refl
+
+  abbrev those_above : EntityUid → List EntityUid
+  those_above u = above_in h.actions h.above.numbers.entries h.above.spans u
+
+  those_ascend : (u : EntityUid) → IsAscending (those_above u)
+  those_ascend u = IsStrictlySortedBy-filter uid_cmp (λ w. is_action_above h.above.numbers.entries h.above.spans u w) h.actions
+      (subst (λ (us : List EntityUid). IsAscending us) (sym are.actions) are.ascending)
+
+  all_those : (u : EntityUid) → IsAction s u → IsAllAbove (action_parents s) u (those_above u)
+  all_those u a w =
+      let told = above_told u w a (at u) refl in
+      let test = λ (x : EntityUid). is_action_above h.above.numbers.entries h.above.spans u x in
+      ((λ c. told.0 (passes test h.actions w c).1), (λ above. stays test h.actions w (action_listed w (above_is_action u w above)) (told.1 above)))
+
+  pub ancestors_found : (u : EntityUid) (us : List EntityUid) → option_map (λ parents. those_above u) (get uid_cmp h.members u) ≡ Some us
+      → IsAction s u × IsAscending us × IsAllAbove (action_parents s) u us
+  ancestors_found u us e =
+      let x = from_map (λ (parents : List EntityUid). those_above u) (get uid_cmp h.members u) us e in
+      let a = (members_found s h.members are.members u x.0 x.1).0 in
+      (a, subst (λ (xs : List EntityUid). IsAscending xs) x.2 (those_ascend u), subst (λ (xs : List EntityUid). IsAllAbove (action_parents s) u xs) x.2 (all_those u a))
+
+  pub ancestors_there : (u : EntityUid) → IsAction s u → IsSome (option_map (λ parents. those_above u) (get uid_cmp h.members u))
+  ancestors_there u a = map_some (λ (parents : List EntityUid). those_above u) (get uid_cmp h.members u) (members_there s h.members are.members u a)
 
 -- ---- types above types
 
@@ -139,15 +196,17 @@ module _ (s : FoundSchema) (places : Places) (are : ArePlaces s.commons s.action
 
 -- ---- all together
 
-made_answers : (s : FoundSchema) → NamesItsEntityTypes s → (label : List ℕ) (t : Types) (h : Hierarchies) → AreTypesOf s.commons s t → AreHierarchiesOf s h
-    → Answers s (schema_view (kept label t.environments h.actions t.shapes h.ancestors h.types.numbers h.types.spans))
-made_answers s own label t h types hierarchies = record {
+made_answers : (s : FoundSchema) → NamesItsEntityTypes s → AreNamed s → (label : List ℕ) (t : Types) (h : Hierarchies) → AreTypesOf s.commons s t → AreHierarchiesOf s h
+    → Answers s (schema_view (kept label t.environments h.actions t.shapes h.members h.above.numbers h.above.spans h.types.numbers h.types.spans))
+made_answers s own called label t h types hierarchies = record {
   shapes = shape_found s t.shapes types.shapes;
   all_shapes = shape_there s t.shapes types.shapes;
-  actions = λ u. subst (λ (us : List EntityUid). Contains us u ↔ IsAction s u) (sym hierarchies.actions) (actions_are s h.ancestors hierarchies.ancestors u);
+  actions = λ u. subst (λ (us : List EntityUid). Contains us u ↔ IsAction s u) (sym hierarchies.actions) (actions_are s h.members hierarchies.members u);
   actions_ascend = subst (λ (us : List EntityUid). IsAscending us) (sym hierarchies.actions) hierarchies.ascending;
-  ancestors = ancestors_found s h.ancestors hierarchies.ancestors;
-  all_ancestors = ancestors_there s h.ancestors hierarchies.ancestors;
+  member_of = members_found s h.members hierarchies.members;
+  all_member_of = members_there s h.members hierarchies.members;
+  ancestors = ancestors_found s called h hierarchies;
+  all_ancestors = ancestors_there s called h hierarchies;
   parents = parents_are s own h.types hierarchies.types;
   environments = subst (λ (es : List Environment). (e : EnvironmentOf) → Contains (map environment_view es) e → IsEnvironment s e) (sym types.environments) (environments_are s types.places types.are types.ordered);
   all_environments = subst (λ (es : List Environment). (p : Place) → IsPlace s p → Contains (map (λ e. e.place) (map environment_view es)) p) (sym types.environments) (all_environments s types.places types.are types.ordered);
@@ -156,11 +215,11 @@ made_answers s own label t h types hierarchies = record {
 
 -- what was made is the schema that the bytes state
 pub made_schema : (bytes : List ℕ) (s : FoundSchema) → StatesNamed bytes s → NamesItsEntityTypes s → IsSound s → (label : List ℕ) → label ≡ encode_lower (sha256 bytes) → (t : Types) (h : Hierarchies)
-    → AreTypesOf s.commons s t → AreHierarchiesOf s h → IsSchemaOf bytes (schema_view (kept label t.environments h.actions t.shapes h.ancestors h.types.numbers h.types.spans))
+    → AreTypesOf s.commons s t → AreHierarchiesOf s h → IsSchemaOf bytes (schema_view (kept label t.environments h.actions t.shapes h.members h.above.numbers h.above.spans h.types.numbers h.types.spans))
 made_schema bytes s states own sound label is t h types hierarchies = record {
   named = s;
   states = states;
   sound = sound;
   label = is;
-  answers = made_answers s own label t h types hierarchies;
+  answers = made_answers s own (names_of bytes s states) label t h types hierarchies;
 }

@@ -232,6 +232,17 @@ module _ (s : FoundSchema) (sound : IsSound s) where
     ancestors_there u true h = refl
     ancestors_there u false h = cc h
 
+    abbrev member_of_in : EntityUid → Option (List EntityUid)
+    member_of_in u = cond (is_action u) (Some (action_parents s u)) None
+
+    member_of_found : (u : EntityUid) (us : List EntityUid) (b : Bool) → is_action u ≡ b → cond b (Some (action_parents s u)) None ≡ Some us → IsAction s u × (us ≡ action_parents s u)
+    member_of_found u us true is e = (told_action u is, sym (list_same (action_parents s u) us e))
+    member_of_found u us false is e = absurd cc
+
+    member_of_there : (u : EntityUid) (b : Bool) → IsTrue b → IsSome (cond b (Some (action_parents s u)) None)
+    member_of_there u true h = refl
+    member_of_there u false h = cc h
+
     abbrev actions_in_order : List EntityUid
     actions_in_order = in_order uid_cmp (λ u. u) uids
 
@@ -244,6 +255,7 @@ module _ (s : FoundSchema) (sound : IsSound s) where
       environments = environments_in_order;
       actions = actions_in_order;
       shape = shape_at s.entity_types made_shapes;
+      member_of = member_of_in;
       ancestors = ancestors_of;
       may_have_parent = λ child parent. reaches (type_parents s) (map (λ e. type_uid e.name) s.entity_types) (type_uid parent) (type_uid child);
     }
@@ -265,6 +277,8 @@ module _ (s : FoundSchema) (sound : IsSound s) where
         (λ a. subst (λ (us : List EntityUid). Contains us u) (map_same actions_in_order) (all_in_order uid_cmp (λ w. w) uid_cmp-IsTotalOrder uid_cmp-IsAntisymmetric uids u (action_to u a))),
       );
       actions_ascend = subst (λ (us : List EntityUid). IsStrictlySortedBy uid_cmp us) (map_same actions_in_order) (in_order_ascends uid_cmp (λ w. w) uid_cmp-IsTotalOrder uid_cmp-IsAntisymmetric uids);
+      member_of = λ u us e. member_of_found u us (is_action u) refl e;
+      all_member_of = λ u a. member_of_there u (is_action u) (action_told u a);
       ancestors = λ u us e. ancestors_found u us (is_action u) refl e;
       all_ancestors = λ u a. ancestors_there u (is_action u) (action_told u a);
       parents = λ child parent. decided (type_parents s) (map (λ e. type_uid e.name) s.entity_types) (types_stored s.entity_types) (type_uid parent) (type_uid child);

@@ -1,3 +1,4 @@
+mod AboveLemmas
 mod AnswersLemmas
 mod BuiltLemmas
 mod FillingLemmas

@@ -172,6 +172,12 @@ module _ (one : OneWritten) (lists : AscendingListsAreOne) (s : FoundSchema) (on
         let same = apart_same (λ (z : FoundEntityType). z.name) s.entity_types once.entity_types x.0 y.0 x.1 y.1 (x.2 ∙ sym y.2) in
         ap (λ (z : Cedar). Some z) (record_same y.0.shape t u (subst (λ (z : FoundEntityType). IsRecordOf s.commons z.shape t) same x.3) y.3)
 
+    member_of_same : (u : EntityUid) (o p : Option (List EntityUid)) → v.member_of u ≡ o → w.member_of u ≡ p → o ≡ p
+    member_of_same u None None e f = refl
+    member_of_same u (Some us) None e f = is_none (w.member_of u) f (b.all_member_of u (a.member_of u us e).0)
+    member_of_same u None (Some us) e f = is_none (v.member_of u) e (a.all_member_of u (b.member_of u us f).0)
+    member_of_same u (Some us) (Some vs) e f = ap (λ (z : List EntityUid). Some z) ((a.member_of u us e).1 ∙ sym (b.member_of u vs f).1)
+
     ancestors_same : (u : EntityUid) (o p : Option (List EntityUid)) → v.ancestors u ≡ o → w.ancestors u ≡ p → o ≡ p
     ancestors_same u None None e f = refl
     ancestors_same u (Some us) None e f = is_none (w.ancestors u) f (b.all_ancestors u (a.ancestors u us e).0)
@@ -198,6 +204,7 @@ module _ (one : OneWritten) (lists : AscendingListsAreOne) (s : FoundSchema) (on
           environments = together i;
           actions = actions_same i;
           shape = λ n. shape_same n (v.shape n) (w.shape n) refl refl i;
+          member_of = λ u. member_of_same u (v.member_of u) (w.member_of u) refl refl i;
           ancestors = λ u. ancestors_same u (v.ancestors u) (w.ancestors u) refl refl i;
           may_have_parent = λ child above. parents_same child above i;
         }

@@ -101,6 +101,7 @@ module _ (one : OneWritten) (written : WrittenTypesAscend) (s : FoundSchema) (on
       environments_ascend = answers.environments_ascend;
       places = λ e h. let x = answers.environments e h in (answers.actions e.place.action).1 (x.1.action, x.1.declared, x.1.is);
       actions = λ u. ((λ h. answers.all_ancestors u ((answers.actions u).0 h)), (λ h. let x = is_some (v.ancestors u) h in (answers.actions u).1 (answers.ancestors u x.0 x.1).0));
+      actions_stated = λ u. ((λ h. answers.all_member_of u ((answers.actions u).0 h)), (λ h. let x = is_some (v.member_of u) h in (answers.actions u).1 (answers.member_of u x.0 x.1).0));
       actions_ascend = answers.actions_ascend;
       ancestors_ascend = λ u us e. (answers.ancestors u us e).1;
       ancestors_join = λ u w x us ws e h f i.

@@ -12,8 +12,12 @@ pub record SchemaEntries : Type 0 where
   pub actions : List EntityUid
   -- the entity types by their names
   pub entity_types : List (List ℕ × EntityDecl)
-  -- of each action those above it
-  pub ancestors : List (EntityUid × List EntityUid)
+  -- of each action its parents, as `memberOf` states them
+  pub member_of : List (EntityUid × List EntityUid)
+  -- the number of each action
+  pub action_numbers : List (EntityUid × ℕ)
+  -- at each number those of the actions above that one
+  pub actions_above : List (List Span)
   -- the number of each entity type
   pub type_numbers : List (List ℕ × ℕ)
   -- at each number those of the types above that one
@@ -21,13 +25,16 @@ pub record SchemaEntries : Type 0 where
 
 -- what maps keep
 abbrev pub kept : List ℕ → List Environment → List EntityUid → BTreeMap (List ℕ) EntityDecl
-    → BTreeMap EntityUid (List EntityUid) → BTreeMap (List ℕ) ℕ → List (List Span) → SchemaEntries
-kept label environments actions shapes ancestors type_numbers types_above = record {
+    → BTreeMap EntityUid (List EntityUid) → BTreeMap EntityUid ℕ → List (List Span) → BTreeMap (List ℕ) ℕ
+    → List (List Span) → SchemaEntries
+kept label environments actions shapes member_of action_numbers actions_above type_numbers types_above = record {
   label = label;
   environments = environments;
   actions = actions;
   entity_types = shapes.entries;
-  ancestors = ancestors.entries;
+  member_of = member_of.entries;
+  action_numbers = action_numbers.entries;
+  actions_above = actions_above;
   type_numbers = type_numbers.entries;
   types_above = types_above;
 }

@@ -35,9 +35,15 @@ pub record StatedSchema : Type 0 where
   pub actions : List EntityUid
   -- of an entity type: its attributes, as a record
   pub shape : List ℕ → Option Cedar
+  -- of an action: its parents, as `memberOf` states them
+  pub member_of : EntityUid → Option (List EntityUid)
   pub ancestors : EntityUid → Option (List EntityUid)
   -- of the child's type, and of the parent's
   pub may_have_parent : List ℕ → List ℕ → Bool
+
+-- an action is declared, and another is above it
+abbrev pub IsActionAbove : StatedSchema → EntityUid → EntityUid → Type 0
+IsActionAbove v u above = (us : List EntityUid) × (v.ancestors u ≡ Some us) × Contains us above
 
 -- ---- hierarchies
 
@@ -117,6 +123,9 @@ pub record Answers (s : FoundSchema) (v : StatedSchema) : Type 0 where
   pub all_shapes : (e : FoundEntityType) → Contains s.entity_types e → IsSome (v.shape e.name)
   pub actions : (u : EntityUid) → Contains v.actions u ↔ IsAction s u
   pub actions_ascend : IsAscending v.actions
+  pub member_of : (u : EntityUid) (us : List EntityUid) → v.member_of u ≡ Some us
+      → IsAction s u × (us ≡ action_parents s u)
+  pub all_member_of : (u : EntityUid) → IsAction s u → IsSome (v.member_of u)
   pub ancestors : (u : EntityUid) (us : List EntityUid) → v.ancestors u ≡ Some us
       → IsAction s u × IsAscending us × IsAllAbove (action_parents s) u us
   pub all_ancestors : (u : EntityUid) → IsAction s u → IsSome (v.ancestors u)

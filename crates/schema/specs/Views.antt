@@ -1,13 +1,15 @@
 -- What a schema answers, as a function of what it keeps.
-use Rattle.std.specs.Prelude.{List, ℕ, map, Option, option_map}
+use Rattle.std.specs.Prelude.{List, ℕ, map, filter, Option, option_map}
 use Rattle.std.specs.Map.{lookup}
 use Rattle.std.specs.BTreeMap.{is_at}
+use Rattle.number_spans.specs.declared.spans.Span.{Span}
+use Rattle.values.specs.declared.entity_uid.EntityUid.{EntityUid}
 use Rattle.values.specs.Names.{text_cmp}
 use Rattle.schema_types.specs.Cedar.{Cedar}
 use Rattle.schema_types.specs.CedarViews.{cedar_view}
 use Rattle.schema_parts.specs.declared.parts.Environment.{Environment}
 use Rattle.schema_parts.specs.declared.parts.EntityDecl.{EntityDecl}
-pub use Rattle.schema_parts.specs.LookUps.{ancestors_at, is_above}
+pub use Rattle.schema_parts.specs.LookUps.{parents_at, is_above, is_action_above}
 use Rattle.schema.specs.SchemaEntries.{SchemaEntries}
 use Rattle.schema.specs.Schemas.{EnvironmentOf, StatedSchema, IsSchemaOf}
 
@@ -17,13 +19,19 @@ environment_view e = record { place = e.place; context = cedar_view e.context }
 abbrev pub shape_at : List (List ℕ × EntityDecl) → List ℕ → Option Cedar
 shape_at types n = option_map (λ d. cedar_view d.shape) (lookup (is_at (text_cmp n)) types)
 
+-- those of the actions that are above one, by their numbers
+abbrev pub above_in : List EntityUid → List (EntityUid × ℕ) → List (List Span) → EntityUid → List EntityUid
+above_in actions numbers spans u = filter (λ above. is_action_above numbers spans u above) actions
+
 abbrev pub schema_view : SchemaEntries → StatedSchema
 schema_view k = record {
   label = k.label;
   environments = map environment_view k.environments;
   actions = k.actions;
   shape = shape_at k.entity_types;
-  ancestors = ancestors_at k.ancestors;
+  member_of = parents_at k.member_of;
+  ancestors = λ u.
+      option_map (λ parents. above_in k.actions k.action_numbers k.actions_above u) (parents_at k.member_of u);
   may_have_parent = is_above k.type_numbers k.types_above;
 }
 

@@ -26,8 +26,9 @@ pub record IsWellFormed (v : StatedSchema) : Type 0 where
   -- in order, each once, and of actions that are declared
   pub environments_ascend : IsStrictlySortedBy place_cmp (map (λ e. e.place) v.environments)
   pub places : (e : EnvironmentOf) → Contains v.environments e → Contains v.actions e.place.action
-  -- the actions are those that have ancestors, in order
+  -- the actions are those that have ancestors, in order, and those whose parents are stated
   pub actions : (u : EntityUid) → Contains v.actions u ↔ IsSome (v.ancestors u)
+  pub actions_stated : (u : EntityUid) → Contains v.actions u ↔ IsSome (v.member_of u)
   pub actions_ascend : IsAscending v.actions
   -- ancestors ascend; what is above an ancestor is one; and no action is its own
   pub ancestors_ascend : (u : EntityUid) (us : List EntityUid) → v.ancestors u ≡ Some us → IsAscending us

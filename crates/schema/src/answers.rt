@@ -1,8 +1,9 @@
 //! What a schema answers.
 
+use crate::laws::stated_schemas_are_well_formed;
 use number_spans::Span;
 use plain::{Items, Text};
-use schema_parts::{EntityDecl, Environment, ancestors_at, may_have_parent};
+use schema_parts::{EntityDecl, Environment, is_action_above, may_have_parent, parents_at};
 use std::collections::BTreeMap;
 use std::marker::Model;
 use values::{EntityUid, TypeName};
@@ -19,7 +20,12 @@ pub struct Schema {
     pub(crate) environments: Items<Environment>,
     pub(crate) actions: Items<EntityUid>,
     pub(crate) shapes: BTreeMap<TypeName, EntityDecl>,
-    pub(crate) ancestors: BTreeMap<EntityUid, Items<EntityUid>>,
+    /// Of each action its parents.
+    pub(crate) member_of: BTreeMap<EntityUid, Items<EntityUid>>,
+    /// The number of each action.
+    pub(crate) action_numbers: BTreeMap<EntityUid, usize>,
+    /// At each number those of the actions above that one.
+    pub(crate) actions_above: Items<Items<Span>>,
     /// The number of each entity type.
     pub(crate) type_numbers: BTreeMap<TypeName, usize>,
     /// At each number those of the types above that one.
@@ -36,16 +42,19 @@ impl Model for Schema {
 
     ghost coded = { Prim.hlevel (codes, cedar.the_row.coded) };
 
-    ghost view = { λ s. kept s.label s.environments s.actions s.shapes s.ancestors s.type_numbers s.types_above };
+    ghost view = { λ s. kept s.label s.environments s.actions s.shapes s.member_of s.action_numbers
+        s.actions_above s.type_numbers s.types_above };
 
     ghost invariant = { λ s. IsStated
-        (kept s.label s.environments s.actions s.shapes s.ancestors s.type_numbers s.types_above) };
+        (kept s.label s.environments s.actions s.shapes s.member_of s.action_numbers
+        s.actions_above s.type_numbers s.types_above) };
 }
 
 impl Schema {
-    ghost use Rattle.std.specs.Prelude.{◌≡◌, map, option_map};
+    ghost use Rattle.std.specs.Prelude.{◌≡◌, ◌↔◌, ◌&&◌, map, option_map, is_some, IsTrue};
     ghost use Rattle.schema_types.specs.CedarViews.{cedar_view};
-    ghost use Rattle.schema.specs.Views.{environment_view, schema_view, IsStated};
+    ghost use Rattle.schema.specs.Schemas.{IsActionAbove};
+    ghost use Rattle.schema.specs.Views.{environment_view, schema_view, is_action_above, IsStated};
 
     /// Whoever holds a schema knows by this that some bytes state it. Does nothing.
     pub fn is_stated(&self)
@@ -75,11 +84,53 @@ impl Schema {
         self.shapes.get(name)
     }
 
-    /// Returns the actions above an action, ascending; None where it is not declared.
-    pub fn action_ancestors(&self, uid: &EntityUid) -> Option<&[EntityUid]>
-        ensures { option_map (λ us. us.now) result ≡ (schema_view self.now).ancestors uid.now }
+    /// Returns the parents of an action, as `memberOf` states them; None where it is not declared.
+    pub fn action_parents(&self, uid: &EntityUid) -> Option<&[EntityUid]>
+        ensures { option_map (λ us. us.now) result ≡ (schema_view self.now).member_of uid.now }
     {
-        ancestors_at(&self.ancestors, uid)
+        parents_at(&self.member_of, uid)
+    }
+
+    /// Returns whether an action is declared.
+    pub fn is_action(&self, uid: &EntityUid) -> bool
+        ensures { result ≡ is_some ((schema_view self.now).member_of uid.now) }
+    {
+        match self.action_parents(uid) {
+            Some(_) => true,
+            None => false,
+        }
+    }
+
+    /// Returns whether an action is declared and another is above it: whether one or more steps by `memberOf` lead
+    /// there.
+    pub fn is_action_above(&self, uid: &EntityUid, above: &EntityUid) -> bool
+        ensures { IsTrue result ↔ IsActionAbove (schema_view self.now) uid.now above.now }
+    {
+        self.is_stated();
+        stated_schemas_are_well_formed();
+        if self.are_actions(uid, above) {
+            return self.has_above(uid, above);
+        }
+        false
+    }
+
+    fn are_actions(&self, uid: &EntityUid, above: &EntityUid) -> bool
+        ensures { result ≡ (is_some ((schema_view self.now).member_of uid.now)
+            && is_some ((schema_view self.now).member_of above.now)) }
+    {
+        self.is_action(uid) && self.is_action(above)
+    }
+
+    /// Returns whether the number of the one stands among those above the other.
+    fn has_above(&self, uid: &EntityUid, above: &EntityUid) -> bool
+        ensures { result ≡ is_action_above self.now.action_numbers self.now.actions_above uid.now above.now }
+    {
+        is_action_above(
+            &self.action_numbers,
+            self.actions_above.as_slice(),
+            uid,
+            above,
+        )
     }
 
     /// Returns whether an entity of the child's type may have a parent of the other: whether one or more steps by

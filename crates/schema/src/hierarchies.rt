@@ -1,14 +1,14 @@
 //! The hierarchies of actions and of entity types.
 ghost use Rattle.std.specs.Prelude.{◌≡◌, IfOk, OnOk, map};
 ghost use Rattle.std.specs.BTreeMap.{keys};
-ghost use Rattle.ancestor_closure.specs.Hierarchy.{IsAllAbove, IsAscending, names, no_parents, with_parents};
+ghost use Rattle.ancestor_closure.specs.Hierarchy.{IsAscending, names, no_parents, with_parents};
 ghost use Rattle.ancestor_closure.specs.contracts.searched.SearchedAncestry.TheImpl as searched;
 ghost use Rattle.schema_names.specs.FoundViews.{found_action_view, found_entity_type_view};
 ghost use Rattle.schema.specs.Schemas.{with_actions, with_types, type_uid};
-ghost use Rattle.schema.specs.inner.Making.{AddsAncestors, AreAncestors};
+ghost use Rattle.schema.specs.inner.Making.{AddsMember, AreMembers};
 
 use crate::maps::put;
-use ancestor_closure::{Ancestry, Hierarchy, Searched};
+use ancestor_closure::{Hierarchy, ParentsOf, Searched};
 use plain::{Items, NoMemory};
 use schema_names::{FoundAction, FoundEntityType};
 use std::alloc::Global;
@@ -109,56 +109,47 @@ pub(crate) fn type_edges(
     Ok(edges)
 }
 
-/// All that is above a uid, ascending.
-fn all_above(alloc: Global, edges: &Searched, uid: &EntityUid) -> Result<Items<EntityUid>, NoMemory>
-    ensures all { IfOk result (λ found. IsAllAbove (searched.parents-value.it edges.now) uid.now found) }
-    ensures ascending { IfOk result (λ found. IsAscending found) }
-{
-    let found = edges.ancestors(uid)?;
-    copy_all(alloc, found.as_slice())
-}
-
-/// Gives an action its ancestors.
-fn add_ancestors(
+/// Gives an action its parents.
+fn add_member(
     alloc: Global,
     edges: &Searched,
     action: &FoundAction,
-    ancestors: &mut BTreeMap<EntityUid, Items<EntityUid>>,
+    members: &mut BTreeMap<EntityUid, Items<EntityUid>>,
 ) -> Result<(), NoMemory>
-    ensures { OnOk result (AddsAncestors (searched.parents-value.it edges.now) (found_action_view action.now)
-        ancestors.old ancestors.new) }
+    ensures { OnOk result (AddsMember (searched.parents-value.it edges.now) (found_action_view action.now)
+        members.old members.new) }
 {
-    let above = all_above(alloc, edges, &action.uid)?;
+    let parents = copy_uids(alloc, edges.parents_of(&action.uid))?;
     let uid = action.uid.copy()?;
-    put(ancestors, uid, above)?;
+    put(members, uid, Items::from_vec(parents))?;
     Ok(())
 }
 
-/// Returns the ancestors of actions, by their uids.
-pub(crate) fn make_ancestors(
+/// Returns the parents of actions, by their uids.
+pub(crate) fn make_members(
     alloc: Global,
     edges: &Searched,
     actions: &[FoundAction],
 ) -> Result<BTreeMap<EntityUid, Items<EntityUid>>, NoMemory>
-    ensures { IfOk result (λ ancestors. AreAncestors (searched.parents-value.it edges.now)
-        (map found_action_view actions.now) ancestors) }
+    ensures { IfOk result (λ members. AreMembers (searched.parents-value.it edges.now)
+        (map found_action_view actions.now) members) }
 {
-    let mut ancestors = BTreeMap::new(alloc);
+    let mut members = BTreeMap::new(alloc);
     for action in actions {
-        add_ancestors(alloc, edges, action, &mut ancestors)?;
+        add_member(alloc, edges, action, &mut members)?;
     }
-    Ok(ancestors)
+    Ok(members)
 }
 
 /// Returns the keys of a map, ascending.
 pub(crate) fn uids_of(
     alloc: Global,
-    ancestors: &BTreeMap<EntityUid, Items<EntityUid>>,
+    members: &BTreeMap<EntityUid, Items<EntityUid>>,
 ) -> Result<Items<EntityUid>, NoMemory>
-    ensures items { IfOk result (λ uids. uids ≡ keys ancestors.now) }
-    ensures ascending { IsAscending (keys ancestors.now) }
+    ensures items { IfOk result (λ uids. uids ≡ keys members.now) }
+    ensures ascending { IsAscending (keys members.now) }
 {
-    let _ordered = ancestors.len();
-    let uids: Vec<&EntityUid> = ancestors.keys().collect(alloc)?;
+    let _ordered = members.len();
+    let uids: Vec<&EntityUid> = members.keys().collect(alloc)?;
     copy_all(alloc, uids.as_slice())
 }

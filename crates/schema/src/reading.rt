@@ -15,7 +15,8 @@ ghost use Rattle.schema.specs.inner.Reading.{AreHierarchiesOf, TypesRefused, Edg
 
 use crate::answers::Schema;
 use crate::environments::make_places;
-use crate::hierarchies::{action_edges, make_ancestors, type_edges, uids_of};
+use crate::hierarchies::{action_edges, make_members, type_edges, uids_of};
+use crate::numbering::{Above, above_each};
 use crate::shapes::make_shapes;
 use crate::type_numbers::{TypeNumbers, number_types};
 use ancestor_closure::Searched;
@@ -35,11 +36,12 @@ struct Types {
     environments: Items<Environment>,
 }
 
-/// Actions, the actions above each, and the types above each entity type.
+/// Actions, the parents of each and the actions above it, and the types above each entity type.
 #[derive(Drop)]
 struct Hierarchies {
     actions: Items<EntityUid>,
-    ancestors: BTreeMap<EntityUid, Items<EntityUid>>,
+    members: BTreeMap<EntityUid, Items<EntityUid>>,
+    above: Above,
     types: TypeNumbers,
 }
 
@@ -82,13 +84,15 @@ fn make_hierarchies(alloc: Global, found: &Found, edges: &Searched) -> Result<Hi
 {
     let actions = found.actions.as_slice();
     let entity_types = found.entity_types.as_slice();
-    let ancestors = make_ancestors(alloc, edges, actions)?;
-    let uids = uids_of(alloc, &ancestors)?;
+    let members = make_members(alloc, edges, actions)?;
+    let uids = uids_of(alloc, &members)?;
+    let above = above_each(alloc, edges, uids.as_slice())?;
     let type_edges = type_edges(alloc, entity_types)?;
     let types = number_types(alloc, &type_edges, entity_types)?;
     Ok(Hierarchies {
         actions: uids,
-        ancestors,
+        members,
+        above,
         types,
     })
 }
@@ -121,7 +125,9 @@ fn make_schema(
         environments: types.environments,
         actions: hierarchies.actions,
         shapes: types.shapes,
-        ancestors: hierarchies.ancestors,
+        member_of: hierarchies.members,
+        action_numbers: hierarchies.above.numbers,
+        actions_above: hierarchies.above.spans,
         type_numbers: hierarchies.types.numbers,
         types_above: hierarchies.types.spans,
     })

@@ -9,7 +9,8 @@ use Rattle.policy_grammar.specs.declared.policy.Policy.{Policy}
 use Rattle.schema.specs.Schemas.{StatedSchema}
 use Rattle.validator.specs.Passing.{Passes}
 use Rattle.decision_texts.specs.declared.refusal.Refusal.{Refusal}
-use Rattle.schema_decisions.specs.Refusals.{OrNoMemory}
+use Rattle.policy_grammar.specs.PolicyText.{OrNoMemory}
+use Rattle.decision_texts.specs.Refusals.{no_memory}
 use Rattle.schema_decisions.specs.Policies.{IsUnpassed, FirstUnpassed, unpassed_here, unpassed_later}
 
 abbrev Files : Type 0
@@ -22,7 +23,7 @@ cores ps = map (λ p. p.1) ps
 -- what checking these policies comes to, where the first of them stands at this place
 abbrev pub AreChecked : StatedSchema → ℕ → List Policy → Result ⊤ Refusal → Type 0
 AreChecked s place ps (Ok u) = All (Passes s) ps
-AreChecked s place ps (Err refusal) = OrNoMemory (FirstUnpassed s place ps) refusal
+AreChecked s place ps (Err refusal) = OrNoMemory no_memory (FirstUnpassed s place ps) refusal
 
 turn : (ps : Files) (i : ℕ) (p : String Global × Policy) → i < length ps → p ≡ get_or ps i p → drop i ps ≡ p ∷ drop (i + 1) ps
 turn ps i p lt e = drop-cons ps i p lt ∙ ap (λ z. z ∷ drop (suc i) ps) (sym e) ∙ ap (λ k. p ∷ drop k ps) (sym (add-one i))
@@ -37,7 +38,7 @@ module _ (s : StatedSchema) where
   next ps i p lt is h r g = subst (λ (qs : Files). AreChecked s i (cores qs) r) (sym (turn ps i p lt is)) (one_more i p.1 (cores (drop (i + 1) ps)) h r g)
 
   pub stops : (ps : Files) (i : ℕ) (p : String Global × Policy) → i < length ps → p ≡ get_or ps i p → (refusal : Refusal)
-      → OrNoMemory (IsUnpassed s i p.1) refusal → AreChecked s i (cores (drop i ps)) (Err refusal)
+      → OrNoMemory no_memory (IsUnpassed s i p.1) refusal → AreChecked s i (cores (drop i ps)) (Err refusal)
   stops ps i p lt is refusal due =
       subst (λ (qs : Files). AreChecked s i (cores qs) (Err refusal)) (sym (turn ps i p lt is)) (λ other. unpassed_here (due other))
 

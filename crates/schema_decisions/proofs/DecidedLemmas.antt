@@ -11,7 +11,8 @@ use Rattle.entity_worlds.specs.Keeping.{Entries}
 use Rattle.validator.specs.Passing.{Passes}
 use Rattle.decision_texts.specs.declared.refusal.Refusal.{Refusal}
 use Rattle.decision_texts.specs.Decisions.{ArePoliciesOf, IsInOrder}
-use Rattle.schema_decisions.specs.Refusals.{OrNoMemory}
+use Rattle.policy_grammar.specs.PolicyText.{OrNoMemory}
+use Rattle.decision_texts.specs.Refusals.{no_memory}
 use Rattle.schema_decisions.specs.Policies.{FirstUnpassed, ArePassing, ArePassingRefused, unpassed}
 use Rattle.schema_decisions.specs.EntityArrays.{entities_of}
 use Rattle.schema_decisions.specs.Requests.{IsRequestRefused}
@@ -55,7 +56,7 @@ module _ (s : StatedSchema) where
   }
 
   pub unanswered : (entities request : List ℕ) (store : Entries) (refusal : Refusal) → Keeps (entities_of s entities) store
-      → OrNoMemory (IsRequestRefused s request) refusal → OrNoMemory (IsQuestionRefused s entities request) refusal
+      → OrNoMemory no_memory (IsRequestRefused s request) refusal → OrNoMemory no_memory (IsQuestionRefused s entities request) refusal
   unanswered entities request store refusal kept due other = by_request kept.entities kept.are (due other)
 
   -- the file of policies, as it was read and as it was checked
@@ -64,10 +65,10 @@ module _ (s : StatedSchema) where
     pub passing : All (Passes s) (map (λ p. p.1) checked) → ArePassing s bytes (map (λ p. string_bytes p.0) read) (map (λ p. p.1) read)
     passing all = record { file = file; pass = subst (λ (ps : List (String Global × Policy)). All (Passes s) (map (λ p. p.1) ps)) same all }
 
-    pub not_passing : (refusal : Refusal) → OrNoMemory (FirstUnpassed s 0 (map (λ p. p.1) checked)) refusal → OrNoMemory (ArePassingRefused s bytes) refusal
+    pub not_passing : (refusal : Refusal) → OrNoMemory no_memory (FirstUnpassed s 0 (map (λ p. p.1) checked)) refusal → OrNoMemory no_memory (ArePassingRefused s bytes) refusal
     not_passing refusal due other =
         unpassed _ _ file (subst (λ (ps : List (String Global × Policy)). FirstUnpassed s 0 (map (λ p. p.1) ps) refusal) same (due other))
 
   pub no_question : (policies entities request : List ℕ) (names : List (List ℕ)) (cores : List Policy) (refusal : Refusal) → ArePassing s policies names cores
-      → OrNoMemory (IsQuestionRefused s entities request) refusal → OrNoMemory (IsRefusedUnder s policies entities request) refusal
+      → OrNoMemory no_memory (IsQuestionRefused s entities request) refusal → OrNoMemory no_memory (IsRefusedUnder s policies entities request) refusal
   no_question policies entities request names cores refusal passing due other = by_question names cores passing (due other)

@@ -2,6 +2,8 @@
 use Rattle.std.proofs.Common.{ℕ, List, None, ap, refl}
 use Rattle.std.specs.Prelude.{◌≢◌}
 use Rattle.policy_grammar.specs.declared.policy.Policy.{Policy}
+use Rattle.policy_grammar.specs.PolicyText.{OrNoMemory}
+use Rattle.decision_texts.specs.Refusals.{no_memory}
 use Rattle.schema.specs.Schemas.{StatedSchema}
 use Rattle.entities.specs.declared.fault.EntityFault.{EntityFault}
 use Rattle.entities.specs.declared.fault.EntityFault.TheVariants as entity_fault
@@ -9,14 +11,14 @@ use Rattle.validator.specs.declared.fault.CheckFault.{CheckFault}
 use Rattle.validator.specs.declared.fault.CheckFault.TheVariants as check_fault
 use Rattle.validator.specs.Passing.{IsCheckRefused}
 use Rattle.policy_checks.specs.Refusals.{check_refusal}
-use Rattle.schema_decisions.specs.Refusals.{entity_refusal, OrNoMemory}
+use Rattle.schema_decisions.specs.Refusals.{entity_refusal}
 use Rattle.schema_decisions.specs.Policies.{IsUnpassed}
 use Rattle.schema_decisions.specs.Requests.{IsRequestFault, IsRequestRefused}
 
 pub policy_told : (s : StatedSchema) (place : ℕ) (p : Policy) (why : CheckFault) → (why ≢ check_fault.NoMemory → IsCheckRefused s p why)
-    → OrNoMemory (IsUnpassed s place p) (check_refusal place why)
+    → OrNoMemory no_memory (IsUnpassed s place p) (check_refusal place why)
 policy_told s place p why due other = record { fault = why; due = due (λ e. other (ap (check_refusal place) e)); is = refl }
 
 pub request_told : (s : StatedSchema) (request : List ℕ) (why : EntityFault) → (why ≢ entity_fault.NoMemory → IsRequestFault s request why)
-    → OrNoMemory (IsRequestRefused s request) (entity_refusal None why)
+    → OrNoMemory no_memory (IsRequestRefused s request) (entity_refusal None why)
 request_told s request why due other = record { fault = why; due = due (λ e. other (ap (entity_refusal None) e)); is = refl }

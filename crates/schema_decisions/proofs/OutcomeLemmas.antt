@@ -9,6 +9,7 @@ use Rattle.policy_grammar.specs.declared.policy.Policy.{Policy}
 use Rattle.policy_grammar.specs.PolicyText.{IsFileRefused}
 use Rattle.policy_grammar.specs.Unique.{HasOneReading, IsFileOf, EachIsNamed, NamesDiffer}
 use Rattle.authoriser.specs.declared.answer.Answer.{Answer}
+use Rattle.evaluator.specs.Operators.{World}
 use Rattle.authoriser.specs.Answers.{NamedPolicy, IsAnswer}
 use Rattle.authoriser.specs.Laws.{OneAnswerInFiniteHierarchies, ListsAscend}
 use Rattle.schema.specs.Schemas.{StatedSchema, IsSchemaOf}
@@ -18,7 +19,7 @@ use Rattle.entities.specs.declared.fault.EntityFault.{EntityFault}
 use Rattle.entities.specs.declared.fault.EntityFault.TheVariants.{BadShape}
 use Rattle.entities.specs.Requests.{StatesRequest, RequestRefused}
 use Rattle.entities.specs.Laws as requests
-use Rattle.entity_store.specs.Laws.{MemberOfAnswersAlike}
+use Rattle.entity_store.specs.Laws.{MemberOfIsKept}
 use Rattle.validator.specs.declared.fault.CheckFault.{CheckFault}
 use Rattle.validator.specs.Passing.{Passes, IsCheckRefused}
 use Rattle.validator.specs.Outcomes as checks
@@ -238,11 +239,11 @@ module _ (laws : Laws) where
       (ids_ascend named told.answers.ordered (own_names laws.each laws.differ policies under.names under.cores under.passing.file.file) told.answers.order)
       told.answers.is
 
-pub alike : MemberOfAnswersAlike → MemberOfDecidesAlike
+pub alike : MemberOfIsKept → MemberOfDecidesAlike
 alike law schema policies entities request line x =
     let told = x.decided.answered in
     record {
       ordered = told.answers.ordered;
       order = told.answers.order;
-      is = (law schema x.stated x.states (decisions.stated told.stored) told.asked told.answers.ordered told.answer).1 told.answers.is;
+      is = subst (λ (W : World). IsAnswer W told.asked told.answers.ordered told.answer) (law schema x.stated x.states (decisions.stated told.stored)) told.answers.is;
     }

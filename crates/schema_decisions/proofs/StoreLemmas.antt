@@ -50,7 +50,7 @@ world_same : (actions : Actions) (f g : EntityMap) → ((q : EntityUid) → f q 
 world_same actions f g same = λ i. world_of (λ q. attributes_of (action_or (actions q) (same q i))) (λ q. kept_parents (action_or (actions q) (same q i)))
 
 pub held_world : (s : StatedSchema) (store : Entries) (es : List Entity) → Holds store es → world_held s store ≡ world_under s es
-held_world s store es held = world_same s.ancestors (kept_in store) (stated es) held
+held_world s store es held = world_same s.member_of (kept_in store) (stated es) held
 
 -- ---- all entities with parents are those of the array, and actions
 
@@ -78,6 +78,6 @@ abbrev pub with_parents : StatedSchema → List Entity → List EntityUid
 with_parents s es = own_uids es ++ s.actions
 
 pub all_parents : (bytes : List ℕ) (s : StatedSchema) → IsSchemaOf bytes s → (es : List Entity) → HaveAllParents (world_under s es).parents (with_parents s es)
-all_parents bytes s states es b a h = parent_of (s.ancestors b) (stated es b) a h
-    (λ us is. Contains-append_right (own_uids es) s.actions b ((states.answers.actions b).1 (states.answers.ancestors b us is).0))
+all_parents bytes s states es b a h = parent_of (s.member_of b) (stated es b) a h
+    (λ us is. Contains-append_right (own_uids es) s.actions b ((states.answers.actions b).1 (states.answers.member_of b us is).0))
     (λ m. Contains-append_left (own_uids es) s.actions b (entity_listed es b a m))

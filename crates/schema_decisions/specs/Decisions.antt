@@ -28,9 +28,9 @@ abbrev pub stated : List Entity → EntityMap
 stated [] q = None
 stated (e ∷ es) q = if is_same e.uid q then Some (data_of e) else stated es q
 
--- these entities, and the actions of the schema
+-- these entities, and the actions of the schema, each with the parents that its `memberOf` states
 abbrev pub world_under : StatedSchema → List Entity → World
-world_under s es = world_in (with_actions s.ancestors (stated es))
+world_under s es = world_in (with_actions s.member_of (stated es))
 
 -- the answer to the request over these policies, tried in the order of their names
 pub record IsAnswerTo (policies : List NamedPolicy) (W : World) (asked : Request) (answer : Answer) : Type 0 where

@@ -1,6 +1,6 @@
 -- Refusals by number and place, beside those of a schema's text and of policies that do not pass. Numbers and places
 -- are rules of this product.
-use Rattle.std.specs.Prelude.{◌≡◌, ℕ, Option, None}
+use Rattle.std.specs.Prelude.{ℕ, Option, None}
 use Rattle.entities.specs.declared.fault.EntityFault.{EntityFault}
 use Rattle.entities.specs.declared.fault.EntityFault.TheVariants.{NoMemory}
 use Rattle.entities.specs.Faults.{code_of}
@@ -11,7 +11,3 @@ use Rattle.decision_texts.specs.Refusals.{no_memory}
 abbrev pub entity_refusal : Option ℕ → EntityFault → Refusal
 entity_refusal place NoMemory = no_memory
 entity_refusal place fault = record { code = code_of fault; place = place; within = None }
-
--- such a refusal, or one that tells of no text: a growth was refused
-abbrev pub OrNoMemory : (Refusal → Type 0) → Refusal → Type 0
-OrNoMemory Refused refusal = (refusal ≡ no_memory → ⊥) → Refused refusal

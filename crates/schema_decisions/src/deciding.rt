@@ -4,7 +4,8 @@ ghost use Rattle.authoriser.specs.Answers.{IsAnswer};
 ghost use Rattle.authoriser.specs.Views.{named};
 ghost use Rattle.schema.specs.Views.{schema_view};
 ghost use Rattle.decision_texts.specs.Decisions.{named_policies};
-ghost use Rattle.schema_decisions.specs.Refusals.{OrNoMemory};
+ghost use Rattle.policy_grammar.specs.PolicyText.{OrNoMemory};
+ghost use Rattle.decision_texts.specs.Refusals.{no_memory};
 ghost use Rattle.schema_decisions.specs.Requests.{IsRequestRefused};
 ghost use Rattle.schema_decisions.specs.Decisions.{IsAnswerTo, IsQuestionAnswered, IsQuestionRefused};
 ghost use Rattle.schema_decisions.specs.Decisions.{IsDecidedUnder, IsRefusedUnder, IsDecided, IsSchemaDecisionRefused};
@@ -81,7 +82,7 @@ fn line_to(
     ensures told { IfOk result (λ line. IsLineTo (schema_view schema.now)
         (named_policies (map (λ p. string_bytes p.0) policies.now) (map (λ p. p.1) policies.now))
         (world_held (schema_view schema.now) store.now) request.now line.items) }
-    ensures refused { IfErr result (OrNoMemory (IsRequestRefused (schema_view schema.now) request.now)) }
+    ensures refused { IfErr result (OrNoMemory no_memory (IsRequestRefused (schema_view schema.now) request.now)) }
 {
     let request = request_in(alloc, schema, request)?;
     Ok(line_of(alloc, schema, policies, store, &request)?)
@@ -99,7 +100,7 @@ fn answer_texts(
         (named_policies (map (λ p. string_bytes p.0) policies.now) (map (λ p. p.1) policies.now))
         entities.now request.now line.items) }
     ensures refused { IfErr result
-        (OrNoMemory (IsQuestionRefused (schema_view schema.now) entities.now request.now)) }
+        (OrNoMemory no_memory (IsQuestionRefused (schema_view schema.now) entities.now request.now)) }
 {
     let store = read_entities(alloc, schema, entities)?;
     line_to(alloc, schema, policies, &store, request)
@@ -116,7 +117,7 @@ fn decide_texts(
     ensures decided { IfOk result
         (λ line. IsDecidedUnder (schema_view schema.now) policies.now entities.now request.now line.items) }
     ensures refused { IfErr result
-        (OrNoMemory (IsRefusedUnder (schema_view schema.now) policies.now entities.now request.now)) }
+        (OrNoMemory no_memory (IsRefusedUnder (schema_view schema.now) policies.now entities.now request.now)) }
 {
     let policies = passing_policies(alloc, schema, policies)?;
     answer_texts(alloc, schema, &policies, entities, request)
@@ -142,7 +143,7 @@ pub fn decide_under(
 ) -> Result<Vec<u8>, Refusal>
     ensures decided { IfOk result (λ line. IsDecided schema.now policies.now entities.now request.now line.items) }
     ensures refused { IfErr result
-        (OrNoMemory (IsSchemaDecisionRefused schema.now policies.now entities.now request.now)) }
+        (OrNoMemory no_memory (IsSchemaDecisionRefused schema.now policies.now entities.now request.now)) }
 {
     let schema = schema_in(alloc, schema)?;
     decide_texts(alloc, &schema, policies, entities, request)

@@ -1,25 +1,24 @@
 //! The entities of an array.
-ghost use Rattle.std.specs.Prelude.{◌≡◌, List, Some, Ok, Err, option_map, IfErr, OnOk};
-ghost use Rattle.serde_json.specs.Find.{as_array};
-ghost use Rattle.serde_json.specs.View.{view, items_view};
+ghost use Rattle.std.specs.Prelude.{◌≡◌, ◌<◌, ◌^◌, List, length, None, Some, Ok, Err, IfErr, OnOk};
+ghost use Rattle.serde_json.specs.View.{view};
 ghost use Rattle.json_words.specs.ReadsAs.{ReadsAs};
+ghost use Rattle.json_values.specs.Arrays.{to_come, each_of, told};
 ghost use Rattle.schema.specs.Views.{schema_view};
-ghost use Rattle.entity_worlds.specs.declared.entity.Entity.{Entity};
+ghost use Rattle.entity_worlds.specs.declared.entity.Entity.{Entity as Stated};
 ghost use Rattle.entities.specs.Entities.{entity_stated_in};
 ghost use Rattle.decision_texts.specs.Refusals.{no_memory, bad_shape};
-ghost use Rattle.schema_decisions.specs.Refusals.{OrNoMemory};
-ghost use Rattle.schema_decisions.specs.EntityArrays.{placed, entities_in, entities_of};
-ghost use Rattle.schema_decisions.specs.inner.Stores.{ReadsStore};
+ghost use Rattle.policy_grammar.specs.PolicyText.{OrNoMemory};
+ghost use Rattle.schema_decisions.specs.EntityArrays.{placed, entity_at, entities_of};
+ghost use Rattle.schema_decisions.specs.inner.Stores.{Holds, KeepsNext, ReadsStore};
 
 use crate::refusal::entity_refusal;
 use decision_texts::Refusal;
 use entities::{Entity, EntityFault, read_entity};
 use entity_store::EntityStore;
-use json_words::read_json;
+use json_values::{Member, Members, Scratch, members_of};
 use schema::Schema;
 use serde_json::Value;
 use std::alloc::Global;
-use std::collections::VecDeque;
 
 /// JSON that is no array, or an entity whose uid stands before.
 fn bad_shape(place: Option<usize>) -> Refusal
@@ -44,40 +43,65 @@ fn read_entity_at(
     }
 }
 
-/// Returns the entities of an array, each the only one of its uid. The JSON of each is given up before the next is
-/// read.
-fn read_array(alloc: Global, schema: &Schema, values: Vec<Value>) -> Result<EntityStore, Refusal>
-    ensures { ReadsStore result (entities_in (schema_view schema.now) (items_view values.items)) }
+/// Keeps the entity that a value states at a place of the array, behind those that the store has. Its JSON is given up
+/// before it is kept.
+fn keep_entity(
+    alloc: Global,
+    schema: &Schema,
+    store: &mut EntityStore,
+    value: Value,
+    place: usize,
+) -> Result<(), Refusal>
+    ensures { (es : List Stated) → Holds store.old es →
+        KeepsNext (schema_view schema.now) es place (view value) result store.new }
 {
-    let count = values.len();
-    let mut rest = VecDeque::from_vec(values);
-    let mut store = EntityStore::new(alloc);
-    for place in 0..count {
-        let Some(value) = rest.pop_front() else {
-            unreachable!();
-        };
-        let read = read_entity_at(alloc, schema, &value, place);
-        drop(value);
-        let entity = read?;
-        if !store.put(entity)? {
-            return Err(bad_shape(Some(place)));
-        }
+    let read = read_entity_at(alloc, schema, &value, place);
+    drop(value);
+    let entity = read?;
+    if !store.put(entity)? {
+        return Err(bad_shape(Some(place)));
     }
-    Ok(store)
+    Ok(())
 }
 
-/// Returns the items of an array.
-fn into_array(value: Value) -> Option<Vec<Value>>
-    ensures { option_map (λ values. items_view values.items) result ≡ as_array (view value) }
+/// Returns a member's refusal, or that of a text that is no JSON: what stands behind the member is read first.
+fn if_json(alloc: Global, members: &mut Members<'_>, refusal: Refusal) -> Refusal
+    ensures { (result ≡ no_memory → ⊥) → result ≡ told (bad_shape None) refusal (to_come members.old) }
 {
-    match value {
-        Value::Array(values) => Some(values),
-        _ => None,
+    match members.rest_is_json(alloc) {
+        Ok(true) => refusal,
+        Ok(false) => bad_shape(None),
+        Err(memory) => Refusal::from(memory),
+    }
+}
+
+/// Returns the entities of an array, each the only one of its uid. One member's JSON is held at a time.
+fn read_array(
+    alloc: Global,
+    schema: &Schema,
+    members: &mut Members<'_>,
+) -> Result<EntityStore, Refusal>
+    requires { length members.old.reader < 2 ^ 63 }
+    ensures { ReadsStore result
+        (each_of (bad_shape None) (entity_at (schema_view schema.now)) (to_come members.old)) }
+{
+    let mut store = EntityStore::new(alloc);
+    let mut place = 0;
+    'members: loop {
+        match members.next(alloc)? {
+            Member::Value(value) => {
+                if let Err(refusal) = keep_entity(alloc, schema, &mut store, value, place) {
+                    return Err(if_json(alloc, members, refusal));
+                }
+            }
+            Member::End => return Ok(store),
+            Member::NotJson => return Err(bad_shape(None)),
+        }
+        place += 1;
     }
 }
 
 /// Returns the entities of a text.
-#[tactic(auto, unfolding(crate::specs::EntityArrays::entities_of))]
 pub(crate) fn read_entities(
     alloc: Global,
     schema: &Schema,
@@ -85,11 +109,9 @@ pub(crate) fn read_entities(
 ) -> Result<EntityStore, Refusal>
     ensures { ReadsStore result (entities_of (schema_view schema.now) text.now) }
 {
-    let Some(value) = read_json(alloc, text)? else {
-        return Err(bad_shape(None));
-    };
-    match into_array(value) {
-        Some(values) => read_array(alloc, schema, values),
+    let mut scratch = Scratch::new(alloc);
+    match members_of(&mut scratch, text)? {
+        Some(mut members) => read_array(alloc, schema, &mut members),
         None => Err(bad_shape(None)),
     }
 }
@@ -97,8 +119,8 @@ pub(crate) fn read_entities(
 /// Checks that a text is a JSON array of entities under the schema, each the only one of its uid. Refused as
 /// [`decide_under`](crate::decide_under) refuses entities (30 to 38).
 pub fn judge_entities(alloc: Global, schema: &Schema, text: &[u8]) -> Result<(), Refusal>
-    ensures read { OnOk result ((es : List Entity) × (entities_of (schema_view schema.now) text.now ≡ Ok es)) }
-    ensures refused { IfErr result (OrNoMemory (λ r. entities_of (schema_view schema.now) text.now ≡ Err r)) }
+    ensures read { OnOk result ((es : List Stated) × (entities_of (schema_view schema.now) text.now ≡ Ok es)) }
+    ensures refused { IfErr result (OrNoMemory no_memory (λ r. entities_of (schema_view schema.now) text.now ≡ Err r)) }
 {
     match read_entities(alloc, schema, text) {
         Ok(_) => Ok(()),

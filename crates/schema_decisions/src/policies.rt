@@ -2,7 +2,8 @@
 ghost use Rattle.std.specs.Prelude.{◌≡◌, IfOk, IfErr, All, MatchResult, Ok, Err, map, string_bytes};
 ghost use Rattle.schema.specs.Views.{schema_view};
 ghost use Rattle.validator.specs.Passing.{Passes};
-ghost use Rattle.schema_decisions.specs.Refusals.{OrNoMemory};
+ghost use Rattle.policy_grammar.specs.PolicyText.{OrNoMemory};
+ghost use Rattle.decision_texts.specs.Refusals.{no_memory};
 ghost use Rattle.schema_decisions.specs.Policies.{ArePassing, IsUnpassed, FirstUnpassed, ArePassingRefused};
 
 use decision_texts::{Refusal, policies_in};
@@ -15,7 +16,7 @@ use validator::check;
 /// Checks that the policy at a place passes.
 fn check_at(alloc: Global, schema: &Schema, place: usize, policy: &Policy) -> Result<(), Refusal>
     ensures passes { IfOk result (λ _. Passes (schema_view schema.now) policy.now) }
-    ensures refused { IfErr result (OrNoMemory (IsUnpassed (schema_view schema.now) place policy.now)) }
+    ensures refused { IfErr result (OrNoMemory no_memory (IsUnpassed (schema_view schema.now) place policy.now)) }
 {
     match check(alloc, schema, policy) {
         Ok(_) => Ok(()),
@@ -27,7 +28,7 @@ fn check_at(alloc: Global, schema: &Schema, place: usize, policy: &Policy) -> Re
 fn check_each(alloc: Global, schema: &Schema, policies: &[(String, Policy)]) -> Result<(), Refusal>
     ensures passes { IfOk result (λ _. All (Passes (schema_view schema.now)) (map (λ p. p.1) policies.now)) }
     ensures refused { IfErr result
-        (OrNoMemory (FirstUnpassed (schema_view schema.now) 0 (map (λ p. p.1) policies.now))) }
+        (OrNoMemory no_memory (FirstUnpassed (schema_view schema.now) 0 (map (λ p. p.1) policies.now))) }
 {
     for (place, named) in policies.iter().enumerate() {
         check_at(alloc, schema, place, &named.1)?;
@@ -53,7 +54,7 @@ pub(crate) fn passing_policies(
 ) -> Result<Vec<(String, Policy)>, Refusal>
     ensures passing { IfOk result (λ named. ArePassing (schema_view schema.now) bytes.now
         (map (λ p. string_bytes p.0) named.items) (map (λ p. p.1) named.items)) }
-    ensures refused { IfErr result (OrNoMemory (ArePassingRefused (schema_view schema.now) bytes.now)) }
+    ensures refused { IfErr result (OrNoMemory no_memory (ArePassingRefused (schema_view schema.now) bytes.now)) }
 {
     match policies_in(alloc, bytes) {
         Ok(policies) => {

@@ -2,7 +2,8 @@
 ghost use Rattle.std.specs.Prelude.{◌≢◌, IfOk, IfErr};
 ghost use Rattle.schema.specs.Views.{schema_view};
 ghost use Rattle.entities.specs.declared.fault.EntityFault.TheVariants as EntityFault;
-ghost use Rattle.schema_decisions.specs.Refusals.{OrNoMemory};
+ghost use Rattle.policy_grammar.specs.PolicyText.{OrNoMemory};
+ghost use Rattle.decision_texts.specs.Refusals.{no_memory};
 ghost use Rattle.schema_decisions.specs.Requests.{IsRequestText, IsRequestFault, IsRequestRefused};
 
 use crate::refusal::entity_refusal;
@@ -28,7 +29,7 @@ fn read_question(alloc: Global, schema: &Schema, text: &[u8]) -> Result<Request,
 /// Returns the request that bytes state, or the refusal, which has no place.
 pub(crate) fn request_in(alloc: Global, schema: &Schema, text: &[u8]) -> Result<Request, Refusal>
     ensures read { IfOk result (IsRequestText (schema_view schema.now) text.now) }
-    ensures refused { IfErr result (OrNoMemory (IsRequestRefused (schema_view schema.now) text.now)) }
+    ensures refused { IfErr result (OrNoMemory no_memory (IsRequestRefused (schema_view schema.now) text.now)) }
 {
     match read_question(alloc, schema, text) {
         Ok(request) => Ok(request),

@@ -8,8 +8,8 @@ use Rattle.number_spans.specs.Spans.{has_number}
 use Rattle.values.specs.declared.entity_uid.EntityUid.{EntityUid}
 use Rattle.values.specs.Names.{uid_cmp, text_cmp}
 
-abbrev pub ancestors_at : List (EntityUid × List EntityUid) → EntityUid → Option (List EntityUid)
-ancestors_at ancestors u = lookup (is_at (uid_cmp u)) ancestors
+abbrev pub parents_at : List (EntityUid × List EntityUid) → EntityUid → Option (List EntityUid)
+parents_at parents u = lookup (is_at (uid_cmp u)) parents
 
 -- whether spans, where there are some, have a number
 abbrev pub has_number_at : Option (List Span) → ℕ → Bool
@@ -28,3 +28,13 @@ stands_below numbers spans (Some place) n = is_numbered_at spans place (lookup (
 
 abbrev pub is_above : List (List ℕ × ℕ) → List (List Span) → List ℕ → List ℕ → Bool
 is_above numbers spans child parent = stands_below numbers spans (lookup (is_at (text_cmp child)) numbers) parent
+
+-- at the number of each action stand those of the actions above it
+abbrev pub stands_below_action : List (EntityUid × ℕ) → List (List Span) → Option ℕ → EntityUid → Bool
+stands_below_action numbers spans None above = false
+stands_below_action numbers spans (Some place) above =
+    is_numbered_at spans place (lookup (is_at (uid_cmp above)) numbers)
+
+abbrev pub is_action_above : List (EntityUid × ℕ) → List (List Span) → EntityUid → EntityUid → Bool
+is_action_above numbers spans u above =
+    stands_below_action numbers spans (lookup (is_at (uid_cmp u)) numbers) above

@@ -1,5 +1,5 @@
-//! What a schema is made of, and how it is looked up: places and environments in their order, the label, the actions
-//! above one, the types above one, and whether some action is above itself.
+//! What a schema is made of, and how it is looked up: places and environments in their order, the label, the parents of
+//! an action, the actions and types above one, and whether some action is above itself.
 #![tactic(auto)]
 
 mod cycles;
@@ -11,5 +11,5 @@ mod parts;
 pub use cycles::demand_no_cycle;
 pub use environments::{listed, make_place};
 pub use label::label_of;
-pub use lookups::{ancestors_at, may_have_parent};
+pub use lookups::{is_action_above, may_have_parent, parents_at};
 pub use parts::{EntityDecl, Environment, Place};

@@ -1,25 +1,25 @@
-//! What is found in the parts of a schema. No look-up takes memory. Each takes logarithmic time; that of a type
-//! above another also the time that the spans of numbers above it take, which are few where types form layers.
+//! What is found in the parts of a schema. No look-up takes memory. Each takes logarithmic time; that of a type or an
+//! action above another also the logarithm of the spans of numbers above it, which are few where they form layers.
 ghost use Rattle.std.specs.Prelude.{◌≡◌, option_map};
 ghost use Rattle.std.specs.List.{slice_get};
 ghost use Rattle.std.specs.BTreeMap.{get};
-ghost use Rattle.values.specs.Names.{text_cmp};
-ghost use Rattle.schema_parts.specs.LookUps.{ancestors_at, has_number_at, is_numbered_at, is_above};
+ghost use Rattle.values.specs.Names.{text_cmp, uid_cmp};
+ghost use Rattle.schema_parts.specs.LookUps.{parents_at, has_number_at, is_numbered_at, is_above, is_action_above};
 
 use number_spans::{Span, has_number};
 use plain::Items;
 use std::collections::BTreeMap;
 use values::{EntityUid, TypeName};
 
-/// Returns the actions above an action; None where it is none.
-pub fn ancestors_at<'a>(
-    ancestors: &'a BTreeMap<EntityUid, Items<EntityUid>>,
+/// Returns the parents of an action; None where it is none.
+pub fn parents_at<'a>(
+    parents: &'a BTreeMap<EntityUid, Items<EntityUid>>,
     uid: &EntityUid,
 ) -> Option<&'a [EntityUid]>
-    ensures { option_map (λ us. us.now) result ≡ ancestors_at ancestors.now.entries uid.now }
+    ensures { option_map (λ us. us.now) result ≡ parents_at parents.now.entries uid.now }
 {
-    match ancestors.get(uid) {
-        Some(above) => Some(above.as_slice()),
+    match parents.get(uid) {
+        Some(found) => Some(found.as_slice()),
         None => None,
     }
 }
@@ -61,6 +61,36 @@ pub fn may_have_parent(
 {
     match numbers.get(child) {
         Some(place) => is_numbered_at(numbers, spans, *place, parent),
+        None => false,
+    }
+}
+
+/// Returns whether an action has a number, which is among those at a place.
+fn is_action_numbered_at(
+    numbers: &BTreeMap<EntityUid, usize>,
+    spans: &[Items<Span>],
+    place: usize,
+    uid: &EntityUid,
+) -> bool
+    ensures { result ≡ is_numbered_at spans.now place (get uid_cmp numbers.now uid.now) }
+{
+    match numbers.get(uid) {
+        Some(number) => has_number_at(spans, place, *number),
+        None => false,
+    }
+}
+
+/// Returns whether an action is above another: at the number of each action stand those of the actions above it.
+pub fn is_action_above(
+    numbers: &BTreeMap<EntityUid, usize>,
+    spans: &[Items<Span>],
+    action: &EntityUid,
+    above: &EntityUid,
+) -> bool
+    ensures { result ≡ is_action_above numbers.now.entries spans.now action.now above.now }
+{
+    match numbers.get(action) {
+        Some(place) => is_action_numbered_at(numbers, spans, *place, above),
         None => false,
     }
 }

@@ -34,27 +34,27 @@ module _ (s : StatedSchema) (id text : List ℕ) (named : IsId id) (r : SiteFaul
   unread : (f : ReadFault) → IsPolicyRefused text f → r ≡ fault.Policy f → IsNotAdmitted s id text r
   unread f h e = subst (λ x. IsNotAdmitted s id text x) (sym e) (no_policy f named h)
 
-  pub not_read : (f : ReadFault) → OrNoMemory (IsPolicyRefused text) f → r ≡ of_reading f → r ≢ fault.NoMemory
-      → IsNotAdmitted s id text r
+  pub not_read : (f : ReadFault) → OrNoMemory reading.NoMemory (IsPolicyRefused text) f → r ≡ of_reading f
+      → OrNoMemory fault.NoMemory (IsNotAdmitted s id text) r
   not_read reading.NoMemory h e apart = absurd (apart e)
-  not_read (reading.BadToken at) h e apart = unread (reading.BadToken at) h e
-  not_read (reading.Unexpected at) h e apart = unread (reading.Unexpected at) h e
-  not_read (reading.NumberRange at) h e apart = unread (reading.NumberRange at) h e
-  not_read (reading.UnknownCall at) h e apart = unread (reading.UnknownCall at) h e
-  not_read (reading.Arity at) h e apart = unread (reading.Arity at) h e
-  not_read (reading.RepeatedKey at) h e apart = unread (reading.RepeatedKey at) h e
-  not_read (reading.Slot at) h e apart = unread (reading.Slot at) h e
-  not_read (reading.TooDeep at) h e apart = unread (reading.TooDeep at) h e
-  not_read reading.TooLong h e apart = unread reading.TooLong h e
-  not_read reading.BadId h e apart = unread reading.BadId h e
+  not_read (reading.BadToken at) h e apart = unread (reading.BadToken at) (h (λ x. cc)) e
+  not_read (reading.Unexpected at) h e apart = unread (reading.Unexpected at) (h (λ x. cc)) e
+  not_read (reading.NumberRange at) h e apart = unread (reading.NumberRange at) (h (λ x. cc)) e
+  not_read (reading.UnknownCall at) h e apart = unread (reading.UnknownCall at) (h (λ x. cc)) e
+  not_read (reading.Arity at) h e apart = unread (reading.Arity at) (h (λ x. cc)) e
+  not_read (reading.RepeatedKey at) h e apart = unread (reading.RepeatedKey at) (h (λ x. cc)) e
+  not_read (reading.Slot at) h e apart = unread (reading.Slot at) (h (λ x. cc)) e
+  not_read (reading.TooDeep at) h e apart = unread (reading.TooDeep at) (h (λ x. cc)) e
+  not_read reading.TooLong h e apart = unread reading.TooLong (h (λ x. cc)) e
+  not_read reading.BadId h e apart = unread reading.BadId (h (λ x. cc)) e
 
   -- a policy that does not pass
   unpassed : (p : Policy) → IsPolicyText text p → (f : CheckFault) → IsCheckRefused s p f → r ≡ fault.Check f
       → IsNotAdmitted s id text r
   unpassed p is f h e = subst (λ x. IsNotAdmitted s id text x) (sym e) (not_passing p f named is h)
 
-  pub not_passed : (p : Policy) → IsPolicyText text p → (f : CheckFault) → (f ≢ checking.NoMemory → IsCheckRefused s p f)
-      → r ≡ of_checking f → r ≢ fault.NoMemory → IsNotAdmitted s id text r
+  pub not_passed : (p : Policy) → IsPolicyText text p → (f : CheckFault) → OrNoMemory checking.NoMemory (IsCheckRefused s p) f
+      → r ≡ of_checking f → OrNoMemory fault.NoMemory (IsNotAdmitted s id text) r
   not_passed p is checking.NoMemory h e apart = absurd (apart e)
   not_passed p is checking.UnknownType h e apart = unpassed p is checking.UnknownType (h (λ x. cc)) e
   not_passed p is checking.UnknownAction h e apart = unpassed p is checking.UnknownAction (h (λ x. cc)) e

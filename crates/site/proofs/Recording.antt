@@ -24,7 +24,7 @@ use Rattle.site.specs.Admitted.{IsEntityUnder, IsNotAdmitted, bad_id, no_policy,
 use Rattle.site.specs.Seen.{IsHeld, IsSite}
 use Rattle.site.specs.Steps.{Records, PutsPolicy, PutsEntity, Deletes}
 use Rattle.site.specs.inner.Recording.{RecordsOr, PutsUnless, IsNext, put_result, IsStatedBy, StatesNone, IsJudged}
-use Rattle.site.specs.inner.Recording.{OrNoMemory}
+use Rattle.text_trees.specs.Texts.{OrNoMemory}
 
 -- ---- what is always true of a site, after a call that may have found no memory
 pub site_after : {A B : Type 0} → (schema : StatedSchema) (name : List ℕ) (k l t : StoreEntries Policy Entity) (u : Update)
@@ -95,7 +95,7 @@ none_clock_full schema id text _ (no_policy f named h) e = absurd (cc)
 none_clock_full schema id text _ (not_passing p f named is h) e = absurd (cc)
 
 pub refuses_policy : (schema : StatedSchema) (n : List ℕ) (s : Store) (id text : List ℕ) (f : SiteFault)
-    → OrNoMemory (IsNotAdmitted schema id text) f → PutsPolicy schema n s id text (Err f) s
+    → OrNoMemory fault.NoMemory (IsNotAdmitted schema id text) f → PutsPolicy schema n s id text (Err f) s
 refuses_policy schema n s id text fault.NoMemory h = refl
 refuses_policy schema n s id text (fault.Policy f) h = (h (λ e. cc), refl)
 refuses_policy schema n s id text (fault.Check f) h = (h (λ e. cc), refl)
@@ -161,7 +161,7 @@ put_or_not law n s (Err e) uid text r t h =
     subst (λ q. IfOk q (λ stamp. get t (entity_name uid) ≡ Some (issued stamp (Some text)))) (sym h.0) tt
 
 pub refuses_entity : (schema : StatedSchema) (n : List ℕ) (s : Store) (json : Option Data) (f : SiteFault)
-    → OrNoMemory (StatesNone schema json) f → PutsEntity schema n s json (Err f) s
+    → OrNoMemory fault.NoMemory (StatesNone schema json) f → PutsEntity schema n s json (Err f) s
 refuses_entity schema n s json fault.NoMemory h = refl
 refuses_entity schema n s json (fault.Policy f) h = absurd (h (λ e. cc))
 refuses_entity schema n s json (fault.Check f) h = absurd (h (λ e. cc))

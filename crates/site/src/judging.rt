@@ -9,8 +9,10 @@ ghost use Rattle.schema.specs.Views.{schema_view};
 ghost use Rattle.entities.specs.Canonical.{canonical_text};
 ghost use Rattle.entities.specs.Entities.{entity_stated_in};
 ghost use Rattle.stored_texts.specs.passed_on.validator.{Passes, IsImpossible};
+ghost use Rattle.text_trees.specs.Texts.{OrNoMemory};
+ghost use Rattle.site.specs.declared.fault.SiteFault.TheVariants as SiteFault;
 ghost use Rattle.site.specs.Admitted.{IsEntityUnder, IsNotAdmitted, IsRequestOf};
-ghost use Rattle.site.specs.inner.Recording.{IsStated, IsStatedBy, StatesNone, AsksNone, IsJudged, OrNoMemory};
+ghost use Rattle.site.specs.inner.Recording.{IsStated, IsStatedBy, StatesNone, AsksNone, IsJudged};
 
 use crate::fault::SiteFault;
 use entities::{
@@ -39,7 +41,7 @@ fn is_id(id: &str) -> bool
 fn policy_of(alloc: Global, text: &str) -> Result<Policy, SiteFault>
     ensures read { IfOk result (IsPolicyText text.now) }
     ensures refused { IfErr result (λ f. (s : StatedSchema) (id : List ℕ) → IsId id
-        → OrNoMemory (IsNotAdmitted s id text.now) f) }
+        → OrNoMemory SiteFault.NoMemory (IsNotAdmitted s id text.now) f) }
 {
     match parse_policy(alloc, text) {
         Ok(policy) => Ok(policy),
@@ -52,7 +54,7 @@ fn is_impossible(alloc: Global, schema: &Schema, policy: &Policy) -> Result<bool
     ensures passes { IfOk result (λ yes. Passes (schema_view schema.now) policy.now
         × (IsTrue yes ↔ IsImpossible (schema_view schema.now) policy.now)) }
     ensures refused { IfErr result (λ f. (id text : List ℕ) → IsId id → IsPolicyText text policy.now
-        → OrNoMemory (IsNotAdmitted (schema_view schema.now) id text) f) }
+        → OrNoMemory SiteFault.NoMemory (IsNotAdmitted (schema_view schema.now) id text) f) }
 {
     match check(alloc, schema, policy) {
         Ok(verdict) => Ok(verdict.impossible),
@@ -108,7 +110,8 @@ pub(crate) fn judged_policy(
     ensures named { IfOk result (λ j. string_bytes j.id ≡ id.now) }
     ensures judged { IfOk result
         (λ j. IsJudged (schema_view schema.now) id.now text.now j.body j.impossible) }
-    ensures refused { IfErr result (OrNoMemory (IsNotAdmitted (schema_view schema.now) id.now text.now)) }
+    ensures refused { IfErr result
+        (OrNoMemory SiteFault.NoMemory (IsNotAdmitted (schema_view schema.now) id.now text.now)) }
 {
     if !is_id(id) {
         return Err(SiteFault::Policy(ReadFault::BadId));
@@ -130,7 +133,8 @@ pub(crate) fn judged_policy(
 fn entity_of(alloc: Global, schema: &Schema, json: &Value) -> Result<Entity, SiteFault>
     ensures states { IfOk result (λ e. entity_stated_in (schema_view schema.now) (view json.now) ≡ Ok e) }
     ensures path { IfOk result (λ e. IsPath e.uid.type_name) }
-    ensures refused { IfErr result (OrNoMemory (StatesNone (schema_view schema.now) (Some (view json.now)))) }
+    ensures refused { IfErr result
+        (OrNoMemory SiteFault.NoMemory (StatesNone (schema_view schema.now) (Some (view json.now)))) }
 {
     names_read_back();
     match read_entity(alloc, schema, json) {
@@ -178,7 +182,8 @@ pub(crate) fn stated_entity(
 ) -> Result<(EntityUid, ReadText<Entity>), SiteFault>
     ensures named { IfOk result (λ b. b.0 ≡ b.1.read.uid) }
     ensures stated { IfOk result (λ b. IsStatedBy (schema_view schema.now) (Some (view json.now)) b.1) }
-    ensures refused { IfErr result (OrNoMemory (StatesNone (schema_view schema.now) (Some (view json.now)))) }
+    ensures refused { IfErr result
+        (OrNoMemory SiteFault.NoMemory (StatesNone (schema_view schema.now) (Some (view json.now)))) }
 {
     match entity_of(alloc, schema, json) {
         Ok(entity) => {
@@ -199,7 +204,8 @@ pub(crate) fn stated_request(
     json: &Value,
 ) -> Result<Request, SiteFault>
     ensures stated { IfOk result (IsRequestOf (schema_view schema.now) (Some (view json.now))) }
-    ensures refused { IfErr result (OrNoMemory (AsksNone (schema_view schema.now) (Some (view json.now)))) }
+    ensures refused { IfErr result
+        (OrNoMemory SiteFault.NoMemory (AsksNone (schema_view schema.now) (Some (view json.now)))) }
 {
     match read_request(alloc, schema, json) {
         Ok(request) => Ok(request),

@@ -175,6 +175,14 @@ impl Site {
         Ok(answered?)
     }
 
+    /// Makes what is kept beside the store where it does not stand, if memory suffices, as each put, deletion or
+    /// message does: for a site that is asked before anything was put into it. No entry changes.
+    pub fn rebuild(&mut self)
+        ensures { self.new ≡ self.old }
+    {
+        self.store.rebuild();
+    }
+
     /// Returns whether the kept ancestors stand, and the index of policies; for tests alone.
     pub fn standing(&self) -> (bool, bool) {
         self.store.standing()

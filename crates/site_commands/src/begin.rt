@@ -38,6 +38,14 @@ fn with_state(alloc: Global, mut site: Site, bytes: &[u8]) -> Result<Site, Refus
     }
 }
 
+/// Returns the site with what it keeps beside its store, where memory suffices. Behind a state that is made already.
+fn standing(mut site: Site) -> Site
+    ensures { result ≡ site }
+{
+    site.rebuild();
+    site
+}
+
 /// Returns the site of this name under a schema, empty or with the updates of a message.
 fn begin_under(
     alloc: Global,
@@ -53,7 +61,7 @@ fn begin_under(
     let site = Site::new(alloc, schema, name.as_str());
     match state {
         Some(bytes) => with_state(alloc, site, bytes),
-        None => Ok(site),
+        None => Ok(standing(site)),
     }
 }
 

@@ -247,9 +247,9 @@ module _ (stores : LawsOfStores) (schema : StatedSchema) (s : Store) (held : May
 
     held_parents : HaveAllParents (world_under schema entities_held).parents held_uids
     unfolding held_uids
-    held_parents b a h = parent_of (schema.ancestors b) (option_map data_of (entities_held b)) a h
+    held_parents b a h = parent_of (schema.member_of b) (option_map data_of (entities_held b)) a h
         (λ us is. Contains-append_right (firsts (entities_of s)) schema.actions b
-        ((is_schema.answers.actions b).1 (is_schema.answers.ancestors b us is).0))
+        ((is_schema.answers.actions b).1 (is_schema.answers.member_of b us is).0))
         (λ m.
         let found = text_there (IsEntityUnder schema b) (text_under s (entity_name b)) (entities_held b) a (are_entities b) m in
         Contains-append_left (firsts (entities_of s)) schema.actions b

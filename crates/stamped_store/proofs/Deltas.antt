@@ -18,7 +18,7 @@ use Rattle.stamped_store.specs.Stored.{value_at}
 use Rattle.stamped_store.specs.Store.{Store, Update, updates, plain_below, IsStoreBelow, joined_stores}
 use Rattle.stamped_store.specs.Deltas.{Summary, stamp_of, stamp_cmp, summary_of, is_news, delta, HaveOneEntryForAStamp}
 use Rattle.stamped_store.proofs.Greatests.{greater_entry_is_join}
-use Rattle.stamped_store.proofs.Stores.{get-joined_stores}
+use Rattle.stamped_store.proofs.JoinedStores.{get-joined_stores}
 
 -- ---- what a summary has at a name
 stamps_found : (us : List Update) (q : Name) → value_at name_cmp (map (λ u. (u.0, stamp_of u.1)) us) q ≡ option_map stamp_of (find name_cmp q us)

@@ -10,3 +10,4 @@ pub mod Kept
 pub mod Contents
 pub mod Deltas
 pub mod Raising
+pub mod JoinedStores

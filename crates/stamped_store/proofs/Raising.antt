@@ -18,7 +18,7 @@ use Rattle.stamped_store.specs.Raised.{NumberedEntry, NumberedUpdate, NumberedSt
 use Rattle.stamped_entries.proofs.SiteNames.{five_digits_cmp}
 use Rattle.stamped_store.proofs.Greatests.{entry_order, entry_order_by}
 use Rattle.stamped_store.proofs.GreatestsBy.{IsExactOrder, get-store_of, is_store_of-store_of, same_store, joined_is_least, one_least}
-use Rattle.stamped_store.proofs.Stores.{joined_is_join}
+use Rattle.stamped_store.proofs.JoinedStores.{joined_is_join}
 
 -- sites with numbers have an exact order too
 numbered_order : IsExactOrder numbered_cmp

@@ -1,47 +1,16 @@
--- Membership in an ascending list of uids, by a binary search.
-use Rattle.std.proofs.Common.{◌≡◌, ℕ, ◌≤◌, Bool, List, length, get_or, Option, Some, refl, ap, sym, subst, ◌∙◌, inl, inr, arith, Result, Ok, Err}
-use Rattle.std.specs.Prelude.{Contains, ◌↔◌, IsTrue, is_ok}
-use Rattle.std.specs.List.Sorted.{IsBinarySearchResult, IsSearchInRange, IsNonDecreasingBy, IsStrictlySortedBy}
-use Rattle.std.specs.Ordering.{ordering_index}
-use Rattle.std.specs.Cmp.{alike_right, tied_itself}
-use Rattle.std.specs.declared.cmp.Ordering.{Ordering}
-use Rattle.std.specs.declared.cmp.Ordering.TheVariants.{Less, Equal, Greater}
-use Rattle.std.proofs.lemmas.Map.Keys.{Less-from_sorted}
-use Rattle.std.proofs.lemmas.Bool.{cases_lt}
+-- Whether an action is above another, in the words of typing.
+use Rattle.std.proofs.Common.{◌≡◌, Bool, List, Option, Some, None, refl, sym, subst, arith}
+use Rattle.std.specs.Prelude.{Contains, ◌↔◌, IsTrue}
 use Rattle.values.specs.declared.entity_uid.EntityUid.{EntityUid}
-use Rattle.values.specs.Names.{uid_cmp, uid_cmp-IsTotalOrder, uid_cmp-IsAntisymmetric}
 use Rattle.static_types.specs.FromSchemas.{declared_ancestors}
 
--- what a greater one compares as is no less
-rises : (a b x : EntityUid) → uid_cmp a b ≡ Less → (r : Ordering) → uid_cmp b x ≡ r → ordering_index (uid_cmp a x) ≤ ordering_index r
-rises a b x lt Less e = rw (uid_cmp-IsTotalOrder.trans a b x lt e) (omega arith)
-rises a b x lt Equal e = rw (sym (alike_right uid_cmp-IsTotalOrder b x a e) ∙ lt) (omega arith)
-rises a b x lt Greater e = top (uid_cmp a x)
-  where
-    top : (o : Ordering) → ordering_index o ≤ 2
-    top Less = omega arith
-    top Equal = omega arith
-    top Greater = omega arith
+same_list : (us vs : List EntityUid) → Some us ≡ Some vs → us ≡ vs
+same_list us vs e = cc
 
-comparisons_rise : (xs : List EntityUid) (x : EntityUid) → IsStrictlySortedBy uid_cmp xs → IsNonDecreasingBy (λ y. ordering_index (uid_cmp y x)) xs
-comparisons_rise xs x sorted i j d le lt = elim (cases_lt i j) [
-  | inl below ↦ rises (get_or xs i d) (get_or xs j d) x (Less-from_sorted uid_cmp xs i j d sorted below lt) (uid_cmp (get_or xs j d) x) refl
-  | inr above ↦ let same : i ≡ j = omega arith in rw same (omega arith)
-]
+above_listed : (o : Option (List EntityUid)) (a : EntityUid) → ((us : List EntityUid) × (o ≡ Some us) × Contains us a) ↔ Contains (declared_ancestors o) a
+above_listed (Some ws) a = ((λ h. subst (λ (xs : List EntityUid). Contains xs a) (sym (same_list ws h.0 h.1)) h.2), (λ c. (ws, refl, c)))
+above_listed None a = ((λ h. absurd cc), (λ c. absurd (omega (arith, c.1))))
 
-pub found_in : (xs : List EntityUid) (x : EntityUid) (r : Result ℕ ℕ) → IsStrictlySortedBy uid_cmp xs → IsSearchInRange r (length xs) → IsBinarySearchResult (λ y. uid_cmp y x) xs r → IsTrue (is_ok r) ↔ Contains xs x
-found_in xs x (Ok i) sorted bound at = (λ _. (i, bound, uid_cmp-IsAntisymmetric _ x (at x)), λ _. refl)
-found_in xs x (Err i) sorted bound parted = (λ t. cc t, λ h. absurd (apart h))
-  where
-    apart : Contains xs x → ⊥
-    apart (k, lt, e) =
-        let parts = parted (comparisons_rise xs x sorted) in
-        let tied : uid_cmp (get_or xs k x) x ≡ Equal = ap (λ y. uid_cmp y x) e ∙ tied_itself uid_cmp-IsTotalOrder x in
-        elim (cases_lt k i) [
-          | inl below ↦ let less = parts.0 k x (omega arith) below in cc (less, tied)
-          | inr above ↦ let greater = parts.1 k x above lt in cc (greater, tied)
-        ]
-
-pub listed : (o : Option (List EntityUid)) (us : List EntityUid) (a : EntityUid) (b : Bool) → Some us ≡ o
-    → (IsTrue b ↔ Contains us a) → (IsTrue b ↔ Contains (declared_ancestors o) a)
-listed o us a b e there = subst (λ p. IsTrue b ↔ Contains (declared_ancestors p) a) e there
+pub listed : (o : Option (List EntityUid)) (a : EntityUid) (b : Bool) → (IsTrue b ↔ ((us : List EntityUid) × (o ≡ Some us) × Contains us a))
+    → (IsTrue b ↔ Contains (declared_ancestors o) a)
+listed o a b told = let same = above_listed o a in ((λ yes. same.0 (told.0 yes)), (λ c. told.1 (same.1 c)))

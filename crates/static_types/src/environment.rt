@@ -1,7 +1,6 @@
 //! What policies are typed against.
 ghost use Rattle.std.specs.Prelude.{◌≡◌, ◌↔◌, [], false, Contains, IsTrue};
-ghost use Rattle.std.specs.List.Sorted.{IsStrictlySortedBy};
-ghost use Rattle.values.specs.Names.{text_cmp, uid_cmp};
+ghost use Rattle.values.specs.Names.{text_cmp};
 ghost use Rattle.schema_types.specs.CedarViews.{cedar_view, cedar_fields_view};
 ghost use Rattle.schema.specs.Views.{schema_view, environment_view};
 ghost use Rattle.entities.specs.Entities.{is_action_type};
@@ -96,14 +95,6 @@ fn found_in_order<'r, 'a>(
     }
 }
 
-/// Returns whether a uid is one of these, which ascend; takes logarithmic time.
-fn is_among(uids: &[EntityUid], uid: &EntityUid) -> bool
-    requires { IsStrictlySortedBy uid_cmp uids.now }
-    ensures { IsTrue result ↔ Contains uids.now uid.now }
-{
-    uids.binary_search(uid).is_ok()
-}
-
 impl<'a> TypingEnvironment<'a> {
     /// Returns an environment of a schema; takes no memory.
     pub fn new(schema: &'a Schema, environment: &'a Environment) -> TypingEnvironment<'a>
@@ -167,11 +158,6 @@ impl<'a> TypingEnvironment<'a> {
     pub fn is_action_ancestor(self, action: &EntityUid, above: &EntityUid) -> bool
         ensures { IsTrue result ↔ Contains ((typing_environment self.entry).action_ancestors action.now) above.now }
     {
-        self.schema.is_stated();
-        stated_schemas_are_well_formed();
-        match self.schema.action_ancestors(action) {
-            Some(ancestors) => is_among(ancestors, above),
-            None => false,
-        }
+        self.schema.is_action_above(action, above)
     }
 }

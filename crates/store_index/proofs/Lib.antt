@@ -1,2 +1,3 @@
 mod Follows
+mod Giving
 pub mod Unchanged

@@ -1,4 +1,6 @@
--- When an index is the one of a store's policies.
+-- When an index is the one of a store's policies. A rule of this product: it has each policy under its id, by the key
+-- of its scope; a deleted policy has none.
+-- Source: Cedar reference guide 4.0, "Policy scope", for what a scope is.
 use Rattle.std.specs.Prelude.{◌≡◌, ℕ, List, Option, option_map, option_and_then}
 use Rattle.std.specs.declared.alloc.Global.{Global}
 use Rattle.std.specs.declared.string.String.{String}

@@ -1,4 +1,6 @@
--- A change that changes nothing.
+-- A change that changes nothing. A rule of this product: where an entry is joined onto one that is stored, the greater
+-- of the two stands, and of two that tie the stored one.
+-- Source: order theory's join (least upper bound): it is the stored entry exactly where the other is at most that.
 use Rattle.std.specs.Prelude.{◌≡◌, Option, Some}
 use Rattle.stamped_entries.specs.declared.entry.Entry.{Entry}
 use Rattle.stamped_store.specs.EntryOrder.{greater}

@@ -92,14 +92,15 @@ fn index_of<E: Drop>(alloc: Global, store: &PolicyStore<Policy, E>) -> Result<Sc
     Ok(index)
 }
 
-/// Makes the index anew where it was dropped, if memory suffices.
+/// Makes the index anew where it was dropped, if memory suffices. One that stands is left as it is.
 pub fn stand_index<E: Drop>(
     alloc: Global,
     store: &PolicyStore<Policy, E>,
     index: &mut Option<ScopeIndex>,
 )
     requires { IfSome index.old (AreIndexed store.now.policies) }
-    ensures { IfSome index.new (AreIndexed store.now.policies) }
+    ensures indexed { IfSome index.new (AreIndexed store.now.policies) }
+    ensures stays { (index.old ≡ None) ⊎ (index.new ≡ index.old) }
 {
     if index.is_some() {
         return;
@@ -140,6 +141,7 @@ fn take_and_follow<E: Drop>(
         (store.new ≡ kept (taken string_cmp greater store.old.policies id entry) store.old.entities) }
     ensures refused { IfErr result (λ pair. pair ≡ (id, entry)) }
     ensures err { OnErr result (store.new ≡ store.old) }
+    ensures left { OnErr result (index.new ≡ index.old) }
 {
     let name = String::from_str(alloc, id.as_str());
     store.take_policy(id, entry)?;
@@ -170,6 +172,7 @@ pub fn take_policy<E: Drop>(
         (store.new ≡ kept (taken string_cmp greater store.old.policies id entry) store.old.entities) }
     ensures refused { IfErr result (λ pair. pair ≡ (id, entry)) }
     ensures err { OnErr result (store.new ≡ store.old) }
+    ensures left { OnErr result (index.new ≡ index.old) }
 {
     if needs_nothing(store, index, id.as_str(), &entry) {
         return store.take_policy(id, entry);

@@ -13,12 +13,12 @@ ghost use Rattle.entities.specs.Entities.{entity_stated_in};
 ghost use Rattle.entities.specs.Canonical.{canonical_text};
 ghost use Rattle.validator.specs.Faults as validation;
 ghost use Rattle.validator.specs.Passing.{Passes};
-ghost use Rattle.state_messages.specs.Bodies.{OrNoMemory};
+ghost use Rattle.text_trees.specs.Texts.{OrNoMemory};
 ghost use Rattle.stored_texts.specs.Texts.{ReadsPolicy, RefusesPolicy, RefusesEntity};
 ghost use Rattle.stored_texts.specs.Texts.{entity_of_text, refused_by};
 
 use entities::{Entity, EntityFault, canonical_text, read_entity};
-use json_words::read_json;
+use json_values::{Scratch, read_json_by};
 use policy_grammar::{Policy, ReadFault, parse_policy};
 use schema::Schema;
 use serde_json::Value;
@@ -124,10 +124,10 @@ fn passing_policy(alloc: Global, schema: &Schema, text: &str) -> Result<Policy, 
 }
 
 /// Returns the JSON of a text.
-fn json_in(alloc: Global, text: &str) -> Result<Value, BodyFault>
+fn json_in(alloc: Global, scratch: &mut Scratch, text: &str) -> Result<Value, BodyFault>
     ensures { ReadsAs BodyFault.NoMemory view result (or_fault (BodyFault.Refused 30) (json_of text.now)) }
 {
-    match read_json(alloc, text.as_bytes())? {
+    match read_json_by(scratch, alloc, text.as_bytes())? {
         Some(json) => Ok(json),
         None => Err(BodyFault::Refused(30)),
     }
@@ -173,13 +173,14 @@ fn demand_uid(entity: &Entity, uid: &EntityUid) -> Result<(), BodyFault>
 #[tactic(auto, unfolding(crate::specs::Texts::entity_of_text))]
 fn canonical_entity(
     alloc: Global,
+    scratch: &mut Scratch,
     schema: &Schema,
     uid: &EntityUid,
     text: &str,
 ) -> Result<Entity, BodyFault>
     ensures { ReadsAs BodyFault.NoMemory (λ e. e) result (entity_of_text (schema_view schema.now) uid.now text.now) }
 {
-    let json = json_in(alloc, text)?;
+    let json = json_in(alloc, scratch, text)?;
     let entity = allowed_entity(alloc, schema, &json)?;
     demand_canonical(alloc, &entity, text)?;
     demand_uid(&entity, uid)?;
@@ -195,7 +196,13 @@ impl Bodies<Policy, Entity> for SchemaTexts<'_> {
         passing_policy(alloc, self.schema, text)
     }
 
-    fn read_entity(&self, alloc: Global, uid: &EntityUid, text: &str) -> Result<Entity, BodyFault> {
-        canonical_entity(alloc, self.schema, uid, text)
+    fn read_entity(
+        &self,
+        alloc: Global,
+        scratch: &mut Scratch,
+        uid: &EntityUid,
+        text: &str,
+    ) -> Result<Entity, BodyFault> {
+        canonical_entity(alloc, scratch, self.schema, uid, text)
     }
 }

@@ -54,9 +54,9 @@ module _ (Entities : EntityUid → List ℕ → Entity → Type 0) (schema : Sta
   all_parents : (s : Store) (es : EntityUid → Option Entity) → AreEntities Entities s es
       → HaveAllParents (world_under schema es).parents (with_parents_of s)
   unfolding with_parents_of
-  all_parents s es are b a h = parent_of (schema.ancestors b) (option_map data_of (es b)) a h
+  all_parents s es are b a h = parent_of (schema.member_of b) (option_map data_of (es b)) a h
       (λ us is. Contains-append_right (firsts (entities_of s)) schema.actions b
-      ((is_schema.answers.actions b).1 (is_schema.answers.ancestors b us is).0))
+      ((is_schema.answers.actions b).1 (is_schema.answers.member_of b us is).0))
       (λ m.
       let found = text_of (Entities b) (text_under s (entity_name b)) (es b) a (are b) m in
       Contains-append_left (firsts (entities_of s)) schema.actions b (first_in (entities_of s) (b, found.0) ((stand s b found.0).1 found.1)))

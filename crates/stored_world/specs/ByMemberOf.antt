@@ -1,6 +1,6 @@
 -- What a store says where each action of the schema has as parents what its `memberOf` states, and no more: its
--- answers, and the cycles that a put makes. That they are the answers and the cycles over a world in which all that is
--- above an action stands as its parents is a law of this crate.
+-- answers, and the cycles that a put makes. That these are what contracts speak of, which take the parents from what a
+-- schema answers, is a law of this crate.
 -- Source: Cedar reference guide 4.0, "Schema JSON format", `actions` and `memberOf`.
 use Rattle.std.specs.Prelude.{◌↔◌, ℕ, List, Option}
 use Rattle.values.specs.declared.entity_uid.EntityUid.{EntityUid}

@@ -46,10 +46,10 @@ abbrev pub data_in : (EntityUid → Option Entity) → EntityMap
 data_in entities uid = option_map data_of (entities uid)
 
 -- A World, as evaluation asks for it: the attributes of these entities, and the parents of these and of the schema's
--- actions. All that is above an action stands as its parents; that the parents that its `memberOf` states would lead to
--- the same answers, and to the same cycles, is a law of this crate (specs/ByMemberOf.antt).
+-- actions, of each what its `memberOf` states (specs/ByMemberOf.antt). That all that is above an action might stand as
+-- its parents, with the same answers and the same cycles, is a law of `entity_store`.
 abbrev pub world_under : StatedSchema → (EntityUid → Option Entity) → World
-world_under schema entities = world_in (with_actions schema.ancestors (data_in entities))
+world_under schema entities = world_in (with_actions schema.member_of (data_in entities))
 
 -- the answer to a request over a store
 pub record IsAnswerOver (Policies : List ℕ → List ℕ → Policy → Type 0) (Entities : EntityUid → List ℕ → Entity → Type 0)

@@ -1,20 +1,21 @@
 -- From the refusal of tokens to the refusal of their text.
-use Rattle.std.proofs.Common.{◌≡◌, ℕ, List, ◌⊎◌, refl, sym, subst, inl, inr}
+use Rattle.std.proofs.Common.{◌≡◌, ℕ, List, ◌⊎◌, refl, ap, inl, inr}
 use Rattle.policy_tokens.specs.declared.token.Token.{Token}
 use Rattle.token_readers.specs.declared.fault.SyntaxFault.{SyntaxFault}
 use Rattle.token_readers.specs.declared.fault.SyntaxFault.TheVariants as syntax
 use Rattle.token_readers.specs.Lang.{Lang}
 use Rattle.token_readers.specs.Reads.{IsRefusedWithin}
+use Rattle.text_trees.specs.declared.fault.ReadFault.TheVariants as fault
 use Rattle.text_trees.specs.Texts.{IsUnread, OrNoMemory}
 use Rattle.text_trees.specs.inner.Parts.{LexedIn, refusal_of}
 
 module _ {A : Type 0} (L K : Lang A) (most : ℕ) (text : List ℕ) (tokens : List Token) (l : LexedIn most text tokens) where
-  stopped : (e : SyntaxFault) → IsRefusedWithin L K tokens e → OrNoMemory (IsUnread L K most text) (refusal_of text tokens e)
-  stopped syntax.NoMemory r = tt
-  stopped (syntax.Unexpected place) r = record { short = l.short; tokens = tokens; lexed = l.lexed; place = place; refused = r; byte = refl }
-  stopped (syntax.Slot place) r = record { short = l.short; tokens = tokens; lexed = l.lexed; place = place; refused = r; byte = refl }
-  stopped (syntax.TooDeep place) r = record { short = l.short; tokens = tokens; lexed = l.lexed; place = place; refused = r; byte = refl }
+  stopped : (e : SyntaxFault) → IsRefusedWithin L K tokens e → OrNoMemory fault.NoMemory (IsUnread L K most text) (refusal_of text tokens e)
+  stopped syntax.NoMemory r = λ other. absurd (other refl)
+  stopped (syntax.Unexpected place) r = λ other. record { short = l.short; tokens = tokens; lexed = l.lexed; place = place; refused = r; byte = refl }
+  stopped (syntax.Slot place) r = λ other. record { short = l.short; tokens = tokens; lexed = l.lexed; place = place; refused = r; byte = refl }
+  stopped (syntax.TooDeep place) r = λ other. record { short = l.short; tokens = tokens; lexed = l.lexed; place = place; refused = r; byte = refl }
 
-  pub unread : (e : SyntaxFault) → (e ≡ syntax.NoMemory) ⊎ IsRefusedWithin L K tokens e → OrNoMemory (IsUnread L K most text) (refusal_of text tokens e)
-  unread e (inl none) = subst (λ f. OrNoMemory (IsUnread L K most text) (refusal_of text tokens f)) (sym none) tt
+  pub unread : (e : SyntaxFault) → (e ≡ syntax.NoMemory) ⊎ IsRefusedWithin L K tokens e → OrNoMemory fault.NoMemory (IsUnread L K most text) (refusal_of text tokens e)
+  unread e (inl none) = λ other. absurd (other (ap (refusal_of text tokens) none))
   unread e (inr r) = stopped e r

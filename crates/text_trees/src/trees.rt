@@ -6,6 +6,7 @@ ghost use Rattle.token_readers.specs.Lang.{at_any};
 ghost use Rattle.policy_syntax.specs.Grammar as grammar;
 ghost use Rattle.policy_syntax.specs.WellFormed.{WellFormedUid, WellFormedPolicy};
 ghost use Rattle.desugaring.specs.BuiltFrom.{IsBuiltFrom};
+ghost use Rattle.text_trees.specs.declared.fault.ReadFault.TheVariants as ReadFault;
 ghost use Rattle.text_trees.specs.Texts.{most_policy_bytes, most_file_bytes, Derives, IsUnread, OrNoMemory, byte_of};
 ghost use Rattle.text_trees.specs.inner.Parts.{LexedIn, IsUnlexed, refusal_of};
 
@@ -26,7 +27,7 @@ const MOST_UID_BYTES: usize = MOST_POLICY_BYTES;
 /// Returns the tokens of a text that is not too long.
 fn tokens_of(alloc: Global, text: &str, most: usize) -> Result<Vec<Token>, ReadFault>
     ensures ok { IfOk result (λ tokens. LexedIn most text.now tokens.items) }
-    ensures err { IfErr result (OrNoMemory (IsUnlexed most text.now)) }
+    ensures err { IfErr result (OrNoMemory ReadFault.NoMemory (IsUnlexed most text.now)) }
 {
     if text.len() > most {
         return Err(ReadFault::TooLong);
@@ -61,7 +62,8 @@ fn refusal(text: &str, tokens: &[Token], fault: SyntaxFault) -> ReadFault
 pub fn uid_tree(alloc: Global, text: &str) -> Result<UidTree, ReadFault>
     ensures derives { IfOk result (Derives grammar.uid most_policy_bytes text.now) }
     ensures stands { IfOk result (λ tree. IsBuiltFrom text.now (λ tokens. WellFormedUid tokens tree)) }
-    ensures err { IfErr result (OrNoMemory (IsUnread grammar.uid grammar.uid most_policy_bytes text.now)) }
+    ensures err { IfErr result
+        (OrNoMemory ReadFault.NoMemory (IsUnread grammar.uid grammar.uid most_policy_bytes text.now)) }
 {
     let tokens = tokens_of(alloc, text, MOST_UID_BYTES)?;
     match read_uid(alloc, &tokens) {
@@ -78,7 +80,8 @@ pub fn policy_tree(alloc: Global, text: &str) -> Result<PolicyTree, ReadFault>
     ensures derives { IfOk result (Derives (grammar.policy nesting_limit) most_policy_bytes text.now) }
     ensures stands { IfOk result (λ tree. IsBuiltFrom text.now (λ tokens. WellFormedPolicy tokens tree)) }
     ensures err { IfErr result
-        (OrNoMemory (IsUnread (grammar.policy nesting_limit) (at_any grammar.policy) most_policy_bytes text.now)) }
+        (OrNoMemory ReadFault.NoMemory
+        (IsUnread (grammar.policy nesting_limit) (at_any grammar.policy) most_policy_bytes text.now)) }
 {
     let tokens = tokens_of(alloc, text, MOST_POLICY_BYTES)?;
     match read_policy(alloc, &tokens) {
@@ -94,7 +97,8 @@ pub fn policy_trees(alloc: Global, text: &str) -> Result<Vec<PolicyTree>, ReadFa
     ensures stands { IfOk result
         (λ trees. IsBuiltFrom text.now (λ tokens. AllByRecursion (WellFormedPolicy tokens) trees.items)) }
     ensures err { IfErr result
-        (OrNoMemory (IsUnread (grammar.policies nesting_limit) (at_any grammar.policies) most_file_bytes text.now)) }
+        (OrNoMemory ReadFault.NoMemory
+        (IsUnread (grammar.policies nesting_limit) (at_any grammar.policies) most_file_bytes text.now)) }
 {
     let tokens = tokens_of(alloc, text, MOST_FILE_BYTES)?;
     match read_policies(alloc, &tokens) {

@@ -29,7 +29,7 @@ use Rattle.type_checker.specs.declared.typed.Typed.{Typed}
 use Rattle.type_checker.specs.declared.typed.Then.{Then}
 use Rattle.type_checker.specs.declared.typed.Then.TheVariants as then
 use Rattle.known_pairs.specs.Pairs.{pairs}
-use Rattle.type_checker.specs.inner.Judged.{Judged, JudgedBehind, JudgedEach, ThenTyped, ThenJudged, ThenIs, IsBranch, IsRow, IsHasRow, CallTyped}
+use Rattle.type_checker.specs.inner.Judged.{Judged, JudgedBehind, JudgedEach, JudgedMembers, MembersHave, ThenTyped, ThenJudged, ThenIs, IsBranch, IsRow, IsHasRow, CallTyped}
 
 pub is_boolean_view : (b : BooleanType) → types.IsBoolean (boolean_view b)
 is_boolean_view truth.True = types.is_true
@@ -52,6 +52,13 @@ module _ (env : Environment) (K after : Pairs) where
       → (after ≡ K) × Types env K a (static_view t.kind) (pairs t.learns.items)
   typed_so a e h = subst (λ r. Judged env K a r after) e h
 
+  -- the same, of a kind that is told
+  pub has_kind : (a : Expr) {r : Result Typed TypeFault} {t : Typed} {s : types.StaticType} → r ≡ Ok t → static_view t.kind ≡ s
+      → Judged env K a r after → (after ≡ K) × Types env K a s (pairs t.learns.items)
+  has_kind a {t} e k h =
+      let g = typed_so a e h in
+      (g.0, subst (λ s. Types env K a s (pairs t.learns.items)) k g.1)
+
   pub faulty_so : (a : Expr) {r : Result Typed TypeFault} {f : TypeFault} → r ≡ Err f → Judged env K a r after
       → f ≢ NoMemory → Faults env K a (fault_view f)
   faulty_so a e h = subst (λ r. Judged env K a r after) e h
@@ -68,6 +75,14 @@ module _ (env : Environment) (K after : Pairs) where
   pub each_so : (xs : List Expr) {r : Result (Vec StaticType Global) TypeFault} {ts : Vec StaticType Global} → r ≡ Ok ts
       → JudgedEach env K xs r after → (after ≡ K) × TypesEach env K xs (map static_view ts.items)
   each_so xs e h = subst (λ r. JudgedEach env K xs r after) e h
+
+  pub members_so : (xs : List Expr) {r : Result (Vec StaticType Global) TypeFault} {ts : Vec StaticType Global} → r ≡ Ok ts
+      → JudgedMembers env K xs r after → (after ≡ K) × MembersHave env K xs (map static_view ts.items)
+  members_so xs e h = subst (λ r. JudgedMembers env K xs r after) e h
+
+  pub members_faulty : (xs : List Expr) {r : Result (Vec StaticType Global) TypeFault} {f : TypeFault} → r ≡ Err f
+      → JudgedMembers env K xs r after → f ≢ NoMemory → FaultsEach env K xs (fault_view f)
+  members_faulty xs e h = subst (λ r. JudgedMembers env K xs r after) e h
 
   pub each_faulty : (xs : List Expr) {r : Result (Vec StaticType Global) TypeFault} {f : TypeFault} → r ≡ Err f
       → JudgedEach env K xs r after → f ≢ NoMemory → FaultsEach env K xs (fault_view f)

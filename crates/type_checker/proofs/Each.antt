@@ -1,5 +1,5 @@
 -- What is judged of several, one after the other, and of one behind a stack of pairs.
-use Rattle.std.proofs.Common.{◌≡◌, ◌<◌, ◌+◌, ◌++◌, ℕ, List, [], ◌∷◌, map, length, get_or, take, drop, Result, Ok, Err, refl, sym, subst, ap, ◌∙◌}
+use Rattle.std.proofs.Common.{◌≡◌, ◌<◌, ◌+◌, ◌++◌, ℕ, List, [], ◌∷◌, map, length, get_or, take, drop, Result, Ok, Err, sym, subst, ap, ◌∙◌}
 use Rattle.std.proofs.lemmas.List.{drop_more, take_more, take-append-drop, map-append}
 use Rattle.expressions.specs.declared.expr.Expr.{Expr}
 use Rattle.typing.specs.Types as types
@@ -16,9 +16,29 @@ use Rattle.static_types.specs.declared.fault.TypeFault.{TypeFault}
 use Rattle.known_pairs.specs.declared.pair.Pair.{Pair}
 use Rattle.type_checker.specs.declared.typed.Typed.{Typed}
 use Rattle.known_pairs.specs.Pairs.{pair_of, pairs}
-use Rattle.type_checker.specs.inner.Judged.{Judged, JudgedBehind, AddsLearned}
+use Rattle.type_checker.specs.inner.Judged.{Judged, JudgedBehind, AddsLearned, IsNext}
 use Rattle.type_checker.proofs.Learning.{back_again}
 use Rattle.type_checker.proofs.Carrying.{typed_so, faulty_so}
+
+-- ---- the item at a place of a list
+
+abbrev pub StandsAt : {X : Type 0} → List X → ℕ → X → Type 0
+StandsAt xs i x = (i < length xs) × (x ≡ get_or xs i x)
+
+pub stands_at : {X : Type 0} {ys xs : List X} {i : ℕ} {x : X} → ys ≡ xs → i < length ys → x ≡ get_or ys i x → StandsAt xs i x
+stands_at {i} {x} e lt h = subst (λ zs. StandsAt zs i x) e (lt, h)
+
+-- those before it and it
+pub with_it : {X : Type 0} (xs : List X) (i : ℕ) (x : X) → StandsAt xs i x → take i xs ++ x ∷ [] ≡ take (i + 1) xs
+with_it xs i x at = ap (λ y. take i xs ++ y ∷ []) at.1 ∙ sym (take_more xs i x at.0)
+
+-- those before it, it and those behind it
+pub parted : {X : Type 0} (xs : List X) (i : ℕ) (x : X) → StandsAt xs i x → take i xs ++ x ∷ drop (i + 1) xs ≡ xs
+parted xs i x at =
+    ap (λ y. take i xs ++ y ∷ drop (i + 1) xs) at.1
+    ∙ (ap (λ ys. take i xs ++ ys) (sym (drop_more xs i x at.0)) ∙ take-append-drop i xs)
+
+-- ---- what is judged of several
 
 module _ (env : Environment) (K : Pairs) where
   pub each_more : {xs : List Expr} {ts : List types.StaticType} {x : Expr} {t : types.StaticType} {L : Pairs}
@@ -31,36 +51,28 @@ module _ (env : Environment) (K : Pairs) where
   each_stops ys typing.types_none h = faults.fault_here h
   each_stops ys (typing.types_more g gs) h = faults.fault_later g (each_stops ys gs h)
 
-  pub put_so : {xs : List Expr} {x : Expr} {L : Pairs} (ts us : List StaticType) (k : StaticType)
-      → TypesEach env K xs (map static_view ts) → Types env K x (static_view k) L → us ≡ ts ++ k ∷ []
-      → TypesEach env K (xs ++ x ∷ []) (map static_view us)
-  put_so {xs} {x} ts us k g h e =
-      subst (λ vs. TypesEach env K (xs ++ x ∷ []) vs) (sym (ap (map static_view) e ∙ map-append static_view ts (k ∷ [])))
-      (each_more g h)
+  -- one type more is put behind those of several
+  pub put_so : {x : Expr} {L : Pairs} (ts us : List StaticType) (k : StaticType) → Types env K x (static_view k) L
+      → us ≡ ts ++ k ∷ [] → IsNext env K x ts us
+  put_so {L} ts us k h e = (static_view k, L, h, ap (map static_view) e ∙ map-append static_view ts (k ∷ []))
 
   -- the first of several that has no type stands at this place
   pub stops_at : {X : Type 0} (value : X → Expr) (xs : List X) (i : ℕ) (x : X) (ts : List types.StaticType)
-      (n : environment.TypeFault) → i < length xs → x ≡ get_or xs i x → TypesEach env K (map value (take i xs)) ts
+      (n : environment.TypeFault) → StandsAt xs i x → TypesEach env K (map value (take i xs)) ts
       → Faults env K (value x) n → FaultsEach env K (map value xs) n
-  stops_at value xs i x ts n lt e g h =
-      let cut : take i xs ++ x ∷ drop (i + 1) xs ≡ xs =
-      ap (λ y. take i xs ++ y ∷ drop (i + 1) xs) e
-      ∙ (ap (λ ys. take i xs ++ ys) (sym (drop_more xs i x lt)) ∙ take-append-drop i xs) in
+  stops_at value xs i x ts n at g h =
       subst (λ ys. FaultsEach env K ys n)
-      (sym (map-append value (take i xs) (x ∷ drop (i + 1) xs)) ∙ ap (map value) cut)
+      (sym (map-append value (take i xs) (x ∷ drop (i + 1) xs)) ∙ ap (map value) (parted xs i x at))
       (each_stops (map value (drop (i + 1) xs)) g h)
 
   -- one more of several
-  pub goes_on : {X : Type 0} (value : X → Expr) (xs : List X) (i : ℕ) (x : X) (ts : List types.StaticType)
-      → i < length xs → x ≡ get_or xs i x → TypesEach env K (map value (take i xs) ++ value x ∷ []) ts
-      → TypesEach env K (map value (take (i + 1) xs)) ts
-  goes_on value xs i x ts lt e g =
-      let cut : take i xs ++ x ∷ [] ≡ take (i + 1) xs = ap (λ y. take i xs ++ y ∷ []) e ∙ sym (take_more xs i x lt) in
-      subst (λ ys. TypesEach env K ys ts) (sym (map-append value (take i xs) (x ∷ [])) ∙ ap (map value) cut) g
-
-pub map_itself : {X : Type 0} (xs : List X) → map (λ x. x) xs ≡ xs
-map_itself [] = refl
-map_itself (x ∷ xs) = ap (λ ys. x ∷ ys) (map_itself xs)
+  pub goes_on : {X : Type 0} (value : X → Expr) (xs : List X) (i : ℕ) (x : X) (ts us : List StaticType)
+      → StandsAt xs i x → TypesEach env K (map value (take i xs)) (map static_view ts) → IsNext env K (value x) ts us
+      → TypesEach env K (map value (take (i + 1) xs)) (map static_view us)
+  goes_on value xs i x ts us at g (t, L, h, e) =
+      subst (λ vs. TypesEach env K (map value (take (i + 1) xs)) vs) (sym e)
+      (subst (λ ys. TypesEach env K ys (map static_view ts ++ t ∷ []))
+      (sym (map-append value (take i xs) (x ∷ [])) ∙ ap (map value) (with_it xs i x at)) (each_more g h))
 
 -- one behind pairs that were put on top of those that were known
 pub behind_judged : (env : Environment) (x : Expr) (K : Pairs) (ls : List Pair) (M : Pairs) (typed r : Result Typed TypeFault)

@@ -1,6 +1,9 @@
+pub mod AskedLemmas
 pub mod Carrying
 pub mod Each
 pub mod JoiningLemmas
 pub mod Learning
+pub mod Members
+pub mod Repeating
 pub mod Settling
 pub mod Sides

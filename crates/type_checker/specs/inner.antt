@@ -1,3 +1,4 @@
+pub mod Asking
 pub mod Joining
 pub mod Judged
 pub mod Literals

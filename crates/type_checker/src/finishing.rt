@@ -1,19 +1,19 @@
 //! What is judged of a form, by what is judged of its last operand.
 //!
 //! Each clause says: whatever the operands are, wherever so is judged of them, so is judged of the form.
-ghost use Rattle.std.specs.Prelude.{◌≡◌, ◌≢◌, ◌++◌, [], ◌∷◌, List, map, IfOk, MatchResult};
+ghost use Rattle.std.specs.Prelude.{◌≡◌, ◌≢◌, List, map, IfOk, MatchResult};
 ghost use Rattle.expressions.specs.declared.expr.Expr.{Expr};
 ghost use Rattle.expressions.specs.declared.expr.Expr.TheVariants as form;
 ghost use Rattle.typing.specs.Environment as environment;
 ghost use Rattle.typing.specs.Learned as learned;
 ghost use Rattle.typing.specs.Learned.{Pairs, has_learns};
 ghost use Rattle.typing.specs.Literals.{IsUnsettled};
-ghost use Rattle.typing.specs.Typing.{Types, TypesEach};
+ghost use Rattle.typing.specs.Typing.{Types};
 ghost use Rattle.typing.specs.Faults.{Faults};
 ghost use Rattle.static_types.specs.Views.{static_view, fault_view, typing_environment};
 ghost use Rattle.known_pairs.specs.Pairs.{pairs};
 ghost use Rattle.type_checker.specs.inner.Pairs.{if_learned};
-ghost use Rattle.type_checker.specs.inner.Judged.{Judged, JudgedEach, IsHasRow};
+ghost use Rattle.type_checker.specs.inner.Judged.{Judged, JudgedEach, JudgedMembers, IsHasRow, IsNext};
 
 use crate::calls::unary_call_type;
 use crate::known::knows;
@@ -206,8 +206,8 @@ pub(crate) fn set_typed<'a>(
     alloc: Global,
     types: Result<Vec<StaticType<'a>>, TypeFault>,
 ) -> Result<Typed<'a>, TypeFault>
-    ensures { (env : environment.Environment) (K after : Pairs) (xs : List Expr) → JudgedEach env K xs types.entry after
-        → Judged env K (form.Set xs) result after }
+    ensures { (env : environment.Environment) (K after : Pairs) (xs : List Expr)
+        → JudgedMembers env K xs types.entry after → Judged env K (form.Set xs) result after }
 {
     let types = match types {
         Ok(types) => types,
@@ -241,10 +241,8 @@ pub(crate) fn put_type<'a>(
     types: &mut Vec<StaticType<'a>>,
     typed: Result<Typed<'a>, TypeFault>,
 ) -> Result<(), TypeFault>
-    ensures { (env : environment.Environment) (K after : Pairs) (xs : List Expr) (x : Expr)
-        → TypesEach env K xs (map static_view types.old.items) → Judged env K x typed.entry after
-        → MatchResult result
-        (λ _. (after ≡ K) × TypesEach env K (xs ++ x ∷ []) (map static_view types.new.items))
+    ensures { (env : environment.Environment) (K after : Pairs) (x : Expr) → Judged env K x typed.entry after
+        → MatchResult result (λ _. (after ≡ K) × IsNext env K x types.old.items types.new.items)
         (λ f. f ≢ TypeFault.NoMemory → Faults env K x (fault_view f)) }
 {
     let typed = match typed {

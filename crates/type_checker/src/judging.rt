@@ -6,9 +6,11 @@ ghost use Rattle.typing.specs.Learned.{Pairs};
 ghost use Rattle.typing.specs.Literals.{IsUnsettled};
 ghost use Rattle.static_types.specs.Views.{typing_environment};
 ghost use Rattle.known_pairs.specs.Pairs.{pairs};
-ghost use Rattle.type_checker.specs.inner.Judged.{Judged, JudgedBehind, JudgedEach, ThenJudged};
+ghost use Rattle.type_checker.specs.inner.Judged.{Judged, JudgedBehind, JudgedEach, JudgedMembers, ThenJudged};
 
+use crate::asking::{again_typed, asked_again};
 use crate::branching::{and_typed, branches, or_behind_false, or_typed};
+use crate::equal::repeats;
 use crate::finishing::{
     binary_typed, call_typed, field_typed, has_typed, put_type, record_typed, set_typed,
     unary_call_typed, unary_typed,
@@ -16,9 +18,9 @@ use crate::finishing::{
 use crate::known::know_too;
 use crate::literals::settled;
 use crate::typed::{Then, Typed, both, is_looked_at, learned_too, only, plain, truth_type};
-use expressions::{Binary, BinaryCall, Expr, Named, Unary, UnaryCall};
+use expressions::{Binary, BinaryCall, Expr, Named};
 use known_pairs::{Known, Pair};
-use plain::{Items, Shared, Text};
+use plain::{Items, Shared};
 use static_types::{BooleanType, StaticType, TypeFault, TypingEnvironment, literal_type};
 use std::alloc::Global;
 
@@ -41,105 +43,37 @@ pub(crate) fn type_of<'a>(
             let then = type_then(alloc, consequent, env, known, test);
             type_else(alloc, alternative, env, known, then)
         }
-        Expr::And(left, right) => {
-            let left = type_of(alloc, left.get(), env, known);
-            second_conjunct(alloc, right, env, known, left)
+        Expr::And(left, right) => type_and(alloc, left, right, env, known),
+        Expr::Or(left, right) => type_or(alloc, left, right, env, known),
+        Expr::Unary(operator, operand) => {
+            let operand = type_of(alloc, operand.get(), env, known);
+            unary_typed(alloc, operator, operand)
         }
-        Expr::Or(left, right) => {
-            let left = type_of(alloc, left.get(), env, known);
-            second_disjunct(alloc, right, env, known, left)
-        }
-        Expr::Unary(operator, operand) => type_unary(alloc, operator, operand, env, known),
         Expr::Binary(operator, left, right) => {
-            match settled(env, *operator, left.get(), right.get()) {
-                Some(truth) => Ok(plain(alloc, StaticType::boolean(truth_type(truth)))),
-                None => {
-                    let left = type_of(alloc, left.get(), env, known);
-                    second_operand(alloc, right, env, known, *operator, left)
-                }
-            }
+            type_binary(alloc, *operator, left, right, env, known)
         }
-        Expr::Field(owner, name) => type_field(alloc, owner, name, env, known),
-        Expr::Has(owner, name) => type_has(alloc, owner, name, env, known),
+        Expr::Field(owner, name) => {
+            let typed = type_of(alloc, owner.get(), env, known);
+            field_typed(alloc, env, known, owner.get(), name.as_str(), typed)
+        }
+        Expr::Has(owner, name) => {
+            let typed = type_of(alloc, owner.get(), env, known);
+            has_typed(alloc, env, known, owner.get(), name.as_str(), typed)
+        }
         Expr::Set(members) => set_typed(alloc, types_of(alloc, members, env, known)),
         Expr::Record(fields) => {
             let types = types_of_fields(alloc, fields, env, known);
             record_typed(alloc, fields.as_slice(), types)
         }
-        Expr::UnaryCall(called, operand) => type_unary_call(alloc, *called, operand, env, known),
+        Expr::UnaryCall(called, operand) => {
+            let typed = type_of(alloc, operand.get(), env, known);
+            unary_call_typed(alloc, *called, operand.get(), typed)
+        }
         Expr::BinaryCall(called, left, right) => {
             let left = type_of(alloc, left.get(), env, known);
             second_called(alloc, right, env, known, *called, left)
         }
     }
-}
-
-/// Returns an operator with its operand.
-#[cycle(judge)]
-#[inline(never)]
-fn type_unary<'a>(
-    alloc: Global,
-    operator: &Unary,
-    operand: &'a Shared<Expr>,
-    env: TypingEnvironment<'a>,
-    known: &mut Known<'a>,
-) -> Result<Typed<'a>, TypeFault>
-    ensures { Judged (typing_environment env.entry) known.old (form.Unary operator.now operand.entry.now) result
-        known.new }
-{
-    let operand = type_of(alloc, operand.get(), env, known);
-    unary_typed(alloc, operator, operand)
-}
-
-/// Returns a field or an attribute.
-#[cycle(judge)]
-#[inline(never)]
-fn type_field<'a>(
-    alloc: Global,
-    owner: &'a Shared<Expr>,
-    name: &'a Text,
-    env: TypingEnvironment<'a>,
-    known: &mut Known<'a>,
-) -> Result<Typed<'a>, TypeFault>
-    ensures { Judged (typing_environment env.entry) known.old (form.Field owner.entry.now name.entry.now) result
-        known.new }
-{
-    let typed = type_of(alloc, owner.get(), env, known);
-    field_typed(alloc, env, known, owner.get(), name.as_str(), typed)
-}
-
-/// Returns whether there is a field or an attribute.
-#[cycle(judge)]
-#[inline(never)]
-fn type_has<'a>(
-    alloc: Global,
-    owner: &'a Shared<Expr>,
-    name: &'a Text,
-    env: TypingEnvironment<'a>,
-    known: &mut Known<'a>,
-) -> Result<Typed<'a>, TypeFault>
-    ensures { Judged (typing_environment env.entry) known.old (form.Has owner.entry.now name.entry.now) result
-        known.new }
-{
-    let typed = type_of(alloc, owner.get(), env, known);
-    has_typed(alloc, env, known, owner.get(), name.as_str(), typed)
-}
-
-/// Returns a function of an extension, or a test of an address, with its operand.
-#[cycle(judge)]
-#[inline(never)]
-fn type_unary_call<'a>(
-    alloc: Global,
-    called: UnaryCall,
-    operand: &'a Shared<Expr>,
-    env: TypingEnvironment<'a>,
-    known: &mut Known<'a>,
-) -> Result<Typed<'a>, TypeFault>
-    ensures { Judged (typing_environment env.entry) known.old (form.UnaryCall called operand.entry.now) result
-        known.new }
-{
-    let typed = type_of(alloc, operand.get(), env, known);
-    unary_call_typed(alloc, called, operand.get(), typed)
 }
 
 /// Returns what is judged of an expression where these are known too; what it learns has them in front.
@@ -166,6 +100,76 @@ fn type_behind<'a>(
     }
 }
 
+/// `&&`: its left, and then its right, whose first operand is not typed again where the left tests it for a type.
+#[cycle(judge)]
+#[inline(never)]
+fn type_and<'a>(
+    alloc: Global,
+    left: &'a Shared<Expr>,
+    right: &'a Shared<Expr>,
+    env: TypingEnvironment<'a>,
+    known: &mut Known<'a>,
+) -> Result<Typed<'a>, TypeFault>
+    ensures { Judged (typing_environment env.entry) known.old (form.And left.entry.now right.entry.now) result
+        known.new }
+{
+    let test = type_of(alloc, left.get(), env, known);
+    match right.get() {
+        Expr::Binary(operator, again, other) => {
+            match asked_again(env, &test, left.get(), *operator, again.get(), other.get()) {
+                Some(name) => {
+                    drop(test);
+                    let other = type_of(alloc, other.get(), env, known);
+                    let right = again_typed(alloc, env, *operator, name, other);
+                    and_typed(BooleanType::True, right)
+                }
+                None => second_conjunct(alloc, right, env, known, test),
+            }
+        }
+        _ => second_conjunct(alloc, right, env, known, test),
+    }
+}
+
+/// `||`: its left, and then its right.
+#[cycle(judge)]
+#[inline(never)]
+fn type_or<'a>(
+    alloc: Global,
+    left: &'a Shared<Expr>,
+    right: &'a Shared<Expr>,
+    env: TypingEnvironment<'a>,
+    known: &mut Known<'a>,
+) -> Result<Typed<'a>, TypeFault>
+    ensures { Judged (typing_environment env.entry) known.old (form.Or left.entry.now right.entry.now) result
+        known.new }
+{
+    let left = type_of(alloc, left.get(), env, known);
+    second_disjunct(alloc, right, env, known, left)
+}
+
+/// Returns an operator with its operands, which are not looked at where they settle its answer as they are written.
+#[cycle(judge)]
+#[inline(never)]
+fn type_binary<'a>(
+    alloc: Global,
+    operator: Binary,
+    left: &'a Shared<Expr>,
+    right: &'a Shared<Expr>,
+    env: TypingEnvironment<'a>,
+    known: &mut Known<'a>,
+) -> Result<Typed<'a>, TypeFault>
+    ensures { Judged (typing_environment env.entry) known.old
+        (form.Binary operator left.entry.now right.entry.now) result known.new }
+{
+    match settled(env, operator, left.get(), right.get()) {
+        Some(truth) => Ok(plain(alloc, StaticType::boolean(truth_type(truth)))),
+        None => {
+            let left = type_of(alloc, left.get(), env, known);
+            second_operand(alloc, right, env, known, operator, left)
+        }
+    }
+}
+
 /// `&&` behind its left.
 #[cycle(judge)]
 #[inline(never)]
@@ -176,8 +180,7 @@ fn second_conjunct<'a>(
     known: &mut Known<'a>,
     left: Result<Typed<'a>, TypeFault>,
 ) -> Result<Typed<'a>, TypeFault>
-    ensures { let E = typing_environment env.entry in
-        (K : Pairs) (a : Expr) → Judged E K a left.entry known.old
+    ensures { let E = typing_environment env.entry in (K : Pairs) (a : Expr) → Judged E K a left.entry known.old
         → Judged E K (form.And a right.entry.now) result known.new }
 {
     match left {
@@ -209,8 +212,7 @@ fn second_disjunct<'a>(
     known: &mut Known<'a>,
     left: Result<Typed<'a>, TypeFault>,
 ) -> Result<Typed<'a>, TypeFault>
-    ensures { let E = typing_environment env.entry in
-        (K : Pairs) (a : Expr) → Judged E K a left.entry known.old
+    ensures { let E = typing_environment env.entry in (K : Pairs) (a : Expr) → Judged E K a left.entry known.old
         → Judged E K (form.Or a right.entry.now) result known.new }
 {
     match left {
@@ -248,8 +250,7 @@ fn type_then<'a>(
     known: &mut Known<'a>,
     test: Result<Typed<'a>, TypeFault>,
 ) -> Result<Then<'a>, TypeFault>
-    ensures { let E = typing_environment env.entry in
-        (K : Pairs) (a : Expr) → Judged E K a test.entry known.old
+    ensures { let E = typing_environment env.entry in (K : Pairs) (a : Expr) → Judged E K a test.entry known.old
         → ThenJudged E K a consequent.entry.now result known.new }
 {
     match test {
@@ -312,8 +313,7 @@ fn second_operand<'a>(
     left: Result<Typed<'a>, TypeFault>,
 ) -> Result<Typed<'a>, TypeFault>
     ensures { let E = typing_environment env.entry in
-        (K : Pairs) (a : Expr) → IsUnsettled E operator a right.entry.now
-        → Judged E K a left.entry known.old
+        (K : Pairs) (a : Expr) → IsUnsettled E operator a right.entry.now → Judged E K a left.entry known.old
         → Judged E K (form.Binary operator a right.entry.now) result known.new }
 {
     match left {
@@ -336,8 +336,7 @@ fn second_called<'a>(
     called: BinaryCall,
     left: Result<Typed<'a>, TypeFault>,
 ) -> Result<Typed<'a>, TypeFault>
-    ensures { let E = typing_environment env.entry in
-        (K : Pairs) (a : Expr) → Judged E K a left.entry known.old
+    ensures { let E = typing_environment env.entry in (K : Pairs) (a : Expr) → Judged E K a left.entry known.old
         → Judged E K (form.BinaryCall called a right.entry.now) result known.new }
 {
     match left {
@@ -349,7 +348,7 @@ fn second_called<'a>(
     }
 }
 
-/// Returns the types of the members of a set.
+/// Returns the types of the members of a set, but of those that repeat the member before them.
 #[cycle(judge)]
 #[inline(never)]
 fn types_of<'a>(
@@ -358,15 +357,20 @@ fn types_of<'a>(
     env: TypingEnvironment<'a>,
     known: &mut Known<'a>,
 ) -> Result<Vec<StaticType<'a>>, TypeFault>
-    ensures { JudgedEach (typing_environment env.entry) known.old exprs.entry.now result known.new }
+    ensures { JudgedMembers (typing_environment env.entry) known.old exprs.entry.now result known.new }
 {
     let mut types = Vec::new(alloc);
+    let mut before = None;
     for expr in exprs.as_slice() {
+        if repeats(expr, before) {
+            continue;
+        }
         let typed = type_of(alloc, expr, env, known);
         match put_type(&mut types, typed) {
             Ok(()) => {}
             Err(fault) => return Err(fault),
         }
+        before = Some(expr);
     }
     Ok(types)
 }

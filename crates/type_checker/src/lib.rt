@@ -1,6 +1,7 @@
 //! What type an expression has under the strict validator's rules, or why it has none.
 #![tactic(auto)]
 
+mod asking;
 mod branching;
 mod calls;
 mod equal;

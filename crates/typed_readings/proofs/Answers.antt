@@ -28,6 +28,7 @@ use Rattle.entity_worlds.specs.declared.entity.Entity.{Entity}
 use Rattle.entity_worlds.specs.declared.data.EntityData.{EntityData}
 use Rattle.entity_worlds.specs.Entities.{AreListed}
 use Rattle.entity_worlds.specs.Listing.{in_either}
+use Rattle.entity_store.specs.Laws.{MemberOfIsKept, MemberOfGivesAlike}
 use Rattle.static_types.specs.passed_on.entities.{entity_stated_in}
 use Rattle.stamped_store.specs.Contents.{text_under, entities_of, policies_of}
 use Rattle.stamped_store.specs.Store.{Store, entity_name}
@@ -173,13 +174,15 @@ answer_errs W q ps a (inr is) right e m =
     (subst (λ (es : List ErringPolicy). Contains es e) (errors_are (satisfied Permit js) (satisfied Forbid js) (erring js))
     (subst (λ (x : Answer). Contains x.errors e) is.answer m))
 
-pub stored_policies_go_right : WhatIsStoredGoesRight → TellsContents → StoredPoliciesGoRight
-stored_policies_go_right right tells bytes schema stated s d q states policies are_policies entities are p at r gives =
+pub stored_policies_go_right : MemberOfIsKept → MemberOfGivesAlike → WhatIsStoredGoesRight → TellsContents → StoredPoliciesGoRight
+stored_policies_go_right kept alike right tells bytes schema stated s d q states policies are_policies entities are p at r gives =
     right bytes schema stated (data_in entities) (are_read schema s entities are)
     (uids schema s entities are) (are_listed tells schema s entities are)
-    d q states p.policy (all_pass schema (policies_of s) policies are_policies p at) r gives
+    d q states p.policy (all_pass schema (policies_of s) policies are_policies p at) r
+    ((alike bytes schema stated (data_in entities) q (expression_of p.policy) r).0
+    (subst (λ (W : World). EvaluatesTo W q (expression_of p.policy) r) (kept bytes schema stated (data_in entities)) gives))
 
-pub stored_answers_go_right : WhatIsStoredGoesRight → TellsContents → StoredAnswersGoRight
-stored_answers_go_right right tells bytes schema stated s d q states a is =
+pub stored_answers_go_right : MemberOfIsKept → MemberOfGivesAlike → WhatIsStoredGoesRight → TellsContents → StoredAnswersGoRight
+stored_answers_go_right kept alike right tells bytes schema stated s d q states a is =
     answer_errs _ q is.policies a is.is_answer (λ p at r gives.
-    (stored_policies_go_right right tells bytes schema stated s d q states is.policies is.are_policies is.entities is.are_entities p at r gives).0)
+    (stored_policies_go_right kept alike right tells bytes schema stated s d q states is.policies is.are_policies is.entities is.are_entities p at r gives).0)

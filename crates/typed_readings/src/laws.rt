@@ -5,6 +5,7 @@ ghost use Rattle.typed_readings.specs.Worlds.{WhatIsReadConforms, WhatIsStoredGo
 ghost use Rattle.typed_readings.specs.Answers.{StoredPoliciesGoRight, StoredAnswersGoRight};
 
 use ancestor_closure::laws::paths_are_decided;
+use entity_store::actions_may_be_closed;
 use schema::stated_schemas_are_well_formed;
 use stamped_store::laws::contents_are_told;
 use static_types::{action_types_are_told, entities_read_back};
@@ -55,6 +56,7 @@ pub fn stored_answers_go_right()
     ensures policies { StoredPoliciesGoRight }
     ensures answers { StoredAnswersGoRight }
 {
+    actions_may_be_closed();
     what_is_stored_goes_right();
     contents_are_told();
 }

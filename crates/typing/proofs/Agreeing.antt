@@ -26,6 +26,7 @@ use Rattle.typing.specs.Faults
 use Rattle.typing.specs.Faults.{Faults, FaultsEach}
 use Rattle.typing.specs.Judgement.{Judgement, typed, faulty, Judges}
 use Rattle.typing.proofs.Members.{told_not}
+use Rattle.typing.proofs.KnownPairs
 use Rattle.typing.proofs.Tests
 use Rattle.typing.proofs.Judging
 use Rattle.typing.proofs.Judging.{of}
@@ -66,7 +67,7 @@ or_fault_is Rows.perhaps_not L n = refl
 or_no_right_is : {s : StaticType} (t : StaticType) → Rows.MayBeFalse s → ¬ IsBoolean t → (L M : Pairs)
     → Judging.or_typed s L (typed t M) ≡ faulty Environment.unexpected
 or_no_right_is t Rows.surely_not b L M = no_boolean_is t b (typed t M)
-or_no_right_is t Rows.perhaps_not b L M = no_boolean_is t b (typed (Rows.or_type t) (Tests.or_learns t L M))
+or_no_right_is t Rows.perhaps_not b L M = no_boolean_is t b (typed (Rows.or_type t) (KnownPairs.or_learns t L M))
 
 if_no_test_is : (s : StaticType) → ¬ IsBoolean s → (L : Pairs) (r p : Judgement) → Judging.if_typed s L r p ≡ faulty Environment.unexpected
 if_no_test_is Types.true_type n L r p = absurd (n Types.is_true)
@@ -143,12 +144,12 @@ module _ (env : Environment) where
   field_from : (K : Pairs) (a : Expr) (k : List ℕ) (is_known : Bool) (r : Judgement) → Decides is_known (Contains K (a, k)) → all K a ≡ r
       → all K (form.Field a k) ≡ Judging.field_with env is_known k r
   field_from K a k is_known r d e = Judging.at_field env K a k
-      ∙ (ap (λ b. Judging.field_with env b k (all K a)) (Tests.knows_is K (a, k) is_known d) ∙ ap (Judging.field_with env is_known k) e)
+      ∙ (ap (λ b. Judging.field_with env b k (all K a)) (KnownPairs.knows_is K (a, k) is_known d) ∙ ap (Judging.field_with env is_known k) e)
 
   has_from : (K : Pairs) (a : Expr) (k : List ℕ) (is_known : Bool) (r : Judgement) → Decides is_known (Contains K (a, k)) → all K a ≡ r
       → all K (form.Has a k) ≡ Judging.has_with env is_known a k r
   has_from K a k is_known r d e = Judging.at_has env K a k
-      ∙ (ap (λ b. Judging.has_with env b a k (all K a)) (Tests.knows_is K (a, k) is_known d) ∙ ap (Judging.has_with env is_known a k) e)
+      ∙ (ap (λ b. Judging.has_with env b a k (all K a)) (KnownPairs.knows_is K (a, k) is_known d) ∙ ap (Judging.has_with env is_known a k) e)
 
   unary_call_from : (K : Pairs) (called : UnaryCall) (a : Expr) (r : Judgement) → all K a ≡ r
       → all K (form.UnaryCall called a) ≡ Judging.unary_call_with env called (Tests.reads called a) r
@@ -171,12 +172,12 @@ module _ (env : Environment) where
     types_is (Typing.or_of_false {K} {L} {M} a b {t} h g i) =
         or_from K a b _ (types_is h) ∙ (ap (Judging.or_typed Types.false_type L) (types_is g) ∙ boolean_is i (typed t M))
     types_is (Typing.or_of_both {K} {L} {M} {N} a b {t} h g i l) =
-        or_from K a b _ (types_is h) ∙ (ap (Judging.or_typed Types.boolean_type L) (types_is g) ∙ (boolean_is i (typed (Rows.or_type t) (Tests.or_learns t L M)) ∙ ap (typed (Rows.or_type t)) (Tests.or_learns_is l)))
+        or_from K a b _ (types_is h) ∙ (ap (Judging.or_typed Types.boolean_type L) (types_is g) ∙ (boolean_is i (typed (Rows.or_type t) (KnownPairs.or_learns t L M)) ∙ ap (typed (Rows.or_type t)) (KnownPairs.or_learns_is l)))
     types_is (Typing.if_of_true {K} {L} {M} a b c h g) = if_from K a b c _ (types_is h) ∙ ap (λ r. Judging.if_typed Types.true_type L r (all K c)) (types_is g)
     types_is (Typing.if_of_false {K} {L} {M} a b c h g) = if_from K a b c _ (types_is h) ∙ types_is g
     types_is (Typing.if_of_both {K} {L} {M} {N} {B} a b c {s} {t} {u} h g i e l) =
         if_from K a b c _ (types_is h) ∙ (ap (λ r. Judging.if_typed Types.boolean_type L r (all K c)) (types_is g) ∙ (ap (λ p. Judging.if_typed Types.boolean_type L (typed s M) p) (types_is i)
-        ∙ (ap (λ o. Judging.branches o (Tests.in_both N (L ++ M))) e ∙ ap (typed u) (Tests.in_both_is l))))
+        ∙ (ap (λ o. Judging.branches o (KnownPairs.in_both N (L ++ M))) e ∙ ap (typed u) (KnownPairs.in_both_is l))))
     types_is (Typing.types_settled {K} op a b {r} e) = settled_from K op a b (Some r) (Tests.settlement_is env e)
     types_is (Typing.types_binary {K} {L} op a b {s} {t} n h g e) =
         operands_from K op a b _ n (types_is h) ∙ (ap (Judging.operands_with env op (typed s L)) (types_is g) ∙ ap (typed_row Judging.learns_none) e)
@@ -203,8 +204,8 @@ module _ (env : Environment) where
     faults_is (Faults.fault_in_operand {K} (Faults.of_binary op a b n) (Faults.fault_later {L} {t = s} h (Faults.fault_here g))) =
         operands_from K op a b _ n (types_is h) ∙ ap (Judging.operands_with env op (typed s L)) (faults_is g)
     faults_is (Faults.fault_in_operand {K} (Faults.of_binary op a b n) (Faults.fault_later h (Faults.fault_later g i))) = elim i [ ]
-    faults_is (Faults.fault_in_operand {K} (Faults.of_field a k) (Faults.fault_here h)) = field_from K a k (Tests.knows K (a, k)) _ (Tests.knows_holds K (a, k)) (faults_is h)
-    faults_is (Faults.fault_in_operand {K} (Faults.of_has a k) (Faults.fault_here h)) = has_from K a k (Tests.knows K (a, k)) _ (Tests.knows_holds K (a, k)) (faults_is h)
+    faults_is (Faults.fault_in_operand {K} (Faults.of_field a k) (Faults.fault_here h)) = field_from K a k (KnownPairs.knows K (a, k)) _ (KnownPairs.knows_holds K (a, k)) (faults_is h)
+    faults_is (Faults.fault_in_operand {K} (Faults.of_has a k) (Faults.fault_here h)) = has_from K a k (KnownPairs.knows K (a, k)) _ (KnownPairs.knows_holds K (a, k)) (faults_is h)
     faults_is (Faults.fault_in_operand {K} (Faults.of_set xs) h) = Judging.at_set env K xs ∙ ap Judging.members_type (each_faults_is h)
     faults_is (Faults.fault_in_operand {K} (Faults.of_record xs) h) = Judging.at_record env K xs ∙ ap (Judging.record_typed (Judging.names env xs)) (each_faults_is h)
     faults_is (Faults.fault_in_operand {K} (Faults.of_unary_call called a) (Faults.fault_here h)) = unary_call_from K called a _ (faults_is h)
@@ -237,7 +238,7 @@ module _ (env : Environment) where
         if_from K a b c _ (types_is h) ∙ (ap (λ r. Judging.if_typed Types.boolean_type L r (all K c)) (types_is g) ∙ ap (λ p. Judging.if_typed Types.boolean_type L (typed t M) p) (faults_is i))
     faults_is (Faults.branches_differ {K} {L} {M} {N} a b c {s} {t} h g i e) =
         if_from K a b c _ (types_is h) ∙ (ap (λ r. Judging.if_typed Types.boolean_type L r (all K c)) (types_is g) ∙ (ap (λ p. Judging.if_typed Types.boolean_type L (typed s M) p) (types_is i)
-        ∙ ap (λ o. Judging.branches o (Tests.in_both N (L ++ M))) e))
+        ∙ ap (λ o. Judging.branches o (KnownPairs.in_both N (L ++ M))) e))
     faults_is (Faults.fault_of_binary {K} {L} op a b {s} n h g e) =
         operands_from K op a b _ n (types_is h) ∙ (ap (Judging.operands_with env op (typed s L)) (types_is g) ∙ ap (typed_row Judging.learns_none) e)
     faults_is (Faults.fault_of_field {K} a k {is_known} h d e) = field_from K a k is_known _ d (types_is h) ∙ ap (typed_row Judging.learns_none) e

@@ -14,7 +14,7 @@ use Rattle.typing.specs.Faults.{Faults, FaultsEach}
 use Rattle.typing.specs.Laws.{AreSamePairs, KnownPairsAreASet}
 use Rattle.std.proofs.lemmas.List.Elements.{Contains-append_cases}
 use Rattle.plain.proofs.Members.{Contains-here, Contains-there, Contains-cases, Contains-none}
-use Rattle.typing.proofs.Tests.{in_both, in_both_holds}
+use Rattle.typing.proofs.KnownPairs.{in_both, in_both_holds}
 
 pub both_members : {L M N : Pairs} → InBoth L M N → (p : Pair) → Contains N p → Contains L p × Contains M p
 both_members Learned.both_none p c = Contains-none p c

@@ -26,6 +26,7 @@ use Rattle.typing.specs.Faults
 use Rattle.typing.specs.Faults.{Faults, FaultsEach}
 use Rattle.typing.specs.Judgement.{Judgement, typed, faulty, Judges}
 use Rattle.typing.specs.Laws.{HaveOneJudgement}
+use Rattle.typing.proofs.KnownPairs
 use Rattle.typing.proofs.Tests
 use Rattle.typing.proofs.Judging
 use Rattle.typing.proofs.Judging.{of}
@@ -49,18 +50,18 @@ module _ (env : Environment) where
   unary_case K op a (faulty n) h = Faults.fault_in_operand (Faults.of_unary op a) (Faults.fault_here h)
 
   field_case : (K : Pairs) (a : Expr) (k : List ℕ) (r : Judgement) → Holds K a r
-      → Holds K (form.Field a k) (Judging.field_with env (Tests.knows K (a, k)) k r)
+      → Holds K (form.Field a k) (Judging.field_with env (KnownPairs.knows K (a, k)) k r)
   field_case K a k (typed s L) h =
-      let d = Tests.knows_holds K (a, k) in
-      row_case K (form.Field a k) Judging.learns_none (Rows.field_type_of env (Tests.knows K (a, k)) k s)
+      let d = KnownPairs.knows_holds K (a, k) in
+      row_case K (form.Field a k) Judging.learns_none (Rows.field_type_of env (KnownPairs.knows K (a, k)) k s)
       (λ t e. Typing.types_field a k h d e) (λ n e. Faults.fault_of_field a k h d e)
   field_case K a k (faulty n) h = Faults.fault_in_operand (Faults.of_field a k) (Faults.fault_here h)
 
   has_case : (K : Pairs) (a : Expr) (k : List ℕ) (r : Judgement) → Holds K a r
-      → Holds K (form.Has a k) (Judging.has_with env (Tests.knows K (a, k)) a k r)
+      → Holds K (form.Has a k) (Judging.has_with env (KnownPairs.knows K (a, k)) a k r)
   has_case K a k (typed s L) h =
-      let d = Tests.knows_holds K (a, k) in
-      row_case K (form.Has a k) (λ t. has_learns t (a, k)) (Rows.has_type env (Tests.knows K (a, k)) k s)
+      let d = KnownPairs.knows_holds K (a, k) in
+      row_case K (form.Has a k) (λ t. has_learns t (a, k)) (Rows.has_type env (KnownPairs.knows K (a, k)) k s)
       (λ t e. Typing.types_has a k h d e) (λ n e. Faults.fault_of_has a k h d e)
   has_case K a k (faulty n) h = Faults.fault_in_operand (Faults.of_has a k) (Faults.fault_here h)
 
@@ -109,8 +110,8 @@ module _ (env : Environment) where
   or_both_case : (K : Pairs) (a b : Expr) (L : Pairs) (r : Judgement) → Types env K a Types.boolean_type L → Holds K b r
       → Holds K (form.Or a b) (Judging.or_typed Types.boolean_type L r)
   or_both_case K a b L (typed t M) h g =
-      test_case K (form.Or a b) t (Rows.or_type t) (Tests.or_learns t L M)
-      (λ i. Typing.or_of_both a b h g i (Tests.or_learns_holds L M i)) (λ i. Faults.right_of_or_no_boolean a b h Rows.perhaps_not g i)
+      test_case K (form.Or a b) t (Rows.or_type t) (KnownPairs.or_learns t L M)
+      (λ i. Typing.or_of_both a b h g i (KnownPairs.or_learns_holds L M i)) (λ i. Faults.right_of_or_no_boolean a b h Rows.perhaps_not g i)
   or_both_case K a b L (faulty n) h g = Faults.fault_right_of_or a b h Rows.perhaps_not g
 
   or_left_case : (K : Pairs) (a b : Expr) (s : StaticType) (L : Pairs) (r : Judgement) → Types env K a s L → Holds K b r
@@ -136,9 +137,9 @@ module _ (env : Environment) where
 
   branches_case : (K : Pairs) (a b c : Expr) (s t : StaticType) (L M N : Pairs) (o : Option StaticType) → Types.common s t ≡ o
       → Types env K a Types.boolean_type L → Types env (K ++ L) b s M → Types env K c t N
-      → Holds K (form.If a b c) (Judging.branches o (Tests.in_both N (L ++ M)))
+      → Holds K (form.If a b c) (Judging.branches o (KnownPairs.in_both N (L ++ M)))
   branches_case K a b c s t L M N None e h g i = Faults.branches_differ a b c h g i e
-  branches_case K a b c s t L M N (Some u) e h g i = Typing.if_of_both a b c h g i e (Tests.in_both_holds N (L ++ M))
+  branches_case K a b c s t L M N (Some u) e h g i = Typing.if_of_both a b c h g i e (KnownPairs.in_both_holds N (L ++ M))
 
   if_both_case : (K : Pairs) (a b c : Expr) (L : Pairs) (r p : Judgement) → Types env K a Types.boolean_type L → Holds (K ++ L) b r
       → Holds K c p → Holds K (form.If a b c) (Judging.if_typed Types.boolean_type L r p)

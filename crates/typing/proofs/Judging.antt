@@ -24,7 +24,8 @@ use Rattle.typing.specs.Rows
 use Rattle.typing.specs.Rows.{Row}
 use Rattle.typing.specs.Judgement.{Judgement, typed, faulty}
 use Rattle.typing.proofs.Same.{two, three}
-use Rattle.typing.proofs.Tests.{knows, in_both, or_learns, settlement, type_read, reads}
+use Rattle.typing.proofs.KnownPairs.{knows, in_both, or_learns}
+use Rattle.typing.proofs.Tests.{settlement, type_read, reads}
 
 abbrev pub on_typed : Judgement → (StaticType → Pairs → Judgement) → Judgement
 on_typed (typed t L) f = f t L

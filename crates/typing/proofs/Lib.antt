@@ -7,9 +7,11 @@ pub mod Fitting
 pub mod InOrder
 pub mod Inverting
 pub mod Judging
+pub mod KnownPairs
 pub mod Members
 pub mod Policies
 pub mod Right
 pub mod Same
+pub mod SettledByLiterals
 pub mod Tests
 pub mod Values

@@ -1,4 +1,4 @@
--- What is known and learned, and what literals settle, as tests.
+-- What literals settle, and what calls read of them, as tests.
 use Rattle.std.specs.Prelude.{◌≡◌, ◌⊎◌, ℕ, ℤ, List, [], ◌∷◌, Bool, true, false, IsTrue, Contains, Option, Some, None, refl}
 use Rattle.std.specs.Bool.{Decides, one_answer}
 use Rattle.std.proofs.Common.{inl, inr, ap, sym, subst, ◌∙◌}
@@ -19,78 +19,15 @@ use Rattle.expressions.specs.declared.expr.Expr.TheVariants as form
 use Rattle.expressions.specs.declared.expr.Expr.TheViews.{roll-Expr, out-Expr, roll-out-Expr}
 use Rattle.expressions.specs.declared.expr.Expr.TheOpen.{Expr-F}
 use Rattle.extensions.specs.Decided.{Decided, told}
-use Rattle.extensions.specs.inner.Deciding.{decided_as, both_decided, either_decided, text_decided}
+use Rattle.extensions.specs.inner.Deciding.{decided_as, both_decided, either_decided}
 use Rattle.extensions.specs.TextsDecided.{decimal_text_decided, network_text_decided}
 use Rattle.typing.specs.Types
 use Rattle.typing.specs.Types.{StaticType}
 use Rattle.typing.specs.Environment.{Environment}
-use Rattle.typing.specs.Learned
-use Rattle.typing.specs.Learned.{Pair, Pairs, InBoth, OrLearns}
 use Rattle.typing.specs.Literals
 use Rattle.typing.specs.Literals.{IsLiteral, AreEntityLiterals, ListsEntities, IsActionIn, Settled, IsUnsettled, ReadsLiteral}
-use Rattle.typing.proofs.Same.{two, same_decided, literal_decided, uid_decided}
-use Rattle.typing.proofs.Members.{told_iff, contains_decided, some_decided, told_not}
-
--- ---- pairs
-
-pair_of : Expr → List ℕ → Pair
-pair_of x k = (x, k)
-
-pair_decided : (p q : Pair) → Decided (p ≡ q)
-unfolding pair_of
-pair_decided p q =
-    decided_as (λ e. two pair_of e.0 e.1) (λ e. (ap (λ x. x.0) e, ap (λ x. x.1) e))
-    (both_decided (same_decided p.0 q.0) (text_decided p.1 q.1))
-
-pub known : (K : Pairs) (p : Pair) → Decided (Contains K p)
-known K p = contains_decided pair_decided K p
-
-abbrev pub knows : Pairs → Pair → Bool
-knows K p = told (known K p)
-
-pub knows_is : (K : Pairs) (p : Pair) (r : Bool) → Decides r (Contains K p) → knows K p ≡ r
-knows_is K p r h = one_answer (knows K p) r (told_iff (known K p)) h
-
-pub knows_holds : (K : Pairs) (p : Pair) → Decides (knows K p) (Contains K p)
-knows_holds K p = told_iff (known K p)
-
-abbrev pub kept : Bool → Pair → Pairs → Pairs
-kept true p L = p ∷ L
-kept false p L = L
-
-abbrev pub in_both : Pairs → Pairs → Pairs
-in_both [] M = []
-in_both (p ∷ L) M = kept (knows M p) p (in_both L M)
-
-pub in_both_is : {L M N : Pairs} → InBoth L M N → in_both L M ≡ N
-in_both_is Learned.both_none = refl
-in_both_is (Learned.both_kept {p} {left = L} {right = M} {both = N} c h) =
-    ap (λ b. kept b p (in_both L M)) ((told_iff (known M p)).1 c) ∙ ap (λ (P : Pairs). p ∷ P) (in_both_is h)
-in_both_is (Learned.both_dropped {p} {left = L} {right = M} {both = N} n h) =
-    ap (λ b. kept b p (in_both L M)) (told_not (known M p) n) ∙ in_both_is h
-
-keep : (p : Pair) (L M N : Pairs) (d : Decided (Contains M p)) → InBoth L M N → InBoth (p ∷ L) M (kept (told d) p N)
-keep p L M N (inl c) h = Learned.both_kept c h
-keep p L M N (inr n) h = Learned.both_dropped n h
-
-pub in_both_holds : (L M : Pairs) → InBoth L M (in_both L M)
-in_both_holds [] M = Learned.both_none
-in_both_holds (p ∷ L) M = keep p L M (in_both L M) (known M p) (in_both_holds L M)
-
-abbrev pub or_learns : StaticType → Pairs → Pairs → Pairs
-or_learns Types.true_type L M = []
-or_learns Types.false_type L M = L
-or_learns t L M = in_both L M
-
-pub or_learns_is : {t : StaticType} {L M N : Pairs} → OrLearns t L M N → or_learns t L M ≡ N
-or_learns_is Learned.or_learns_none = refl
-or_learns_is Learned.or_learns_left = refl
-or_learns_is (Learned.or_learns_both h) = in_both_is h
-
-pub or_learns_holds : {t : StaticType} (L M : Pairs) → Types.IsBoolean t → OrLearns t L M (or_learns t L M)
-or_learns_holds L M Types.is_true = Learned.or_learns_none
-or_learns_holds L M Types.is_false = Learned.or_learns_left
-or_learns_holds L M Types.is_either = Learned.or_learns_both (in_both_holds L M)
+use Rattle.typing.proofs.Same.{two, literal_decided, uid_decided}
+use Rattle.typing.proofs.Members.{told_iff, contains_decided, some_decided}
 
 -- ---- literals
 

@@ -1,12 +1,10 @@
--- One entity is named at most; what a text is refused for.
-use Rattle.std.proofs.Common.{◌≡◌, ℕ, List, Option, Some, None, MatchOption, refl}
+-- One entity is named at most.
+use Rattle.std.proofs.Common.{◌≡◌, ℕ, List, Option, Some, None, MatchOption}
 use Rattle.serde_json.specs.Data.{Data}
 use Rattle.serde_json.specs.Find.{get, as_str}
 use Rattle.std.specs.Prelude.{codes}
 use Rattle.values.specs.declared.entity_uid.EntityUid.{EntityUid}
-use Rattle.text_trees.specs.declared.fault.ReadFault.{ReadFault}
-use Rattle.text_trees.specs.declared.fault.ReadFault.TheVariants as fault
-use Rattle.policy_grammar.specs.PolicyText.{OrNoMemory, IsUidText}
+use Rattle.policy_grammar.specs.PolicyText.{IsUidText}
 use Rattle.uid_json.specs.Uids.{IsPlainUid, IsUid, IsUnderEntity}
 use Rattle.uid_json.specs.Laws.{OneUid, OneName}
 
@@ -34,17 +32,3 @@ name_same law d u v (Some text) a b = law text u v a b
 
 pub one_name : ((text : List ℕ) (u v : EntityUid) → IsUidText text u → IsUidText text v → u ≡ v) → OneName
 one_name law d u v a b = name_same law d u v (as_str d) a b
-
--- a refusal that is no want of memory
-pub due : (R : ReadFault → Type 0) → (why : ReadFault) → OrNoMemory R why → (why ≡ fault.NoMemory → ⊥) → R why
-due R fault.NoMemory h other = absurd (other refl)
-due R (fault.BadToken at) h other = h
-due R (fault.Unexpected at) h other = h
-due R (fault.NumberRange at) h other = h
-due R (fault.UnknownCall at) h other = h
-due R (fault.Arity at) h other = h
-due R (fault.RepeatedKey at) h other = h
-due R (fault.Slot at) h other = h
-due R (fault.TooDeep at) h other = h
-due R fault.TooLong h other = h
-due R fault.BadId h other = h

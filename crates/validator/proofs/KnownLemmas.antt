@@ -29,9 +29,9 @@ declared_holds s u = (
   list_any-from_Contains (eq_by_cmp_equiv uid_cmp-IsTotalOrder) u s.actions,
 )
 
--- the declared actions are those that have ancestors
-pub has_ancestors : (s : StatedSchema) → IsWellFormed s → (u : EntityUid) → is_some (s.ancestors u) ≡ is_declared_action s u
-has_ancestors s w u = one_answer _ _ ((w.actions u).1, (w.actions u).0) (declared_holds s u)
+-- the declared actions are those whose parents are stated
+pub has_parents : (s : StatedSchema) → IsWellFormed s → (u : EntityUid) → is_some (s.member_of u) ≡ is_declared_action s u
+has_parents s w u = one_answer _ _ ((w.actions_stated u).1, (w.actions_stated u).0) (declared_holds s u)
 
 -- some member passes
 any_found : {X : Type 0} (test : X → Bool) (xs : List X) → list_any test xs ≡ true → (x : X) × Contains xs x × (test x ≡ true)

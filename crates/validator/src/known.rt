@@ -48,16 +48,13 @@ fn is_type_of_action(schema: &Schema, name: &TypeName) -> bool
     has_type_at(actions, first, name)
 }
 
-/// Looked up by its ancestors: just the declared actions have such.
+/// Looked up by its parents: just the declared actions have such.
 fn is_declared_action(schema: &Schema, uid: &EntityUid) -> bool
     ensures { result ≡ is_declared_action (schema_view schema.now) uid.now }
 {
     schema.is_stated();
     stated_schemas_are_well_formed();
-    match schema.action_ancestors(uid) {
-        Some(_) => true,
-        None => false,
-    }
+    schema.is_action(uid)
 }
 
 /// Returns a type behind `is`: an entity type, or the type of an action.

@@ -1,22 +1,22 @@
 -- How the values that the code holds are read by the definitions.
-use Rattle.std.specs.Prelude.{◌≡◌, ◌⊎◌, ⊤, ℕ, List, [], map, Contains, Bool, true, false, Option, Some, None, Ok}
-use Rattle.std.specs.Prelude.{MatchOption, option_map}
+use Rattle.std.specs.Prelude.{◌≡◌, ◌⊎◌, ⊤, ℕ, List, [], map, Contains, true, false, Ok}
+use Rattle.std.specs.Prelude.{MatchOption, option_map, All}
 use Rattle.std.specs.Borrow.{Bor}
 use Rattle.values.specs.declared.entity_uid.EntityUid.{EntityUid}
 use Rattle.values.specs.declared.request.Request.{Request}
-use Rattle.values.specs.Values.{PlainValue, boolean}
+use Rattle.values.specs.Values.{boolean}
 use Rattle.ancestor_closure.specs.Hierarchy.{Parents, IsAllAbove, IsAscending, names}
 use Rattle.expressions.specs.declared.expr.Expr.{Expr}
 use Rattle.policy_grammar.specs.declared.policy.Scope.{Scope}
 use Rattle.policy_grammar.specs.declared.policy.Effect.TheVariants.{Permit, Forbid}
-use Rattle.evaluator.specs.Outcomes.{boolean_in}
 use Rattle.evaluator.specs.Operators.{World}
 use Rattle.evaluator.specs.Evaluation.{EvaluatesTo, TestFails}
 use Rattle.authoriser.specs.declared.answer.ErringPolicy.{ErringPolicy}
+use Rattle.authoriser.specs.declared.others.Other.{Other}
+use Rattle.authoriser.specs.declared.others.Others.{Others}
 use Rattle.authoriser.specs.declared.outcome.Outcome.{Outcome}
 use Rattle.authoriser.specs.declared.outcome.Outcome.TheVariants.{Satisfied, NotSatisfied, Errs}
 use Rattle.authoriser.specs.declared.outcome.PolicyError.{PolicyError}
-use Rattle.authoriser.specs.declared.outcome.PolicyError.TheVariants.{TypeError}
 use Rattle.authoriser.specs.declared.request_entities.KnownEntity.{KnownEntity}
 use Rattle.authoriser.specs.declared.request_entities.RequestEntities.{RequestEntities}
 use Rattle.authoriser.specs.declared.tally.Tally.{Tally}
@@ -70,6 +70,14 @@ pub record AreAscending (s : RequestEntities) : Type 0 where
   pub action : IsAscending (names s.action.ancestors.items)
   pub resource : IsAscending (names s.resource.ancestors.items)
 
+-- an entity beside the request's three: its ancestors are all that lie above it, ascending
+pub record HasAllAbove (parents : Parents) (o : Other) : Type 0 where
+  pub all : IsAllAbove parents o.uid (names o.ancestors.items)
+  pub ascending : IsAscending (names o.ancestors.items)
+
+abbrev pub HaveAllAbove : Parents → Others → Type 0
+HaveAllAbove parents others = All (HasAllAbove parents) others.kept.items
+
 -- the scope is true, by the ancestors that were looked up
 abbrev pub IsTrueOf : Scope → RequestEntities → Type 0
 IsTrueOf scope s =
@@ -82,15 +90,6 @@ abbrev pub ConditionEvaluatesTo : World → Request → Expr → Outcome → Typ
 ConditionEvaluatesTo W q x Satisfied = EvaluatesTo W q x (Ok (boolean true))
 ConditionEvaluatesTo W q x NotSatisfied = EvaluatesTo W q x (Ok (boolean false))
 ConditionEvaluatesTo W q x (Errs error) = TestFails W q x (fault_of error)
-
--- a condition has to give a boolean
-abbrev pub outcome_by_truth : Option Bool → Outcome
-outcome_by_truth (Some true) = Satisfied
-outcome_by_truth (Some false) = NotSatisfied
-outcome_by_truth None = Errs TypeError
-
-abbrev pub outcome_by : PlainValue → Outcome
-outcome_by v = outcome_by_truth (boolean_in v)
 
 abbrev pub ids : List (Bor (List ℕ)) → List (List ℕ)
 ids xs = map (λ x. x.now) xs

@@ -1,9 +1,11 @@
 -- How the store of a file's entities is read by the definitions.
-use Rattle.std.specs.Prelude.{◌≡◌, ℕ, List, [], ◌∷◌, if◌then◌else◌, Some, None, Result, Ok, Err}
+use Rattle.std.specs.Prelude.{◌≡◌, ℕ, Bool, not, List, [], ◌∷◌, ◌++◌, if◌then◌else◌, Some, None, Result, Ok, Err}
+use Rattle.std.specs.List.{list_any}
+use Rattle.serde_json.specs.Data.{Data}
 use Rattle.values.specs.declared.entity_uid.EntityUid.{EntityUid}
 use Rattle.values.specs.declared.request.Request.{Request}
 use Rattle.ancestor_closure.specs.Decided.{is_same}
-use Rattle.json_words.specs.ReadsAs.{Fails}
+use Rattle.json_words.specs.ReadsAs.{◌>>=◌, demand, Fails}
 use Rattle.evaluator.specs.Operators.{World}
 use Rattle.entity_worlds.specs.declared.data.EntityData.{EntityData}
 use Rattle.entity_worlds.specs.Entities.{EntityMap}
@@ -13,7 +15,8 @@ use Rattle.authoriser.specs.declared.answer.Answer.{Answer}
 use Rattle.authoriser.specs.Answers.{NamedPolicy, IsAnswer}
 use Rattle.decision_texts.specs.declared.refusal.Refusal.{Refusal}
 use Rattle.decision_texts.specs.declared.bare.BareEntity.{BareEntity}
-use Rattle.decision_texts.specs.Refusals.{no_memory}
+use Rattle.decision_texts.specs.Bare.{entity_of, placed}
+use Rattle.decision_texts.specs.Refusals.{no_memory, bad_shape}
 use Rattle.decision_texts.specs.Lines.{answer_line}
 use Rattle.decision_texts.specs.Decisions.{world_in, IsInOrder}
 
@@ -33,6 +36,23 @@ Holds store es = (q : EntityUid) → kept_in store q ≡ stated_at es q
 -- what a store says of entities
 abbrev pub world_held : Entries → World
 world_held store = entities_world (kept_in store)
+
+-- an entity that was read has this uid
+abbrev pub is_among : EntityUid → List BareEntity → Bool
+is_among uid es = list_any (λ e. is_same e.uid uid) es
+
+-- the entity at a place of an array, behind those that were read: its own fault first, then whether its uid stands
+-- among theirs
+unfoldable pub entity_after : List BareEntity → ℕ → Data → Result BareEntity Refusal
+entity_after es place d = do
+  entity ← placed (Some place) (entity_of d)
+  first ← demand (bad_shape (Some place)) (not (is_among entity.uid es))
+  Ok entity
+
+-- What keeping the next entity in a store of these comes to, unless memory was refused.
+abbrev pub KeepsNext : {A : Type 0} → List BareEntity → ℕ → Data → Result A Refusal → Entries → Type 0
+KeepsNext es place d (Ok x) store = (e : BareEntity) × (entity_after es place d ≡ Ok e) × Holds store (es ++ e ∷ [])
+KeepsNext es place d (Err refusal) store = Fails no_memory refusal (entity_after es place d)
 
 -- The store has the entities that were read, and nothing else.
 pub record Keeps (read : Result (List BareEntity) Refusal) (store : Entries) : Type 0 where

@@ -17,8 +17,23 @@ invariant-evaluating::evaluate_fields-loop-field g l =
 abbrev pub decreases-evaluating::outcome_of : goal.decreases-evaluating::outcome_of
 decreases-evaluating::outcome_of g l = 4 * goal.size-evaluating::outcome_of g l + 0
 
-abbrev pub decreases-choosing::test_of : goal.decreases-choosing::test_of
-decreases-choosing::test_of g l = 4 * goal.size-choosing::test_of g l + 1
+abbrev pub decreases-testing::test_of : goal.decreases-testing::test_of
+decreases-testing::test_of g l = 4 * goal.size-testing::test_of g l + 1
+
+abbrev pub decreases-testing::binary_test : goal.decreases-testing::binary_test
+decreases-testing::binary_test g l = 4 * max (size-Expr l.left.now) (size-Expr l.right.now) + 4
+
+abbrev pub decreases-testing::has_test : goal.decreases-testing::has_test
+decreases-testing::has_test g l = 4 * goal.size-testing::has_test g l + 1
+
+abbrev pub decreases-testing::two_numbers : goal.decreases-testing::two_numbers
+decreases-testing::two_numbers g l = 4 * max (size-Expr l.left.now) (size-Expr l.right.now) + 2
+
+abbrev pub decreases-testing::number_of : goal.decreases-testing::number_of
+decreases-testing::number_of g l = 4 * goal.size-testing::number_of g l + 1
+
+abbrev pub decreases-testing::field_number : goal.decreases-testing::field_number
+decreases-testing::field_number g l = 4 * goal.size-testing::field_number g l + 2
 
 abbrev pub decreases-choosing::last_test : goal.decreases-choosing::last_test
 decreases-choosing::last_test g l = 4 * goal.size-choosing::last_test g l + 2

@@ -40,6 +40,7 @@ use Rattle.evaluation_steps.specs.declared.attributes.Missing.{Missing}
 use Rattle.evaluation_steps.specs.declared.attributes.Missing.TheVariants.{Entity, Attribute}
 use Rattle.evaluation_steps.specs.Attributes.{attribute_in}
 use Rattle.evaluator.specs.declared.fault.EvalFault.{EvalFault}
+use Rattle.evaluator.specs.declared.numbers.Numbers.{Numbers}
 use Rattle.evaluator.specs.declared.fault.EvalFault.TheVariants.{EntityDoesNotExist, AttrDoesNotExist, TypeError}
 use Rattle.evaluator.specs.declared.fault.EvalFault.TheVariants.{ArithBoundsError, ExtensionError, NoMemory}
 use Rattle.extensions.specs.Decided.{Decided, told}
@@ -254,3 +255,13 @@ AnswersNext {A} given f r = (m : Result A EvalFault) → Answers given m → Ans
 abbrev pub AnswersInto : {A : Type 0} → EvaluationResult → (PlainValue → Type 0) → Result A EvalFault → Type 0
 AnswersInto given P r = (m : EvaluationResult) → Answers given m
     → MatchResult r (λ _. (v : PlainValue) × (m ≡ Ok v) × P v) (λ e. e ≢ NoMemory → m ≡ Err e)
+
+-- a number tells what m gives: none, where that is of another kind
+abbrev pub TellsNumber : Result (Option ℤ) EvalFault → EvaluationResult → Type 0
+TellsNumber r m = MatchResult r (λ n. (v : PlainValue) × (m ≡ Ok v) × (n ≡ long_in v)) (λ e. e ≢ NoMemory → m ≡ Err e)
+
+-- two numbers tell what a and then b give
+abbrev pub TellNumbers : Result Numbers EvalFault → EvaluationResult → EvaluationResult → Type 0
+TellNumbers r a b = MatchResult r
+    (λ ns. (v w : PlainValue) × (a ≡ Ok v) × (b ≡ Ok w) × (ns.first ≡ long_in v) × (ns.second ≡ long_in w))
+    (λ e. e ≢ NoMemory → (f : PlainValue → PlainValue → EvaluationResult) → and_then a (λ v. and_then b (f v)) ≡ Err e)

@@ -3,7 +3,7 @@ use Rattle.std.specs.Prelude.{◌≡◌, ⊤, ℕ, List, Contains, Option, Some,
 use Rattle.std.specs.BTreeMap.{BTreeMap, get}
 use Rattle.values.specs.declared.entity_uid.EntityUid.{EntityUid}
 use Rattle.values.specs.Names.{uid_cmp, text_cmp}
-use Rattle.ancestor_closure.specs.Hierarchy.{Parents, IsAllAbove, IsAscending}
+use Rattle.ancestor_closure.specs.Hierarchy.{Parents}
 use Rattle.schema_types.specs.Qualified.{Qualified}
 use Rattle.schema_types.specs.Cedar.{Cedar}
 use Rattle.schema_types.specs.CedarViews.{cedar_view}
@@ -143,23 +143,23 @@ ArePlaces commons us places =
 
 -- ---- hierarchies
 
-abbrev pub AncestorsMay : Parents → FoundAction → EntityUid → List EntityUid → Type 0
-AncestorsMay parents a u us = (a.uid ≡ u) × IsAscending us × IsAllAbove parents u us
+abbrev pub MemberMay : Parents → FoundAction → EntityUid → List EntityUid → Type 0
+MemberMay parents a u us = (a.uid ≡ u) × (us ≡ parents u)
 
-abbrev pub AncestorsMust : FoundAction → EntityUid → Type 0
-AncestorsMust a u = a.uid ≡ u
+abbrev pub MemberMust : FoundAction → EntityUid → Type 0
+MemberMust a u = a.uid ≡ u
 
-abbrev pub AddsAncestors : Parents → FoundAction → BTreeMap EntityUid (List EntityUid)
+abbrev pub AddsMember : Parents → FoundAction → BTreeMap EntityUid (List EntityUid)
     → BTreeMap EntityUid (List EntityUid) → Type 0
-AddsAncestors parents a old new =
-    Adds (AncestorsMay parents a) (AncestorsMust a) ⊤ (get uid_cmp old) (get uid_cmp new)
+AddsMember parents a old new =
+    Adds (MemberMay parents a) (MemberMust a) ⊤ (get uid_cmp old) (get uid_cmp new)
 
-abbrev pub AddsAllAncestors : Parents → List FoundAction → BTreeMap EntityUid (List EntityUid)
+abbrev pub AddsMembers : Parents → List FoundAction → BTreeMap EntityUid (List EntityUid)
     → BTreeMap EntityUid (List EntityUid) → Type 0
-AddsAllAncestors parents us old new =
-    AddsEach (AncestorsMay parents) AncestorsMust (λ a. ⊤) us (get uid_cmp old) (get uid_cmp new)
+AddsMembers parents us old new =
+    AddsEach (MemberMay parents) MemberMust (λ a. ⊤) us (get uid_cmp old) (get uid_cmp new)
 
--- the ancestors of these actions, and of no other
-abbrev pub AreAncestors : Parents → List FoundAction → BTreeMap EntityUid (List EntityUid) → Type 0
-AreAncestors parents us ancestors =
-    AddsEach (AncestorsMay parents) AncestorsMust (λ a. ⊤) us (λ u. None) (get uid_cmp ancestors)
+-- the parents of these actions, and of no other
+abbrev pub AreMembers : Parents → List FoundAction → BTreeMap EntityUid (List EntityUid) → Type 0
+AreMembers parents us members =
+    AddsEach (MemberMay parents) MemberMust (λ a. ⊤) us (λ u. None) (get uid_cmp members)

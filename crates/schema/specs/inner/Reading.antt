@@ -1,7 +1,8 @@
 -- What code knows of a schema on the way to it.
 use Rattle.std.specs.Prelude.{◌≡◌, map}
-use Rattle.std.specs.BTreeMap.{keys}
+use Rattle.std.specs.BTreeMap.{keys, get}
 use Rattle.std.specs.BTreeMap as tree
+use Rattle.values.specs.Names.{uid_cmp}
 use Rattle.ancestor_closure.specs.Hierarchy.{Parents, IsAscending}
 use Rattle.schema_types.specs.Qualified.{Qualified}
 use Rattle.schema_types.specs.WrittenOut.{Declarations}
@@ -15,8 +16,8 @@ use Rattle.schema_parts.specs.Places.{environment_of}
 use Rattle.schema.specs.declared.reading.Types.{Types}
 use Rattle.schema.specs.declared.reading.Hierarchies.{Hierarchies}
 use Rattle.schema.specs.Schemas.{action_parents, type_parents, SomeActionIsOnCycle, place_cmp}
-use Rattle.schema.specs.inner.Making.{AreShapes, ArePlaces, Places, AreAncestors}
-use Rattle.schema.specs.inner.Numbering.{AreNumbers}
+use Rattle.schema.specs.inner.Making.{AreShapes, ArePlaces, Places, AreMembers}
+use Rattle.schema.specs.inner.Numbering.{NumbersAll, AreAbove, AreNumbers}
 
 -- these are the edges of the actions, and none is above itself
 pub record AreEdges (s : FoundSchema) (parents : Parents) : Type 0 where
@@ -42,7 +43,9 @@ abbrev pub AreTypesClosed : Declarations → FoundSchema → Type 0
 AreTypesClosed commons s = (r : Qualified) → IsShapeOrContext s r → IsClosed commons r
 
 pub record AreHierarchiesOf (s : FoundSchema) (h : Hierarchies) : Type 0 where
-  pub ancestors : AreAncestors (action_parents s) s.actions h.ancestors
-  pub actions : h.actions ≡ keys h.ancestors
-  pub ascending : IsAscending (keys h.ancestors)
+  pub members : AreMembers (action_parents s) s.actions h.members
+  pub actions : h.actions ≡ keys h.members
+  pub ascending : IsAscending (keys h.members)
+  pub above : AreAbove (action_parents s) (get uid_cmp h.above.numbers) h.above.spans
+  pub numbered : NumbersAll h.actions (get uid_cmp h.above.numbers)
   pub types : AreNumbers (type_parents s) s.entity_types h.types

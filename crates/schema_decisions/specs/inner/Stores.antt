@@ -1,8 +1,11 @@
 -- How the store of an array's entities is read by the definitions.
-use Rattle.std.specs.Prelude.{◌≡◌, ℕ, List, Result, Ok, Err}
+use Rattle.std.specs.Prelude.{◌≡◌, ℕ, Bool, not, List, [], ◌∷◌, ◌++◌, Some, Result, Ok, Err}
+use Rattle.std.specs.List.{list_any}
+use Rattle.serde_json.specs.Data.{Data}
 use Rattle.values.specs.declared.entity_uid.EntityUid.{EntityUid}
 use Rattle.values.specs.declared.request.Request.{Request}
-use Rattle.json_words.specs.ReadsAs.{Fails}
+use Rattle.json_words.specs.ReadsAs.{◌>>=◌, demand, Fails}
+use Rattle.ancestor_closure.specs.Decided.{is_same}
 use Rattle.evaluator.specs.Operators.{World}
 use Rattle.authoriser.specs.declared.answer.Answer.{Answer}
 use Rattle.authoriser.specs.Answers.{NamedPolicy}
@@ -11,7 +14,9 @@ use Rattle.entity_worlds.specs.declared.entity.Entity.{Entity}
 use Rattle.entity_worlds.specs.Entities.{with_actions, world_in}
 use Rattle.entity_worlds.specs.Keeping.{Entries, kept_in}
 use Rattle.decision_texts.specs.declared.refusal.Refusal.{Refusal}
-use Rattle.decision_texts.specs.Refusals.{no_memory}
+use Rattle.entities.specs.Entities.{entity_stated_in}
+use Rattle.decision_texts.specs.Refusals.{no_memory, bad_shape}
+use Rattle.schema_decisions.specs.EntityArrays.{placed}
 use Rattle.decision_texts.specs.Lines.{answer_line}
 use Rattle.schema_decisions.specs.Decisions.{stated, IsAnswerTo}
 use Rattle.schema_decisions.specs.Requests.{IsRequestText}
@@ -22,7 +27,24 @@ Holds store es = (q : EntityUid) → kept_in store q ≡ stated es q
 
 -- what a store says under a schema
 abbrev pub world_held : StatedSchema → Entries → World
-world_held s store = world_in (with_actions s.ancestors (kept_in store))
+world_held s store = world_in (with_actions s.member_of (kept_in store))
+
+-- an entity that was read has this uid
+abbrev pub is_among : EntityUid → List Entity → Bool
+is_among uid es = list_any (λ e. is_same e.uid uid) es
+
+-- the entity at a place of an array, behind those that were read: its own fault first, then whether its uid stands
+-- among theirs
+unfoldable pub entity_after : StatedSchema → List Entity → ℕ → Data → Result Entity Refusal
+entity_after s es place d = do
+  entity ← placed place (entity_stated_in s d)
+  first ← demand (bad_shape (Some place)) (not (is_among entity.uid es))
+  Ok entity
+
+-- What keeping the next entity in a store of these comes to, unless memory was refused.
+abbrev pub KeepsNext : {A : Type 0} → StatedSchema → List Entity → ℕ → Data → Result A Refusal → Entries → Type 0
+KeepsNext s es place d (Ok x) store = (e : Entity) × (entity_after s es place d ≡ Ok e) × Holds store (es ++ e ∷ [])
+KeepsNext s es place d (Err refusal) store = Fails no_memory refusal (entity_after s es place d)
 
 -- The store has the entities that were read, and nothing else.
 pub record Keeps (read : Result (List Entity) Refusal) (store : Entries) : Type 0 where

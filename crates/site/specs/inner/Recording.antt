@@ -1,5 +1,5 @@
 -- Parts of commands: what is stamped and stored, whatever is judged before.
-use Rattle.std.specs.Prelude.{◌≡◌, ◌≢◌, ◌↔◌, ◌<◌, ℕ, Bool, true}
+use Rattle.std.specs.Prelude.{◌≡◌, ◌↔◌, ◌<◌, ℕ, Bool, true}
 use Rattle.std.specs.Prelude.{false, List, Option, Some, None, Result, Ok, Err, IsTrue}
 use Rattle.plain.specs.Words.{IsPath}
 use Rattle.values.specs.declared.entity_uid.EntityUid.{EntityUid}
@@ -71,7 +71,3 @@ pub record IsJudged (schema : StatedSchema) (id text : List ℕ) (b : ReadText P
   pub same : b.text ≡ text
   pub admitted : IsAdmitted schema id text b.read
   pub told : IsTrue impossible ↔ IsImpossible schema b.read
-
--- want of memory, or a fault that is due
-abbrev pub OrNoMemory : (SiteFault → Type 0) → SiteFault → Type 0
-OrNoMemory Due f = f ≢ fault.NoMemory → Due f

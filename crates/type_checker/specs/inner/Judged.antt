@@ -1,6 +1,6 @@
 -- What answers say of expressions, where memory was not refused: types with what is learned, or faults. `after` are the
 -- pairs that are known then: those that were known before, wherever there is a type.
-use Rattle.std.specs.Prelude.{◌≡◌, ◌≢◌, ◌⊎◌, List, [], ◌++◌, map, Vec, Result, Ok, Err, MatchResult}
+use Rattle.std.specs.Prelude.{◌≡◌, ◌≢◌, ◌⊎◌, List, [], ◌∷◌, ◌++◌, map, Vec, Result, Ok, Err, MatchResult}
 use Rattle.expressions.specs.declared.operator.UnaryCall.{UnaryCall}
 use Rattle.expressions.specs.declared.expr.Expr.{Expr}
 use Rattle.expressions.specs.declared.expr.Expr.TheVariants as form
@@ -10,7 +10,7 @@ use Rattle.typing.specs.Environment.{Environment, bad_extension_literal}
 use Rattle.typing.specs.Learned as learned
 use Rattle.typing.specs.Learned.{Pairs, has_learns}
 use Rattle.typing.specs.Literals.{ReadsLiteral, TakesText}
-use Rattle.typing.specs.Rows.{address_test_type}
+use Rattle.typing.specs.Rows.{address_test_type, set_literal_type}
 use Rattle.typing.specs.Typing.{Types, TypesEach}
 use Rattle.typing.specs.Faults.{Faults, FaultsEach}
 use Rattle.static_types.specs.Views.{static_view, fault_view}
@@ -42,6 +42,22 @@ abbrev pub JudgedEach : Environment → Pairs → List Expr
     → Result (Vec built.StaticType Global) TypeFault → Pairs → Type 0
 JudgedEach env K xs r after =
     MatchResult r (λ ts. (after ≡ K) × TypesEach env K xs (map static_view ts.items))
+    (λ f. f ≢ NoMemory → FaultsEach env K xs (fault_view f))
+
+-- one more, whose type is put behind the others
+abbrev pub IsNext : Environment → Pairs → Expr → List built.StaticType → List built.StaticType → Type 0
+IsNext env K x ts us =
+    (t : StaticType) × (L : Pairs) × Types env K x t L × (map static_view us ≡ map static_view ts ++ t ∷ [])
+
+-- Types of which a set has the type that a set of these members has: a member that repeats the one before adds none.
+abbrev pub MembersHave : Environment → Pairs → List Expr → List StaticType → Type 0
+MembersHave env K xs ts =
+    (us : List StaticType) × TypesEach env K xs us × (set_literal_type us ≡ set_literal_type ts)
+
+abbrev pub JudgedMembers : Environment → Pairs → List Expr
+    → Result (Vec built.StaticType Global) TypeFault → Pairs → Type 0
+JudgedMembers env K xs r after =
+    MatchResult r (λ ts. (after ≡ K) × MembersHave env K xs (map static_view ts.items))
     (λ f. f ≢ NoMemory → FaultsEach env K xs (fault_view f))
 
 -- the test a has type s, and with what it learns b is typed

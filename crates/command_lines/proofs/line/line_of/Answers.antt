@@ -3,7 +3,8 @@ use Rattle.clap.specs.Words.{App, HasKind, fault_of, is_simple, is_simple_and_fr
 use Rattle.command_lines.specs.Apps.{site_app}
 use Rattle.command_lines.specs.Faults.{IsFaultOf}
 use Rattle.command_lines.specs.Lines.{IsNamed}
-use Rattle.command_lines.proofs.LineLemmas.{lacking_fault, named_sites, sorted_fault}
+use Rattle.command_lines.proofs.FaultLemmas.{lacking_fault, sorted_fault}
+use Rattle.command_lines.proofs.LineLemmas.{named_sites}
 use Rattle.command_lines.proofs.line.line_of.Goals as goal
 
 pub returns-in-Err-clause-err : goal.returns-in-Err-clause-err

@@ -1,13 +1,16 @@
-use Rattle.std.proofs.Common.{◌≡◌, List, map, take, drop, Ok}
-use Rattle.serde_json.specs.View.{view, items_view}
-use Rattle.json_words.specs.Each.{each, list_of}
+use Rattle.std.proofs.Common.{◌+◌, ◌≤◌, List, length}
+use Rattle.json_values.specs.Arrays.{to_come}
+use Rattle.json_values.proofs.Readings.{SoFar}
 use Rattle.decision_texts.specs.declared.bare.BareEntity.{BareEntity}
 use Rattle.decision_texts.specs.Bare.{entity_at}
 use Rattle.decision_texts.specs.inner.Stores.{Holds}
 use Rattle.decision_texts.proofs.entity_file.read_array.Given as goal
 
--- what was read is in the store, and the JSON that is left
-abbrev pub invariant-loop-place : goal.invariant-loop-place
-invariant-loop-place l =
-    (es : List BareEntity) × (each (entity_at (list_of (items_view l.fn.values.items))) 0 (map view (take l.place l.fn.values.items)) ≡ Ok es) × Holds l.store es
-    × (l.rest.items ≡ drop l.place l.fn.values.items)
+-- what was read is in the store
+abbrev pub invariant-members : goal.invariant-members
+invariant-members l =
+    (es : List BareEntity) × Holds l.store es × SoFar entity_at (to_come l.fn.members) (to_come l.members) l.place es
+    × (l.place + length l.members.reader ≤ length l.fn.members.reader)
+
+abbrev pub decreases-members : goal.decreases-members
+decreases-members l = length l.members.reader

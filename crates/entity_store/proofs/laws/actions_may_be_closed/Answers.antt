@@ -4,9 +4,12 @@ use Rattle.values.specs.Fields.{Field}
 use Rattle.evaluator.specs.Operators.{world_of}
 use Rattle.entity_store.specs.Laws.{stated_world, closed_world}
 use Rattle.entity_store.specs.Alike.{GiveAlike, AnswerAlike}
-use Rattle.entity_store.proofs.ActionLemmas.{lead_alike, same_cycles, same_stored, puts_alike}
+use Rattle.entity_store.proofs.ActionLemmas.{members_kept, lead_alike, same_cycles, same_stored, puts_alike}
 use Rattle.entity_store.proofs.AlikeLemmas.{give_alike, answer_alike}
 use Rattle.entity_store.proofs.laws.actions_may_be_closed.Goals as goal
+
+pub returns-clause-kept : goal.returns-clause-kept
+returns-clause-kept c bytes v stated entities = members_kept stated.named v stated.answers entities
 
 pub returns-clause-alike : goal.returns-clause-alike
 returns-clause-alike c bytes v stated entities = lead_alike stated.named v stated.answers entities

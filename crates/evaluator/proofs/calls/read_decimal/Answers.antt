@@ -1,6 +1,6 @@
 use Rattle.std.proofs.Common.{Ok, ap, sym, ◌∙◌}
 use Rattle.extensions.specs.TextsDecided.{decimal_text_decided}
-use Rattle.evaluator.proofs.Applied.{decimal_is}
+use Rattle.evaluator.proofs.AppliedCalls.{decimal_is}
 use Rattle.evaluator.proofs.calls.read_decimal.Goals as goal
 
 pub returns-in-Some : goal.returns-in-Some

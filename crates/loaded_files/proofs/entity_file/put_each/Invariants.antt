@@ -1,14 +1,16 @@
-use Rattle.std.proofs.Common.{drop, map}
-use Rattle.serde_json.specs.View.{view}
+use Rattle.std.proofs.Common.{◌+◌, ◌≤◌, length}
+use Rattle.json_values.specs.Arrays.{to_come}
 use Rattle.site.specs.Seen.{schema_of, store_in, IsSameSite}
-use Rattle.loaded_files.specs.Puts.{entity_put}
-use Rattle.loaded_files.proofs.PutLemmas.{Along}
+use Rattle.loaded_files.proofs.PutLemmas.{AreAlong}
 use Rattle.loaded_files.proofs.entity_file.put_each.Given as goal
 
 -- what is left to put comes to what all come to
-abbrev pub invariant-loop-place : goal.invariant-loop-place
-invariant-loop-place l = record {
+abbrev pub invariant-members : goal.invariant-members
+invariant-members l = record {
   same : IsSameSite l.fn.site l.site;
-  along : Along (schema_of l.fn.site) l.fn.site.name (store_in l.fn.site) (map entity_put (map view l.values)) (store_in l.site) l.place
-      (map entity_put (map view (drop l.place l.values)));
+  along : AreAlong (schema_of l.fn.site) l.fn.site.name (store_in l.fn.site) (to_come l.fn.members) (store_in l.site) l.place (to_come l.members);
+  few : l.place + length l.members.reader ≤ length l.fn.members.reader;
 }
+
+abbrev pub decreases-members : goal.decreases-members
+decreases-members l = length l.members.reader

@@ -4,13 +4,13 @@ use Rattle.desugaring.specs.Refused.{least}
 use Rattle.desugaring.specs.Repeats.{repeat_faults}
 use Rattle.policy_grammar.specs.CoreOf.{AreNamesOf}
 use Rattle.policy_grammar.specs.Limits.{IsSmallTree, IsId}
-use Rattle.policy_grammar.specs.PolicyText.{HaveNoPolicies, tree_faults, file_faults}
+use Rattle.policy_grammar.specs.PolicyText.{tree_faults, file_faults}
 use Rattle.policy_grammar.specs.Repeats.{policy_names}
 use Rattle.policy_grammar.proofs.Joining.{sound-all}
 use Rattle.policy_grammar.proofs.Lists.{none-right}
 use Rattle.policy_grammar.proofs.Refusing.{refuted, names-long}
 use Rattle.policy_grammar.proofs.Sizes.{small_cores}
-use Rattle.policy_grammar.proofs.Telling.{told-file, or_no_memory}
+use Rattle.policy_grammar.proofs.Telling.{told-file}
 use Rattle.policy_grammar.proofs.texts.policies_of.Goals as goal
 
 pub repeated_name-requires-clause-named : goal.repeated_name-requires-clause-named
@@ -21,8 +21,7 @@ returns-in-Some-clause-refused c =
     let again = subst (λ ns. c.in_ok-repeat.repeat ≡ least (repeat_faults (policy_names ns c.args.trees.now))) c.deref.ensures.value c.in_ok-repeat.ensures in
     let told = told-file c.least_fault_is_told.ensures.both c.args.text.now c.args.trees.now c.args.names.items c.in_ok-repeat.repeat c.in_ok-verdict.verdict c.earlier_of.result again
     c.in_ok-verdict.ensures c.earlier_of.ensures in
-    or_no_memory (HaveNoPolicies c.args.text.now c.args.trees.now c.args.names.items) c.from.result
-    (inl (record { fault = c.in-Some.fault; first = sym told ∙ c.in-Some.is; told = c.from.ensures }))
+    λ other. inl (record { fault = c.in-Some.fault; first = sym told ∙ c.in-Some.is; told = c.from.ensures })
 
 pub returns-then-not-verdict-clause-refused : goal.returns-then-not-verdict-clause-refused
 returns-then-not-verdict-clause-refused c =
@@ -30,7 +29,7 @@ returns-then-not-verdict-clause-refused c =
     let told = told-file c.least_fault_is_told.ensures.both c.args.text.now c.args.trees.now c.args.names.items c.in_ok-repeat.repeat c.in_ok-verdict.verdict c.earlier_of.result again
     c.in_ok-verdict.ensures c.earlier_of.ensures in
     let none = c.least_fault_is_told.ensures.none (file_faults c.args.text.now c.args.trees.now c.args.names.items) (sym told ∙ c.in_default.is) in
-    inr (
+    λ other. inr (
       none,
       (
         refuted (AllByRecursion (IsSmallTree c.args.text.now) c.args.trees.now) c.in_ok-verdict.verdict.small c.in_ok-verdict.ensures.small c.if-not-verdict.true,
@@ -44,7 +43,7 @@ returns-then-not-are_ids-clause-refused c =
     let told = told-file c.least_fault_is_told.ensures.both c.args.text.now c.args.trees.now c.args.names.items c.in_ok-repeat.repeat c.in_ok-verdict.verdict c.earlier_of.result again
     c.in_ok-verdict.ensures c.earlier_of.ensures in
     let none = c.least_fault_is_told.ensures.none (file_faults c.args.text.now c.args.trees.now c.args.names.items) (sym told ∙ c.in_default.is) in
-    inr (
+    λ other. inr (
       none,
       (
         c.in_ok-verdict.ensures.small.0 c.if-not-verdict.false,

@@ -1,21 +1,19 @@
 use Rattle.std.proofs.Common.{inl, inr, refl, sym, ◌∙◌}
 use Rattle.policy_grammar.specs.Limits.{IsSmallTree}
-use Rattle.policy_grammar.specs.PolicyText.{HasNoPolicy, tree_faults}
+use Rattle.policy_grammar.specs.PolicyText.{tree_faults}
 use Rattle.policy_grammar.proofs.Joining.{sound-tree}
 use Rattle.policy_grammar.proofs.Refusing.{refuted}
 use Rattle.policy_grammar.proofs.Sizes.{small_core}
-use Rattle.policy_grammar.proofs.Telling.{or_no_memory}
 use Rattle.policy_grammar.proofs.texts.policy_of.Goals as goal
 
 pub returns-in-Some-clause-refused : goal.returns-in-Some-clause-refused
 returns-in-Some-clause-refused c =
-    or_no_memory (HasNoPolicy c.args.text.now c.args.tree.now) c.from.result
-    (inl (record { fault = c.in-Some.fault; first = sym c.in_ok-verdict.ensures.fault ∙ c.in-Some.is; told = c.from.ensures }))
+    λ other. inl (record { fault = c.in-Some.fault; first = sym c.in_ok-verdict.ensures.fault ∙ c.in-Some.is; told = c.from.ensures })
 
 pub returns-then-not-verdict-clause-refused : goal.returns-then-not-verdict-clause-refused
 returns-then-not-verdict-clause-refused c =
     let none = c.least_fault_is_told.ensures.none (tree_faults c.args.text.now c.args.tree.now) (sym c.in_ok-verdict.ensures.fault ∙ c.in_default.is) in
-    inr (none, (refuted (IsSmallTree c.args.text.now c.args.tree.now) c.in_ok-verdict.verdict.small c.in_ok-verdict.ensures.small c.if-not-verdict.true, refl))
+    λ other. inr (none, (refuted (IsSmallTree c.args.text.now c.args.tree.now) c.in_ok-verdict.verdict.small c.in_ok-verdict.ensures.small c.if-not-verdict.true, refl))
 
 pub core_of-requires-clause-sound : goal.core_of-requires-clause-sound
 core_of-requires-clause-sound c =

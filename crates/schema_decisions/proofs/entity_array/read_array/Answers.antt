@@ -1,84 +1,62 @@
-use Rattle.std.proofs.Common.{◌≡◌, ◌∙◌, ◌<◌, ◌++◌, ◌∷◌, [], length, refl, sym, ap, true, false, not, take, Err, arith}
-use Rattle.std.proofs.lemmas.Result.{err_from_is_err_and}
-use Rattle.std.specs.Prelude.{is_some}
-use Rattle.serde_json.specs.View.{view, items_view}
-use Rattle.json_words.specs.Each.{each, list_of}
-use Rattle.json_words.proofs.EachLemmas.{each_next, items_fail, items_end}
+use Rattle.std.proofs.Common.{◌∙◌, ◌++◌, ◌∷◌, [], None, refl, sym, ap, Ok, Err, arith}
+use Rattle.serde_json.specs.View.{view}
+use Rattle.json_values.specs.Arrays.{to_come}
+use Rattle.json_values.proofs.Readings.{value_told, fewer_left, end_told, not_json_told, begins, goes_on, ends, fails, refused}
+use Rattle.decision_texts.specs.Refusals.{no_memory, bad_shape}
 use Rattle.schema.specs.Views.{schema_view}
-use Rattle.entity_worlds.specs.Keeping.{kept_in}
-use Rattle.decision_texts.specs.Refusals.{no_memory}
-use Rattle.schema_decisions.specs.EntityArrays.{entity_at, entities_in}
-use Rattle.schema_decisions.proofs.ArrayLemmas.{before_is, at_new, at_again, at_fault, had, is_before, taken, left-over, some-left}
-use Rattle.schema_decisions.proofs.StoreLemmas.{holds_more, has_stated}
+use Rattle.schema_decisions.specs.EntityArrays.{entity_at}
+use Rattle.schema_decisions.proofs.ArrayLemmas.{at_next}
 use Rattle.schema_decisions.proofs.entity_array.read_array.Goals as goal
 
-pub loop-place-init : goal.loop-place-init
-unfolding each
-loop-place-init c = ([], refl, (λ q. rw c.new-store.ensures refl), c.from_vec-rest.ensures.items)
+pub members-init : goal.members-init
+members-init c = ([], (λ q. rw c.new-store.ensures refl), begins (entity_at (schema_view c.args.schema.now)) (to_come c.args.members.now), omega arith)
 
-pub returns-in_err-entity : goal.returns-in_err-entity
-unfolding entities_in
-returns-in_err-entity c =
-    let vs = c.args.values.items in
-    let below : c.loop-place.place < length vs = omega (arith, c.args.values.ok) in
+pub returns-in-Err : goal.returns-in-Err
+returns-in-Err c other =
     let s = schema_view c.args.schema.now in
-    let ds = list_of (items_view vs) in
-    let before = c.loop-place.invariant in
-    let p = err_from_is_err_and c.from_residual.result c.from_residual.ensures.1 in
-    rw (p.1, p.2) (items_fail (entity_at s ds) vs c.loop-place.place c.in-Some.value before.0 no_memory c.in_err-entity.field-0.0
-    below (taken vs c.loop-place.rest.items c.pop_front.new.self.items c.loop-place.place c.in-Some.value below before.3 c.in-Some.ensures.items) before.1
-    (at_fault s ds c.loop-place.place (view c.in-Some.value) no_memory c.in_err-entity.field-0.0 c.in_err-entity.ensures))
+    let l = c.members in
+    let es = l.invariant.0 in
+    let v = c.in-Value.value in
+    let next = value_told _ v (to_come l.members) (to_come c.next.new.self) c.in-Value.is c.in_ok-value.ensures.told in
+    refused (bad_shape None) no_memory c.in-Err.refusal c.if_json.result (entity_at s) (to_come c.args.members.now) (to_come l.members) (to_come c.next.new.self) l.place es (view v) l.invariant.2 next
+    (λ rest known. at_next s (to_come c.args.members.now) (to_come l.members) l.place es l.invariant.2 (view v) rest (Err c.in-Err.refusal) (c.in-Err.ensures es l.invariant.1 known))
+    (c.if_json.ensures other) other
 
-pub returns-then-not-branch : goal.returns-then-not-branch
-unfolding entities_in
-returns-then-not-branch c told =
-    let vs = c.args.values.items in
-    let below : c.loop-place.place < length vs = omega (arith, c.args.values.ok) in
+pub members-preserved : goal.members-preserved
+members-preserved c =
     let s = schema_view c.args.schema.now in
-    let ds = list_of (items_view vs) in
-    let before = c.loop-place.invariant in
-    let e = c.in_ok-entity.entity in
-    let place = c.loop-place.place in
-    let again : is_before s e.uid (take place ds) ≡ true =
-    had s e.uid (take place ds) before.0 (is_some (kept_in c.loop-place.store e.uid)) c.in_ok-put.field-0 c.in_ok-put.ensures.first
-    (has_stated c.loop-place.store before.0 before.2 e.uid) (before_is s vs place before.0 e.uid before.1) ∙ ap not c.if-not-branch.true in
-    items_fail (entity_at s ds) vs place c.in-Some.value before.0 no_memory c.bad_shape.result below
-    (taken vs c.loop-place.rest.items c.pop_front.new.self.items place c.in-Some.value below before.3 c.in-Some.ensures.items)
-    before.1 (λ o. at_again s ds place (view c.in-Some.value) e c.in_ok-entity.ensures again ∙ ap Err (sym c.bad_shape.ensures)) told
-
-pub loop-place-preserved : goal.loop-place-preserved
-loop-place-preserved c =
-    let vs = c.args.values.items in
-    let below : c.loop-place.place < length vs = omega (arith, c.args.values.ok) in
-    let s = schema_view c.args.schema.now in
-    let ds = list_of (items_view vs) in
-    let before = c.loop-place.invariant in
-    let e = c.in_ok-entity.entity in
-    let place = c.loop-place.place in
-    let absent : is_some (kept_in c.loop-place.store e.uid) ≡ false = c.in_ok-put.ensures.first ∙ ap not c.if-not-branch.false in
-    let new : is_before s e.uid (take place ds) ≡ false =
-    before_is s vs place before.0 e.uid before.1 ∙ sym (has_stated c.loop-place.store before.0 before.2 e.uid) ∙ absent in (
-      before.0 ++ e ∷ [],
-      each_next view (entity_at s ds) vs place c.in-Some.value before.0 e below
-          (taken vs c.loop-place.rest.items c.pop_front.new.self.items place c.in-Some.value below before.3 c.in-Some.ensures.items)
-          before.1 (at_new s ds place (view c.in-Some.value) e c.in_ok-entity.ensures new),
-      holds_more c.loop-place.store c.put.new.self before.0 e (c.in_ok-put.ensures.puts c.if-not-branch.false) absent before.2,
-      left-over vs c.loop-place.rest.items c.pop_front.new.self.items place c.in-Some.value below before.3 c.in-Some.ensures.items,
+    let l = c.members in
+    let es = l.invariant.0 in
+    let v = c.in-Value.value in
+    let next = value_told _ v (to_come l.members) (to_come c.next.new.self) c.in-Value.is c.in_ok-value.ensures.told in
+    let less = fewer_left _ v _ _ c.in-Value.is c.in_ok-value.ensures.fewer in
+    let kept = c.in_default.ensures es l.invariant.1 in (
+      es ++ kept.0 ∷ [],
+      kept.2,
+      goes_on (entity_at s) (to_come c.args.members.now) (to_come l.members) (to_come c.next.new.self) l.place es (view v) kept.0 l.invariant.2 next
+          (λ rest. at_next s (to_come c.args.members.now) (to_come l.members) l.place es l.invariant.2 (view v) rest (Ok kept.0) kept.1),
+      omega (arith, less, l.invariant.3),
     )
 
-pub unreachable-requires : goal.unreachable-requires
-unreachable-requires c =
-    let vs = c.args.values.items in
-    some-left vs c.loop-place.rest.items c.loop-place.place (omega (arith, c.args.values.ok)) c.loop-place.invariant.3 (omega (arith, c.loop-place.rest.ok, c.in_default.ensures.cases.0))
+pub members-smaller : goal.members-smaller
+members-smaller c = fewer_left _ c.in-Value.value _ _ c.in-Value.is c.in_ok-value.ensures.fewer
 
-pub returns : goal.returns
-unfolding entities_in
-returns c =
-    let vs = c.args.values.items in
-    let before = c.loop-place.invariant in
+pub overflow_add-place : goal.overflow_add-place
+overflow_add-place c = omega (arith, c.members.invariant.3, c.requires, fewer_left _ c.in-Value.value _ _ c.in-Value.is c.in_ok-value.ensures.fewer)
+
+pub returns-in-End : goal.returns-in-End
+returns-in-End c =
     let s = schema_view c.args.schema.now in
+    let l = c.members in
     record {
-      entities = before.0;
-      are = items_end (entity_at s (list_of (items_view vs))) vs c.loop-place.place before.0 (omega (arith, c.args.values.ok)) before.1;
-      held = before.2;
+      entities = l.invariant.0;
+      are = ends (bad_shape None) (entity_at s) (to_come c.args.members.now) (to_come l.members) l.place l.invariant.0 l.invariant.2 (end_told _ _ (to_come c.next.new.self) c.in-End.is c.in_ok-value.ensures.told);
+      held = l.invariant.1;
     }
+
+pub returns-in-NotJson : goal.returns-in-NotJson
+returns-in-NotJson c other =
+    let s = schema_view c.args.schema.now in
+    let l = c.members in
+    fails (bad_shape None) (entity_at s) (to_come c.args.members.now) (to_come l.members) l.place l.invariant.0 l.invariant.2 (not_json_told _ _ (to_come c.next.new.self) c.in-NotJson.is c.in_ok-value.ensures.told)
+    ∙ ap Err (sym c.bad_shape.ensures)

@@ -86,4 +86,4 @@ returns-clause-ascending c =
     }) c.answers_are_lawful.ensures.ascending
 
 pub returns-clause-alike : goal.returns-clause-alike
-returns-clause-alike c = alike c.actions_may_be_closed.ensures.answers
+returns-clause-alike c = alike c.actions_may_be_closed.ensures.kept

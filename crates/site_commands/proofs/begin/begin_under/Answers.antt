@@ -23,10 +23,11 @@ returns-in-Some-clause-refused c =
     (ap schema_view c.new-site.ensures.schema) c.with_state.ensures.refused)
 
 pub returns-in-None-clause-begun : goal.returns-in-None-clause-begun
-returns-in-None-clause-begun c = record {
-  schema_is = ap schema_view c.new-site.ensures.schema;
-  name_is = c.new-site.ensures.name ∙ c.as_str.ensures.text;
-  begins =
-      subst (λ (o : Option (Bor (List ℕ))). BeginsWith (schema_view c.args.schema) (option_map (λ s. s.now) o) (store_in c.new-site.result))
-      (sym c.in-None.is) c.new-site.ensures.empty;
-}
+returns-in-None-clause-begun c =
+    subst (IsBegunUnder (schema_view c.args.schema) c.args.name (option_map (λ s. s.now) c.args.state)) (sym c.standing.ensures) (record {
+      schema_is = ap schema_view c.new-site.ensures.schema;
+      name_is = c.new-site.ensures.name ∙ c.as_str.ensures.text;
+      begins =
+          subst (λ (o : Option (Bor (List ℕ))). BeginsWith (schema_view c.args.schema) (option_map (λ s. s.now) o) (store_in c.new-site.result))
+          (sym c.in-None.is) c.new-site.ensures.empty;
+    })

@@ -1,5 +1,5 @@
 use Rattle.stamped_store.specs.Store.{updates}
-use Rattle.stamped_store.proofs.Stores.{counts_below, count_reached, greatest_count-joined, issued_wins}
+use Rattle.stamped_store.proofs.JoinedStores.{counts_below, count_reached, greatest_count-joined, issued_wins}
 use Rattle.stamped_store.proofs.laws.stamps_are_issued.Goals as goal
 
 pub returns-clause-greatest : goal.returns-clause-greatest

@@ -1,4 +1,4 @@
-use Rattle.stamped_store.proofs.Stores.{joined_assoc, joined_commutes, joined_itself, joined_is_join, one_join, same_if_below_both}
+use Rattle.stamped_store.proofs.JoinedStores.{joined_assoc, joined_commutes, joined_itself, joined_is_join, one_join, same_if_below_both}
 use Rattle.stamped_store.proofs.laws.stores_are_joined.Goals as goal
 
 pub returns-clause-associative : goal.returns-clause-associative

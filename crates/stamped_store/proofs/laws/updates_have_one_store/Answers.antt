@@ -2,7 +2,7 @@ use Rattle.values.specs.Names.{name_cmp-IsTotalOrder, name_cmp-IsAntisymmetric}
 use Rattle.stamped_store.specs.Store.{store_of}
 use Rattle.stamped_store.proofs.Greatests.{entry_order}
 use Rattle.stamped_store.proofs.GreatestsBy.{is_store_of-store_of, same_store, store_of-same_members, store_of-entries, store_of-append}
-use Rattle.stamped_store.proofs.Stores.{store_of_union}
+use Rattle.stamped_store.proofs.JoinedStores.{store_of_union}
 use Rattle.stamped_store.proofs.laws.updates_have_one_store.Goals as goal
 
 pub returns-clause-greatest : goal.returns-clause-greatest

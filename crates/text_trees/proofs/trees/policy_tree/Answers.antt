@@ -6,13 +6,14 @@ use Rattle.token_readers.specs.Reads.{IsRefusedWithin}
 use Rattle.policy_syntax.specs.Grammar as grammar
 use Rattle.text_trees.specs.Texts.{most_policy_bytes}
 use Rattle.text_trees.specs.Texts.{IsUnread, OrNoMemory}
+use Rattle.text_trees.specs.declared.fault.ReadFault.TheVariants as fault
 use Rattle.text_trees.specs.inner.Parts.{refusal_of}
 use Rattle.text_trees.proofs.Unread.{unread}
 use Rattle.text_trees.proofs.trees.policy_tree.Goals as goal
 
 pub returns-clause-err : goal.returns-clause-err
 returns-clause-err c =
-    subst (OrNoMemory (IsUnread (grammar.policy nesting_limit) (at_any grammar.policy) most_policy_bytes c.args.text.now))
+    subst (OrNoMemory fault.NoMemory (IsUnread (grammar.policy nesting_limit) (at_any grammar.policy) most_policy_bytes c.args.text.now))
     (sym (c.refusal.ensures ∙ ap (λ ts. refusal_of c.args.text.now ts c.in-Err.fault) c.deref-in-Err.ensures.value))
     (unread (grammar.policy nesting_limit) (at_any grammar.policy) most_policy_bytes c.args.text.now c.in_ok-tokens.tokens.items c.in_ok-tokens.ensures.ok c.in-Err.fault
     (subst (λ ts. (c.in-Err.fault ≡ syntax.NoMemory) ⊎ IsRefusedWithin (grammar.policy nesting_limit) (at_any grammar.policy) ts c.in-Err.fault) c.deref.ensures.value c.in-Err.ensures.reads))

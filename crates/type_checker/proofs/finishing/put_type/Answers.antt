@@ -3,9 +3,9 @@ use Rattle.type_checker.proofs.Each.{put_so}
 use Rattle.type_checker.proofs.finishing.put_type.Goals as goal
 
 pub returns-in-Err : goal.returns-in-Err
-returns-in-Err c = λ env K after xs x g h n. faulty_so env K after x c.in-Err.is h n
+returns-in-Err c = λ env K after x g n. faulty_so env K after x c.in-Err.is g n
 
 pub returns : goal.returns
-returns c = λ env K after xs x g h.
-    let t = typed_so env K after x c.in-Ok.is h in
-    (t.0, put_so env K _ _ _ g t.1 c.in_ok-push.ensures.items)
+returns c = λ env K after x g.
+    let t = typed_so env K after x c.in-Ok.is g in
+    (t.0, put_so env K _ _ _ t.1 c.in_ok-push.ensures.items)

@@ -1,20 +1,21 @@
-use Rattle.std.proofs.Common.{◌≡◌, ◌<◌, ◌++◌, [], ◌∷◌, List, map, length, get_or, take, Ok, refl, sym, subst, ap, ◌∙◌}
+use Rattle.std.proofs.Common.{[], List, map, take, Ok, refl, sym, subst, ap, ◌∙◌}
 use Rattle.std.proofs.lemmas.Bool.{false≢true}
-use Rattle.std.proofs.lemmas.List.{take_more}
 use Rattle.expressions.specs.declared.expr.Named.{Named}
+use Rattle.expressions.specs.declared.operator.Unary.TheVariants.{Is}
 use Rattle.expressions.specs.declared.expr.Expr.{Expr}
 use Rattle.expressions.specs.declared.expr.Expr.TheVariants as form
 use Rattle.typing.specs.Rows as rows
 use Rattle.typing.specs.Typing as typing
 use Rattle.typing.specs.Typing.{Types, TypesEach}
-use Rattle.typing.specs.Faults.{FaultsEach}
 use Rattle.typing.specs.Faults as faults
-use Rattle.static_types.specs.Views.{static_view, boolean_view, fault_view, typing_environment}
+use Rattle.static_types.specs.Views.{static_view, boolean_view, typing_environment}
 use Rattle.known_pairs.specs.Pairs.{pairs}
-use Rattle.type_checker.proofs.Carrying.{typed_so, faulty_so, plain_judged, moved, behind_moved, at_form, false_so, then_so, then_faulty}
+use Rattle.type_checker.proofs.Carrying.{typed_so, has_kind, faulty_so, plain_judged, moved, behind_moved, at_form, false_so, then_so, then_faulty}
 use Rattle.typing.specs.Literals.{Settled, IsUnsettled}
 use Rattle.type_checker.specs.inner.Judged.{Judged, JudgedBehind, JudgedEach}
-use Rattle.type_checker.proofs.Each.{behind_judged, stops_at, goes_on, map_itself}
+use Rattle.type_checker.proofs.AskedLemmas.{asked_so, behind_nothing}
+use Rattle.type_checker.proofs.Each.{behind_judged, stands_at, stops_at, goes_on}
+use Rattle.type_checker.proofs.Members.{none_yet, member_stops, member_more, member_again}
 use Rattle.type_checker.proofs.Carrying.{then_only, then_both, else_only}
 use Rattle.type_checker.proofs.judging.+judge.Goals as goal
 
@@ -50,22 +51,18 @@ pub second_conjunct-returns-then-not-is_looked_at : goal.second_conjunct-returns
 second_conjunct-returns-then-not-is_looked_at level c = λ K a h.
     let E = typing_environment c.args.env in
     let b = c.args.right.now in
-    let before = c.args.known.now in
-    let t = typed_so E K before a c.in-Ok.is h in
     let n = λ (m : rows.MayBeTrue (boolean_view c.in-Some.truth)). false≢true (sym c.if-not-is_looked_at.true ∙ c.is_looked_at.ensures.1 m) in
-    let e = c.in-Some.ensures ∙ false_so c.in-Some.truth n in
-    let left = subst (λ s. Types E K a s (pairs c.in-Ok.left.learns.items)) e t.1 in
-    plain_judged E K before (form.And a b) c.plain.result (ap static_view c.plain.ensures.kind ∙ c.boolean.ensures) c.plain.ensures.learns t.0
-    (typing.and_of_false a b left)
+    let t = has_kind E K _ a c.in-Ok.is (c.in-Some.ensures ∙ false_so c.in-Some.truth n) h in
+    plain_judged E K _ (form.And a b) c.plain.result (ap static_view c.plain.ensures.kind ∙ c.boolean.ensures) c.plain.ensures.learns t.0
+    (typing.and_of_false a b t.1)
 
 pub second_conjunct-returns-in-Some : goal.second_conjunct-returns-in-Some
 second_conjunct-returns-in-Some level c = λ K a h.
     let E = typing_environment c.args.env in
     let b = c.args.right.now in
-    let t = typed_so E K c.args.known.now a c.in-Ok.is h in
-    let left = subst (λ s. Types E K a s (pairs c.in-Ok.left.learns.items)) c.in-Some.ensures t.1 in
+    let t = has_kind E K _ a c.in-Ok.is c.in-Some.ensures h in
     let m = c.is_looked_at.ensures.0 c.if-not-is_looked_at.false in
-    c.and_typed.ensures E K _ _ a b left m (behind_moved E b _ _ _ t.0 c.type_behind-right.ensures)
+    c.and_typed.ensures E K _ _ a b t.1 m (behind_moved E b _ _ _ t.0 c.type_behind-right.ensures)
 
 pub second_conjunct-returns-in-Ok : goal.second_conjunct-returns-in-Ok
 second_conjunct-returns-in-Ok level c = λ K a h n.
@@ -81,30 +78,23 @@ pub second_disjunct-returns-in-Some-True : goal.second_disjunct-returns-in-Some-
 second_disjunct-returns-in-Some-True level c = λ K a h.
     let E = typing_environment c.args.env in
     let b = c.args.right.now in
-    let before = c.args.known.now in
-    let t = typed_so E K before a c.in-Ok.is h in
-    let e = c.in-Some-True.ensures ∙ ap boolean_view c.in-Some-True.field-0-is in
-    let left = subst (λ s. Types E K a s (pairs c.in-Ok.left.learns.items)) e t.1 in
-    plain_judged E K before (form.Or a b) c.plain.result (ap static_view c.plain.ensures.kind ∙ c.boolean.ensures) c.plain.ensures.learns t.0
-    (typing.or_of_true a b left)
+    let t = has_kind E K _ a c.in-Ok.is (c.in-Some-True.ensures ∙ ap boolean_view c.in-Some-True.field-0-is) h in
+    plain_judged E K _ (form.Or a b) c.plain.result (ap static_view c.plain.ensures.kind ∙ c.boolean.ensures) c.plain.ensures.learns t.0
+    (typing.or_of_true a b t.1)
 
 pub second_disjunct-returns-in-Some-False : goal.second_disjunct-returns-in-Some-False
 second_disjunct-returns-in-Some-False level c = λ K a h.
     let E = typing_environment c.args.env in
     let b = c.args.right.now in
-    let t = typed_so E K c.args.known.now a c.in-Ok.is h in
-    let e = c.in-Some-False.ensures ∙ ap boolean_view c.in-Some-False.field-0-is in
-    let left = subst (λ s. Types E K a s (pairs c.in-Ok.left.learns.items)) e t.1 in
-    c.or_behind_false.ensures E K _ _ a b left (moved E b _ _ t.0 (at_form E _ _ _ (sym c.get.ensures) c.type_of-right.ensures))
+    let t = has_kind E K _ a c.in-Ok.is (c.in-Some-False.ensures ∙ ap boolean_view c.in-Some-False.field-0-is) h in
+    c.or_behind_false.ensures E K _ _ a b t.1 (moved E b _ _ t.0 (at_form E _ _ _ (sym c.get.ensures) c.type_of-right.ensures))
 
 pub second_disjunct-returns-in-Some-Either : goal.second_disjunct-returns-in-Some-Either
 second_disjunct-returns-in-Some-Either level c = λ K a h.
     let E = typing_environment c.args.env in
     let b = c.args.right.now in
-    let t = typed_so E K c.args.known.now a c.in-Ok.is h in
-    let e = c.in-Some-Either.ensures ∙ ap boolean_view c.in-Some-Either.field-0-is in
-    let left = subst (λ s. Types E K a s (pairs c.in-Ok.left.learns.items)) e t.1 in
-    c.or_typed.ensures E K _ a b left (moved E b _ _ t.0 (at_form E _ _ _ (sym c.get-in-Some-Either.ensures) c.type_of-right-in-Some-Either.ensures))
+    let t = has_kind E K _ a c.in-Ok.is (c.in-Some-Either.ensures ∙ ap boolean_view c.in-Some-Either.field-0-is) h in
+    c.or_typed.ensures E K _ a b t.1 (moved E b _ _ t.0 (at_form E _ _ _ (sym c.get-in-Some-Either.ensures) c.type_of-right-in-Some-Either.ensures))
 
 pub second_disjunct-returns-in-None : goal.second_disjunct-returns-in-None
 second_disjunct-returns-in-None level c = λ K a h n.
@@ -120,26 +110,21 @@ pub type_then-returns-in-Some-True : goal.type_then-returns-in-Some-True
 type_then-returns-in-Some-True level c = λ K a h.
     let E = typing_environment c.args.env in
     let b = c.args.consequent.now in
-    let t = typed_so E K c.args.known.now a c.in-Ok.is h in
-    let e = c.in-Some-True.ensures ∙ ap boolean_view c.in-Some-True.field-0-is in
-    let test = subst (λ s. Types E K a s (pairs c.in-Ok.test.learns.items)) e t.1 in
-    then_only E K _ _ a b _ _ c.only.ensures test (behind_moved E b _ _ _ t.0 c.type_behind.ensures)
+    let t = has_kind E K _ a c.in-Ok.is (c.in-Some-True.ensures ∙ ap boolean_view c.in-Some-True.field-0-is) h in
+    then_only E K _ _ a b _ _ c.only.ensures t.1 (behind_moved E b _ _ _ t.0 c.type_behind.ensures)
 
 pub type_then-returns-in-Some-Either : goal.type_then-returns-in-Some-Either
 type_then-returns-in-Some-Either level c = λ K a h.
     let E = typing_environment c.args.env in
     let b = c.args.consequent.now in
-    let t = typed_so E K c.args.known.now a c.in-Ok.is h in
-    let e = c.in-Some-Either.ensures ∙ ap boolean_view c.in-Some-Either.field-0-is in
-    let test = subst (λ s. Types E K a s (pairs c.in-Ok.test.learns.items)) e t.1 in
-    then_both E K _ _ a b _ _ c.both.ensures test (behind_moved E b _ _ _ t.0 c.type_behind-in-Some-Either.ensures)
+    let t = has_kind E K _ a c.in-Ok.is (c.in-Some-Either.ensures ∙ ap boolean_view c.in-Some-Either.field-0-is) h in
+    then_both E K _ _ a b _ _ c.both.ensures t.1 (behind_moved E b _ _ _ t.0 c.type_behind-in-Some-Either.ensures)
 
 pub type_then-returns-in-Some-False : goal.type_then-returns-in-Some-False
 type_then-returns-in-Some-False level c = λ K a h.
     let E = typing_environment c.args.env in
-    let t = typed_so E K c.args.known.now a c.in-Ok.is h in
-    let e = c.in-Some-False.ensures ∙ ap boolean_view c.in-Some-False.field-0-is in
-    (t.0, (_, subst (λ s. Types E K a s (pairs c.in-Ok.test.learns.items)) e t.1))
+    let t = has_kind E K _ a c.in-Ok.is (c.in-Some-False.ensures ∙ ap boolean_view c.in-Some-False.field-0-is) h in
+    (t.0, (_, t.1))
 
 pub type_then-returns-in-None : goal.type_then-returns-in-None
 type_then-returns-in-None level c = λ K a h n x.
@@ -192,36 +177,67 @@ type_behind-returns-in-Ok level c =
     (sym (c.forget_above.ensures ∙ ap (λ n. take n M) c.len-height.ensures))
     (behind_judged E x K ls M _ _ j c.learned_too.ensures)
 
-pub type_unary-returns : goal.type_unary-returns
-type_unary-returns level c =
+pub type_and-returns-in-Some : goal.type_and-returns-in-Some
+type_and-returns-in-Some level c =
     let E = typing_environment c.args.env in
     let K = c.args.known.now in
-    c.unary_typed.ensures E K _ c.args.operand.now (at_form E K _ _ (sym c.get.ensures) c.type_of-operand.ensures)
+    let a = c.args.left.now in
+    let b = c.args.right.now in
+    let op = c.in-Binary.operator in
+    let x = c.in-Binary.again in
+    let y = c.in-Binary.other in
+    let n = c.in-Some.name.now in
+    let q = c.in-Some.ensures in
+    let test = sym c.get-in-Binary.ensures ∙ (q.0 ∙ ap (λ z. form.Unary (Is n) z) c.get-in-Binary-2.ensures) in
+    let free = subst (λ z. IsUnsettled E op z y) c.get-in-Binary-2.ensures
+    (subst (λ z. IsUnsettled E op c.get-in-Binary-2.result.now z) c.get-in-Binary-3.ensures q.2) in
+    let f = asked_so E K _ a x n c.type_of-test.result test q.1 (at_form E K _ _ (sym c.get.ensures) c.type_of-test.ensures) in
+    let last = moved E y _ _ f.same (at_form E _ _ _ (sym c.get-in-Some.ensures) c.type_of-other.ensures) in
+    let second = c.again_typed-right.ensures K f.learned _ x y free f.has_type last in
+    c.and_typed.ensures E K [] _ a b f.is_true rows.surely
+    (behind_nothing E K _ b _ (at_form E K _ _ (sym c.get-2.ensures ∙ c.in-Binary.is) second))
 
-pub type_field-returns : goal.type_field-returns
-type_field-returns level c =
+pub type_and-returns-in-None : goal.type_and-returns-in-None
+type_and-returns-in-None level c =
     let E = typing_environment c.args.env in
     let K = c.args.known.now in
-    let j = at_form E K _ _ (c.get-2.ensures ∙ sym c.get.ensures) c.type_of-typed.ensures in
-    at_form E K _ _ (ap (λ x. form.Field x c.args.name.now) (sym c.get-2.ensures)
-    ∙ ap (λ n. form.Field c.get-2.result.now n) (sym c.as_str.ensures))
-    (c.field_typed.ensures K j)
+    c.second_conjunct.ensures K c.args.left.now (at_form E K _ _ (sym c.get.ensures) c.type_of-test.ensures)
 
-pub type_has-returns : goal.type_has-returns
-type_has-returns level c =
+pub type_and-returns-in_default : goal.type_and-returns-in_default
+type_and-returns-in_default level c =
     let E = typing_environment c.args.env in
     let K = c.args.known.now in
-    let j = at_form E K _ _ (c.get-2.ensures ∙ sym c.get.ensures) c.type_of-typed.ensures in
-    at_form E K _ _ (ap (λ x. form.Has x c.args.name.now) (sym c.get-2.ensures)
-    ∙ ap (λ n. form.Has c.get-2.result.now n) (sym c.as_str.ensures))
-    (c.has_typed.ensures K j)
+    c.second_conjunct-in_default.ensures K c.args.left.now (at_form E K _ _ (sym c.get.ensures) c.type_of-test.ensures)
 
-pub type_unary_call-returns : goal.type_unary_call-returns
-type_unary_call-returns level c =
+pub type_or-returns : goal.type_or-returns
+type_or-returns level c =
     let E = typing_environment c.args.env in
     let K = c.args.known.now in
-    let j = at_form E K _ _ (c.get-2.ensures ∙ sym c.get.ensures) c.type_of-typed.ensures in
-    at_form E K _ _ (ap (λ x. form.UnaryCall c.args.called x) (sym c.get-2.ensures)) (c.unary_call_typed.ensures E K _ j)
+    c.second_disjunct.ensures K c.args.left.now (at_form E K _ _ (sym c.get.ensures) c.type_of-left.ensures)
+
+pub type_binary-returns-in-Some : goal.type_binary-returns-in-Some
+type_binary-returns-in-Some level c =
+    let E = typing_environment c.args.env in
+    let K = c.args.known.now in
+    let op = c.args.operator in
+    let a = c.args.left.now in
+    let b = c.args.right.now in
+    let s = subst (λ x. Settled E op x b c.in-Some.truth) c.get.ensures
+    (subst (λ y. Settled E op c.get.result.now y c.in-Some.truth) c.get-2.ensures c.in-Some.ensures) in
+    plain_judged E K K (form.Binary op a b) c.plain.result
+    (ap static_view c.plain.ensures.kind ∙ (c.boolean.ensures ∙ c.truth_type.ensures))
+    c.plain.ensures.learns refl (typing.types_settled op a b s)
+
+pub type_binary-returns-in-None : goal.type_binary-returns-in-None
+type_binary-returns-in-None level c =
+    let E = typing_environment c.args.env in
+    let K = c.args.known.now in
+    let op = c.args.operator in
+    let a = c.args.left.now in
+    let b = c.args.right.now in
+    let s = subst (λ x. IsUnsettled E op x b) c.get.ensures
+    (subst (λ y. IsUnsettled E op c.get.result.now y) c.get-2.ensures c.in-None.ensures) in
+    c.second_operand.ensures K a s (at_form E K _ _ (sym c.get-in-None.ensures) c.type_of-left.ensures)
 
 pub type_of-returns-in-Literal : goal.type_of-returns-in-Literal
 type_of-returns-in-Literal level c =
@@ -250,62 +266,49 @@ type_of-returns-in-If level c =
 
 pub type_of-returns-in-And : goal.type_of-returns-in-And
 type_of-returns-in-And level c =
-    let E = typing_environment c.args.env in
-    let K = c.args.known.now in
-    at_form E K _ _ c.in-And.is
-    (c.second_conjunct.ensures K c.in-And.left (at_form E K _ _ (sym c.get-in-And.ensures) c.type_of-left.ensures))
+    at_form (typing_environment c.args.env) c.args.known.now _ _ c.in-And.is c.type_and.ensures
 
 pub type_of-returns-in-Or : goal.type_of-returns-in-Or
 type_of-returns-in-Or level c =
-    let E = typing_environment c.args.env in
-    let K = c.args.known.now in
-    at_form E K _ _ c.in-Or.is
-    (c.second_disjunct.ensures K c.in-Or.left (at_form E K _ _ (sym c.get-in-Or.ensures) c.type_of-left-in-Or.ensures))
+    at_form (typing_environment c.args.env) c.args.known.now _ _ c.in-Or.is c.type_or.ensures
 
 pub type_of-returns-in-BinaryCall : goal.type_of-returns-in-BinaryCall
 type_of-returns-in-BinaryCall level c =
     let E = typing_environment c.args.env in
     let K = c.args.known.now in
     at_form E K _ _ c.in-BinaryCall.is
-    (c.second_called.ensures K c.in-BinaryCall.left (at_form E K _ _ (sym c.get-in-BinaryCall.ensures) c.type_of-left-in-BinaryCall.ensures))
+    (c.second_called.ensures K c.in-BinaryCall.left (at_form E K _ _ (sym c.get-in-BinaryCall.ensures) c.type_of-left.ensures))
 
 pub type_of-returns-in-Unary : goal.type_of-returns-in-Unary
 type_of-returns-in-Unary level c =
-    at_form (typing_environment c.args.env) c.args.known.now _ _ c.in-Unary.is c.type_unary.ensures
-
-pub type_of-returns-in-Some : goal.type_of-returns-in-Some
-type_of-returns-in-Some level c =
     let E = typing_environment c.args.env in
     let K = c.args.known.now in
-    let op = c.in-Binary.operator in
-    let a = c.in-Binary.left in
-    let b = c.in-Binary.right in
-    let s = subst (λ x. Settled E op x b c.in-Some.truth) c.get-in-Binary.ensures
-    (subst (λ y. Settled E op c.get-in-Binary.result.now y c.in-Some.truth) c.get-in-Binary-2.ensures c.in-Some.ensures) in
-    at_form E K K (Ok c.plain-in-Some.result) c.in-Binary.is
-    (plain_judged E K K (form.Binary op a b) c.plain-in-Some.result
-    (ap static_view c.plain-in-Some.ensures.kind ∙ (c.boolean.ensures ∙ c.truth_type.ensures))
-    c.plain-in-Some.ensures.learns refl (typing.types_settled op a b s))
+    at_form E K _ _ c.in-Unary.is
+    (c.unary_typed.ensures E K _ c.in-Unary.operand (at_form E K _ _ (sym c.get-in-Unary.ensures) c.type_of-operand.ensures))
 
-pub type_of-returns-in-None : goal.type_of-returns-in-None
-type_of-returns-in-None level c =
-    let E = typing_environment c.args.env in
-    let K = c.args.known.now in
-    let op = c.in-Binary.operator in
-    let a = c.in-Binary.left in
-    let b = c.in-Binary.right in
-    let s = subst (λ x. IsUnsettled E op x b) c.get-in-Binary.ensures
-    (subst (λ y. IsUnsettled E op c.get-in-Binary.result.now y) c.get-in-Binary-2.ensures c.in-None.ensures) in
-    at_form E K _ _ c.in-Binary.is
-    (c.second_operand.ensures K a s (at_form E K _ _ (sym c.get-in-None.ensures) c.type_of-left-in-None.ensures))
+pub type_of-returns-in-Binary : goal.type_of-returns-in-Binary
+type_of-returns-in-Binary level c =
+    at_form (typing_environment c.args.env) c.args.known.now _ _ c.in-Binary.is c.type_binary.ensures
 
 pub type_of-returns-in-Field : goal.type_of-returns-in-Field
 type_of-returns-in-Field level c =
-    at_form (typing_environment c.args.env) c.args.known.now _ _ c.in-Field.is c.type_field.ensures
+    let E = typing_environment c.args.env in
+    let K = c.args.known.now in
+    let k = c.in-Field.name in
+    let j = at_form E K _ _ (c.get-in-Field-2.ensures ∙ sym c.get-in-Field.ensures) c.type_of-typed.ensures in
+    at_form E K _ _ (c.in-Field.is ∙ (ap (λ x. form.Field x k) (sym c.get-in-Field-2.ensures)
+    ∙ ap (λ n. form.Field c.get-in-Field-2.result.now n) (sym c.as_str.ensures)))
+    (c.field_typed.ensures K j)
 
 pub type_of-returns-in-Has : goal.type_of-returns-in-Has
 type_of-returns-in-Has level c =
-    at_form (typing_environment c.args.env) c.args.known.now _ _ c.in-Has.is c.type_has.ensures
+    let E = typing_environment c.args.env in
+    let K = c.args.known.now in
+    let k = c.in-Has.name in
+    let j = at_form E K _ _ (c.get-in-Has-2.ensures ∙ sym c.get-in-Has.ensures) c.type_of-typed-in-Has.ensures in
+    at_form E K _ _ (c.in-Has.is ∙ (ap (λ x. form.Has x k) (sym c.get-in-Has-2.ensures)
+    ∙ ap (λ n. form.Has c.get-in-Has-2.result.now n) (sym c.as_str-in-Has.ensures)))
+    (c.has_typed.ensures K j)
 
 pub type_of-returns-in-Set : goal.type_of-returns-in-Set
 type_of-returns-in-Set level c =
@@ -325,76 +328,68 @@ type_of-returns-in-Record level c =
 
 pub type_of-returns-in-UnaryCall : goal.type_of-returns-in-UnaryCall
 type_of-returns-in-UnaryCall level c =
-    at_form (typing_environment c.args.env) c.args.known.now _ _ c.in-UnaryCall.is c.type_unary_call.ensures
+    let E = typing_environment c.args.env in
+    let K = c.args.known.now in
+    let o = c.in-UnaryCall.called in
+    let j = at_form E K _ _ (c.get-in-UnaryCall-2.ensures ∙ sym c.get-in-UnaryCall.ensures) c.type_of-typed-in-UnaryCall.ensures in
+    at_form E K _ _ (c.in-UnaryCall.is ∙ ap (λ x. form.UnaryCall o x) (sym c.get-in-UnaryCall-2.ensures))
+    (c.unary_call_typed.ensures E K _ j)
 
 pub types_of-loop-expr-init : goal.types_of-loop-expr-init
 types_of-loop-expr-init level c =
-    let E = typing_environment c.args.env in
-    (refl, subst (λ zs. TypesEach E c.args.known.now [] (map static_view zs)) (sym c.new-types.ensures.items) typing.types_none)
-
-pub types_of_fields-loop-field-init : goal.types_of_fields-loop-field-init
-types_of_fields-loop-field-init level c =
-    let E = typing_environment c.args.env in
-    (refl, subst (λ zs. TypesEach E c.args.known.now [] (map static_view zs)) (sym c.new-types.ensures.items) typing.types_none)
+    (refl, none_yet (typing_environment c.args.env) c.args.known.now _ c.new-types.ensures.items)
 
 pub types_of-returns-in-Err : goal.types_of-returns-in-Err
 types_of-returns-in-Err level c =
     let E = typing_environment c.args.env in
     let K = c.args.known.now in
-    let xs = c.args.exprs.now in
-    let i = c.loop-expr.expr-index in
     let x = c.expr-item.result in
     let h = c.loop-expr.invariant in
-    let lt = subst (λ (ys : List Expr). i < length ys) c.as_slice-expr-items.ensures c.loop-expr-test.true in
-    let here = subst (λ (ys : List Expr). x ≡ get_or ys i x) c.as_slice-expr-items.ensures c.expr-item.is in
+    let at = stands_at c.as_slice-expr-items.ensures c.loop-expr-test.true c.expr-item.is in
     let j = moved E x _ _ h.0 c.type_of-typed.ensures in
-    let same = λ (y : Expr). y in
-    let g = subst (λ ys. TypesEach E K ys (map static_view c.loop-expr.types.items)) (sym (map_itself (take i xs))) h.1 in
-    λ n. subst (λ ys. FaultsEach E K ys (fault_view c.in-Err.fault)) (map_itself xs)
-    (stops_at E K same xs i x _ _ lt here g (c.in-Err.ensures E K _ (take i xs) x h.1 j n))
+    λ n. member_stops E K c.args.exprs.now _ x _ _ at h.1 (c.in-Err.ensures E K _ x j n)
 
 pub types_of-loop-expr-preserved : goal.types_of-loop-expr-preserved
 types_of-loop-expr-preserved level c =
     let E = typing_environment c.args.env in
     let K = c.args.known.now in
-    let xs = c.args.exprs.now in
-    let i = c.loop-expr.expr-index in
     let x = c.expr-item.result in
     let h = c.loop-expr.invariant in
-    let lt = subst (λ (ys : List Expr). i < length ys) c.as_slice-expr-items.ensures c.loop-expr-test.true in
-    let here = subst (λ (ys : List Expr). x ≡ get_or ys i x) c.as_slice-expr-items.ensures c.expr-item.is in
-    let j = moved E x _ _ h.0 c.type_of-typed.ensures in
-    let p = c.in-Ok.ensures E K _ (take i xs) x h.1 j in
-    let ts = map static_view c.put_type.new.types.items in
-    let cut = ap (λ y. take i xs ++ y ∷ []) here ∙ sym (take_more xs i x lt) in
-    (p.0, subst (λ ys. TypesEach E K ys ts) cut p.1)
+    let at = stands_at c.as_slice-expr-items.ensures c.loop-expr-test.true c.expr-item.is in
+    let p = c.in-Ok.ensures E K _ x (moved E x _ _ h.0 c.type_of-typed.ensures) in
+    (p.0, member_more E K c.args.exprs.now _ x _ _ at refl h.1 p.1)
+
+pub types_of-loop-expr-preserved-then-repeats : goal.types_of-loop-expr-preserved-then-repeats
+types_of-loop-expr-preserved-then-repeats level c =
+    let h = c.loop-expr.invariant in
+    let at = stands_at c.as_slice-expr-items.ensures c.loop-expr-test.true c.expr-item.is in (
+      h.0,
+      member_again (typing_environment c.args.env) c.args.known.now c.args.exprs.now _ c.expr-item.result _ _ at
+          (c.repeats.ensures c.if-repeats.true) h.1,
+    )
+
+pub types_of_fields-loop-field-init : goal.types_of_fields-loop-field-init
+types_of_fields-loop-field-init level c =
+    let E = typing_environment c.args.env in
+    let K = c.args.known.now in
+    (refl, subst (λ zs. TypesEach E K [] (map static_view zs)) (sym c.new-types.ensures.items) typing.types_none)
 
 pub types_of_fields-returns-in-Err : goal.types_of_fields-returns-in-Err
 types_of_fields-returns-in-Err level c =
     let E = typing_environment c.args.env in
     let K = c.args.known.now in
-    let xs = c.args.fields.now in
-    let i = c.loop-field.field-index in
     let x = c.field-item.result in
     let h = c.loop-field.invariant in
-    let lt = subst (λ (ys : List (Named Expr)). i < length ys) c.as_slice-field-items.ensures c.loop-field-test.true in
-    let here = subst (λ (ys : List (Named Expr)). x ≡ get_or ys i x) c.as_slice-field-items.ensures c.field-item.is in
-    let value = λ (f : Named Expr). f.value in
+    let at = stands_at c.as_slice-field-items.ensures c.loop-field-test.true c.field-item.is in
     let j = moved E x.value _ _ h.0 c.type_of-typed.ensures in
-    λ n. stops_at E K value xs i x _ _ lt here h.1
-    (c.in-Err.ensures E K _ (map value (take i xs)) x.value h.1 j n)
+    λ n. stops_at E K (λ (f : Named Expr). f.value) c.args.fields.now _ x _ _ at h.1 (c.in-Err.ensures E K _ x.value j n)
 
 pub types_of_fields-loop-field-preserved : goal.types_of_fields-loop-field-preserved
 types_of_fields-loop-field-preserved level c =
     let E = typing_environment c.args.env in
     let K = c.args.known.now in
-    let xs = c.args.fields.now in
-    let i = c.loop-field.field-index in
     let x = c.field-item.result in
     let h = c.loop-field.invariant in
-    let lt = subst (λ (ys : List (Named Expr)). i < length ys) c.as_slice-field-items.ensures c.loop-field-test.true in
-    let here = subst (λ (ys : List (Named Expr)). x ≡ get_or ys i x) c.as_slice-field-items.ensures c.field-item.is in
-    let value = λ (f : Named Expr). f.value in
-    let j = moved E x.value _ _ h.0 c.type_of-typed.ensures in
-    let p = c.in-Ok.ensures E K _ (map value (take i xs)) x.value h.1 j in
-    (p.0, goes_on E K value xs i x _ lt here p.1)
+    let at = stands_at c.as_slice-field-items.ensures c.loop-field-test.true c.field-item.is in
+    let p = c.in-Ok.ensures E K _ x.value (moved E x.value _ _ h.0 c.type_of-typed.ensures) in
+    (p.0, goes_on E K (λ (f : Named Expr). f.value) c.args.fields.now _ x _ _ at h.1 p.1)

@@ -1,13 +1,8 @@
-use Rattle.std.proofs.Common.{is_some, ap, ◌∙◌}
-use Rattle.validator.proofs.KnownLemmas.{has_ancestors}
+use Rattle.std.proofs.Common.{◌∙◌}
+use Rattle.validator.proofs.KnownLemmas.{has_parents}
 use Rattle.validator.proofs.known.is_declared_action.Goals as goal
 
-pub returns-in-Some : goal.returns-in-Some
-returns-in-Some c =
+pub returns : goal.returns
+returns c =
     let stated = c.is_stated.ensures in
-    ap is_some c.in-Some.ensures ∙ has_ancestors _ (c.stated_schemas_are_well_formed.ensures stated.0 _ stated.1) c.args.uid.now
-
-pub returns-in-None : goal.returns-in-None
-returns-in-None c =
-    let stated = c.is_stated.ensures in
-    ap is_some c.in-None.ensures ∙ has_ancestors _ (c.stated_schemas_are_well_formed.ensures stated.0 _ stated.1) c.args.uid.now
+    c.is_action.ensures ∙ has_parents _ (c.stated_schemas_are_well_formed.ensures stated.0 _ stated.1) c.args.uid.now

@@ -13,4 +13,4 @@ returns-clause-all c =
     let stated = c.is_stated.ensures in
     let well = c.stated_schemas_are_well_formed.ensures stated.0 (schema_view kept) stated.1 in
     subst (λ (k : SchemaEntries). AreActions (actions_under k) c.actions.result.now) c.self.view_is
-    (λ u. subst (λ (us : List EntityUid). Contains us u ↔ IsSome (actions_under kept u)) (sym c.actions.ensures) (well.actions u))
+    (λ u. subst (λ (us : List EntityUid). Contains us u ↔ IsSome (actions_under kept u)) (sym c.actions.ensures) (well.actions_stated u))

@@ -1,6 +1,6 @@
 use Rattle.std.proofs.Common.{◌↔◌, subst, IsTrue}
 use Rattle.stamped_store.specs.Store.{IsStoreBelow, abstract_store, kept}
-use Rattle.stamped_store.proofs.Stores.{below_if_both, below_if_not}
+use Rattle.stamped_store.proofs.JoinedStores.{below_if_both, below_if_not}
 use Rattle.stamped_store.proofs.policy_store.PolicyStore.below.Goals as goal
 
 pub returns-then-all_below : goal.returns-then-all_below

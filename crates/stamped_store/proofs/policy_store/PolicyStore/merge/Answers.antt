@@ -3,7 +3,8 @@ use Rattle.std.specs.String.{string_cmp}
 use Rattle.stamped_entries.specs.EntryOrder.{greater}
 use Rattle.stamped_store.specs.Stored.{all_taken}
 use Rattle.stamped_store.specs.Store.{kept, all_kept, first_kept, abstract_store, abstract_updates, updates}
-use Rattle.stamped_store.proofs.Stores.{counted_all, counted_anew, joined_whole, joined_first, kept_first_policies, kept_first_entities}
+use Rattle.stamped_store.proofs.Stores.{counted_all, counted_anew}
+use Rattle.stamped_store.proofs.JoinedStores.{joined_whole, joined_first, kept_first_policies, kept_first_entities}
 use Rattle.stamped_store.proofs.policy_store.PolicyStore.merge.Goals as goal
 
 -- ---- memory was refused among the policies

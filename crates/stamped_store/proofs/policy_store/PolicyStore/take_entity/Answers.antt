@@ -3,7 +3,8 @@ use Rattle.values.specs.Names.{uid_cmp}
 use Rattle.stamped_entries.specs.EntryOrder.{plain_entry, greater}
 use Rattle.stamped_store.specs.Stored.{taken}
 use Rattle.stamped_store.specs.Store.{kept, entity_name, abstract_store}
-use Rattle.stamped_store.proofs.Stores.{counted_entity, joined_entity, others_kept}
+use Rattle.stamped_store.proofs.Stores.{counted_entity, joined_entity}
+use Rattle.stamped_store.proofs.JoinedStores.{others_kept}
 use Rattle.stamped_store.proofs.policy_store.PolicyStore.take_entity.Goals as goal
 
 pub invariant_of-self-2 : goal.invariant_of-self-2

@@ -3,7 +3,8 @@ use Rattle.std.specs.String.{string_cmp}
 use Rattle.stamped_entries.specs.EntryOrder.{plain_entry, greater}
 use Rattle.stamped_store.specs.Stored.{taken}
 use Rattle.stamped_store.specs.Store.{kept, id_name, abstract_store}
-use Rattle.stamped_store.proofs.Stores.{counted_policy, joined_policy, others_kept}
+use Rattle.stamped_store.proofs.Stores.{counted_policy, joined_policy}
+use Rattle.stamped_store.proofs.JoinedStores.{others_kept}
 use Rattle.stamped_store.proofs.policy_store.PolicyStore.take_policy.Goals as goal
 
 pub invariant_of-self-2 : goal.invariant_of-self-2

@@ -1,0 +1,10 @@
+use Rattle.std.proofs.Common.{subst, MatchOption}
+use Rattle.std.specs.Prelude.{IfOk}
+use Rattle.ancestor_closure.specs.Hierarchy.{names}
+use Rattle.ancestor_closure.specs.LeastCycle.{HasNoCycle, IsLeastCycle}
+use Rattle.authoriser.proofs.remembering.RememberingAncestry.least_cycle.Goals as goal
+
+pub returns : goal.returns
+returns g c =
+    subst (λ s. IfOk c.least_cycle.result (λ o. MatchOption o (HasNoCycle (g.S.Ancestry.parents s)) (λ found. IsLeastCycle (g.S.Ancestry.parents s) (names found.items)))) c.self.view_is
+    c.least_cycle.ensures

@@ -1,0 +1,8 @@
+use Rattle.std.proofs.Common.{take}
+use Rattle.std.specs.Prelude.{Contains}
+use Rattle.ancestor_closure.specs.Hierarchy.{names}
+use Rattle.authoriser.proofs.scopes.is_one_of.Given as goal
+
+-- the entity is none of those so far
+abbrev pub invariant-loop-entity : goal.invariant-loop-entity
+invariant-loop-entity l = Contains (names (take l.entity-index l.entities)) l.of → ⊥

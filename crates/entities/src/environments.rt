@@ -1,0 +1,72 @@
+//! Environments, looked for by halves: they ascend by their places.
+ghost use Rattle.std.specs.Prelude.{◌≡◌, Bool, Some, option_map, slice_get};
+ghost use Rattle.std.specs.Ordering.{is_eq, is_lt};
+ghost use Rattle.std.specs.declared.cmp.Ordering.{Ordering as PlainOrdering};
+ghost use Rattle.schema.specs.passed_on.schema_parts.{Place as PlainPlace};
+ghost use Rattle.schema_types.specs.CedarViews.{cedar_view};
+ghost use Rattle.schema.specs.Views.{schema_view, environment_view};
+ghost use Rattle.entities.specs.Contexts.{context_where};
+ghost use Rattle.entities.specs.inner.Halves.{context_if, AreSought};
+
+use schema::{Environment, Place, Schema, stated_schemas_are_well_formed};
+use schema_types::CedarType;
+use std::cmp::Ordering;
+
+/// What environments are looked for by.
+pub(crate) trait Sought {
+    /// How a place compares with what is sought: as equal where it is sought.
+    ghost order: { Self → PlainPlace → PlainOrdering };
+
+    /// Returns how a place compares with what is sought.
+    fn compare(&self, place: &Place) -> Ordering
+        ensures { result ≡ order self.now place.now };
+}
+
+/// Returns whether an environment stands before those that are sought.
+fn is_before<S: Sought>(environment: &Environment, sought: &S) -> bool
+    ensures { result ≡ is_lt (S.order sought.now environment.now.place) }
+{
+    sought.compare(&environment.place).is_lt()
+}
+
+/// Returns the type of the context of an environment, where it is sought.
+fn context_if_sought<'s, S: Sought>(
+    environment: &'s Environment,
+    sought: &S,
+) -> Option<&'s CedarType>
+    ensures { option_map (λ t. cedar_view t.now) result
+        ≡ context_if (λ p. is_eq (S.order sought.now p)) (Some (environment_view environment.now)) }
+{
+    if sought.compare(&environment.place).is_eq() {
+        Some(environment.context.get())
+    } else {
+        None
+    }
+}
+
+/// Returns the same of the environment at a place of a list.
+fn context_at<'s, S: Sought>(
+    environments: &'s [Environment],
+    at: usize,
+    sought: &S,
+) -> Option<&'s CedarType>
+    ensures { option_map (λ t. cedar_view t.now) result
+        ≡ context_if (λ p. is_eq (S.order sought.now p)) (option_map environment_view (slice_get environments.now at)) }
+{
+    match environments.get(at) {
+        Some(environment) => context_if_sought(environment, sought),
+        None => None,
+    }
+}
+
+/// Returns the type of the context of the first environment that is sought, where some is; takes logarithmic time.
+pub(crate) fn context_of<'s, S: Sought>(schema: &'s Schema, sought: &S) -> Option<&'s CedarType>
+    ensures { (passes : PlainPlace → Bool) → AreSought (S.order sought.now) passes
+        → option_map (λ t. cedar_view t.now) result ≡ context_where passes (schema_view schema.now).environments }
+{
+    schema.is_stated();
+    stated_schemas_are_well_formed();
+    let all = schema.environments();
+    let first = all.partition_point(|environment| is_before(environment, sought));
+    context_at(all, first, sought)
+}

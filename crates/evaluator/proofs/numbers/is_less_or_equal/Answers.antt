@@ -1,0 +1,6 @@
+use Rattle.expressions.specs.declared.operator.Binary.TheVariants.{LessOrEqual}
+use Rattle.evaluator.proofs.TestsTold.{compare_fails}
+use Rattle.evaluator.proofs.numbers.is_less_or_equal.Goals as goal
+
+pub returns-in-Err : goal.returns-in-Err
+returns-in-Err c = λ E a b h n. compare_fails E LessOrEqual c.args.found c.in-Err.fault c.in-Err.is a b h n

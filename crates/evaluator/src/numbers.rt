@@ -1,0 +1,89 @@
+//! Numbers that were given, outside the recursion: none of what is of another kind.
+ghost use Rattle.std.specs.Prelude.{◌≡◌};
+ghost use Rattle.expressions.specs.declared.operator.Binary.TheVariants.{Less, LessOrEqual};
+ghost use Rattle.evaluator.specs.Outcomes.{EvaluationResult, long_in};
+ghost use Rattle.evaluator.specs.Evaluation.{literal_value};
+ghost use Rattle.evaluator.specs.inner.Computing.{DecidedWorld, Answers, and_then, as_test, apply_binary};
+ghost use Rattle.evaluator.specs.inner.Computing.{two_demanded, TellsNumber, TellNumbers};
+
+use crate::borrowed_or_owned::BorrowedOrOwned;
+use crate::fault::EvalFault;
+use expressions::Literal;
+use values::{Kind, Value};
+
+/// What two operands gave, where these are numbers.
+#[derive(Clone, Copy)]
+pub(crate) struct Numbers {
+    pub(crate) first: Option<i64>,
+    pub(crate) second: Option<i64>,
+}
+
+/// Returns the value as a number, or None.
+pub(crate) fn number_or_none(value: &Value) -> Option<i64>
+    ensures { result ≡ long_in value.now }
+{
+    match value.kind() {
+        Kind::Long(number) => Some(*number),
+        _ => None,
+    }
+}
+
+/// Returns the number that a literal is, or None.
+pub(crate) fn literal_number(literal: &Literal) -> Option<i64>
+    ensures { result ≡ long_in (literal_value literal.now) }
+{
+    match literal {
+        Literal::Long(number) => Some(*number),
+        _ => None,
+    }
+}
+
+/// Returns the number that was given, or None where what was given is no number.
+pub(crate) fn number_in(
+    given: &Result<BorrowedOrOwned<'_>, EvalFault>,
+) -> Result<Option<i64>, EvalFault>
+    ensures { (m : EvaluationResult) → Answers given.now m → TellsNumber result m }
+{
+    match given {
+        Ok(value) => Ok(value.as_long()),
+        Err(fault) => Err(*fault),
+    }
+}
+
+/// Returns both numbers, where both were numbers.
+fn both(numbers: Numbers) -> Result<(i64, i64), EvalFault>
+    ensures { result ≡ two_demanded numbers.first numbers.second }
+{
+    match (numbers.first, numbers.second) {
+        (Some(first), Some(second)) => Ok((first, second)),
+        _ => Err(EvalFault::TypeError),
+    }
+}
+
+/// Returns whether the first number is less.
+pub(crate) fn is_less(found: Result<Numbers, EvalFault>) -> Result<bool, EvalFault>
+    ensures { (E : DecidedWorld) (a b : EvaluationResult) → TellNumbers found a b
+        → Answers result (as_test (and_then a (λ v. and_then b (apply_binary E Less v)))) }
+{
+    match found {
+        Ok(numbers) => {
+            let (first, second) = both(numbers)?;
+            Ok(first < second)
+        }
+        Err(fault) => Err(fault),
+    }
+}
+
+/// Returns whether the first number is not greater.
+pub(crate) fn is_less_or_equal(found: Result<Numbers, EvalFault>) -> Result<bool, EvalFault>
+    ensures { (E : DecidedWorld) (a b : EvaluationResult) → TellNumbers found a b
+        → Answers result (as_test (and_then a (λ v. and_then b (apply_binary E LessOrEqual v)))) }
+{
+    match found {
+        Ok(numbers) => {
+            let (first, second) = both(numbers)?;
+            Ok(first <= second)
+        }
+        Err(fault) => Err(fault),
+    }
+}

@@ -1,0 +1,151 @@
+//! Tests, and the numbers that they compare, told by what they are: the forms that most conditions are made of give no
+//! value here, which would be made only to be asked for its boolean or its number.
+ghost use Rattle.evaluator.specs.inner.Computing.{decided_world, Answers, meaning, and_then, as_test, field_of};
+ghost use Rattle.evaluator.specs.inner.Computing.{has_field, apply_binary, TellsNumber, TellNumbers};
+
+use crate::evaluating::{field_of, outcome_of, two_operands};
+use crate::fault::EvalFault;
+use crate::fields::{variable_has, variable_number};
+use crate::lookup::Lookup;
+use crate::numbers::{Numbers, is_less, is_less_or_equal, literal_number, number_in};
+use crate::steps::{has_told, opposite, tested};
+use expressions::{Binary, Expr, Unary};
+use plain::{Shared, Text};
+use std::alloc::Global;
+use values::Request;
+
+/// Returns what an expression gives as a test.
+#[cycle(evaluate)]
+#[inline(never)]
+pub(crate) fn test_of<'a, L: Lookup>(
+    alloc: Global,
+    test: &'a Expr,
+    request: &'a Request,
+    store: &'a L,
+) -> Result<bool, EvalFault>
+    ensures { Answers result (as_test
+        (meaning request.now (decided_world (L.stored store.now) (L.above store.now)) test.now)) }
+{
+    match test {
+        Expr::Has(owner, name) => has_test(alloc, owner, name, request, store),
+        Expr::Unary(Unary::Not, operand) => opposite(test_of(alloc, operand.get(), request, store)),
+        Expr::Binary(operator, left, right) => {
+            binary_test(alloc, *operator, left, right, request, store)
+        }
+        other => {
+            let given = outcome_of(alloc, other, request, store);
+            tested(&given)
+        }
+    }
+}
+
+/// Returns what an operator gives on two expressions' values, as a test.
+#[cycle(evaluate)]
+#[inline(never)]
+fn binary_test<'a, L: Lookup>(
+    alloc: Global,
+    operator: Binary,
+    left: &'a Shared<Expr>,
+    right: &'a Shared<Expr>,
+    request: &'a Request,
+    store: &'a L,
+) -> Result<bool, EvalFault>
+    ensures { let world = decided_world (L.stored store.now) (L.above store.now) in
+        Answers result (as_test (and_then (meaning request.now world left.now)
+        (λ v. and_then (meaning request.now world right.now) (apply_binary world operator v)))) }
+{
+    match operator {
+        Binary::Less => is_less(two_numbers(alloc, left, right, request, store)),
+        Binary::LessOrEqual => is_less_or_equal(two_numbers(alloc, left, right, request, store)),
+        _ => {
+            let given = two_operands(alloc, operator, left, right, request, store);
+            tested(&given)
+        }
+    }
+}
+
+/// Returns whether an expression's value has a field or an attribute.
+#[cycle(evaluate)]
+#[inline(never)]
+fn has_test<'a, L: Lookup>(
+    alloc: Global,
+    owner: &'a Shared<Expr>,
+    name: &Text,
+    request: &'a Request,
+    store: &'a L,
+) -> Result<bool, EvalFault>
+    ensures { Answers result (as_test (and_then
+        (meaning request.now (decided_world (L.stored store.now) (L.above store.now)) owner.now)
+        (has_field (decided_world (L.stored store.now) (L.above store.now)) name.now))) }
+{
+    match owner.get() {
+        Expr::Variable(variable) => { Ok(variable_has(store, *variable, request, name.as_str())) }
+        other => {
+            let given = outcome_of(alloc, other, request, store);
+            has_told(store, &given, name)
+        }
+    }
+}
+
+/// Returns the numbers that two expressions give.
+#[cycle(evaluate)]
+#[inline(never)]
+fn two_numbers<'a, L: Lookup>(
+    alloc: Global,
+    left: &'a Shared<Expr>,
+    right: &'a Shared<Expr>,
+    request: &'a Request,
+    store: &'a L,
+) -> Result<Numbers, EvalFault>
+    ensures { let gives = meaning request.now (decided_world (L.stored store.now) (L.above store.now)) in
+        TellNumbers result (gives left.now) (gives right.now) }
+{
+    let first = number_of(alloc, left, request, store)?;
+    let second = number_of(alloc, right, request, store)?;
+    Ok(Numbers { first, second })
+}
+
+/// Returns the number that an expression gives, or None where it gives what is no number.
+#[cycle(evaluate)]
+#[inline(never)]
+fn number_of<'a, L: Lookup>(
+    alloc: Global,
+    expr: &'a Shared<Expr>,
+    request: &'a Request,
+    store: &'a L,
+) -> Result<Option<i64>, EvalFault>
+    ensures { TellsNumber result
+        (meaning request.now (decided_world (L.stored store.now) (L.above store.now)) expr.now) }
+{
+    match expr.get() {
+        Expr::Literal(literal) => Ok(literal_number(literal)),
+        Expr::Field(owner, name) => field_number(alloc, owner, name, request, store),
+        other => {
+            let given = outcome_of(alloc, other, request, store);
+            number_in(&given)
+        }
+    }
+}
+
+/// Returns the number that a field or an attribute of an expression's value is, or None where it is no number.
+#[cycle(evaluate)]
+#[inline(never)]
+fn field_number<'a, L: Lookup>(
+    alloc: Global,
+    owner: &'a Shared<Expr>,
+    name: &Text,
+    request: &'a Request,
+    store: &'a L,
+) -> Result<Option<i64>, EvalFault>
+    ensures { TellsNumber result (and_then
+        (meaning request.now (decided_world (L.stored store.now) (L.above store.now)) owner.now)
+        (field_of (decided_world (L.stored store.now) (L.above store.now)) name.now)) }
+{
+    match owner.get() {
+        Expr::Variable(variable) => variable_number(store, *variable, request, name.as_str()),
+        _ => {
+            let given = field_of(alloc, owner, name, request, store);
+            number_in(&given)
+        }
+    }
+}
