@@ -303,7 +303,7 @@ class Hostile(Served):
         before = resident(self.site)
         self.put_and_take(pair, names)
         more = resident(self.site) - before
-        # the other site begins with what its first message let go, some 550 kB less than here for 5,000 and 40,000 alike
+        # (550 kB for 5,000 to 40,000 names alike, since a message keeps memory that its first one asks for)
         most = self.taken_alone(others) + 768
         return f"{len(names)} put and taken away" if more <= most else f"{more} kB more, where {most} may be"
 
