@@ -21,15 +21,14 @@ import time
 
 TOP = os.path.dirname(os.path.dirname(os.path.abspath(__file__)))
 PROGRAM = os.path.abspath(os.environ.get("PROGRAM", f"{TOP}/crates/cedar_site/out/cedar_site"))
-# a page, where its shell begins, and what stands there that the page takes as given
+# a page, and where its shell begins
 PAGES = (
-    ("README.md", ".", ""),
-    ("docs/operating.md", "clinic", "other=http://127.0.0.1:7000"),
-    ("examples/tinytodo/README.md", "tinytodo", ""),
+    ("README.md", "."),
+    ("docs/operating.md", "."),
+    ("examples/tinytodo/README.md", "examples/tinytodo"),
 )
-TYPED = re.compile(r"(cd|cedar_site (check|decide|load|serve|pull|merge|drill)|curl|while) |\w+=http")
-# what a block is given that the page has not made, and what it prints in this order, by its first words
-GIVEN = {"cedar_site merge": "cp kept.json a.json; cp kept.json b.json"}
+TYPED = re.compile(r"(cd|cedar_site (check|decide|load|serve|pull|merge|drill)|\./cedar_site|curl|while) |\w+=http")
+# what a block prints in this order, by its first words
 WANTED = {
     "cd examples/photos": [r'\{"cycle":\[\],"decision":"Allow","errors":\[\],"reason":\["family-sees-summer"\]\}'],
     "cd ../clinic": ["listening ", r'\{"taken":1\}'],
@@ -37,7 +36,6 @@ WANTED = {
     "cedar_site load --schema schema.json --site files --policies policies.cedar \\\n"
     "    --entities entities.json > begun.json\ncedar_site serve": ["listening "],
     "at=": [r'"count":1,.*"site":"1"', "permit", r'"decision":', r'"kind":"state"', r'\{"taken":0\}'],
-    "curl -sSf $at/v1/summary": [r'\{"taken":0\}'],
     "cedar_site serve --schema schema.json --site 1 --listen 127.0.0.1:7000 &": [
         "listening ", "listening ", r'\{"taken":1\}', r'\{"taken":0\}', r"(?P<sum>[0-9a-f]{64})", r"(?P=sum)"],
     "while": [r'\{"taken":\d+\}'],
@@ -79,13 +77,13 @@ def is_listening(port):
 class Shell:
     """One shell, which tells each command that fails."""
 
-    def __init__(self, folder, room, given):
+    def __init__(self, folder, room):
         self.ports = {"7000": str(free_port()), "7001": str(free_port())}
         path = f"{room}:{os.environ['PATH']}"
         self.process = subprocess.Popen(
             ["bash", "--norc"], cwd=folder, env={**os.environ, "PATH": path}, text=True, bufsize=1,
             stdin=subprocess.PIPE, stdout=subprocess.PIPE, stderr=subprocess.STDOUT)
-        self.type("set -E -o pipefail; trap 'echo FAILED: $BASH_COMMAND' ERR; " + given)
+        self.type("set -E -o pipefail; trap 'echo FAILED: $BASH_COMMAND' ERR")
 
     def type(self, text):
         """Types a text, and gives what it printed."""
@@ -120,7 +118,7 @@ class Shell:
 
 def as_typed(block):
     """The commands of a block as they are typed here: sites in the background, loops once, and each site awaited."""
-    text = block.replace("../../cedar_site", "cedar_site").replace("cedar_site --unproved", "cedar_site")
+    text = re.sub(r"(\.\./\.\./|\./)cedar_site(?= )", "cedar_site", block).replace("cedar_site --unproved", "cedar_site")
     text = text.replace("while sleep 10; do", "for once in 1; do")
     return re.sub(r"(?m)^(cedar_site serve [^&\n]*[^&\s])$", r"\1 &", text)
 
@@ -137,7 +135,7 @@ def tried(shell, block):
     serving, rest = parts_of(block)
     if serving:
         shell.end_sites()
-    said = shell.type("\n".join(it for it in (of_block(GIVEN, block), serving) if it))
+    said = shell.type(serving)
     shell.wait_for(block)
     said += shell.type(rest)
     wanted = "(?s)" + ".*?".join(of_block(WANTED, block) or [])
@@ -157,10 +155,9 @@ def main():
     with tempfile.TemporaryDirectory() as room:
         os.mkdir(f"{room}/bin")
         os.symlink(PROGRAM, f"{room}/bin/cedar_site")
-        for page, start, given in PAGES:
+        for page, start in PAGES:
             shutil.copytree(f"{TOP}/examples", f"{room}/{page}/examples")
-            folder = f"{room}/{page}" if start == "." else f"{room}/{page}/examples/{start}"
-            shell = Shell(folder, f"{room}/bin", given)
+            shell = Shell(f"{room}/{page}/{start}", f"{room}/bin")
             for block in blocks_of(page):
                 wrong = tried(shell, block)
                 passed, failed = passed + (wrong is None), failed + (wrong is not None)

@@ -23,14 +23,13 @@ Needs `cc`. The last line is `N passed, M failed`, of the kinds of failures and 
 import collections
 import mmap
 import os
-import signal
 import struct
 import subprocess
 import sys
-import tempfile
 
 sys.dont_write_bytecode = True
 
+import tried
 from row_commands import Peer
 from row_sites import Processes, Site, request, sent
 
@@ -345,32 +344,19 @@ def all_kinds():
         yield name, lambda twins, kind=kind: stated(twins, *kind)
 
 
-def interrupt(*_):
-    """What ends this ends it as Ctrl-C does, so that the sites that it began end too."""
-    raise KeyboardInterrupt
-
-
-def main(words):
-    if len(words) != 1:
-        print(__doc__, file=sys.stderr)
-        return 2
-    signal.signal(signal.SIGTERM, interrupt)
-    passed = failed = 0
-    with tempfile.TemporaryDirectory() as folder:
-        twins = Twins(os.path.abspath(words[0]), folder)
-        try:
-            for name, tries in all_kinds():
-                try:
-                    told, passed = tries(twins), passed + 1
-                except Fault as fault:
-                    told, failed = f"FAILED: {fault}", failed + 1
-                    twins.begin_anew()
-                print(f"{name}: {told}", flush=True)
-        finally:
-            twins.close()
-    print(f"{passed} passed, {failed} failed")
-    return 1 if failed else 0
+def rows(program, folder):
+    twins = Twins(program, folder)
+    try:
+        for name, tries in all_kinds():
+            try:
+                came, is_right = tries(twins), True
+            except Fault as fault:
+                came, is_right = f"FAILED: {fault}", False
+                twins.begin_anew()
+            yield name, came, is_right
+    finally:
+        twins.close()
 
 
 if __name__ == "__main__":
-    sys.exit(main(sys.argv[1:]))
+    sys.exit(tried.main(sys.argv[1:], __doc__, rows))

@@ -28,14 +28,13 @@ import json
 import mmap
 import os
 import random
-import signal
 import struct
 import subprocess
 import sys
-import tempfile
 
 sys.dont_write_bytecode = True
 
+import tried
 from row_sites import Processes, Site, label_of, policy_path
 
 TOP = os.path.dirname(os.path.dirname(os.path.abspath(__file__)))
@@ -349,21 +348,26 @@ BASE = (
 )
 
 
+def others():
+    """Ids and texts of policies for others than are asked of: an answer without the index lists them too, and asks for more."""
+    return [(f"o{at}", f'permit(principal == User::"o{at}", action, resource);') for at in range(OTHERS)]
+
+
 def index_is_used(sites):
     """Whether policies that name others, or are taken away, leave answers as they are."""
     few, many = sites.begin(), sites.begin()
     few.given(*BASE)
     many.given(*BASE)
-    others = [(f"o{at}", f'permit(principal == User::"o{at}", action, resource);') for at in range(OTHERS)]
+    more = others()
     for stand in ("stand beside", "were put again", "name a group"):
         if stand == "name a group":
-            others = [(name, f'forbid(principal in Group::"{name}", action, resource);') for name, _ in others]
-        many.given(*(put(*it) for it in others))
+            more = [(name, f'forbid(principal in Group::"{name}", action, resource);') for name, _ in more]
+        many.given(*(put(*it) for it in more))
         for user in ("alice", "bob"):
             same(f"{OTHERS} policies {stand}, {user}", many.cost(question(user)), few.cost(question(user)))
     every = many.cost(question("alice"))
     dropped = drop(many, BASE[0], question("alice"))
-    many.given(*(delete(name) for name, _ in others))
+    many.given(*(delete(name) for name, _ in more))
     for user in ("alice", "bob"):
         same(f"{OTHERS} policies taken away, {user}", many.cost(question(user)), few.cost(question(user)))
     return f"{every} allocations beside {OTHERS} policies more, and {dropped} without what is kept"
@@ -444,7 +448,7 @@ def script(site):
 def upkeep(sites, drops):
     """Whether what is kept follows each change, as a new site makes it of the whole state; perhaps once dropped."""
     site, count = sites.begin(), 0
-    site.given(*way(GROUPS))
+    site.given(*way(GROUPS), *(put(*it) for it in others()))
     for change, user in script(site):
         asked = question(user)
         if drops:
@@ -471,35 +475,22 @@ TRIES = (
 )
 
 
-def interrupt(*_):
-    """What ends this ends it as Ctrl-C does, so that the sites that it began end too."""
-    raise KeyboardInterrupt
-
-
-def main(words):
-    if len(words) != 1:
-        print(__doc__, file=sys.stderr)
-        return 2
-    signal.signal(signal.SIGTERM, interrupt)
-    passed = failed = 0
-    with tempfile.TemporaryDirectory() as folder:
-        library = f"{folder}/refuse.so"
-        subprocess.run(["cc", "-O2", "-shared", "-fPIC", "-o", library, f"{TOP}/bench/refuse.c"], check=True)
-        for schema, text in (("schema", SCHEMA), ("members", MEMBERS_SCHEMA), ("chain", CHAIN_SCHEMA)):
-            with open(f"{folder}/{schema}", "wb") as file:
-                file.write(json.dumps(text, separators=(",", ":")).encode())
-        sites = Sites(os.path.abspath(words[0]), folder)
-        for name, tries in TRIES:
-            try:
-                came, passed = tries(sites), passed + 1
-            except (Fault, OSError) as fault:
-                came, failed = f"FAILED: {fault or type(fault).__name__}", failed + 1
-            finally:
-                sites.end()
-            print(f"{name}: {came}", flush=True)
-    print(f"{passed} passed, {failed} failed")
-    return 1 if failed else 0
+def rows(program, folder):
+    library = f"{folder}/refuse.so"
+    subprocess.run(["cc", "-O2", "-shared", "-fPIC", "-o", library, f"{TOP}/bench/refuse.c"], check=True)
+    for schema, text in (("schema", SCHEMA), ("members", MEMBERS_SCHEMA), ("chain", CHAIN_SCHEMA)):
+        with open(f"{folder}/{schema}", "wb") as file:
+            file.write(json.dumps(text, separators=(",", ":")).encode())
+    sites = Sites(program, folder)
+    for name, tries in TRIES:
+        try:
+            came, is_right = tries(sites), True
+        except (Fault, OSError) as fault:
+            came, is_right = f"FAILED: {fault or type(fault).__name__}", False
+        finally:
+            sites.end()
+        yield name, came, is_right
 
 
 if __name__ == "__main__":
-    sys.exit(main(sys.argv[1:]))
+    sys.exit(tried.main(sys.argv[1:], __doc__, rows))

@@ -11,6 +11,7 @@ which of them are cited. It prints of each crate its files
 with their lines, and the files that declare types; docs/definitions.md is made with these numbers (tools/made_docs.py). With --names it prints a table,
 with the reached names of each file. Standard library alone.
 """
+import functools
 import itertools
 import os
 import re
@@ -111,6 +112,20 @@ def imports_of(text):
     return module.imports
 
 
+@functools.lru_cache(maxsize=None)
+def path_of(crate, module):
+    """The file in which a module of specs/ stands: in a crate below, where the crate's Lib.antt passes it on."""
+    path = f"{TOP}/crates/{crate}/specs/{module.replace('.', '/')}.antt"
+    library = f"{TOP}/crates/{crate}/specs/Lib.antt"
+    if os.path.isfile(path) or not os.path.isfile(library):
+        return path
+    with open(library, encoding="utf-8") as file:
+        for below, passed_on in re.findall(r"(?m)^pub use Rattle\.(\w+)\.specs\.([\w.]+)$", file.read()):
+            if passed_on.split(".")[-1] == module:
+                return path_of(below, passed_on)
+    return path
+
+
 class Walk:
     """What is reached from some names."""
 
@@ -118,7 +133,7 @@ class Walk:
         self.modules, self.reached, self.types, self.seen, self.libraries = {}, {}, {}, set(), set()
 
     def module(self, crate, name):
-        path = f"{TOP}/crates/{crate}/specs/{name.replace('.', '/')}.antt"
+        path = path_of(crate, name)
         if path not in self.modules:
             self.modules[path] = Module(path) if os.path.isfile(path) else None
         return self.modules[path]
@@ -207,7 +222,7 @@ def lowest_first(walk):
         if path in walk.reached and path not in seen:
             seen.add(path)
             for crate, module, _ in walk.modules[path].imports.values():
-                put(f"{TOP}/crates/{crate}/specs/{module.replace('.', '/')}.antt")
+                put(path_of(crate, module))
             behind.append(path)
 
     for path in walk.reached:

@@ -14,9 +14,10 @@ import json
 import os
 import subprocess
 import sys
-import tempfile
 
 sys.dont_write_bytecode = True
+
+import tried
 
 TOP = os.path.dirname(os.path.dirname(os.path.abspath(__file__)))
 CLINIC = f"{TOP}/examples/clinic"
@@ -105,23 +106,15 @@ def goes_on(ample, came):
     return came[0] == 0 and not came[2] and len(lines) == len(others) and differing[0] == REFUSED
 
 
-def main(words):
-    if len(words) != 1:
-        print(__doc__, file=sys.stderr)
-        return 2
-    passed = failed = 0
-    with tempfile.TemporaryDirectory() as folder:
-        for name, text in texts().items():
-            with open(f"{folder}/{name}", "w", encoding="utf-8") as file:
-                file.write(text)
-        runs = Runs(os.path.abspath(words[0]), folder)
-        for name, command in commands():
-            count, fault = runs.fault(name, command)
-            print(f"{name}: {count} allocations refused in turn{': ' + fault if fault else ''}", flush=True)
-            passed, failed = passed + (not fault), failed + bool(fault)
-    print(f"{passed} passed, {failed} failed")
-    return 1 if failed else 0
+def rows(program, folder):
+    for name, text in texts().items():
+        with open(f"{folder}/{name}", "w", encoding="utf-8") as file:
+            file.write(text)
+    runs = Runs(program, folder)
+    for name, command in commands():
+        count, fault = runs.fault(name, command)
+        yield name, f"{count} allocations refused in turn{': ' + fault if fault else ''}", not fault
 
 
 if __name__ == "__main__":
-    sys.exit(main(sys.argv[1:]))
+    sys.exit(tried.main(sys.argv[1:], __doc__, rows))

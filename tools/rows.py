@@ -25,6 +25,7 @@ import row_hostile
 import row_schemas
 import row_sites
 import row_sound
+import tried
 
 TOP = os.path.dirname(os.path.dirname(os.path.abspath(__file__)))
 KINDS = {
@@ -152,11 +153,6 @@ def table_names(words):
     return sorted(names, key=lambda name: os.path.getsize(path_of(name)), reverse=True)
 
 
-def interrupt(*_):
-    """What ends the runner ends it as Ctrl-C does, so that what it began ends too."""
-    raise KeyboardInterrupt
-
-
 def main(words):
     """Tries the tables, and gives the status."""
     if not words or words[0].startswith("-"):
@@ -171,7 +167,7 @@ def main(words):
     except ValueError as fault:
         print(f"rows: {fault}", file=sys.stderr)
         return 2
-    signal.signal(signal.SIGTERM, interrupt)
+    signal.signal(signal.SIGTERM, tried.interrupt)
     with tempfile.TemporaryDirectory(prefix="rows-") as room:
         tables = Tables(program, room)
         try_all(tables, names)

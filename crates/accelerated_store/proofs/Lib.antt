@@ -1,4 +1,3 @@
-mod Found
 mod Read
 mod Skipping
 mod Suffice
@@ -7,3 +6,4 @@ pub mod WorldSeen
 pub mod AncestorsFollow
 mod Standing
 mod Stays
+mod Tops

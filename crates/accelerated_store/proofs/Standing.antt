@@ -7,7 +7,7 @@ use Rattle.policy_grammar.specs.declared.policy.Policy.{Policy}
 use Rattle.kept_ancestors.specs.declared.keeping.KeptAncestors.{KeptAncestors}
 use Rattle.schema.specs.SchemaEntries.{SchemaEntries}
 use Rattle.schema.specs.Views.{schema_view}
-use Rattle.scope_index.specs.Keys.{Keys}
+use Rattle.scope_index.specs.Keys.{Kept}
 use Rattle.entity_worlds.specs.declared.entity.Entity.{Entity}
 use Rattle.stamped_store.specs.Store.{StoreEntries, kept}
 use Rattle.store_index.specs.Indexed.{PolicyEntries, AreIndexed}
@@ -29,12 +29,12 @@ policies_stay (Err e) new old es none is = ap (λ k. k.policies) is
 
 module _ (schema lent : SchemaEntries) (is_lent : lent ≡ schema) where
   -- what stands is said of the schema that is lent
-  pub as_lent : (k : Entries) (index : Option Keys) (ancestors : Option KeptAncestors)
+  pub as_lent : (k : Entries) (index : Option Kept) (ancestors : Option KeptAncestors)
       → AreBeside (schema_view schema) k index ancestors → AreBeside (schema_view lent) k index ancestors
   as_lent k index ancestors h =
       subst (λ (x : SchemaEntries). AreBeside (schema_view x) k index ancestors) (sym is_lent) h
 
-  pub as_held : (k : Entries) (index : Option Keys) (ancestors : Option KeptAncestors)
+  pub as_held : (k : Entries) (index : Option Kept) (ancestors : Option KeptAncestors)
       → AreBeside (schema_view lent) k index ancestors → AreBeside (schema_view schema) k index ancestors
   as_held k index ancestors h =
       subst (λ (x : SchemaEntries). AreBeside (schema_view x) k index ancestors) is_lent h
@@ -48,7 +48,7 @@ module _ (schema lent : SchemaEntries) (is_lent : lent ≡ schema) where
   -- after a change of an entity
   pub beside_entity : {T E : Type 0} (r : Result T E) (new old : Entries) (es : EntityEntries)
       → OnOk r (new ≡ kept old.policies es) → OnErr r (new ≡ old)
-      → (index : Option Keys) → IfSome index (AreIndexed old.policies)
+      → (index : Option Kept) → IfSome index (AreIndexed old.policies)
       → (ancestors : Option KeptAncestors) → IfSome ancestors (AreAncestorsOf (schema_view lent) new.entities)
       → AreBeside (schema_view schema) new index ancestors
   beside_entity r new old es ok err index index_is ancestors followed =
@@ -60,7 +60,7 @@ module _ (schema lent : SchemaEntries) (is_lent : lent ≡ schema) where
 -- after a change of a policy
 pub beside_policy : {T E : Type 0} (schema : SchemaEntries) (r : Result T E) (new old : Entries) (ps : PolicyEntries)
     → OnOk r (new ≡ kept ps old.entities) → OnErr r (new ≡ old)
-    → (index : Option Keys) → IfSome index (AreIndexed new.policies)
+    → (index : Option Kept) → IfSome index (AreIndexed new.policies)
     → (ancestors : Option KeptAncestors) → IfSome ancestors (AreAncestorsOf (schema_view schema) old.entities)
     → AreBeside (schema_view schema) new index ancestors
 beside_policy schema r new old ps ok err index indexed ancestors are =

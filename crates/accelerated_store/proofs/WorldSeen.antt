@@ -1,6 +1,7 @@
 -- What the code sees of a store and a schema is the world that they say.
 use Rattle.std.proofs.Common.{◌≡◌, ◌∙◌, refl, ap, sym, subst, List}
-use Rattle.std.specs.Prelude.{Result, IfOk}
+use Rattle.std.specs.Prelude.{Result, IfOk, Option}
+use Rattle.values.specs.declared.entity_uid.EntityUid.{EntityUid}
 use Rattle.values.specs.declared.request.Request.{Request}
 use Rattle.policy_grammar.specs.declared.policy.Policy.{Policy}
 use Rattle.ancestor_closure.specs.Hierarchy.{Parents}
@@ -12,14 +13,14 @@ use Rattle.authoriser.specs.Answers.{NamedPolicy, IsAnswer}
 use Rattle.schema.specs.SchemaEntries.{SchemaEntries}
 use Rattle.schema.specs.Views.{schema_view}
 use Rattle.entity_worlds.specs.declared.entity.Entity.{Entity}
-use Rattle.entity_worlds.specs.Entities.{EntityMap, attributes_of, kept_parents}
+use Rattle.entity_worlds.specs.Entities.{EntityMap, attributes_of, kept_parents, action_or}
 use Rattle.entity_store.specs.Entities.{entities_under}
 use Rattle.stamped_store.specs.Store.{StoreEntries}
 use Rattle.stored_world.specs.declared.stored_entities.StoredEntities.{StoredEntities}
 use Rattle.stored_world.specs.Said.{data_in, world_under}
 use Rattle.stored_world.specs.TextsRead.{entity_at}
 use Rattle.accelerated_store.specs.Kept.{edges_under, AreAncestorsOf}
-use Rattle.accelerated_store.specs.inner.Following.{AreKeptOf}
+use Rattle.accelerated_store.specs.inner.Following.{AreKeptOf, HaveNoParents}
 
 abbrev pub Seen : Type 0
 Seen = StoredEntities × SchemaEntries
@@ -34,6 +35,12 @@ edges_seen w u = kept_parents (asked w u)
 abbrev pub world_seen : Seen → World
 world_seen w = world_of (λ u. attributes_of (asked w u)) (edges_seen w)
 
+-- an action that states no group has no parents, whatever entities are kept
+tops_in : (schema : SchemaEntries) (entities : EntityMap)
+    → HaveNoParents (schema_view schema).member_of (λ u. kept_parents (entities_under schema entities u))
+tops_in schema entities u none =
+    ap (λ (o : Option (List EntityUid)). kept_parents (action_or o (entities u))) none
+
 module _ (w : Seen) (s : StoredEntities) (schema : SchemaEntries) (k : StoreEntries Policy Entity)
     (is_seen : w ≡ (s, schema)) (is_kept : s.store.now ≡ k) where
   pub edges_are : edges_seen w ≡ edges_under (schema_view schema) k.entities
@@ -41,9 +48,13 @@ module _ (w : Seen) (s : StoredEntities) (schema : SchemaEntries) (k : StoreEntr
       ap edges_seen is_seen ∙ ap (λ (l : StoreEntries Policy Entity). edges_under (schema_view schema) l.entities) is_kept
 
   pub world_is_kept : (held : KeptAncestors) → AreAncestorsOf (schema_view schema) k.entities held
-      → AreKeptOf (edges_seen w) (edges_seen w) held
-  world_is_kept held h =
-      record { same = refl; kept = subst (λ (p : Parents). AreKept p held) (sym edges_are) h }
+      → AreKeptOf (schema_view schema).member_of (edges_seen w) (edges_seen w) held
+  world_is_kept held h = record {
+    tops = subst (λ (v : Seen). HaveNoParents (schema_view schema).member_of (edges_seen v)) (sym is_seen)
+        (tops_in schema (data_in (entity_at s.store.now.entities)));
+    same = refl;
+    kept = subst (λ (p : Parents). AreKept p held) (sym edges_are) h;
+  }
 
   pub decided : {E : Type 0} (result : Result Answer E) (q : Request) (ps : List NamedPolicy)
       → IfOk result (IsAnswer (world_seen w) q ps)

@@ -5,7 +5,7 @@ use Rattle.policy_grammar.specs.declared.policy.Policy.{Policy}
 use Rattle.kept_ancestors.specs.declared.keeping.KeptAncestors.{KeptAncestors}
 use Rattle.schema.specs.SchemaEntries as kept_schema
 use Rattle.schema.specs.Schemas.{StatedSchema}
-use Rattle.scope_index.specs.Keys.{Keys}
+use Rattle.scope_index.specs.Keys.{Kept}
 use Rattle.entity_worlds.specs.declared.entity.Entity.{Entity}
 use Rattle.stamped_store.specs.Store.{StoreEntries}
 use Rattle.store_index.specs.Indexed.{AreIndexed}
@@ -15,9 +15,9 @@ pub record SeenStore : Type 0 where
   pub schema : kept_schema.SchemaEntries
   pub kept : StoreEntries Policy Entity
 
--- where the index stands it has exactly the store's policies, each by its scope; where the ancestors stand they are
+-- where the index stands it has exactly the store's policies, each under its id; where the ancestors stand they are
 -- those of the store's entities and the schema's actions
-pub record AreBeside (schema : StatedSchema) (k : StoreEntries Policy Entity) (index : Option Keys)
+pub record AreBeside (schema : StatedSchema) (k : StoreEntries Policy Entity) (index : Option Kept)
     (ancestors : Option KeptAncestors) : Type 0 where
   pub index_is : IfSome index (AreIndexed k.policies)
   pub ancestors_are : IfSome ancestors (AreAncestorsOf schema k.entities)

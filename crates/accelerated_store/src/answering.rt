@@ -86,7 +86,7 @@ fn answer_by_index<L: Lookup>(
     if !tries.is_bound() {
         return answer_over_all(alloc, store, known, tries);
     }
-    match offered(alloc, store, index, known.request(), known) {
+    match offered(store, index, known.request(), known) {
         Ok(policies) => answer_over_candidates(alloc, store, &policies, known, tries),
         Err(_) => answer_over_all(alloc, store, known, tries),
     }
@@ -165,7 +165,7 @@ fn answer_by_ancestors(
 {
     let entities = StoredEntities::of(store);
     let world = world_under(alloc, &entities, schema);
-    let kept = KeptWorld::new(&world, ancestors);
+    let kept = KeptWorld::new(alloc, schema, &world, ancestors);
     answer_by(alloc, store, index, request, &kept, tries)
 }
 

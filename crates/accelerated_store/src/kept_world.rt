@@ -1,42 +1,71 @@
 //! A world whose ancestors are kept at hand.
-ghost use Rattle.std.specs.Prelude.{◌≡◌, ◌↔◌, IsTrue, IsOk, IfOk, MatchOption};
+ghost use Rattle.std.specs.Prelude.{◌≡◌, ◌↔◌, [], IsTrue, IsOk, IfOk, MatchOption};
 ghost use Rattle.ancestor_closure.specs.Hierarchy.{Above, AreOnCycles, IsAscending, names};
 ghost use Rattle.ancestor_closure.specs.LeastCycle.{HasNoCycle, IsLeastCycle};
+ghost use Rattle.schema.specs.Views.{schema_view};
 ghost use Rattle.accelerated_store.specs.inner.Following.{AreKeptOf};
 
 use ancestor_closure::{Ancestry, Graph};
 use evaluator::Lookup;
 use kept_ancestors::KeptAncestors;
 use plain::NoMemory;
+use schema::Schema;
+use std::alloc::Global;
 use std::marker::Model;
 use values::{EntityUid, Record};
 
 /// A world, and the ancestors that are kept of its edges: who is above whom is looked up, and nothing is searched
-/// where there is no cycle. Contracts see the world.
+/// where there is no cycle. Above an action that states no group is nothing: that its schema tells. Contracts see the
+/// world.
 #[derive(Drop)]
 pub(crate) struct KeptWorld<'a, W: Lookup + Graph> {
+    alloc: Global,
+    schema: &'a Schema,
     world: &'a W,
     ancestors: &'a KeptAncestors,
 }
 
 impl<'a, W: Lookup + Graph> Model for KeptWorld<'a, W> {
+    ghost use Rattle.schema.specs.Views.{schema_view};
     ghost use Rattle.accelerated_store.specs.inner.Following.{AreKeptOf};
 
     ghost Value = { W };
 
     ghost view = { λ k. k.world.now };
 
-    ghost invariant = { λ k.
-        AreKeptOf (W.ParentsOf.parents k.world.now) (W.Ancestry.parents k.world.now) k.ancestors.now };
+    ghost invariant = { λ k. AreKeptOf (schema_view k.schema.now).member_of
+        (W.ParentsOf.parents k.world.now) (W.Ancestry.parents k.world.now) k.ancestors.now };
 }
 
 impl<'a, W: Lookup + Graph> KeptWorld<'a, W> {
-    /// Returns a world, and the ancestors that are kept of it. Takes no memory.
-    pub(crate) fn new(world: &'a W, ancestors: &'a KeptAncestors) -> Self
-        requires { AreKeptOf (W.ParentsOf.parents world.now) (W.Ancestry.parents world.now) ancestors.now }
+    /// Returns a world over a schema's actions, and the ancestors that are kept of it. Takes no memory.
+    pub(crate) fn new(
+        alloc: Global,
+        schema: &'a Schema,
+        world: &'a W,
+        ancestors: &'a KeptAncestors,
+    ) -> Self
+        requires { AreKeptOf (schema_view schema.now).member_of
+            (W.ParentsOf.parents world.now) (W.Ancestry.parents world.now) ancestors.now }
         ensures { result ≡ world.now }
     {
-        KeptWorld { world, ancestors }
+        KeptWorld {
+            alloc,
+            schema,
+            world,
+            ancestors,
+        }
+    }
+
+    /// Returns whether this is an action that states no group. A schema has few actions, so that this is sooner asked
+    /// than what is kept of all entities.
+    fn is_top_action(&self, uid: &EntityUid) -> bool
+        ensures { IsTrue result → W.Ancestry.parents self.now uid.now ≡ [] }
+    {
+        match self.schema.action_parents(uid) {
+            Some(parents) => parents.is_empty(),
+            None => false,
+        }
     }
 }
 
@@ -55,6 +84,9 @@ impl<W: Lookup + Graph> Ancestry for KeptWorld<'_, W> {
     }
 
     fn ancestors(&self, uid: &EntityUid) -> Result<Vec<&EntityUid>, NoMemory> {
+        if self.is_top_action(uid) {
+            return Ok(Vec::new(self.alloc));
+        }
         self.ancestors.ancestors(uid)
     }
 

@@ -33,7 +33,7 @@ impl Tries {
     /// A policy is stored.
     pub(crate) fn note(&mut self, entry: &Entry<Policy>) {
         if let Some(text) = &entry.body {
-            let scope = &text.read.scope;
+            let scope = text.read.scope.get();
             self.is_bound = self.is_bound
                 | names_entity(&scope.principal)
                 | names_entity(&scope.resource);

@@ -1,12 +1,15 @@
 -- From what is looked up once to the truth of scopes, and from policy to policy.
-use Rattle.std.specs.Prelude.{◌≡◌, ◌≢◌, ℕ, ◌+◌, ◌<◌, ◌≤◌, List, [], ◌∷◌, ◌++◌, length, slice_index_or, Bool, true, false, Contains, refl}
+use Rattle.std.specs.Prelude.{◌≡◌, ◌≢◌, ℕ, ◌+◌, ◌<◌, ◌≤◌, List, [], ◌∷◌, ◌++◌, length, slice_index_or, Bool, true, false, Contains, None, Vec, refl}
+use Rattle.std.specs.declared.alloc.Global.{Global}
+use Rattle.std.specs.List.Sorted.{IsStrictlySortedBy}
 use Rattle.std.specs.Borrow.{Bor}
 use Rattle.std.proofs.Common.{inl, inr, sym, ap, subst, ◌∙◌, take}
 use Rattle.std.proofs.lemmas.List.{take_more, take_all}
 use Rattle.std.proofs.lemmas.List.Elements.{Contains-push_cases}
 use Rattle.values.specs.declared.entity_uid.EntityUid.{EntityUid}
 use Rattle.values.specs.declared.request.Request.{Request}
-use Rattle.ancestor_closure.specs.Hierarchy.{Parents, IsAllAbove, names, IsIn}
+use Rattle.plain.proofs.Members.{Contains-none}
+use Rattle.ancestor_closure.specs.Hierarchy.{Parents, Path, IsAllAbove, IsAscending, names, IsIn}
 use Rattle.ancestor_closure.specs.LeastCycle.{HasNoCycle, IsLeastCycle}
 use Rattle.ancestor_closure.specs.Decided.{Decides}
 use Rattle.expressions.specs.declared.expr.Expr.{Expr}
@@ -163,6 +166,25 @@ none_before P xs i x within is not_here before e h p =
       | inl earlier ↦ before e earlier p
       | inr here ↦ not_here (subst P (sym here) p)
     ]
+
+-- ---- an entity that has no parents
+no_way_up : (parents : Parents) (b : EntityUid) → parents b ≡ [] → (through : List EntityUid) (a : EntityUid) → Path parents b through a → ⊥
+no_way_up parents b none [] a h = Contains-none a (subst (λ (us : List EntityUid). Contains us a) none h)
+no_way_up parents b none (c ∷ cs) a h = Contains-none c (subst (λ (us : List EntityUid). Contains us c) none h.0)
+
+nothing_above : (parents : Parents) (b : EntityUid) → parents b ≡ [] → IsAllAbove parents b []
+nothing_above parents b none a = ((λ m. Contains-none a m), (λ h. absurd (no_way_up parents b none h.0 a h.1)))
+
+none_ascend : IsAscending []
+unfolding IsStrictlySortedBy
+none_ascend = tt
+
+pub placed_alone : (parents : Parents) (uid : Bor EntityUid) (above : Vec (Bor EntityUid) Global) → above.items ≡ [] → parents uid.now ≡ [] → HasItsAncestors parents uid.now (record { uid = uid; ancestors = above; attributes = None })
+placed_alone parents uid above empty alone = record {
+  same = refl;
+  all = subst (λ (us : List (Bor EntityUid)). IsAllAbove parents uid.now (names us)) (sym empty) (nothing_above parents uid.now alone);
+  ascending = subst (λ (us : List (Bor EntityUid)). IsAscending (names us)) (sym empty) none_ascend;
+}
 
 -- ---- entities beside the request's three
 pub above_it : (parents : Parents) (o : Other) (uid : EntityUid) → HasAllAbove parents o → o.uid ≡ uid → IsAllAbove parents uid (names o.ancestors.items)

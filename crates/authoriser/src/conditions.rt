@@ -9,12 +9,11 @@ use crate::laws::scopes_do_not_err;
 use crate::outcome::{Outcome, PolicyError};
 use crate::request_entities::RequestEntities;
 use crate::scopes::is_scope_true;
-use evaluator::{EvalFault, Lookup, evaluate_test};
+use evaluator::{EvalFault, Question, evaluate_asked_test};
 use expressions::Expr;
 use plain::NoMemory;
 use policy_grammar::Policy;
 use std::alloc::Global;
-use values::Request;
 
 /// Returns the error that a fault of evaluating is, where it is not want of memory.
 fn error_by(fault: EvalFault) -> Result<PolicyError, NoMemory>
@@ -31,16 +30,15 @@ fn error_by(fault: EvalFault) -> Result<PolicyError, NoMemory>
 }
 
 /// Returns what a condition comes to.
-fn outcome_of_condition<L: Lookup>(
+fn outcome_of_condition<L: Question>(
     alloc: Global,
     condition: &Expr,
-    request: &Request,
     store: &L,
 ) -> Result<Outcome, NoMemory>
-    ensures { IfOk result (ConditionEvaluatesTo (world_of (L.stored store.now) (L.parents store.now)) request.now
-        condition.now) }
+    ensures { let W = world_of (L.stored store.now) (L.parents store.now) in
+        IfOk result (ConditionEvaluatesTo W (L.asked store.now) condition.now) }
 {
-    match evaluate_test(alloc, condition, request, store) {
+    match evaluate_asked_test(alloc, condition, store) {
         Ok(true) => Ok(Outcome::Satisfied),
         Ok(false) => Ok(Outcome::NotSatisfied),
         Err(fault) => Ok(Outcome::Errs(error_by(fault)?)),
@@ -49,20 +47,19 @@ fn outcome_of_condition<L: Lookup>(
 
 /// Returns what a policy comes to. Its condition is evaluated only where its scope is true: a scope never errs, and
 /// where it is not true the policy is not satisfied, whatever its condition is (`scopes_do_not_err`).
-pub(crate) fn outcome_of<L: Lookup>(
+pub(crate) fn outcome_of<L: Question>(
     alloc: Global,
     policy: &Policy,
     entities: &RequestEntities<'_>,
-    request: &Request,
     store: &L,
 ) -> Result<Outcome, NoMemory>
-    requires { HasRequestAncestors (L.parents store.now) request.now entities.now }
+    requires { HasRequestAncestors (L.parents store.now) (L.asked store.now) entities.now }
     ensures { IfOk result
-        (PolicyEvaluatesTo (world_of (L.stored store.now) (L.parents store.now)) request.now policy.now) }
+        (PolicyEvaluatesTo (world_of (L.stored store.now) (L.parents store.now)) (L.asked store.now) policy.now) }
 {
     scopes_do_not_err();
-    if is_scope_true(&policy.scope, entities) {
-        outcome_of_condition(alloc, &policy.condition, request, store)
+    if is_scope_true(policy.scope.get(), entities) {
+        outcome_of_condition(alloc, policy.condition.get(), store)
     } else {
         Ok(Outcome::NotSatisfied)
     }

@@ -33,18 +33,16 @@ fn copy_uids(alloc: Global, uids: &[&EntityUid]) -> Result<Items<EntityUid>, NoM
 fn answer_by_known<L: Lookup>(
     alloc: Global,
     policies: &[(&str, &Policy)],
-    request: &Request,
     known: &Known<'_, L>,
 ) -> Result<Answer, NoMemory>
-    requires { known.now.1 ≡ request.now }
     ensures { let W = world_of (L.stored known.now.0) (L.parents known.now.0) in
-        IfOk result (λ a. (js : List PolicyOutcome) × ArePolicyOutcomes W request.now (named policies.now) js
+        IfOk result (λ a. (js : List PolicyOutcome) × ArePolicyOutcomes W known.now.1 (named policies.now) js
         × (a ≡ answer_by js)) }
 {
     let entities = known.request_entities();
     let mut tally = Tally::new(alloc);
     for (id, policy) in policies {
-        let outcome = outcome_of(alloc, policy, entities, request, known)?;
+        let outcome = outcome_of(alloc, policy, entities, known)?;
         tally.note(id, policy.effect, outcome)?;
     }
     tally.into_answer(alloc)
@@ -54,20 +52,18 @@ fn answer_by_known<L: Lookup>(
 fn answer_by_search<L: Lookup>(
     alloc: Global,
     policies: &[(&str, &Policy)],
-    request: &Request,
     known: &Known<'_, L>,
 ) -> Result<Answer, NoMemory>
-    requires { known.now.1 ≡ request.now }
     ensures { let W = world_of (L.stored known.now.0) (L.parents known.now.0) in
-        IfOk result (λ a. (js : List PolicyOutcome) × ArePolicyOutcomes W request.now (named policies.now) js
+        IfOk result (λ a. (js : List PolicyOutcome) × ArePolicyOutcomes W known.now.1 (named policies.now) js
         × (a ≡ answer_by js)) }
 {
     let entities = known.request_entities();
-    let mut world = Remembering::new(alloc, known, request);
+    let mut world = Remembering::new(alloc, known);
     let mut tally = Tally::new(alloc);
     for (id, policy) in policies {
         world.keep_next();
-        let outcome = outcome_of(alloc, policy, entities, request, &world)?;
+        let outcome = outcome_of(alloc, policy, entities, &world)?;
         tally.note(id, policy.effect, outcome)?;
     }
     tally.into_answer(alloc)
@@ -84,11 +80,10 @@ fn answer_by_policies<L: Lookup>(
     ensures { IfOk result (λ a. IsAnswer (world_of (L.stored known.now.0) (L.parents known.now.0)) known.now.1
         (named policies.now) a) }
 {
-    let request = known.request();
     if is_searched {
-        answer_by_search(alloc, policies, request, known)
+        answer_by_search(alloc, policies, known)
     } else {
-        answer_by_known(alloc, policies, request, known)
+        answer_by_known(alloc, policies, known)
     }
 }
 
@@ -143,10 +138,10 @@ pub fn decide_known<L: Lookup>(
 ///
 /// The caller's condition is that the ids ascend strictly; the lists of the answer then ascend by id, which is the law
 /// `ascending` of `answers_are_lawful`. One pass over the policies; the ancestors and the attributes of the request's
-/// three entities are asked for once each, and a condition is evaluated only where the scope before it is true. The
-/// ancestors of other entities, as in `User::"u" in Group::"g"`, are kept once a condition has asked for them, one more
-/// with each policy and 64 at most. Where some entity is on a cycle no policy is tried: it is denied, and the answer
-/// names the least cycle.
+/// three entities are asked for at most once each, and a condition is evaluated only where the scope before it is true.
+/// The ancestors of other entities, as in `User::"u" in Group::"g"`, are kept once a condition has asked for them, one
+/// more with each policy and 64 at most. Where some entity is on a cycle no policy is tried: it is denied, and the
+/// answer names the least cycle.
 ///
 /// Source: Cedar reference guide, "Authorization". Errors: `NoMemory` alone.
 pub fn decide<L: Lookup>(

@@ -4,14 +4,16 @@ ghost use Rattle.authoriser.specs.inner.Views.{HasRequestAncestors};
 
 use crate::request_entities::{RequestEntities, request_entities_of};
 use ancestor_closure::{Ancestry, is_among};
-use evaluator::Lookup;
+use evaluator::{Lookup, Question};
+use expressions::Variable;
 use plain::NoMemory;
 use std::alloc::Global;
 use std::marker::Model;
 use values::{EntityUid, Record, Request};
 
 /// Stored entities, with the ancestors and the attributes of a request's three: what is asked of one of these is
-/// neither searched nor looked up again. Contracts see the stored entities and the request.
+/// neither searched nor looked up again, and what is asked of a variable not even found by a name. Contracts see the
+/// stored entities and the request.
 #[derive(Drop)]
 pub struct Known<'a, L: Lookup> {
     alloc: Global,
@@ -42,7 +44,7 @@ impl<'a, L: Lookup> Known<'a, L> {
     pub fn of(alloc: Global, store: &'a L, request: &'a Request) -> Result<Self, NoMemory>
         ensures { IfOk result (λ k. k ≡ (store.now, request.now)) }
     {
-        let entities = request_entities_of(store, request)?;
+        let entities = request_entities_of(alloc, store, request)?;
         Ok(Known {
             alloc,
             store,
@@ -113,6 +115,23 @@ impl<L: Lookup> Lookup for Known<'_, L> {
         match self.entities.find(uid) {
             Some(known) => known.attributes,
             None => self.store.attrs_of(uid),
+        }
+    }
+}
+
+impl<L: Lookup> Question for Known<'_, L> {
+    ghost asked = { λ s. s.1 };
+
+    fn request(&self) -> &Request {
+        self.request
+    }
+
+    fn fields_of(&self, variable: Variable) -> Option<&Record> {
+        match variable {
+            Variable::Principal => self.entities.principal.attributes,
+            Variable::Action => self.entities.action.attributes,
+            Variable::Resource => self.entities.resource.attributes,
+            Variable::Context => Some(&self.request.context),
         }
     }
 }

@@ -2,7 +2,6 @@
 ghost use Rattle.std.specs.Prelude.{◌≡◌, [], ⊤, Contains, IfOk, MatchOption};
 ghost use Rattle.authoriser.specs.inner.Views.{HasAllAbove, HaveAllAbove};
 
-use crate::request_entities::is_same;
 use evaluator::Lookup;
 use plain::NoMemory;
 use std::alloc::Global;
@@ -51,7 +50,7 @@ impl<'a> Others<'a> {
         ensures same { MatchOption result ⊤ (λ other. other.now.uid ≡ uid.now) }
     {
         for other in &self.kept {
-            if is_same(&other.uid, uid) {
+            if other.uid.same(uid) {
                 return Some(other);
             }
         }

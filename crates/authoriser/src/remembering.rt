@@ -4,9 +4,9 @@ ghost use Rattle.authoriser.specs.inner.Views.{HasAllAbove};
 
 use crate::known::copied;
 use crate::others::{Other, Others};
-use crate::request_entities::is_same;
 use ancestor_closure::{Ancestry, is_among};
-use evaluator::Lookup;
+use evaluator::{Lookup, Question};
+use expressions::Variable;
 use plain::NoMemory;
 use std::alloc::Global;
 use std::marker::Model;
@@ -15,14 +15,13 @@ use values::{EntityUid, Record, Request};
 /// Stored entities whose hierarchy is searched. Of which others than the request's three it is asked who is above them,
 /// is kept from policy to policy, so that it is not searched for each. Contracts see the stored entities.
 #[derive(Drop)]
-pub(crate) struct Remembering<'a, S: Lookup> {
+pub(crate) struct Remembering<'a, S: Question> {
     alloc: Global,
     store: &'a S,
-    request: &'a Request,
     others: Others<'a>,
 }
 
-impl<'a, S: Lookup> Model for Remembering<'a, S> {
+impl<'a, S: Question> Model for Remembering<'a, S> {
     ghost use Rattle.authoriser.specs.inner.Views.{HaveAllAbove};
 
     ghost Value = { S };
@@ -34,19 +33,16 @@ impl<'a, S: Lookup> Model for Remembering<'a, S> {
 
 /// Returns whether this is the principal, the action or the resource of a request.
 fn is_one_of(request: &Request, uid: &EntityUid) -> bool {
-    is_same(&request.principal, uid)
-        || is_same(&request.resource, uid)
-        || is_same(&request.action, uid)
+    request.principal.same(uid) || request.resource.same(uid) || request.action.same(uid)
 }
 
-impl<'a, S: Lookup> Remembering<'a, S> {
-    pub(crate) fn new(alloc: Global, store: &'a S, request: &'a Request) -> Self
+impl<'a, S: Question> Remembering<'a, S> {
+    pub(crate) fn new(alloc: Global, store: &'a S) -> Self
         ensures { result ≡ store.now }
     {
         Remembering {
             alloc,
             store,
-            request,
             others: Others::new(alloc),
         }
     }
@@ -64,7 +60,7 @@ impl<'a, S: Lookup> Remembering<'a, S> {
         ensures above { MatchOption result ⊤ (λ other. HasAllAbove (S.parents self.now) other.now) }
         ensures same { MatchOption result ⊤ (λ other. other.now.uid ≡ uid.now) }
     {
-        if is_one_of(self.request, uid) {
+        if is_one_of(self.store.request(), uid) {
             return None;
         }
         match self.others.find(uid) {
@@ -77,7 +73,7 @@ impl<'a, S: Lookup> Remembering<'a, S> {
     }
 }
 
-impl<S: Lookup> Ancestry for Remembering<'_, S> {
+impl<S: Question> Ancestry for Remembering<'_, S> {
     ghost parents = { λ s. S.parents s };
 
     ghost above = { λ s. S.above s };
@@ -107,10 +103,22 @@ impl<S: Lookup> Ancestry for Remembering<'_, S> {
     }
 }
 
-impl<S: Lookup> Lookup for Remembering<'_, S> {
+impl<S: Question> Lookup for Remembering<'_, S> {
     ghost stored = { λ s. S.stored s };
 
     fn attrs_of(&self, uid: &EntityUid) -> Option<&Record> {
         self.store.attrs_of(uid)
+    }
+}
+
+impl<S: Question> Question for Remembering<'_, S> {
+    ghost asked = { λ s. S.asked s };
+
+    fn request(&self) -> &Request {
+        self.store.request()
+    }
+
+    fn fields_of(&self, variable: Variable) -> Option<&Record> {
+        self.store.fields_of(variable)
     }
 }

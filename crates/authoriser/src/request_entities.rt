@@ -1,5 +1,5 @@
 //! A request's three entities: where they stand in the hierarchy, and what they have, looked up once.
-ghost use Rattle.std.specs.Prelude.{◌≡◌, ◌↔◌, ⊤, IsTrue, IfOk, MatchOption};
+ghost use Rattle.std.specs.Prelude.{◌↔◌, ⊤, IsTrue, IfOk, MatchOption};
 ghost use Rattle.ancestor_closure.specs.Hierarchy.{Parents, IsAscending, names};
 ghost use Rattle.evaluator.specs.Operators.{World, world_of};
 ghost use Rattle.authoriser.specs.inner.Views.{IsWithin, HasItsAncestors, HasRequestAncestors, AllHaveTheirAncestors};
@@ -8,7 +8,8 @@ ghost use Rattle.authoriser.specs.inner.Views.{HasItsAttributes, HasRequestAttri
 use ancestor_closure::is_among;
 use evaluator::Lookup;
 use plain::NoMemory;
-use values::{EntityUid, Record, Request, TypeName};
+use std::alloc::Global;
+use values::{EntityUid, Record, Request};
 
 /// An entity, with what was looked up for it.
 #[derive(Drop)]
@@ -28,22 +29,34 @@ pub(crate) struct RequestEntities<'a> {
     pub(crate) resource: KnownEntity<'a>,
 }
 
-fn look_up<'a, L: Lookup>(store: &'a L, uid: &'a EntityUid) -> Result<KnownEntity<'a>, NoMemory>
+/// Returns an entity with what is looked up for it. Above one that is not stored there is nothing, so that nothing is
+/// searched for it.
+fn look_up<'a, L: Lookup>(
+    alloc: Global,
+    store: &'a L,
+    uid: &'a EntityUid,
+) -> Result<KnownEntity<'a>, NoMemory>
     ensures ancestors { IfOk result (λ p. HasItsAncestors (L.parents store.now) uid.now p) }
     ensures attributes { IfOk result
         (λ p. HasItsAttributes (world_of (L.stored store.now) (L.parents store.now)) uid.now p) }
 {
-    let ancestors = store.ancestors(uid)?;
-    let attributes = store.attrs_of(uid);
-    Ok(KnownEntity {
-        uid,
-        ancestors,
-        attributes,
-    })
+    match store.attrs_of(uid) {
+        Some(attributes) => Ok(KnownEntity {
+            uid,
+            ancestors: store.ancestors(uid)?,
+            attributes: Some(attributes),
+        }),
+        None => Ok(KnownEntity {
+            uid,
+            ancestors: Vec::new(alloc),
+            attributes: None,
+        }),
+    }
 }
 
-/// Returns the request's entities with their ancestors and attributes, each asked for once.
+/// Returns the request's entities with their ancestors and attributes, each asked for once at most.
 pub(crate) fn request_entities_of<'a, L: Lookup>(
+    alloc: Global,
     store: &'a L,
     request: &'a Request,
 ) -> Result<RequestEntities<'a>, NoMemory>
@@ -51,28 +64,14 @@ pub(crate) fn request_entities_of<'a, L: Lookup>(
     ensures attributes { IfOk result
         (λ s. HasRequestAttributes (world_of (L.stored store.now) (L.parents store.now)) request.now s) }
 {
-    let principal = look_up(store, &request.principal)?;
-    let action = look_up(store, &request.action)?;
-    let resource = look_up(store, &request.resource)?;
+    let principal = look_up(alloc, store, &request.principal)?;
+    let action = look_up(alloc, store, &request.action)?;
+    let resource = look_up(alloc, store, &request.resource)?;
     Ok(RequestEntities {
         principal,
         action,
         resource,
     })
-}
-
-/// Returns whether two uids are one. Ids are compared first, since they differ more often than types do.
-pub(crate) fn is_same(a: &EntityUid, b: &EntityUid) -> bool
-    ensures { IsTrue result ↔ (a.now ≡ b.now) }
-{
-    a.id.same(&b.id) && is_same_type(&a.type_name, &b.type_name)
-}
-
-/// Returns whether two names of types are one.
-pub(crate) fn is_same_type(a: &TypeName, b: &TypeName) -> bool
-    ensures { IsTrue result ↔ (a.now ≡ b.now) }
-{
-    a.as_str() == b.as_str()
 }
 
 impl KnownEntity<'_> {
@@ -81,7 +80,7 @@ impl KnownEntity<'_> {
         requires { IsAscending (names self.now.ancestors.items) }
         ensures { IsTrue result ↔ IsWithin self.now of.now }
     {
-        is_same(self.uid, of) || is_among(&self.ancestors, of)
+        self.uid.same(of) || is_among(&self.ancestors, of)
     }
 }
 
@@ -94,13 +93,13 @@ impl<'a> RequestEntities<'a> {
         ensures attributes { MatchOption result ⊤
             (λ p. (W : World) → AllHaveTheirAttributes W self.now → HasItsAttributes W uid.now p.now) }
     {
-        if is_same(self.principal.uid, uid) {
+        if self.principal.uid.same(uid) {
             return Some(&self.principal);
         }
-        if is_same(self.resource.uid, uid) {
+        if self.resource.uid.same(uid) {
             return Some(&self.resource);
         }
-        if is_same(self.action.uid, uid) {
+        if self.action.uid.same(uid) {
             return Some(&self.action);
         }
         None

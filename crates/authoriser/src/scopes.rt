@@ -5,7 +5,7 @@ ghost use Rattle.ancestor_closure.specs.Hierarchy.{IsAscending, names};
 ghost use Rattle.scope_index.specs.Scopes.{IsEntityScopeTrue, IsActionScopeTrue};
 ghost use Rattle.authoriser.specs.inner.Views.{IsWithin, AreAscending, IsTrueOf};
 
-use crate::request_entities::{KnownEntity, RequestEntities, is_same, is_same_type};
+use crate::request_entities::{KnownEntity, RequestEntities};
 use policy_grammar::{ActionScope, EntityScope, Scope};
 use values::EntityUid;
 
@@ -17,7 +17,7 @@ fn is_one_of(entities: &[&EntityUid], of: &EntityUid) -> bool
     ensures { IsTrue result ↔ Contains (names entities.now) of.now }
 {
     for entity in entities {
-        if is_same(entity, of) {
+        if entity.same(of) {
             return true;
         }
     }
@@ -30,7 +30,7 @@ fn is_within(known: &KnownEntity<'_>, of: &EntityUid) -> bool
     ensures { IsTrue result ↔ IsWithin known.now of.now }
 {
     if known.ancestors.len() <= FEW {
-        is_same(known.uid, of) || is_one_of(&known.ancestors, of)
+        known.uid.same(of) || is_one_of(&known.ancestors, of)
     } else {
         known.is_within(of)
     }
@@ -42,11 +42,11 @@ fn is_entity_scope_true(scope: &EntityScope, known: &KnownEntity<'_>) -> bool
 {
     match scope {
         EntityScope::Any => true,
-        EntityScope::Equal(entity) => is_same(known.uid, entity),
+        EntityScope::Equal(entity) => known.uid.same(entity),
         EntityScope::In(entity) => is_within(known, entity),
-        EntityScope::Is(type_name) => is_same_type(&known.uid.type_name, type_name),
+        EntityScope::Is(type_name) => known.uid.type_name.same(type_name),
         EntityScope::IsIn(type_name, entity) => {
-            is_same_type(&known.uid.type_name, type_name) && is_within(known, entity)
+            known.uid.type_name.same(type_name) && is_within(known, entity)
         }
     }
 }
@@ -57,7 +57,7 @@ fn is_action_scope_true(scope: &ActionScope, known: &KnownEntity<'_>) -> bool
 {
     match scope {
         ActionScope::Any => true,
-        ActionScope::Equal(action) => is_same(known.uid, action),
+        ActionScope::Equal(action) => known.uid.same(action),
         ActionScope::In(action) => is_within(known, action),
         ActionScope::InList(actions) => is_within_any(actions.as_slice(), known),
     }

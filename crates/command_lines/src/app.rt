@@ -10,7 +10,7 @@ ghost use Rattle.command_lines.specs.inner.Known.{IsApp};
 
 use clap::builder::ValueParser;
 use clap::{Arg, ArgAction, Command};
-use plain::NoMemory;
+use plain::{NoMemory, beside};
 use std::alloc::Global;
 
 /// The greatest number of connections that can be asked for.
@@ -18,18 +18,6 @@ pub(crate) const MOST_CONNECTIONS: u64 = 4_294_967_295;
 
 /// The greatest number of sites that a script can be played at.
 pub(crate) const MOST_SITES: u64 = 64;
-
-/// Returns what was made beside a value, with that value; where nothing was made, only why. It is generic, so that the
-/// value that is let go is one step, and not one a field of it.
-fn beside<T: Drop, U>(kept: T, made: Result<U, NoMemory>) -> Result<(T, U), NoMemory>
-    ensures made { IfOk result (λ both. made ≡ Ok both.1) }
-    ensures kept { IfOk result (λ both. both.0 ≡ kept) }
-{
-    match made {
-        Ok(made) => Ok((kept, made)),
-        Err(error) => Err(error),
-    }
-}
 
 /// Both of two, or want of memory; generic as well.
 fn both<A: Drop, B: Drop>(

@@ -2,7 +2,7 @@
 use Rattle.std.proofs.Common.{◌≡◌, ℕ, List, refl, ap}
 use Rattle.text_trees.specs.declared.fault.ReadFault.{ReadFault}
 use Rattle.text_trees.specs.declared.fault.ReadFault.TheVariants as fault
-use Rattle.policy_grammar.specs.PolicyText.{OrNoMemory}
+use Rattle.plain.specs.Refused.{OrNoMemory}
 use Rattle.decision_texts.specs.Refusals.{no_memory}
 use Rattle.decision_texts.specs.Decisions.{IsFileFault, refusal_by, ArePoliciesRefused}
 

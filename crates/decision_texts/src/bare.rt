@@ -6,9 +6,8 @@ ghost use Rattle.decision_texts.specs.declared.bare.ShapeFault.TheVariants as Sh
 ghost use Rattle.decision_texts.specs.Bare.{stated_uid, is_absent_or_empty, is_bare, uids_of, stated_parents};
 ghost use Rattle.decision_texts.specs.Bare.{entity_of};
 
-use crate::held::beside;
 use json_words::only_keys;
-use plain::{Items, NoMemory};
+use plain::{Items, NoMemory, beside};
 use serde_json::Value;
 use std::alloc::Global;
 use values::EntityUid;

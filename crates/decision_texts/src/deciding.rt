@@ -7,14 +7,13 @@ ghost use Rattle.decision_texts.specs.Decisions.{named_policies, IsInOrder, IsDe
 ghost use Rattle.decision_texts.specs.inner.Stores.{world_held, IsAnswerIn, IsLineIn};
 
 use crate::entity_file::{read_entities, refusal_at};
-use crate::held::beside;
 use crate::lines::answer_line;
 use crate::policies::policies_in;
 use crate::refusal::Refusal;
 use crate::request::read_request;
 use authoriser::{Answer, decide};
 use entity_worlds::{EntityStore, NoActions, World};
-use plain::NoMemory;
+use plain::{NoMemory, beside};
 use policy_grammar::Policy;
 use std::alloc::Global;
 use values::Request;

@@ -4,7 +4,6 @@
 mod bare;
 mod deciding;
 mod entity_file;
-mod held;
 mod laws;
 mod lines;
 mod policies;

@@ -13,6 +13,9 @@ use std::alloc::Global;
 use uid_json::write_uid;
 use values::EntityUid;
 
+/// So much room is made at once for the line of an answer, in bytes: most lines take less, and none of these grows.
+const USUAL_LINE: usize = 256;
+
 fn decision_word(decision: Decision) -> &'static str
     ensures { result.now ≡ decision_word decision }
 {
@@ -101,7 +104,8 @@ fn write_answer(out: &mut Writer, answer: &Answer) -> Result<(), NoMemory>
 pub fn answer_line(alloc: Global, answer: &Answer) -> Result<Vec<u8>, NoMemory>
     ensures { IfOk result (λ b. b.items ≡ answer_line answer.now) }
 {
-    let mut out = Writer::new(Vec::new(alloc));
+    let line = Vec::with_capacity(alloc, USUAL_LINE)?;
+    let mut out = Writer::new(line);
     write_answer(&mut out, answer)?;
     Ok(out.into_inner())
 }

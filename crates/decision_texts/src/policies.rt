@@ -1,7 +1,7 @@
 //! The policies of a file, each with its name.
 ghost use Rattle.std.specs.Prelude.{◌≡◌, IfOk, IfErr, map, string_bytes};
 ghost use Rattle.text_trees.specs.declared.fault.ReadFault.TheVariants as ReadFault;
-ghost use Rattle.policy_grammar.specs.PolicyText.{OrNoMemory};
+ghost use Rattle.plain.specs.Refused.{OrNoMemory};
 ghost use Rattle.decision_texts.specs.Decisions.{ArePoliciesOf, ArePoliciesRefused, IsFileFault, refusal_by};
 ghost use Rattle.decision_texts.specs.Refusals.{no_memory};
 

@@ -4,9 +4,8 @@ ghost use Rattle.serde_json.specs.Data.{put as with_member};
 ghost use Rattle.serde_json.specs.View.{view, members_view};
 ghost use Rattle.decision_texts.specs.Refusals.{no_memory, bad_shape, number_or_null, refusal_json, error_line};
 
-use crate::held::beside;
 use json_words::write_json;
-use plain::NoMemory;
+use plain::{NoMemory, beside};
 use serde_json::{Map, Value, put};
 use std::alloc::{AllocFailed, Global};
 

@@ -7,8 +7,8 @@ ghost use Rattle.decision_texts.specs.Requests.{NamesAt, StatesRequest, IsReques
 ghost use Rattle.decision_texts.specs.declared.bare.ShapeFault.TheVariants as ShapeFault;
 
 use crate::bare::{ShapeFault, is_absent_or_empty};
-use crate::held::beside;
 use json_words::read_json;
+use plain::beside;
 use serde_json::Value;
 use std::alloc::Global;
 use uid_json::read_name;

@@ -5,9 +5,8 @@ ghost use Rattle.desugaring.specs.declared.names.Method.TheVariants as method;
 ghost use Rattle.desugaring.specs.inner.Giving.{Gave};
 
 use crate::names::Method;
-use crate::pairs::beside;
 use expressions::{Expr, Literal, UnaryCall};
-use plain::{Items, NoMemory};
+use plain::{Items, NoMemory, beside};
 use std::alloc::Global;
 
 /// Returns what stands in place of a call of these parts that is refused.

@@ -11,11 +11,11 @@ ghost use Rattle.desugaring.specs.Core as spec;
 ghost use Rattle.desugaring.specs.inner.Giving.{Gave};
 ghost use Rattle.desugaring.specs.inner.WellFormed.{TokenIn, KeyIn, PathIn};
 
-use crate::pairs::{all_three, beside, both};
+use crate::pairs::{all_three, both};
 use crate::words::{name, path_type, pattern, sign};
 use expression_trees::{Comparison, KeyTree, PathTree, Sign};
 use expressions::{Binary, Expr, Named, Unary};
-use plain::{Items, NoMemory, Text};
+use plain::{Items, NoMemory, Text, beside};
 use policy_tokens::Token;
 use std::alloc::Global;
 

@@ -1,5 +1,5 @@
 //! What was made, or refused for want of memory, put together.
-ghost use Rattle.std.specs.Prelude.{◌≡◌, ◌++◌, ◌∷◌, [], IfOk, Ok};
+ghost use Rattle.std.specs.Prelude.{◌≡◌, ◌++◌, ◌∷◌, [], IfOk};
 ghost use Rattle.desugaring.specs.inner.Giving.{Gave};
 
 use plain::NoMemory;
@@ -37,16 +37,4 @@ pub(crate) fn add<T: Drop>(row: &mut Vec<T>, made: Result<T, NoMemory>) -> Resul
 {
     row.push(made?)?;
     Ok(())
-}
-
-/// Returns what was made after another value, with that value. Generic, so that what is let go where memory was refused
-/// is one step.
-pub(crate) fn beside<T: Drop, U>(kept: T, made: Result<U, NoMemory>) -> Result<(T, U), NoMemory>
-    ensures made { IfOk result (λ both. made ≡ Ok both.1) }
-    ensures kept { IfOk result (λ both. both.0 ≡ kept) }
-{
-    match made {
-        Ok(more) => Ok((kept, more)),
-        Err(refused) => Err(refused),
-    }
 }

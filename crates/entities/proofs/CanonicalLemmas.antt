@@ -1,26 +1,34 @@
--- The bytes of an entity's one JSON.
-use Rattle.std.proofs.Common.{◌≡◌, ◌≤◌, false, ℕ, List, Some, Result, Ok, Err, IfOk, refl, subst}
-use Rattle.serde_json.specs.Data.{Data, depth}
-use Rattle.serde_json.specs.Read.{max_depth}
-use Rattle.serde_json.specs.Written.{has_float, compact_text}
-use Rattle.json_words.specs.Json.{json_of}
-use Rattle.json_words.proofs.CompactLemmas.{text_of, no_float_items}
-use Rattle.values.specs.Values.{record_of, fields_of}
+-- What writing an entity makes.
+use Rattle.std.proofs.Common.{◌≡◌, List, [], ◌∷◌, map, refl, subst}
+use Rattle.std.specs.Prelude.{codes}
+use Rattle.json.specs.Token.{begin_object, end_object, key}
+use Rattle.json.specs.Written.{Written}
+use Rattle.serde_json.specs.Data.{Data, object, array, Members, no_members, member}
+use Rattle.serde_json.specs.View.{items_of}
+use Rattle.values.specs.Values.{fields_of}
+use Rattle.values.specs.declared.entity_uid.EntityUid.{EntityUid}
+use Rattle.uid_json.specs.Tokens.{Adds, tokens_of, AppendsValue}
 use Rattle.uid_json.specs.Uids.{uid_json}
-use Rattle.typed_values.specs.Laws.{NoFloatIsWritten}
+use Rattle.uid_json.proofs.Nested.{object_begun, member_next, member_written, object_ended}
+use Rattle.typed_values.specs.Canonical.{fields_json}
 use Rattle.entity_worlds.specs.declared.entity.Entity.{Entity}
-use Rattle.entities.specs.Canonical.{canonical_json, canonical_text}
+use Rattle.entities.specs.Canonical.{canonical_json}
 
-no_float : NoFloatIsWritten → (e : Entity) → has_float (canonical_json e) ≡ false
-no_float none e = rw (none (record_of (fields_of e.attrs)), no_float_items uid_json (λ u. refl) e.parents) refl
+pub uid_written : {old new : Written} (uid : EntityUid) → Adds old new (tokens_of (uid_json uid)) → AppendsValue old new (uid_json uid)
+uid_written uid h = record { written = h; again = refl }
 
-pub text_done : {X E : Type 0} (bytes_of : X → List ℕ) (r : Result X E) (j : Data) (e : Entity) → NoFloatIsWritten → j ≡ canonical_json e
-    → IfOk r (λ b. has_float j ≡ false → bytes_of b ≡ compact_text j) → IfOk r (λ b. bytes_of b ≡ canonical_text e)
-unfolding canonical_text
-text_done bytes_of (Ok b) j e none is h = text_of (bytes_of b) j (canonical_json e) is (no_float none e) h
-text_done bytes_of (Err f) j e none is h = tt
-
-pub back_done : {X E : Type 0} (bytes_of : X → List ℕ) (r : Result X E) (j : Data) (e : Entity) → j ≡ canonical_json e
-    → IfOk r (λ b. depth j ≤ max_depth → json_of (bytes_of b) ≡ Some j) → IfOk r (λ b. depth (canonical_json e) ≤ max_depth → json_of (bytes_of b) ≡ Some (canonical_json e))
-back_done bytes_of (Ok b) j e is h = subst (λ (d : Data). depth d ≤ max_depth → json_of (bytes_of b) ≡ Some d) is h
-back_done bytes_of (Err f) j e is h = tt
+-- the three members of an entity, between the brackets
+pub entity_written : {a b c d e f g h i : Written} (entity : Entity) (parents : List EntityUid) → parents ≡ entity.parents → Adds a b (begin_object ∷ [])
+    → Adds b c (key (codes "attrs") ∷ []) → AppendsValue c d (object (fields_json (fields_of entity.attrs)))
+    → Adds d e (key (codes "parents") ∷ []) → AppendsValue e f (array (items_of (map uid_json parents)))
+    → Adds f g (key (codes "uid") ∷ []) → AppendsValue g h (uid_json entity.uid) → Adds h i (end_object ∷ []) → AppendsValue a i (canonical_json entity)
+entity_written {e = e} {f = f} entity parents same first attrs_key attrs parents_key listed uid_key uid last =
+    let of_attrs : Data = object (fields_json (fields_of entity.attrs)) in
+    let of_parents : Data = array (items_of (map uid_json entity.parents)) in
+    let behind_parents : Members = member (codes "uid") (uid_json entity.uid) no_members in
+    let behind_attrs : Members = member (codes "parents") of_parents behind_parents in
+    let its_parents : AppendsValue e f of_parents = subst (λ (us : List EntityUid). AppendsValue e f (array (items_of (map uid_json us)))) same listed in
+    let begun = object_begun (member (codes "attrs") of_attrs behind_attrs) first in
+    let with_attrs = member_next (codes "attrs") of_attrs behind_attrs refl begun (member_written attrs_key attrs) in
+    let with_parents = member_next (codes "parents") of_parents behind_parents refl with_attrs (member_written parents_key its_parents) in
+    object_ended refl (member_next (codes "uid") (uid_json entity.uid) no_members refl with_parents (member_written uid_key uid)) last

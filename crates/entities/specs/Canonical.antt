@@ -1,5 +1,6 @@
 -- The one JSON and the one text of an entity. Rules of this product: compact, keys ascending; parents and the uid are
--- {"id", "type"}, parents ascending; the values of attributes are each in their one JSON.
+-- {"id", "type"}, parents in their order, which ascends where the entity was read; the values of attributes are each in
+-- their one JSON.
 use Rattle.std.specs.Prelude.{ℕ, List, map, codes}
 use Rattle.serde_json.specs.Data.{Data, object, array, no_members, member}
 use Rattle.serde_json.specs.View.{items_of}

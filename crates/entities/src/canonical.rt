@@ -1,38 +1,45 @@
-//! The one text of an entity.
-ghost use Rattle.std.specs.Prelude.{◌≡◌, ◌≤◌, IfOk, Some, map};
+//! The one text of an entity, written token by token: no JSON value is built.
+ghost use Rattle.std.specs.Prelude.{◌≡◌, ◌≤◌, IfOk, OnOk, Some, map};
 ghost use Rattle.serde_json.specs.Data.{array, depth};
 ghost use Rattle.serde_json.specs.Read.{max_depth};
-ghost use Rattle.serde_json.specs.View.{view, items_of};
+ghost use Rattle.serde_json.specs.View.{items_of};
 ghost use Rattle.json_words.specs.Json.{json_of};
+ghost use Rattle.uid_json.specs.Tokens.{AppendsValue};
 ghost use Rattle.uid_json.specs.Uids.{uid_json};
 ghost use Rattle.entities.specs.Canonical.{canonical_json, canonical_text};
 
 use entity_worlds::Entity;
-use json_words::write_json;
+use json::Writer;
 use plain::NoMemory;
-use serde_json::{Value, json};
 use std::alloc::Global;
-use typed_values::{record_json, values_have_no_float};
-use uid_json::uid_value;
+use typed_values::write_record;
+use uid_json::write_uid;
 use values::EntityUid;
 
-fn parents_json(alloc: Global, parents: &[EntityUid]) -> Result<Value, NoMemory>
-    ensures { IfOk result (λ v. view v ≡ array (items_of (map uid_json parents.now))) }
+/// The bytes that a text has room for from the start.
+const ROOM: usize = 128;
+
+fn write_parents(out: &mut Writer, parents: &[EntityUid]) -> Result<(), NoMemory>
+    ensures { OnOk result (AppendsValue out.old out.new (array (items_of (map uid_json parents.now)))) }
 {
-    let mut items = Vec::new(alloc);
+    out.begin_array()?;
     for parent in parents {
-        items.push(uid_value(alloc, parent)?)?;
+        write_uid(out, parent)?;
     }
-    Ok(Value::Array(items))
+    out.end_array()
 }
 
-fn entity_json(alloc: Global, entity: &Entity) -> Result<Value, NoMemory>
-    ensures { IfOk result (λ v. view v ≡ canonical_json entity.now) }
+fn write_members(alloc: Global, out: &mut Writer, entity: &Entity) -> Result<(), NoMemory>
+    ensures { OnOk result (AppendsValue out.old out.new (canonical_json entity.now)) }
 {
-    let attrs = record_json(alloc, &entity.attrs)?;
-    let parents = parents_json(alloc, entity.parents.as_slice())?;
-    let uid = uid_value(alloc, &entity.uid)?;
-    json!(in alloc; {"attrs": attrs, "parents": parents, "uid": uid})
+    out.begin_object()?;
+    out.key("attrs")?;
+    write_record(alloc, out, &entity.attrs)?;
+    out.key("parents")?;
+    write_parents(out, entity.parents.as_slice())?;
+    out.key("uid")?;
+    write_uid(out, &entity.uid)?;
+    out.end_object()
 }
 
 /// Returns the one text of an entity, which is compact JSON:
@@ -42,7 +49,7 @@ pub fn canonical_text(alloc: Global, entity: &Entity) -> Result<Vec<u8>, NoMemor
     ensures reads_back { IfOk result (λ b. depth (canonical_json entity.now) ≤ max_depth
         → json_of b.items ≡ Some (canonical_json entity.now)) }
 {
-    values_have_no_float();
-    let json = entity_json(alloc, entity)?;
-    write_json(alloc, &json)
+    let mut out = Writer::new(Vec::with_capacity(alloc, ROOM)?);
+    write_members(alloc, &mut out, entity)?;
+    Ok(out.into_inner())
 }

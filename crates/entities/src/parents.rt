@@ -1,7 +1,5 @@
 //! Which parents an entity may have.
-ghost use Rattle.std.specs.Prelude.{◌≡◌};
 ghost use Rattle.json_words.specs.ReadsAs.{ReadsAs};
-ghost use Rattle.ancestor_closure.specs.Decided.{is_same};
 ghost use Rattle.schema.specs.Views.{schema_view};
 ghost use Rattle.entities.specs.declared.fault.EntityFault.TheVariants as EntityFault;
 ghost use Rattle.entities.specs.Entities.{parent_fits, parents_fit, parents_in};
@@ -12,19 +10,12 @@ use plain::Items;
 use schema::Schema;
 use values::EntityUid;
 
-/// Returns whether two uids are one.
-fn is_same(a: &EntityUid, b: &EntityUid) -> bool
-    ensures { result ≡ is_same a.now b.now }
-{
-    a.cmp(b).is_eq()
-}
-
 /// Demands that an entity may have this parent: another entity, of a type that its own leads to by `memberOfTypes`.
 #[tactic(auto, unfolding(crate::specs::Entities::parent_fits))]
 fn demand_parent(schema: &Schema, uid: &EntityUid, parent: &EntityUid) -> Result<(), EntityFault>
     ensures { ReadsAs EntityFault.NoMemory (λ u. u) result (parent_fits (schema_view schema.now) uid.now parent.now) }
 {
-    if is_same(parent, uid) {
+    if parent == uid {
         return Err(EntityFault::SelfParent);
     }
     if !schema.may_have_parent(&uid.type_name, &parent.type_name) {

@@ -33,7 +33,7 @@ declared_or parents (x ∷ us) b a h = elim (declared_or (with_parents parents x
   | inr before ↦ first_or x us (parents b) b a (is_eq (uid_cmp x.uid b)) refl before
 ]
 
-is_declared : (s : FoundSchema) (b a : EntityUid) → Contains (action_parents s b) a → IsAction s b
+pub is_declared : (s : FoundSchema) (b a : EntityUid) → Contains (action_parents s b) a → IsAction s b
 is_declared s b a h = elim (declared_or no_parents s.actions b a h) [ inl there ↦ there | inr none ↦ Contains-none a none ]
 
 -- ---- the two hierarchies

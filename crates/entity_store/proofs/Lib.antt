@@ -1,3 +1,4 @@
+mod StatedLemmas
 mod PutLemmas
 mod ActionLemmas
 mod AlikeLemmas

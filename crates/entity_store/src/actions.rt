@@ -50,4 +50,9 @@ impl ActionSource for SchemaActions<'_> {
     fn ancestors_of(&self, uid: &EntityUid) -> Option<&[EntityUid]> {
         self.schema.action_parents(uid)
     }
+
+    fn are_apart(&self) {
+        self.schema.is_stated();
+        stated_schemas_are_well_formed();
+    }
 }

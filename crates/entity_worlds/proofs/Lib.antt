@@ -1,1 +1,2 @@
+mod ApartLemmas
 pub mod UidLemmas

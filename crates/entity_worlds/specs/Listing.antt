@@ -105,7 +105,7 @@ module _ {X : Type 0} where
 
 -- ---- each entity with parents is listed
 
-kept_with_parents : (o : Option EntityData) (a : EntityUid) → Contains (kept_parents o) a → IsSome o
+pub kept_with_parents : (o : Option EntityData) (a : EntityUid) → Contains (kept_parents o) a → IsSome o
 kept_with_parents None a h = Contains-none a h
 kept_with_parents (Some e) a h = refl
 

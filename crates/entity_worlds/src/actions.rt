@@ -2,6 +2,7 @@
 ghost use Rattle.std.specs.Prelude.{◌≡◌, [], List, None, option_map};
 ghost use Rattle.values.specs.declared.entity_uid.EntityUid.{EntityUid};
 ghost use Rattle.ancestor_closure.specs.Hierarchy.{IsAscending};
+ghost use Rattle.entity_worlds.specs.Apart.{AreApart};
 ghost use Rattle.entity_worlds.specs.Entities.{Actions, AreActions, no_actions};
 ghost use Rattle.entity_worlds.specs.Listing.{none_is_an_action};
 
@@ -23,6 +24,11 @@ pub trait ActionSource {
     /// Lends those above an action, or None exactly where it is not declared. Takes no memory.
     fn ancestors_of(&self, uid: &EntityUid) -> Option<&[EntityUid]>
         ensures { option_map (λ us. us.now) result ≡ declared self.now uid.now };
+
+    /// Proves that the parents of actions are actions and that none is above itself, so that no cycle goes through an
+    /// action. It does nothing.
+    fn are_apart(&self)
+        ensures { AreApart (declared self.now) };
 
     /// The listed uids are those of the actions.
     ghost listed: { (s : Self) → AreActions (declared s) (uids s) };
@@ -46,4 +52,6 @@ impl ActionSource for NoActions {
     fn ancestors_of(&self, _uid: &EntityUid) -> Option<&[EntityUid]> {
         None
     }
+
+    fn are_apart(&self) {}
 }

@@ -5,6 +5,7 @@
 #![tactic(auto)]
 
 mod actions;
+mod alone;
 mod data;
 mod entity;
 mod source;

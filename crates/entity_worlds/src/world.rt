@@ -5,6 +5,7 @@ ghost use Rattle.entity_worlds.specs.Entities.{with_actions, uids_with, attribut
 ghost use Rattle.entity_worlds.specs.Listing.{all_listed, all_decided};
 
 use crate::actions::ActionSource;
+use crate::alone::Alone;
 use crate::source::EntitySource;
 use crate::uids::with_actions;
 use ancestor_closure::{
@@ -22,8 +23,8 @@ use values::{EntityUid, Record};
 #[derive(Drop)]
 pub struct World<'a, S: EntitySource, A: ActionSource + Drop> {
     alloc: Global,
-    source: &'a S,
-    actions: A,
+    /// The source and the actions, as the search for cycles looks at them.
+    alone: Alone<'a, S, A>,
     /// The attributes of an action: none.
     nothing: Record,
 }
@@ -33,7 +34,7 @@ impl<'a, S: EntitySource, A: ActionSource + Drop> Model for World<'a, S, A> {
 
     ghost Value = { S × A };
 
-    ghost view = { λ w. (w.source.now, w.actions) };
+    ghost view = { λ w. (w.alone.source.now, w.alone.actions) };
 
     ghost invariant = { λ w. w.nothing ≡ [] };
 }
@@ -45,8 +46,7 @@ impl<'a, S: EntitySource, A: ActionSource + Drop> World<'a, S, A> {
     {
         World {
             alloc,
-            source,
-            actions,
+            alone: Alone { source, actions },
             nothing: Record::new(alloc),
         }
     }
@@ -55,7 +55,7 @@ impl<'a, S: EntitySource, A: ActionSource + Drop> World<'a, S, A> {
     fn action(&self, uid: &EntityUid) -> Option<&[EntityUid]>
         ensures { option_map (λ us. us.now) result ≡ A.declared self.now.1 uid.now }
     {
-        self.actions.ancestors_of(uid)
+        self.alone.actions.ancestors_of(uid)
     }
 }
 
@@ -65,7 +65,7 @@ impl<S: EntitySource, A: ActionSource + Drop> ParentsOf for World<'_, S, A> {
     fn parents_of(&self, uid: &EntityUid) -> &[EntityUid] {
         match self.action(uid) {
             Some(above) => above,
-            None => self.source.parents_at(uid),
+            None => self.alone.source.parents_at(uid),
         }
     }
 }
@@ -77,7 +77,7 @@ impl<S: EntitySource, A: ActionSource + Drop> Graph for World<'_, S, A> {
         all_listed (A.declared w.1) (A.uids w.1) (A.listed w.1) (S.kept w.0) (S.uids w.0) (S.listed w.0) };
 
     fn stored_uids(&self, alloc: Global) -> Result<Vec<&EntityUid>, NoMemory> {
-        with_actions(self.source.kept_uids(alloc)?, &self.actions)
+        with_actions(self.alone.source.kept_uids(alloc)?, &self.alone.actions)
     }
 }
 
@@ -99,11 +99,13 @@ impl<S: EntitySource, A: ActionSource + Drop> Ancestry for World<'_, S, A> {
     }
 
     fn cyclic(&self) -> Result<Vec<&EntityUid>, NoMemory> {
-        on_cycles(self.alloc, self)
+        self.alone.actions.are_apart();
+        on_cycles(self.alloc, &self.alone)
     }
 
     fn least_cycle(&self) -> Result<Option<Vec<&EntityUid>>, NoMemory> {
-        least_cycle(self.alloc, self)
+        self.alone.actions.are_apart();
+        least_cycle(self.alloc, &self.alone)
     }
 }
 
@@ -113,7 +115,7 @@ impl<S: EntitySource, A: ActionSource + Drop> Lookup for World<'_, S, A> {
     fn attrs_of(&self, uid: &EntityUid) -> Option<&Record> {
         match self.action(uid) {
             Some(_) => Some(&self.nothing),
-            None => self.source.attrs_at(uid),
+            None => self.alone.source.attrs_at(uid),
         }
     }
 }

@@ -6,4 +6,5 @@ pub mod Conversions
 pub mod Membership
 pub mod Telling
 pub mod TestsTold
+pub mod Variables
 pub mod Wanting

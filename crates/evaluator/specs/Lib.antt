@@ -1,3 +1,4 @@
+pub mod Asked
 pub mod Borrowed
 pub mod Evaluation
 pub mod Laws

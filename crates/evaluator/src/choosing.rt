@@ -1,93 +1,124 @@
-//! The forms in which a test decides what is evaluated: `if`, `&&` and `||`.
-ghost use Rattle.evaluator.specs.inner.Computing.{decided_world, Answers, meaning, and_then, as_test, truth};
-ghost use Rattle.evaluator.specs.inner.Computing.{choice, both, either};
+//! The forms in which a test decides what is evaluated: `if`, `&&` and `||`. What they give is told as a test too, so
+//! that no value is made of a truth that is only asked for.
+ghost use Rattle.evaluator.specs.inner.Computing.{decided_world, Answers, meaning, as_test, choice, both, either};
 
 use crate::borrowed_or_owned::BorrowedOrOwned;
 use crate::evaluating::outcome_of;
 use crate::fault::EvalFault;
-use crate::lookup::Lookup;
+use crate::question::Question;
 use crate::steps::truth_of;
 use crate::testing::test_of;
 use evaluation_steps::decides_and;
 use expressions::Expr;
 use plain::Shared;
 use std::alloc::Global;
-use values::Request;
-
-/// Returns what `&&` or `||` gives where its second operand decides.
-#[cycle(evaluate)]
-#[inline(never)]
-fn last_test<'a, L: Lookup>(
-    alloc: Global,
-    test: &'a Shared<Expr>,
-    request: &'a Request,
-    store: &'a L,
-) -> Result<BorrowedOrOwned<'a>, EvalFault>
-    ensures { Answers result (and_then (as_test
-        (meaning request.now (decided_world (L.stored store.now) (L.above store.now)) test.now)) truth) }
-{
-    truth_of(test_of(alloc, test.get(), request, store))
-}
 
 /// Returns what one branch gives, by the test.
 #[cycle(evaluate)]
 #[inline(never)]
-pub(crate) fn choice_of<'a, L: Lookup>(
+pub(crate) fn choice_of<'a, L: Question>(
     alloc: Global,
     test: &'a Shared<Expr>,
     consequent: &'a Shared<Expr>,
     alternative: &'a Shared<Expr>,
-    request: &'a Request,
     store: &'a L,
 ) -> Result<BorrowedOrOwned<'a>, EvalFault>
-    ensures { let gives = meaning request.now (decided_world (L.stored store.now) (L.above store.now)) in
+    ensures { let gives = meaning (L.asked store.now) (decided_world (L.stored store.now) (L.above store.now)) in
         Answers result (choice (gives test.now) (gives consequent.now) (gives alternative.now)) }
 {
-    if test_of(alloc, test.get(), request, store)? {
-        outcome_of(alloc, consequent.get(), request, store)
+    if test_of(alloc, test.get(), store)? {
+        outcome_of(alloc, consequent.get(), store)
     } else {
-        outcome_of(alloc, alternative.get(), request, store)
+        outcome_of(alloc, alternative.get(), store)
+    }
+}
+
+/// Returns what one branch gives as a test, by the test.
+#[cycle(evaluate)]
+#[inline(never)]
+pub(crate) fn choice_test<'a, L: Question>(
+    alloc: Global,
+    test: &'a Shared<Expr>,
+    consequent: &'a Shared<Expr>,
+    alternative: &'a Shared<Expr>,
+    store: &'a L,
+) -> Result<bool, EvalFault>
+    ensures { let gives = meaning (L.asked store.now) (decided_world (L.stored store.now) (L.above store.now)) in
+        Answers result (as_test (choice (gives test.now) (gives consequent.now) (gives alternative.now))) }
+{
+    if test_of(alloc, test.get(), store)? {
+        test_of(alloc, consequent.get(), store)
+    } else {
+        test_of(alloc, alternative.get(), store)
+    }
+}
+
+/// Returns what `&&` gives, as a test.
+#[cycle(evaluate)]
+#[inline(never)]
+pub(crate) fn both_test<'a, L: Question>(
+    alloc: Global,
+    left: &'a Shared<Expr>,
+    right: &'a Shared<Expr>,
+    store: &'a L,
+) -> Result<bool, EvalFault>
+    ensures { let gives = meaning (L.asked store.now) (decided_world (L.stored store.now) (L.above store.now)) in
+        Answers result (as_test (both (gives left.now) (gives right.now))) }
+{
+    let first = test_of(alloc, left.get(), store)?;
+    if decides_and(first) {
+        Ok(first)
+    } else {
+        test_of(alloc, right.get(), store)
+    }
+}
+
+/// Returns what `||` gives, as a test.
+#[cycle(evaluate)]
+#[inline(never)]
+pub(crate) fn either_test<'a, L: Question>(
+    alloc: Global,
+    left: &'a Shared<Expr>,
+    right: &'a Shared<Expr>,
+    store: &'a L,
+) -> Result<bool, EvalFault>
+    ensures { let gives = meaning (L.asked store.now) (decided_world (L.stored store.now) (L.above store.now)) in
+        Answers result (as_test (either (gives left.now) (gives right.now))) }
+{
+    let first = test_of(alloc, left.get(), store)?;
+    if first {
+        Ok(first)
+    } else {
+        test_of(alloc, right.get(), store)
     }
 }
 
 /// Returns what `&&` gives.
 #[cycle(evaluate)]
 #[inline(never)]
-pub(crate) fn both_of<'a, L: Lookup>(
+pub(crate) fn both_of<'a, L: Question>(
     alloc: Global,
     left: &'a Shared<Expr>,
     right: &'a Shared<Expr>,
-    request: &'a Request,
     store: &'a L,
 ) -> Result<BorrowedOrOwned<'a>, EvalFault>
-    ensures { let gives = meaning request.now (decided_world (L.stored store.now) (L.above store.now)) in
+    ensures { let gives = meaning (L.asked store.now) (decided_world (L.stored store.now) (L.above store.now)) in
         Answers result (both (gives left.now) (gives right.now)) }
 {
-    let first = test_of(alloc, left.get(), request, store)?;
-    if decides_and(first) {
-        truth_of(Ok(first))
-    } else {
-        last_test(alloc, right, request, store)
-    }
+    truth_of(both_test(alloc, left, right, store))
 }
 
 /// Returns what `||` gives.
 #[cycle(evaluate)]
 #[inline(never)]
-pub(crate) fn either_of<'a, L: Lookup>(
+pub(crate) fn either_of<'a, L: Question>(
     alloc: Global,
     left: &'a Shared<Expr>,
     right: &'a Shared<Expr>,
-    request: &'a Request,
     store: &'a L,
 ) -> Result<BorrowedOrOwned<'a>, EvalFault>
-    ensures { let gives = meaning request.now (decided_world (L.stored store.now) (L.above store.now)) in
+    ensures { let gives = meaning (L.asked store.now) (decided_world (L.stored store.now) (L.above store.now)) in
         Answers result (either (gives left.now) (gives right.now)) }
 {
-    let first = test_of(alloc, left.get(), request, store)?;
-    if first {
-        truth_of(Ok(first))
-    } else {
-        last_test(alloc, right, request, store)
-    }
+    truth_of(either_test(alloc, left, right, store))
 }

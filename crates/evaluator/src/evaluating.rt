@@ -15,9 +15,10 @@ use crate::fields::{lent, variable_field};
 use crate::laws::meanings_are_given;
 use crate::leaves::{literal_of, variable_of};
 use crate::lookup::Lookup;
+use crate::question::{Asking, Question};
 use crate::steps::{
     add_field, add_value, called_on, called_on_two, field_in, has_in, on_operand, on_operands,
-    record_with, set_with,
+    owned, record_with, set_with,
 };
 use crate::testing::test_of;
 use expressions::{Binary, BinaryCall, Expr, Named, Unary, UnaryCall};
@@ -25,15 +26,8 @@ use plain::{Items, Shared, Text};
 use std::alloc::Global;
 use values::{Record, Request, Value};
 
-/// Returns what an expression gives under a request, over the stored entities: its value, or the first error.
-///
-/// What stands in the expression, the request or the stored entities is borrowed; memory is asked for by sets and
-/// records that are written out, by a field of such a record, and by `in`, which searches the hierarchy.
-/// Operands are evaluated from the left to the right, the fields of a record in the order in which they are written;
-/// `&&`, `||` and `if` evaluate only what decides. `NoMemory` where an allocation was refused, and only then.
-/// It recurses: its stack grows with the height of the expression, by less than two kilobytes a level.
-///
-/// Source: Cedar reference guide, "Operators and functions".
+/// Returns what an expression gives under a request, over the stored entities: its value, or the first error. The value
+/// is the caller's own; [`evaluate_asked`] lends what stands somewhere.
 pub fn evaluate<'a, L: Lookup>(
     alloc: Global,
     expr: &'a Expr,
@@ -46,11 +40,12 @@ pub fn evaluate<'a, L: Lookup>(
         result }
 {
     meanings_are_given();
-    outcome_of(alloc, expr, request, store)
+    let asking = Asking { request, store };
+    owned(alloc, outcome_of(alloc, expr, &asking))
 }
 
-/// Returns whether an expression gives true, as a condition does; it gives a boolean, or the answer is why not. Of a
-/// value of another kind that is `TypeError`. Otherwise as [`evaluate`].
+/// Returns whether an expression gives true, as a condition does, under a request, over the stored entities. Otherwise
+/// as [`evaluate_asked_test`].
 pub fn evaluate_test<L: Lookup>(
     alloc: Global,
     expr: &Expr,
@@ -59,119 +54,149 @@ pub fn evaluate_test<L: Lookup>(
 ) -> Result<bool, EvalFault>
     ensures { AnswersTest (world_of (L.stored store.now) (L.parents store.now)) request.now expr.now result }
 {
+    evaluate_asked_test(alloc, expr, &Asking { request, store })
+}
+
+/// Returns what an expression gives under the request that is asked, over the stored entities: its value, or the first
+/// error.
+///
+/// What stands in the expression, the request or the stored entities is borrowed; memory is asked for by sets and
+/// records that are written out, by a field of such a record, and by `in`, which searches the hierarchy.
+/// Operands are evaluated from the left to the right, the fields of a record in the order in which they are written;
+/// `&&`, `||` and `if` evaluate only what decides. `NoMemory` where an allocation was refused, and only then.
+/// It recurses: its stack grows with the height of the expression, by less than two kilobytes a level.
+///
+/// Source: Cedar reference guide, "Operators and functions".
+pub fn evaluate_asked<'a, L: Question>(
+    alloc: Global,
+    expr: &'a Expr,
+    store: &'a L,
+) -> Result<BorrowedOrOwned<'a>, EvalFault>
+    ensures given { AnswersWhatIsGiven (world_of (L.stored store.now) (L.parents store.now)) (L.asked store.now)
+        expr.now result }
+    ensures all { AnswersAllThatIsGiven (world_of (L.stored store.now) (L.parents store.now)) (L.asked store.now)
+        expr.now result }
+{
     meanings_are_given();
-    test_of(alloc, expr, request, store)
+    outcome_of(alloc, expr, store)
+}
+
+/// Returns whether an expression gives true, as a condition does; it gives a boolean, or the answer is why not. Of a
+/// value of another kind that is `TypeError`. Otherwise as [`evaluate_asked`].
+pub fn evaluate_asked_test<L: Question>(
+    alloc: Global,
+    expr: &Expr,
+    store: &L,
+) -> Result<bool, EvalFault>
+    ensures { AnswersTest (world_of (L.stored store.now) (L.parents store.now)) (L.asked store.now) expr.now result }
+{
+    meanings_are_given();
+    test_of(alloc, expr, store)
 }
 
 // Each arm is one call, so that a level of the recursion takes little stack and prepares no room for the outcomes that
 // other arms hold: a function begins by clearing all that it has room for. What is made of an operand's outcome is a
 // function outside the recursion (steps.rt), which reads the outcome where it stands.
 #[cycle(evaluate)]
-pub(crate) fn outcome_of<'a, L: Lookup>(
+pub(crate) fn outcome_of<'a, L: Question>(
     alloc: Global,
     expr: &'a Expr,
-    request: &'a Request,
     store: &'a L,
 ) -> Result<BorrowedOrOwned<'a>, EvalFault>
-    ensures { Answers result (meaning request.now (decided_world (L.stored store.now) (L.above store.now)) expr.now) }
+    ensures { Answers result
+        (meaning (L.asked store.now) (decided_world (L.stored store.now) (L.above store.now)) expr.now) }
 {
     match expr {
         Expr::Literal(literal) => literal_of(literal),
-        Expr::Variable(variable) => variable_of(*variable, request),
+        Expr::Variable(variable) => variable_of(*variable, store),
         Expr::If(test, consequent, alternative) => {
-            choice_of(alloc, test, consequent, alternative, request, store)
+            choice_of(alloc, test, consequent, alternative, store)
         }
-        Expr::And(left, right) => both_of(alloc, left, right, request, store),
-        Expr::Or(left, right) => either_of(alloc, left, right, request, store),
-        Expr::Unary(operator, operand) => one_operand(alloc, operator, operand, request, store),
+        Expr::And(left, right) => both_of(alloc, left, right, store),
+        Expr::Or(left, right) => either_of(alloc, left, right, store),
+        Expr::Unary(operator, operand) => one_operand(alloc, operator, operand, store),
         Expr::Binary(operator, left, right) => {
-            two_operands(alloc, *operator, left, right, request, store)
+            two_operands(alloc, *operator, left, right, store)
         }
-        Expr::Field(owner, name) => field_of(alloc, owner, name, request, store),
-        Expr::Has(owner, name) => has_of(alloc, owner, name, request, store),
-        Expr::Set(members) => set_of(alloc, members, request, store),
-        Expr::Record(fields) => record_of(alloc, fields, request, store),
-        Expr::UnaryCall(called, operand) => one_called(alloc, *called, operand, request, store),
-        Expr::BinaryCall(called, left, right) => {
-            two_called(alloc, *called, left, right, request, store)
-        }
+        Expr::Field(owner, name) => field_of(alloc, owner, name, store),
+        Expr::Has(owner, name) => has_of(alloc, owner, name, store),
+        Expr::Set(members) => set_of(alloc, members, store),
+        Expr::Record(fields) => record_of(alloc, fields, store),
+        Expr::UnaryCall(called, operand) => one_called(alloc, *called, operand, store),
+        Expr::BinaryCall(called, left, right) => { two_called(alloc, *called, left, right, store) }
     }
 }
 
 /// Returns what an operator gives on two expressions' values.
 #[cycle(evaluate)]
 #[inline(never)]
-pub(crate) fn two_operands<'a, L: Lookup>(
+pub(crate) fn two_operands<'a, L: Question>(
     alloc: Global,
     operator: Binary,
     left: &'a Shared<Expr>,
     right: &'a Shared<Expr>,
-    request: &'a Request,
     store: &'a L,
 ) -> Result<BorrowedOrOwned<'a>, EvalFault>
     ensures { let world = decided_world (L.stored store.now) (L.above store.now) in
-        Answers result (and_then (meaning request.now world left.now)
-        (λ v. and_then (meaning request.now world right.now) (apply_binary world operator v))) }
+        Answers result (and_then (meaning (L.asked store.now) world left.now)
+        (λ v. and_then (meaning (L.asked store.now) world right.now) (apply_binary world operator v))) }
 {
-    let left = outcome_of(alloc, left.get(), request, store);
-    second_operand(alloc, right, operator, &left, request, store)
+    let left = outcome_of(alloc, left.get(), store);
+    second_operand(alloc, right, operator, &left, store)
 }
 
 /// Returns what a call gives on two expressions' values.
 #[cycle(evaluate)]
 #[inline(never)]
-fn two_called<'a, L: Lookup>(
+fn two_called<'a, L: Question>(
     alloc: Global,
     called: BinaryCall,
     left: &'a Shared<Expr>,
     right: &'a Shared<Expr>,
-    request: &'a Request,
     store: &'a L,
 ) -> Result<BorrowedOrOwned<'a>, EvalFault>
     ensures { let world = decided_world (L.stored store.now) (L.above store.now) in
-        Answers result (and_then (meaning request.now world left.now)
-        (λ v. and_then (meaning request.now world right.now) (apply_binary_call called v))) }
+        Answers result (and_then (meaning (L.asked store.now) world left.now)
+        (λ v. and_then (meaning (L.asked store.now) world right.now) (apply_binary_call called v))) }
 {
-    let left = outcome_of(alloc, left.get(), request, store);
-    second_called(alloc, right, called, &left, request, store)
+    let left = outcome_of(alloc, left.get(), store);
+    second_called(alloc, right, called, &left, store)
 }
 
 /// Returns what an operator gives on an expression's value.
 #[cycle(evaluate)]
 #[inline(never)]
-fn one_operand<'a, L: Lookup>(
+fn one_operand<'a, L: Question>(
     alloc: Global,
     operator: &Unary,
     operand: &'a Shared<Expr>,
-    request: &'a Request,
     store: &'a L,
 ) -> Result<BorrowedOrOwned<'a>, EvalFault>
     ensures { Answers result (and_then
-        (meaning request.now (decided_world (L.stored store.now) (L.above store.now)) operand.now)
+        (meaning (L.asked store.now) (decided_world (L.stored store.now) (L.above store.now)) operand.now)
         (apply_unary operator.now)) }
 {
-    let given = outcome_of(alloc, operand.get(), request, store);
+    let given = outcome_of(alloc, operand.get(), store);
     on_operand(operator, &given)
 }
 
 /// Returns what an operator gives on what was given and an expression's value; where nothing was given, only why.
 #[cycle(evaluate)]
 #[inline(never)]
-fn second_operand<'a, L: Lookup>(
+fn second_operand<'a, L: Question>(
     alloc: Global,
     right: &'a Shared<Expr>,
     operator: Binary,
     left: &Result<BorrowedOrOwned<'a>, EvalFault>,
-    request: &'a Request,
     store: &'a L,
 ) -> Result<BorrowedOrOwned<'a>, EvalFault>
     ensures { let world = decided_world (L.stored store.now) (L.above store.now) in
         AnswersNext left.now
-        (λ v. and_then (meaning request.now world right.now) (apply_binary world operator v)) result }
+        (λ v. and_then (meaning (L.asked store.now) world right.now) (apply_binary world operator v)) result }
 {
     match left {
         Ok(value) => {
-            let right = outcome_of(alloc, right.get(), request, store);
+            let right = outcome_of(alloc, right.get(), store);
             on_operands(store, operator, value, &right)
         }
         Err(fault) => Err(*fault),
@@ -181,39 +206,37 @@ fn second_operand<'a, L: Lookup>(
 /// Returns what a call gives on an expression's value.
 #[cycle(evaluate)]
 #[inline(never)]
-fn one_called<'a, L: Lookup>(
+fn one_called<'a, L: Question>(
     alloc: Global,
     called: UnaryCall,
     operand: &'a Shared<Expr>,
-    request: &'a Request,
     store: &'a L,
 ) -> Result<BorrowedOrOwned<'a>, EvalFault>
     ensures { Answers result (and_then
-        (meaning request.now (decided_world (L.stored store.now) (L.above store.now)) operand.now)
+        (meaning (L.asked store.now) (decided_world (L.stored store.now) (L.above store.now)) operand.now)
         (apply_unary_call called)) }
 {
-    let given = outcome_of(alloc, operand.get(), request, store);
+    let given = outcome_of(alloc, operand.get(), store);
     called_on(called, &given)
 }
 
 /// Returns what a call gives on what was given and an expression's value; where nothing was given, only why.
 #[cycle(evaluate)]
 #[inline(never)]
-fn second_called<'a, L: Lookup>(
+fn second_called<'a, L: Question>(
     alloc: Global,
     right: &'a Shared<Expr>,
     called: BinaryCall,
     left: &Result<BorrowedOrOwned<'a>, EvalFault>,
-    request: &'a Request,
     store: &'a L,
 ) -> Result<BorrowedOrOwned<'a>, EvalFault>
     ensures { let world = decided_world (L.stored store.now) (L.above store.now) in
         AnswersNext left.now
-        (λ v. and_then (meaning request.now world right.now) (apply_binary_call called v)) result }
+        (λ v. and_then (meaning (L.asked store.now) world right.now) (apply_binary_call called v)) result }
 {
     match left {
         Ok(value) => {
-            let right = outcome_of(alloc, right.get(), request, store);
+            let right = outcome_of(alloc, right.get(), store);
             called_on_two(called, value, &right)
         }
         Err(fault) => Err(*fault),
@@ -223,23 +246,20 @@ fn second_called<'a, L: Lookup>(
 /// Returns a field or an attribute of an expression's value.
 #[cycle(evaluate)]
 #[inline(never)]
-pub(crate) fn field_of<'a, L: Lookup>(
+pub(crate) fn field_of<'a, L: Question>(
     alloc: Global,
     owner: &'a Shared<Expr>,
     name: &Text,
-    request: &'a Request,
     store: &'a L,
 ) -> Result<BorrowedOrOwned<'a>, EvalFault>
     ensures { Answers result (and_then
-        (meaning request.now (decided_world (L.stored store.now) (L.above store.now)) owner.now)
+        (meaning (L.asked store.now) (decided_world (L.stored store.now) (L.above store.now)) owner.now)
         (field_of (decided_world (L.stored store.now) (L.above store.now)) name.now)) }
 {
     match owner.get() {
-        Expr::Variable(variable) => {
-            lent(variable_field(store, *variable, request, name.as_str()))
-        }
+        Expr::Variable(variable) => { lent(variable_field(store, *variable, name.as_str())) }
         other => {
-            let given = outcome_of(alloc, other, request, store);
+            let given = outcome_of(alloc, other, store);
             field_in(alloc, store, &given, name)
         }
     }
@@ -248,70 +268,66 @@ pub(crate) fn field_of<'a, L: Lookup>(
 /// Returns whether an expression's value has a field or an attribute.
 #[cycle(evaluate)]
 #[inline(never)]
-fn has_of<'a, L: Lookup>(
+fn has_of<'a, L: Question>(
     alloc: Global,
     owner: &'a Shared<Expr>,
     name: &Text,
-    request: &'a Request,
     store: &'a L,
 ) -> Result<BorrowedOrOwned<'a>, EvalFault>
     ensures { Answers result (and_then
-        (meaning request.now (decided_world (L.stored store.now) (L.above store.now)) owner.now)
+        (meaning (L.asked store.now) (decided_world (L.stored store.now) (L.above store.now)) owner.now)
         (has_field (decided_world (L.stored store.now) (L.above store.now)) name.now)) }
 {
-    let given = outcome_of(alloc, owner.get(), request, store);
+    let given = outcome_of(alloc, owner.get(), store);
     has_in(store, &given, name)
 }
 
 /// Returns the set of what expressions give.
 #[cycle(evaluate)]
 #[inline(never)]
-fn set_of<'a, L: Lookup>(
+fn set_of<'a, L: Question>(
     alloc: Global,
     members: &'a Items<Expr>,
-    request: &'a Request,
     store: &'a L,
 ) -> Result<BorrowedOrOwned<'a>, EvalFault>
     ensures { Answers result (and_then
-        (each (map (meaning request.now (decided_world (L.stored store.now) (L.above store.now))) members.now))
+        (each (map (meaning (L.asked store.now) (decided_world (L.stored store.now) (L.above store.now))) members.now))
         (λ vs. Ok (set (values_of (set_list vs))))) }
 {
-    set_with(evaluate_each(alloc, members, request, store))
+    set_with(evaluate_each(alloc, members, store))
 }
 
 /// Returns the record of what the expressions under names give.
 #[cycle(evaluate)]
 #[inline(never)]
-fn record_of<'a, L: Lookup>(
+fn record_of<'a, L: Question>(
     alloc: Global,
     fields: &'a Items<Named<Expr>>,
-    request: &'a Request,
     store: &'a L,
 ) -> Result<BorrowedOrOwned<'a>, EvalFault>
     ensures { Answers result (and_then
         (each_field
-        (map (named_meaning request.now (decided_world (L.stored store.now) (L.above store.now))) fields.now)
+        (map (named_meaning (L.asked store.now) (decided_world (L.stored store.now) (L.above store.now))) fields.now)
         []) (λ done. Ok (record_of (fields_of done)))) }
 {
-    record_with(evaluate_fields(alloc, fields, request, store))
+    record_with(evaluate_fields(alloc, fields, store))
 }
 
 /// Returns what expressions give, in order.
 #[cycle(evaluate)]
 #[inline(never)]
-fn evaluate_each<'a, L: Lookup>(
+fn evaluate_each<'a, L: Question>(
     alloc: Global,
     exprs: &'a Items<Expr>,
-    request: &'a Request,
     store: &'a L,
 ) -> Result<Vec<Value>, EvalFault>
     ensures { let world = decided_world (L.stored store.now) (L.above store.now) in
-        let m = each (map (meaning request.now world) exprs.now) in
+        let m = each (map (meaning (L.asked store.now) world) exprs.now) in
         MatchResult result (λ vs. m ≡ Ok vs.items) (λ e. e ≢ EvalFault.NoMemory → m ≡ Err e) }
 {
     let mut values = Vec::with_capacity(alloc, exprs.len())?;
     for expr in exprs.as_slice() {
-        let given = outcome_of(alloc, expr, request, store);
+        let given = outcome_of(alloc, expr, store);
         add_value(alloc, &mut values, given)?;
     }
     Ok(values)
@@ -320,18 +336,17 @@ fn evaluate_each<'a, L: Lookup>(
 /// Returns the fields that the expressions under names give, in the order in which they are written.
 #[cycle(evaluate)]
 #[inline(never)]
-fn evaluate_fields<'a, L: Lookup>(
+fn evaluate_fields<'a, L: Question>(
     alloc: Global,
     fields: &'a Items<Named<Expr>>,
-    request: &'a Request,
     store: &'a L,
 ) -> Result<Record, EvalFault>
-    ensures { Answers result (each_field
-        (map (named_meaning request.now (decided_world (L.stored store.now) (L.above store.now))) fields.now) []) }
+    ensures { let world = decided_world (L.stored store.now) (L.above store.now) in
+        Answers result (each_field (map (named_meaning (L.asked store.now) world) fields.now) []) }
 {
     let mut record = Record::new(alloc);
     for field in fields.as_slice() {
-        let given = outcome_of(alloc, &field.value, request, store);
+        let given = outcome_of(alloc, &field.value, store);
         add_field(alloc, &mut record, &field.name, given)?;
     }
     Ok(record)

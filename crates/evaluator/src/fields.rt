@@ -1,6 +1,5 @@
 //! The fields of records and the attributes of entities.
 ghost use Rattle.std.specs.Prelude.{◌≡◌, MatchResult, Ok, Err, option_map};
-ghost use Rattle.values.specs.Fields.{find_field};
 ghost use Rattle.values.specs.BorrowedView.{of_borrowed};
 ghost use Rattle.evaluator.specs.inner.Computing.{decided_world, Answers, found_or, fault_of, attribute, field_of};
 ghost use Rattle.evaluator.specs.inner.Computing.{and_then, has_attribute, has_field, truth, TellsNumber};
@@ -10,10 +9,11 @@ use crate::borrowed_or_owned::{BorrowedOrOwned, Ownership};
 use crate::fault::EvalFault;
 use crate::lookup::Lookup;
 use crate::numbers::number_or_none;
+use crate::question::Question;
 use evaluation_steps::{Missing, attribute_in};
 use expressions::Variable;
 use std::alloc::Global;
-use values::{BorrowedKind, EntityUid, Kind, Record, Request, Value};
+use values::{BorrowedKind, EntityUid, Kind, Record, Value};
 
 /// Returns the value that was found.
 fn found<'a>(found: Option<&'a Value>) -> Result<BorrowedOrOwned<'a>, EvalFault>
@@ -45,29 +45,14 @@ fn fault_by(missing: Missing) -> EvalFault
     }
 }
 
-/// Returns the value of an entity's attribute, where it stands.
-fn attribute_at<'a, L: Lookup>(
-    store: &'a L,
-    uid: &EntityUid,
-    name: &str,
-) -> Result<&'a Value, EvalFault>
-    ensures { let due = attribute (L.stored store.now uid.now) name.now in
+/// Returns the value of one among the fields, where it stands; without fields it is an entity that is not stored.
+fn attribute_at<'a>(fields: Option<&'a Record>, name: &str) -> Result<&'a Value, EvalFault>
+    ensures { let due = attribute (option_map (λ r. r.now) fields.entry) name.now in
         MatchResult result (λ v. due ≡ Ok v.now) (λ e. due ≡ Err e) }
 {
-    match attribute_in(store.attrs_of(uid), name) {
+    match attribute_in(fields, name) {
         Ok(value) => Ok(value),
         Err(missing) => Err(fault_by(missing)),
-    }
-}
-
-/// Returns the value of a record's field, where it stands.
-fn field_at<'a>(fields: &'a Record, name: &str) -> Result<&'a Value, EvalFault>
-    ensures { let due = found_or EvalFault.AttrDoesNotExist (find_field name.now fields.now) in
-        MatchResult result (λ v. due ≡ Ok v.now) (λ e. due ≡ Err e) }
-{
-    match fields.field(name) {
-        Some(value) => Ok(value),
-        None => Err(EvalFault::AttrDoesNotExist),
     }
 }
 
@@ -91,73 +76,56 @@ fn attribute<'a, L: Lookup>(
 ) -> Result<BorrowedOrOwned<'a>, EvalFault>
     ensures { result ≡ attribute (L.stored store.now uid.now) name.now }
 {
-    lent(attribute_at(store, uid, name))
+    lent(attribute_at(store.attrs_of(uid), name))
 }
 
 /// Returns the value of a field or an attribute of what a variable stands for: most conditions ask for these, so no
 /// value is made of the variable.
-#[tactic(auto, using(crate::proofs::Conversions::conversions))]
-pub(crate) fn variable_field<'a, L: Lookup>(
+#[tactic(auto, using(crate::proofs::Variables::field_under))]
+pub(crate) fn variable_field<'a, L: Question>(
     store: &'a L,
     variable: Variable,
-    request: &'a Request,
     name: &str,
 ) -> Result<&'a Value, EvalFault>
     ensures { let due = field_of (decided_world (L.stored store.now) (L.above store.now)) name.now
-        (variable_value variable request.now) in
+        (variable_value variable (L.asked store.now)) in
         MatchResult result (λ v. due ≡ Ok v.now) (λ e. due ≡ Err e) }
 {
-    match variable {
-        Variable::Principal => attribute_at(store, &request.principal, name),
-        Variable::Action => attribute_at(store, &request.action, name),
-        Variable::Resource => attribute_at(store, &request.resource, name),
-        Variable::Context => field_at(&request.context, name),
-    }
+    attribute_at(store.fields_of(variable), name)
 }
 
 /// Returns the number that a field or an attribute of what a variable stands for is, or None where it is no number.
-pub(crate) fn variable_number<L: Lookup>(
+pub(crate) fn variable_number<L: Question>(
     store: &L,
     variable: Variable,
-    request: &Request,
     name: &str,
 ) -> Result<Option<i64>, EvalFault>
     ensures { TellsNumber result (field_of (decided_world (L.stored store.now) (L.above store.now)) name.now
-        (variable_value variable request.now)) }
+        (variable_value variable (L.asked store.now))) }
 {
-    match variable_field(store, variable, request, name) {
+    match variable_field(store, variable, name) {
         Ok(value) => Ok(number_or_none(value)),
         Err(fault) => Err(fault),
     }
 }
 
-/// Returns whether an entity has an attribute; one that is not stored has none.
-fn has_attribute<L: Lookup>(store: &L, uid: &EntityUid, name: &str) -> bool
-    ensures { result ≡ has_attribute (L.stored store.now uid.now) name.now }
+/// Returns whether this is among the fields; an entity that is not stored has none.
+fn has_attribute(fields: Option<&Record>, name: &str) -> bool
+    ensures { result ≡ has_attribute (option_map (λ r. r.now) fields.entry) name.now }
 {
-    match store.attrs_of(uid) {
-        Some(attributes) => attributes.field(name).is_some(),
+    match fields {
+        Some(fields) => fields.field(name).is_some(),
         None => false,
     }
 }
 
 /// Returns whether what a variable stands for has a field or an attribute.
-#[tactic(auto, using(crate::proofs::Conversions::conversions))]
-pub(crate) fn variable_has<L: Lookup>(
-    store: &L,
-    variable: Variable,
-    request: &Request,
-    name: &str,
-) -> bool
+#[tactic(auto, using(crate::proofs::Variables::has_under))]
+pub(crate) fn variable_has<L: Question>(store: &L, variable: Variable, name: &str) -> bool
     ensures { has_field (decided_world (L.stored store.now) (L.above store.now)) name.now
-        (variable_value variable request.now) ≡ truth result }
+        (variable_value variable (L.asked store.now)) ≡ truth result }
 {
-    match variable {
-        Variable::Principal => has_attribute(store, &request.principal, name),
-        Variable::Action => has_attribute(store, &request.action, name),
-        Variable::Resource => has_attribute(store, &request.resource, name),
-        Variable::Context => request.context.field(name).is_some(),
-    }
+    has_attribute(store.fields_of(variable), name)
 }
 
 /// Returns the value of a field or an attribute of what is borrowed.
@@ -221,7 +189,7 @@ pub(crate) fn has<L: Lookup>(
 {
     match owner.kind() {
         BorrowedKind::Record(fields) => Ok(fields.field(name).is_some()),
-        BorrowedKind::Entity(uid) => Ok(has_attribute(store, uid, name)),
+        BorrowedKind::Entity(uid) => Ok(has_attribute(store.attrs_of(uid), name)),
         _ => Err(EvalFault::TypeError),
     }
 }

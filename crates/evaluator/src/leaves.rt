@@ -5,6 +5,7 @@ ghost use Rattle.evaluator.specs.Evaluation.{literal_value, variable_value};
 
 use crate::borrowed_or_owned::{BorrowedOrOwned, Ownership};
 use crate::fault::EvalFault;
+use crate::question::Question;
 use expressions::{Literal, Variable};
 use values::{Request, ValueRef};
 
@@ -44,13 +45,13 @@ fn variable_ref(variable: Variable, request: &Request) -> ValueRef<'_>
 
 /// Returns the part of the request that a variable stands for.
 #[inline(never)]
-pub(crate) fn variable_of(
+pub(crate) fn variable_of<L: Question>(
     variable: Variable,
-    request: &Request,
+    store: &L,
 ) -> Result<BorrowedOrOwned<'_>, EvalFault>
-    ensures { result ≡ Ok (variable_value variable request.now) }
+    ensures { result ≡ Ok (variable_value variable (L.asked store.now)) }
 {
     Ok(BorrowedOrOwned {
-        ownership: Ownership::Borrowed(variable_ref(variable, request)),
+        ownership: Ownership::Borrowed(variable_ref(variable, store.request())),
     })
 }

@@ -13,12 +13,14 @@ mod lookup;
 mod numbers;
 mod operands;
 mod operators;
+mod question;
 mod steps;
 mod testing;
 
 pub use borrowed_or_owned::BorrowedOrOwned;
-pub use evaluating::{evaluate, evaluate_test};
+pub use evaluating::{evaluate, evaluate_asked, evaluate_asked_test, evaluate_test};
 pub use fault::EvalFault;
 pub use laws::expressions_have_one_outcome;
 pub use lookup::Lookup;
 pub use plain::NoMemory;
+pub use question::{Asking, Question};

@@ -18,19 +18,9 @@ use crate::lookup::Lookup;
 use crate::operands::boolean_of;
 use crate::operators::{binary, unary};
 use expressions::{Binary, BinaryCall, Unary, UnaryCall};
-use plain::Text;
+use plain::{Text, beside};
 use std::alloc::Global;
 use values::{Record, Value};
-
-/// Returns what was given beside another value; where nothing was given, only why.
-fn beside<T: Drop, U: Drop>(kept: T, given: Result<U, EvalFault>) -> Result<(T, U), EvalFault>
-    ensures { MatchResult result (λ both. (given ≡ Ok both.1) × (both.0 ≡ kept)) (λ e. given ≡ Err e) }
-{
-    match given {
-        Ok(more) => Ok((kept, more)),
-        Err(fault) => Err(fault),
-    }
-}
 
 /// Returns what was computed, if it was.
 fn computed<'a>(found: Result<Value, EvalFault>) -> Result<BorrowedOrOwned<'a>, EvalFault>
@@ -210,6 +200,16 @@ fn value_of(
     ensures { (m : EvaluationResult) → Answers given.entry m → Answers result m }
 {
     Ok(given?.into_value(alloc)?)
+}
+
+/// Returns what was given as a value of its own, copied where it was borrowed.
+pub(crate) fn owned<'a>(
+    alloc: Global,
+    given: Result<BorrowedOrOwned<'_>, EvalFault>,
+) -> Result<BorrowedOrOwned<'a>, EvalFault>
+    ensures { (m : EvaluationResult) → Answers given.entry m → Answers result m }
+{
+    computed(value_of(alloc, given))
 }
 
 /// Returns a name of a field of its own.

@@ -3,37 +3,39 @@
 ghost use Rattle.evaluator.specs.inner.Computing.{decided_world, Answers, meaning, and_then, as_test, field_of};
 ghost use Rattle.evaluator.specs.inner.Computing.{has_field, apply_binary, TellsNumber, TellNumbers};
 
+use crate::choosing::{both_test, choice_test, either_test};
 use crate::evaluating::{field_of, outcome_of, two_operands};
 use crate::fault::EvalFault;
 use crate::fields::{variable_has, variable_number};
-use crate::lookup::Lookup;
 use crate::numbers::{Numbers, is_less, is_less_or_equal, literal_number, number_in};
+use crate::question::Question;
 use crate::steps::{has_told, opposite, tested};
 use expressions::{Binary, Expr, Unary};
 use plain::{Shared, Text};
 use std::alloc::Global;
-use values::Request;
 
 /// Returns what an expression gives as a test.
 #[cycle(evaluate)]
 #[inline(never)]
-pub(crate) fn test_of<'a, L: Lookup>(
+pub(crate) fn test_of<'a, L: Question>(
     alloc: Global,
     test: &'a Expr,
-    request: &'a Request,
     store: &'a L,
 ) -> Result<bool, EvalFault>
     ensures { Answers result (as_test
-        (meaning request.now (decided_world (L.stored store.now) (L.above store.now)) test.now)) }
+        (meaning (L.asked store.now) (decided_world (L.stored store.now) (L.above store.now)) test.now)) }
 {
     match test {
-        Expr::Has(owner, name) => has_test(alloc, owner, name, request, store),
-        Expr::Unary(Unary::Not, operand) => opposite(test_of(alloc, operand.get(), request, store)),
-        Expr::Binary(operator, left, right) => {
-            binary_test(alloc, *operator, left, right, request, store)
+        Expr::Has(owner, name) => has_test(alloc, owner, name, store),
+        Expr::If(test, consequent, alternative) => {
+            choice_test(alloc, test, consequent, alternative, store)
         }
+        Expr::And(left, right) => both_test(alloc, left, right, store),
+        Expr::Or(left, right) => either_test(alloc, left, right, store),
+        Expr::Unary(Unary::Not, operand) => opposite(test_of(alloc, operand.get(), store)),
+        Expr::Binary(operator, left, right) => { binary_test(alloc, *operator, left, right, store) }
         other => {
-            let given = outcome_of(alloc, other, request, store);
+            let given = outcome_of(alloc, other, store);
             tested(&given)
         }
     }
@@ -42,23 +44,22 @@ pub(crate) fn test_of<'a, L: Lookup>(
 /// Returns what an operator gives on two expressions' values, as a test.
 #[cycle(evaluate)]
 #[inline(never)]
-fn binary_test<'a, L: Lookup>(
+fn binary_test<'a, L: Question>(
     alloc: Global,
     operator: Binary,
     left: &'a Shared<Expr>,
     right: &'a Shared<Expr>,
-    request: &'a Request,
     store: &'a L,
 ) -> Result<bool, EvalFault>
     ensures { let world = decided_world (L.stored store.now) (L.above store.now) in
-        Answers result (as_test (and_then (meaning request.now world left.now)
-        (λ v. and_then (meaning request.now world right.now) (apply_binary world operator v)))) }
+        Answers result (as_test (and_then (meaning (L.asked store.now) world left.now)
+        (λ v. and_then (meaning (L.asked store.now) world right.now) (apply_binary world operator v)))) }
 {
     match operator {
-        Binary::Less => is_less(two_numbers(alloc, left, right, request, store)),
-        Binary::LessOrEqual => is_less_or_equal(two_numbers(alloc, left, right, request, store)),
+        Binary::Less => is_less(two_numbers(alloc, left, right, store)),
+        Binary::LessOrEqual => is_less_or_equal(two_numbers(alloc, left, right, store)),
         _ => {
-            let given = two_operands(alloc, operator, left, right, request, store);
+            let given = two_operands(alloc, operator, left, right, store);
             tested(&given)
         }
     }
@@ -67,21 +68,20 @@ fn binary_test<'a, L: Lookup>(
 /// Returns whether an expression's value has a field or an attribute.
 #[cycle(evaluate)]
 #[inline(never)]
-fn has_test<'a, L: Lookup>(
+fn has_test<'a, L: Question>(
     alloc: Global,
     owner: &'a Shared<Expr>,
     name: &Text,
-    request: &'a Request,
     store: &'a L,
 ) -> Result<bool, EvalFault>
     ensures { Answers result (as_test (and_then
-        (meaning request.now (decided_world (L.stored store.now) (L.above store.now)) owner.now)
+        (meaning (L.asked store.now) (decided_world (L.stored store.now) (L.above store.now)) owner.now)
         (has_field (decided_world (L.stored store.now) (L.above store.now)) name.now))) }
 {
     match owner.get() {
-        Expr::Variable(variable) => { Ok(variable_has(store, *variable, request, name.as_str())) }
+        Expr::Variable(variable) => { Ok(variable_has(store, *variable, name.as_str())) }
         other => {
-            let given = outcome_of(alloc, other, request, store);
+            let given = outcome_of(alloc, other, store);
             has_told(store, &given, name)
         }
     }
@@ -90,38 +90,36 @@ fn has_test<'a, L: Lookup>(
 /// Returns the numbers that two expressions give.
 #[cycle(evaluate)]
 #[inline(never)]
-fn two_numbers<'a, L: Lookup>(
+fn two_numbers<'a, L: Question>(
     alloc: Global,
     left: &'a Shared<Expr>,
     right: &'a Shared<Expr>,
-    request: &'a Request,
     store: &'a L,
 ) -> Result<Numbers, EvalFault>
-    ensures { let gives = meaning request.now (decided_world (L.stored store.now) (L.above store.now)) in
+    ensures { let gives = meaning (L.asked store.now) (decided_world (L.stored store.now) (L.above store.now)) in
         TellNumbers result (gives left.now) (gives right.now) }
 {
-    let first = number_of(alloc, left, request, store)?;
-    let second = number_of(alloc, right, request, store)?;
+    let first = number_of(alloc, left, store)?;
+    let second = number_of(alloc, right, store)?;
     Ok(Numbers { first, second })
 }
 
 /// Returns the number that an expression gives, or None where it gives what is no number.
 #[cycle(evaluate)]
 #[inline(never)]
-fn number_of<'a, L: Lookup>(
+fn number_of<'a, L: Question>(
     alloc: Global,
     expr: &'a Shared<Expr>,
-    request: &'a Request,
     store: &'a L,
 ) -> Result<Option<i64>, EvalFault>
     ensures { TellsNumber result
-        (meaning request.now (decided_world (L.stored store.now) (L.above store.now)) expr.now) }
+        (meaning (L.asked store.now) (decided_world (L.stored store.now) (L.above store.now)) expr.now) }
 {
     match expr.get() {
         Expr::Literal(literal) => Ok(literal_number(literal)),
-        Expr::Field(owner, name) => field_number(alloc, owner, name, request, store),
+        Expr::Field(owner, name) => field_number(alloc, owner, name, store),
         other => {
-            let given = outcome_of(alloc, other, request, store);
+            let given = outcome_of(alloc, other, store);
             number_in(&given)
         }
     }
@@ -130,21 +128,20 @@ fn number_of<'a, L: Lookup>(
 /// Returns the number that a field or an attribute of an expression's value is, or None where it is no number.
 #[cycle(evaluate)]
 #[inline(never)]
-fn field_number<'a, L: Lookup>(
+fn field_number<'a, L: Question>(
     alloc: Global,
     owner: &'a Shared<Expr>,
     name: &Text,
-    request: &'a Request,
     store: &'a L,
 ) -> Result<Option<i64>, EvalFault>
     ensures { TellsNumber result (and_then
-        (meaning request.now (decided_world (L.stored store.now) (L.above store.now)) owner.now)
+        (meaning (L.asked store.now) (decided_world (L.stored store.now) (L.above store.now)) owner.now)
         (field_of (decided_world (L.stored store.now) (L.above store.now)) name.now)) }
 {
     match owner.get() {
-        Expr::Variable(variable) => variable_number(store, *variable, request, name.as_str()),
+        Expr::Variable(variable) => variable_number(store, *variable, name.as_str()),
         _ => {
-            let given = field_of(alloc, owner, name, request, store);
+            let given = field_of(alloc, owner, name, store);
             number_in(&given)
         }
     }

@@ -9,10 +9,9 @@ ghost use Rattle.expression_syntax.specs.inner.Nests.{Nests};
 ghost use Rattle.token_readers.specs.Reads.{ReadsFrontWithin};
 ghost use Rattle.token_readers.specs.declared.fault.Halt.TheVariants as halt;
 
-use crate::held::beside;
 use crate::primary::Reader;
 use expression_trees::ExprTree;
-use plain::Boxed;
+use plain::{Boxed, beside};
 use policy_tokens::TokenKind;
 use std::alloc::Global;
 use token_readers::{Cursor, Halt};

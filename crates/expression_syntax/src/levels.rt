@@ -7,9 +7,8 @@ ghost use Rattle.expression_trees.specs.declared.tree.ExprTree as trees;
 ghost use Rattle.expression_syntax.specs.Expressions.{joined};
 ghost use Rattle.expression_syntax.specs.inner.Chains.{chained, chained_on};
 
-use crate::held::beside;
 use expression_trees::ExprTree;
-use plain::{Boxed, Items};
+use plain::{Boxed, Items, beside};
 use std::alloc::{AllocError, Global};
 use token_readers::{Cursor, Halt, KindSet, read_many};
 

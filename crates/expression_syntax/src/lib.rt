@@ -5,7 +5,6 @@
 #![tactic(auto)]
 
 mod expression;
-mod held;
 mod laws;
 mod levels;
 mod operators;
@@ -17,7 +16,6 @@ mod token_sets;
 
 pub use expression::expr;
 pub use expression_trees::{Access, Comparison, Entry, ExprTree, KeyTree, Sign, Term, Variable};
-pub use held::beside;
 pub use laws::expression_is_unique;
 pub use read::{NESTING_LIMIT, read_expression};
 pub use symbols::{Symbol, take_symbol};

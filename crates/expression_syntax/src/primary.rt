@@ -7,11 +7,10 @@ ghost use Rattle.token_readers.specs.ParsesTo.{ParsesTo};
 ghost use Rattle.expression_syntax.specs.inner.Nests.{Nests};
 ghost use Rattle.token_readers.specs.declared.fault.Halt.TheVariants as halt;
 
-use crate::held::beside;
 use crate::symbols::{Symbol, take_symbol};
 use crate::token_sets::TokenSet;
 use expression_trees::{Access, Entry, ExprTree, KeyTree, Variable};
-use plain::{Boxed, Items};
+use plain::{Boxed, Items, beside};
 use policy_tokens::{Token, TokenKind};
 use std::alloc::Global;
 use token_readers::{Cursor, Halt, Name, NameSet, PathTree, read_more, rest_of_name};

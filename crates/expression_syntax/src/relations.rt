@@ -7,12 +7,11 @@ ghost use Rattle.token_readers.specs.ParsesTo.{ParsesTo};
 ghost use Rattle.expression_syntax.specs.inner.Nests.{Nests};
 ghost use Rattle.expression_syntax.specs.inner.Tails as tails;
 
-use crate::held::beside;
 use crate::primary::{Reader, key};
 use crate::symbols::take_symbol;
 use crate::token_sets::TokenSet;
 use expression_trees::{Comparison, ExprTree, KeyTree};
-use plain::Boxed;
+use plain::{Boxed, beside};
 use policy_tokens::{Token, TokenKind};
 use std::alloc::{AllocError, Global};
 use token_readers::{Cursor, Halt, PathTree, path};

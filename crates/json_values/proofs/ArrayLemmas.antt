@@ -14,8 +14,8 @@ use Rattle.serde_json.specs.View.{view}
 use Rattle.serde_json.specs.declared.value.Value.{Value}
 use Rattle.json_words.specs.Each.{list_of}
 use Rattle.json_words.proofs.JsonLemmas.{json_of-text, json_of-none}
-use Rattle.json_values.specs.Arrays.{members_in, array_of, rest_of_array}
-use Rattle.json_values.specs.inner.Given.{value_at, array_at, whole, is_array_start, is_object_start, scalar}
+use Rattle.json_values.specs.Arrays.{members_in, array_of, rest_of_array, array_at, whole}
+use Rattle.json_values.specs.inner.Given.{value_at, is_array_start, is_object_start, scalar}
 use Rattle.json_values.proofs.Whole.{read_is}
 use Rattle.json_values.proofs.Turns.{at_array, at_object, scalar_at, nothing_given, array_after, array_with, array_starts, array_ends, array_goes_on, array_fails}
 

@@ -8,7 +8,8 @@ use Rattle.serde_json.specs.Data.{Data, array, object, Items, no_items, item, Me
 use Rattle.serde_json.specs.Read.{of_json, of_items, of_members, converted}
 use Rattle.serde_json.specs.View.{view, items_view}
 use Rattle.serde_json.specs.declared.value.Value.{Value}
-use Rattle.json_values.specs.inner.Given.{value_at, array_at, object_at, IsGiven, is_array_start, is_object_start, scalar}
+use Rattle.json_values.specs.Arrays.{array_at}
+use Rattle.json_values.specs.inner.Given.{value_at, object_at, IsGiven, is_array_start, is_object_start, scalar}
 
 -- ---- which token it is
 

@@ -11,7 +11,8 @@ use Rattle.serde_json.specs.declared.value.Value.{Value}
 use Rattle.serde_json.proofs.Nesting.{depth-read}
 use Rattle.json_words.specs.Json.{json_of}
 use Rattle.json_words.proofs.JsonLemmas.{json_of-text}
-use Rattle.json_values.specs.inner.Given.{value_at, whole, IsGiven}
+use Rattle.json_values.specs.Arrays.{whole}
+use Rattle.json_values.specs.inner.Given.{value_at, IsGiven}
 
 alone : (x : Option Data) → x ≡ whole (option_map (λ b. (b, [])) x)
 alone None = refl

@@ -1,12 +1,13 @@
 -- The members of a JSON array, and those that a reader of one has still to read.
 -- Source: RFC 8259, section 5 (an array is brackets around values with commas between) and section 2 (a text is one
--- value, with nothing but blanks behind it).
-use Rattle.std.specs.Prelude.{◌≡◌, ◌<◌, ◌-◌, ⊤, ℕ, List, [], ◌∷◌, if◌then◌else◌, Result}
+-- value, with nothing but blanks behind it). Rules of this product: which fault is told (`each_of`, `told`).
+use Rattle.std.specs.Prelude.{◌≡◌, ◌<◌, ◌-◌, ⊤, ℕ, List, [], ◌∷◌, length, if◌then◌else◌, Result}
 use Rattle.std.specs.Prelude.{Option, Some, None, option_map, option_and_then, is_some}
+use Rattle.json.specs.Json as json
 use Rattle.json.specs.Token.{Token}
 use Rattle.serde_json.specs.Data.{Data}
 use Rattle.serde_json.specs.Find.{as_array}
-use Rattle.serde_json.specs.Read.{max_depth}
+use Rattle.serde_json.specs.Read.{max_depth, of_json, converted}
 use Rattle.serde_json.specs.View.{view}
 use Rattle.json_words.specs.Each.{each, list_of}
 use Rattle.json_words.specs.Json.{json_of}
@@ -14,7 +15,6 @@ use Rattle.json_words.specs.ReadsAs.{◌>>=◌, or_fault}
 use Rattle.json_values.specs.declared.array_members.Member.{Member}
 use Rattle.json_values.specs.declared.array_members.Member.TheVariants.{Value, End, NotJson}
 use Rattle.json_values.specs.declared.array_members.Members.{Members}
-use Rattle.json_values.specs.inner.Given.{array_at, whole}
 
 -- the members of an array, where the value is one
 abbrev pub members_in : Option Data → Option (List Data)
@@ -23,6 +23,16 @@ members_in value = option_map list_of (option_and_then as_array value)
 -- the members of the array that bytes are; none where they are no JSON, or another value
 unfoldable pub array_of : List ℕ → Option (List Data)
 array_of bytes = members_in (json_of bytes)
+
+-- the array at the front of tokens, with the tokens behind it, whose opening bracket has passed
+abbrev pub array_at : ℕ → List Token → Option (Data × List Token)
+array_at deep ts = converted of_json (json.parse_map json.array (json.items (json.value deep) (length ts) ts))
+
+-- the value that a text is: no token stands behind it
+abbrev pub whole : Option (Data × List Token) → Option Data
+whole None = None
+whole (Some (d, [])) = Some d
+whole (Some (d, t ∷ ts)) = None
 
 -- the members that tokens go on with in an array that has begun; none where it or the text does not end there as JSON
 unfoldable pub rest_of_array : List Token → Option (List Data)

@@ -20,7 +20,7 @@ pub struct Members<'a> {
 /// The next member of an array, or that there is none.
 #[derive(Drop)]
 pub enum Member {
-    /// The next member. What stands behind it may still be no JSON.
+    /// The next member, where the text is JSON. What stands behind it may still be none, and then it says nothing.
     Value(Value),
     /// The array ends, and the text with it.
     End,
@@ -28,7 +28,8 @@ pub enum Member {
     NotJson,
 }
 
-/// Returns the members of the array that bytes begin with, or None where they begin with no array, or are no UTF-8.
+/// Returns the members of the array that bytes begin with, or None, which says that they are no JSON array. Where they
+/// are none, members may be returned all the same, and end in [`Member::NotJson`].
 ///
 /// Whether the bytes are JSON shows as the members are read: [`Member::NotJson`] stands for what [`Member::End`] does
 /// where they are not. Of a key that stands twice in an object the last value counts, and arrays and objects nest at

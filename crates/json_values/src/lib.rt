@@ -25,7 +25,8 @@ use std::alloc::Global;
 
 const MOST_DEPTH: usize = 127;
 
-/// Returns the JSON value that bytes are, or None where they are no UTF-8 or no JSON, or nest deeper than 127.
+/// Returns the JSON value that bytes are, or None where they are no UTF-8 or no JSON, or nest deeper than 127, or have
+/// half of a surrogate pair in an escape or a number beyond what a double holds.
 ///
 /// Of a key that stands twice in an object the last value counts. The scratch grows to the longest text, and what it
 /// held before plays no part. Fails for memory alone.

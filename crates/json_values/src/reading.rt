@@ -2,7 +2,8 @@
 ghost use Rattle.std.specs.Prelude.{◌≡◌, ◌<◌, length, option_map, IfOk, IfSome};
 ghost use Rattle.json.specs.Reads.{token_of};
 ghost use Rattle.serde_json.specs.View.{view};
-ghost use Rattle.json_values.specs.inner.Given.{value_at, array_at, object_at, IsGiven, scalar};
+ghost use Rattle.json_values.specs.Arrays.{array_at};
+ghost use Rattle.json_values.specs.inner.Given.{value_at, object_at, IsGiven, scalar};
 ghost use Rattle.json_values.specs.inner.Given.{is_array_start, is_object_start};
 
 use crate::numbers::number_in;

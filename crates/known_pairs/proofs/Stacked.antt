@@ -1,9 +1,9 @@
 -- Stacks of pairs, changed at their tops.
-use Rattle.std.proofs.Common.{◌≡◌, ◌≤◌, ◌<◌, ◌+◌, ◌⊎◌, Result, Ok, Err, get_or, drop, append_assoc, ℕ, zero, suc, List, [], ◌∷◌, ◌++◌, length, take, Contains, Option, Some, None, Bool, true, false, refl, sym, subst, ap, ◌∙◌, inl, inr, arith}
+use Rattle.std.proofs.Common.{◌≡◌, ◌≤◌, ◌<◌, ◌+◌, ◌⊎◌, Result, Ok, Err, get_or, append_assoc, ℕ, zero, suc, List, [], ◌∷◌, ◌++◌, length, take, Contains, Option, Some, None, Bool, true, false, refl, sym, subst, ap, ◌∙◌, inl, inr, arith}
 use Rattle.std.specs.Prelude.{cond, IsTrue, ◌↔◌, OnErr}
 use Rattle.std.specs.Option.{option_map}
 use Rattle.std.proofs.lemmas.Option.{slice_get-map}
-use Rattle.std.proofs.lemmas.List.{map-append, length-map, drop_more}
+use Rattle.std.proofs.lemmas.List.{map-append, length-map, append-nil, take_more, take_all}
 use Rattle.std.specs.List.{slice_get}
 use Rattle.std.specs.Ordering.{is_eq}
 use Rattle.std.specs.BTreeMap.{BTreeMap, Updates}
@@ -263,9 +263,17 @@ pub on_err : {A B : Type 0} {P : Type 0} (r : Result A B) → P → OnErr r P
 on_err (Ok u) h = tt
 on_err (Err e) h = h
 
--- one more of several is put
-pub one_put : (K L : List PairValue) (ps : List Pair) (i : ℕ) (x : Pair) (whole : List PairValue) → i < length ps
-    → x ≡ get_or ps i x → L ≡ K ++ pair_of x ∷ [] → K ++ pairs (drop i ps) ≡ whole → L ++ pairs (drop (i + 1) ps) ≡ whole
-one_put K L ps i x whole lt e f g =
-    ap (λ M. M ++ pairs (drop (i + 1) ps)) f ∙ (append_assoc K (pair_of x ∷ []) (pairs (drop (i + 1) ps))
-    ∙ (ap (λ y. K ++ pair_of y ∷ pairs (drop (i + 1) ps)) e ∙ (ap (λ M. K ++ M) (sym (ap pairs (drop_more ps i x lt))) ∙ g)))
+-- ---- several are put
+
+pub none_put : (K : List PairValue) (ps : List Pair) → K ≡ K ++ pairs (take 0 ps)
+none_put K ps = sym (append-nil K)
+
+pub one_put : (K L M : List PairValue) (ps : List Pair) (i : ℕ) (x : Pair) → i < length ps → x ≡ get_or ps i x
+    → L ≡ K ++ pairs (take i ps) → M ≡ L ++ pair_of x ∷ [] → M ≡ K ++ pairs (take (i + 1) ps)
+one_put K L M ps i x lt e l m =
+    let more = take_more ps i x lt ∙ ap (λ y. take i ps ++ y ∷ []) (sym e) in
+    m ∙ (ap (λ N. N ++ pair_of x ∷ []) l ∙ (append_assoc K (pairs (take i ps)) (pair_of x ∷ [])
+    ∙ ap (λ N. K ++ N) (sym (ap pairs more ∙ one_behind (take i ps) x))))
+
+pub all_put : (K L : List PairValue) (ps : List Pair) (i : ℕ) → length ps ≤ i → L ≡ K ++ pairs (take i ps) → L ≡ K ++ pairs ps
+all_put K L ps i le l = l ∙ ap (λ qs. K ++ pairs qs) (take_all i ps le)

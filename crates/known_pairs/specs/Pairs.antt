@@ -1,4 +1,5 @@
--- Pairs of an expression and the name of a field, and their order: by names, and then by expressions.
+-- Pairs of an expression and the name of a field, and their order: by names, and then by expressions. A rule of this
+-- product; that a field known to be there may be read is Cedar's (reference guide 4.0, "Policy validation", `has`).
 use Rattle.std.specs.Prelude.{ℕ, List, map}
 use Rattle.std.proofs.Common.{ap, ◌∙◌}
 use Rattle.std.specs.declared.cmp.Ordering.{Ordering}

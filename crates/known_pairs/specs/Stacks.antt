@@ -1,4 +1,4 @@
--- Where the pairs of a stack are found.
+-- Where the pairs of a stack are found. A rule of this product.
 use Rattle.std.specs.Prelude.{◌≡◌, ◌≤◌, ℕ, List, Option, Some}
 use Rattle.std.specs.List.{slice_get}
 use Rattle.std.specs.BTreeMap.{BTreeMap, get_by}

@@ -1,5 +1,6 @@
 //! The stack.
-ghost use Rattle.std.specs.Prelude.{◌≡◌, ◌↔◌, [], ◌∷◌, ◌++◌, IsTrue, OnOk, OnErr, Contains, take, length, Some, cond};
+ghost use Rattle.std.specs.Prelude.{◌≡◌, ◌<◌, ◌↔◌, ℕ, [], ◌∷◌, ◌++◌, IsTrue, OnOk, OnErr, Contains, take, length, Some};
+ghost use Rattle.std.specs.Prelude.{cond};
 ghost use Rattle.std.specs.List.{slice_get};
 ghost use Rattle.std.specs.Ordering.{is_eq};
 ghost use Rattle.known_pairs.specs.Pairs.{PairValue, pair_of, pairs, pair_cmp};
@@ -13,8 +14,8 @@ use std::marker::Model;
 
 /// Pairs as a stack: what is put on top is taken away first. Contracts see the list of the pairs, the lowest first.
 ///
-/// A pair is looked for by halves. What is taken away stays behind the top, so that it takes no time, and neither
-/// memory nor a look-up to put the same pairs again.
+/// A pair is found by one look-up in an ordered map. What is taken away stays behind the top, so that it takes no time,
+/// and neither memory nor a look-up to put the same pairs again.
 #[derive(Drop)]
 pub struct Known<'a> {
     /// The pairs, and behind them some that were taken away.
@@ -159,9 +160,11 @@ impl<'a> Known<'a> {
         Ok(())
     }
 
-    /// Puts these pairs on top, in order; at `NoMemory` it is not said how many.
+    /// Puts these pairs on top, in order; at `NoMemory` some of them, the first ones.
     pub fn push_all(&mut self, these: &[Pair<'a>]) -> Result<(), NoMemory>
-        ensures { OnOk result (self.new ≡ self.old ++ pairs these.now) }
+        ensures ok { OnOk result (self.new ≡ self.old ++ pairs these.now) }
+        ensures err { OnErr result
+            ((n : ℕ) × (n < length these.now) × (self.new ≡ self.old ++ pairs (take n these.now))) }
     {
         for pair in these {
             self.push(*pair)?;

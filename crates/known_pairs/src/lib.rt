@@ -1,4 +1,4 @@
-//! Pairs of an expression and the name of a field: a stack in which a pair is looked for by halves.
+//! Pairs of an expression and the name of a field: a stack, and an ordered map that tells where a pair stands in it.
 //!
 //! The order of pairs, by names and then by expressions, is for these look-ups alone, and has no meaning in the policy
 //! language.

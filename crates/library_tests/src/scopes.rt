@@ -1,9 +1,10 @@
 //! The index of policies by their scopes: which policies a request is offered, and changes that are refused.
 use crate::shared::{both, ended, holds, uid_of};
 use ancestor_closure::Hierarchy;
+use expressions::{Expr, Literal};
 use kept_ancestors::Closed;
-use plain::NoMemory;
-use policy_grammar::{ActionScope, EntityScope, Scope};
+use plain::{NoMemory, Shared};
+use policy_grammar::{ActionScope, Effect, EntityScope, Policy, Scope};
 use scope_index::ScopeIndex;
 use std::alloc::Global;
 use std::process::Abort;
@@ -69,16 +70,27 @@ fn request(alloc: Global, principal: &str) -> Result<Request, NoMemory> {
     })
 }
 
+// A policy of this scope, whose condition asks nothing.
+fn policy(alloc: Global, scope: Scope) -> Result<Policy, NoMemory> {
+    let asks_nothing = Expr::Literal(Literal::Boolean(true));
+    let (scope, condition) = both(Shared::new(alloc, scope), Shared::new(alloc, asks_nothing))?;
+    Ok(Policy {
+        effect: Effect::Permit,
+        scope,
+        condition,
+    })
+}
+
 fn add(
     alloc: Global,
     index: &mut ScopeIndex,
-    policy: &str,
+    name: &str,
     how: &str,
     id: &str,
 ) -> Result<(), NoMemory> {
-    let scope = scope(alloc, how, id)?;
-    let done = index.add(policy, &scope);
-    ended(scope, done)
+    let policy = policy(alloc, scope(alloc, how, id)?)?;
+    let done = index.add(name, &policy);
+    ended(policy, done)
 }
 
 fn put_below(
@@ -107,11 +119,11 @@ fn change(alloc: Global, tried: &mut Tried, row: &str) -> Result<(), NoMemory> {
     }
 }
 
-// These are these ids, in this order.
-fn are(found: &[&str], ids: &str) -> bool {
+// These have these ids, in this order.
+fn are(found: &[(&str, &Policy)], ids: &str) -> bool {
     let mut ids = ids.split_whitespace();
-    for id in found {
-        if ids.next() != Some(*id) {
+    for offer in found {
+        if ids.next() != Some(offer.0) {
             return false;
         }
     }

@@ -1,18 +1,10 @@
 //! What tests of several libraries share. A value that waits while another is made, or that is only let go, goes to a
 //! generic function: whatever it is made of is then one step of the proof.
-use plain::NoMemory;
+use plain::{NoMemory, beside};
 use std::alloc::{AllocError, Global};
 use std::cmp::Ordering;
 use std::process::Abort;
 use values::{EntityUid, SharedText, TypeName};
-
-// A value, and one that was made while it waited.
-fn beside<T: Drop, U>(kept: T, made: Result<U, NoMemory>) -> Result<(T, U), NoMemory> {
-    match made {
-        Ok(made) => Ok((kept, made)),
-        Err(refused) => Err(refused),
-    }
-}
 
 /// Two values, where both were made.
 pub(crate) fn both<T: Drop, U: Drop>(

@@ -17,7 +17,7 @@ use Rattle.stamped_store.specs.Store.{Store, updates}
 use Rattle.state_messages.specs.Messages.{state_text, updates_stated}
 use Rattle.decision_texts.specs.declared.refusal.Refusal.{Refusal}
 use Rattle.decision_texts.specs.Refusals.{bad_shape}
-use Rattle.policy_grammar.specs.PolicyText.{OrNoMemory}
+use Rattle.plain.specs.Refused.{OrNoMemory}
 use Rattle.decision_texts.specs.Refusals.{no_memory}
 use Rattle.schema_decisions.specs.EntityArrays.{entities_in, entities_of}
 use Rattle.site.specs.Seen.{Seen, schema_of, store_in, IsSameSite}

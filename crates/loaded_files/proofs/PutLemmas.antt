@@ -5,7 +5,7 @@ use Rattle.schema.specs.Views.{schema_view}
 use Rattle.schema.specs.Schemas.{StatedSchema}
 use Rattle.stamped_store.specs.Store.{Store}
 use Rattle.decision_texts.specs.declared.refusal.Refusal.{Refusal}
-use Rattle.policy_grammar.specs.PolicyText.{OrNoMemory}
+use Rattle.plain.specs.Refused.{OrNoMemory}
 use Rattle.decision_texts.specs.Refusals.{no_memory}
 use Rattle.site.specs.declared.fault.SiteFault.{SiteFault}
 use Rattle.site.specs.declared.fault.SiteFault.TheVariants as fault

@@ -4,7 +4,7 @@ ghost use Rattle.serde_json.specs.Data.{Data};
 ghost use Rattle.serde_json.specs.View.{view};
 ghost use Rattle.json_values.specs.Arrays.{to_come};
 ghost use Rattle.site.specs.Seen.{schema_of, store_in, IsSameSite};
-ghost use Rattle.policy_grammar.specs.PolicyText.{OrNoMemory};
+ghost use Rattle.plain.specs.Refused.{OrNoMemory};
 ghost use Rattle.decision_texts.specs.Refusals.{no_memory};
 ghost use Rattle.loaded_files.specs.Puts.{entity_put, Accepts, AcceptsAll, RefusesAt, RefusesFirst};
 ghost use Rattle.loaded_files.specs.Loads.{LoadsEntities, RefusesEntities};

@@ -1,7 +1,7 @@
 //! The state of a site that files are put into.
 ghost use Rattle.std.specs.Prelude.{◌≡◌, option_map, IfOk, IfErr, OnOk};
 ghost use Rattle.site.specs.Seen.{schema_of, store_in, IsSameSite};
-ghost use Rattle.policy_grammar.specs.PolicyText.{OrNoMemory};
+ghost use Rattle.plain.specs.Refused.{OrNoMemory};
 ghost use Rattle.decision_texts.specs.Refusals.{no_memory};
 ghost use Rattle.loaded_files.specs.Loads.{IsLoadedState, IsRefused, LoadsIfNamed, RefusesIfNamed};
 ghost use Rattle.loaded_files.specs.Loads.{LoadsPolicies, RefusesPolicies, LoadsEntities, RefusesEntities};

@@ -2,7 +2,7 @@
 ghost use Rattle.std.specs.Prelude.{◌≡◌, length, map, string_bytes, IfOk, IfErr, OnOk};
 ghost use Rattle.policy_files.specs.Cuts.{AreTextsOf};
 ghost use Rattle.site.specs.Seen.{schema_of, store_in, IsSameSite};
-ghost use Rattle.policy_grammar.specs.PolicyText.{OrNoMemory};
+ghost use Rattle.plain.specs.Refused.{OrNoMemory};
 ghost use Rattle.decision_texts.specs.Refusals.{no_memory};
 ghost use Rattle.loaded_files.specs.Puts.{policy_put, Accepts, AcceptsAll, RefusesAt, RefusesFirst};
 ghost use Rattle.loaded_files.specs.Loads.{policy_puts, LoadsPolicies, RefusesPolicies};

@@ -11,7 +11,7 @@ use Rattle.sync_messages.specs.declared.fault.MessageFault.{MessageFault}
 use Rattle.sync_messages.specs.declared.fault.MessageFault.TheVariants as fault
 use Rattle.sync_messages.specs.Summaries.{IsStamped}
 use Rattle.state_messages.specs.Messages.{state_text, updates_stated}
-use Rattle.policy_grammar.specs.PolicyText.{OrNoMemory}
+use Rattle.plain.specs.Refused.{OrNoMemory}
 use Rattle.state_messages.specs.declared.update.Update.{Update as SentUpdate}
 use Rattle.state_messages.specs.Updates.{IsMessage, IsMessageFault, IsValid, AreInRange, AreValid, stamped, plain_updates}
 use Rattle.stored_texts.specs.declared.texts.SchemaTexts.{SchemaTexts}

@@ -66,7 +66,8 @@ fn append(spans: &mut Vec<Span>, next: Span) -> Result<(), NoMemory>
     Ok(())
 }
 
-/// Returns the same numbers in few spans, ascending.
+/// Returns spans of the same numbers, joined where they touch, so that few are left. Only the numbers are promised,
+/// neither how many spans there are nor their order.
 ///
 /// Refused only for want of memory.
 pub fn joined(alloc: Global, spans: Vec<Span>) -> Result<Items<Span>, NoMemory>

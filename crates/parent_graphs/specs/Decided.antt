@@ -18,7 +18,8 @@ abbrev pub is_same : EntityUid → EntityUid → Bool
 is_same a b = is_eq (uid_cmp a b)
 
 -- whether a path leads from b to a whose edges all begin at one of these entities: where they are u and us, it needs no
--- edge of u, or it comes to u, takes an edge of u, and goes on to a
+-- edge of u, or it comes to u, takes an edge of u, and goes on to a. This is Warshall's method: S. Warshall, "A theorem
+-- on Boolean matrices", Journal of the ACM 9 (1962).
 unfoldable pub reaches : Parents → List EntityUid → EntityUid → EntityUid → Bool
 reaches parents [] a b = false
 reaches parents (u ∷ us) a b =

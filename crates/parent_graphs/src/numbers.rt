@@ -91,7 +91,8 @@ fn found_by_number<'a, G: Graph>(
     Ok(found)
 }
 
-/// All entities on cycles, ascending. Each entity is numbered once, and each edge is looked at twice, as a number.
+/// Returns all entities on cycles, ascending; `NoMemory` where an allocation was refused. Each entity is numbered once,
+/// and each edge is looked at twice, as a number.
 pub fn on_cycles<'a, G: Graph>(alloc: Global, graph: &'a G) -> Result<Vec<&'a EntityUid>, NoMemory>
     ensures all { IfOk result (λ found. AreOnCycles (G.parents graph.now) (names found.items)) }
     ensures ascending { IfOk result (λ found. IsAscending (names found.items)) }

@@ -55,6 +55,7 @@ fn above<'a, G: ParentsOf>(
 }
 
 /// Returns whether `a` lies above `b`. The search ends at the first path found; for a parent of `b` it takes no memory.
+/// `NoMemory` where an allocation was refused.
 pub fn is_above<'a, G: ParentsOf>(
     alloc: Global,
     graph: &'a G,
@@ -80,7 +81,7 @@ pub fn is_above<'a, G: ParentsOf>(
     Ok(seen.contains(&a))
 }
 
-/// All that lies above an entity, stored or not, ascending.
+/// Returns all that lies above an entity, stored or not, ascending; `NoMemory` where an allocation was refused.
 pub fn ancestors_of<'a, G: ParentsOf>(
     alloc: Global,
     graph: &'a G,
@@ -92,7 +93,8 @@ pub fn ancestors_of<'a, G: ParentsOf>(
     listed(alloc, above(alloc, graph, uid)?)
 }
 
-/// Returns whether the entity would be above itself if it had these parents.
+/// Returns whether the entity would be above itself if it had these parents; `NoMemory` where an allocation was
+/// refused.
 pub fn would_cycle<G: ParentsOf>(
     alloc: Global,
     graph: &G,

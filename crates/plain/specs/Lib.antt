@@ -1,2 +1,3 @@
 pub mod formers
+pub mod Refused
 pub mod Words

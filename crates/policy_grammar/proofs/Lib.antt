@@ -1,6 +1,7 @@
 pub mod Lists
 pub mod Doubtful
 pub mod Naming
+pub mod Plainly
 pub mod Joining
 pub mod Sizes
 pub mod Telling

@@ -11,7 +11,8 @@ use Rattle.text_trees.specs.declared.fault.ReadFault.{ReadFault}
 use Rattle.text_trees.specs.declared.fault.ReadFault.TheVariants as fault
 use Rattle.policy_grammar.specs.CoreOf.{IsNameOf, AreNamesOf}
 use Rattle.policy_grammar.specs.Limits.{most_policy_bytes, most_file_bytes}
-use Rattle.policy_grammar.specs.PolicyText.{Derives, HasNoPolicy, HaveNoPolicies, IsPolicyOf, IsPolicyText, IsPolicyRefused, IsFileRefused, OrNoMemory}
+use Rattle.plain.specs.Refused.{OrNoMemory}
+use Rattle.policy_grammar.specs.PolicyText.{Derives, HasNoPolicy, HaveNoPolicies, IsPolicyOf, IsPolicyText, IsPolicyRefused, IsFileRefused}
 
 pub refuted : (P : Type 0) (b : Bool) → (IsTrue b ↔ P) → b ≡ false → P → ⊥
 refuted P b iff no' p = let yes' : b ≡ true = iff.1 p in absurd (cc)

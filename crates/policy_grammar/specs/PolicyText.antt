@@ -9,7 +9,7 @@ use Rattle.policy_syntax.specs.declared.tree.PolicyTree.{PolicyTree}
 use Rattle.token_readers.specs.Lang.{at_any}
 use Rattle.policy_syntax.specs.passed_on.expression_syntax.{nesting_limit}
 use Rattle.policy_syntax.specs.Grammar as grammar
-pub use Rattle.text_trees.specs.Texts.{Derives, byte_of, StopsAt, IsUnread, OrNoMemory}
+pub use Rattle.text_trees.specs.Texts.{Derives, byte_of, StopsAt, IsUnread}
 use Rattle.desugaring.specs.declared.fault.DesugarFault.{DesugarFault}
 use Rattle.desugaring.specs.Refused.{least}
 use Rattle.desugaring.specs.Repeats.{repeat_faults}

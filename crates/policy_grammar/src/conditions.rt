@@ -9,10 +9,9 @@ ghost use Rattle.policy_grammar.specs.Conditions.{asked_by, condition_of, condit
 ghost use Rattle.desugaring.specs.BuiltFrom.{IsBuiltFrom};
 ghost use Rattle.policy_grammar.specs.inner.Parts.{AreSound, judged_by};
 
-use crate::held::beside;
 use desugaring::{Measure, build_expr, measure_expr, measures_add_up};
 use expressions::{Expr, Literal, Unary};
-use plain::NoMemory;
+use plain::{NoMemory, beside};
 use policy_syntax::{Condition, ConditionWord};
 use std::alloc::Global;
 

@@ -10,13 +10,12 @@ ghost use Rattle.policy_grammar.specs.CoreOf.{IsCoreOf};
 ghost use Rattle.desugaring.specs.BuiltFrom.{IsBuiltFrom};
 
 use crate::conditions::build_conditions;
-use crate::held::beside;
 use crate::known_names::{
     action_in, id_like, id_of, principal_in, resource_in, type_in, type_name_like, type_of, uid_in,
 };
 use crate::policy::{ActionScope, Effect, EntityScope, Policy, Scope};
 use desugaring::strings_are_read;
-use plain::{Items, NoMemory};
+use plain::{Items, NoMemory, Shared, beside};
 use policy_syntax::{ActionTree, PartTree, PolicyTree, UidTree};
 use policy_tokens::{TokenKind, decode_string};
 use std::alloc::Global;
@@ -170,11 +169,12 @@ pub(crate) fn core_like(
     ensures { IfOk result (IsCoreOf text.now tree.now) }
 {
     let effect = effect_of(tree.effect.kind);
-    let scope = scope_of(alloc, text, tree, known)?;
+    let scope = Shared::new(alloc, scope_of(alloc, text, tree, known)?)?;
     let (scope, condition) = beside(
         scope,
         build_conditions(alloc, text, tree.conditions.as_slice()),
     )?;
+    let (scope, condition) = beside(scope, Shared::new(alloc, condition))?;
     Ok(Policy {
         effect,
         scope,

@@ -8,6 +8,7 @@ mod known_names;
 mod laws;
 mod limits;
 mod names;
+mod plain_uids;
 mod policy;
 mod repeats;
 mod texts;

@@ -95,7 +95,7 @@ pub(crate) fn names_of(
 /// Returns what the last of these policies asks of a request.
 fn last_scope(named: &[(String, Policy)]) -> Option<&Scope> {
     match named {
-        [.., (_, policy)] => Some(&policy.scope),
+        [.., (_, policy)] => Some(policy.scope.get()),
         [] => None,
     }
 }

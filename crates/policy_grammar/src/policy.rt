@@ -1,7 +1,8 @@
 //! Policies, as the layers above see them.
+ghost use Rattle.std.specs.Prelude.{◌≡◌, IfOk};
 
 use expressions::Expr;
-use plain::Items;
+use plain::{Items, NoMemory, Shared, beside};
 use values::{EntityUid, TypeName};
 
 /// What a policy does for a request that it is satisfied by.
@@ -47,11 +48,27 @@ pub struct Scope {
     pub resource: EntityScope,
 }
 
-/// A policy: what it does, and what it asks of a request.
+/// A policy: what it does, and what it asks of a request. Its parts are shared, so that an index may keep it too.
 #[derive(Drop)]
 pub struct Policy {
     pub effect: Effect,
-    pub scope: Scope,
+    pub scope: Shared<Scope>,
     /// What its conditions ask, joined to the right: `unless { e }` asks `!e`, and no condition asks `true`.
-    pub condition: Expr,
+    pub condition: Shared<Expr>,
+}
+
+impl Policy {
+    /// Returns the policy once more: nothing is copied, and no memory is taken. `NoMemory` is for a count of owners
+    /// that no memory can reach.
+    pub fn share(&self) -> Result<Policy, NoMemory>
+        ensures { IfOk result (λ policy. policy ≡ self.now) }
+    {
+        let scope = self.scope.share()?;
+        let (scope, condition) = beside(scope, self.condition.share())?;
+        Ok(Policy {
+            effect: self.effect,
+            scope,
+            condition,
+        })
+    }
 }

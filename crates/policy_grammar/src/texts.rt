@@ -7,13 +7,15 @@ ghost use Rattle.policy_grammar.specs.CoreOf.{AreNamesOf};
 ghost use Rattle.policy_grammar.specs.PolicyText.{IsUidText, IsPolicyOf, HasNoPolicy, ArePoliciesOf};
 ghost use Rattle.policy_grammar.specs.PolicyText.{HaveNoPolicies};
 ghost use Rattle.policy_grammar.specs.PolicyText.{IsPolicyText, IsPolicyFile, IsUidRefused};
-ghost use Rattle.policy_grammar.specs.PolicyText.{IsPolicyRefused, IsFileRefused, OrNoMemory};
+ghost use Rattle.plain.specs.Refused.{OrNoMemory};
+ghost use Rattle.policy_grammar.specs.PolicyText.{IsPolicyRefused, IsFileRefused};
 ghost use Rattle.desugaring.specs.BuiltFrom.{IsBuiltFrom};
 
 use crate::core_of::{core_of, uid_of};
 use crate::held::after;
 use crate::limits::are_ids;
 use crate::names::{named_of, names_of};
+use crate::plain_uids::plain_uid;
 use crate::policy::Policy;
 use crate::repeats::repeated_name;
 use crate::verdict::{judge_policies, judge_policy};
@@ -24,6 +26,15 @@ use std::alloc::Global;
 use text_trees::{ReadFault, policy_tree, policy_trees, uid_tree};
 use values::EntityUid;
 
+/// Returns the uid that a text is, by its tokens and their tree.
+fn uid_by_tree(alloc: Global, text: &str) -> Result<EntityUid, ReadFault>
+    ensures read { IfOk result (IsUidText text.now) }
+    ensures refused { IfErr result (OrNoMemory ReadFault.NoMemory (IsUidRefused text.now)) }
+{
+    let tree = uid_tree(alloc, text)?;
+    Ok(uid_of(alloc, text, &tree)?)
+}
+
 /// Returns the uid that a text is, as `User::"alice"`; blanks and comments may stand between its tokens.
 ///
 /// A text has at most 262,144 bytes. Refused, as every text here: `TooLong` first; then `BadToken` over the whole
@@ -32,8 +43,10 @@ pub fn parse_uid(alloc: Global, text: &str) -> Result<EntityUid, ReadFault>
     ensures read { IfOk result (IsUidText text.now) }
     ensures refused { IfErr result (OrNoMemory ReadFault.NoMemory (IsUidRefused text.now)) }
 {
-    let tree = uid_tree(alloc, text)?;
-    Ok(uid_of(alloc, text, &tree)?)
+    match plain_uid(alloc, text)? {
+        Some(uid) => Ok(uid),
+        None => uid_by_tree(alloc, text),
+    }
 }
 
 /// Returns the policy that a tree stands for, within the limits.

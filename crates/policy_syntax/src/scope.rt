@@ -4,8 +4,7 @@ ghost use Rattle.token_readers.specs.ParsesTo.{ParsesTo};
 ghost use Rattle.policy_syntax.specs.inner.Parsing as spec;
 
 use crate::tree::{ActionTree, PartTree, ScopeTree};
-use expression_syntax::beside;
-use plain::Items;
+use plain::{Items, beside};
 use policy_tokens::TokenKind;
 use std::alloc::Global;
 use token_readers::{Cursor, Halt, NameSet, UidTree, path, read_more, uid};

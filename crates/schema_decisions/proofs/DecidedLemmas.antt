@@ -11,7 +11,7 @@ use Rattle.entity_worlds.specs.Keeping.{Entries}
 use Rattle.validator.specs.Passing.{Passes}
 use Rattle.decision_texts.specs.declared.refusal.Refusal.{Refusal}
 use Rattle.decision_texts.specs.Decisions.{ArePoliciesOf, IsInOrder}
-use Rattle.policy_grammar.specs.PolicyText.{OrNoMemory}
+use Rattle.plain.specs.Refused.{OrNoMemory}
 use Rattle.decision_texts.specs.Refusals.{no_memory}
 use Rattle.schema_decisions.specs.Policies.{FirstUnpassed, ArePassing, ArePassingRefused, unpassed}
 use Rattle.schema_decisions.specs.EntityArrays.{entities_of}

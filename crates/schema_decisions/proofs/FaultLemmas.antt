@@ -2,7 +2,7 @@
 use Rattle.std.proofs.Common.{ℕ, List, None, ap, refl}
 use Rattle.std.specs.Prelude.{◌≢◌}
 use Rattle.policy_grammar.specs.declared.policy.Policy.{Policy}
-use Rattle.policy_grammar.specs.PolicyText.{OrNoMemory}
+use Rattle.plain.specs.Refused.{OrNoMemory}
 use Rattle.decision_texts.specs.Refusals.{no_memory}
 use Rattle.schema.specs.Schemas.{StatedSchema}
 use Rattle.entities.specs.declared.fault.EntityFault.{EntityFault}

@@ -7,7 +7,7 @@ ghost use Rattle.schema.specs.Views.{schema_view};
 ghost use Rattle.entity_worlds.specs.declared.entity.Entity.{Entity as Stated};
 ghost use Rattle.entities.specs.Entities.{entity_stated_in};
 ghost use Rattle.decision_texts.specs.Refusals.{no_memory, bad_shape};
-ghost use Rattle.policy_grammar.specs.PolicyText.{OrNoMemory};
+ghost use Rattle.plain.specs.Refused.{OrNoMemory};
 ghost use Rattle.schema_decisions.specs.EntityArrays.{placed, entity_at, entities_of};
 ghost use Rattle.schema_decisions.specs.inner.Stores.{Holds, KeepsNext, ReadsStore};
 

@@ -2,7 +2,7 @@
 ghost use Rattle.std.specs.Prelude.{◌≡◌, IfOk, IfErr, All, MatchResult, Ok, Err, map, string_bytes};
 ghost use Rattle.schema.specs.Views.{schema_view};
 ghost use Rattle.validator.specs.Passing.{Passes};
-ghost use Rattle.policy_grammar.specs.PolicyText.{OrNoMemory};
+ghost use Rattle.plain.specs.Refused.{OrNoMemory};
 ghost use Rattle.decision_texts.specs.Refusals.{no_memory};
 ghost use Rattle.schema_decisions.specs.Policies.{ArePassing, IsUnpassed, FirstUnpassed, ArePassingRefused};
 

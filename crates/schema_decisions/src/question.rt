@@ -2,7 +2,7 @@
 ghost use Rattle.std.specs.Prelude.{◌≢◌, IfOk, IfErr};
 ghost use Rattle.schema.specs.Views.{schema_view};
 ghost use Rattle.entities.specs.declared.fault.EntityFault.TheVariants as EntityFault;
-ghost use Rattle.policy_grammar.specs.PolicyText.{OrNoMemory};
+ghost use Rattle.plain.specs.Refused.{OrNoMemory};
 ghost use Rattle.decision_texts.specs.Refusals.{no_memory};
 ghost use Rattle.schema_decisions.specs.Requests.{IsRequestText, IsRequestFault, IsRequestRefused};
 

@@ -4,18 +4,6 @@ ghost use Rattle.std.specs.Prelude.{◌≡◌, ◌≢◌, ◌++◌, ◌∷◌, [
 use plain::Items;
 use schema_types::SchemaFault;
 
-/// Returns what was read, with a value that was kept while it was.
-pub(crate) fn beside<T: Drop, U, E>(kept: T, read: Result<U, E>) -> Result<(T, U), E>
-    ensures read { IfOk result (λ both. read ≡ Ok both.1) }
-    ensures kept { IfOk result (λ both. both.0 ≡ kept) }
-    ensures refused { IfErr result (λ fault. read ≡ Err fault) }
-{
-    match read {
-        Ok(more) => Ok((kept, more)),
-        Err(fault) => Err(fault),
-    }
-}
-
 /// Returns the items, and behind them the one that was read.
 pub(crate) fn followed_by<T: Drop>(
     items: Items<T>,

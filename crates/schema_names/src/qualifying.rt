@@ -15,11 +15,11 @@ ghost use Rattle.schema_names.specs.Qualifying.{use_named, qualified_action, qua
 ghost use Rattle.schema_names.specs.Qualifying.{qualified_actions, qualified_namespace, qualified_namespaces};
 ghost use Rattle.schema_types.specs.declared.fault.SchemaFault.TheVariants as SchemaFault;
 
-use crate::held::{beside, followed_by};
+use crate::held::followed_by;
 use named_types::{
     Names, action_type, declared_action, find, find_action_of_type, full_name, resolve,
 };
-use plain::{Items, NoMemory, Text};
+use plain::{Items, NoMemory, Text, beside};
 use schema_file::{
     StatedAction, StatedCommon, StatedEntityType, StatedNamespace, StatedParent, StatedUse,
 };

@@ -1,3 +1,4 @@
 mod Filing
 mod Meeting
 mod Offering
+mod Standing

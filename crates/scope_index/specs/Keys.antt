@@ -1,13 +1,12 @@
 -- By what a policy is found among many: by an entity that its scope names for the principal, or else for the resource.
 -- A rule of this product: the principal comes first; a part names an entity by `==` or `in`; `is` alone names none.
 -- Source: Cedar reference guide 4.0, "Policy scope", for what a scope asks.
-use Rattle.std.specs.Prelude.{◌≡◌, ℕ, List, Option, Some, None, string_bytes}
+use Rattle.std.specs.Prelude.{◌≡◌, ℕ, List, Option, Some, None, string_bytes, map}
 use Rattle.std.specs.BTreeMap.{is_at}
 use Rattle.std.specs.Map.{lookup}
 use Rattle.std.specs.Ordering.{nat_cmp}
 use Rattle.std.specs.Cmp.Lexicographic.{slice_cmp}
 use Rattle.std.specs.Borrow.{Bor}
-use Rattle.std.specs.Prelude.{map}
 use Rattle.std.specs.declared.alloc.Global.{Global}
 use Rattle.std.specs.declared.string.String.{String}
 use Rattle.values.specs.declared.entity_uid.EntityUid.{EntityUid}
@@ -16,8 +15,13 @@ use Rattle.ancestor_closure.specs.Hierarchy.{Parents, IsIn}
 use Rattle.policy_grammar.specs.declared.policy.EntityScope.{EntityScope}
 use Rattle.policy_grammar.specs.declared.policy.EntityScope.TheVariants.{Any, Equal, In, Is, IsIn as IsOfTypeIn}
 use Rattle.policy_grammar.specs.declared.policy.Scope.{Scope}
-use Rattle.scope_index.specs.declared.index_key.IndexKey.{IndexKey}
-use Rattle.scope_index.specs.declared.index_key.IndexKey.TheVariants.{Always, Principal, Resource}
+use Rattle.policy_grammar.specs.declared.policy.Policy.{Policy}
+
+-- by every request; by one whose principal, or whose resource, is this entity or below it
+pub data IndexKey : Type 0 where
+  Always : IndexKey
+  Principal : EntityUid → IndexKey
+  Resource : EntityUid → IndexKey
 
 -- the entity that a part of a scope names by `==` or `in`
 abbrev pub entity_named : EntityScope → Option EntityUid
@@ -42,20 +46,26 @@ IsMet parents q Always = Unit {0}
 IsMet parents q (Principal e) = IsIn parents q.principal e
 IsMet parents q (Resource e) = IsIn parents q.resource e
 
--- the policies that are kept: of each id the key, in the order of the ids
-abbrev pub Keys : Type 0
-Keys = List (String Global × IndexKey)
+-- the policies that are kept, in the order of their ids
+abbrev pub Kept : Type 0
+Kept = List (String Global × Policy)
 
--- the key of the policy whose id has these bytes
-abbrev pub key_at : Keys → List ℕ → Option IndexKey
-key_at keys id = lookup (is_at (λ k. slice_cmp nat_cmp id (string_bytes k))) keys
+-- the policy whose id has these bytes
+abbrev pub kept_at : Kept → List ℕ → Option Policy
+kept_at kept id = lookup (is_at (λ k. slice_cmp nat_cmp id (string_bytes k))) kept
 
--- what references to texts refer to
-abbrev pub texts : List (Bor (List ℕ)) → List (List ℕ)
-texts xs = map (λ x. x.now) xs
+-- a policy with its id
+abbrev pub Offer : Type 0
+Offer = List ℕ × Policy
 
--- a policy of this id is kept, and the request finds it
-pub record IsOffered (keys : Keys) (parents : Parents) (q : Request) (id : List ℕ) : Type 0 where
-  pub key : IndexKey
-  pub kept : key_at keys id ≡ Some key
-  pub met : IsMet parents q key
+-- what references to ids and policies refer to
+abbrev pub lent : List (Bor (List ℕ) × Bor Policy) → List Offer
+lent ps = map (λ p. (p.0.now, p.1.now)) ps
+
+abbrev pub ids : List Offer → List (List ℕ)
+ids os = map (λ o. o.0) os
+
+-- this policy is kept under this id, and the request finds it
+pub record IsOffered (kept : Kept) (parents : Parents) (q : Request) (o : Offer) : Type 0 where
+  pub is_kept : kept_at kept o.0 ≡ Some o.1
+  pub met : IsMet parents q (index_key o.1.scope)

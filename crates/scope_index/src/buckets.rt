@@ -1,58 +1,75 @@
-//! The ids of policies, by the key under which each is found.
-ghost use Rattle.std.specs.Prelude.{◌≡◌, true, false, IsTrue, OnOk, OnErr, ℕ, List, string_bytes};
-ghost use Rattle.scope_index.specs.Buckets.{is_under, Turns, TurnsAt, IsSameUnder, AreSame, AreEmpty};
+//! Policies by id, under the key by which each is found.
+ghost use Rattle.std.specs.Prelude.{◌≡◌, IsTrue, IfOk, OnOk, OnErr, ℕ, List, Some, None, cond, string_bytes};
+ghost use Rattle.std.specs.Str.{bytes_eq};
+ghost use Rattle.scope_index.specs.Keys.{index_key, kept_at};
+ghost use Rattle.scope_index.specs.Buckets.{held_under, Turns, TurnsAt, IsSameUnder, AreSame, AreEmpty};
 
-use crate::index_key::IndexKey;
-use plain::NoMemory;
+use crate::found_by::{FoundBy, key_of};
+use plain::{NoMemory, beside};
+use policy_grammar::{Policy, Scope};
 use std::alloc::Global;
-use std::collections::{BTreeMap, BTreeSet};
+use std::collections::BTreeMap;
 use values::EntityUid;
 
-/// The ids of policies, by the key under which each is found.
+/// Policies by id, under the key by which each is found.
 #[derive(Drop)]
 pub(crate) struct Buckets {
-    pub(crate) always: BTreeSet<String>,
-    pub(crate) principals: BTreeMap<EntityUid, BTreeSet<String>>,
-    pub(crate) resources: BTreeMap<EntityUid, BTreeSet<String>>,
+    pub(crate) always: BTreeMap<String, Policy>,
+    pub(crate) principals: BTreeMap<EntityUid, BTreeMap<String, Policy>>,
+    pub(crate) resources: BTreeMap<EntityUid, BTreeMap<String, Policy>>,
 }
 
-// Puts an id among those under an entity.
+// A bucket of one policy.
+fn alone(alloc: Global, id: String, policy: Policy) -> Result<BTreeMap<String, Policy>, NoMemory>
+    ensures { IfOk result (λ bucket. (q : List ℕ) → kept_at bucket.entries q
+        ≡ cond (bytes_eq (string_bytes id) q) (Some policy) None) }
+{
+    let mut bucket = BTreeMap::new(alloc);
+    bucket.insert(id, policy)?;
+    Ok(bucket)
+}
+
+// Puts a policy among those under an entity.
 fn put_under(
     alloc: Global,
-    under: &mut BTreeMap<EntityUid, BTreeSet<String>>,
-    uid: EntityUid,
+    under: &mut BTreeMap<EntityUid, BTreeMap<String, Policy>>,
+    uid: &EntityUid,
     id: String,
+    policy: Policy,
 ) -> Result<(), NoMemory>
-    ensures ok { OnOk result (Turns uid (string_bytes id) true under.old under.new) }
+    ensures ok { OnOk result (Turns uid.now (string_bytes id) (Some policy) under.old under.new) }
     ensures err { OnErr result (IsSameUnder under.old under.new) }
 {
-    if let Some(ids) = under.get_mut(&uid) {
-        ids.insert(id)?;
+    if let Some(bucket) = under.get_mut(uid) {
+        bucket.insert(id, policy)?;
         return Ok(());
     }
-    let mut ids = BTreeSet::new(alloc);
-    ids.insert(id)?;
-    under.insert(uid, ids)?;
+    let (bucket, uid) = beside(alone(alloc, id, policy)?, uid.copy())?;
+    under.insert(uid, bucket)?;
     Ok(())
 }
 
-// Takes an id away from those under an entity, and answers whether none is left there.
-fn strike(under: &mut BTreeMap<EntityUid, BTreeSet<String>>, uid: &EntityUid, id: &str) -> bool
-    ensures turns { Turns uid.now id.now false under.old under.new }
-    ensures none { IsTrue result → (q : List ℕ) → is_under under.new uid.now q ≡ false }
+// Takes the policy of an id away from those under an entity, and answers whether none is left there.
+fn strike(
+    under: &mut BTreeMap<EntityUid, BTreeMap<String, Policy>>,
+    uid: &EntityUid,
+    id: &str,
+) -> bool
+    ensures turns { Turns uid.now id.now None under.old under.new }
+    ensures none { IsTrue result → (q : List ℕ) → held_under under.new uid.now q ≡ None }
 {
     match under.get_mut(uid) {
-        Some(ids) => {
-            ids.remove(id);
-            ids.is_empty()
+        Some(bucket) => {
+            bucket.remove(id);
+            bucket.is_empty()
         }
         None => false,
     }
 }
 
-// Takes an id away from those under an entity; the entity goes with the last of them.
-fn take_under(under: &mut BTreeMap<EntityUid, BTreeSet<String>>, uid: &EntityUid, id: &str)
-    ensures { Turns uid.now id.now false under.old under.new }
+// Takes the policy of an id away from those under an entity; the entity goes with the last of them.
+fn take_under(under: &mut BTreeMap<EntityUid, BTreeMap<String, Policy>>, uid: &EntityUid, id: &str)
+    ensures { Turns uid.now id.now None under.old under.new }
 {
     if strike(under, uid, id) {
         under.remove(uid);
@@ -60,47 +77,48 @@ fn take_under(under: &mut BTreeMap<EntityUid, BTreeSet<String>>, uid: &EntityUid
 }
 
 impl Buckets {
-    /// No id.
+    /// No policy.
     pub(crate) fn new(alloc: Global) -> Self
         ensures { AreEmpty result }
     {
         Buckets {
-            always: BTreeSet::new(alloc),
+            always: BTreeMap::new(alloc),
             principals: BTreeMap::new(alloc),
             resources: BTreeMap::new(alloc),
         }
     }
 }
 
-/// Puts an id under a key. Where memory is refused, nothing changes.
+/// Puts a policy under the key of a scope. Where memory is refused, nothing changes.
 pub(crate) fn put(
     alloc: Global,
     buckets: &mut Buckets,
-    key: IndexKey,
+    scope: &Scope,
     id: String,
+    policy: Policy,
 ) -> Result<(), NoMemory>
-    ensures ok { OnOk result (TurnsAt key (string_bytes id) true buckets.old buckets.new) }
+    ensures ok { OnOk result (TurnsAt (index_key scope.now) (string_bytes id) (Some policy) buckets.old buckets.new) }
     ensures err { OnErr result (AreSame buckets.old buckets.new) }
 {
-    match key {
-        IndexKey::Always => {
-            buckets.always.insert(id)?;
+    match key_of(scope) {
+        FoundBy::Always => {
+            buckets.always.insert(id, policy)?;
             Ok(())
         }
-        IndexKey::Principal(uid) => put_under(alloc, &mut buckets.principals, uid, id),
-        IndexKey::Resource(uid) => put_under(alloc, &mut buckets.resources, uid, id),
+        FoundBy::Principal(uid) => put_under(alloc, &mut buckets.principals, uid, id, policy),
+        FoundBy::Resource(uid) => put_under(alloc, &mut buckets.resources, uid, id, policy),
     }
 }
 
-/// Takes an id away from under a key. Takes no memory.
-pub(crate) fn take(buckets: &mut Buckets, key: &IndexKey, id: &str)
-    ensures { TurnsAt key.now id.now false buckets.old buckets.new }
+/// Takes the policy of an id away from under the key of a scope. Takes no memory.
+pub(crate) fn take(buckets: &mut Buckets, scope: &Scope, id: &str)
+    ensures { TurnsAt (index_key scope.now) id.now None buckets.old buckets.new }
 {
-    match key {
-        IndexKey::Always => {
+    match key_of(scope) {
+        FoundBy::Always => {
             buckets.always.remove(id);
         }
-        IndexKey::Principal(uid) => take_under(&mut buckets.principals, uid, id),
-        IndexKey::Resource(uid) => take_under(&mut buckets.resources, uid, id),
+        FoundBy::Principal(uid) => take_under(&mut buckets.principals, uid, id),
+        FoundBy::Resource(uid) => take_under(&mut buckets.resources, uid, id),
     }
 }

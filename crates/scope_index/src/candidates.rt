@@ -1,77 +1,82 @@
 //! The policies that a request may meet.
-ghost use Rattle.std.specs.Prelude.{◌≡◌, ◌↔◌, ◌⊎◌, ℕ, List, Some, IsTrue, Contains, IfOk, OnOk, map, string_bytes};
-ghost use Rattle.std.specs.BTreeSet.{contains_text};
+ghost use Rattle.std.specs.Prelude.{◌≡◌, ◌↔◌, ◌⊎◌, Some, Contains, IfOk, OnOk};
 ghost use Rattle.std.specs.List.Sorted.{IsStrictlySortedBy};
 ghost use Rattle.values.specs.declared.entity_uid.EntityUid.{EntityUid as PlainUid};
 ghost use Rattle.values.specs.Names.{text_cmp};
 ghost use Rattle.ancestor_closure.specs.Hierarchy.{IsIn, names};
-ghost use Rattle.scope_index.specs.declared.index_key.IndexKey.{IndexKey};
-ghost use Rattle.scope_index.specs.Keys.{IsMet, texts};
-ghost use Rattle.scope_index.specs.Buckets.{is_under, in_bucket};
+ghost use Rattle.scope_index.specs.Keys.{IndexKey, IsMet, Offer, ids, kept_at, lent};
+ghost use Rattle.scope_index.specs.Buckets.{AreOneAtEach, HaveOnePolicy, held_under, in_bucket};
 
 use crate::buckets::Buckets;
 use ancestor_closure::Ancestry;
 use plain::NoMemory;
+use policy_grammar::Policy;
 use std::alloc::Global;
-use std::collections::{BTreeMap, BTreeSet};
+use std::collections::BTreeMap;
 use values::{EntityUid, Request};
 
-// Offers these ids.
-fn offer<'a>(ids: &'a BTreeSet<String>, found: &mut Vec<&'a str>) -> Result<(), NoMemory>
-    ensures { OnOk result ((q : List ℕ) → Contains (texts found.new.items) q
-        ↔ Contains (texts found.old.items) q ⊎ IsTrue (contains_text ids.now q)) }
+// Offers the policies of a bucket.
+fn offer<'a>(
+    bucket: &'a BTreeMap<String, Policy>,
+    found: &mut Vec<(&'a str, &'a Policy)>,
+) -> Result<(), NoMemory>
+    ensures { OnOk result ((o : Offer) → Contains (lent found.new.items) o
+        ↔ Contains (lent found.old.items) o ⊎ (kept_at bucket.now.entries o.0 ≡ Some o.1)) }
 {
-    found.reserve(ids.len())?;
-    for id in ids {
-        found.push(id.as_str())?;
+    found.reserve(bucket.len())?;
+    for (id, policy) in bucket {
+        found.push((id.as_str(), policy))?;
     }
     Ok(())
 }
 
-// Offers the ids under an entity.
+// Offers the policies under an entity.
 fn offer_under<'a>(
-    under: &'a BTreeMap<EntityUid, BTreeSet<String>>,
+    under: &'a BTreeMap<EntityUid, BTreeMap<String, Policy>>,
     uid: &EntityUid,
-    found: &mut Vec<&'a str>,
+    found: &mut Vec<(&'a str, &'a Policy)>,
 ) -> Result<(), NoMemory>
-    ensures { OnOk result ((q : List ℕ) → Contains (texts found.new.items) q
-        ↔ Contains (texts found.old.items) q ⊎ IsTrue (is_under under.now uid.now q)) }
+    ensures { OnOk result ((o : Offer) → Contains (lent found.new.items) o
+        ↔ Contains (lent found.old.items) o ⊎ (held_under under.now uid.now o.0 ≡ Some o.1)) }
 {
     match under.get(uid) {
-        Some(ids) => offer(ids, found),
+        Some(bucket) => offer(bucket, found),
         None => Ok(()),
     }
 }
 
-// Offers the ids that every request finds.
-fn offer_unbound<'a>(buckets: &'a Buckets, found: &mut Vec<&'a str>) -> Result<(), NoMemory>
-    ensures { OnOk result ((q : List ℕ) → Contains (texts found.new.items) q
-        ↔ Contains (texts found.old.items) q ⊎ IsTrue (contains_text buckets.now.always q)) }
+// Offers the policies that every request finds.
+fn offer_unbound<'a>(
+    buckets: &'a Buckets,
+    found: &mut Vec<(&'a str, &'a Policy)>,
+) -> Result<(), NoMemory>
+    ensures { OnOk result ((o : Offer) → Contains (lent found.new.items) o
+        ↔ Contains (lent found.old.items) o ⊎ (kept_at buckets.now.always.entries o.0 ≡ Some o.1)) }
 {
     offer(&buckets.always, found)
 }
 
-// Offers the ids that are found by the entity itself.
+// Offers the policies that are found by the entity itself.
 fn offer_own<'a>(
-    under: &'a BTreeMap<EntityUid, BTreeSet<String>>,
+    under: &'a BTreeMap<EntityUid, BTreeMap<String, Policy>>,
     uid: &EntityUid,
-    found: &mut Vec<&'a str>,
+    found: &mut Vec<(&'a str, &'a Policy)>,
 ) -> Result<(), NoMemory>
-    ensures { OnOk result ((q : List ℕ) → Contains (texts found.new.items) q
-        ↔ Contains (texts found.old.items) q ⊎ IsTrue (is_under under.now uid.now q)) }
+    ensures { OnOk result ((o : Offer) → Contains (lent found.new.items) o
+        ↔ Contains (lent found.old.items) o ⊎ (held_under under.now uid.now o.0 ≡ Some o.1)) }
 {
     offer_under(under, uid, found)
 }
 
-// Offers the ids under each of these entities.
+// Offers the policies under each of these entities.
 fn offer_each<'a>(
-    under: &'a BTreeMap<EntityUid, BTreeSet<String>>,
+    under: &'a BTreeMap<EntityUid, BTreeMap<String, Policy>>,
     entities: &[&EntityUid],
-    found: &mut Vec<&'a str>,
+    found: &mut Vec<(&'a str, &'a Policy)>,
 ) -> Result<(), NoMemory>
-    ensures { OnOk result ((q : List ℕ) → Contains (texts found.new.items) q
-        ↔ Contains (texts found.old.items) q
-        ⊎ ((e : PlainUid) × Contains (names entities.now) e × IsTrue (is_under under.now e q))) }
+    ensures { OnOk result ((o : Offer) → Contains (lent found.new.items) o
+        ↔ Contains (lent found.old.items) o
+        ⊎ ((e : PlainUid) × Contains (names entities.now) e × (held_under under.now e o.0 ≡ Some o.1))) }
 {
     for entity in entities {
         offer_under(under, entity, found)?;
@@ -79,16 +84,16 @@ fn offer_each<'a>(
     Ok(())
 }
 
-// Offers the ids under an entity and under each of its ancestors.
+// Offers the policies under an entity and under each of its ancestors.
 fn offer_above<'a, A: Ancestry>(
-    under: &'a BTreeMap<EntityUid, BTreeSet<String>>,
+    under: &'a BTreeMap<EntityUid, BTreeMap<String, Policy>>,
     ancestry: &A,
     uid: &EntityUid,
-    found: &mut Vec<&'a str>,
+    found: &mut Vec<(&'a str, &'a Policy)>,
 ) -> Result<(), NoMemory>
-    ensures { OnOk result ((q : List ℕ) → Contains (texts found.new.items) q
-        ↔ Contains (texts found.old.items) q
-        ⊎ ((e : PlainUid) × IsIn (A.parents ancestry.now) uid.now e × IsTrue (is_under under.now e q))) }
+    ensures { OnOk result ((o : Offer) → Contains (lent found.new.items) o
+        ↔ Contains (lent found.old.items) o
+        ⊎ ((e : PlainUid) × IsIn (A.parents ancestry.now) uid.now e × (held_under under.now e o.0 ≡ Some o.1))) }
 {
     offer_own(under, uid, found)?;
     let ancestors = ancestry.ancestors(uid)?;
@@ -96,15 +101,15 @@ fn offer_above<'a, A: Ancestry>(
     Ok(())
 }
 
-// The ids that a request finds, in any order.
+// The policies that a request finds, in any order.
 fn found_by<'a, A: Ancestry>(
     alloc: Global,
     buckets: &'a Buckets,
     request: &Request,
     ancestry: &A,
-) -> Result<Vec<&'a str>, NoMemory>
-    ensures { IfOk result (λ found. (q : List ℕ) → Contains (texts found.items) q
-        ↔ ((k : IndexKey) × IsMet (A.parents ancestry.now) request.now k × IsTrue (in_bucket buckets.now k q))) }
+) -> Result<Vec<(&'a str, &'a Policy)>, NoMemory>
+    ensures { IfOk result (λ found. (o : Offer) → Contains (lent found.items) o
+        ↔ ((k : IndexKey) × IsMet (A.parents ancestry.now) request.now k × (in_bucket buckets.now k o.0 ≡ Some o.1))) }
 {
     let mut found = Vec::new(alloc);
     offer_unbound(buckets, &mut found)?;
@@ -118,27 +123,29 @@ fn found_by<'a, A: Ancestry>(
     Ok(found)
 }
 
-// These ids, ascending and each once.
-fn in_order(found: Vec<&str>) -> Vec<&str>
-    ensures same { (q : List ℕ) → Contains (texts result.items) q ↔ Contains (texts found.entry.items) q }
-    ensures ascending { IsStrictlySortedBy text_cmp (texts result.items) }
+// These policies, ascending and each once.
+fn in_order<'a>(found: Vec<(&'a str, &'a Policy)>) -> Vec<(&'a str, &'a Policy)>
+    requires { AreOneAtEach (lent found.items) }
+    ensures same { (o : Offer) → Contains (lent result.items) o ↔ Contains (lent found.entry.items) o }
+    ensures ascending { IsStrictlySortedBy text_cmp (ids (lent result.items)) }
 {
-    let mut ids = found;
-    ids.sort_unstable();
-    ids.dedup();
-    ids
+    let mut policies = found;
+    policies.sort_unstable_by_key(|policy| policy.0);
+    policies.dedup_by_key(|policy| policy.0);
+    policies
 }
 
-/// Returns the ids that a request finds, ascending.
+/// Returns the policies that a request finds, ascending by id.
 pub(crate) fn offered<'a, A: Ancestry>(
     alloc: Global,
     buckets: &'a Buckets,
     request: &Request,
     ancestry: &A,
-) -> Result<Vec<&'a str>, NoMemory>
-    ensures found { IfOk result (λ ids. (q : List ℕ) → Contains (texts ids.items) q
-        ↔ ((k : IndexKey) × IsMet (A.parents ancestry.now) request.now k × IsTrue (in_bucket buckets.now k q))) }
-    ensures ascending { IfOk result (λ ids. IsStrictlySortedBy text_cmp (texts ids.items)) }
+) -> Result<Vec<(&'a str, &'a Policy)>, NoMemory>
+    requires { HaveOnePolicy buckets.now }
+    ensures found { IfOk result (λ ps. (o : Offer) → Contains (lent ps.items) o
+        ↔ ((k : IndexKey) × IsMet (A.parents ancestry.now) request.now k × (in_bucket buckets.now k o.0 ≡ Some o.1))) }
+    ensures ascending { IfOk result (λ ps. IsStrictlySortedBy text_cmp (ids (lent ps.items))) }
 {
     Ok(in_order(found_by(alloc, buckets, request, ancestry)?))
 }

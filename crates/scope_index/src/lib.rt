@@ -7,7 +7,7 @@
 mod buckets;
 mod candidates;
 mod entries;
+mod found_by;
 mod index;
-mod index_key;
 
 pub use index::ScopeIndex;

@@ -13,7 +13,8 @@ use Rattle.policy_grammar.specs.declared.policy.Policy.{Policy}
 use Rattle.text_trees.specs.declared.fault.ReadFault.{ReadFault}
 use Rattle.text_trees.specs.declared.fault.ReadFault.TheVariants as reading
 use Rattle.policy_grammar.specs.Limits.{IsId}
-use Rattle.policy_grammar.specs.PolicyText.{IsPolicyText, IsPolicyRefused, OrNoMemory}
+use Rattle.plain.specs.Refused.{OrNoMemory}
+use Rattle.policy_grammar.specs.PolicyText.{IsPolicyText, IsPolicyRefused}
 use Rattle.schema.specs.Schemas.{StatedSchema}
 use Rattle.entity_worlds.specs.declared.entity.Entity.{Entity}
 use Rattle.entities.specs.Canonical.{canonical_json, canonical_text}

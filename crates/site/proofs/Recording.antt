@@ -24,7 +24,7 @@ use Rattle.site.specs.Admitted.{IsEntityUnder, IsNotAdmitted, bad_id, no_policy,
 use Rattle.site.specs.Seen.{IsHeld, IsSite}
 use Rattle.site.specs.Steps.{Records, PutsPolicy, PutsEntity, Deletes}
 use Rattle.site.specs.inner.Recording.{RecordsOr, PutsUnless, IsNext, put_result, IsStatedBy, StatesNone, IsJudged}
-use Rattle.text_trees.specs.Texts.{OrNoMemory}
+use Rattle.plain.specs.Refused.{OrNoMemory}
 
 -- ---- what is always true of a site, after a call that may have found no memory
 pub site_after : {A B : Type 0} → (schema : StatedSchema) (name : List ℕ) (k l t : StoreEntries Policy Entity) (u : Update)

@@ -4,8 +4,6 @@ use Rattle.policy_grammar.specs.Faults as policy_faults
 use Rattle.text_trees.specs.declared.fault.ReadFault.{ReadFault}
 use Rattle.text_trees.specs.declared.fault.ReadFault.TheVariants as reading
 use Rattle.entities.specs.Faults as entity_faults
-use Rattle.entities.specs.declared.fault.EntityFault.{EntityFault}
-use Rattle.entities.specs.declared.fault.EntityFault.TheVariants as stating
 use Rattle.stored_texts.specs.passed_on.validator_Faults as check_faults
 use Rattle.stored_texts.specs.passed_on.validator.{CheckFault}
 use Rattle.stored_texts.specs.passed_on.validator_CheckFault_variants as checking
@@ -51,11 +49,3 @@ of_checking f = fault.Check f
 abbrev pub of_message : MessageFault → SiteFault
 of_message sending.NoMemory = fault.NoMemory
 of_message f = fault.Message f
-
-abbrev pub of_stating : EntityFault → SiteFault
-of_stating stating.NoMemory = fault.NoMemory
-of_stating f = fault.Entity f
-
-abbrev pub of_asking : EntityFault → SiteFault
-of_asking stating.NoMemory = fault.NoMemory
-of_asking f = fault.Request f

@@ -9,7 +9,7 @@ ghost use Rattle.schema.specs.Views.{schema_view};
 ghost use Rattle.entities.specs.Canonical.{canonical_text};
 ghost use Rattle.entities.specs.Entities.{entity_stated_in};
 ghost use Rattle.stored_texts.specs.passed_on.validator.{Passes, IsImpossible};
-ghost use Rattle.text_trees.specs.Texts.{OrNoMemory};
+ghost use Rattle.plain.specs.Refused.{OrNoMemory};
 ghost use Rattle.site.specs.declared.fault.SiteFault.TheVariants as SiteFault;
 ghost use Rattle.site.specs.Admitted.{IsEntityUnder, IsNotAdmitted, IsRequestOf};
 ghost use Rattle.site.specs.inner.Recording.{IsStated, IsStatedBy, StatesNone, AsksNone, IsJudged};
@@ -161,7 +161,7 @@ fn text_of(alloc: Global, schema: &Schema, entity: &Entity) -> Result<Text, NoMe
 }
 
 /// Returns what was read, beside its name and its text.
-fn beside<N: Drop, P: Drop>(
+fn with_name_and_text<N: Drop, P: Drop>(
     read: P,
     name: Result<N, NoMemory>,
     text: Result<Text, NoMemory>,
@@ -189,7 +189,7 @@ pub(crate) fn stated_entity(
         Ok(entity) => {
             let uid = entity.uid.copy();
             let text = text_of(alloc, schema, &entity);
-            beside(entity, uid, text)
+            with_name_and_text(entity, uid, text)
         }
         Err(fault) => Err(fault),
     }

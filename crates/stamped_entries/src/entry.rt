@@ -13,7 +13,7 @@ use std::cmp::Ordering;
 /// When and where an entry was issued: ordered by count, then by the bytes of the site's name.
 #[derive(Clone, Copy, PartialEq, Eq, PartialOrd, Ord)]
 pub struct Stamp {
-    /// From 1 to 10^18.
+    /// Any count may stand here; a message with one that is not from 1 to 10^18 is refused where it is read.
     pub count: u64,
     /// The name of the site.
     pub site: SiteName,

@@ -8,4 +8,5 @@ mod Listed
 mod OrderedFields
 mod OrderedTypes
 mod RecordFields
+mod SameFields
 mod Weighing

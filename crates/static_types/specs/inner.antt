@@ -1,3 +1,4 @@
 pub mod Joins
+pub mod Layers
 pub mod Parts
 pub mod Rows

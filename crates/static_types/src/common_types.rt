@@ -1,11 +1,12 @@
 //! The common type of two.
-ghost use Rattle.std.specs.Prelude.{◌≡◌, Some, option_map, IfOk, IfErr};
+ghost use Rattle.std.specs.Prelude.{◌≡◌, Some, option_map, IfOk, IfErr, IfSome};
 ghost use Rattle.typing.specs.Types.{set_type, record_type, common, common_fields};
 ghost use Rattle.static_types.specs.Views.{boolean_view, leaf_view, static_view, MayTakeMemory};
 ghost use Rattle.static_types.specs.inner.Parts.{part_view, built_view, fields_view};
 
 use crate::joining::{Join, join_of, paired};
 use crate::parts::{Fields, Part, TypeKind};
+use crate::same_types::same_fields;
 use crate::static_type::{BooleanType, Leaf, StaticType};
 use plain::{Items, NoMemory, Shared};
 use std::alloc::Global;
@@ -84,6 +85,23 @@ fn set_of<'a>(
     }
 }
 
+/// Returns the type of two records that the schema declares with the same fields, and None of others; takes no memory.
+fn declared_record<'a>(left: Fields<'_, 'a>, right: Fields<'_, 'a>) -> Option<StaticType<'a>>
+    ensures { IfSome result (λ t. Some (static_view t)
+        ≡ option_map record_type (common_fields (fields_view left.entry) (fields_view right.entry))) }
+{
+    match (left, right) {
+        (Fields::Declared(a), Fields::Declared(b)) => {
+            if same_fields(a, b) {
+                Some(StaticType::DeclaredRecord(a))
+            } else {
+                None
+            }
+        }
+        _ => None,
+    }
+}
+
 /// Returns the type of records with these fields.
 fn record_of<'a>(
     alloc: Global,
@@ -108,7 +126,10 @@ fn common_of<'a>(
     match (left.kind(), right.kind()) {
         (TypeKind::Leaf(a), TypeKind::Leaf(b)) => Ok(leaf_type(common_leaf(a, b))),
         (TypeKind::Set(a), TypeKind::Set(b)) => set_of(alloc, common_of(alloc, a, b)?),
-        (TypeKind::Record(a), TypeKind::Record(b)) => common_record(alloc, a, b),
+        (TypeKind::Record(a), TypeKind::Record(b)) => match declared_record(a, b) {
+            Some(ty) => Ok(Some(ty)),
+            None => common_record(alloc, a, b),
+        },
         _ => Ok(None),
     }
 }

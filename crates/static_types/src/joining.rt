@@ -1,5 +1,5 @@
 //! Whether two types have a common type, by a walk over their parts that builds nothing.
-ghost use Rattle.std.specs.Prelude.{◌≡◌};
+ghost use Rattle.std.specs.Prelude.{◌≡◌, IfSome};
 ghost use Rattle.std.specs.Bool.{Decides};
 ghost use Rattle.typing.specs.Types.{common, common_fields};
 ghost use Rattle.static_types.specs.Views.{boolean_view, leaf_view};
@@ -8,6 +8,7 @@ ghost use Rattle.static_types.specs.inner.Parts.{part_view, fields_view};
 ghost use Rattle.static_types.specs.inner.Rows.{paired};
 
 use crate::parts::{FieldPart, Fields, Pair, Part, TypeKind};
+use crate::same_types::same_fields;
 use crate::static_type::{BooleanType, Leaf};
 
 /// What is known of the common type of two.
@@ -109,6 +110,24 @@ pub(crate) fn paired<'r, 's, 'a>(
     }
 }
 
+/// Returns what is known of the common fields of two records that the schema declares, and None of others. The
+/// booleans of a schema are any, so that these are the left ones, or there are none.
+fn join_of_declared(left: Fields<'_, '_>, right: Fields<'_, '_>) -> Option<Join>
+    ensures { IfSome result (λ j. Tells j (fields_view left.entry)
+        (common_fields (fields_view left.entry) (fields_view right.entry))) }
+{
+    match (left, right) {
+        (Fields::Declared(a), Fields::Declared(b)) => {
+            if same_fields(a, b) {
+                Some(Join::Left)
+            } else {
+                Some(Join::Apart)
+            }
+        }
+        _ => None,
+    }
+}
+
 /// Returns what is known of the common type of two; takes no memory, and time linear in the smaller one's parts.
 #[cycle(join_of)]
 pub(crate) fn join_of<'a>(left: Part<'_, 'a>, right: Part<'_, 'a>) -> Join
@@ -117,7 +136,10 @@ pub(crate) fn join_of<'a>(left: Part<'_, 'a>, right: Part<'_, 'a>) -> Join
     match (left.kind(), right.kind()) {
         (TypeKind::Leaf(a), TypeKind::Leaf(b)) => join_of_leaves(a, b),
         (TypeKind::Set(a), TypeKind::Set(b)) => join_of(a, b),
-        (TypeKind::Record(a), TypeKind::Record(b)) => join_of_fields(a, b),
+        (TypeKind::Record(a), TypeKind::Record(b)) => match join_of_declared(a, b) {
+            Some(join) => join,
+            None => join_of_fields(a, b),
+        },
         _ => Join::Apart,
     }
 }

@@ -11,6 +11,7 @@ mod laws;
 mod literals;
 mod operators;
 mod parts;
+mod same_types;
 mod static_type;
 
 pub use common_types::common;

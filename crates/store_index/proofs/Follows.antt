@@ -1,6 +1,6 @@
 -- An index that was right stays right.
 use Rattle.std.proofs.Common.{◌≡◌, ◌∙◌, refl, sym, ap, subst, Bool, true, false, List, [], ◌∷◌, ◌++◌, map, Option, Some, None}
-use Rattle.std.specs.Prelude.{ℕ, cond, option_map, option_and_then, string_bytes, IfSome}
+use Rattle.std.specs.Prelude.{ℕ, cond, option_and_then, string_bytes, IfSome}
 use Rattle.std.specs.List.Sorted.{IsStrictlySortedBy}
 use Rattle.std.specs.List.{AllByRecursion}
 use Rattle.std.specs.BTreeMap.{insert_entry}
@@ -19,12 +19,11 @@ use Rattle.std.proofs.lemmas.Slice.Eq.{bytes_eq-Decides}
 use Rattle.std.proofs.lemmas.Map.Text.{is_eq-slice_cmp}
 use Rattle.values.specs.Names.{text_cmp, text_cmp-IsTotalOrder, text_cmp-IsAntisymmetric}
 use Rattle.policy_grammar.specs.declared.policy.Policy.{Policy}
-use Rattle.scope_index.specs.declared.index_key.IndexKey.{IndexKey}
-use Rattle.scope_index.specs.Keys.{Keys, key_at, index_key}
+use Rattle.scope_index.specs.Keys.{Kept, kept_at}
 use Rattle.stamped_entries.specs.declared.entry.Entry.{Entry}
 use Rattle.stamped_store.specs.EntryOrder.{greater}
 use Rattle.stamped_store.specs.Stored.{value_at_text, taken}
-use Rattle.store_index.specs.Indexed.{PolicyEntries, policy_in, due_key, AreIndexed}
+use Rattle.store_index.specs.Indexed.{PolicyEntries, policy_in, policy_at, AreIndexed}
 use Rattle.store_index.specs.inner.Following.{AreIndexedBut, noted}
 
 -- ---- another id has what it had
@@ -56,20 +55,20 @@ at_other (e ∷ es) k v q apart =
       | Greater ↦ λ is. ap (λ o. cond (is_eq (text_cmp q (string_bytes e.0))) (Some e.1) o) (at_other es k v q apart)
     ] refl
 
-pub other_ids : (es : PolicyEntries) (keys : Keys) (id : String Global) (entry : Entry Policy) (name : List ℕ)
-    → name ≡ string_bytes id → AreIndexed es keys → AreIndexedBut name (taken string_cmp greater es id entry) keys
-other_ids es keys id entry name is h q apart =
+pub other_ids : (es : PolicyEntries) (kept : Kept) (id : String Global) (entry : Entry Policy) (name : List ℕ)
+    → name ≡ string_bytes id → AreIndexed es kept → AreIndexedBut name (taken string_cmp greater es id entry) kept
+other_ids es kept id entry name is h q apart =
     let there : bytes_eq (string_bytes id) q ≡ false = subst (λ b. bytes_eq b q ≡ false) is apart in
-    h q ∙ sym (ap (λ o. option_map (λ p. index_key p.scope) (option_and_then policy_in o))
+    h q ∙ sym (ap (λ o. option_and_then policy_in o)
     (at_other es id _ q (is_at_bytes q (string_bytes id) false there)))
 
 -- ---- right at one id more
 
-pub set_right : (es : PolicyEntries) (id : List ℕ) (old new : Keys) (o : Option IndexKey) → o ≡ due_key es id → AreIndexedBut id es old
-    → ((q : List ℕ) → key_at new q ≡ cond (bytes_eq id q) o (key_at old q)) → AreIndexed es new
+pub set_right : (es : PolicyEntries) (id : List ℕ) (old new : Kept) (o : Option Policy) → o ≡ policy_at es id → AreIndexedBut id es old
+    → ((q : List ℕ) → kept_at new q ≡ cond (bytes_eq id q) o (kept_at old q)) → AreIndexed es new
 set_right es id old new o is h at q =
-    elim (bytes_eq id q) as (λ t. bytes_eq id q ≡ t → key_at new q ≡ cond t o (key_at old q) → key_at new q ≡ due_key es q) [
-      | true ↦ λ same e. e ∙ is ∙ ap (λ i. due_key es i) ((bytes_eq-Decides id q).0 same)
+    elim (bytes_eq id q) as (λ t. bytes_eq id q ≡ t → kept_at new q ≡ cond t o (kept_at old q) → kept_at new q ≡ policy_at es q) [
+      | true ↦ λ same e. e ∙ is ∙ ap (λ i. policy_at es i) ((bytes_eq-Decides id q).0 same)
       | false ↦ λ apart e. e ∙ h q apart
     ] refl (at q)
 
@@ -122,43 +121,38 @@ at_others : {V : Type 0} (ys : List (String Global × V)) (e : String Global × 
 at_others [] e q apart = ap (λ b. cond b (Some e.1) None) apart
 at_others (y ∷ ys) e q apart = ap (λ o. cond (is_eq (text_cmp q (string_bytes y.0))) (Some y.1) o) (at_others ys e q apart)
 
-due : Option Policy → Option IndexKey
-due o = option_map (λ p. index_key p.scope) o
-
-noted_is : (o : Option Policy) (before : Option IndexKey) → before ≡ None → noted o before ≡ due o
-unfolding due
+noted_is : (o : Option Policy) (before : Option Policy) → before ≡ None → noted o before ≡ o
 noted_is None before none = none
 noted_is (Some p) before none = refl
 
-pub one_entry_more : (ys : PolicyEntries) (e : String Global × Entry Policy) (rest whole : PolicyEntries) (old new : Keys)
+pub one_entry_more : (ys : PolicyEntries) (e : String Global × Entry Policy) (rest whole : PolicyEntries) (old new : Kept)
     → ys ++ e ∷ rest ≡ whole → IsStrictlySortedBy string_cmp (keys_of whole) → AreIndexed ys old
-    → ((q : List ℕ) → key_at new q ≡ cond (bytes_eq (string_bytes e.0) q) (noted (policy_in e.1) (key_at old q)) (key_at old q))
+    → ((q : List ℕ) → kept_at new q ≡ cond (bytes_eq (string_bytes e.0) q) (noted (policy_in e.1) (kept_at old q)) (kept_at old q))
     → AreIndexed (ys ++ e ∷ []) new
-unfolding due
 one_entry_more ys e rest whole old new all sorted h at q =
     let ordered : IsStrictlySortedBy string_cmp (keys_of ys ++ e.0 ∷ keys_of rest) =
     subst (λ l. IsStrictlySortedBy string_cmp l) (ap keys_of (sym all) ∙ keys_append ys e rest) sorted in
     step ordered
   where
-    step : IsStrictlySortedBy string_cmp (keys_of ys ++ e.0 ∷ keys_of rest) → key_at new q ≡ due_key (ys ++ e ∷ []) q
+    step : IsStrictlySortedBy string_cmp (keys_of ys ++ e.0 ∷ keys_of rest) → kept_at new q ≡ policy_at (ys ++ e ∷ []) q
     step ordered =
         elim (bytes_eq (string_bytes e.0) q) as (λ t. bytes_eq (string_bytes e.0) q ≡ t
-        → key_at new q ≡ cond t (noted (policy_in e.1) (key_at old q)) (key_at old q) → key_at new q ≡ due_key (ys ++ e ∷ []) q) [
+        → kept_at new q ≡ cond t (noted (policy_in e.1) (kept_at old q)) (kept_at old q) → kept_at new q ≡ policy_at (ys ++ e ∷ []) q) [
           | true ↦ λ same f.
               let none : value_at_text ys q ≡ None =
               subst (λ b. value_at_text ys b ≡ None) ((bytes_eq-Decides (string_bytes e.0) q).0 same) (none_before ys e rest ordered) in
-              let before : key_at old q ≡ None = h q ∙ ap (λ o. due (option_and_then policy_in o)) none in
-              f ∙ noted_is (policy_in e.1) (key_at old q) before
-              ∙ sym (ap (λ o. due (option_and_then policy_in o)) (at_last ys e q none (is_at_bytes q (string_bytes e.0) true same)))
+              let before : kept_at old q ≡ None = h q ∙ ap (λ o. option_and_then policy_in o) none in
+              f ∙ noted_is (policy_in e.1) (kept_at old q) before
+              ∙ sym (ap (λ o. option_and_then policy_in o) (at_last ys e q none (is_at_bytes q (string_bytes e.0) true same)))
           | false ↦ λ apart f.
-              f ∙ h q ∙ sym (ap (λ o. due (option_and_then policy_in o)) (at_others ys e q (is_at_bytes q (string_bytes e.0) false apart)))
+              f ∙ h q ∙ sym (ap (λ o. option_and_then policy_in o) (at_others ys e q (is_at_bytes q (string_bytes e.0) false apart)))
         ] refl (at q)
 
 pub right_elsewhere : (es es' : PolicyEntries) (id : String Global) (entry : Entry Policy) → es' ≡ taken string_cmp greater es id entry
-    → (name : List ℕ) → name ≡ string_bytes id → (o : Option Keys) → IfSome o (AreIndexed es) → IfSome o (AreIndexedBut name es')
+    → (name : List ℕ) → name ≡ string_bytes id → (o : Option Kept) → IfSome o (AreIndexed es) → IfSome o (AreIndexedBut name es')
 right_elsewhere es es' id entry took name is None h = tt
-right_elsewhere es es' id entry took name is (Some keys) h =
-    subst (λ l. AreIndexedBut name l keys) (sym took) (other_ids es keys id entry name is h)
+right_elsewhere es es' id entry took name is (Some kept) h =
+    subst (λ l. AreIndexedBut name l kept) (sym took) (other_ids es kept id entry name is h)
 
 pub pushed : (xs : List (Bor (String Global) × Bor (Entry Policy))) (x : Bor (String Global) × Bor (Entry Policy))
     → map deref_pair (xs ++ x ∷ []) ≡ map deref_pair xs ++ deref_pair x ∷ []

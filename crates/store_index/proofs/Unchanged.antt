@@ -1,6 +1,6 @@
 -- Where what is stored stays, the index of a store stays right.
 use Rattle.std.proofs.Common.{◌≡◌, ◌∙◌, Option, Some, None, true, false, List, refl, ap, sym, subst, inl, inr, string_bytes}
-use Rattle.std.specs.Prelude.{◌⊎◌, ℕ, cond, Result, Ok, Err, OnOk, OnErr, option_and_then, option_map}
+use Rattle.std.specs.Prelude.{◌⊎◌, ℕ, cond, Result, Ok, Err, OnOk, OnErr, option_and_then}
 use Rattle.std.specs.Option.{IfSome}
 use Rattle.std.specs.Ordering.{is_eq}
 use Rattle.std.specs.Cmp.{IsTotalOrder, tied_back}
@@ -12,7 +12,7 @@ use Rattle.std.specs.declared.cmp.Ordering.{Ordering}
 use Rattle.std.specs.declared.cmp.Ordering.TheVariants.{Less, Equal, Greater}
 use Rattle.std.proofs.lemmas.Slice.Eq.{bytes_eq-Decides}
 use Rattle.policy_grammar.specs.declared.policy.Policy.{Policy}
-use Rattle.scope_index.specs.Keys.{Keys, index_key}
+use Rattle.scope_index.specs.Keys.{Kept}
 use Rattle.stamped_entries.specs.declared.entry.Entry.{Entry}
 use Rattle.stamped_store.specs.EntryOrder.{greater}
 use Rattle.stamped_store.specs.Joins.{option_joined}
@@ -68,9 +68,9 @@ texts_after (Err e) new old id entry none is stays q = ap (λ k. value_at_text k
 
 pub index_stays : {T F E : Type 0} (r : Result T F) (new old : StoreEntries Policy E) (id : String Global) (entry : Entry Policy)
     → OnOk r (new ≡ kept (taken string_cmp greater old.policies id entry) old.entities) → OnErr r (new ≡ old)
-    → (o : Option Keys) → (o ≡ None) ⊎ Stays (value_at_text old.policies (string_bytes id)) entry
+    → (o : Option Kept) → (o ≡ None) ⊎ Stays (value_at_text old.policies (string_bytes id)) entry
     → IfSome o (AreIndexed old.policies) → IfSome o (AreIndexed new.policies)
 index_stays r new old id entry ok err None why h = tt
-index_stays r new old id entry ok err (Some keys) (inl none) h = absurd (cc (none))
-index_stays r new old id entry ok err (Some keys) (inr stays) h = λ q.
-    h q ∙ sym (ap (λ o. option_map (λ p. index_key p.scope) (option_and_then policy_in o)) (texts_after r new old id entry ok err stays q))
+index_stays r new old id entry ok err (Some kept) (inl none) h = absurd (cc (none))
+index_stays r new old id entry ok err (Some kept) (inr stays) h = λ q.
+    h q ∙ sym (ap (λ o. option_and_then policy_in o) (texts_after r new old id entry ok err stays q))

@@ -4,7 +4,7 @@ ghost use Rattle.std.specs.Prelude.{◌++◌, ◌∷◌, [], string_bytes};
 ghost use Rattle.std.specs.Option.{option_copied};
 ghost use Rattle.std.specs.String.{string_cmp};
 ghost use Rattle.std.specs.Str.{bytes_eq};
-ghost use Rattle.scope_index.specs.Keys.{key_at};
+ghost use Rattle.scope_index.specs.Keys.{kept_at};
 ghost use Rattle.stamped_store.specs.EntryOrder.{plain_entry, greater};
 ghost use Rattle.stamped_store.specs.Store.{abstract_store, store_of, updates, kept, policy_name, KeepsOtherNames};
 ghost use Rattle.stamped_store.specs.Stored.{taken, value_at_text};
@@ -20,7 +20,7 @@ use stamped_store::{Entry, PolicyStore};
 use std::alloc::Global;
 
 /// Returns the policy under an id; none where it has no text. Takes no memory.
-pub fn policy_under<'s, E: Drop>(store: &'s PolicyStore<Policy, E>, id: &str) -> Option<&'s Policy>
+fn policy_under<'s, E: Drop>(store: &'s PolicyStore<Policy, E>, id: &str) -> Option<&'s Policy>
     ensures { option_copied result ≡ policy_at store.now.policies id.now }
 {
     match store.get_policy(id) {
@@ -43,7 +43,7 @@ fn set_right<E: Drop>(
 {
     let mut index = index;
     match policy_under(store, id) {
-        Some(policy) => match index.add(id, &policy.scope) {
+        Some(policy) => match index.add(id, policy) {
             Ok(()) => Some(index),
             Err(_) => None,
         },
@@ -72,11 +72,11 @@ fn followed<E: Drop>(
 
 // Adds the policy of an entry, if it has one.
 fn add_entry(index: &mut ScopeIndex, id: &str, entry: &Entry<Policy>) -> Result<(), NoMemory>
-    ensures { OnOk result ((q : List ℕ) → key_at index.new q
-        ≡ cond (bytes_eq id.now q) (noted (policy_in entry.now) (key_at index.old q)) (key_at index.old q)) }
+    ensures { OnOk result ((q : List ℕ) → kept_at index.new q
+        ≡ cond (bytes_eq id.now q) (noted (policy_in entry.now) (kept_at index.old q)) (kept_at index.old q)) }
 {
     match &entry.body {
-        Some(text) => index.add(id, &text.read.scope),
+        Some(text) => index.add(id, &text.read),
         None => Ok(()),
     }
 }

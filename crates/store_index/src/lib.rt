@@ -7,5 +7,5 @@
 mod index;
 mod staying;
 
-pub use index::{policy_under, stand_index, take_policy};
+pub use index::{stand_index, take_policy};
 pub use staying::stays;

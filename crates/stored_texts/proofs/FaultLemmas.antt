@@ -13,7 +13,7 @@ use Rattle.validator.specs.Faults as validation
 use Rattle.validator.specs.Passing.{IsCheckRefused}
 use Rattle.state_messages.specs.declared.bodies.BodyFault.{BodyFault}
 use Rattle.state_messages.specs.declared.bodies.BodyFault.TheVariants as body
-use Rattle.text_trees.specs.Texts.{OrNoMemory}
+use Rattle.plain.specs.Refused.{OrNoMemory}
 use Rattle.stored_texts.specs.Texts.{RefusesPolicy, no_policy, not_passing}
 
 module _ (s : StatedSchema) (t : List ℕ) (b : BodyFault) where

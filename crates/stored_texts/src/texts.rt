@@ -13,7 +13,7 @@ ghost use Rattle.entities.specs.Entities.{entity_stated_in};
 ghost use Rattle.entities.specs.Canonical.{canonical_text};
 ghost use Rattle.validator.specs.Faults as validation;
 ghost use Rattle.validator.specs.Passing.{Passes};
-ghost use Rattle.text_trees.specs.Texts.{OrNoMemory};
+ghost use Rattle.plain.specs.Refused.{OrNoMemory};
 ghost use Rattle.stored_texts.specs.Texts.{ReadsPolicy, RefusesPolicy, RefusesEntity};
 ghost use Rattle.stored_texts.specs.Texts.{entity_of_text, refused_by};
 

@@ -1,4 +1,3 @@
-pub mod Appending
 pub mod Ascending
 pub mod Stamps
 pub mod RoundTrip
@@ -6,3 +5,4 @@ pub mod CompactUtf8
 pub mod OneText
 pub mod Sound
 pub mod Raised
+pub use Rattle.uid_json.proofs.Appending

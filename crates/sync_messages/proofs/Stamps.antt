@@ -16,10 +16,9 @@ use Rattle.stamped_store.specs.Abstraction.{abstract_entries}
 use Rattle.stamped_store.specs.Deltas.{Summary, stamp_of, summary_of}
 use Rattle.stamped_store.specs.Store.{StoreEntries, Update, abstract_store, abstract_updates, updates, id_name, entity_name}
 use Rattle.sync_messages.specs.Summaries.{name_json, stamp_json, summary_json}
-use Rattle.uid_json.specs.Tokens.{Adds}
-use Rattle.sync_messages.specs.Tokens.{IsReadAgain, AppendsValue, AppendsMember, AppendsAll}
+use Rattle.uid_json.specs.Tokens.{Adds, IsReadAgain, AppendsValue, AppendsMember, AppendsAll}
 use Rattle.sync_messages.specs.inner.Writing.{stamps_json}
-use Rattle.sync_messages.proofs.Appending.{and_then, member_again, object_again, both_written, one_written, array_written}
+use Rattle.uid_json.proofs.Appending.{and_then, member_again, object_again, both_written, one_written, array_written}
 
 -- ---- a stamp
 stamp_again : (u : Name × Stamp) → IsReadAgain (number (unsigned u.1.count)) → IsReadAgain (name_json u.0) → IsReadAgain (stamp_json u)

@@ -1,5 +1,5 @@
 pub mod Faults
 pub mod Numbered
 pub mod Summaries
-pub mod Tokens
 pub mod inner
+pub use Rattle.uid_json.specs.Tokens

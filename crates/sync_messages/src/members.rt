@@ -8,7 +8,7 @@ ghost use Rattle.values.specs.declared.name.Name.{Name};
 ghost use Rattle.values.specs.Names.{name_cmp};
 ghost use Rattle.stamped_store.specs.Store.{id_name, entity_name};
 ghost use Rattle.sync_messages.specs.Summaries.{name_json};
-ghost use Rattle.sync_messages.specs.Tokens.{AppendsMember};
+ghost use Rattle.uid_json.specs.Tokens.{AppendsMember};
 
 use json::Writer;
 use plain::NoMemory;
@@ -16,7 +16,8 @@ use std::cmp::Ordering;
 use uid_json::write_uid;
 use values::{EntityUid, Name};
 
-/// Writes a member of an object whose value is a text. Fails for memory alone, and may leave the key behind.
+/// Writes a member of an object whose value is a text. Fails for memory alone; what was written by then
+/// is for nobody to read.
 pub fn write_text(out: &mut Writer, key: &str, text: &str) -> Result<(), NoMemory>
     ensures { OnOk result (AppendsMember out.old out.new key.now (string text.now)) }
 {
@@ -24,8 +25,8 @@ pub fn write_text(out: &mut Writer, key: &str, text: &str) -> Result<(), NoMemor
     out.string(text)
 }
 
-/// Writes a member of an object whose value is a whole number, in decimal. Fails for memory alone, and may leave the
-/// key behind.
+/// Writes a member of an object whose value is a whole number, in decimal. Fails for memory alone; what was
+/// written by then is for nobody to read.
 pub fn write_number(out: &mut Writer, key: &str, value: u64) -> Result<(), NoMemory>
     ensures { OnOk result (AppendsMember out.old out.new key.now (number (unsigned value))) }
 {

@@ -5,7 +5,7 @@ ghost use Rattle.serde_json.specs.View.{items_of};
 ghost use Rattle.stamped_store.specs.Deltas.{summary_of};
 ghost use Rattle.stamped_store.specs.Store.{abstract_store};
 ghost use Rattle.sync_messages.specs.Summaries.{stamp_json, summary_json, summary_text, summary_stated, AreStamped};
-ghost use Rattle.sync_messages.specs.Tokens.{AppendsValue, AppendsAll};
+ghost use Rattle.uid_json.specs.Tokens.{AppendsValue, AppendsAll};
 ghost use Rattle.sync_messages.specs.inner.Writing.{stamps_json};
 
 use crate::laws::summaries_read_back;

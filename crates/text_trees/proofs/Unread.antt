@@ -6,7 +6,8 @@ use Rattle.token_readers.specs.declared.fault.SyntaxFault.TheVariants as syntax
 use Rattle.token_readers.specs.Lang.{Lang}
 use Rattle.token_readers.specs.Reads.{IsRefusedWithin}
 use Rattle.text_trees.specs.declared.fault.ReadFault.TheVariants as fault
-use Rattle.text_trees.specs.Texts.{IsUnread, OrNoMemory}
+use Rattle.plain.specs.Refused.{OrNoMemory}
+use Rattle.text_trees.specs.Texts.{IsUnread}
 use Rattle.text_trees.specs.inner.Parts.{LexedIn, refusal_of}
 
 module _ {A : Type 0} (L K : Lang A) (most : ℕ) (text : List ℕ) (tokens : List Token) (l : LexedIn most text tokens) where

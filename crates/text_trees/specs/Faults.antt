@@ -40,7 +40,7 @@ abbrev pub of_lexing : LexFault → ReadFault
 of_lexing lex.NoMemory = NoMemory
 of_lexing (lex.BadToken at) = BadToken at
 
--- a fault of a condition
+-- a fault of a condition, or an annotation that stands again
 abbrev pub of_desugaring : DesugarFault → ReadFault
 of_desugaring (desugar.NumberRange at) = NumberRange at
 of_desugaring (desugar.UnknownCall at) = UnknownCall at

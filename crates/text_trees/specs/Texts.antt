@@ -56,8 +56,3 @@ IsUnread L K most text (fault.Unexpected at) = StopsAt L K most text syntax.Unex
 IsUnread L K most text (fault.Slot at) = StopsAt L K most text syntax.Slot at
 IsUnread L K most text (fault.TooDeep at) = StopsAt L K most text syntax.TooDeep at
 IsUnread L K most text _ = ⊥
-
--- What code answers, here and wherever something is judged: such a refusal, or `memory`, which says that a growth was
--- refused.
-abbrev pub OrNoMemory : {F : Type 0} → F → (F → Type 0) → F → Type 0
-OrNoMemory memory Refused why = (why ≡ memory → ⊥) → Refused why

@@ -7,7 +7,8 @@ ghost use Rattle.policy_syntax.specs.Grammar as grammar;
 ghost use Rattle.policy_syntax.specs.WellFormed.{WellFormedUid, WellFormedPolicy};
 ghost use Rattle.desugaring.specs.BuiltFrom.{IsBuiltFrom};
 ghost use Rattle.text_trees.specs.declared.fault.ReadFault.TheVariants as ReadFault;
-ghost use Rattle.text_trees.specs.Texts.{most_policy_bytes, most_file_bytes, Derives, IsUnread, OrNoMemory, byte_of};
+ghost use Rattle.plain.specs.Refused.{OrNoMemory};
+ghost use Rattle.text_trees.specs.Texts.{most_policy_bytes, most_file_bytes, Derives, IsUnread, byte_of};
 ghost use Rattle.text_trees.specs.inner.Parts.{LexedIn, IsUnlexed, refusal_of};
 
 use crate::fault::ReadFault;

@@ -42,7 +42,7 @@ fn known_of<'a>(
     Ok(both)
 }
 
-/// Returns the pairs as a stack, where they are found by halves.
+/// Returns the pairs as a stack, where one look-up finds a pair.
 fn stacked<'a>(alloc: Global, these: &[Pair<'a>]) -> Result<Known<'a>, NoMemory>
     ensures { IfOk result (λ known. known ≡ pairs these.now) }
 {
@@ -51,7 +51,7 @@ fn stacked<'a>(alloc: Global, these: &[Pair<'a>]) -> Result<Known<'a>, NoMemory>
     Ok(known)
 }
 
-/// Returns the pairs of the one list that stand in the other too, which is put where they are found by halves.
+/// Returns the pairs of the one list that stand in the other too, which is put where one look-up finds a pair.
 pub(crate) fn in_both<'a>(
     alloc: Global,
     left: &[Pair<'a>],

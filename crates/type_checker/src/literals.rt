@@ -9,7 +9,6 @@ ghost use Rattle.typing.specs.Literals.{IsLiteral, AreEntityLiterals, ListsEntit
 ghost use Rattle.static_types.specs.Views.{typing_environment};
 ghost use Rattle.type_checker.specs.inner.Literals.{literal_of};
 
-use crate::equal::same_uid;
 use expressions::{Binary, Expr, Literal, Variable};
 use plain::Text;
 use static_types::TypingEnvironment;
@@ -42,7 +41,7 @@ fn same_lent(one: LiteralRef<'_>, other: LiteralRef<'_>) -> bool
         (LiteralRef::Boolean(a), LiteralRef::Boolean(b)) => a == b,
         (LiteralRef::Long(a), LiteralRef::Long(b)) => a == b,
         (LiteralRef::Text(a), LiteralRef::Text(b)) => a.same(b),
-        (LiteralRef::Entity(a), LiteralRef::Entity(b)) => same_uid(a, b),
+        (LiteralRef::Entity(a), LiteralRef::Entity(b)) => a.same(b),
         _ => false,
     }
 }
@@ -94,7 +93,7 @@ fn settled_equal<'a>(env: TypingEnvironment<'a>, left: &'a Expr, right: &'a Expr
 fn is_action_in(env: TypingEnvironment<'_>, action: &EntityUid, other: &EntityUid) -> bool
     ensures { Decides result (IsActionIn (typing_environment env.entry) action.now other.now) }
 {
-    same_uid(action, other) || env.is_action_ancestor(action, other)
+    action.same(other) || env.is_action_ancestor(action, other)
 }
 
 /// Returns whether one of two is so.

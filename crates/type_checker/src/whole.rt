@@ -20,10 +20,10 @@ use std::alloc::Global;
 /// then.
 ///
 /// Types that the schema declares are borrowed from it. It takes time linear in the expressions, but for the pairs that
-/// it knows, each of which it looks for by halves, and for each common type of two records, which are compared field
-/// by field. Where `e` stands twice, as in `e is T && e in f`, or as a member of a set behind itself, it is typed
-/// once, and then compared with itself, form by form. It recurses: its stack grows with the height of the highest part,
-/// and not with their number.
+/// it knows, each of which takes one look-up in an ordered map, and for each common type of two records, which are
+/// compared field by field. Where `e` stands twice, as in `e is T && e in f`, or as a member of a set behind itself, it
+/// is typed once, and then compared with itself, form by form. It recurses: its stack grows with the height of the
+/// highest part, and not with their number.
 ///
 /// Source: Cedar reference guide, "Policy validation".
 pub fn judge_all<'a>(

@@ -15,4 +15,4 @@ pub use laws::{
     values_have_no_float, written_is_read_again,
 };
 pub use reading::read_record;
-pub use writing::record_json;
+pub use writing::write_record;

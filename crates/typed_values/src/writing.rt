@@ -1,81 +1,102 @@
-//! The one JSON of a value.
-ghost use Rattle.std.specs.Prelude.{◌≡◌, IfOk, codes};
+//! The one JSON of a value, written token by token: no JSON value is built, and no name copied.
+ghost use Rattle.std.specs.Prelude.{OnOk, codes};
 ghost use Rattle.serde_json.specs.Data.{array, object};
-ghost use Rattle.serde_json.specs.View.{view};
 ghost use Rattle.extensions.specs.DecimalText.{decimal_text};
 ghost use Rattle.extensions.specs.NetworkText.{network_text};
-ghost use Rattle.values.specs.Values.{values_of, fields_of};
-ghost use Rattle.typed_values.specs.Canonical.{call_json, value_json as json_of_value, values_json, fields_json};
+ghost use Rattle.values.specs.Values.{boolean, long, text, entity, values_of, fields_of};
+ghost use Rattle.uid_json.specs.Tokens.{AppendsValue};
+ghost use Rattle.typed_values.specs.Canonical.{call_json, value_json, values_json, fields_json};
 
 use extensions::{Decimal, IpNet};
+use json::Writer;
 use plain::NoMemory;
-use serde_json::{Map, Value as Json, json};
 use std::alloc::Global;
-use uid_json::entity_value;
+use uid_json::write_entity;
 use values::{Kind, Record, Value};
 
-/// Returns a decimal as a call.
-fn decimal_value(alloc: Global, number: &Decimal) -> Result<Json, NoMemory>
-    ensures { IfOk result (λ j. view j ≡ call_json (codes "decimal") (decimal_text number.now)) }
+fn write_integer(out: &mut Writer, integer: i64) -> Result<(), NoMemory>
+    ensures { OnOk result (AppendsValue out.old out.new (value_json (long integer))) }
 {
-    let mut text = String::new(alloc);
-    number.write_to(&mut text)?;
-    json!(in alloc; {"__extn": {"arg": text.as_str(), "fn": "decimal"}})
+    out.i64(integer)
 }
 
-/// Returns an address as a call.
-fn network_value(alloc: Global, network: &IpNet) -> Result<Json, NoMemory>
-    ensures { IfOk result (λ j. view j ≡ call_json (codes "ip") (network_text network.now)) }
+/// Writes a call of an extension's function.
+fn write_call(out: &mut Writer, function: &str, argument: &str) -> Result<(), NoMemory>
+    ensures { OnOk result (AppendsValue out.old out.new (call_json function.now argument.now)) }
 {
-    let mut text = String::new(alloc);
-    network.write_to(&mut text)?;
-    json!(in alloc; {"__extn": {"arg": text.as_str(), "fn": "ip"}})
+    out.begin_object()?;
+    out.key("__extn")?;
+    out.begin_object()?;
+    out.key("arg")?;
+    out.string(argument)?;
+    out.key("fn")?;
+    out.string(function)?;
+    out.end_object()?;
+    out.end_object()
 }
 
-/// Returns the one JSON of a value. Fails for memory alone.
-#[cycle(json)]
-fn json_value(alloc: Global, value: &Value) -> Result<Json, NoMemory>
-    ensures { IfOk result (λ j. view j ≡ json_of_value value.now) }
+/// Writes a decimal as a call.
+fn write_decimal(alloc: Global, out: &mut Writer, number: &Decimal) -> Result<(), NoMemory>
+    ensures { OnOk result (AppendsValue out.old out.new (call_json (codes "decimal") (decimal_text number.now))) }
+{
+    let mut argument = String::new(alloc);
+    number.write_to(&mut argument)?;
+    write_call(out, "decimal", argument.as_str())
+}
+
+/// Writes an address as a call.
+fn write_network(alloc: Global, out: &mut Writer, network: &IpNet) -> Result<(), NoMemory>
+    ensures { OnOk result (AppendsValue out.old out.new (call_json (codes "ip") (network_text network.now))) }
+{
+    let mut argument = String::new(alloc);
+    network.write_to(&mut argument)?;
+    write_call(out, "ip", argument.as_str())
+}
+
+/// Writes the one JSON of a value.
+#[cycle(write)]
+fn write_value(alloc: Global, out: &mut Writer, value: &Value) -> Result<(), NoMemory>
+    ensures { OnOk result (AppendsValue out.old out.new (value_json value.now)) }
 {
     match value.kind() {
-        Kind::Boolean(b) => Ok(Json::Bool(*b)),
-        Kind::Long(z) => Ok(Json::from(*z)),
-        Kind::Text(text) => Json::try_from_str(alloc, text.as_str()),
-        Kind::Entity(uid) => entity_value(alloc, uid),
-        Kind::Set(members) => json_items(alloc, members.members()),
-        Kind::Record(fields) => json_members(alloc, fields),
-        Kind::Decimal(number) => decimal_value(alloc, number),
-        Kind::IpAddr(network) => network_value(alloc, network),
+        Kind::Boolean(b) => out.boolean(*b),
+        Kind::Long(z) => write_integer(out, *z),
+        Kind::Text(content) => out.string(content.as_str()),
+        Kind::Entity(uid) => write_entity(out, uid),
+        Kind::Set(members) => write_items(alloc, out, members.members()),
+        Kind::Record(fields) => write_members(alloc, out, fields),
+        Kind::Decimal(number) => write_decimal(alloc, out, number),
+        Kind::IpAddr(network) => write_network(alloc, out, network),
     }
 }
 
-#[cycle(json)]
-fn json_items(alloc: Global, members: &[Value]) -> Result<Json, NoMemory>
-    ensures { IfOk result (λ j. view j ≡ array (values_json (values_of members.now))) }
+#[cycle(write)]
+fn write_items(alloc: Global, out: &mut Writer, members: &[Value]) -> Result<(), NoMemory>
+    ensures { OnOk result (AppendsValue out.old out.new (array (values_json (values_of members.now)))) }
 {
-    let mut items = Vec::new(alloc);
+    out.begin_array()?;
     for member in members {
-        items.push(json_value(alloc, member)?)?;
+        write_value(alloc, out, member)?;
     }
-    Ok(Json::Array(items))
+    out.end_array()
 }
 
-#[cycle(json)]
-fn json_members(alloc: Global, fields: &Record) -> Result<Json, NoMemory>
-    ensures { IfOk result (λ j. view j ≡ object (fields_json (fields_of fields.now))) }
+#[cycle(write)]
+fn write_members(alloc: Global, out: &mut Writer, fields: &Record) -> Result<(), NoMemory>
+    ensures { OnOk result (AppendsValue out.old out.new (object (fields_json (fields_of fields.now)))) }
 {
-    let mut members = Map::new(alloc);
+    out.begin_object()?;
     for (key, value) in fields.as_map().iter() {
-        let name = key.clone()?;
-        let member = json_value(alloc, value)?;
-        drop(members.insert(name, member)?);
+        out.key(key.as_str())?;
+        write_value(alloc, out, value)?;
     }
-    Ok(Json::Object(members))
+    out.end_object()
 }
 
-/// Returns the one JSON of a record. Fails for memory alone.
-pub fn record_json(alloc: Global, fields: &Record) -> Result<Json, NoMemory>
-    ensures { IfOk result (λ j. view j ≡ object (fields_json (fields_of fields.now))) }
+/// Writes the one JSON of a record, `{"age":1}`, behind what was written. Fails for memory alone, with some of its
+/// tokens written.
+pub fn write_record(alloc: Global, out: &mut Writer, fields: &Record) -> Result<(), NoMemory>
+    ensures { OnOk result (AppendsValue out.old out.new (object (fields_json (fields_of fields.now)))) }
 {
-    json_members(alloc, fields)
+    write_members(alloc, out, fields)
 }

@@ -1,15 +1,15 @@
 -- What is written token by token.
-use Rattle.std.proofs.Common.{◌≡◌, ◌∙◌, ◌<◌, ◌≤◌, ◌+◌, ℕ, refl, sym, ap, ap₂, subst, List, [], ◌∷◌, ◌++◌, length, get_or, Result, Ok, append_assoc, append-nil, map, take}
+use Rattle.std.proofs.Common.{◌≡◌, ◌∙◌, ◌<◌, ◌≤◌, ◌+◌, ℕ, refl, sym, ap, ap₂, subst, List, [], ◌∷◌, ◌++◌, length, get_or, Ok, append_assoc, append-nil, map, take}
 use Rattle.std.proofs.lemmas.List.{map_more, take_all}
 use Rattle.std.specs.declared.alloc.AllocError.{AllocError}
 use Rattle.json.specs.Token.{Token}
 use Rattle.json.specs.Token as token
 use Rattle.json.specs.Print.{print}
-use Rattle.json.specs.Tree.{json_tokens, items_tokens}
+use Rattle.json.specs.Tree.{items_tokens}
 use Rattle.json.specs.Written.{Written, Writes}
-use Rattle.serde_json.specs.Data.{Data, array, Items}
+use Rattle.serde_json.specs.Data.{Data, array}
 use Rattle.serde_json.specs.View.{items_of}
-use Rattle.serde_json.specs.Written.{outline, items_outline, compact_text}
+use Rattle.serde_json.specs.Written.{items_outline, compact_text}
 use Rattle.serde_json.proofs.Texts.{print-outline}
 use Rattle.uid_json.specs.Tokens.{Adds, tokens_of, tokens_of_all}
 
@@ -38,11 +38,11 @@ joined {old = old} {us = us} {ts = ts} h w = record {
   tokens = w.tokens ∙ ap (λ (l : List Token). l ++ ts) h.tokens ∙ append_assoc old.tokens us ts;
 }
 
-all_more : (ds es : List Data) → tokens_of_all (ds ++ es) ≡ tokens_of_all ds ++ tokens_of_all es
+pub all_more : (ds es : List Data) → tokens_of_all (ds ++ es) ≡ tokens_of_all ds ++ tokens_of_all es
 all_more [] es = refl
 all_more (d ∷ ds) es = ap (λ (l : List Token). tokens_of d ++ l) (all_more ds es) ∙ sym (append_assoc (tokens_of d) (tokens_of_all ds) (tokens_of_all es))
 
-items_closed : (ds : List Data) → tokens_of_all ds ++ token.end_array ∷ [] ≡ items_tokens (items_outline (items_of ds))
+pub items_closed : (ds : List Data) → tokens_of_all ds ++ token.end_array ∷ [] ≡ items_tokens (items_outline (items_of ds))
 items_closed [] = refl
 items_closed (d ∷ ds) = append_assoc (tokens_of d) (tokens_of_all ds) (token.end_array ∷ []) ∙ ap (λ (l : List Token). tokens_of d ++ l) (items_closed ds)
 

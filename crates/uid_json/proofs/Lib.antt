@@ -1,5 +1,7 @@
 pub mod Adding
+pub mod Appending
 mod FoundLemmas
 pub mod ListLemmas
 mod NameLemmas
+pub mod Nested
 mod UidLemmas

@@ -12,5 +12,5 @@ mod writing;
 pub use laws::names_read_back;
 pub use names::read_name;
 pub use policy_grammar::texts_have_one_reading;
-pub use uids::{entity_value, read_uid, read_uids, uid_value};
-pub use writing::write_uid;
+pub use uids::{read_uid, read_uids};
+pub use writing::{write_entity, write_uid};

@@ -1,12 +1,12 @@
 //! Uids as JSON.
 ghost use Rattle.std.specs.Prelude.{◌≡◌, IfOk, map};
 ghost use Rattle.serde_json.specs.View.{view};
-ghost use Rattle.uid_json.specs.Uids.{IsPlainUid, IsUid, IsRead, uid_in, uids_in, uid_json, entity_json};
+ghost use Rattle.uid_json.specs.Uids.{IsPlainUid, IsUid, IsRead, uid_in, uids_in};
 
 use crate::laws::names_read_back;
 use json_words::{only_keys, text_at};
 use plain::{Items, NoMemory};
-use serde_json::{Value, json};
+use serde_json::Value;
 use std::alloc::Global;
 use values::{EntityUid, SharedText, TypeName};
 
@@ -70,20 +70,4 @@ pub fn read_uids(alloc: Global, values: &[Value]) -> Result<Option<Items<EntityU
         }
     }
     Ok(Some(Items::from_vec(uids)))
-}
-
-/// Returns the name of an entity as JSON: `{"id":"alice","type":"User"}`. Fails for memory alone.
-pub fn uid_value(alloc: Global, uid: &EntityUid) -> Result<Value, NoMemory>
-    ensures { IfOk result (λ v. view v ≡ uid_json uid.now) }
-{
-    json!(in alloc; {"id": uid.id.as_str(), "type": uid.type_name.as_str()})
-}
-
-/// Returns the name of an entity where it stands as a value: `{"__entity":{"id":"alice","type":"User"}}`. Fails for
-/// memory alone.
-pub fn entity_value(alloc: Global, uid: &EntityUid) -> Result<Value, NoMemory>
-    ensures { IfOk result (λ v. view v ≡ entity_json uid.now) }
-{
-    let name = uid_value(alloc, uid)?;
-    json!(in alloc; {"__entity": name})
 }

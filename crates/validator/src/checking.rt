@@ -11,6 +11,7 @@ use crate::fault::CheckFault;
 use crate::scope::parts_of;
 use crate::walking::{walk, walk_each};
 use expressions::Expr;
+use plain::NoMemory;
 use policy_grammar::Policy;
 use schema::{Environment, Schema};
 use std::alloc::Global;
@@ -24,10 +25,18 @@ pub struct Verdict {
     pub impossible: bool,
 }
 
-/// Returns the first name of a policy that the schema does not know: those of its scope, then those of its conditions.
-fn check_names(schema: &Schema, parts: &[Expr], condition: &Expr) -> Result<(), CheckFault>
-    ensures { result ≡ parts_told (schema_view schema.now) parts.now condition.now }
+/// Returns the three parts of a policy's scope, in order.
+fn scope_of(alloc: Global, policy: &Policy) -> Result<Vec<Expr>, NoMemory>
+    ensures { IfOk result (λ parts. parts.items ≡ scope_parts policy.now.scope) }
 {
+    parts_of(alloc, policy.scope.get())
+}
+
+/// Returns the first name of a policy that the schema does not know: those of its scope, then those of its conditions.
+fn check_names(schema: &Schema, parts: &[Expr], policy: &Policy) -> Result<(), CheckFault>
+    ensures { result ≡ parts_told (schema_view schema.now) parts.now policy.now.condition }
+{
+    let condition = policy.condition.get();
     walk_each(schema, parts)?;
     walk(schema, condition)
 }
@@ -56,7 +65,7 @@ fn is_false_at(
 {
     expressions_have_one_judgement();
     let env = TypingEnvironment::new(schema, environment);
-    told(judge_all(alloc, env, parts, &policy.condition))
+    told(judge_all(alloc, env, parts, policy.condition.get()))
 }
 
 fn both(first: bool, second: bool) -> bool
@@ -101,9 +110,9 @@ pub fn check(alloc: Global, schema: &Schema, policy: &Policy) -> Result<Verdict,
     ensures refused { IfErr result
         (λ f. f ≢ CheckFault.NoMemory → IsCheckRefused (schema_view schema.now) policy.now f) }
 {
-    let scope = parts_of(alloc, &policy.scope)?;
+    let scope = scope_of(alloc, policy)?;
     let parts = scope.as_slice();
-    check_names(schema, parts, &policy.condition)?;
+    check_names(schema, parts, policy)?;
     let environments = schema.environments();
     let impossible = is_false_everywhere(alloc, schema, environments, parts, policy)?;
     Ok(Verdict { impossible })

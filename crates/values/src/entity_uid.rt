@@ -1,5 +1,5 @@
 //! Entity uids: a type and an id.
-ghost use Rattle.std.specs.Prelude.{◌≡◌, IfOk};
+ghost use Rattle.std.specs.Prelude.{◌≡◌, ◌↔◌, IsTrue, IfOk};
 
 use crate::shared_text::SharedText;
 use crate::type_name::TypeName;
@@ -18,6 +18,14 @@ pub struct EntityUid {
 }
 
 impl EntityUid {
+    /// Returns whether two uids are one; takes no memory. Ids are compared first, since they differ more often than
+    /// types do.
+    pub fn same(&self, other: &EntityUid) -> bool
+        ensures { IsTrue result ↔ (self.now ≡ other.now) }
+    {
+        self.id.same(&other.id) && self.type_name.same(&other.type_name)
+    }
+
     /// Returns the same uid, its texts shared. It takes no memory, and it is `NoMemory` only where the holders of a
     /// text are as many as can be counted.
     pub fn copy(&self) -> Result<EntityUid, NoMemory>

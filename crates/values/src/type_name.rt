@@ -1,5 +1,5 @@
 //! Names of entity types.
-ghost use Rattle.std.specs.Prelude.{◌≡◌, ◌<◌, Some, IfOk, MatchOption, length, map, refl};
+ghost use Rattle.std.specs.Prelude.{◌≡◌, ◌↔◌, ◌<◌, IsTrue, Some, IfOk, MatchOption, length, map, refl};
 ghost use Rattle.std.specs.Prelude.{◌++◌, OnOk, codes, string_bytes};
 ghost use Rattle.std.specs.Ordering.{nat_cmp, is_eq};
 ghost use Rattle.std.specs.Cmp.{partial_equiv_from_equiv, partial_order_from_agreeing_total};
@@ -83,6 +83,13 @@ impl TypeName {
         ensures { result.now ≡ self.now }
     {
         self.text.as_str()
+    }
+
+    /// Returns whether two names are one; takes no memory.
+    pub fn same(&self, other: &TypeName) -> bool
+        ensures { IsTrue result ↔ (self.now ≡ other.now) }
+    {
+        self.text.same(&other.text)
     }
 
     /// Returns the same name, its text shared. It takes no memory, and it is `NoMemory` only where the holders of the

@@ -5,12 +5,12 @@ use Rattle.evaluator.proofs.+evaluate.Given as goal
 
 abbrev pub invariant-evaluating::evaluate_each-loop-expr : goal.invariant-evaluating::evaluate_each-loop-expr
 invariant-evaluating::evaluate_each-loop-expr g l =
-    let gives = meaning l.request (decided_world (g.L.Lookup.stored l.store) (g.L.Ancestry.above l.store)) in
+    let gives = meaning (g.L.Question.asked l.store) (decided_world (g.L.Lookup.stored l.store) (g.L.Ancestry.above l.store)) in
     each (map gives l.exprs) ≡ and_then (each (map gives (drop l.expr-index l.exprs))) (λ rest. Ok (l.values.items ++ rest))
 
 abbrev pub invariant-evaluating::evaluate_fields-loop-field : goal.invariant-evaluating::evaluate_fields-loop-field
 invariant-evaluating::evaluate_fields-loop-field g l =
-    let gives = named_meaning l.request (decided_world (g.L.Lookup.stored l.store) (g.L.Ancestry.above l.store)) in
+    let gives = named_meaning (g.L.Question.asked l.store) (decided_world (g.L.Lookup.stored l.store) (g.L.Ancestry.above l.store)) in
     each_field (map gives l.fields) [] ≡ each_field (map gives (drop l.field-index l.fields)) l.record
 
 -- What goes down two or three operands is as deep as the deepest of them.
@@ -35,8 +35,14 @@ decreases-testing::number_of g l = 4 * goal.size-testing::number_of g l + 1
 abbrev pub decreases-testing::field_number : goal.decreases-testing::field_number
 decreases-testing::field_number g l = 4 * goal.size-testing::field_number g l + 2
 
-abbrev pub decreases-choosing::last_test : goal.decreases-choosing::last_test
-decreases-choosing::last_test g l = 4 * goal.size-choosing::last_test g l + 2
+abbrev pub decreases-choosing::choice_test : goal.decreases-choosing::choice_test
+decreases-choosing::choice_test g l = 4 * max (size-Expr l.test.now) (max (size-Expr l.consequent.now) (size-Expr l.alternative.now)) + 2
+
+abbrev pub decreases-choosing::both_test : goal.decreases-choosing::both_test
+decreases-choosing::both_test g l = 4 * max (size-Expr l.left.now) (size-Expr l.right.now) + 2
+
+abbrev pub decreases-choosing::either_test : goal.decreases-choosing::either_test
+decreases-choosing::either_test g l = 4 * max (size-Expr l.left.now) (size-Expr l.right.now) + 2
 
 abbrev pub decreases-evaluating::one_operand : goal.decreases-evaluating::one_operand
 decreases-evaluating::one_operand g l = 4 * goal.size-evaluating::one_operand g l + 1

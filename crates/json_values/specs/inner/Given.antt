@@ -1,5 +1,5 @@
--- The value at the front of a reader's tokens, and what of it an array or an object that has begun is.
--- Source: RFC 8259, sections 2 to 5, by the grammar of `json`, and by what `serde_json` makes of its values.
+-- The value at the front of a reader's tokens, and what of it an object that has begun is.
+-- Source: RFC 8259, sections 2 to 7, by the grammar of `json`, and by what `serde_json` makes of its values.
 use Rattle.std.specs.Prelude.{◌≡◌, ℕ, List, [], ◌∷◌, length, Bool, true, false, Option, Some, None, option_map}
 use Rattle.json.specs.Token.{Token}
 use Rattle.json.specs.Token as token
@@ -13,19 +13,9 @@ use Rattle.serde_json.specs.declared.value.Value.{Value}
 abbrev pub value_at : ℕ → List Token → Option (Data × List Token)
 value_at deep ts = converted of_json (json.value deep ts)
 
--- the array whose opening bracket has passed
-abbrev pub array_at : ℕ → List Token → Option (Data × List Token)
-array_at deep ts = converted of_json (json.parse_map json.array (json.items (json.value deep) (length ts) ts))
-
 -- the object whose opening brace has passed
 abbrev pub object_at : ℕ → List Token → Option (Data × List Token)
 object_at deep ts = converted of_json (json.parse_map json.object (json.members (json.value deep) (length ts) ts))
-
--- the value that a text is: no token stands behind it
-abbrev pub whole : Option (Data × List Token) → Option Data
-whole None = None
-whole (Some (d, [])) = Some d
-whole (Some (d, t ∷ ts)) = None
 
 -- what was read, or that there is nothing to read, is what is given
 abbrev pub IsGiven : Option (Data × List Token) → Option Value → List Token → Type 0

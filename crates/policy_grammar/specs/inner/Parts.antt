@@ -1,7 +1,8 @@
 -- What the parts of the reader tell one another.
-use Rattle.std.specs.Prelude.{◌≡◌, ◌↔◌, ◌&&◌, ◌||◌, ◌==◌, Bool, false, IsTrue, ℕ, List, [], ◌∷◌}
+use Rattle.std.specs.Prelude.{◌≡◌, ◌≢◌, ◌↔◌, ◌&&◌, ◌||◌, ◌==◌, Bool, false, IsTrue, ℕ, List, [], ◌∷◌, ◌++◌}
 use Rattle.std.specs.Prelude.{is_some, find, codes, if◌then◌else◌}
 use Rattle.std.specs.List.{AllByRecursion, flat_map, starts_with}
+use Rattle.policy_tokens.specs.Lexing.{quote, backslash}
 use Rattle.policy_syntax.specs.declared.tree.Condition.{Condition}
 use Rattle.policy_syntax.specs.declared.tree.ConditionWord.{ConditionWord}
 use Rattle.policy_syntax.specs.declared.tree.ConditionWord.TheVariants as word
@@ -60,3 +61,9 @@ pub record ReportsPolicy (text : List ℕ) (tree : PolicyTree) (verdict : Verdic
 pub record ReportsFile (text : List ℕ) (trees : List PolicyTree) (verdict : Verdict) : Type 0 where
   pub fault : verdict.fault ≡ least (flat_map (tree_faults text) trees)
   pub small : IsTrue verdict.small ↔ AllByRecursion (IsSmallTree text) trees
+
+-- The text is these parts of a uid, the name of its type and its id, and between and around them what a uid is written
+-- with; each byte of the id stands for itself.
+pub record IsWrittenPlainly (text name id : List ℕ) : Type 0 where
+  pub whole : text ≡ name ++ codes "::\"" ++ id ++ codes "\""
+  pub plain : AllByRecursion (λ b. (b ≢ quote) × (b ≢ backslash)) id

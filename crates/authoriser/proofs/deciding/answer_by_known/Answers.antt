@@ -8,5 +8,5 @@ loop-id-init g c = ([], tt, c.new-tally.ensures)
 
 pub loop-id-preserved : goal.loop-id-preserved
 loop-id-preserved g c =
-    next_policy (world_of (g.L.Lookup.stored c.args.known.now.0) (g.L.Ancestry.parents c.args.known.now.0)) c.args.request.now c.args.policies.now c.loop-id.id-index c.loop-id-item.result c.loop-id.tally c.note.new.self c.in_ok-outcome.outcome
+    next_policy (world_of (g.L.Lookup.stored c.args.known.now.0) (g.L.Ancestry.parents c.args.known.now.0)) c.args.known.now.1 c.args.policies.now c.loop-id.id-index c.loop-id-item.result c.loop-id.tally c.note.new.self c.in_ok-outcome.outcome
     c.loop-id-test.true c.loop-id-item.is c.in_ok-outcome.ensures c.in_ok-note.ensures c.loop-id.invariant

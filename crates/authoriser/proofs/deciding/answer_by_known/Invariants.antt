@@ -7,4 +7,4 @@ use Rattle.authoriser.specs.inner.Views.{Counts}
 use Rattle.authoriser.proofs.deciding.answer_by_known.Given as goal
 
 abbrev pub invariant-loop-id : goal.invariant-loop-id
-invariant-loop-id g l = (js : List PolicyOutcome) × ArePolicyOutcomes (world_of (g.L.Lookup.stored l.known.0) (g.L.Ancestry.parents l.known.0)) l.request (named (take l.id-index l.policies)) js × Counts l.tally js
+invariant-loop-id g l = (js : List PolicyOutcome) × ArePolicyOutcomes (world_of (g.L.Lookup.stored l.known.0) (g.L.Ancestry.parents l.known.0)) l.known.1 (named (take l.id-index l.policies)) js × Counts l.tally js

@@ -16,16 +16,15 @@ loop-id-init g c = record {
 pub outcome_of-requires : goal.outcome_of-requires
 outcome_of-requires g c =
     let entities = c.request_entities-entities.result.now in
-    let asked = subst (λ q. HasRequestAncestors (g.L.Ancestry.parents c.args.known.now.0) q entities) c.requires c.request_entities-entities.ensures in
-    subst (λ s. HasRequestAncestors (g.L.Ancestry.parents s.0) c.args.request.now entities) (sym (c.keep_next.ensures ∙ c.loop-id.invariant.same)) asked
+    subst (λ s. HasRequestAncestors (g.L.Ancestry.parents s.0) s.1 entities) (sym (c.keep_next.ensures ∙ c.loop-id.invariant.same)) c.request_entities-entities.ensures
 
 pub loop-id-preserved : goal.loop-id-preserved
 loop-id-preserved g c =
     let same = c.keep_next.ensures ∙ c.loop-id.invariant.same in
-    let outcome = subst (λ s. PolicyEvaluatesTo (world_of (g.L.Lookup.stored s.0) (g.L.Ancestry.parents s.0)) c.args.request.now c.loop-id-item.result.1.now c.in_ok-outcome.outcome) same c.in_ok-outcome.ensures in
+    let outcome = subst (λ s. PolicyEvaluatesTo (world_of (g.L.Lookup.stored s.0) (g.L.Ancestry.parents s.0)) s.1 c.loop-id-item.result.1.now c.in_ok-outcome.outcome) same c.in_ok-outcome.ensures in
     record {
       same = same;
-      judged = next_policy (world_of (g.L.Lookup.stored c.args.known.now.0) (g.L.Ancestry.parents c.args.known.now.0)) c.args.request.now c.args.policies.now c.loop-id.id-index c.loop-id-item.result c.loop-id.tally c.note.new.self c.in_ok-outcome.outcome
+      judged = next_policy (world_of (g.L.Lookup.stored c.args.known.now.0) (g.L.Ancestry.parents c.args.known.now.0)) c.args.known.now.1 c.args.policies.now c.loop-id.id-index c.loop-id-item.result c.loop-id.tally c.note.new.self c.in_ok-outcome.outcome
           c.loop-id-test.true c.loop-id-item.is outcome c.in_ok-note.ensures c.loop-id.invariant.judged;
     }
 
@@ -34,4 +33,4 @@ returns g c =
     let W = world_of (g.L.Lookup.stored c.args.known.now.0) (g.L.Ancestry.parents c.args.known.now.0) in
     let js = c.loop-id.invariant.judged in
     IfOk-weaker c.into_answer.result _ _
-    (λ a is. (js.0, all_judged W c.args.request.now c.args.policies.now c.loop-id.id-index js.0 c.loop-id-test.false js.1, is ∙ counted c.loop-id.tally js.0 js.2)) c.into_answer.ensures
+    (λ a is. (js.0, all_judged W c.args.known.now.1 c.args.policies.now c.loop-id.id-index js.0 c.loop-id-test.false js.1, is ∙ counted c.loop-id.tally js.0 js.2)) c.into_answer.ensures

@@ -9,5 +9,5 @@ use Rattle.authoriser.proofs.deciding.answer_by_search.Given as goal
 abbrev pub invariant-loop-id : goal.invariant-loop-id
 invariant-loop-id g l = record {
   same : l.world ≡ l.fn.known;
-  judged : (js : List PolicyOutcome) × ArePolicyOutcomes (world_of (g.L.Lookup.stored l.fn.known.0) (g.L.Ancestry.parents l.fn.known.0)) l.request (named (take l.id-index l.policies)) js × Counts l.tally js;
+  judged : (js : List PolicyOutcome) × ArePolicyOutcomes (world_of (g.L.Lookup.stored l.fn.known.0) (g.L.Ancestry.parents l.fn.known.0)) l.fn.known.1 (named (take l.id-index l.policies)) js × Counts l.tally js;
 }

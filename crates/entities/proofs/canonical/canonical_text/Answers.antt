@@ -1,8 +1,15 @@
-use Rattle.entities.proofs.CanonicalLemmas.{text_done, back_done}
+use Rattle.std.proofs.Common.{◌∙◌}
+use Rattle.entities.specs.Canonical.{canonical_text}
+use Rattle.uid_json.proofs.Appending.{text_written, json_written}
 use Rattle.entities.proofs.canonical.canonical_text.Goals as goal
 
 pub returns-clause-text : goal.returns-clause-text
-returns-clause-text c = text_done (λ b. b.items) c.write_json.result _ c.args.entity.now c.values_have_no_float.ensures c.in_ok-json.ensures c.write_json.ensures.text
+unfolding canonical_text
+returns-clause-text c =
+    text_written c.into_inner.result.items (c.new-out.ensures.before ∙ c.in_ok-with_capacity.ensures.items) c.new-out.ensures.tokens c.in_ok-write_members.ensures
+    c.into_inner.ensures.items
 
 pub returns-clause-reads_back : goal.returns-clause-reads_back
-returns-clause-reads_back c = back_done (λ b. b.items) c.write_json.result _ c.args.entity.now c.in_ok-json.ensures c.write_json.ensures.reads_back
+returns-clause-reads_back c shallow =
+    json_written c.into_inner.result.items (c.new-out.ensures.before ∙ c.in_ok-with_capacity.ensures.items) c.new-out.ensures.tokens c.in_ok-write_members.ensures
+    c.into_inner.ensures.items c.into_inner.ensures.reads_back c.into_inner.ensures.utf8 shallow

@@ -11,7 +11,8 @@ returns-clause-given g c =
     let q = c.args.request.now in
     let x = c.args.expr.now in
     let given = c.meanings_are_given.ensures W above (g.met.L.Ancestry.above_is store) q x in
-    answers_what_is_given W q x (meaning q (decided_world W.stored above) x) given c.outcome_of.result c.outcome_of.ensures
+    let m = meaning q (decided_world W.stored above) x in
+    answers_what_is_given W q x m given c.owned.result (c.owned.ensures m c.outcome_of.ensures)
 
 pub returns-clause-all : goal.returns-clause-all
 returns-clause-all g c =
@@ -21,4 +22,5 @@ returns-clause-all g c =
     let q = c.args.request.now in
     let x = c.args.expr.now in
     let given = c.meanings_are_given.ensures W above (g.met.L.Ancestry.above_is store) q x in
-    answers_all_that_is_given W q x (meaning q (decided_world W.stored above) x) given c.outcome_of.result c.outcome_of.ensures
+    let m = meaning q (decided_world W.stored above) x in
+    answers_all_that_is_given W q x m given c.owned.result (c.owned.ensures m c.outcome_of.ensures)

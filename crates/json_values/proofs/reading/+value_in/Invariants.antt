@@ -1,6 +1,7 @@
 use Rattle.std.proofs.Common.{◌≡◌, ℕ, ◌+◌, ◌*◌, ◌≤◌, length}
 use Rattle.serde_json.specs.View.{members_view}
-use Rattle.json_values.specs.inner.Given.{array_at, object_at}
+use Rattle.json_values.specs.Arrays.{array_at}
+use Rattle.json_values.specs.inner.Given.{object_at}
 use Rattle.json_values.proofs.Turns.{array_with, object_with}
 use Rattle.json_values.proofs.reading.+value_in.Given as goal
 

@@ -1,6 +1,6 @@
 use Rattle.std.proofs.Common.{◌+◌, drop, get_or, string_bytes, subst, ℕ, List}
 use Rattle.std.proofs.lemmas.Result.{err_from_is_err_and}
-use Rattle.policy_grammar.specs.PolicyText.{OrNoMemory}
+use Rattle.plain.specs.Refused.{OrNoMemory}
 use Rattle.decision_texts.specs.Refusals.{no_memory}
 use Rattle.loaded_files.specs.Loads.{policy_puts}
 use Rattle.loaded_files.proofs.LoadLemmas.{words, nows, none, next_puts}

@@ -1,11 +1,11 @@
 use Rattle.std.proofs.Common.{ap}
-use Rattle.scope_index.specs.Keys.{texts}
+use Rattle.scope_index.specs.Keys.{lent}
 use Rattle.scope_index.proofs.Offering.{offered_in_all}
 use Rattle.scope_index.proofs.candidates.found_by.Goals as goal
 
 pub returns : goal.returns
 returns g c =
     offered_in_all (g.A.Ancestry.parents c.args.ancestry.now) c.args.request.now c.args.buckets.now
-    (texts c.new-found.result.items) (texts c.offer_unbound.new.found.items) (texts c.offer_above.new.found.items)
-    (texts c.offer_above-2.new.found.items) (ap texts c.new-found.ensures.items)
+    (lent c.new-found.result.items) (lent c.offer_unbound.new.found.items) (lent c.offer_above.new.found.items)
+    (lent c.offer_above-2.new.found.items) (ap lent c.new-found.ensures.items)
     c.in_ok-offer_unbound.ensures c.in_ok-offer_above.ensures c.in_ok-offer_above-2.ensures

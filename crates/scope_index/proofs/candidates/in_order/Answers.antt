@@ -1,18 +1,17 @@
-use Rattle.std.proofs.Common.{List}
-use Rattle.std.specs.Prelude.{ℕ}
-use Rattle.std.specs.Borrow.{Bor}
-use Rattle.std.specs.Cmp.Lexicographic.{on_texts, texts_ties}
-use Rattle.std.proofs.lemmas.List.Filters.{dedup_is}
-use Rattle.std.proofs.lemmas.List.Kept.{IsStrictlySortedBy-dedup}
-use Rattle.scope_index.proofs.Offering.{ascending_texts, same_in_order}
+use Rattle.std.proofs.Common.{rules}
+use Rattle.std.proofs.lemmas.Fn.{dedup_same}
+use Rattle.std.proofs.lemmas.List.Sorted.{answers_always}
+use Rattle.scope_index.proofs.Standing.{one_id, same_in_order, ascending_once}
 use Rattle.scope_index.proofs.candidates.in_order.Goals as goal
 
 pub returns-clause-same : goal.returns-clause-same
 returns-clause-same c =
-    same_in_order _ _ c.dedup.new.self.items c.sort_unstable.ensures.permutation (dedup_is _ _ _ c.dedup.ensures.filtered)
+    same_in_order c.args.found.items c.sort_unstable_by_key.new.self.items c.dedup_by_key.new.self.items c.requires
+    c.sort_unstable_by_key.ensures.permutation
+    (dedup_same _ one_id _ (λ x y b f' x' y' k. search rules) _ _ c.dedup_by_key.ensures.filtered)
 
 pub returns-clause-ascending : goal.returns-clause-ascending
 returns-clause-ascending c =
-    let is = dedup_is _ _ _ c.dedup.ensures.filtered in
-    ascending_texts c.dedup.new.self.items (rw is (IsStrictlySortedBy-dedup (on_texts (λ (b : Bor (List ℕ)). b.now))
-    (λ x y. texts_ties x.now y.now) _ c.sort_unstable.ensures.sorted))
+    ascending_once c.sort_unstable_by_key.new.self.items c.dedup_by_key.new.self.items
+    (c.sort_unstable_by_key.ensures.sorted (λ p. p.0) (answers_always _ _ _ (λ f a r f' k. search rules)))
+    (dedup_same _ one_id _ (λ x y b f' x' y' k. search rules) _ _ c.dedup_by_key.ensures.filtered)

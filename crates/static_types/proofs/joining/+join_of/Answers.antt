@@ -23,8 +23,13 @@ join_of-returns-in-Set-Set t c =
     told_sets c.join_of.result (part_view c.in-Set-Set.a) (part_view c.in-Set-Set.b) (part_view c.args.left) (part_view c.args.right)
     c.in-Set-Set.ensures c.in-Set-Set.ensures' c.join_of.ensures
 
-pub join_of-returns-in-Record-Record : goal.join_of-returns-in-Record-Record
-join_of-returns-in-Record-Record t c =
+pub join_of-returns-in-Some : goal.join_of-returns-in-Some
+join_of-returns-in-Some t c =
+    told_records c.in-Some.join (fields_view c.in-Record-Record.a) (fields_view c.in-Record-Record.b) (part_view c.args.left)
+    (part_view c.args.right) c.in-Record-Record.ensures c.in-Record-Record.ensures' c.in-Some.ensures
+
+pub join_of-returns-in-None : goal.join_of-returns-in-None
+join_of-returns-in-None t c =
     told_records c.join_of_fields.result (fields_view c.in-Record-Record.a) (fields_view c.in-Record-Record.b) (part_view c.args.left)
     (part_view c.args.right) c.in-Record-Record.ensures c.in-Record-Record.ensures' c.join_of_fields.ensures
 

@@ -7,7 +7,7 @@ use Rattle.std.specs.declared.string.String.{String}
 use Rattle.policy_grammar.specs.declared.policy.Policy.{Policy}
 use Rattle.stamped_entries.specs.declared.entry.Entry.{Entry}
 use Rattle.std.specs.Str.{bytes_eq}
-use Rattle.scope_index.specs.Keys.{key_at}
+use Rattle.scope_index.specs.Keys.{kept_at}
 use Rattle.store_index.specs.Indexed.{policy_in, AreIndexed, PolicyEntries}
 use Rattle.store_index.specs.inner.Following.{noted}
 use Rattle.store_index.proofs.Follows.{one_entry_more, pushed, still_rest}
@@ -24,6 +24,6 @@ loop-id-preserved g c =
       indexed = subst (λ (es : PolicyEntries). AreIndexed es c.add_entry.new.index) (sym (pushed c.loop-id.yielded x))
           (one_entry_more ys (deref_pair x) c.next.new.self c.args.store.now.policies c.loop-id.index c.add_entry.new.index all
           c.policies-id-items.ensures.ordered c.loop-id.invariant.indexed
-          (subst (λ b. (q : List ℕ) → key_at c.add_entry.new.index q ≡ cond (bytes_eq b q) (noted (policy_in c.in-Some.entry.now) (key_at c.loop-id.index q)) (key_at c.loop-id.index q))
+          (subst (λ b. (q : List ℕ) → kept_at c.add_entry.new.index q ≡ cond (bytes_eq b q) (noted (policy_in c.in-Some.entry.now) (kept_at c.loop-id.index q)) (kept_at c.loop-id.index q))
           c.as_str.ensures.value c.in_ok-add_entry.ensures));
     }

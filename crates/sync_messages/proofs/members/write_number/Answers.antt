@@ -1,5 +1,5 @@
 use Rattle.std.proofs.Common.{arith}
-use Rattle.sync_messages.proofs.Appending.{wrote, ends, number_member}
+use Rattle.uid_json.proofs.Appending.{wrote, ends, number_member}
 use Rattle.sync_messages.proofs.members.write_number.Goals as goal
 
 pub returns : goal.returns

@@ -2,9 +2,9 @@ use Rattle.std.proofs.Common.{◌∷◌, [], map, arith, sym, subst}
 use Rattle.std.proofs.lemmas.Grind.{common_steps}
 use Rattle.std.proofs.lemmas.List.{map-append}
 use Rattle.std.specs.Map.Iter.{deref_pair}
-use Rattle.sync_messages.specs.Tokens.{AppendsAll}
+use Rattle.uid_json.specs.Tokens.{AppendsAll}
 use Rattle.sync_messages.specs.inner.Writing.{stamps_json}
-use Rattle.sync_messages.proofs.Appending.{none_written}
+use Rattle.uid_json.proofs.Appending.{none_written}
 use Rattle.sync_messages.proofs.Stamps.{one_more}
 use Rattle.sync_messages.proofs.writing.write_each.Goals as goal
 

@@ -1,6 +1,6 @@
 use Rattle.std.proofs.Common.{◌≡◌, ◌++◌, map}
 use Rattle.std.specs.Map.Iter.{deref_pair}
-use Rattle.sync_messages.specs.Tokens.{AppendsAll}
+use Rattle.uid_json.specs.Tokens.{AppendsAll}
 use Rattle.sync_messages.specs.inner.Writing.{stamps_json}
 use Rattle.sync_messages.proofs.writing.write_each.Given as goal
 

@@ -1,4 +1,4 @@
-use Rattle.sync_messages.proofs.Appending.{wrote, ends}
+use Rattle.uid_json.proofs.Appending.{wrote, ends}
 use Rattle.sync_messages.proofs.Stamps.{stamp_written}
 use Rattle.sync_messages.proofs.writing.write_stamp.Goals as goal
 

@@ -1,4 +1,4 @@
-use Rattle.sync_messages.proofs.Appending.{wrote, ends}
+use Rattle.uid_json.proofs.Appending.{wrote, ends}
 use Rattle.sync_messages.proofs.Stamps.{store_written}
 use Rattle.sync_messages.proofs.writing.write_stamps.Goals as goal
 

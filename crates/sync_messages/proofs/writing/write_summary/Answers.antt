@@ -3,7 +3,7 @@ use Rattle.json_words.specs.Json.{json_of}
 use Rattle.stamped_store.specs.Deltas.{summary_of}
 use Rattle.stamped_store.specs.Store.{abstract_store}
 use Rattle.sync_messages.specs.Summaries.{summary_json, summary_text}
-use Rattle.sync_messages.proofs.Appending.{text_written, json_written}
+use Rattle.uid_json.proofs.Appending.{text_written, json_written}
 use Rattle.sync_messages.proofs.RoundTrip.{depth_summary, stated_back}
 use Rattle.sync_messages.proofs.writing.write_summary.Goals as goal
 

@@ -1,6 +1,6 @@
 use Rattle.stamped_store.specs.Deltas.{summary_of}
 use Rattle.stamped_store.specs.Store.{abstract_store}
-use Rattle.sync_messages.proofs.Appending.{wrote, ends}
+use Rattle.uid_json.proofs.Appending.{wrote, ends}
 use Rattle.sync_messages.proofs.Stamps.{summary_written}
 use Rattle.sync_messages.proofs.writing.write_whole.Goals as goal
 

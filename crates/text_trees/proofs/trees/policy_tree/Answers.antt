@@ -5,7 +5,8 @@ use Rattle.token_readers.specs.Lang.{at_any}
 use Rattle.token_readers.specs.Reads.{IsRefusedWithin}
 use Rattle.policy_syntax.specs.Grammar as grammar
 use Rattle.text_trees.specs.Texts.{most_policy_bytes}
-use Rattle.text_trees.specs.Texts.{IsUnread, OrNoMemory}
+use Rattle.plain.specs.Refused.{OrNoMemory}
+use Rattle.text_trees.specs.Texts.{IsUnread}
 use Rattle.text_trees.specs.declared.fault.ReadFault.TheVariants as fault
 use Rattle.text_trees.specs.inner.Parts.{refusal_of}
 use Rattle.text_trees.proofs.Unread.{unread}

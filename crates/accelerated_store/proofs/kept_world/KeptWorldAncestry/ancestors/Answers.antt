@@ -1,8 +1,16 @@
-use Rattle.std.proofs.Common.{subst}
+use Rattle.std.proofs.Common.{subst, refl}
 use Rattle.std.proofs.lemmas.Result.{IfOk-weaker}
 use Rattle.ancestor_closure.specs.Hierarchy.{Parents, IsAllAbove, IsAscending, names}
 use Rattle.kept_ancestors.specs.Kept.{AreKept}
+use Rattle.accelerated_store.proofs.Tops.{nothing_above, none_ascend}
 use Rattle.accelerated_store.proofs.kept_world.KeptWorldAncestry.ancestors.Goals as goal
+
+pub returns-then-is_top_action-clause-all : goal.returns-then-is_top_action-clause-all
+returns-then-is_top_action-clause-all g c = nothing_above (g.W.Ancestry.parents c.args.self.now) c.args.uid.now
+    c.new.result.items c.new.ensures.items (c.if-is_top_action.ensures refl)
+
+pub returns-then-is_top_action-clause-ascending : goal.returns-then-is_top_action-clause-ascending
+returns-then-is_top_action-clause-ascending g c = none_ascend c.new.result.items c.new.ensures.items
 
 pub returns-clause-all : goal.returns-clause-all
 returns-clause-all g c =

@@ -1,0 +1,82 @@
+//! What is asked: a request, with the stored entities that it is decided over.
+ghost use Rattle.std.specs.Prelude.{◌≡◌, option_map};
+ghost use Rattle.values.specs.declared.request.Request.{Request};
+ghost use Rattle.evaluator.specs.Asked.{fields_under};
+
+use crate::lookup::Lookup;
+use ancestor_closure::Ancestry;
+use expressions::Variable;
+use plain::NoMemory;
+use values::{EntityUid, Record, Request};
+
+/// A request, with the stored entities that it is decided over. Whoever looked the request's entities up already gives
+/// their attributes by the variable that stands for each, so that no entity has to be found by its name.
+pub trait Question: Lookup {
+    /// The request.
+    ghost asked: { Self → Request };
+
+    /// Returns the request.
+    fn request(&self) -> &Request
+        ensures { result.now ≡ asked self.now };
+
+    /// Returns the fields of what a variable stands for: the attributes of an entity, or None exactly where it is not
+    /// stored; or the fields of the context. Takes no memory.
+    fn fields_of(&self, variable: Variable) -> Option<&Record>
+        ensures { option_map (λ r. r.now) result ≡ fields_under (Self.stored self.now) (asked self.now) variable };
+}
+
+/// A request beside the stored entities, of which nothing was looked up yet.
+#[derive(Drop)]
+pub struct Asking<'a, L: Lookup> {
+    pub request: &'a Request,
+    pub store: &'a L,
+}
+
+impl<L: Lookup> Ancestry for Asking<'_, L> {
+    ghost parents = { λ s. L.parents s.store.now };
+
+    ghost above = { λ s. L.above s.store.now };
+
+    ghost above_is = { λ s. L.above_is s.store.now };
+
+    fn is_ancestor(&self, a: &EntityUid, b: &EntityUid) -> Result<bool, NoMemory> {
+        self.store.is_ancestor(a, b)
+    }
+
+    fn ancestors(&self, uid: &EntityUid) -> Result<Vec<&EntityUid>, NoMemory> {
+        self.store.ancestors(uid)
+    }
+
+    fn cyclic(&self) -> Result<Vec<&EntityUid>, NoMemory> {
+        self.store.cyclic()
+    }
+
+    fn least_cycle(&self) -> Result<Option<Vec<&EntityUid>>, NoMemory> {
+        self.store.least_cycle()
+    }
+}
+
+impl<L: Lookup> Lookup for Asking<'_, L> {
+    ghost stored = { λ s. L.stored s.store.now };
+
+    fn attrs_of(&self, uid: &EntityUid) -> Option<&Record> {
+        self.store.attrs_of(uid)
+    }
+}
+
+impl<L: Lookup> Question for Asking<'_, L> {
+    ghost asked = { λ s. s.request.now };
+
+    fn request(&self) -> &Request {
+        self.request
+    }
+
+    fn fields_of(&self, variable: Variable) -> Option<&Record> {
+        match variable {
+            Variable::Principal => self.store.attrs_of(&self.request.principal),
+            Variable::Action => self.store.attrs_of(&self.request.action),
+            Variable::Resource => self.store.attrs_of(&self.request.resource),
+            Variable::Context => Some(&self.request.context),
+        }
+    }
+}

@@ -1,0 +1,16 @@
+//! Values that wait while something that may fail is made.
+ghost use Rattle.std.specs.Prelude.{◌≡◌, IfOk, IfErr, Ok, Err};
+
+/// Returns a value beside what was made while it waited; where nothing was made, only why, and the value is let go.
+///
+/// It is generic, so that a value that is let go is one step of a caller's proof, and not one for each of its variants.
+pub fn beside<T: Drop, U, E>(kept: T, made: Result<U, E>) -> Result<(T, U), E>
+    ensures made { IfOk result (λ both. made ≡ Ok both.1) }
+    ensures kept { IfOk result (λ both. both.0 ≡ kept) }
+    ensures halts { IfErr result (λ why. made ≡ Err why) }
+{
+    match made {
+        Ok(more) => Ok((kept, more)),
+        Err(why) => Err(why),
+    }
+}

@@ -1,0 +1,43 @@
+//! Uids that are written plainly, as most are: `User::"alice"` with nothing between its tokens and no escape. They are
+//! read where they stand, without tokens and without a tree.
+ghost use Rattle.std.specs.Prelude.{IfOk, IfSome};
+ghost use Rattle.policy_grammar.specs.PolicyText.{IsUidText};
+ghost use Rattle.policy_grammar.specs.inner.Parts.{IsWrittenPlainly};
+
+use desugaring::strings_are_read;
+use plain::NoMemory;
+use std::alloc::Global;
+use text_trees::MOST_POLICY_BYTES;
+use values::{EntityUid, SharedText, TypeName};
+
+/// Returns what stands before `::"`, and what stands between the quotes: where the second quote ends the text, and no
+/// escape stands between them.
+fn plain_parts(text: &str) -> Option<(&str, &str)>
+    ensures { IfSome result (λ parts. IsWrittenPlainly text.now parts.0.now parts.1.now) }
+{
+    let (front, behind) = text.split_once('"')?;
+    let name = front.strip_suffix(':')?.strip_suffix(':')?;
+    let (id, rest) = behind.split_once('"')?;
+    if !rest.is_empty() || id.contains('\\') {
+        return None;
+    }
+    Some((name, id))
+}
+
+/// Returns the uid that a text is, where it is written plainly; of others it says None. Fails for memory alone.
+pub(crate) fn plain_uid(alloc: Global, text: &str) -> Result<Option<EntityUid>, NoMemory>
+    ensures { IfOk result (λ found. IfSome found (IsUidText text.now)) }
+{
+    strings_are_read();
+    if text.len() > MOST_POLICY_BYTES {
+        return Ok(None);
+    }
+    let Some((name, id)) = plain_parts(text) else {
+        return Ok(None);
+    };
+    let Some(type_name) = TypeName::parse(alloc, name)? else {
+        return Ok(None);
+    };
+    let id = SharedText::from_str(alloc, id)?;
+    Ok(Some(EntityUid { type_name, id }))
+}

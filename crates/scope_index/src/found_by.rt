@@ -1,0 +1,44 @@
+//! By what a policy is found.
+ghost use Rattle.std.specs.Prelude.{◌≡◌, option_map};
+ghost use Rattle.scope_index.specs.Keys.{entity_named, index_key};
+ghost use Rattle.scope_index.specs.Buckets.{key_said};
+
+use policy_grammar::{EntityScope, Scope};
+use values::EntityUid;
+
+/// By what a policy is found, borrowed from its scope.
+#[derive(Clone, Copy)]
+pub(crate) enum FoundBy<'a> {
+    /// By every request: its scope names no entity for the principal, and none for the resource.
+    Always,
+    /// By a request whose principal is this entity, or below it.
+    Principal(&'a EntityUid),
+    /// By a request whose resource is this entity, or below it.
+    Resource(&'a EntityUid),
+}
+
+/// Returns the entity that a part of a scope names by `==` or `in`.
+fn entity_named(part: &EntityScope) -> Option<&EntityUid>
+    ensures { option_map (λ u. u.now) result ≡ entity_named part.now }
+{
+    match part {
+        EntityScope::Any => None,
+        EntityScope::Equal(entity) => Some(entity),
+        EntityScope::In(entity) => Some(entity),
+        EntityScope::Is(_) => None,
+        EntityScope::IsIn(_, entity) => Some(entity),
+    }
+}
+
+/// Returns by what a policy with this scope is found.
+pub(crate) fn key_of(scope: &Scope) -> FoundBy<'_>
+    ensures { key_said result ≡ index_key scope.now }
+{
+    if let Some(entity) = entity_named(&scope.principal) {
+        return FoundBy::Principal(entity);
+    }
+    if let Some(entity) = entity_named(&scope.resource) {
+        return FoundBy::Resource(entity);
+    }
+    FoundBy::Always
+}

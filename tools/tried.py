@@ -1,0 +1,30 @@
+"""What the scripts share that try a program row by row: how they begin and end, and what they print."""
+import contextlib
+import os
+import signal
+import sys
+import tempfile
+
+
+def interrupt(*_):
+    """What ends this ends it as Ctrl-C does, so that the sites that it began end too."""
+    raise KeyboardInterrupt
+
+
+def main(words, usage, rows):
+    """Tries the program that the one word names. Returns the status to end with.
+
+    `rows(program, folder)` gives the rows one after another, each with its name, what it came to, and whether that is
+    right. A line of each is printed, and `N passed, M failed` at the end.
+    """
+    if len(words) != 1:
+        print(usage, file=sys.stderr)
+        return 2
+    signal.signal(signal.SIGTERM, interrupt)
+    passed = failed = 0
+    with tempfile.TemporaryDirectory() as folder, contextlib.closing(rows(os.path.abspath(words[0]), folder)) as each:
+        for name, came, is_right in each:
+            passed, failed = passed + bool(is_right), failed + (not is_right)
+            print(f"{name}: {came}", flush=True)
+    print(f"{passed} passed, {failed} failed")
+    return 1 if failed else 0
