@@ -3,8 +3,11 @@
 # resident memory. With TIMES=1 it counts no instructions, which takes minutes for 100,000 entities.
 #
 #   bench/site.sh authorize ["POLICIES ENTITIES" ..]    one request more, over so many policies and entities, of which
-#                                                       the same ten policies can apply (default: 10, 1,000 and 10,000
-#                                                       policies; 100 to 100,000 entities)
+#                                                       the same ten policies can apply, and one is satisfied (default:
+#                                                       10, 1,000 and 10,000 policies; 100 to 100,000 entities). One
+#                                                       entity in ten is a group, so that more groups are above the
+#                                                       principal where there are more; with REACH=10 there are ten,
+#                                                       so that a request reaches as much whatever is stored
 #   bench/site.sh put [COUNT ..]                        one put more of a policy, of an entity, and of a group below a
 #                                                       chain of all others, where so many are stored (default: 1,000
 #                                                       and 10,000)
@@ -65,7 +68,7 @@ def entity(n, groups):
     """Users in groups, and the groups in a tree."""
     if n < groups:
         return stated("Group", f"g{n}", {}, n // 2 if n else None)
-    return stated("User", f"u{n}", {"age": n % 99, "name": f"u{n}"}, n % groups)
+    return stated("User", f"u{n}", {"age": n % 9, "name": f"u{n}"}, n % groups)
 
 
 def link(n, _groups):
@@ -79,7 +82,7 @@ def entry(name, body, count):
 
 def message(policies, entities, made_of=entity, worded=policy):
     """A state of so many policies and entities."""
-    groups = max(1, entities // 10)
+    groups = int(os.environ.get("REACH") or max(1, entities // 10))
     found = [entry({"policy": f"p{n}"}, worded(n), n + 1) for n in range(policies)]
     for n in range(entities):
         made = made_of(n, groups)

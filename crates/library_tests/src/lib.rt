@@ -3,6 +3,8 @@
 #![tactic(auto)]
 
 #[cfg(test)]
+mod evaluating;
+#[cfg(test)]
 mod extension_texts;
 #[cfg(test)]
 mod hierarchies;

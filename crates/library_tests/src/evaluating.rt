@@ -1,0 +1,71 @@
+//! What an expression gives to whoever hands in a request and stored entities, one by one or as one question.
+use crate::shared::{both, holds, uid_of};
+use entity_worlds::{EntityStore, NoActions, World};
+use evaluator::{
+    Asking, BorrowedOrOwned, EvalFault, Lookup, evaluate, evaluate_asked, evaluate_test,
+};
+use expressions::{Binary, Expr, Literal};
+use plain::{NoMemory, Shared};
+use std::alloc::Global;
+use std::process::Abort;
+use values::{Record, Request};
+
+fn number(alloc: Global, number: i64) -> Result<Shared<Expr>, NoMemory> {
+    Shared::new(alloc, Expr::Literal(Literal::Long(number)))
+}
+
+// `1 < 2`
+fn comparison(alloc: Global) -> Result<Expr, NoMemory> {
+    let (one, two) = both(number(alloc, 1), number(alloc, 2))?;
+    Ok(Expr::Binary(Binary::Less, one, two))
+}
+
+fn request(alloc: Global) -> Result<Request, NoMemory> {
+    let (principal, (action, resource)) = both(
+        uid_of(alloc, "User", "a"),
+        both(
+            uid_of(alloc, "Action", "view"),
+            uid_of(alloc, "Document", "x"),
+        ),
+    )?;
+    Ok(Request {
+        principal,
+        action,
+        resource,
+        context: Record::new(alloc),
+    })
+}
+
+fn is_true(given: &Result<BorrowedOrOwned<'_>, EvalFault>) -> bool {
+    match given {
+        Ok(value) => value.as_boolean() == Some(true),
+        Err(_) => false,
+    }
+}
+
+fn is_told(told: &Result<bool, EvalFault>) -> bool {
+    match told {
+        Ok(truth) => *truth,
+        Err(_) => false,
+    }
+}
+
+fn evaluates<L: Lookup>(rt: &impl Abort, alloc: Global, expr: &Expr, request: &Request, store: &L) {
+    let given = evaluate(alloc, expr, request, store);
+    holds(rt, is_true(&given), "a request and a store");
+    let told = evaluate_test(alloc, expr, request, store);
+    holds(rt, is_told(&told), "the same as a test");
+    let question = Asking { request, store };
+    let given = evaluate_asked(alloc, expr, &question);
+    holds(rt, is_true(&given), "both as one question");
+}
+
+#[test]
+fn expressions_are_evaluated(rt: HostRuntime) -> Result<(), NoMemory> {
+    let alloc = rt.alloc();
+    let (expr, request) = both(comparison(alloc), request(alloc))?;
+    let store = EntityStore::new(alloc);
+    let world = World::new(alloc, &store, NoActions);
+    evaluates(&rt, alloc, &expr, &request, &world);
+    Ok(())
+}
