@@ -56,7 +56,7 @@ The files of specs/, highest crate first, each with what it defines, in short, a
 are none): the contract of a whole run, `site_commands::run`, rests on so many of its lines
 (docs/reading.md); these stand in the order in which a reader meets their names.
 **Without one**: of laws (docs/proved.md), and of what code shows to contracts: those that have a
-public source, and at the end by name the rest. `tools/made_docs.py --where NAME` tells of any name.
+public source, and by name the rest but for laws. `tools/made_docs.py --where NAME` tells of any.
 
 In brackets: *in quotes alone*, a heading of the Cedar reference guide 4.0; *with a slash*, a file
 below cedar-lean/Cedar of its formal model cedar-spec; *in part ours*: a rule of this product too.
@@ -289,9 +289,10 @@ def definitions():
         modules = dict(modules_of(crate))
         counted = {it: lines for it, lines in files.get(crate, {}).items() if it in modules}
         others = [it for it in modules if it not in counted and source(head_of(it), "") not in ("", "ours")]
-        named = [modules[it] for it in modules if it in cited and it not in counted and it not in others]
-        rest += [f"`{crate}` {', '.join(named)}"] if named else []
         told = [*counted, *others]
+        # of laws docs/proved.md tells
+        named = [name for it, name in modules.items() if it in cited and it not in told and name not in ("Laws", "Outcomes")]
+        rest += [f"`{crate}` {', '.join(named)}"] if named else []
         lines += [f"## `{crate}`", ""] if told else []
         for path, number in counted.items():
             names = names_of(walk, crate, path, modules[path], cited)
