@@ -26,6 +26,7 @@ pub(crate) fn offered<'s, A: Ancestry>(
         (policies_read store.now.policies) (named ps.items)) }
     ensures ascending { IfOk result (λ ps. Ascend (named ps.items)) }
 {
+    // what the store keeps is in the order of its names: a fact that the proof needs
     let _policies = store.policies();
     index.candidates(request, ancestry)
 }

@@ -343,8 +343,8 @@ impl AcceleratedStore {
     /// the actions of the schema.
     ///
     /// R is what texts may be read as. The answer is that of the store for each r of R by which each text of the store
-    /// was read as what stands beside it. Only policies are tried whose scope names no entity, or one that the request
-    /// finds. Source: Cedar reference guide, "Authorization". Errors: `NoMemory` alone.
+    /// was read as what stands beside it. Where the index stands, and memory suffices, only
+    /// the policies that it offers are tried. Source: Cedar reference guide, "Authorization". Errors: `NoMemory` alone.
     pub fn answer<R: Readings<Policy, Entity>>(&self, request: &Request) -> Result<Answer, NoMemory>
         ensures { IfOk result (λ a. (r : R) → AreEntriesRead (R.reads_policy r) (R.reads_entity r) self.now.kept
             → IsAnswerOver (R.reads_policy r) (R.reads_entity r) (schema_view self.now.schema)

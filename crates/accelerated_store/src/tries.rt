@@ -4,8 +4,8 @@ use policy_grammar::{EntityScope, Policy};
 use stamped_store::Entry;
 use std::cell::Cell;
 
-/// How many policies an answer tried, and whether some policy that was stored names an entity in its scope: as long as
-/// none does, an index offers them all, and listing what it offers would cost more than trying all of them.
+/// How many policies an answer tried, and whether some policy that was handed in names a principal or a resource: as
+/// long as none does, an index offers them all, and listing what it offers would cost more than trying all of them.
 ///
 /// It is a measure: no contract speaks of it, and no answer depends on it.
 #[derive(Drop)]

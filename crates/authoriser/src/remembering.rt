@@ -13,7 +13,8 @@ use std::marker::Model;
 use values::{EntityUid, Record, Request};
 
 /// Stored entities whose hierarchy is searched. Of which others than the request's three it is asked who is above them,
-/// is kept from policy to policy, so that it is not searched for each. Contracts see the stored entities.
+/// is kept from policy to policy, so that it is not searched for each. Contracts see the stored entities
+/// and the request.
 #[derive(Drop)]
 pub(crate) struct Remembering<'a, S: Question> {
     alloc: Global,

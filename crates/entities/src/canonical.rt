@@ -16,7 +16,7 @@ use typed_values::write_record;
 use uid_json::write_uid;
 use values::EntityUid;
 
-/// The bytes that a text has room for from the start.
+/// So much room is made at once for a text, in bytes: most entities take less, and their texts do not grow.
 const ROOM: usize = 128;
 
 fn write_parents(out: &mut Writer, parents: &[EntityUid]) -> Result<(), NoMemory>

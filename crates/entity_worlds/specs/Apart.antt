@@ -1,6 +1,6 @@
 -- What is declared as actions is a hierarchy of its own.
 -- Source: Cedar reference guide 4.0, "Schema JSON format", `actions` and `memberOf`: the groups that an action is a
--- member of are actions. Rule of this product: no action is above itself; a schema in which one is states none.
+-- member of are actions, and none is above itself: bytes that declare such an action state no schema.
 use Rattle.std.specs.Prelude.{List, [], Contains, Option, Some, None, IsSome}
 use Rattle.values.specs.declared.entity_uid.EntityUid.{EntityUid}
 use Rattle.ancestor_closure.specs.Hierarchy.{Parents}

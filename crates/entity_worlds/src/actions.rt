@@ -21,7 +21,7 @@ pub trait ActionSource {
         ensures all { AreActions (declared self.now) result.now }
         ensures ascending { IsAscending result.now };
 
-    /// Lends those above an action, or None exactly where it is not declared. Takes no memory.
+    /// Lends the parents of an action, or None exactly where it is not declared. Takes no memory.
     fn ancestors_of(&self, uid: &EntityUid) -> Option<&[EntityUid]>
         ensures { option_map (λ us. us.now) result ≡ declared self.now uid.now };
 

@@ -51,7 +51,7 @@ impl<'a, S: EntitySource, A: ActionSource + Drop> World<'a, S, A> {
         }
     }
 
-    /// Those above an action; None where it is not declared.
+    /// The parents of an action; None where it is not declared.
     fn action(&self, uid: &EntityUid) -> Option<&[EntityUid]>
         ensures { option_map (λ us. us.now) result ≡ A.declared self.now.1 uid.now }
     {

@@ -26,8 +26,8 @@ use plain::{Items, Shared, Text};
 use std::alloc::Global;
 use values::{Record, Request, Value};
 
-/// Returns what an expression gives under a request, over the stored entities: its value, or the first error. The value
-/// is the caller's own; [`evaluate_asked`] lends what stands somewhere.
+/// Returns what an expression gives under a request, over the stored entities: its value, or the first error. It
+/// copies what stands somewhere, which [`evaluate_asked`] lends; otherwise as that.
 pub fn evaluate<'a, L: Lookup>(
     alloc: Global,
     expr: &'a Expr,

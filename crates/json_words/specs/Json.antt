@@ -1,6 +1,7 @@
 -- JSON as bytes and as a value.
 -- Source: RFC 8259. What `read` leaves open there, or does on its own account: arrays and objects nest at most 127
--- deep, and of a key that stands twice the last value counts.
+-- deep, of a key that stands twice the last value counts, and neither half of a surrogate pair nor a number beyond a
+-- double is read.
 use Rattle.std.specs.Prelude.{ℕ, List, Option, None, option_and_then, if◌then◌else◌}
 use Rattle.std.specs.Str.{is_utf8}
 use Rattle.serde_json.specs.Data.{Data}

@@ -1,4 +1,4 @@
--- The order of expressions is that of their tokens: total, and exact.
+-- The order of expressions is that of their tokens: total, and exact. Laws of a rule of this product.
 use Rattle.std.specs.Prelude.{◌≡◌, ℕ, List, [], ◌∷◌, ◌++◌, map, length, Bool, true, false, refl}
 use Rattle.std.proofs.Common.{ap, sym, ◌∙◌, append_assoc, arith}
 use Rattle.std.proofs.lemmas.List.{append-nil}

@@ -1,5 +1,5 @@
 -- An expression as a list of tokens, which gives it back: of each form what stands in it beside its operands, and then
--- the tokens of these. The tokens also give the order of expressions.
+-- the tokens of these. The tokens also give the order of expressions. A rule of this product.
 use Rattle.std.specs.Prelude.{
   ◌≡◌,
   ℕ,

@@ -1,4 +1,4 @@
--- Sets of numbers, as lists of spans.
+-- Sets of numbers, as lists of spans. A rule of this product.
 use Rattle.std.specs.Prelude.{ℕ, List, Bool, ◌&&◌, nat_le}
 use Rattle.std.specs.List.{list_any}
 use Rattle.number_spans.specs.declared.spans.Span.{Span}

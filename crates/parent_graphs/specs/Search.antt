@@ -1,4 +1,4 @@
--- How the edges are kept, and one step of a search.
+-- How the edges are kept, and one step of a search. A rule of this product.
 use Rattle.std.specs.Prelude.{◌≡◌, ◌+◌, List, [], length, Option, Some, None, Vec, Contains, ◌⊎◌}
 use Rattle.std.specs.declared.alloc.Global.{Global}
 use Rattle.std.specs.BTreeMap.{BTreeMap, get}

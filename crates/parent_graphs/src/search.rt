@@ -54,7 +54,7 @@ fn above<'a, G: ParentsOf>(
     Ok(seen)
 }
 
-/// Returns whether `a` lies above `b`. The search ends at the first path found; for a parent of `b` it takes no memory.
+/// Returns whether `a` lies above `b`. The search ends at the first path found.
 /// `NoMemory` where an allocation was refused.
 pub fn is_above<'a, G: ParentsOf>(
     alloc: Global,

@@ -1,44 +1,129 @@
 -- Each policy stands in the bucket of its key, and nowhere else.
 use Rattle.std.proofs.Common.{◌≡◌, ◌∙◌, refl, sym, ap, subst, Bool, true, false, List, [], Option, Some, None, ◌&&◌}
-use Rattle.std.specs.Prelude.{ℕ, cond, Result, Ok, Err, OnOk, OnErr, string_bytes}
+use Rattle.std.specs.Prelude.{ℕ, cond, Result, Ok, Err, OnOk, OnErr, IsTrue, string_bytes}
+use Rattle.std.specs.Ordering.{is_eq, ordering_then}
+use Rattle.std.specs.declared.cmp.Ordering.TheVariants.{Less, Equal, Greater}
 use Rattle.std.specs.Result.{is_err}
 use Rattle.std.specs.Map.{lookup}
-use Rattle.std.specs.BTreeMap.{BTreeMap, get, is_at}
+use Rattle.std.specs.BTreeMap.{get, is_at}
 use Rattle.std.specs.Str.{bytes_eq}
 use Rattle.std.proofs.lemmas.Slice.Eq.{bytes_eq-Decides}
 use Rattle.values.specs.declared.entity_uid.EntityUid.{EntityUid}
-use Rattle.values.specs.Names.{uid_cmp}
+use Rattle.values.specs.Names.{text_cmp, text_cmp-IsAntisymmetric}
+use Rattle.std.proofs.lemmas.Map.Views.{tells_apart}
 use Rattle.ancestor_closure.specs.Deciding.{same_uid, same_self}
 use Rattle.std.specs.declared.alloc.Global.{Global}
 use Rattle.std.specs.declared.string.String.{String}
 use Rattle.policy_grammar.specs.declared.policy.Policy.{Policy}
 use Rattle.scope_index.specs.declared.buckets.Buckets.{Buckets}
 use Rattle.scope_index.specs.Keys.{IndexKey, Always, Principal, Resource, index_key, Kept, kept_at}
-use Rattle.scope_index.specs.Buckets.{Bucket, held_in, held_under, is_same, is_key, in_bucket, Turns, TurnsAt, IsSameUnder, AreSame, AreEmpty, due_in, AreFiled}
+use Rattle.scope_index.specs.Buckets.{Bucket, Named, Under, held_in, held_at, held_under, bucket_of, is_text, is_key, in_bucket}
+use Rattle.scope_index.specs.Buckets.{Turns, TurnsNamed, TurnsAt, IsSameUnder, IsSameNamed, AreSame, AreEmpty, due_in, AreFiled}
+
+-- ---- the policies under one entity of a type
+
+same_text : (a b : List ℕ) → is_text a b ≡ true → a ≡ b
+same_text a b h = tells_apart text_cmp-IsAntisymmetric a b h
+
+pub turned : (entity id : List ℕ) (there : Option Policy) (m n : Named) (w : Bucket)
+    → ((e : List ℕ) → get text_cmp n e ≡ cond (is_text entity e) (Some w) (get text_cmp m e))
+    → ((q : List ℕ) → kept_at w.entries q ≡ cond (bytes_eq id q) there (held_at m entity q))
+    → TurnsNamed entity id there m n
+turned entity id there m n w at has e q =
+    elim (is_text entity e) as (λ b. is_text entity e ≡ b → get text_cmp n e ≡ cond b (Some w) (get text_cmp m e)
+    → held_at n e q ≡ cond (b && bytes_eq id q) there (held_at m e q)) [
+      | true ↦ λ same is. ap (λ o. held_in o q) is ∙ has q
+          ∙ ap (λ x. cond (bytes_eq id q) there (held_at m x q)) (same_text entity e same)
+      | false ↦ λ apart is. ap (λ o. held_in o q) is
+    ] refl (at e)
+
+pub emptied : (entity : List ℕ) (m n : Named)
+    → ((e : List ℕ) → get text_cmp n e ≡ cond (is_text entity e) None (get text_cmp m e))
+    → ((q : List ℕ) → held_at m entity q ≡ None) → IsSameNamed m n
+emptied entity m n at none e q =
+    elim (is_text entity e) as (λ b. is_text entity e ≡ b → get text_cmp n e ≡ cond b None (get text_cmp m e)
+    → held_at n e q ≡ held_at m e q) [
+      | true ↦ λ same is. ap (λ o. held_in o q) is ∙ sym (subst (λ x. held_at m x q ≡ None) (same_text entity e same) (none q))
+      | false ↦ λ apart is. ap (λ o. held_in o q) is
+    ] refl (at e)
+
+-- what is written under an entity is what was there
+pub same_written : (entity : List ℕ) (m n : Named) (w : Bucket)
+    → ((e : List ℕ) → get text_cmp n e ≡ cond (is_text entity e) (Some w) (get text_cmp m e))
+    → ((q : List ℕ) → kept_at w.entries q ≡ held_at m entity q) → IsSameNamed m n
+same_written entity m n w at has e q =
+    elim (is_text entity e) as (λ b. is_text entity e ≡ b → get text_cmp n e ≡ cond b (Some w) (get text_cmp m e)
+    → held_at n e q ≡ held_at m e q) [
+      | true ↦ λ same is. ap (λ o. held_in o q) is ∙ has q ∙ ap (λ x. held_at m x q) (same_text entity e same)
+      | false ↦ λ apart is. ap (λ o. held_in o q) is
+    ] refl (at e)
+
+-- nothing is under the entity
+pub nothing_there : (entity id : List ℕ) (m : Named) → get text_cmp m entity ≡ None → TurnsNamed entity id None m m
+nothing_there entity id m none e q =
+    elim (is_text entity e) as (λ b. is_text entity e ≡ b → held_at m e q ≡ cond (b && bytes_eq id q) None (held_at m e q)) [
+      | true ↦ λ same.
+          let absent : held_at m e q ≡ None = subst (λ x. held_at m x q ≡ None) (same_text entity e same) (ap (λ o. held_in o q) none) in
+          elim (bytes_eq id q) as (λ t. held_at m e q ≡ cond t None (held_at m e q)) [ true ↦ absent | false ↦ refl ]
+      | false ↦ λ apart. refl
+    ] refl
 
 -- ---- the policies under one entity
 
-pub turned : (uid : EntityUid) (id : List ℕ) (there : Option Policy) (m n : BTreeMap EntityUid Bucket) (w : Bucket)
-    → ((u : EntityUid) → get uid_cmp n u ≡ cond (is_same uid u) (Some w) (get uid_cmp m u))
-    → ((q : List ℕ) → kept_at w.entries q ≡ cond (bytes_eq id q) there (held_under m uid q))
+pub turned_type : (uid : EntityUid) (id : List ℕ) (there : Option Policy) (m n : Under) (w : Named)
+    → ((t : List ℕ) → get text_cmp n t ≡ cond (is_text uid.type_name t) (Some w) (get text_cmp m t))
+    → ((e q : List ℕ) → held_at w e q
+    ≡ cond (is_text uid.id e && bytes_eq id q) there (held_in (bucket_of (get text_cmp m uid.type_name) e) q))
     → Turns uid id there m n
-turned uid id there m n w at has u q =
-    elim (is_same uid u) as (λ b. is_same uid u ≡ b → get uid_cmp n u ≡ cond b (Some w) (get uid_cmp m u)
-    → held_under n u q ≡ cond (b && bytes_eq id q) there (held_under m u q)) [
-      | true ↦ λ same e. ap (λ o. held_in o q) e ∙ has q
-          ∙ ap (λ x. cond (bytes_eq id q) there (held_under m x q)) (same_uid uid u same)
-      | false ↦ λ apart e. ap (λ o. held_in o q) e
-    ] refl (at u)
+turned_type uid id there m n w at has u q =
+    elim (text_cmp uid.type_name u.type_name) as (λ o. text_cmp uid.type_name u.type_name ≡ o
+    → get text_cmp n u.type_name ≡ cond (is_eq o) (Some w) (get text_cmp m u.type_name)
+    → held_under n u q ≡ cond (is_eq (ordering_then o (text_cmp uid.id u.id)) && bytes_eq id q) there (held_under m u q)) [
+      | Less ↦ λ apart e. ap (λ o. held_in (bucket_of o u.id) q) e
+      | Equal ↦ λ same e. ap (λ o. held_in (bucket_of o u.id) q) e ∙ has u.id q
+          ∙ ap (λ t. cond (is_text uid.id u.id && bytes_eq id q) there (held_in (bucket_of (get text_cmp m t) u.id) q))
+          (text_cmp-IsAntisymmetric uid.type_name u.type_name same)
+      | Greater ↦ λ apart e. ap (λ o. held_in (bucket_of o u.id) q) e
+    ] refl (at u.type_name)
 
-pub emptied : (uid : EntityUid) (m n : BTreeMap EntityUid Bucket)
-    → ((u : EntityUid) → get uid_cmp n u ≡ cond (is_same uid u) None (get uid_cmp m u))
-    → ((q : List ℕ) → held_under m uid q ≡ None) → IsSameUnder m n
-emptied uid m n at none u q =
-    elim (is_same uid u) as (λ b. is_same uid u ≡ b → get uid_cmp n u ≡ cond b None (get uid_cmp m u)
-    → held_under n u q ≡ held_under m u q) [
-      | true ↦ λ same e. ap (λ o. held_in o q) e ∙ sym (subst (λ x. held_under m x q ≡ None) (same_uid uid u same) (none q))
-      | false ↦ λ apart e. ap (λ o. held_in o q) e
-    ] refl (at u)
+pub emptied_type : (uid : EntityUid) (m n : Under)
+    → ((t : List ℕ) → get text_cmp n t ≡ cond (is_text uid.type_name t) None (get text_cmp m t))
+    → ((u : EntityUid) (q : List ℕ) → IsTrue (is_text uid.type_name u.type_name) → held_under m u q ≡ None) → IsSameUnder m n
+emptied_type uid m n at none u q =
+    elim (is_text uid.type_name u.type_name) as (λ b. is_text uid.type_name u.type_name ≡ b
+    → get text_cmp n u.type_name ≡ cond b None (get text_cmp m u.type_name) → held_under n u q ≡ held_under m u q) [
+      | true ↦ λ same e. ap (λ o. held_in (bucket_of o u.id) q) e ∙ sym (none u q same)
+      | false ↦ λ apart e. ap (λ o. held_in (bucket_of o u.id) q) e
+    ] refl (at u.type_name)
+
+-- what is written under a type is what was there
+pub same_type_written : (uid : EntityUid) (m n : Under) (w : Named)
+    → ((t : List ℕ) → get text_cmp n t ≡ cond (is_text uid.type_name t) (Some w) (get text_cmp m t))
+    → ((e q : List ℕ) → held_at w e q ≡ held_in (bucket_of (get text_cmp m uid.type_name) e) q) → IsSameUnder m n
+same_type_written uid m n w at has u q =
+    elim (is_text uid.type_name u.type_name) as (λ b. is_text uid.type_name u.type_name ≡ b
+    → get text_cmp n u.type_name ≡ cond b (Some w) (get text_cmp m u.type_name) → held_under n u q ≡ held_under m u q) [
+      | true ↦ λ same e. ap (λ o. held_in (bucket_of o u.id) q) e ∙ has u.id q
+          ∙ ap (λ t. held_in (bucket_of (get text_cmp m t) u.id) q) (same_text uid.type_name u.type_name same)
+      | false ↦ λ apart e. ap (λ o. held_in (bucket_of o u.id) q) e
+    ] refl (at u.type_name)
+
+-- nothing is under the type
+pub nothing_of_type : (uid : EntityUid) (id : List ℕ) (m : Under) → get text_cmp m uid.type_name ≡ None → Turns uid id None m m
+nothing_of_type uid id m none u q =
+    elim (text_cmp uid.type_name u.type_name) as (λ o. text_cmp uid.type_name u.type_name ≡ o
+    → held_under m u q ≡ cond (is_eq (ordering_then o (text_cmp uid.id u.id)) && bytes_eq id q) None (held_under m u q)) [
+      | Less ↦ λ apart. refl
+      | Equal ↦ λ same.
+          let absent : held_under m u q ≡ None =
+          subst (λ t. held_in (bucket_of (get text_cmp m t) u.id) q ≡ None) (text_cmp-IsAntisymmetric uid.type_name u.type_name same)
+          (ap (λ o. held_in (bucket_of o u.id) q) none) in
+          elim (is_text uid.id u.id && bytes_eq id q) as (λ t. held_under m u q ≡ cond t None (held_under m u q)) [
+            | true ↦ absent
+            | false ↦ refl
+          ]
+      | Greater ↦ λ apart. refl
+    ] refl
 
 -- ---- keys
 
@@ -161,30 +246,25 @@ pub of_err : {A E : Type 0} (r : Result A E) (P : Type 0) → is_err r ≡ true 
 of_err (Ok x) P is h = absurd (cc (is))
 of_err (Err e) P is h = h
 
--- what is written under an entity is what was there
-pub same_written : (uid : EntityUid) (m n : BTreeMap EntityUid Bucket) (w : Bucket)
-    → ((u : EntityUid) → get uid_cmp n u ≡ cond (is_same uid u) (Some w) (get uid_cmp m u))
-    → ((q : List ℕ) → kept_at w.entries q ≡ held_under m uid q) → IsSameUnder m n
-same_written uid m n w at has u q =
-    elim (is_same uid u) as (λ b. is_same uid u ≡ b → get uid_cmp n u ≡ cond b (Some w) (get uid_cmp m u)
-    → held_under n u q ≡ held_under m u q) [
-      | true ↦ λ same e. ap (λ o. held_in o q) e ∙ has q ∙ ap (λ x. held_under m x q) (same_uid uid u same)
-      | false ↦ λ apart e. ap (λ o. held_in o q) e
-    ] refl (at u)
+-- what a call on the buckets of a type says, said of all types
+module _ {E : Type 0} (r : Result (Unit {0}) E) (uid : EntityUid) (m n : Under) (was w : Named)
+    (held : get text_cmp m uid.type_name ≡ Some was)
+    (at : (t : List ℕ) → get text_cmp n t ≡ cond (is_text uid.type_name t) (Some w) (get text_cmp m t)) where
+  before : (e q : List ℕ) → held_at was e q ≡ held_in (bucket_of (get text_cmp m uid.type_name) e) q
+  before e q = ap (λ o. held_in (bucket_of o e) q) (sym held)
 
--- nothing is under the entity
-pub nothing_there : (uid : EntityUid) (id : List ℕ) (m : BTreeMap EntityUid Bucket) → get uid_cmp m uid ≡ None → Turns uid id None m m
-nothing_there uid id m none u q =
-    elim (is_same uid u) as (λ b. is_same uid u ≡ b → held_under m u q ≡ cond (b && bytes_eq id q) None (held_under m u q)) [
-      | true ↦ λ same.
-          let absent : held_under m u q ≡ None = subst (λ x. held_under m x q ≡ None) (same_uid uid u same) (ap (λ o. held_in o q) none) in
-          elim (bytes_eq id q) as (λ t. held_under m u q ≡ cond t None (held_under m u q)) [ true ↦ absent | false ↦ refl ]
-      | false ↦ λ apart. refl
-    ] refl
+  pub ok_turned : (id : List ℕ) (there : Option Policy) → OnOk r (TurnsNamed uid.id id there was w) → OnOk r (Turns uid id there m n)
+  ok_turned id there h = elim r as (λ x. OnOk x (TurnsNamed uid.id id there was w) → OnOk x (Turns uid id there m n)) [
+    | Ok u ↦ λ k. turned_type uid id there m n w at
+        (λ e q. k e q ∙ ap (λ o. cond (is_text uid.id e && bytes_eq id q) there o) (before e q))
+    | Err e ↦ λ k. tt
+  ] h
 
--- a bucket without entries has no policy
-pub none_in : (w : Bucket) → w.entries ≡ [] → (q : List ℕ) → kept_at w.entries q ≡ None
-none_in w none q = ap (λ es. kept_at es q) none
+  pub err_same : OnErr r (IsSameNamed was w) → OnErr r (IsSameUnder m n)
+  err_same h = elim r as (λ x. OnErr x (IsSameNamed was w) → OnErr x (IsSameUnder m n)) [
+    | Ok u ↦ λ k. tt
+    | Err e ↦ λ k. same_type_written uid m n w at (λ e q. k e q ∙ before e q)
+  ] h
 
 -- one kind of bucket changed
 module _ (b : Buckets) (key : IndexKey) (id : List ℕ) (there : Option Policy) where
@@ -199,7 +279,7 @@ module _ (b : Buckets) (key : IndexKey) (id : List ℕ) (there : Option Policy) 
       by_kind (Principal u) q = refl
       by_kind (Resource u) q = refl
 
-  pub principals_turned : (m : BTreeMap EntityUid Bucket) (uid : EntityUid)
+  pub principals_turned : (m : Under) (uid : EntityUid)
       → Principal uid ≡ key → Turns uid id there b.principals m
       → TurnsAt key id there b (record { always = b.always; principals = m; resources = b.resources })
   principals_turned m uid is turns =
@@ -210,7 +290,7 @@ module _ (b : Buckets) (key : IndexKey) (id : List ℕ) (there : Option Policy) 
       by_kind (Principal u) q = turns u q
       by_kind (Resource u) q = refl
 
-  pub resources_turned : (m : BTreeMap EntityUid Bucket) (uid : EntityUid)
+  pub resources_turned : (m : Under) (uid : EntityUid)
       → Resource uid ≡ key → Turns uid id there b.resources m
       → TurnsAt key id there b (record { always = b.always; principals = b.principals; resources = m })
   resources_turned m uid is turns =
@@ -221,10 +301,33 @@ module _ (b : Buckets) (key : IndexKey) (id : List ℕ) (there : Option Policy) 
       by_kind (Principal u) q = refl
       by_kind (Resource u) q = turns u q
 
+-- where a call on one kind of bucket fails, all are as they were
+pub principals_same : {E : Type 0} (r : Result (Unit {0}) E) (b : Buckets) (m : Under) → OnErr r (IsSameUnder b.principals m)
+    → OnErr r (AreSame b (record { always = b.always; principals = m; resources = b.resources }))
+principals_same (Ok u) b m h = tt
+principals_same (Err e) b m h = by_kind
+  where
+    by_kind : AreSame b (record { always = b.always; principals = m; resources = b.resources })
+    by_kind Always q = refl
+    by_kind (Principal u) q = h u q
+    by_kind (Resource u) q = refl
+
+pub resources_same : {E : Type 0} (r : Result (Unit {0}) E) (b : Buckets) (m : Under) → OnErr r (IsSameUnder b.resources m)
+    → OnErr r (AreSame b (record { always = b.always; principals = b.principals; resources = m }))
+resources_same (Ok u) b m h = tt
+resources_same (Err e) b m h = by_kind
+  where
+    by_kind : AreSame b (record { always = b.always; principals = b.principals; resources = m })
+    by_kind Always q = refl
+    by_kind (Principal u) q = refl
+    by_kind (Resource u) q = h u q
+
 pub all_empty : (b : Buckets) → b.always.entries ≡ [] → b.principals.entries ≡ [] → b.resources.entries ≡ [] → AreEmpty b
 all_empty b none no_principals no_resources Always q = ap (λ es. kept_at es q) none
-all_empty b none no_principals no_resources (Principal u) q = ap (λ es. held_in (lookup (is_at (uid_cmp u)) es) q) no_principals
-all_empty b none no_principals no_resources (Resource u) q = ap (λ es. held_in (lookup (is_at (uid_cmp u)) es) q) no_resources
+all_empty b none no_principals no_resources (Principal u) q =
+    ap (λ es. held_in (bucket_of (lookup (is_at (text_cmp u.type_name)) es) u.id) q) no_principals
+all_empty b none no_principals no_resources (Resource u) q =
+    ap (λ es. held_in (bucket_of (lookup (is_at (text_cmp u.type_name)) es) u.id) q) no_resources
 
 pub none_filed : (kept : Kept) (b : Buckets) → kept ≡ [] → AreEmpty b → AreFiled kept b
 none_filed kept b none empty k q = empty k q ∙ sym (ap (λ es. due_in k (kept_at es q)) none)

@@ -46,7 +46,7 @@ IsMet parents q Always = Unit {0}
 IsMet parents q (Principal e) = IsIn parents q.principal e
 IsMet parents q (Resource e) = IsIn parents q.resource e
 
--- the policies that are kept, in the order of their ids
+-- the policies that are kept, by their ids
 abbrev pub Kept : Type 0
 Kept = List (String Global × Policy)
 

@@ -1,22 +1,31 @@
 //! Policies by id, under the key by which each is found.
-ghost use Rattle.std.specs.Prelude.{◌≡◌, IsTrue, IfOk, OnOk, OnErr, ℕ, List, Some, None, cond, string_bytes};
+ghost use Rattle.std.specs.Prelude.{◌≡◌, ◌&&◌, IsTrue, IfOk, OnOk, OnErr, ℕ, List, Some, None, cond, string_bytes};
 ghost use Rattle.std.specs.Str.{bytes_eq};
 ghost use Rattle.scope_index.specs.Keys.{index_key, kept_at};
-ghost use Rattle.scope_index.specs.Buckets.{held_under, Turns, TurnsAt, IsSameUnder, AreSame, AreEmpty};
+ghost use Rattle.values.specs.declared.entity_uid.EntityUid.{EntityUid as PlainUid};
+ghost use Rattle.scope_index.specs.Buckets.{held_at, held_under, is_text, Turns, TurnsNamed, TurnsAt};
+ghost use Rattle.scope_index.specs.Buckets.{IsSameUnder, IsSameNamed, AreSame, AreEmpty};
 
 use crate::found_by::{FoundBy, key_of};
 use plain::{NoMemory, beside};
 use policy_grammar::{Policy, Scope};
 use std::alloc::Global;
 use std::collections::BTreeMap;
-use values::EntityUid;
+use values::{EntityUid, SharedText, TypeName};
+
+/// The buckets of entities of one type, by their ids.
+pub(crate) type Named = BTreeMap<SharedText, BTreeMap<String, Policy>>;
+
+/// The buckets of entities, by their types and then by their ids: so a look-up compares types once, and not at each
+/// entity on its way.
+pub(crate) type Under = BTreeMap<TypeName, Named>;
 
 /// Policies by id, under the key by which each is found.
 #[derive(Drop)]
 pub(crate) struct Buckets {
     pub(crate) always: BTreeMap<String, Policy>,
-    pub(crate) principals: BTreeMap<EntityUid, BTreeMap<String, Policy>>,
-    pub(crate) resources: BTreeMap<EntityUid, BTreeMap<String, Policy>>,
+    pub(crate) principals: Under,
+    pub(crate) resources: Under,
 }
 
 // A bucket of one policy.
@@ -29,10 +38,40 @@ fn alone(alloc: Global, id: String, policy: Policy) -> Result<BTreeMap<String, P
     Ok(bucket)
 }
 
+// Puts a policy among those under the entity of this id, of one type.
+fn put_named(
+    alloc: Global,
+    named: &mut Named,
+    entity: &SharedText,
+    id: String,
+    policy: Policy,
+) -> Result<(), NoMemory>
+    ensures ok { OnOk result (TurnsNamed entity.now (string_bytes id) (Some policy) named.old named.new) }
+    ensures err { OnErr result (IsSameNamed named.old named.new) }
+{
+    if let Some(bucket) = named.get_mut(entity) {
+        bucket.insert(id, policy)?;
+        return Ok(());
+    }
+    let (bucket, entity) = beside(alone(alloc, id, policy)?, entity.copy())?;
+    named.insert(entity, bucket)?;
+    Ok(())
+}
+
+// The buckets of a type of which one entity has one policy.
+fn only(alloc: Global, entity: &SharedText, id: String, policy: Policy) -> Result<Named, NoMemory>
+    ensures { IfOk result (λ named. (e q : List ℕ) → held_at named e q
+        ≡ cond (is_text entity.now e && bytes_eq (string_bytes id) q) (Some policy) None) }
+{
+    let mut named = BTreeMap::new(alloc);
+    put_named(alloc, &mut named, entity, id, policy)?;
+    Ok(named)
+}
+
 // Puts a policy among those under an entity.
 fn put_under(
     alloc: Global,
-    under: &mut BTreeMap<EntityUid, BTreeMap<String, Policy>>,
+    under: &mut Under,
     uid: &EntityUid,
     id: String,
     policy: Policy,
@@ -40,25 +79,20 @@ fn put_under(
     ensures ok { OnOk result (Turns uid.now (string_bytes id) (Some policy) under.old under.new) }
     ensures err { OnErr result (IsSameUnder under.old under.new) }
 {
-    if let Some(bucket) = under.get_mut(uid) {
-        bucket.insert(id, policy)?;
-        return Ok(());
+    if let Some(named) = under.get_mut(&uid.type_name) {
+        return put_named(alloc, named, &uid.id, id, policy);
     }
-    let (bucket, uid) = beside(alone(alloc, id, policy)?, uid.copy())?;
-    under.insert(uid, bucket)?;
+    let (named, type_name) = beside(only(alloc, &uid.id, id, policy)?, uid.type_name.copy())?;
+    under.insert(type_name, named)?;
     Ok(())
 }
 
-// Takes the policy of an id away from those under an entity, and answers whether none is left there.
-fn strike(
-    under: &mut BTreeMap<EntityUid, BTreeMap<String, Policy>>,
-    uid: &EntityUid,
-    id: &str,
-) -> bool
-    ensures turns { Turns uid.now id.now None under.old under.new }
-    ensures none { IsTrue result → (q : List ℕ) → held_under under.new uid.now q ≡ None }
+// Takes the policy of an id away from those under an entity of one type, and answers whether none is left there.
+fn strike(named: &mut Named, entity: &SharedText, id: &str) -> bool
+    ensures turns { TurnsNamed entity.now id.now None named.old named.new }
+    ensures none { IsTrue result → (q : List ℕ) → held_at named.new entity.now q ≡ None }
 {
-    match under.get_mut(uid) {
+    match named.get_mut(entity) {
         Some(bucket) => {
             bucket.remove(id);
             bucket.is_empty()
@@ -67,12 +101,36 @@ fn strike(
     }
 }
 
-// Takes the policy of an id away from those under an entity; the entity goes with the last of them.
-fn take_under(under: &mut BTreeMap<EntityUid, BTreeMap<String, Policy>>, uid: &EntityUid, id: &str)
+// Takes the policy of an id away from those under an entity of one type; the entity goes with the last of them.
+fn take_named(named: &mut Named, entity: &SharedText, id: &str)
+    ensures { TurnsNamed entity.now id.now None named.old named.new }
+{
+    if strike(named, entity, id) {
+        named.remove(entity);
+    }
+}
+
+// Takes the policy of an id away from those under an entity, and answers whether none is left under its type.
+fn strike_type(under: &mut Under, uid: &EntityUid, id: &str) -> bool
+    ensures turns { Turns uid.now id.now None under.old under.new }
+    ensures none { IsTrue result → (u : PlainUid) (q : List ℕ) → IsTrue (is_text uid.now.type_name u.type_name)
+        → held_under under.new u q ≡ None }
+{
+    match under.get_mut(&uid.type_name) {
+        Some(named) => {
+            take_named(named, &uid.id, id);
+            named.is_empty()
+        }
+        None => false,
+    }
+}
+
+// Takes the policy of an id away from those under an entity; what has no policy left goes with it.
+fn take_under(under: &mut Under, uid: &EntityUid, id: &str)
     ensures { Turns uid.now id.now None under.old under.new }
 {
-    if strike(under, uid, id) {
-        under.remove(uid);
+    if strike_type(under, uid, id) {
+        under.remove(&uid.type_name);
     }
 }
 

@@ -1,13 +1,14 @@
 //! The policies that a request may meet.
 ghost use Rattle.std.specs.Prelude.{◌≡◌, ◌↔◌, ◌⊎◌, Some, Contains, IfOk, OnOk};
+ghost use Rattle.std.specs.Option.{option_copied};
 ghost use Rattle.std.specs.List.Sorted.{IsStrictlySortedBy};
 ghost use Rattle.values.specs.declared.entity_uid.EntityUid.{EntityUid as PlainUid};
 ghost use Rattle.values.specs.Names.{text_cmp};
 ghost use Rattle.ancestor_closure.specs.Hierarchy.{IsIn, names};
 ghost use Rattle.scope_index.specs.Keys.{IndexKey, IsMet, Offer, ids, kept_at, lent};
-ghost use Rattle.scope_index.specs.Buckets.{AreOneAtEach, HaveOnePolicy, held_under, in_bucket};
+ghost use Rattle.scope_index.specs.Buckets.{AreOneAtEach, HaveOnePolicy, bucket_at, held_under, in_bucket};
 
-use crate::buckets::Buckets;
+use crate::buckets::{Buckets, Under};
 use ancestor_closure::Ancestry;
 use plain::NoMemory;
 use policy_grammar::Policy;
@@ -30,16 +31,26 @@ fn offer<'a>(
     Ok(())
 }
 
+// The bucket of an entity.
+fn bucket_at<'a>(under: &'a Under, uid: &EntityUid) -> Option<&'a BTreeMap<String, Policy>>
+    ensures { option_copied result ≡ bucket_at under.now uid.now }
+{
+    match under.get(&uid.type_name) {
+        Some(named) => named.get(&uid.id),
+        None => None,
+    }
+}
+
 // Offers the policies under an entity.
 fn offer_under<'a>(
-    under: &'a BTreeMap<EntityUid, BTreeMap<String, Policy>>,
+    under: &'a Under,
     uid: &EntityUid,
     found: &mut Vec<(&'a str, &'a Policy)>,
 ) -> Result<(), NoMemory>
     ensures { OnOk result ((o : Offer) → Contains (lent found.new.items) o
         ↔ Contains (lent found.old.items) o ⊎ (held_under under.now uid.now o.0 ≡ Some o.1)) }
 {
-    match under.get(uid) {
+    match bucket_at(under, uid) {
         Some(bucket) => offer(bucket, found),
         None => Ok(()),
     }
@@ -58,7 +69,7 @@ fn offer_unbound<'a>(
 
 // Offers the policies that are found by the entity itself.
 fn offer_own<'a>(
-    under: &'a BTreeMap<EntityUid, BTreeMap<String, Policy>>,
+    under: &'a Under,
     uid: &EntityUid,
     found: &mut Vec<(&'a str, &'a Policy)>,
 ) -> Result<(), NoMemory>
@@ -70,7 +81,7 @@ fn offer_own<'a>(
 
 // Offers the policies under each of these entities.
 fn offer_each<'a>(
-    under: &'a BTreeMap<EntityUid, BTreeMap<String, Policy>>,
+    under: &'a Under,
     entities: &[&EntityUid],
     found: &mut Vec<(&'a str, &'a Policy)>,
 ) -> Result<(), NoMemory>
@@ -86,7 +97,7 @@ fn offer_each<'a>(
 
 // Offers the policies under an entity and under each of its ancestors.
 fn offer_above<'a, A: Ancestry>(
-    under: &'a BTreeMap<EntityUid, BTreeMap<String, Policy>>,
+    under: &'a Under,
     ancestry: &A,
     uid: &EntityUid,
     found: &mut Vec<(&'a str, &'a Policy)>,

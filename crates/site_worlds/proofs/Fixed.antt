@@ -133,7 +133,7 @@ module _ (schema : StatedSchema) (name : SiteName) (s : Store) where
         joined a.0 b.0 a.1 b.1 (delta_offered (WritesDelta schema s bytes) (one_delta bytes) m n place a.0 b.0 a.2 b.2
         (rewritten (deed.OfferDelta place) a.0 b.0 a.1 b.1 e))
 
-summary_found : (o : Option SentSummary) (i : Input) → option_map (λ (m : SentSummary). input.Delta m.bytes) o ≡ Some i
+summary_found : (o : Option SentSummary) (i : Input) → option_map input.Delta (option_map (λ (m : SentSummary). m.bytes) o) ≡ Some i
     → (bytes : List ℕ) × (i ≡ input.Delta bytes)
 summary_found None i h = absurd cc
 summary_found (Some m) i h = (m.bytes, cc)

@@ -221,13 +221,13 @@ module _ (schema : StatedSchema) (sites : List SiteName) (are : AreSites sites) 
           (subst (λ (l : List Issue). KeepsAll l v) (sym (append-nil log)) (subst (KeepsAll log) (sym h.1) K))
 
       since_there : (k : ℕ) (o : Option SentSummary) (a : EventReply) (v : World) → slice_get w.summaries k ≡ o
-          → HappensAt schema w (Event_at (deed.OfferDelta k)) (Some n) (Some s) (option_map (λ m. input.Delta m.bytes) o) a v
+          → HappensAt schema w (Event_at (deed.OfferDelta k)) (Some n) (Some s) (option_map input.Delta (option_map (λ (m : SentSummary). m.bytes) o)) a v
           → KeepsAll (log ++ issues_of schema sites (Event_at (deed.OfferDelta k)) a) v
       since_there k None a v is h = unknown (deed.OfferDelta k) a v h
       since_there k (Some old) a v is h = finish (deed.OfferDelta k) (input.Delta old.bytes) a v h (offered_since k old h.reply h.store is h.step)
 
       message_there : (k : ℕ) (o : Option SentMessage) (a : EventReply) (v : World) → slice_get w.messages k ≡ o
-          → HappensAt schema w (Event_at (deed.Deliver k)) (Some n) (Some s) (option_map (λ m. input.Take m.bytes) o) a v
+          → HappensAt schema w (Event_at (deed.Deliver k)) (Some n) (Some s) (option_map input.Take (option_map (λ (m : SentMessage). m.bytes) o)) a v
           → KeepsAll (log ++ issues_of schema sites (Event_at (deed.Deliver k)) a) v
       message_there k None a v is h = unknown (deed.Deliver k) a v h
       message_there k (Some m) a v is h = finish (deed.Deliver k) (input.Take m.bytes) a v h (delivered k m h.reply h.store is h.step)

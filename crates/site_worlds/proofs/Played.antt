@@ -99,10 +99,10 @@ more_sites schema k bs a h i =
     (next_site schema k bs a h (subst (λ (j : ℕ). IsSiteOf schema (five_digits j) empty a) next i))
 
 -- ---- what was made, as bytes
-get_map : {X Y Z : Type 0} (f : X → Y) (g : Y → Z) (xs : List X) (k : ℕ) → option_map g (slice_get (map f xs) k) ≡ option_map (λ x. g (f x)) (slice_get xs k)
-get_map f g [] k = refl
-get_map f g (x ∷ xs) zero = refl
-get_map f g (x ∷ xs) (suc k) = get_map f g xs k
+get_map : {X Y : Type 0} (f : X → Y) (xs : List X) (k : ℕ) → slice_get (map f xs) k ≡ option_map f (slice_get xs k)
+get_map f [] k = refl
+get_map f (x ∷ xs) zero = refl
+get_map f (x ∷ xs) (suc k) = get_map f xs k
 
 input_same : (w : World) (d : Deed) → input_among (map (λ m. m.bytes) w.messages) (map (λ m. m.bytes) w.summaries) d ≡ input_of w d
 input_same w (deed.PutPolicy id text) = refl
@@ -112,8 +112,8 @@ input_same w (deed.DeleteEntity uid) = refl
 input_same w (deed.Authorize bytes) = refl
 input_same w deed.Summary = refl
 input_same w deed.Offer = refl
-input_same w (deed.OfferDelta k) = get_map (λ (m : SentSummary). m.bytes) input.Delta w.summaries k
-input_same w (deed.Deliver k) = get_map (λ (m : SentMessage). m.bytes) input.Take w.messages k
+input_same w (deed.OfferDelta k) = ap (option_map input.Delta) (get_map (λ (m : SentSummary). m.bytes) w.summaries k)
+input_same w (deed.Deliver k) = ap (option_map input.Take) (get_map (λ (m : SentMessage). m.bytes) w.messages k)
 
 map_back : {X Y : Type 0} (f : X → Y) (g : Y → X) → ((x : X) → g (f x) ≡ x) → (xs : List X) → map g (map f xs) ≡ xs
 map_back f g h [] = refl

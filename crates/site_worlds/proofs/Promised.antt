@@ -124,8 +124,8 @@ module _ (schema : StatedSchema) (sites : List SiteName) (are : AreSites sites) 
           (subst (λ (z : Store). IsStepAt schema w delivery n z y all_taken v) (some_same x s e) h))
 
       delivered : Happens schema sites w delivery all_taken v → numbered v.stores i ≡ Some (joined_stores s m.whole)
-      delivered h = delivered_by (numbered sites i) (numbered w.stores i) (option_map (λ x. input.Take x.bytes) (slice_get w.messages k)) at
-          (ap (option_map (λ (x : SentMessage). input.Take x.bytes)) is) h.happens
+      delivered h = delivered_by (numbered sites i) (numbered w.stores i) (option_map input.Take (option_map (λ (x : SentMessage). x.bytes) (slice_get w.messages k))) at
+          (ap (λ (o : Option SentMessage). option_map input.Take (option_map (λ (x : SentMessage). x.bytes) o)) is) h.happens
 
     -- ---- refused for memory alone
     fit_of : (k : ℕ) (m : SentMessage) → slice_get w.messages k ≡ Some m → (u : Update) → Contains (updates (content m)) u → IsFit schema u

@@ -26,17 +26,23 @@ abbrev pub HasTexts : Deed → Type 0
 HasTexts (deed.PutPolicy id text) = IsUtf8 id × IsUtf8 text
 HasTexts _ = Unit {0}
 
--- what a site is handed, or nothing where the message or summary of that number was not made yet
+-- what a site is handed, by the bytes of the messages and summaries, or nothing where there is none of that number
+abbrev pub input_by : (ℕ → Option (List ℕ)) → (ℕ → Option (List ℕ)) → Deed → Option Input
+input_by message summary (deed.PutPolicy id text) = Some (input.PutPolicy id text)
+input_by message summary (deed.DeletePolicy id) = Some (input.DeletePolicy id)
+input_by message summary (deed.PutEntity bytes) = Some (input.PutEntity bytes)
+input_by message summary (deed.DeleteEntity uid) = Some (input.DeleteEntity uid)
+input_by message summary (deed.Authorize bytes) = Some (input.Authorize bytes)
+input_by message summary deed.Summary = Some input.Summary
+input_by message summary deed.Offer = Some input.State
+input_by message summary (deed.OfferDelta k) = option_map input.Delta (summary k)
+input_by message summary (deed.Deliver k) = option_map input.Take (message k)
+
+-- of those that were made
 abbrev pub input_of : World → Deed → Option Input
-input_of w (deed.PutPolicy id text) = Some (input.PutPolicy id text)
-input_of w (deed.DeletePolicy id) = Some (input.DeletePolicy id)
-input_of w (deed.PutEntity bytes) = Some (input.PutEntity bytes)
-input_of w (deed.DeleteEntity uid) = Some (input.DeleteEntity uid)
-input_of w (deed.Authorize bytes) = Some (input.Authorize bytes)
-input_of w deed.Summary = Some input.Summary
-input_of w deed.Offer = Some input.State
-input_of w (deed.OfferDelta k) = option_map (λ m. input.Delta m.bytes) (slice_get w.summaries k)
-input_of w (deed.Deliver k) = option_map (λ m. input.Take m.bytes) (slice_get w.messages k)
+input_of w d =
+    input_by (λ k. option_map (λ m. m.bytes) (slice_get w.messages k))
+    (λ k. option_map (λ m. m.bytes) (slice_get w.summaries k)) d
 
 -- what the event is answered where the site replies so: of what was made its number, behind m messages and n summaries
 abbrev pub answer_among : ℕ → ℕ → Deed → Reply → EventReply

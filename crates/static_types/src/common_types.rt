@@ -85,7 +85,7 @@ fn set_of<'a>(
     }
 }
 
-/// Returns the type of two records that the schema declares with the same fields, and None of others; takes no memory.
+/// Returns the type of two records that the schema declares with the same fields; None says nothing. Takes no memory.
 fn declared_record<'a>(left: Fields<'_, 'a>, right: Fields<'_, 'a>) -> Option<StaticType<'a>>
     ensures { IfSome result (λ t. Some (static_view t)
         ≡ option_map record_type (common_fields (fields_view left.entry) (fields_view right.entry))) }

@@ -110,9 +110,6 @@ ReadsFrontWithin L K ts (Err halt.TooDeep) rest =
 
 -- ---- a language without expressions: it nests nothing, so no token is too deep
 
-abbrev pub IsRefused : {A : Type 0} → Lang A → List Token → SyntaxFault → Type 0
-IsRefused L ts e = IsRefusedWithin L L ts e
-
 abbrev pub Reads : {A : Type 0} → Lang A → List Token → Result A SyntaxFault → Type 0
 Reads L ts result = ReadsWithin L L ts result
 

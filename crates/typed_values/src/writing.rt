@@ -93,8 +93,8 @@ fn write_members(alloc: Global, out: &mut Writer, fields: &Record) -> Result<(),
     out.end_object()
 }
 
-/// Writes the one JSON of a record, `{"age":1}`, behind what was written. Fails for memory alone, with some of its
-/// tokens written.
+/// Writes the one JSON of a record, `{"age":1}`, behind what was written. Fails for memory alone; what was
+/// written by then is for nobody to read.
 pub fn write_record(alloc: Global, out: &mut Writer, fields: &Record) -> Result<(), NoMemory>
     ensures { OnOk result (AppendsValue out.old out.new (object (fields_json (fields_of fields.now)))) }
 {

@@ -1,31 +1,21 @@
 -- What one event does to what the code keeps: the sites themselves, and the bytes of what was made.
-use Rattle.std.specs.Prelude.{◌≡◌, ℕ, List, slice_get, Option, Some, None, option_map}
+use Rattle.std.specs.Prelude.{◌≡◌, ℕ, List, slice_get, Option, Some, None}
 use Rattle.schema.specs.Schemas.{StatedSchema}
 use Rattle.stamped_store.specs.Store.{Store}
 use Rattle.site.specs.Seen.{Seen}
 use Rattle.site_runs.specs.declared.input.Input.{Input}
-use Rattle.site_runs.specs.declared.input.Input.TheVariants as input
 use Rattle.site_runs.specs.declared.reply.Reply.{Reply}
 use Rattle.site_runs.specs.Runs.{Step}
 use Rattle.site_worlds.specs.declared.event.Deed.{Deed}
-use Rattle.site_worlds.specs.declared.event.Deed.TheVariants as deed
 use Rattle.site_worlds.specs.declared.event.Event.{Event}
 use Rattle.site_worlds.specs.declared.event.EventReply.{EventReply}
 use Rattle.site_worlds.specs.Sites.{SiteName, World}
-use Rattle.site_worlds.specs.Worlds.{Happens}
+use Rattle.site_worlds.specs.Worlds.{Happens, input_by}
 use Rattle.site_worlds.specs.Played.{IsShown}
 
 -- what a site is handed, by the bytes of the messages and summaries that were made
 abbrev pub input_among : List (List ℕ) → List (List ℕ) → Deed → Option Input
-input_among messages summaries (deed.PutPolicy id text) = Some (input.PutPolicy id text)
-input_among messages summaries (deed.DeletePolicy id) = Some (input.DeletePolicy id)
-input_among messages summaries (deed.PutEntity bytes) = Some (input.PutEntity bytes)
-input_among messages summaries (deed.DeleteEntity uid) = Some (input.DeleteEntity uid)
-input_among messages summaries (deed.Authorize bytes) = Some (input.Authorize bytes)
-input_among messages summaries deed.Summary = Some input.Summary
-input_among messages summaries deed.Offer = Some input.State
-input_among messages summaries (deed.OfferDelta k) = option_map input.Delta (slice_get summaries k)
-input_among messages summaries (deed.Deliver k) = option_map input.Take (slice_get messages k)
+input_among messages summaries d = input_by (slice_get messages) (slice_get summaries) d
 
 -- a site takes a step where it is handed something
 abbrev pub AnswersDeed : StatedSchema → SiteName → Store → Option Input → Option Reply → Store → Type 0

@@ -1,47 +1,43 @@
--- What stands under the entity is written through, and else a bucket of one policy is put there.
+-- What stands under the type is written through, and else the buckets of a type with one policy are put there.
 use Rattle.std.proofs.Common.{◌≡◌, ◌∙◌, sym, ap, subst, Some, None}
-use Rattle.std.specs.Prelude.{cond, is_some, string_bytes, IfOk}
+use Rattle.std.specs.Prelude.{cond, ◌&&◌, is_some, string_bytes, IfOk}
 use Rattle.std.specs.Option.{option_copied_mut}
 use Rattle.std.specs.BTreeMap.{get}
 use Rattle.std.specs.Str.{bytes_eq}
-use Rattle.std.proofs.lemmas.Map.Text.{btree_map_updates_text}
-use Rattle.values.specs.Names.{uid_cmp}
-use Rattle.scope_index.specs.Keys.{kept_at}
-use Rattle.scope_index.specs.Buckets.{held_in, is_same, IsSameUnder}
-use Rattle.scope_index.proofs.Filing.{turned, same_written, on_err}
+use Rattle.values.specs.Names.{text_cmp}
+use Rattle.scope_index.specs.Buckets.{held_in, bucket_of, is_text}
+use Rattle.scope_index.proofs.Filing.{turned_type, ok_turned, err_same}
 use Rattle.scope_index.proofs.buckets.put_under.Goals as goal
-
-pub returns-in_err-insert-clause-err : goal.returns-in_err-insert-clause-err
-returns-in_err-insert-clause-err c =
-    let m = c.args.under.now in
-    let w = c.insert.new.self in
-    let held : get uid_cmp m c.args.uid.now ≡ Some c.in-Some.bucket.now =
-    sym c.get_mut.ensures.value ∙ ap option_copied_mut c.in-Some.is in
-    on_err c.from_residual.result (IsSameUnder m (c.get_mut.follows.lender w))
-    (same_written c.args.uid.now m (c.get_mut.follows.lender w) w
-    (λ u. ((c.get_mut.follows.holds w).3 (ap is_some held)).0 u)
-    (λ q. ap (λ es. kept_at es q) c.in_err-insert.ensures.err ∙ sym (ap (λ o. held_in o q) held)))
 
 pub returns-in-Some-clause-ok : goal.returns-in-Some-clause-ok
 returns-in-Some-clause-ok c =
     let m = c.args.under.now in
-    let w = c.insert.new.self in
-    let held : get uid_cmp m c.args.uid.now ≡ Some c.in-Some.bucket.now =
+    let w = c.put_named.new.named in
+    let held : get text_cmp m c.args.uid.now.type_name ≡ Some c.in-Some.named.now =
     sym c.get_mut.ensures.value ∙ ap option_copied_mut c.in-Some.is in
-    turned c.args.uid.now (string_bytes c.args.id) (Some c.args.policy) m (c.get_mut.follows.lender w) w
-    (λ u. ((c.get_mut.follows.holds w).3 (ap is_some held)).0 u)
-    (λ q. btree_map_updates_text (string_bytes c.args.id) c.in-Some.bucket.now w (Some c.args.policy) c.in_ok-insert.ensures.updates q
-    ∙ ap (λ o. cond (bytes_eq (string_bytes c.args.id) q) (Some c.args.policy) (held_in o q)) (sym held))
+    ok_turned c.put_named.result c.args.uid.now m (c.get_mut.follows.lender w) c.in-Some.named.now w held
+    (λ t. ((c.get_mut.follows.holds w).3 (ap is_some held)).0 t) (string_bytes c.args.id) (Some c.args.policy) c.put_named.ensures.ok
+
+pub returns-in-Some-clause-err : goal.returns-in-Some-clause-err
+returns-in-Some-clause-err c =
+    let m = c.args.under.now in
+    let w = c.put_named.new.named in
+    let held : get text_cmp m c.args.uid.now.type_name ≡ Some c.in-Some.named.now =
+    sym c.get_mut.ensures.value ∙ ap option_copied_mut c.in-Some.is in
+    err_same c.put_named.result c.args.uid.now m (c.get_mut.follows.lender w) c.in-Some.named.now w held
+    (λ t. ((c.get_mut.follows.holds w).3 (ap is_some held)).0 t) c.put_named.ensures.err
 
 pub returns-clause-ok : goal.returns-clause-ok
 returns-clause-ok c =
     let m = c.args.under.now in
-    let w = c.in_ok-bucket.bucket in
-    let none : get uid_cmp m c.args.uid.now ≡ None = sym c.get_mut.ensures.value ∙ ap option_copied_mut c.in_default.is in
-    let copied : c.in_ok-bucket.uid ≡ c.args.uid.now = subst (λ r. IfOk r (λ u. u ≡ c.args.uid.now)) c.in_ok-bucket.ensures.made c.copy.ensures in
-    turned c.args.uid.now (string_bytes c.args.id) (Some c.args.policy) m c.insert-2.new.self w
-    (λ u. subst (λ v. get uid_cmp c.insert-2.new.self u ≡ cond (is_same v u) (Some w) (get uid_cmp m u)) copied
-    (c.in_ok-insert-2.ensures.updates.0 u
-    ∙ ap (λ n. cond (is_same c.in_ok-bucket.uid u) (Some w) (get uid_cmp n u)) c.get_mut.follows.holds-at-none))
-    (λ q. ap (λ b. kept_at b.entries q) c.in_ok-bucket.ensures.kept ∙ c.in_ok-alone.ensures q
-    ∙ ap (λ o. cond (bytes_eq (string_bytes c.args.id) q) (Some c.args.policy) o) (sym (ap (λ o. held_in o q) none)))
+    let w = c.in_ok-named.named in
+    let none : get text_cmp m c.args.uid.now.type_name ≡ None = sym c.get_mut.ensures.value ∙ ap option_copied_mut c.in_default.is in
+    let copied : c.in_ok-named.type_name ≡ c.args.uid.now.type_name =
+    subst (λ r. IfOk r (λ t. t ≡ c.args.uid.now.type_name)) c.in_ok-named.ensures.made c.copy.ensures in
+    turned_type c.args.uid.now (string_bytes c.args.id) (Some c.args.policy) m c.insert.new.self w
+    (λ t. subst (λ v. get text_cmp c.insert.new.self t ≡ cond (is_text v t) (Some w) (get text_cmp m t)) copied
+    (c.in_ok-insert.ensures.updates.0 t
+    ∙ ap (λ n. cond (is_text c.in_ok-named.type_name t) (Some w) (get text_cmp n t)) c.get_mut.follows.holds-at-none))
+    (λ e q. ap (λ n. held_in (get text_cmp n e) q) c.in_ok-named.ensures.kept ∙ c.in_ok-only.ensures e q
+    ∙ ap (λ o. cond (is_text c.args.uid.now.id e && bytes_eq (string_bytes c.args.id) q) (Some c.args.policy) o)
+    (sym (ap (λ o. held_in (bucket_of o e) q) none)))
