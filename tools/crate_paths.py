@@ -1,55 +1,82 @@
 #!/usr/bin/env python3
-"""How many paths of the graph of crates lead down from each crate, and which names cost most of them.
+"""Counts the paths through the graph of crates, and fails where there are too many.
 
-    tools/crate_paths.py [--most N]
+    tools/crate_paths.py [--total N] [--most N]
 
-rt reckons the sum of a library's sources anew along each path that leads to it, twice a proof, some 3 ms each time: from
-10,000 paths on that is a minute. So a crate names the highest crates that it needs, and these pass on what it needs of
-the crates below them. Fails where a crate has more than N paths (20,000).
+A path starts at a crate and follows the libraries that crates.txt names; a crate alone is one. The toolchain reads the sources of a library
+again on each path that leads to it (kit 13b, 16 ms a path; kit 13f walks the paths when it starts). So a crate names the highest crates that
+it needs, and these pass on the crates below them (docs/proving.md).
+
+Prints the total, the crates with the most paths, and the edges that cost the most of those that could go: the library is also reached
+through another one that the crate names. Fails if there are over 60,000 paths (--total), or over 12,000 from one crate (--most).
+Standard library alone.
 """
 import argparse
 import os
 import sys
 
-TOP = os.path.join(os.path.dirname(os.path.abspath(__file__)), "..")
+TOP = os.path.dirname(os.path.dirname(os.path.abspath(__file__)))
 
 
 def read_crates():
-    """The crates of the repository, each with those that it names."""
+    """Returns the crates of the repository, each with the crates that it names."""
     named = {}
     with open(f"{TOP}/crates.txt", encoding="utf-8") as file:
         for line in file:
             name, _, libraries = line.partition("#")[0].partition(":")
             if name.strip():
-                named[name.strip()] = libraries.split()
+                named[name.split()[0]] = libraries.split()
     return {name: [it for it in libraries if it in named] for name, libraries in named.items()}
 
 
-def paths_of(named):
-    """How many paths begin at each crate, itself alone included."""
-    paths = {}
+def lowest_first(named):
+    """Returns the crates, each after those that it names."""
+    order = {}
 
-    def count(name):
-        if name not in paths:
-            paths[name] = 1 + sum(count(it) for it in named[name])
-        return paths[name]
+    def visit(name):
+        if name not in order:
+            for it in named[name]:
+                visit(it)
+            order[name] = None
 
     for name in named:
-        count(name)
-    return paths
+        visit(name)
+    return list(order)
+
+
+def counts(named):
+    """Returns two maps: how many paths start at a crate, and how many lead to it."""
+    order = lowest_first(named)
+    start, end = {}, dict.fromkeys(order, 1)
+    for name in order:
+        start[name] = 1 + sum(start[it] for it in named[name])
+    for name in reversed(order):
+        for it in named[name]:
+            end[it] += end[name]
+    return start, end
+
+
+def spared(named, start, end):
+    """Returns what each edge that could go would spare, in paths, the most first."""
+    below = {}
+    for name in lowest_first(named):
+        below[name] = set(named[name]).union(*(below[it] for it in named[name]))
+    edges = ((name, it) for name in named for it in named[name] if any(it in below[other] for other in named[name]))
+    return sorted(((end[name] * start[it], name, it) for name, it in edges), reverse=True)
 
 
 def main():
     parser = argparse.ArgumentParser(description=__doc__.split("\n", maxsplit=1)[0])
-    parser.add_argument("--most", type=int, default=20_000)
-    most = parser.parse_args().most
+    parser.add_argument("--total", type=int, default=60_000)
+    parser.add_argument("--most", type=int, default=12_000)
+    limits = parser.parse_args()
     named = read_crates()
-    paths = paths_of(named)
-    for name in sorted(paths, key=paths.get, reverse=True)[:12]:
-        dearest = sorted(named[name], key=paths.get, reverse=True)[:4]
-        print(f"{name} {paths[name]}: {', '.join(f'{it} {paths[it]}' for it in dearest)}")
-    print(f"all {sum(paths.values())}")
-    return 1 if max(paths.values()) > most else 0
+    start, end = counts(named)
+    total, dearest = sum(start.values()), sorted(start, key=start.get, reverse=True)
+    print(f"{total} paths through the graph of crates, at most {limits.total}")
+    print(f"most from a crate, at most {limits.most}: {', '.join(f'{it} {start[it]}' for it in dearest[:6])}")
+    print(f"edges that could go, and what each spares: {', '.join(f'{name} -> {it} {paths}' for paths, name, it in spared(named, start, end)[:6])}")
+    return 1 if total > limits.total or start[dearest[0]] > limits.most else 0
 
 
 if __name__ == "__main__":

@@ -205,7 +205,7 @@ def defined_at(walk, crate, module, name):
     return (found.path, name) if found and name in found.items else None
 
 
-def modules_of(crate, folder=r"inner|formers|passed_on"):
+def modules_of(crate, folder=r"inner|formers"):
     """The files of a crate's specs/ outside these folders, each with its module's name."""
     for path in public_specs.modules_of(crate):
         name = os.path.relpath(path, f"{TOP}/crates/{crate}/specs")[:-5]
@@ -277,7 +277,7 @@ def where(name):
     """The files of specs/ that define a name, each with what is told of it."""
     walk = reading_list.Walk()
     for crate in products():
-        for path, module in modules_of(crate, "passed_on"):
+        for path, module in modules_of(crate, "formers"):
             if name in walk.module(crate, module).items:
                 yield f"{os.path.relpath(path, TOP)}: {told_of(head_of(path))}"
 

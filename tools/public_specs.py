@@ -163,8 +163,7 @@ def main(words):
     for crate in crates:
         for path in modules_of(crate):
             short = os.path.relpath(path, reading_list.TOP)
-            # what is passed on defines nothing
-            if "/formers" in short or "/specs/passed_on" in short or short.endswith("/specs/inner.antt"):
+            if "/formers" in short or short.endswith("/specs/inner.antt"):
                 continue
             inner = "/specs/inner/" in short
             reached = sorted((walk if inner else whole).reached.get(path, {}))

@@ -44,6 +44,13 @@ def opened(lines):
     return found
 
 
+@functools.lru_cache(maxsize=None)
+def home_of(crate, module):
+    """The crate that has a module of specs/, and its name there: a crate passes another one's specs/ on under that crate's name."""
+    first, _, rest = module.partition(".")
+    return (first, rest) if rest and os.path.isdir(f"{TOP}/crates/{first}") else (crate, module)
+
+
 class Module:
     """A file of specs/: what it imports, and its definitions."""
 
@@ -80,6 +87,7 @@ class Module:
         if not found:
             return
         crate, module, names, alias = found.groups()
+        crate, module = home_of(crate, module)
         if names is None:
             self.imports[alias or module.split(".")[-1]] = (crate, module, None)
             return

@@ -5,15 +5,15 @@ use Rattle.std.specs.Ordering.{is_eq}
 use Rattle.std.specs.Cmp.{tied_back}
 use Rattle.values.specs.declared.entity_uid.EntityUid.{EntityUid}
 use Rattle.values.specs.Names.{uid_cmp, uid_cmp-IsTotalOrder}
-use Rattle.ancestor_lists.specs.Lists.{AgreeBut}
+use Rattle.kept_ancestors.specs.ancestor_lists.Lists.{AgreeBut}
 use Rattle.kept_ancestors.specs.declared.keeping.KeptAncestors.{KeptAncestors}
-use Rattle.schema.specs.Schemas.{StatedSchema}
-use Rattle.entity_worlds.specs.declared.entity.Entity.{Entity}
-use Rattle.entity_worlds.specs.Entities.{kept_parents, action_or}
-use Rattle.stamped_entries.specs.declared.entry.Entry.{Entry}
-use Rattle.stamped_store.specs.EntryOrder.{greater}
-use Rattle.stamped_store.specs.Stored.{taken}
-use Rattle.stamped_store.proofs.Points.{others_kept}
+use Rattle.stored_world.specs.schema.Schemas.{StatedSchema}
+use Rattle.stored_world.specs.entity_worlds.declared.entity.Entity.{Entity}
+use Rattle.stored_world.specs.entity_worlds.Entities.{kept_parents, action_or}
+use Rattle.store_index.specs.stamped_entries.declared.entry.Entry.{Entry}
+use Rattle.store_index.specs.stamped_store.EntryOrder.{greater}
+use Rattle.store_index.specs.stamped_store.Stored.{taken}
+use Rattle.store_index.proofs.of_stamped_store.Points.{others_kept}
 use Rattle.stored_world.specs.Said.{data_of}
 use Rattle.stored_world.specs.TextsRead.{entity_at, entity_read}
 use Rattle.accelerated_store.specs.Kept.{EntityEntries, edges_under, AreAncestorsOf}

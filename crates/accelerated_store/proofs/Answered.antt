@@ -3,13 +3,13 @@ use Rattle.std.specs.Prelude.{◌≡◌, Bool, List, Result, Ok, Err, IfOk}
 use Rattle.std.proofs.Common.{refl, subst}
 use Rattle.values.specs.declared.entity_uid.EntityUid.{EntityUid}
 use Rattle.values.specs.declared.request.Request.{Request}
-use Rattle.ancestor_closure.specs.Decided.{Decides}
-use Rattle.policy_grammar.specs.declared.policy.Policy.{Policy}
-use Rattle.evaluator.specs.Operators.{World}
-use Rattle.authoriser.specs.declared.answer.Answer.{Answer}
-use Rattle.authoriser.specs.Answers.{NamedPolicy, IsAnswer}
-use Rattle.entity_worlds.specs.declared.entity.Entity.{Entity}
-use Rattle.stamped_store.specs.Store.{StoreEntries, updates, abstract_store, abstract_updates}
+use Rattle.kept_ancestors.specs.ancestor_closure.Decided.{Decides}
+use Rattle.store_index.specs.policy_grammar.declared.policy.Policy.{Policy}
+use Rattle.stored_world.specs.evaluator.Operators.{World}
+use Rattle.stored_world.specs.authoriser.declared.answer.Answer.{Answer}
+use Rattle.stored_world.specs.authoriser.Answers.{NamedPolicy, IsAnswer}
+use Rattle.stored_world.specs.entity_worlds.declared.entity.Entity.{Entity}
+use Rattle.store_index.specs.stamped_store.Store.{StoreEntries, updates, abstract_store, abstract_updates}
 use Rattle.stored_world.specs.TextsRead.{policies_read}
 use Rattle.stored_world.proofs.PolicyLemmas.{kept_ascend}
 use Rattle.accelerated_store.specs.Candidates.{AreCandidates, Ascend, CandidatesSuffice}

@@ -1,6 +1,8 @@
 -- The policies of a store are those under their ids.
-use Rattle.std.proofs.Common.{◌≡◌, ◌∙◌, refl, sym, ap, subst, true, false, List, [], ◌∷◌, ◌++◌, map, Option, Some, None, inl, inr}
-use Rattle.std.specs.Prelude.{ℕ, cond, Contains, ◌↔◌, ◌⊎◌, option_map, option_and_then, string_bytes, Result, Ok, Err, IfOk, Vec}
+use Rattle.std.proofs.Common.{◌≡◌, ◌∙◌, refl, sym, ap, subst, true, false, List, [], ◌∷◌, ◌++◌, map, Option, Some, None}
+use Rattle.std.proofs.Common.{inl, inr}
+use Rattle.std.specs.Prelude.{ℕ, cond, Contains, ◌↔◌, ◌⊎◌, option_map, option_and_then, string_bytes, Result, Ok, Err}
+use Rattle.std.specs.Prelude.{IfOk, Vec}
 use Rattle.std.specs.List.{AllByRecursion}
 use Rattle.std.specs.List.Sorted.{IsStrictlySortedBy}
 use Rattle.std.specs.Borrow.{Bor}
@@ -13,17 +15,17 @@ use Rattle.std.specs.declared.cmp.Ordering.TheVariants.{Less}
 use Rattle.std.specs.Cmp.{tied_itself}
 use Rattle.std.proofs.lemmas.Map.Views.{tells_apart}
 use Rattle.values.specs.Names.{text_cmp, text_cmp-IsTotalOrder, text_cmp-IsAntisymmetric}
-use Rattle.ancestor_closure.specs.Deciding.{Contains-none, Contains-here, Contains-there, Contains-cases}
-use Rattle.policy_grammar.specs.declared.policy.Policy.{Policy}
+use Rattle.kept_ancestors.specs.ancestor_closure.Deciding.{Contains-none, Contains-here, Contains-there, Contains-cases}
+use Rattle.store_index.specs.policy_grammar.declared.policy.Policy.{Policy}
 use Rattle.values.specs.declared.request.Request.{Request}
-use Rattle.ancestor_closure.specs.Hierarchy.{Parents}
-use Rattle.stamped_entries.specs.declared.entry.Entry.{Entry}
-use Rattle.stamped_store.specs.Stored.{value_at_text}
-use Rattle.stamped_entries.specs.declared.entry.ReadText.{ReadText}
-use Rattle.scope_index.specs.Keys.{Kept, kept_at, Offer, ids, lent, IsOffered}
-use Rattle.scope_index.specs.Scopes.{IsScopeTrue}
-use Rattle.authoriser.specs.Answers.{NamedPolicy}
-use Rattle.authoriser.specs.Views.{named}
+use Rattle.kept_ancestors.specs.ancestor_closure.Hierarchy.{Parents}
+use Rattle.store_index.specs.stamped_entries.declared.entry.Entry.{Entry}
+use Rattle.store_index.specs.stamped_store.Stored.{value_at_text}
+use Rattle.store_index.specs.stamped_entries.declared.entry.ReadText.{ReadText}
+use Rattle.store_index.specs.scope_index.Keys.{Kept, kept_at, Offer, ids, lent, IsOffered}
+use Rattle.store_index.specs.scope_index.Scopes.{IsScopeTrue}
+use Rattle.stored_world.specs.authoriser.Answers.{NamedPolicy}
+use Rattle.stored_world.specs.authoriser.Views.{named}
 use Rattle.stored_world.specs.TextsRead.{policy_read, policies_read}
 use Rattle.store_index.specs.Indexed.{PolicyEntries, policy_in, policy_at, AreIndexed}
 use Rattle.accelerated_store.specs.Candidates.{AreCandidates, Ascend}

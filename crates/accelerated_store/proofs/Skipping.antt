@@ -10,7 +10,7 @@ use Rattle.std.specs.Cmp.{tied_itself, eq_by_cmp_equiv}
 use Rattle.std.proofs.lemmas.List.Elements.{All-from_recursion, All-contains}
 use Rattle.std.proofs.lemmas.Map.Views.{Contains-from_any, list_any-from_Contains, tells_apart}
 use Rattle.values.specs.Names.{text_cmp, text_cmp-IsTotalOrder, text_cmp-IsAntisymmetric}
-use Rattle.ancestor_closure.specs.Deciding.{Contains-here, Contains-there, Contains-cases, Contains-none}
+use Rattle.kept_ancestors.specs.ancestor_closure.Deciding.{Contains-here, Contains-there, Contains-cases, Contains-none}
 
 module _ {P : Type 0} (id : P → List ℕ) where
   abbrev pub Ascend : List P → Type 0

@@ -3,13 +3,13 @@ use Rattle.std.proofs.Common.{◌≡◌, ap, sym, subst, IfOk}
 use Rattle.std.specs.Option.{IfSome}
 use Rattle.std.specs.Result.{result_ok}
 use Rattle.std.specs.Prelude.{Option, Result, Ok, Err, OnOk, OnErr}
-use Rattle.policy_grammar.specs.declared.policy.Policy.{Policy}
+use Rattle.store_index.specs.policy_grammar.declared.policy.Policy.{Policy}
 use Rattle.kept_ancestors.specs.declared.keeping.KeptAncestors.{KeptAncestors}
-use Rattle.schema.specs.SchemaEntries.{SchemaEntries}
-use Rattle.schema.specs.Views.{schema_view}
-use Rattle.scope_index.specs.Keys.{Kept}
-use Rattle.entity_worlds.specs.declared.entity.Entity.{Entity}
-use Rattle.stamped_store.specs.Store.{StoreEntries, kept}
+use Rattle.stored_world.specs.schema.SchemaEntries.{SchemaEntries}
+use Rattle.stored_world.specs.schema.Views.{schema_view}
+use Rattle.store_index.specs.scope_index.Keys.{Kept}
+use Rattle.stored_world.specs.entity_worlds.declared.entity.Entity.{Entity}
+use Rattle.store_index.specs.stamped_store.Store.{StoreEntries, kept}
 use Rattle.store_index.specs.Indexed.{PolicyEntries, AreIndexed}
 use Rattle.accelerated_store.specs.Kept.{EntityEntries, AreAncestorsOf}
 use Rattle.accelerated_store.specs.Seen.{AreBeside}

@@ -4,16 +4,16 @@ use Rattle.std.specs.Prelude.{◌⊎◌, Result, Ok, Err, OnOk, OnErr, option_an
 use Rattle.std.specs.Option.{IfSome}
 use Rattle.values.specs.declared.entity_uid.EntityUid.{EntityUid}
 use Rattle.values.specs.Names.{uid_cmp, uid_cmp-IsTotalOrder}
-use Rattle.ancestor_closure.specs.Hierarchy.{Parents}
-use Rattle.policy_grammar.specs.declared.policy.Policy.{Policy}
+use Rattle.kept_ancestors.specs.ancestor_closure.Hierarchy.{Parents}
+use Rattle.store_index.specs.policy_grammar.declared.policy.Policy.{Policy}
 use Rattle.kept_ancestors.specs.declared.keeping.KeptAncestors.{KeptAncestors}
 use Rattle.kept_ancestors.specs.Kept.{AreKept}
-use Rattle.schema.specs.Schemas.{StatedSchema}
-use Rattle.entity_worlds.specs.declared.entity.Entity.{Entity}
-use Rattle.stamped_entries.specs.declared.entry.Entry.{Entry}
-use Rattle.stamped_store.specs.EntryOrder.{greater}
-use Rattle.stamped_store.specs.Store.{StoreEntries, kept}
-use Rattle.stamped_store.specs.Stored.{value_at, taken}
+use Rattle.stored_world.specs.schema.Schemas.{StatedSchema}
+use Rattle.stored_world.specs.entity_worlds.declared.entity.Entity.{Entity}
+use Rattle.store_index.specs.stamped_entries.declared.entry.Entry.{Entry}
+use Rattle.store_index.specs.stamped_store.EntryOrder.{greater}
+use Rattle.store_index.specs.stamped_store.Store.{StoreEntries, kept}
+use Rattle.store_index.specs.stamped_store.Stored.{value_at, taken}
 use Rattle.stored_world.specs.Said.{world_under}
 use Rattle.stored_world.specs.TextsRead.{entity_at, entity_read}
 use Rattle.store_index.specs.Staying.{Stays}

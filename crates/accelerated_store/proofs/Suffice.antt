@@ -3,14 +3,14 @@ use Rattle.std.proofs.Common.{◌≡◌, ◌∙◌, sym, true, false}
 use Rattle.std.specs.Prelude.{Ok, Err}
 use Rattle.values.specs.declared.request.Request.{Request}
 use Rattle.values.specs.Values.{boolean}
-use Rattle.policy_grammar.specs.Whole.{expression_of}
-use Rattle.evaluator.specs.Operators.{World}
-use Rattle.evaluator.specs.Evaluation.{EvaluatesTo}
-use Rattle.evaluator.specs.Laws.{HaveOneOutcome, HasOneOutcome}
-use Rattle.scope_index.specs.Scopes.{IsScopeTrue}
-use Rattle.authoriser.specs.Answers.{NamedPolicy, IsAnswer, fault_of}
-use Rattle.authoriser.specs.Laws.{IsIdle, LeavingOutChangesNothing}
-use Rattle.authoriser.specs.Parts.{OtherScopesGiveFalse}
+use Rattle.store_index.specs.policy_grammar.Whole.{expression_of}
+use Rattle.stored_world.specs.evaluator.Operators.{World}
+use Rattle.stored_world.specs.evaluator.Evaluation.{EvaluatesTo}
+use Rattle.stored_world.specs.evaluator.Laws.{HaveOneOutcome, HasOneOutcome}
+use Rattle.store_index.specs.scope_index.Scopes.{IsScopeTrue}
+use Rattle.stored_world.specs.authoriser.Answers.{NamedPolicy, IsAnswer, fault_of}
+use Rattle.stored_world.specs.authoriser.Laws.{IsIdle, LeavingOutChangesNothing}
+use Rattle.stored_world.specs.authoriser.Parts.{OtherScopesGiveFalse}
 use Rattle.accelerated_store.specs.Candidates.{CandidatesSuffice}
 use Rattle.accelerated_store.proofs.Skipping.{skipping}
 

@@ -4,8 +4,8 @@ use Rattle.std.specs.Prelude.{Contains}
 use Rattle.std.specs.List.Sorted.{IsStrictlySortedBy}
 use Rattle.std.specs.Borrow.{Bor}
 use Rattle.values.specs.declared.entity_uid.EntityUid.{EntityUid}
-use Rattle.ancestor_closure.specs.Hierarchy.{Parents, Path, IsAllAbove, IsAscending, names}
-use Rattle.ancestor_closure.specs.Deciding.{Contains-none}
+use Rattle.kept_ancestors.specs.ancestor_closure.Hierarchy.{Parents, Path, IsAllAbove, IsAscending, names}
+use Rattle.kept_ancestors.specs.ancestor_closure.Deciding.{Contains-none}
 
 no_way_up : (parents : Parents) (b : EntityUid) → parents b ≡ [] → (through : List EntityUid) (a : EntityUid)
     → Path parents b through a → ⊥

@@ -3,19 +3,19 @@ use Rattle.std.proofs.Common.{◌≡◌, ◌∙◌, refl, ap, sym, subst, List}
 use Rattle.std.specs.Prelude.{Result, IfOk, Option}
 use Rattle.values.specs.declared.entity_uid.EntityUid.{EntityUid}
 use Rattle.values.specs.declared.request.Request.{Request}
-use Rattle.policy_grammar.specs.declared.policy.Policy.{Policy}
-use Rattle.ancestor_closure.specs.Hierarchy.{Parents}
+use Rattle.store_index.specs.policy_grammar.declared.policy.Policy.{Policy}
+use Rattle.kept_ancestors.specs.ancestor_closure.Hierarchy.{Parents}
 use Rattle.kept_ancestors.specs.declared.keeping.KeptAncestors.{KeptAncestors}
 use Rattle.kept_ancestors.specs.Kept.{AreKept}
-use Rattle.evaluator.specs.Operators.{World, world_of}
-use Rattle.authoriser.specs.declared.answer.Answer.{Answer}
-use Rattle.authoriser.specs.Answers.{NamedPolicy, IsAnswer}
-use Rattle.schema.specs.SchemaEntries.{SchemaEntries}
-use Rattle.schema.specs.Views.{schema_view}
-use Rattle.entity_worlds.specs.declared.entity.Entity.{Entity}
-use Rattle.entity_worlds.specs.Entities.{EntityMap, attributes_of, kept_parents, action_or}
-use Rattle.entity_store.specs.Entities.{entities_under}
-use Rattle.stamped_store.specs.Store.{StoreEntries}
+use Rattle.stored_world.specs.evaluator.Operators.{World, world_of}
+use Rattle.stored_world.specs.authoriser.declared.answer.Answer.{Answer}
+use Rattle.stored_world.specs.authoriser.Answers.{NamedPolicy, IsAnswer}
+use Rattle.stored_world.specs.schema.SchemaEntries.{SchemaEntries}
+use Rattle.stored_world.specs.schema.Views.{schema_view}
+use Rattle.stored_world.specs.entity_worlds.declared.entity.Entity.{Entity}
+use Rattle.stored_world.specs.entity_worlds.Entities.{EntityMap, attributes_of, kept_parents, action_or}
+use Rattle.stored_world.specs.entity_store.Entities.{entities_under}
+use Rattle.store_index.specs.stamped_store.Store.{StoreEntries}
 use Rattle.stored_world.specs.declared.stored_entities.StoredEntities.{StoredEntities}
 use Rattle.stored_world.specs.Said.{data_in, world_under}
 use Rattle.stored_world.specs.TextsRead.{entity_at}

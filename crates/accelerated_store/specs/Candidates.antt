@@ -3,13 +3,13 @@
 use Rattle.std.specs.Prelude.{◌↔◌, List, map, Contains, Bool}
 use Rattle.values.specs.declared.entity_uid.EntityUid.{EntityUid}
 use Rattle.values.specs.declared.request.Request.{Request}
-use Rattle.ancestor_closure.specs.Hierarchy.{Parents}
-use Rattle.ancestor_closure.specs.Decided.{Decides}
-use Rattle.scope_index.specs.Scopes.{IsScopeTrue}
-use Rattle.evaluator.specs.Operators.{World}
-use Rattle.authoriser.specs.declared.answer.Answer.{Answer}
-use Rattle.authoriser.specs.Answers.{NamedPolicy, IsAnswer}
-use Rattle.authoriser.specs.Laws.{AreIdsAscending}
+use Rattle.kept_ancestors.specs.ancestor_closure.Hierarchy.{Parents}
+use Rattle.kept_ancestors.specs.ancestor_closure.Decided.{Decides}
+use Rattle.store_index.specs.scope_index.Scopes.{IsScopeTrue}
+use Rattle.stored_world.specs.evaluator.Operators.{World}
+use Rattle.stored_world.specs.authoriser.declared.answer.Answer.{Answer}
+use Rattle.stored_world.specs.authoriser.Answers.{NamedPolicy, IsAnswer}
+use Rattle.stored_world.specs.authoriser.Laws.{AreIdsAscending}
 
 -- qs are some of the policies ps, and none is missing whose scope is true of the request
 pub record AreCandidates (parents : Parents) (q : Request) (ps qs : List NamedPolicy) : Type 0 where

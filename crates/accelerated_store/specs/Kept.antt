@@ -1,12 +1,12 @@
 -- The ancestors that are kept beside a store, and when they are right.
 use Rattle.std.specs.Prelude.{List}
 use Rattle.values.specs.declared.entity_uid.EntityUid.{EntityUid}
-use Rattle.ancestor_closure.specs.Hierarchy.{Parents}
+use Rattle.kept_ancestors.specs.ancestor_closure.Hierarchy.{Parents}
 use Rattle.kept_ancestors.specs.declared.keeping.KeptAncestors.{KeptAncestors}
 use Rattle.kept_ancestors.specs.Kept.{AreKept}
-use Rattle.schema.specs.Schemas.{StatedSchema}
-use Rattle.entity_worlds.specs.declared.entity.Entity.{Entity}
-use Rattle.stamped_entries.specs.declared.entry.Entry.{Entry}
+use Rattle.stored_world.specs.schema.Schemas.{StatedSchema}
+use Rattle.stored_world.specs.entity_worlds.declared.entity.Entity.{Entity}
+use Rattle.store_index.specs.stamped_entries.declared.entry.Entry.{Entry}
 use Rattle.stored_world.specs.Said.{world_under}
 use Rattle.stored_world.specs.TextsRead.{entity_at}
 

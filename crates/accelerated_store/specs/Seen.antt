@@ -1,13 +1,13 @@
 -- What contracts see of a store with what is kept beside it: a schema, and the entries of the store.
 use Rattle.std.specs.Option.{IfSome}
 use Rattle.std.specs.Prelude.{Option}
-use Rattle.policy_grammar.specs.declared.policy.Policy.{Policy}
+use Rattle.store_index.specs.policy_grammar.declared.policy.Policy.{Policy}
 use Rattle.kept_ancestors.specs.declared.keeping.KeptAncestors.{KeptAncestors}
-use Rattle.schema.specs.SchemaEntries as kept_schema
-use Rattle.schema.specs.Schemas.{StatedSchema}
-use Rattle.scope_index.specs.Keys.{Kept}
-use Rattle.entity_worlds.specs.declared.entity.Entity.{Entity}
-use Rattle.stamped_store.specs.Store.{StoreEntries}
+use Rattle.stored_world.specs.schema.SchemaEntries as kept_schema
+use Rattle.stored_world.specs.schema.Schemas.{StatedSchema}
+use Rattle.store_index.specs.scope_index.Keys.{Kept}
+use Rattle.stored_world.specs.entity_worlds.declared.entity.Entity.{Entity}
+use Rattle.store_index.specs.stamped_store.Store.{StoreEntries}
 use Rattle.store_index.specs.Indexed.{AreIndexed}
 use Rattle.accelerated_store.specs.Kept.{AreAncestorsOf}
 

@@ -1,13 +1,13 @@
 //! The ancestors that are kept beside a store: made anew, and following a change of an entity.
 ghost use Rattle.std.specs.Prelude.{◌≡◌, ◌↔◌, ◌⊎◌, ◌++◌, ◌∷◌, [], None, IsTrue, IfOk, IfErr, IfSome, OnOk, OnErr};
 ghost use Rattle.values.specs.Names.{uid_cmp};
-ghost use Rattle.ancestor_closure.specs.Hierarchy.{IsOnCycle};
-ghost use Rattle.schema.specs.Schemas.{StatedSchema};
-ghost use Rattle.schema.specs.Views.{schema_view};
-ghost use Rattle.stamped_store.specs.EntryOrder.{plain_entry, greater};
-ghost use Rattle.stamped_store.specs.Store.{abstract_store, store_of, updates, kept};
-ghost use Rattle.stamped_store.specs.Store.{entity_name, KeepsOtherNames};
-ghost use Rattle.stamped_store.specs.Stored.{taken, value_at};
+ghost use Rattle.kept_ancestors.specs.ancestor_closure.Hierarchy.{IsOnCycle};
+ghost use Rattle.stored_world.specs.schema.Schemas.{StatedSchema};
+ghost use Rattle.stored_world.specs.schema.Views.{schema_view};
+ghost use Rattle.store_index.specs.stamped_store.EntryOrder.{plain_entry, greater};
+ghost use Rattle.store_index.specs.stamped_store.Store.{abstract_store, store_of, updates, kept};
+ghost use Rattle.store_index.specs.stamped_store.Store.{entity_name, KeepsOtherNames};
+ghost use Rattle.store_index.specs.stamped_store.Stored.{taken, value_at};
 ghost use Rattle.stored_world.specs.Said.{parents_with};
 ghost use Rattle.stored_world.specs.TextsRead.{entity_at};
 ghost use Rattle.accelerated_store.specs.Kept.{EntityEntries, AreAncestorsOf};
@@ -15,15 +15,15 @@ ghost use Rattle.accelerated_store.specs.inner.Following.{AreAncestorsBut};
 ghost use Rattle.store_index.specs.Staying.{Stays};
 
 use crate::pace::Pace;
-use entity_store::{Entity, world_under};
 use kept_ancestors::KeptAncestors;
 use plain::NoMemory;
-use policy_grammar::Policy;
-use schema::Schema;
-use stamped_store::{Entry, PolicyStore};
 use std::alloc::Global;
+use store_index::policy_grammar::Policy;
+use store_index::stamped_store::{Entry, PolicyStore};
 use store_index::stays;
 use stored_world::StoredEntities;
+use stored_world::entity_store::{Entity, world_under};
+use stored_world::schema::Schema;
 use values::EntityUid;
 
 /// Returns the ancestors of all entities of a store, made anew: one search for each entity and each action. Errors:

@@ -1,17 +1,17 @@
 //! A world whose ancestors are kept at hand.
 ghost use Rattle.std.specs.Prelude.{◌≡◌, ◌↔◌, [], IsTrue, IsOk, IfOk, MatchOption};
-ghost use Rattle.ancestor_closure.specs.Hierarchy.{Above, AreOnCycles, IsAscending, names};
-ghost use Rattle.ancestor_closure.specs.LeastCycle.{HasNoCycle, IsLeastCycle};
-ghost use Rattle.schema.specs.Views.{schema_view};
+ghost use Rattle.kept_ancestors.specs.ancestor_closure.Hierarchy.{Above, AreOnCycles, IsAscending, names};
+ghost use Rattle.kept_ancestors.specs.ancestor_closure.LeastCycle.{HasNoCycle, IsLeastCycle};
+ghost use Rattle.stored_world.specs.schema.Views.{schema_view};
 ghost use Rattle.accelerated_store.specs.inner.Following.{AreKeptOf};
 
-use ancestor_closure::{Ancestry, Graph};
-use evaluator::Lookup;
 use kept_ancestors::KeptAncestors;
+use kept_ancestors::ancestor_closure::{Ancestry, Graph};
 use plain::NoMemory;
-use schema::Schema;
 use std::alloc::Global;
 use std::marker::Model;
+use stored_world::evaluator::Lookup;
+use stored_world::schema::Schema;
 use values::{EntityUid, Record};
 
 /// A world, and the ancestors that are kept of its edges: who is above whom is looked up, and nothing is searched
@@ -26,7 +26,7 @@ pub(crate) struct KeptWorld<'a, W: Lookup + Graph> {
 }
 
 impl<'a, W: Lookup + Graph> Model for KeptWorld<'a, W> {
-    ghost use Rattle.schema.specs.Views.{schema_view};
+    ghost use Rattle.stored_world.specs.schema.Views.{schema_view};
     ghost use Rattle.accelerated_store.specs.inner.Following.{AreKeptOf};
 
     ghost Value = { W };

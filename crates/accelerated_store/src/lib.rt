@@ -15,5 +15,9 @@ mod pace;
 mod store;
 mod tries;
 
+pub use kept_ancestors::ancestor_closure;
 pub use laws::candidates_suffice;
 pub use store::AcceleratedStore;
+pub use store_index::{policy_grammar, stamped_store};
+pub use stored_world;
+pub use stored_world::{authoriser, entities, schema};

@@ -1,16 +1,16 @@
 //! The policies of a store that a request may meet.
 ghost use Rattle.std.specs.Prelude.{IfOk};
-ghost use Rattle.authoriser.specs.Views.{named};
+ghost use Rattle.stored_world.specs.authoriser.Views.{named};
 ghost use Rattle.stored_world.specs.TextsRead.{policies_read};
 ghost use Rattle.store_index.specs.Indexed.{AreIndexed};
 ghost use Rattle.accelerated_store.specs.Candidates.{AreCandidates, Ascend};
 
-use ancestor_closure::Ancestry;
-use entity_store::Entity;
+use kept_ancestors::ancestor_closure::Ancestry;
 use plain::NoMemory;
-use policy_grammar::Policy;
-use scope_index::ScopeIndex;
-use stamped_store::PolicyStore;
+use store_index::policy_grammar::Policy;
+use store_index::scope_index::ScopeIndex;
+use store_index::stamped_store::PolicyStore;
+use stored_world::entity_store::Entity;
 use values::Request;
 
 /// Returns the policies that the index offers, ascending by id; none is looked up by its id. They are lent, not copied.

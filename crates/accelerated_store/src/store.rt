@@ -3,14 +3,14 @@ ghost use Rattle.std.specs.Prelude.{◌≡◌, ◌↔◌, ◌++◌, ◌∷◌, [
 ghost use Rattle.std.specs.Prelude.{string_bytes, true, false};
 ghost use Rattle.std.specs.String.{string_cmp};
 ghost use Rattle.values.specs.Names.{uid_cmp};
-ghost use Rattle.schema.specs.Views.{schema_view};
-ghost use Rattle.stamped_store.specs.EntryOrder.{plain_entry, greater};
-ghost use Rattle.stamped_store.specs.Reading.{AreEntriesRead};
-ghost use Rattle.stamped_store.specs.Store.{abstract_store, store_of, updates, kept};
-ghost use Rattle.stamped_store.specs.Store.{policy_name, entity_name, KeepsOtherNames};
-ghost use Rattle.stamped_store.specs.Stored.{taken};
-ghost use Rattle.ancestor_closure.specs.Hierarchy.{IsOnCycle, with_parents};
-ghost use Rattle.authoriser.specs.Answers.{IsAnswer};
+ghost use Rattle.stored_world.specs.schema.Views.{schema_view};
+ghost use Rattle.store_index.specs.stamped_store.EntryOrder.{plain_entry, greater};
+ghost use Rattle.store_index.specs.stamped_store.Reading.{AreEntriesRead};
+ghost use Rattle.store_index.specs.stamped_store.Store.{abstract_store, store_of, updates, kept};
+ghost use Rattle.store_index.specs.stamped_store.Store.{policy_name, entity_name, KeepsOtherNames};
+ghost use Rattle.store_index.specs.stamped_store.Stored.{taken};
+ghost use Rattle.kept_ancestors.specs.ancestor_closure.Hierarchy.{IsOnCycle, with_parents};
+ghost use Rattle.stored_world.specs.authoriser.Answers.{IsAnswer};
 ghost use Rattle.stored_world.specs.Said.{IsAnswerOver, MakesCycle, MakesNoCycle, parents_with, world_under};
 ghost use Rattle.stored_world.specs.TextsRead.{entity_at, policies_read};
 ghost use Rattle.store_index.specs.Indexed.{AreIndexed};
@@ -21,19 +21,19 @@ use crate::ancestors::{ancestors_of, take_entity, would_cycle_by};
 use crate::answering::{answer_by_kept, is_in_order};
 use crate::pace::Pace;
 use crate::tries::Tries;
-use ancestor_closure::ParentsOf;
-use authoriser::Answer;
-use entity_store::{Entity, world_under};
-use kept_ancestors::KeptAncestors;
+use kept_ancestors::ancestor_closure::ParentsOf;
+use kept_ancestors::{KeptAncestors, ancestor_closure};
 use plain::{NoMemory, Shared};
-use policy_grammar::Policy;
-use schema::Schema;
-use scope_index::ScopeIndex;
-use stamped_store::{Entry, PolicyStore, Readings};
 use std::alloc::Global;
 use std::marker::Model;
+use store_index::policy_grammar::Policy;
+use store_index::scope_index::ScopeIndex;
+use store_index::stamped_store::{Entry, PolicyStore, Readings};
 use store_index::{stand_index, take_policy};
 use stored_world::StoredEntities;
+use stored_world::authoriser::Answer;
+use stored_world::entity_store::{Entity, world_under};
+use stored_world::schema::Schema;
 use values::{EntityUid, Request};
 
 /// A store under a schema. Contracts see these two.
@@ -50,11 +50,11 @@ pub struct AcceleratedStore {
 
 impl Model for AcceleratedStore {
     ghost use Rattle.std.specs.Coded.{codes};
-    ghost use Rattle.schema_types.specs.contracts.cedar.CedarType as cedar;
+    ghost use Rattle.stored_world.specs.schema_types.contracts.cedar.CedarType as cedar;
     ghost use Rattle.values.specs.ValueCode.{value_code};
-    ghost use Rattle.expressions.specs.contracts.expr.Expr as expr;
+    ghost use Rattle.store_index.specs.expressions.contracts.expr.Expr as expr;
     ghost use Rattle.std.specs.Option.{IfSome};
-    ghost use Rattle.schema.specs.Views.{schema_view};
+    ghost use Rattle.stored_world.specs.schema.Views.{schema_view};
     ghost use Rattle.accelerated_store.specs.Seen.{SeenStore, AreBeside};
 
     ghost Value = { SeenStore };

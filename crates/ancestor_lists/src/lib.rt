@@ -9,6 +9,7 @@ mod lists;
 mod relatives;
 mod room;
 
+pub use ancestor_closure;
 pub use changing::{follow, make_room, parents_by};
 pub use children::add_to_all;
 pub use cycles::{are_none, members};

@@ -5,14 +5,14 @@ use Rattle.std.proofs.lemmas.Bool.{false≢true}
 use Rattle.values.specs.declared.entity_uid.EntityUid.{EntityUid}
 use Rattle.values.specs.declared.request.Request.{Request}
 use Rattle.values.specs.Values.{PlainValue, boolean, long, text, entity, set, record_of, decimal, ipaddr}
-use Rattle.ancestor_closure.specs.Hierarchy.{Parents, Path, IsOnCycle}
-use Rattle.ancestor_closure.specs.LeastCycle.{HasNoCycle, IsLeastCycle, CyclesHaveALeast}
-use Rattle.ancestor_closure.specs.Decided.{Decides, HaveAllParents, reaches, PathsAreDecided}
+use Rattle.evaluator.specs.ancestor_closure.Hierarchy.{Parents, Path, IsOnCycle}
+use Rattle.evaluator.specs.ancestor_closure.LeastCycle.{HasNoCycle, IsLeastCycle, CyclesHaveALeast}
+use Rattle.evaluator.specs.ancestor_closure.Decided.{Decides, HaveAllParents, reaches, PathsAreDecided}
 use Rattle.expressions.specs.declared.expr.Expr.{Expr}
 use Rattle.expressions.specs.declared.expr.Expr.TheVariants as core
 use Rattle.expressions.specs.declared.leaf.Variable.TheVariants.{Principal, Resource}
-use Rattle.policy_grammar.specs.declared.policy.Policy.{Policy}
-use Rattle.policy_grammar.specs.Whole.{entity_part, action_part, expression_of}
+use Rattle.scope_index.specs.policy_grammar.declared.policy.Policy.{Policy}
+use Rattle.scope_index.specs.policy_grammar.Whole.{entity_part, action_part, expression_of}
 use Rattle.evaluator.specs.declared.fault.EvalFault.{EvalFault}
 use Rattle.evaluator.specs.declared.fault.EvalFault.TheVariants as fault
 use Rattle.evaluator.specs.Outcomes.{EvaluationResult, boolean_in}
@@ -25,8 +25,10 @@ use Rattle.authoriser.specs.declared.answer.Decision.TheVariants.{Deny}
 use Rattle.authoriser.specs.declared.outcome.Outcome.{Outcome}
 use Rattle.authoriser.specs.declared.outcome.Outcome.TheVariants.{Satisfied, NotSatisfied, Errs}
 use Rattle.authoriser.specs.declared.outcome.PolicyError.{PolicyError}
-use Rattle.authoriser.specs.declared.outcome.PolicyError.TheVariants.{EntityDoesNotExist, AttrDoesNotExist, TypeError, ArithBoundsError, ExtensionError}
-use Rattle.authoriser.specs.Answers.{NamedPolicy, PolicyOutcome, IsPolicyOutcome, fault_of, PolicyEvaluatesTo, ArePolicyOutcomes, answer_by, IsAnswer}
+use Rattle.authoriser.specs.declared.outcome.PolicyError.TheVariants.{EntityDoesNotExist, AttrDoesNotExist, TypeError}
+use Rattle.authoriser.specs.declared.outcome.PolicyError.TheVariants.{ArithBoundsError, ExtensionError}
+use Rattle.authoriser.specs.Answers.{NamedPolicy, PolicyOutcome, IsPolicyOutcome, fault_of, PolicyEvaluatesTo}
+use Rattle.authoriser.specs.Answers.{ArePolicyOutcomes, answer_by, IsAnswer}
 use Rattle.authoriser.specs.Laws.{OneAnswerAtMost, OneAnswerInFiniteHierarchies}
 use Rattle.plain.proofs.Members.{Contains-cases, Contains-none}
 use Rattle.authoriser.proofs.Lawful.{Determined}

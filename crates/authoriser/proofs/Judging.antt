@@ -1,5 +1,6 @@
 -- From what is looked up once to the truth of scopes, and from policy to policy.
-use Rattle.std.specs.Prelude.{◌≡◌, ◌≢◌, ℕ, ◌+◌, ◌<◌, ◌≤◌, List, [], ◌∷◌, ◌++◌, length, slice_index_or, Bool, true, false, Contains, None, Vec, refl}
+use Rattle.std.specs.Prelude.{◌≡◌, ◌≢◌, ℕ, ◌+◌, ◌<◌, ◌≤◌, List, [], ◌∷◌, ◌++◌, length, slice_index_or, Bool, true}
+use Rattle.std.specs.Prelude.{false, Contains, None, Vec, refl}
 use Rattle.std.specs.declared.alloc.Global.{Global}
 use Rattle.std.specs.List.Sorted.{IsStrictlySortedBy}
 use Rattle.std.specs.Borrow.{Bor}
@@ -9,23 +10,24 @@ use Rattle.std.proofs.lemmas.List.Elements.{Contains-push_cases}
 use Rattle.values.specs.declared.entity_uid.EntityUid.{EntityUid}
 use Rattle.values.specs.declared.request.Request.{Request}
 use Rattle.plain.proofs.Members.{Contains-none}
-use Rattle.ancestor_closure.specs.Hierarchy.{Parents, Path, IsAllAbove, IsAscending, names, IsIn}
-use Rattle.ancestor_closure.specs.LeastCycle.{HasNoCycle, IsLeastCycle}
-use Rattle.ancestor_closure.specs.Decided.{Decides}
+use Rattle.evaluator.specs.ancestor_closure.Hierarchy.{Parents, Path, IsAllAbove, IsAscending, names, IsIn}
+use Rattle.evaluator.specs.ancestor_closure.LeastCycle.{HasNoCycle, IsLeastCycle}
+use Rattle.evaluator.specs.ancestor_closure.Decided.{Decides}
 use Rattle.expressions.specs.declared.expr.Expr.{Expr}
-use Rattle.policy_grammar.specs.declared.policy.Policy.{Policy}
-use Rattle.policy_grammar.specs.declared.policy.EntityScope.{EntityScope}
-use Rattle.policy_grammar.specs.declared.policy.ActionScope.{ActionScope}
-use Rattle.policy_grammar.specs.declared.policy.EntityScope.TheVariants as entity
-use Rattle.policy_grammar.specs.declared.policy.ActionScope.TheVariants as action
-use Rattle.policy_grammar.specs.declared.policy.Scope.{Scope}
+use Rattle.scope_index.specs.policy_grammar.declared.policy.Policy.{Policy}
+use Rattle.scope_index.specs.policy_grammar.declared.policy.EntityScope.{EntityScope}
+use Rattle.scope_index.specs.policy_grammar.declared.policy.ActionScope.{ActionScope}
+use Rattle.scope_index.specs.policy_grammar.declared.policy.EntityScope.TheVariants as entity
+use Rattle.scope_index.specs.policy_grammar.declared.policy.ActionScope.TheVariants as action
+use Rattle.scope_index.specs.policy_grammar.declared.policy.Scope.{Scope}
 use Rattle.evaluator.specs.declared.fault.EvalFault.{EvalFault}
 use Rattle.evaluator.specs.declared.fault.EvalFault.TheVariants as fault
 use Rattle.evaluator.specs.Operators.{World}
 use Rattle.evaluator.specs.Evaluation.{TestFails}
 use Rattle.authoriser.specs.declared.others.Other.{Other}
 use Rattle.authoriser.specs.declared.outcome.PolicyError.{PolicyError}
-use Rattle.authoriser.specs.declared.outcome.PolicyError.TheVariants.{EntityDoesNotExist, AttrDoesNotExist, TypeError, ArithBoundsError, ExtensionError}
+use Rattle.authoriser.specs.declared.outcome.PolicyError.TheVariants.{EntityDoesNotExist, AttrDoesNotExist, TypeError}
+use Rattle.authoriser.specs.declared.outcome.PolicyError.TheVariants.{ArithBoundsError, ExtensionError}
 use Rattle.authoriser.specs.declared.outcome.Outcome.{Outcome}
 use Rattle.authoriser.specs.declared.outcome.Outcome.TheVariants.{Satisfied, NotSatisfied, Errs}
 use Rattle.authoriser.specs.declared.answer.Answer.{Answer}
@@ -34,10 +36,12 @@ use Rattle.authoriser.specs.declared.request_entities.KnownEntity.{KnownEntity}
 use Rattle.authoriser.specs.declared.request_entities.RequestEntities.{RequestEntities}
 use Rattle.authoriser.specs.declared.tally.Tally.{Tally}
 use Rattle.scope_index.specs.Scopes.{IsEntityScopeTrue, IsActionScopeTrue, IsScopeTrue}
-use Rattle.authoriser.specs.Answers.{NamedPolicy, PolicyOutcome, IsPolicyOutcome, ArePolicyOutcomes, fault_of, PolicyEvaluatesTo, decided, answer_by, IsAnswer}
+use Rattle.authoriser.specs.Answers.{NamedPolicy, PolicyOutcome, IsPolicyOutcome, ArePolicyOutcomes, fault_of}
+use Rattle.authoriser.specs.Answers.{PolicyEvaluatesTo, decided, answer_by, IsAnswer}
 use Rattle.authoriser.specs.Views.{named}
 use Rattle.authoriser.specs.inner.Views.{HasItsAttributes, AreLookedUp, AllHaveTheirAttributes, HasAllAbove}
-use Rattle.authoriser.specs.inner.Views.{IsWithin, HasItsAncestors, HasRequestAncestors, AllHaveTheirAncestors, AreAscending, IsTrueOf, ConditionEvaluatesTo, ids, faults, Counts}
+use Rattle.authoriser.specs.inner.Views.{IsWithin, HasItsAncestors, HasRequestAncestors, AllHaveTheirAncestors}
+use Rattle.authoriser.specs.inner.Views.{AreAscending, IsTrueOf, ConditionEvaluatesTo, ids, faults, Counts}
 use Rattle.authoriser.specs.Parts.{TrueScopesLeaveToConditions, OtherScopesGiveFalse}
 
 -- ---- scopes

@@ -10,13 +10,13 @@ use Rattle.values.specs.declared.entity_uid.EntityUid.{EntityUid}
 use Rattle.values.specs.declared.request.Request.{Request}
 use Rattle.values.specs.Values.{boolean}
 use Rattle.values.specs.Names.{text_cmp}
-use Rattle.ancestor_closure.specs.Hierarchy.{Parents, IsOnCycle}
-use Rattle.ancestor_closure.specs.LeastCycle.{IsLeastCycle, LeastCyclesAreOne}
+use Rattle.evaluator.specs.ancestor_closure.Hierarchy.{Parents, IsOnCycle}
+use Rattle.evaluator.specs.ancestor_closure.LeastCycle.{IsLeastCycle, LeastCyclesAreOne}
 use Rattle.expressions.specs.declared.expr.Expr.{Expr}
-use Rattle.policy_grammar.specs.declared.policy.Effect.{Effect}
-use Rattle.policy_grammar.specs.declared.policy.Effect.TheVariants.{Permit, Forbid}
-use Rattle.policy_grammar.specs.declared.policy.Policy.{Policy}
-use Rattle.policy_grammar.specs.Whole.{expression_of}
+use Rattle.scope_index.specs.policy_grammar.declared.policy.Effect.{Effect}
+use Rattle.scope_index.specs.policy_grammar.declared.policy.Effect.TheVariants.{Permit, Forbid}
+use Rattle.scope_index.specs.policy_grammar.declared.policy.Policy.{Policy}
+use Rattle.scope_index.specs.policy_grammar.Whole.{expression_of}
 use Rattle.evaluator.specs.Outcomes.{EvaluationResult}
 use Rattle.evaluator.specs.Operators.{World}
 use Rattle.evaluator.specs.Evaluation.{EvaluatesTo}
@@ -27,9 +27,13 @@ use Rattle.authoriser.specs.declared.answer.Decision.TheVariants.{Deny}
 use Rattle.authoriser.specs.declared.outcome.Outcome.{Outcome}
 use Rattle.authoriser.specs.declared.outcome.Outcome.TheVariants.{Satisfied, NotSatisfied, Errs}
 use Rattle.authoriser.specs.declared.outcome.PolicyError.{PolicyError}
-use Rattle.authoriser.specs.declared.outcome.PolicyError.TheVariants.{EntityDoesNotExist, AttrDoesNotExist, TypeError, ArithBoundsError, ExtensionError}
-use Rattle.authoriser.specs.Answers.{NamedPolicy, PolicyOutcome, IsPolicyOutcome, fault_of, PolicyEvaluatesTo, ArePolicyOutcomes, if_satisfied, satisfied, if_erring, erring, decided, answer_by, IsCycleDenial, IsPolicyAnswer}
-use Rattle.authoriser.specs.Laws.{HasOneAnswerAtMost, OneAnswerAtMost, HaveSameMembers, AreAlike, AreIdsAscending, ListsAscend}
+use Rattle.authoriser.specs.declared.outcome.PolicyError.TheVariants.{EntityDoesNotExist, AttrDoesNotExist, TypeError}
+use Rattle.authoriser.specs.declared.outcome.PolicyError.TheVariants.{ArithBoundsError, ExtensionError}
+use Rattle.authoriser.specs.Answers.{NamedPolicy, PolicyOutcome, IsPolicyOutcome, fault_of, PolicyEvaluatesTo}
+use Rattle.authoriser.specs.Answers.{ArePolicyOutcomes, if_satisfied, satisfied, if_erring, erring, decided, answer_by}
+use Rattle.authoriser.specs.Answers.{IsCycleDenial, IsPolicyAnswer}
+use Rattle.authoriser.specs.Laws.{HasOneAnswerAtMost, OneAnswerAtMost, HaveSameMembers, AreAlike, AreIdsAscending}
+use Rattle.authoriser.specs.Laws.{ListsAscend}
 use Rattle.plain.proofs.Members.{Contains-here, Contains-there, Contains-cases, Contains-none}
 
 -- ---- one answer

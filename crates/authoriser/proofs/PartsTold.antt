@@ -11,8 +11,9 @@ use Rattle.values.specs.Names.{uid_cmp, uid_cmp-IsTotalOrder, uid_cmp-IsAntisymm
 use Rattle.values.specs.Uids.{equal-is}
 use Rattle.values.specs.Sets.{set_list}
 use Rattle.values.specs.Laws.{SetsHoldTheirMembers}
-use Rattle.values.specs.Values.{PlainValue, boolean, long, text, entity, set, record_of, decimal, ipaddr, list_of-values_of}
-use Rattle.ancestor_closure.specs.Decided.{Decides}
+use Rattle.values.specs.Values.{PlainValue, boolean, long, text, entity, set, record_of, decimal, ipaddr}
+use Rattle.values.specs.Values.{list_of-values_of}
+use Rattle.evaluator.specs.ancestor_closure.Decided.{Decides}
 use Rattle.expressions.specs.declared.leaf.Literal.TheVariants as literal
 use Rattle.expressions.specs.declared.leaf.Variable.{Variable}
 use Rattle.expressions.specs.declared.leaf.Variable.TheVariants.{Principal, Action, Resource}
@@ -20,21 +21,23 @@ use Rattle.expressions.specs.declared.operator.Unary.TheVariants.{Is}
 use Rattle.expressions.specs.declared.operator.Binary.TheVariants.{Equal, In}
 use Rattle.expressions.specs.declared.expr.Expr.{Expr}
 use Rattle.expressions.specs.declared.expr.Expr.TheVariants as core
-use Rattle.policy_grammar.specs.declared.policy.EntityScope.{EntityScope}
-use Rattle.policy_grammar.specs.declared.policy.EntityScope.TheVariants as part
-use Rattle.policy_grammar.specs.declared.policy.ActionScope.{ActionScope}
-use Rattle.policy_grammar.specs.declared.policy.ActionScope.TheVariants as action
-use Rattle.policy_grammar.specs.declared.policy.Scope.{Scope}
-use Rattle.policy_grammar.specs.declared.policy.Policy.{Policy}
-use Rattle.policy_grammar.specs.Whole.{entity_literal, is_equal, is_in, entity_part, action_part, expression_of}
+use Rattle.scope_index.specs.policy_grammar.declared.policy.EntityScope.{EntityScope}
+use Rattle.scope_index.specs.policy_grammar.declared.policy.EntityScope.TheVariants as part
+use Rattle.scope_index.specs.policy_grammar.declared.policy.ActionScope.{ActionScope}
+use Rattle.scope_index.specs.policy_grammar.declared.policy.ActionScope.TheVariants as action
+use Rattle.scope_index.specs.policy_grammar.declared.policy.Scope.{Scope}
+use Rattle.scope_index.specs.policy_grammar.declared.policy.Policy.{Policy}
+use Rattle.scope_index.specs.policy_grammar.Whole.{entity_literal, is_equal, is_in, entity_part, action_part}
+use Rattle.scope_index.specs.policy_grammar.Whole.{expression_of}
 use Rattle.evaluator.specs.Outcomes.{IsTruthOf, holds, fails, entity_uid_in}
 use Rattle.evaluator.specs.Operators as op
 use Rattle.evaluator.specs.Operators.{World}
 use Rattle.evaluator.specs.Evaluation as rule
 use Rattle.evaluator.specs.Evaluation.{EvaluatesTo, EachEvaluatesTo, variable_value}
-use Rattle.ancestor_closure.specs.Hierarchy.{IsIn}
+use Rattle.evaluator.specs.ancestor_closure.Hierarchy.{IsIn}
 use Rattle.scope_index.specs.Scopes.{IsEntityScopeTrue, IsActionScopeTrue, IsScopeTrue}
-use Rattle.authoriser.specs.Parts.{PartsDecide, ConditionDecides, ScopesDoNotErr, TrueScopesLeaveToConditions, OtherScopesGiveFalse}
+use Rattle.authoriser.specs.Parts.{PartsDecide, ConditionDecides, ScopesDoNotErr, TrueScopesLeaveToConditions}
+use Rattle.authoriser.specs.Parts.{OtherScopesGiveFalse}
 use Rattle.plain.proofs.Members.{Contains-here, Contains-there, Contains-cases, Contains-none}
 
 -- ---- entities as values

@@ -3,19 +3,22 @@ use Rattle.std.specs.Prelude.{◌≡◌, ◌↔◌, ℕ, List, [], ◌∷◌, �
 use Rattle.std.specs.List.{filter}
 use Rattle.std.proofs.Common.{inl, inr, sym, ap, subst, ◌∙◌, append_assoc}
 use Rattle.values.specs.declared.request.Request.{Request}
-use Rattle.ancestor_closure.specs.LeastCycle.{LeastCyclesAreOne}
-use Rattle.policy_grammar.specs.declared.policy.Effect.{Effect}
-use Rattle.policy_grammar.specs.declared.policy.Effect.TheVariants.{Permit, Forbid}
-use Rattle.policy_grammar.specs.Whole.{expression_of}
+use Rattle.evaluator.specs.ancestor_closure.LeastCycle.{LeastCyclesAreOne}
+use Rattle.scope_index.specs.policy_grammar.declared.policy.Effect.{Effect}
+use Rattle.scope_index.specs.policy_grammar.declared.policy.Effect.TheVariants.{Permit, Forbid}
+use Rattle.scope_index.specs.policy_grammar.Whole.{expression_of}
 use Rattle.evaluator.specs.Operators.{World}
 use Rattle.evaluator.specs.Laws.{HaveOneOutcome, NothingWantsMemory}
 use Rattle.authoriser.specs.declared.answer.Answer.{Answer}
 use Rattle.authoriser.specs.declared.outcome.Outcome.{Outcome}
 use Rattle.authoriser.specs.declared.outcome.Outcome.TheVariants.{Satisfied, NotSatisfied, Errs}
-use Rattle.authoriser.specs.Answers.{NamedPolicy, PolicyOutcome, IsPolicyOutcome, PolicyEvaluatesTo, ArePolicyOutcomes, if_satisfied, satisfied, erring, answer_by, IsAnswer, IsPolicyAnswer}
-use Rattle.authoriser.specs.Laws.{IsSatisfied, DefaultDeny, IsIdle, IdleChangesNothing, LeavingOutChangesNothing, AreAlike, OrderDoesNotMatter}
+use Rattle.authoriser.specs.Answers.{NamedPolicy, PolicyOutcome, IsPolicyOutcome, PolicyEvaluatesTo, ArePolicyOutcomes}
+use Rattle.authoriser.specs.Answers.{if_satisfied, satisfied, erring, answer_by, IsAnswer, IsPolicyAnswer}
+use Rattle.authoriser.specs.Laws.{IsSatisfied, DefaultDeny, IsIdle, IdleChangesNothing, LeavingOutChangesNothing}
+use Rattle.authoriser.specs.Laws.{AreAlike, OrderDoesNotMatter}
 use Rattle.plain.proofs.Members.{Contains-here, Contains-there, Contains-cases, Contains-none}
-use Rattle.authoriser.proofs.Lawful.{Determined, one_outcome, one_judgement, one_denial, not_both, denied, idle_left_out, picked, put_back, alike_judged}
+use Rattle.authoriser.proofs.Lawful.{Determined, one_outcome, one_judgement, one_denial, not_both, denied}
+use Rattle.authoriser.proofs.Lawful.{idle_left_out, picked, put_back, alike_judged}
 use Rattle.authoriser.proofs.Existing.{comes_to}
 
 -- ---- what is counted

@@ -2,9 +2,9 @@
 use Rattle.std.specs.Prelude.{◌≡◌, ◌≢◌, ◌⊎◌, ◌↔◌, ℕ, List, [], ◌∷◌, ◌++◌, Contains, refl}
 use Rattle.std.proofs.Common.{inl, inr, sym, ap, subst, ◌∙◌}
 use Rattle.values.specs.declared.request.Request.{Request}
-use Rattle.policy_grammar.specs.declared.policy.Effect.{Effect}
-use Rattle.policy_grammar.specs.declared.policy.Effect.TheVariants.{Permit, Forbid}
-use Rattle.policy_grammar.specs.Whole.{expression_of}
+use Rattle.scope_index.specs.policy_grammar.declared.policy.Effect.{Effect}
+use Rattle.scope_index.specs.policy_grammar.declared.policy.Effect.TheVariants.{Permit, Forbid}
+use Rattle.scope_index.specs.policy_grammar.Whole.{expression_of}
 use Rattle.evaluator.specs.Operators.{World}
 use Rattle.evaluator.specs.Laws.{HaveOneOutcome}
 use Rattle.authoriser.specs.declared.answer.Answer.{Answer}
@@ -13,8 +13,10 @@ use Rattle.authoriser.specs.declared.answer.Decision.TheVariants.{Allow}
 use Rattle.authoriser.specs.declared.outcome.Outcome.{Outcome}
 use Rattle.authoriser.specs.declared.outcome.Outcome.TheVariants.{Satisfied, NotSatisfied, Errs}
 use Rattle.authoriser.specs.declared.outcome.PolicyError.{PolicyError}
-use Rattle.authoriser.specs.Answers.{NamedPolicy, PolicyOutcome, IsPolicyOutcome, PolicyEvaluatesTo, ArePolicyOutcomes, if_satisfied, satisfied, if_erring, erring, decided, IsCycleDenial}
-use Rattle.authoriser.specs.Laws.{IsSatisfied, AreIdsOf, no_id, its_id, not_its_id, AreErrorsOf, no_error, its_error, not_its_error, IsAcyclic, ForbidDecides, PermitsDecide, ErrorsAreReported}
+use Rattle.authoriser.specs.Answers.{NamedPolicy, PolicyOutcome, IsPolicyOutcome, PolicyEvaluatesTo, ArePolicyOutcomes}
+use Rattle.authoriser.specs.Answers.{if_satisfied, satisfied, if_erring, erring, decided, IsCycleDenial}
+use Rattle.authoriser.specs.Laws.{IsSatisfied, AreIdsOf, no_id, its_id, not_its_id, AreErrorsOf, no_error, its_error}
+use Rattle.authoriser.specs.Laws.{not_its_error, IsAcyclic, ForbidDecides, PermitsDecide, ErrorsAreReported}
 use Rattle.plain.proofs.Members.{Contains-none}
 use Rattle.authoriser.proofs.Lawful.{Determined, one_outcome, begins_on_cycle, some_member, forbidden}
 use Rattle.authoriser.proofs.Policies.{none_of, satisfied_from, satisfied_to}

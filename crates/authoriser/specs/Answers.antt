@@ -7,12 +7,12 @@ use Rattle.std.specs.List.{flat_map}
 use Rattle.values.specs.declared.entity_uid.EntityUid.{EntityUid}
 use Rattle.values.specs.declared.request.Request.{Request}
 use Rattle.values.specs.Values.{boolean}
-use Rattle.ancestor_closure.specs.Hierarchy.{Parents, Above}
-use Rattle.ancestor_closure.specs.LeastCycle.{IsLeastCycle}
-use Rattle.policy_grammar.specs.declared.policy.Policy.{Policy}
-use Rattle.policy_grammar.specs.declared.policy.Effect.{Effect}
-use Rattle.policy_grammar.specs.declared.policy.Effect.TheVariants.{Permit, Forbid}
-use Rattle.policy_grammar.specs.Whole.{expression_of}
+use Rattle.evaluator.specs.ancestor_closure.Hierarchy.{Parents, Above}
+use Rattle.evaluator.specs.ancestor_closure.LeastCycle.{IsLeastCycle}
+use Rattle.scope_index.specs.policy_grammar.declared.policy.Policy.{Policy}
+use Rattle.scope_index.specs.policy_grammar.declared.policy.Effect.{Effect}
+use Rattle.scope_index.specs.policy_grammar.declared.policy.Effect.TheVariants.{Permit, Forbid}
+use Rattle.scope_index.specs.policy_grammar.Whole.{expression_of}
 use Rattle.evaluator.specs.declared.fault.EvalFault.{EvalFault}
 use Rattle.evaluator.specs.declared.fault.EvalFault.TheVariants as fault
 use Rattle.evaluator.specs.Operators.{World}

@@ -6,10 +6,10 @@ use Rattle.std.specs.List.Sorted.{IsStrictlySortedBy}
 use Rattle.values.specs.declared.entity_uid.EntityUid.{EntityUid}
 use Rattle.values.specs.declared.request.Request.{Request}
 use Rattle.values.specs.Uids.{text_cmp}
-use Rattle.ancestor_closure.specs.Hierarchy.{Above}
-use Rattle.ancestor_closure.specs.Decided.{Decides, HaveAllParents}
-use Rattle.policy_grammar.specs.declared.policy.Effect.{Effect}
-use Rattle.policy_grammar.specs.declared.policy.Effect.TheVariants.{Permit, Forbid}
+use Rattle.evaluator.specs.ancestor_closure.Hierarchy.{Above}
+use Rattle.evaluator.specs.ancestor_closure.Decided.{Decides, HaveAllParents}
+use Rattle.scope_index.specs.policy_grammar.declared.policy.Effect.{Effect}
+use Rattle.scope_index.specs.policy_grammar.declared.policy.Effect.TheVariants.{Permit, Forbid}
 use Rattle.evaluator.specs.Operators.{World}
 use Rattle.authoriser.specs.declared.answer.Answer.{Answer}
 use Rattle.authoriser.specs.declared.answer.Decision.TheVariants.{Allow, Deny}

@@ -3,3 +3,8 @@ pub mod Parts
 pub mod Laws
 pub mod Views
 pub mod inner
+-- crates below, passed on to those above
+pub use Rattle.evaluator.specs as evaluator
+pub use Rattle.evaluator.specs.ancestor_closure
+pub use Rattle.expressions.specs as expressions
+pub use Rattle.scope_index.specs.policy_grammar

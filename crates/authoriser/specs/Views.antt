@@ -1,7 +1,7 @@
 -- How the policies that a caller hands in are read by the definitions.
 use Rattle.std.specs.Prelude.{ℕ, List, map}
 use Rattle.std.specs.Borrow.{Bor}
-use Rattle.policy_grammar.specs.declared.policy.Policy.{Policy}
+use Rattle.scope_index.specs.policy_grammar.declared.policy.Policy.{Policy}
 use Rattle.authoriser.specs.Answers.{NamedPolicy}
 
 -- the policies that the caller hands in

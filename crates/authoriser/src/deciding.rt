@@ -1,7 +1,7 @@
 //! Decisions: the answer to a request over policies and stored entities.
 ghost use Rattle.std.specs.Prelude.{◌≡◌, [], List, IfOk};
-ghost use Rattle.ancestor_closure.specs.Hierarchy.{names};
-ghost use Rattle.ancestor_closure.specs.LeastCycle.{HasNoCycle};
+ghost use Rattle.evaluator.specs.ancestor_closure.Hierarchy.{names};
+ghost use Rattle.evaluator.specs.ancestor_closure.LeastCycle.{HasNoCycle};
 ghost use Rattle.evaluator.specs.Operators.{world_of};
 ghost use Rattle.authoriser.specs.declared.answer.Decision.TheVariants.{Deny};
 ghost use Rattle.authoriser.specs.Answers.{PolicyOutcome, ArePolicyOutcomes, answer_by, IsAnswer};
@@ -12,10 +12,10 @@ use crate::conditions::outcome_of;
 use crate::known::Known;
 use crate::remembering::Remembering;
 use crate::tally::Tally;
-use ancestor_closure::Ancestry;
 use evaluator::Lookup;
+use evaluator::ancestor_closure::Ancestry;
 use plain::{Items, NoMemory};
-use policy_grammar::Policy;
+use scope_index::policy_grammar::Policy;
 use std::alloc::Global;
 use values::{EntityUid, Request};
 

@@ -4,7 +4,7 @@ ghost use Rattle.authoriser.specs.Laws.{PermitsDecide, ErrorsAreReported};
 ghost use Rattle.authoriser.specs.Laws.{IdleChangesNothing, LeavingOutChangesNothing, OrderDoesNotMatter, ListsAscend};
 ghost use Rattle.authoriser.specs.Parts.{ScopesDoNotErr, TrueScopesLeaveToConditions, OtherScopesGiveFalse};
 
-use ancestor_closure::laws::{cycles_have_one_least, paths_are_decided};
+use evaluator::ancestor_closure::laws::{cycles_have_one_least, paths_are_decided};
 use evaluator::expressions_have_one_outcome;
 use values::sets_hold_their_members;
 

@@ -4,7 +4,7 @@ ghost use Rattle.authoriser.specs.inner.Views.{HasAllAbove};
 
 use crate::known::copied;
 use crate::others::{Other, Others};
-use ancestor_closure::{Ancestry, is_among};
+use evaluator::ancestor_closure::{Ancestry, is_among};
 use evaluator::{Lookup, Question};
 use expressions::Variable;
 use plain::NoMemory;

@@ -1,12 +1,12 @@
 //! Whether a policy's scope is true.
 ghost use Rattle.std.specs.Prelude.{◌↔◌, IsTrue, Contains};
 ghost use Rattle.values.specs.declared.entity_uid.EntityUid.{EntityUid};
-ghost use Rattle.ancestor_closure.specs.Hierarchy.{IsAscending, names};
+ghost use Rattle.evaluator.specs.ancestor_closure.Hierarchy.{IsAscending, names};
 ghost use Rattle.scope_index.specs.Scopes.{IsEntityScopeTrue, IsActionScopeTrue};
 ghost use Rattle.authoriser.specs.inner.Views.{IsWithin, AreAscending, IsTrueOf};
 
 use crate::request_entities::{KnownEntity, RequestEntities};
-use policy_grammar::{ActionScope, EntityScope, Scope};
+use scope_index::policy_grammar::{ActionScope, EntityScope, Scope};
 use values::EntityUid;
 
 // So few ancestors are compared one by one, ids first, which differ early; a search by halves compares types first.

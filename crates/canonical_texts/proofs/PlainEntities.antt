@@ -17,17 +17,18 @@ use Rattle.values.specs.declared.entity_uid.EntityUid.{EntityUid}
 use Rattle.values.specs.Fields.{Field}
 use Rattle.values.specs.Names.{uid_cmp}
 use Rattle.values.specs.Values.{fields_of}
-use Rattle.uid_json.specs.Uids.{uid_in, uid_json}
-use Rattle.schema.specs.Schemas.{StatedSchema}
-use Rattle.typed_values.specs.declared.fault.ValueFault.{ValueFault}
-use Rattle.typed_values.specs.Typing.{record_in}
-use Rattle.typed_values.specs.Canonical.{fields_json}
-use Rattle.entity_worlds.specs.declared.entity.Entity.{Entity}
-use Rattle.entity_worlds.specs.UidSets.{put_uid, uid_set}
+use Rattle.entities.specs.uid_json.Uids.{uid_in, uid_json}
+use Rattle.entities.specs.schema.Schemas.{StatedSchema}
+use Rattle.entities.specs.typed_values.declared.fault.ValueFault.{ValueFault}
+use Rattle.entities.specs.typed_values.Typing.{record_in}
+use Rattle.entities.specs.typed_values.Canonical.{fields_json}
+use Rattle.entities.specs.entity_worlds.declared.entity.Entity.{Entity}
+use Rattle.entities.specs.entity_worlds.UidSets.{put_uid, uid_set}
 use Rattle.entities.specs.declared.fault.EntityFault.TheVariants.{BadShape, TagsLeftOut}
 use Rattle.entities.specs.declared.stated.StatedEntity.{StatedEntity}
 use Rattle.entities.specs.Faults.{told}
-use Rattle.entities.specs.Stated.{stated_uid, uids_of, stated_parents, has_objects, is_absent_or_empty, or_empty, stated_in}
+use Rattle.entities.specs.Stated.{stated_uid, uids_of, stated_parents, has_objects, is_absent_or_empty, or_empty}
+use Rattle.entities.specs.Stated.{stated_in}
 use Rattle.entities.specs.Entities.{shape_of, attributes_in, parents_fit, parents_in, entity_stated_in}
 use Rattle.entities.specs.Canonical.{canonical_json}
 use Rattle.canonical_texts.specs.Texts.{HaveUtf8}

@@ -16,16 +16,16 @@ use Rattle.json_words.specs.Keys.{has_only}
 use Rattle.json_words.specs.Ascending.{DataAscends, MembersAscend}
 use Rattle.json_words.specs.Plain.{IsWhole, IsPlain}
 use Rattle.json_words.proofs.AsciiLemmas.{ascii_is_utf8}
-use Rattle.extensions.specs.DecimalText.{size_text, decimal_text}
-use Rattle.extensions.specs.Network.{Network}
-use Rattle.extensions.specs.NetworkText.{ipv4_text, groups_text, address_text, network_text}
-use Rattle.extensions.specs.declared.ip_net.Version.{Version}
-use Rattle.extensions.specs.declared.ip_net.Version.TheVariants.{V4, V6}
+use Rattle.values.specs.extensions.DecimalText.{size_text, decimal_text}
+use Rattle.values.specs.extensions.Network.{Network}
+use Rattle.values.specs.extensions.NetworkText.{ipv4_text, groups_text, address_text, network_text}
+use Rattle.values.specs.extensions.declared.ip_net.Version.{Version}
+use Rattle.values.specs.extensions.declared.ip_net.Version.TheVariants.{V4, V6}
 use Rattle.values.specs.declared.entity_uid.EntityUid.{EntityUid}
 use Rattle.values.specs.Paths.{is_path}
-use Rattle.uid_json.specs.Uids.{uid_made_of, plain_uid_in, uid_under, uid_in, uid_json, entity_json}
-use Rattle.typed_values.specs.Typing.{is_long}
-use Rattle.typed_values.specs.Canonical.{call_json}
+use Rattle.entities.specs.uid_json.Uids.{uid_made_of, plain_uid_in, uid_under, uid_in, uid_json, entity_json}
+use Rattle.entities.specs.typed_values.Typing.{is_long}
+use Rattle.entities.specs.typed_values.Canonical.{call_json}
 use Rattle.canonical_texts.specs.Texts.{HasUtf8, MembersHaveUtf8}
 use Rattle.canonical_texts.proofs.AsciiTexts.{decimal_is_utf8, hexadecimal_is_utf8}
 

@@ -20,17 +20,18 @@ use Rattle.values.specs.Values.{values_of, fields_of}
 use Rattle.values.specs.Fields.{Field}
 use Rattle.values.specs.ValueOrder.{value_cmp}
 use Rattle.values.specs.Sets.{put_value, set_list}
-use Rattle.schema_types.specs.Cedar as cedar
-use Rattle.schema_types.specs.Cedar.{Cedar, CedarFields}
-use Rattle.uid_json.specs.Uids.{uid_in}
-use Rattle.typed_values.specs.declared.fault.ValueFault.{ValueFault}
-use Rattle.typed_values.specs.declared.fault.ValueFault.TheVariants.{WrongType, Undeclared, Missing}
-use Rattle.typed_values.specs.Parts.{element_of, fields_in, declared_at}
-use Rattle.extensions.specs.TextsDecided.{decimal_of, network_of}
-use Rattle.typed_values.specs.Typing.{argument_in, boolean_in, is_long, long_of, long_in, text_in, entity_in}
-use Rattle.typed_values.specs.Typing.{decimal_in, ipaddr_in, leaf, all_there, with_or, inside, typed_value, typed_items}
-use Rattle.typed_values.specs.Typing.{typed_members, record_in}
-use Rattle.typed_values.specs.Canonical.{value_json, values_json, fields_json}
+use Rattle.entities.specs.schema_types.Cedar as cedar
+use Rattle.entities.specs.schema_types.Cedar.{Cedar, CedarFields}
+use Rattle.entities.specs.uid_json.Uids.{uid_in}
+use Rattle.entities.specs.typed_values.declared.fault.ValueFault.{ValueFault}
+use Rattle.entities.specs.typed_values.declared.fault.ValueFault.TheVariants.{WrongType, Undeclared, Missing}
+use Rattle.entities.specs.typed_values.Parts.{element_of, fields_in, declared_at}
+use Rattle.values.specs.extensions.TextsDecided.{decimal_of, network_of}
+use Rattle.entities.specs.typed_values.Typing.{argument_in, boolean_in, is_long, long_of, long_in, text_in, entity_in}
+use Rattle.entities.specs.typed_values.Typing.{decimal_in, ipaddr_in, leaf, all_there, with_or, inside, typed_value}
+use Rattle.entities.specs.typed_values.Typing.{typed_items}
+use Rattle.entities.specs.typed_values.Typing.{typed_members, record_in}
+use Rattle.entities.specs.typed_values.Canonical.{value_json, values_json, fields_json}
 use Rattle.canonical_texts.specs.Texts.{HaveUtf8, MembersHaveUtf8}
 use Rattle.canonical_texts.proofs.Steps.{carried, some_of, passes}
 use Rattle.canonical_texts.proofs.PlainParts.{IsClean, str_is_utf8, uid_is_utf8, entity_is_plain, long_is_whole}

@@ -6,9 +6,9 @@ use Rattle.serde_json.specs.Written.{compact_text}
 use Rattle.json_words.specs.Ascending.{JsonAscends}
 use Rattle.json_words.specs.Plain.{IsPlain, CompactReadsBack, CompactIsOne}
 use Rattle.json_words.proofs.JsonLemmas.{json_of-text}
-use Rattle.schema.specs.Schemas.{StatedSchema}
-use Rattle.schema.specs.WellFormed.{IsWellFormed}
-use Rattle.entity_worlds.specs.declared.entity.Entity.{Entity}
+use Rattle.entities.specs.schema.Schemas.{StatedSchema}
+use Rattle.entities.specs.schema.WellFormed.{IsWellFormed}
+use Rattle.entities.specs.entity_worlds.declared.entity.Entity.{Entity}
 use Rattle.entities.specs.Canonical.{canonical_json, canonical_text}
 use Rattle.entities.specs.Laws.{CanonicalIsRead, CanonicalNests, CanonicalIsOne}
 use Rattle.canonical_texts.specs.Laws.{JsonTextsAreUtf8, IsReadFrom, CanonicalTextsAreJson, CanonicalTextsReadBack}

@@ -3,9 +3,9 @@
 use Rattle.std.specs.Prelude.{◌≡◌, ℕ, List, Some, Ok}
 use Rattle.serde_json.specs.Data.{Data}
 use Rattle.json_words.specs.Json.{json_of}
-use Rattle.schema.specs.Schemas.{StatedSchema}
-use Rattle.schema.specs.WellFormed.{IsWellFormed}
-use Rattle.entity_worlds.specs.declared.entity.Entity.{Entity}
+use Rattle.entities.specs.schema.Schemas.{StatedSchema}
+use Rattle.entities.specs.schema.WellFormed.{IsWellFormed}
+use Rattle.entities.specs.entity_worlds.declared.entity.Entity.{Entity}
 use Rattle.entities.specs.Entities.{entity_stated_in}
 use Rattle.entities.specs.Canonical.{canonical_json, canonical_text}
 use Rattle.canonical_texts.specs.Texts.{HasUtf8}

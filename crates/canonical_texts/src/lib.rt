@@ -4,4 +4,6 @@
 
 mod laws;
 
+pub use entities;
+pub use entities::schema;
 pub use laws::{canonical_texts_are_read, json_texts_are_utf8};

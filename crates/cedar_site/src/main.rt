@@ -2,7 +2,7 @@
 //! pulled from and merged.
 #![tactic(auto)]
 
-use command_lines::LineFault;
+use site_commands::command_lines::LineFault;
 use site_commands::{SystemHost, report_words, run};
 use std::env;
 use std::io::ErrorKind;

@@ -1,11 +1,11 @@
 -- What is read conforms to the one environment of the schema.
 use Rattle.std.proofs.Common.{sym, subst}
-use Rattle.schema.specs.Schemas.{EnvironmentOf}
+use Rattle.typed_readings.specs.schema.Schemas.{EnvironmentOf}
 use Rattle.values.specs.Paths.{PathTestIsExact}
-use Rattle.uid_json.specs.Laws.{WrittenIsRead}
-use Rattle.entity_store.specs.Laws.{closed_world}
-use Rattle.static_types.specs.FromSchemas.{typing_environment_of}
-use Rattle.typing.specs.Conforming.{Conforms}
+use Rattle.typed_readings.specs.uid_json.Laws.{WrittenIsRead}
+use Rattle.typed_readings.specs.entity_store.Laws.{closed_world}
+use Rattle.typed_readings.specs.static_types.FromSchemas.{typing_environment_of}
+use Rattle.typed_readings.specs.typing.Conforming.{Conforms}
 use Rattle.typed_readings.specs.Worlds.{WhatIsReadConforms}
 use Rattle.conforming_example.specs.Example.{schema_text, schema, entities, request_json, request}
 use Rattle.conforming_example.specs.Something.{SomethingConformsUnderASchema}

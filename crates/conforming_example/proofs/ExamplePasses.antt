@@ -1,5 +1,6 @@
 -- The policy passes, and is true; without `has` it is refused.
-use Rattle.std.proofs.Common.{◌≡◌, ◌∙◌, ◌++◌, List, [], ◌∷◌, Bool, true, false, Ok, refl, sym, ap, subst, arith, zero, suc}
+use Rattle.std.proofs.Common.{◌≡◌, ◌∙◌, ◌++◌, List, [], ◌∷◌, Bool, true, false, Ok, refl, sym, ap, subst, arith, zero}
+use Rattle.std.proofs.Common.{suc}
 use Rattle.std.proofs.lemmas.Int.{ints}
 use Rattle.std.specs.Prelude.{Contains, All, IsFalse, codes, pos}
 use Rattle.std.specs.Bool.{Decides}
@@ -7,39 +8,40 @@ use Rattle.std.proofs.lemmas.Bool.{false≢true}
 use Rattle.values.specs.declared.entity_uid.EntityUid.{EntityUid}
 use Rattle.values.specs.Values.{boolean, long}
 use Rattle.values.specs.Fields.{Field}
-use Rattle.ancestor_closure.specs.Deciding.{Contains-here, Contains-none}
-use Rattle.expressions.proofs.Forms.{fold_literal, fold_variable, fold_and, fold_binary, fold_field, fold_has}
-use Rattle.expressions.specs.declared.leaf.Literal.TheVariants as literal
-use Rattle.expressions.specs.declared.leaf.Variable.TheVariants as variable
-use Rattle.expressions.specs.declared.operator.Binary.{Binary}
-use Rattle.expressions.specs.declared.operator.Binary.TheVariants as binary
-use Rattle.expressions.specs.declared.expr.Expr.{Expr}
-use Rattle.expressions.specs.declared.expr.Expr.TheVariants as form
-use Rattle.policy_grammar.specs.Whole.{truth, entity_literal, is_equal, expression_of}
-use Rattle.evaluator.specs.Outcomes.{holds}
-use Rattle.evaluator.specs.Operators as operator
-use Rattle.evaluator.specs.Evaluation
-use Rattle.evaluator.specs.Evaluation.{EvaluatesTo}
-use Rattle.entity_store.specs.Laws.{closed_world}
-use Rattle.static_types.specs.FromSchemas.{typing_environment_of}
-use Rattle.typing.specs.Types
-use Rattle.typing.specs.Types.{StaticType, boolean_type, true_type}
-use Rattle.typing.specs.Environment.{Environment, attribute_may_be_missing}
-use Rattle.typing.specs.Learned.{Pair, Pairs}
-use Rattle.typing.specs.Literals.{IsUnsettled}
-use Rattle.typing.specs.Literals
-use Rattle.typing.specs.Rows
-use Rattle.typing.specs.Typing
-use Rattle.typing.specs.Typing.{Types}
-use Rattle.typing.specs.Faults
-use Rattle.typing.specs.Faults.{Faults}
-use Rattle.typing.specs.Example.{view, age_of_principal, has_age, is_aged}
-use Rattle.validator.specs.Names.{Name, entity, names_step, names_in, names_of}
-use Rattle.validator.specs.Names
-use Rattle.validator.specs.Unknown
-use Rattle.validator.specs.Unknown.{IsUnknown, IsKnown}
-use Rattle.validator.specs.Passing.{Passes, IsCheckRefused, FirstFaulty, HasBooleanType}
-use Rattle.validator.specs.Passing
+use Rattle.typed_readings.specs.ancestor_closure.Deciding.{Contains-here, Contains-none}
+use Rattle.typed_readings.proofs.of_expressions.Forms.{fold_literal, fold_variable, fold_and, fold_binary, fold_field}
+use Rattle.typed_readings.proofs.of_expressions.Forms.{fold_has}
+use Rattle.typed_readings.specs.expressions.declared.leaf.Literal.TheVariants as literal
+use Rattle.typed_readings.specs.expressions.declared.leaf.Variable.TheVariants as variable
+use Rattle.typed_readings.specs.expressions.declared.operator.Binary.{Binary}
+use Rattle.typed_readings.specs.expressions.declared.operator.Binary.TheVariants as binary
+use Rattle.typed_readings.specs.expressions.declared.expr.Expr.{Expr}
+use Rattle.typed_readings.specs.expressions.declared.expr.Expr.TheVariants as form
+use Rattle.typed_readings.specs.policy_grammar.Whole.{truth, entity_literal, is_equal, expression_of}
+use Rattle.typed_readings.specs.evaluator.Outcomes.{holds}
+use Rattle.typed_readings.specs.evaluator.Operators as operator
+use Rattle.typed_readings.specs.evaluator.Evaluation
+use Rattle.typed_readings.specs.evaluator.Evaluation.{EvaluatesTo}
+use Rattle.typed_readings.specs.entity_store.Laws.{closed_world}
+use Rattle.typed_readings.specs.static_types.FromSchemas.{typing_environment_of}
+use Rattle.typed_readings.specs.typing.Types
+use Rattle.typed_readings.specs.typing.Types.{StaticType, boolean_type, true_type}
+use Rattle.typed_readings.specs.typing.Environment.{Environment, attribute_may_be_missing}
+use Rattle.typed_readings.specs.typing.Learned.{Pair, Pairs}
+use Rattle.typed_readings.specs.typing.Literals.{IsUnsettled}
+use Rattle.typed_readings.specs.typing.Literals
+use Rattle.typed_readings.specs.typing.Rows
+use Rattle.typed_readings.specs.typing.Typing
+use Rattle.typed_readings.specs.typing.Typing.{Types}
+use Rattle.typed_readings.specs.typing.Faults
+use Rattle.typed_readings.specs.typing.Faults.{Faults}
+use Rattle.typed_readings.specs.typing.Example.{view, age_of_principal, has_age, is_aged}
+use Rattle.typed_readings.specs.validator.Names.{Name, entity, names_step, names_in, names_of}
+use Rattle.typed_readings.specs.validator.Names
+use Rattle.typed_readings.specs.validator.Unknown
+use Rattle.typed_readings.specs.validator.Unknown.{IsUnknown, IsKnown}
+use Rattle.typed_readings.specs.validator.Passing.{Passes, IsCheckRefused, FirstFaulty, HasBooleanType}
+use Rattle.typed_readings.specs.validator.Passing
 use Rattle.conforming_example.specs.Example.{schema, viewing, entities, request, policy, unsure_policy}
 use Rattle.conforming_example.specs.Something.{SomethingPasses, SomethingIsRefused}
 

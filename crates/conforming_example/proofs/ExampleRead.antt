@@ -5,18 +5,19 @@ use Rattle.serde_json.specs.Data.{Data}
 use Rattle.values.specs.declared.entity_uid.EntityUid.{EntityUid}
 use Rattle.plain.specs.Words.{is_letter, is_word_byte}
 use Rattle.values.specs.Paths.{is_path, pieces, PathTestIsExact}
-use Rattle.ancestor_closure.specs.Decided.{is_same}
-use Rattle.ancestor_closure.specs.Deciding.{Contains-here, same_uid}
+use Rattle.typed_readings.specs.ancestor_closure.Decided.{is_same}
+use Rattle.typed_readings.specs.ancestor_closure.Deciding.{Contains-here, same_uid}
 use Rattle.json_words.specs.Each.{each}
-use Rattle.uid_json.specs.Uids.{uid_json, plain_uid_in, uid_in, IsUid}
-use Rattle.uid_json.specs.Laws.{WrittenIsRead}
-use Rattle.typed_values.specs.Typing.{record_in, typed_value, typed_items, typed_members, long_in}
-use Rattle.entities.specs.Entities.{entity_stated_in, shape_of, attributes_in, parents_in, parents_fit, parent_fits}
-use Rattle.entities.specs.Stated.{stated_in, uids_of}
-use Rattle.entities.specs.Requests.{asked_by, context_asked, StatesRequest}
-use Rattle.entity_worlds.specs.declared.data.EntityData.{EntityData}
-use Rattle.entity_worlds.specs.Entities.{AreListed}
-use Rattle.typing.specs.Example.{alice, view}
+use Rattle.typed_readings.specs.uid_json.Uids.{uid_json, plain_uid_in, uid_in, IsUid}
+use Rattle.typed_readings.specs.uid_json.Laws.{WrittenIsRead}
+use Rattle.typed_readings.specs.typed_values.Typing.{record_in, typed_value, typed_items, typed_members, long_in}
+use Rattle.typed_readings.specs.entities.Entities.{entity_stated_in, shape_of, attributes_in, parents_in, parents_fit}
+use Rattle.typed_readings.specs.entities.Entities.{parent_fits}
+use Rattle.typed_readings.specs.entities.Stated.{stated_in, uids_of}
+use Rattle.typed_readings.specs.entities.Requests.{asked_by, context_asked, StatesRequest}
+use Rattle.typed_readings.specs.entity_worlds.declared.data.EntityData.{EntityData}
+use Rattle.typed_readings.specs.entity_worlds.Entities.{AreListed}
+use Rattle.typed_readings.specs.typing.Example.{alice, view}
 use Rattle.typed_readings.specs.Worlds.{AreRead, entity_kept}
 use Rattle.conforming_example.specs.Example.{schema, user, alice_json, alice_data, entities, request_json, request}
 use Rattle.conforming_example.specs.Something.{SomethingIsRead}

@@ -1,31 +1,40 @@
 -- The schema is what the text states.
-use Rattle.std.proofs.Common.{◌≡◌, ◌∙◌, ℕ, List, [], ◌∷◌, Bool, true, false, Option, Some, None, Ok, refl, sym, ap, subst, inl, inr, arith}
+use Rattle.std.proofs.Common.{◌≡◌, ◌∙◌, ℕ, List, [], ◌∷◌, Bool, true, false, Option, Some, None, Ok, refl, sym, ap}
+use Rattle.std.proofs.Common.{subst, inl, inr, arith}
 use Rattle.std.specs.Prelude.{codes, Contains, IsSome, if◌then◌else◌}
 use Rattle.std.specs.Str.{bytes_eq}
 use Rattle.std.specs.List.Sorted.{IsStrictlySortedBy}
 use Rattle.std.proofs.lemmas.Slice.Eq.{bytes_eq-Decides}
 use Rattle.values.specs.declared.entity_uid.EntityUid.{EntityUid}
-use Rattle.ancestor_closure.specs.Hierarchy.{Parents, Above, IsAllAbove, IsAscending}
-use Rattle.ancestor_closure.specs.Decided.{is_same}
-use Rattle.ancestor_closure.specs.Deciding.{Contains-here, Contains-cases, Contains-none, same_uid}
-use Rattle.schema_types.specs.Raw as raw
-use Rattle.schema_types.specs.Raw.{Raw}
-use Rattle.schema_types.specs.Qualified as qualified
-use Rattle.schema_types.specs.Qualified.{Qualified}
-use Rattle.schema_types.specs.Cedar.{Cedar, IsTooLarge}
-use Rattle.schema_types.specs.WrittenOut.{WrittenOut, FieldsWrittenOut}
-use Rattle.schema_types.specs.Names.{found, as_declared, any_named, entity_named, common_named, qualified_of, fields_of, built_in}
+use Rattle.typed_readings.specs.ancestor_closure.Hierarchy.{Parents, Above, IsAllAbove, IsAscending}
+use Rattle.typed_readings.specs.ancestor_closure.Decided.{is_same}
+use Rattle.typed_readings.specs.ancestor_closure.Deciding.{Contains-here, Contains-cases, Contains-none, same_uid}
+use Rattle.typed_readings.specs.schema_types.Raw as raw
+use Rattle.typed_readings.specs.schema_types.Raw.{Raw}
+use Rattle.typed_readings.specs.schema_types.Qualified as qualified
+use Rattle.typed_readings.specs.schema_types.Qualified.{Qualified}
+use Rattle.typed_readings.specs.schema_types.Cedar.{Cedar, IsTooLarge}
+use Rattle.typed_readings.specs.schema_types.WrittenOut.{WrittenOut, FieldsWrittenOut}
+use Rattle.typed_readings.specs.schema_types.Names.{found, as_declared, any_named, entity_named, common_named}
+use Rattle.typed_readings.specs.schema_types.Names.{qualified_of, fields_of, built_in}
 use Rattle.json_words.specs.Each.{each}
-use Rattle.schema_file.specs.Stated.{NamespaceOf, EntityTypeOf, ActionOf, UseOf}
-use Rattle.schema_parts.specs.declared.parts.Place.{Place}
-use Rattle.schema_names.specs.Qualifying.{scope_in, FoundEntityType, FoundUse, FoundAction, FoundSchema}
-use Rattle.schema_names.specs.Qualifying.{qualified, qualified_namespaces, qualified_namespace, qualified_commons, qualified_entity_types, qualified_actions, qualified_action, qualified_use, qualified_entity_type, qualified_common, parents_named, parent_named, entity_types_named}
-use Rattle.schema_names.specs.Records.{is_no_record, common_meant, MeansNoRecord, StandsAsRecord, SomeIsNoRecord}
-use Rattle.schema_names.specs.Naming.{StatesNamed}
-use Rattle.schema.specs.Schemas.{IsSchemaOf, IsSound, Answers, action_parents, type_parents, StandsIn, IsWritten, IsAction, IsShape, IsEnvironment, Applies, EnvironmentOf, place_cmp, type_uid, IsRecordOf}
-use Rattle.schema_names.specs.Laws.{IsShapeOrContext}
-use Rattle.schema_parts.specs.Places.{place_of}
-use Rattle.typing.specs.Example.{view}
+use Rattle.typed_readings.specs.schema_file.Stated.{NamespaceOf, EntityTypeOf, ActionOf, UseOf}
+use Rattle.typed_readings.specs.schema_parts.declared.parts.Place.{Place}
+use Rattle.typed_readings.specs.schema_names.Qualifying.{scope_in, FoundEntityType, FoundUse, FoundAction, FoundSchema}
+use Rattle.typed_readings.specs.schema_names.Qualifying.{qualified, qualified_namespaces, qualified_namespace}
+use Rattle.typed_readings.specs.schema_names.Qualifying.{qualified_commons, qualified_entity_types, qualified_actions}
+use Rattle.typed_readings.specs.schema_names.Qualifying.{qualified_action, qualified_use, qualified_entity_type}
+use Rattle.typed_readings.specs.schema_names.Qualifying.{qualified_common, parents_named, parent_named}
+use Rattle.typed_readings.specs.schema_names.Qualifying.{entity_types_named}
+use Rattle.typed_readings.specs.schema_names.Records.{is_no_record, common_meant, MeansNoRecord, StandsAsRecord}
+use Rattle.typed_readings.specs.schema_names.Records.{SomeIsNoRecord}
+use Rattle.typed_readings.specs.schema_names.Naming.{StatesNamed}
+use Rattle.typed_readings.specs.schema.Schemas.{IsSchemaOf, IsSound, Answers, action_parents, type_parents, StandsIn}
+use Rattle.typed_readings.specs.schema.Schemas.{IsWritten, IsAction, IsShape, IsEnvironment, Applies, EnvironmentOf}
+use Rattle.typed_readings.specs.schema.Schemas.{place_cmp, type_uid, IsRecordOf}
+use Rattle.typed_readings.specs.schema_names.Laws.{IsShapeOrContext}
+use Rattle.typed_readings.specs.schema_parts.Places.{place_of}
+use Rattle.typed_readings.specs.typing.Example.{view}
 use Rattle.conforming_example.specs.Example.{schema_text, schema, user, viewing, user_shape}
 use Rattle.conforming_example.proofs.ExampleText.{schema_json, namespaces, json, shape}
 

@@ -11,11 +11,14 @@ use Rattle.values.specs.Paths.{is_path, pieces}
 use Rattle.plain.specs.Words.{is_letter, is_word_byte}
 use Rattle.serde_json.specs.Data.{Data, boolean, string, array, object, item, no_items, member, no_members}
 use Rattle.json_words.specs.Json.{json_of}
-use Rattle.schema_types.specs.Raw as raw
-use Rattle.schema_types.specs.TypeShape.{type_name, type_of, formed, fields_in}
-use Rattle.schema_file.specs.Stated.{NamespaceOf, stated, namespaces_of, namespace_of, namespace_name, commons_of, entity_types_of, actions_of, action_of, use_of, parents_of, parent_of, entity_type_of, common_of, ident, name_of, names_of}
+use Rattle.typed_readings.specs.schema_types.Raw as raw
+use Rattle.typed_readings.specs.schema_types.TypeShape.{type_name, type_of, formed, fields_in}
+use Rattle.typed_readings.specs.schema_file.Stated.{NamespaceOf, stated, namespaces_of, namespace_of, namespace_name}
+use Rattle.typed_readings.specs.schema_file.Stated.{commons_of, entity_types_of, actions_of, action_of, use_of}
+use Rattle.typed_readings.specs.schema_file.Stated.{parents_of, parent_of, entity_type_of, common_of, ident, name_of}
+use Rattle.typed_readings.specs.schema_file.Stated.{names_of}
 use Rattle.json_words.specs.Each.{each, each_member}
-use Rattle.schema_types.specs.Forms.{form_named}
+use Rattle.typed_readings.specs.schema_types.Forms.{form_named}
 use Rattle.conforming_example.specs.Example.{schema_text}
 
 abbrev one : List ℕ → Data → Data

@@ -7,20 +7,20 @@ use Rattle.hex.specs.Hex.{encode_lower}
 use Rattle.serde_json.specs.Data.{Data, unsigned, number, object, no_members, member}
 use Rattle.values.specs.declared.request.Request.{Request}
 use Rattle.values.specs.Values.{long}
-use Rattle.ancestor_closure.specs.Decided.{is_same}
-use Rattle.uid_json.specs.Uids.{uid_json}
-use Rattle.expressions.specs.declared.expr.Expr.TheVariants as form
-use Rattle.policy_grammar.specs.declared.policy.Effect.TheVariants.{Permit}
-use Rattle.policy_grammar.specs.declared.policy.EntityScope.TheVariants as entity_scope
-use Rattle.policy_grammar.specs.declared.policy.ActionScope.TheVariants as action_scope
-use Rattle.policy_grammar.specs.declared.policy.Policy.{Policy}
-use Rattle.schema_types.specs.Cedar as cedar
-use Rattle.schema_types.specs.Cedar.{Cedar, record_of, field, no_fields}
-use Rattle.schema_parts.specs.Places.{place_of}
-use Rattle.schema.specs.Schemas.{EnvironmentOf, StatedSchema}
-use Rattle.entity_worlds.specs.declared.data.EntityData.{EntityData}
-use Rattle.entity_worlds.specs.Entities.{EntityMap}
-use Rattle.typing.specs.Example.{alice, view, has_age, is_aged}
+use Rattle.typed_readings.specs.ancestor_closure.Decided.{is_same}
+use Rattle.typed_readings.specs.uid_json.Uids.{uid_json}
+use Rattle.typed_readings.specs.expressions.declared.expr.Expr.TheVariants as form
+use Rattle.typed_readings.specs.policy_grammar.declared.policy.Effect.TheVariants.{Permit}
+use Rattle.typed_readings.specs.policy_grammar.declared.policy.EntityScope.TheVariants as entity_scope
+use Rattle.typed_readings.specs.policy_grammar.declared.policy.ActionScope.TheVariants as action_scope
+use Rattle.typed_readings.specs.policy_grammar.declared.policy.Policy.{Policy}
+use Rattle.typed_readings.specs.schema_types.Cedar as cedar
+use Rattle.typed_readings.specs.schema_types.Cedar.{Cedar, record_of, field, no_fields}
+use Rattle.typed_readings.specs.schema_parts.Places.{place_of}
+use Rattle.typed_readings.specs.schema.Schemas.{EnvironmentOf, StatedSchema}
+use Rattle.typed_readings.specs.entity_worlds.declared.data.EntityData.{EntityData}
+use Rattle.typed_readings.specs.entity_worlds.Entities.{EntityMap}
+use Rattle.typed_readings.specs.typing.Example.{alice, view, has_age, is_aged}
 
 -- the text of a schema: a user may have an age, and users view users
 unfoldable pub schema_text : List ℕ

@@ -2,18 +2,18 @@
 -- under which policies that pass go right is void.
 use Rattle.std.specs.Prelude.{[], ◌∷◌, true, Ok}
 use Rattle.values.specs.Values.{boolean}
-use Rattle.policy_grammar.specs.Whole.{expression_of}
-use Rattle.evaluator.specs.Evaluation.{EvaluatesTo}
-use Rattle.schema.specs.Schemas.{IsSchemaOf}
-use Rattle.entity_worlds.specs.Entities.{AreListed}
-use Rattle.entity_store.specs.Laws.{closed_world}
-use Rattle.static_types.specs.passed_on.entities.{StatesRequest}
-use Rattle.static_types.specs.FromSchemas.{typing_environment_of}
-use Rattle.typing.specs.Example.{alice}
-use Rattle.typing.specs.Environment.{attribute_may_be_missing}
-use Rattle.typing.specs.Conforming.{Conforms}
-use Rattle.validator.specs.Faults.{of_typing}
-use Rattle.validator.specs.Passing.{Passes, IsCheckRefused}
+use Rattle.typed_readings.specs.policy_grammar.Whole.{expression_of}
+use Rattle.typed_readings.specs.evaluator.Evaluation.{EvaluatesTo}
+use Rattle.typed_readings.specs.schema.Schemas.{IsSchemaOf}
+use Rattle.typed_readings.specs.entity_worlds.Entities.{AreListed}
+use Rattle.typed_readings.specs.entity_store.Laws.{closed_world}
+use Rattle.typed_readings.specs.entities.Requests.{StatesRequest}
+use Rattle.typed_readings.specs.static_types.FromSchemas.{typing_environment_of}
+use Rattle.typed_readings.specs.typing.Example.{alice}
+use Rattle.typed_readings.specs.typing.Environment.{attribute_may_be_missing}
+use Rattle.typed_readings.specs.typing.Conforming.{Conforms}
+use Rattle.typed_readings.specs.validator.Faults.{of_typing}
+use Rattle.typed_readings.specs.validator.Passing.{Passes, IsCheckRefused}
 use Rattle.typed_readings.specs.Worlds.{AreRead}
 use Rattle.conforming_example.specs.Example.{schema_text, schema, viewing, entities, request_json, request, policy}
 use Rattle.conforming_example.specs.Example.{unsure_policy}

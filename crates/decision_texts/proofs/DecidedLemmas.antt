@@ -1,8 +1,8 @@
 -- What three texts come to, from what was read of each.
 use Rattle.std.proofs.Common.{◌≡◌, ℕ, List, None, subst}
 use Rattle.values.specs.declared.request.Request.{Request}
-use Rattle.policy_grammar.specs.declared.policy.Policy.{Policy}
-use Rattle.evaluator.specs.Operators.{World}
+use Rattle.uid_json.specs.policy_grammar.declared.policy.Policy.{Policy}
+use Rattle.entity_worlds.specs.evaluator.Operators.{World}
 use Rattle.authoriser.specs.Answers.{IsAnswer}
 use Rattle.entity_worlds.specs.Keeping.{Entries}
 use Rattle.decision_texts.specs.declared.refusal.Refusal.{Refusal}

@@ -10,3 +10,5 @@ pub mod RequestLemmas
 pub mod FaultLemmas
 pub mod Placing
 pub mod LineOrRefusal
+-- crates below, passed on to those above
+pub use Rattle.json_values.proofs as of_json_values

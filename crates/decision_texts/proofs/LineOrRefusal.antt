@@ -1,14 +1,15 @@
 -- Three texts have a line or a refusal.
-use Rattle.std.proofs.Common.{◌≡◌, ◌⊎◌, ℕ, Bool, true, false, List, [], map, Option, Some, None, Result, Ok, Err, MatchOption, inl, inr, refl, codes}
+use Rattle.std.proofs.Common.{◌≡◌, ◌⊎◌, ℕ, Bool, true, false, List, [], map, Option, Some, None, Result, Ok, Err}
+use Rattle.std.proofs.Common.{MatchOption, inl, inr, refl, codes}
 use Rattle.serde_json.specs.Data.{Data}
 use Rattle.serde_json.specs.Find.{get, as_str}
 use Rattle.json_words.specs.Json.{json_of}
 use Rattle.values.specs.declared.entity_uid.EntityUid.{EntityUid}
 use Rattle.values.specs.declared.request.Request.{Request}
-use Rattle.text_trees.specs.declared.fault.ReadFault.{ReadFault}
-use Rattle.policy_grammar.specs.declared.policy.Policy.{Policy}
-use Rattle.policy_grammar.specs.PolicyText.{IsUidText, IsUidRefused, IsFileRefused}
-use Rattle.policy_grammar.specs.Unique.{HasOneReading, IsFileOf}
+use Rattle.uid_json.specs.text_trees.declared.fault.ReadFault.{ReadFault}
+use Rattle.uid_json.specs.policy_grammar.declared.policy.Policy.{Policy}
+use Rattle.uid_json.specs.policy_grammar.PolicyText.{IsUidText, IsUidRefused, IsFileRefused}
+use Rattle.uid_json.specs.policy_grammar.Unique.{HasOneReading, IsFileOf}
 use Rattle.uid_json.specs.Uids.{IsUid, NamesEntity, IsRead, uid_in}
 use Rattle.uid_json.specs.Laws.{UidsAreFound}
 use Rattle.authoriser.specs.Laws.{OneAnswerInFiniteHierarchies}

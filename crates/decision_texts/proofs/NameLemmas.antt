@@ -1,5 +1,6 @@
 -- The policies of a file have different names, so that they ascend by name in one way.
-use Rattle.std.proofs.Common.{◌≡◌, ◌∙◌, ℕ, ◌+◌, ◌<◌, true, false, List, [], ◌∷◌, map, length, get_or, Contains, IsPermutation, refl, sym, ap, subst, arith}
+use Rattle.std.proofs.Common.{◌≡◌, ◌∙◌, ℕ, ◌+◌, ◌<◌, true, false, List, [], ◌∷◌, map, length, get_or, Contains}
+use Rattle.std.proofs.Common.{IsPermutation, refl, sym, ap, subst, arith}
 use Rattle.std.specs.List.{IsDistinct, AllByRecursion}
 use Rattle.std.specs.List.Sorted.{IsStrictlySortedBy}
 use Rattle.std.specs.Ordering.{nat_cmp, is_lt, is_eq, ordering_reverse}
@@ -13,9 +14,9 @@ use Rattle.std.proofs.lemmas.List.{get_or-map, length-map}
 use Rattle.std.proofs.lemmas.List.Sorted.{IsPermutation-map, IsPermutation-sym, Contains-permutation}
 use Rattle.std.proofs.lemmas.Map.Keys.{IsDistinct-IsPermutation, apart_from_distinct, sorted_from_all_adjacent}
 use Rattle.std.proofs.lemmas.Map.Text.{is_eq-slice_cmp}
-use Rattle.policy_grammar.specs.declared.policy.Policy.{Policy}
-use Rattle.policy_grammar.specs.PolicyText.{IsPolicyFile}
-use Rattle.policy_grammar.specs.Unique.{EachIsNamed, NamesDiffer}
+use Rattle.uid_json.specs.policy_grammar.declared.policy.Policy.{Policy}
+use Rattle.uid_json.specs.policy_grammar.PolicyText.{IsPolicyFile}
+use Rattle.uid_json.specs.policy_grammar.Unique.{EachIsNamed, NamesDiffer}
 use Rattle.values.specs.Names.{text_cmp}
 use Rattle.authoriser.specs.Answers.{NamedPolicy}
 use Rattle.authoriser.specs.Laws.{AreIdsAscending}

@@ -1,10 +1,11 @@
 -- Policies by reference, and their order.
-use Rattle.std.proofs.Common.{◌≡◌, ℕ, suc, ◌+◌, ◌<◌, List, [], ◌∷◌, map, length, String, Global, string_bytes, refl, ap, arith, Bor}
+use Rattle.std.proofs.Common.{◌≡◌, ℕ, suc, ◌+◌, ◌<◌, List, [], ◌∷◌, map, length, String, Global, string_bytes, refl, ap}
+use Rattle.std.proofs.Common.{arith, Bor}
 use Rattle.std.specs.List.Sorted.{IsSortedByKey}
 use Rattle.std.specs.Ordering.{nat_cmp}
 use Rattle.std.specs.Cmp.Lexicographic.{slice_cmp}
 use Rattle.std.proofs.lemmas.List.{get_or-map}
-use Rattle.policy_grammar.specs.declared.policy.Policy.{Policy}
+use Rattle.uid_json.specs.policy_grammar.declared.policy.Policy.{Policy}
 use Rattle.authoriser.specs.Answers.{NamedPolicy}
 use Rattle.authoriser.specs.Views.{named}
 use Rattle.decision_texts.specs.Decisions.{named_policies}

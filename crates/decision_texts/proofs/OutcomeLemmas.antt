@@ -1,13 +1,14 @@
 -- Three texts have one outcome.
-use Rattle.std.proofs.Common.{◌≡◌, ◌∙◌, ℕ, List, map, Option, Some, None, Result, Ok, Err, MatchOption, inl, inr, sym, ap, subst, codes}
+use Rattle.std.proofs.Common.{◌≡◌, ◌∙◌, ℕ, List, map, Option, Some, None, Result, Ok, Err, MatchOption, inl, inr, sym}
+use Rattle.std.proofs.Common.{ap, subst, codes}
 use Rattle.serde_json.specs.Data.{Data}
 use Rattle.serde_json.specs.Find.{get}
 use Rattle.json_words.specs.Json.{json_of}
 use Rattle.values.specs.declared.entity_uid.EntityUid.{EntityUid}
 use Rattle.values.specs.declared.request.Request.{Request}
-use Rattle.policy_grammar.specs.declared.policy.Policy.{Policy}
-use Rattle.policy_grammar.specs.PolicyText.{IsFileRefused}
-use Rattle.policy_grammar.specs.Unique.{HasOneReading, IsFileOf, EachIsNamed, NamesDiffer}
+use Rattle.uid_json.specs.policy_grammar.declared.policy.Policy.{Policy}
+use Rattle.uid_json.specs.policy_grammar.PolicyText.{IsFileRefused}
+use Rattle.uid_json.specs.policy_grammar.Unique.{HasOneReading, IsFileOf, EachIsNamed, NamesDiffer}
 use Rattle.uid_json.specs.Uids.{NamesEntity}
 use Rattle.uid_json.specs.Laws.{OneName}
 use Rattle.authoriser.specs.declared.answer.Answer.{Answer}
@@ -18,7 +19,8 @@ use Rattle.decision_texts.specs.declared.bare.BareEntity.{BareEntity}
 use Rattle.decision_texts.specs.Bare.{entities_of}
 use Rattle.decision_texts.specs.Requests.{StatesRequest}
 use Rattle.decision_texts.specs.Lines.{answer_line}
-use Rattle.decision_texts.specs.Decisions.{ArePoliciesOf, refusal_by, world_in, named_policies, IsAnswerTo, ArePoliciesRefused}
+use Rattle.decision_texts.specs.Decisions.{ArePoliciesOf, refusal_by, world_in, named_policies, IsAnswerTo}
+use Rattle.decision_texts.specs.Decisions.{ArePoliciesRefused}
 use Rattle.decision_texts.specs.Outcomes.{OneLine, NotBoth, OneRefusal, ListsOfLinesAscend}
 use Rattle.decision_texts.proofs.PolicyTexts.{file_or_fault, fault_same}
 use Rattle.decision_texts.proofs.StoreLemmas.{all_parents}

@@ -1,13 +1,14 @@
 -- The text of a file of policies: it is read or refused, never both, and refused for one reason.
-use Rattle.std.proofs.Common.{◌≡◌, ◌∙◌, ◌⊎◌, ℕ, ◌≤◌, Bool, true, false, leb, leb-true, leb-false, List, length, IsUtf8, inl, inr, refl, sym, arith}
+use Rattle.std.proofs.Common.{◌≡◌, ◌∙◌, ◌⊎◌, ℕ, ◌≤◌, Bool, true, false, leb, leb-true, leb-false, List, length, IsUtf8}
+use Rattle.std.proofs.Common.{inl, inr, refl, sym, arith}
 use Rattle.std.specs.Str.{is_utf8}
 use Rattle.std.proofs.lemmas.Str.{IsUtf8-from_is_utf8, is_utf8-from_IsUtf8}
-use Rattle.text_trees.specs.declared.fault.ReadFault.{ReadFault}
-use Rattle.text_trees.specs.declared.fault.ReadFault.TheVariants.{TooLong, BadToken}
-use Rattle.policy_grammar.specs.declared.policy.Policy.{Policy}
-use Rattle.policy_grammar.specs.Limits.{most_file_bytes}
-use Rattle.policy_grammar.specs.PolicyText.{IsFileRefused}
-use Rattle.policy_grammar.specs.Unique.{HasOneReading, IsFileOf}
+use Rattle.uid_json.specs.text_trees.declared.fault.ReadFault.{ReadFault}
+use Rattle.uid_json.specs.text_trees.declared.fault.ReadFault.TheVariants.{TooLong, BadToken}
+use Rattle.uid_json.specs.policy_grammar.declared.policy.Policy.{Policy}
+use Rattle.uid_json.specs.policy_grammar.Limits.{most_file_bytes}
+use Rattle.uid_json.specs.policy_grammar.PolicyText.{IsFileRefused}
+use Rattle.uid_json.specs.policy_grammar.Unique.{HasOneReading, IsFileOf}
 use Rattle.decision_texts.specs.declared.refusal.Refusal.{Refusal}
 use Rattle.decision_texts.specs.Decisions.{ArePoliciesOf, IsFileFault, refusal_by, ArePoliciesRefused}
 

@@ -1,5 +1,6 @@
 -- What a store of entities looks up is what its entities state.
-use Rattle.std.proofs.Common.{◌≡◌, ◌∙◌, Bool, true, false, List, [], ◌∷◌, ◌++◌, Option, Some, None, map, inl, inr, refl, sym, ap, subst}
+use Rattle.std.proofs.Common.{◌≡◌, ◌∙◌, Bool, true, false, List, [], ◌∷◌, ◌++◌, Option, Some, None, map, inl, inr, refl}
+use Rattle.std.proofs.Common.{sym, ap, subst}
 use Rattle.std.specs.Prelude.{Contains, if◌then◌else◌, ◌||◌, is_some}
 use Rattle.std.specs.List.{list_any}
 use Rattle.std.specs.Ordering.{is_eq}
@@ -9,8 +10,8 @@ use Rattle.values.specs.Names.{uid_cmp, uid_cmp-IsTotalOrder, uid_cmp-IsAntisymm
 use Rattle.values.specs.Fields.{Field}
 use Rattle.values.specs.Uids.{equal-is}
 use Rattle.plain.proofs.Members.{Contains-here, Contains-there, Contains-none}
-use Rattle.ancestor_closure.specs.Decided.{is_same, HaveAllParents}
-use Rattle.evaluator.specs.Operators.{world_of}
+use Rattle.entity_worlds.specs.ancestor_closure.Decided.{is_same, HaveAllParents}
+use Rattle.entity_worlds.specs.evaluator.Operators.{world_of}
 use Rattle.entity_worlds.specs.declared.entity.Entity.{Entity}
 use Rattle.entity_worlds.specs.declared.data.EntityData.{EntityData}
 use Rattle.entity_worlds.specs.Entities.{attributes_of, kept_parents}

@@ -14,8 +14,8 @@ use crate::request::read_request;
 use authoriser::{Answer, decide};
 use entity_worlds::{EntityStore, NoActions, World};
 use plain::{NoMemory, beside};
-use policy_grammar::Policy;
 use std::alloc::Global;
+use uid_json::policy_grammar::Policy;
 use values::Request;
 
 /// Returns the policies by reference, in the same order.

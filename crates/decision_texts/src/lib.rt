@@ -11,8 +11,12 @@ mod refusal;
 mod request;
 mod store;
 
+pub use authoriser;
 pub use deciding::{decide_texts, in_order};
+pub use json_values;
 pub use laws::texts_have_one_outcome;
 pub use lines::answer_line;
 pub use policies::policies_in;
 pub use refusal::{Refusal, error_line};
+pub use uid_json;
+pub use uid_json::policy_grammar;

@@ -1,10 +1,10 @@
 -- What each form of tree stands for: the equations of `core_of`.
 use Rattle.std.proofs.Common.{◌≡◌, ℕ, Bool, refl, ap, ◌∙◌, sym, List, map}
 use Rattle.std.specs.List.{fold}
-use Rattle.policy_tokens.specs.declared.token.Token.{Token}
-use Rattle.policy_tokens.specs.Lexing.{spelling_of}
-use Rattle.token_readers.specs.declared.tree.PathTree.{PathTree}
-use Rattle.token_readers.specs.declared.tree.UidTree.{UidTree}
+use Rattle.expression_trees.specs.policy_tokens.declared.token.Token.{Token}
+use Rattle.expression_trees.specs.policy_tokens.Lexing.{spelling_of}
+use Rattle.expression_trees.specs.token_readers.declared.tree.PathTree.{PathTree}
+use Rattle.expression_trees.specs.token_readers.declared.tree.UidTree.{UidTree}
 use Rattle.expression_trees.specs.declared.tree.Access.{Access}
 use Rattle.expression_trees.specs.declared.tree.Access.TheVariants as access
 use Rattle.expression_trees.specs.declared.tree.Comparison.{Comparison}
@@ -12,7 +12,8 @@ use Rattle.expression_trees.specs.declared.tree.Entry.{Entry}
 use Rattle.expression_trees.specs.declared.tree.KeyTree.{KeyTree}
 use Rattle.expression_trees.specs.declared.tree.Variable.{Variable}
 use Rattle.expression_trees.specs.declared.tree.Term.{Term}
-use Rattle.expression_trees.specs.declared.tree.ExprTree.{ExprTree, out-ExprTree, roll-ExprTree, map-ExprTree, fold_out-ExprTree, roll-out-ExprTree}
+use Rattle.expression_trees.specs.declared.tree.ExprTree.{ExprTree, out-ExprTree, roll-ExprTree, map-ExprTree}
+use Rattle.expression_trees.specs.declared.tree.ExprTree.{fold_out-ExprTree, roll-out-ExprTree}
 use Rattle.expression_trees.specs.declared.tree.ExprTree.TheVariants as t
 use Rattle.expression_trees.specs.declared.tree.ExprTree.TheOpen.{ExprTree-F as tree}
 use Rattle.expression_trees.specs.declared.tree.ExprTree.TheFolds.{fold-roll-ExprTree}
@@ -23,7 +24,8 @@ use Rattle.expressions.specs.declared.expr.Expr.TheVariants as core
 use Rattle.desugaring.specs.Numbers.{positive, negative}
 use Rattle.desugaring.specs.Strings.{value_of, pattern_of}
 use Rattle.desugaring.specs.Meaning.{variable_of, path_name, uid_of, name_of}
-use Rattle.desugaring.specs.Core.{Meaning, core_step, meaning, core_of, negated, long, compared, accessed, added, field, in_term, in_entry, in_access, called, function}
+use Rattle.desugaring.specs.Core.{Meaning, core_step, meaning, core_of, negated, long, compared, accessed, added, field}
+use Rattle.desugaring.specs.Core.{in_term, in_entry, in_access, called, function}
 use Rattle.desugaring.proofs.Lists.{map_map, map_accesses}
 
 module _ (text : List ℕ) where

@@ -1,10 +1,10 @@
 -- The faults of each form of tree: the equations of `faults_of`.
 use Rattle.std.proofs.Common.{◌≡◌, ℕ, Bool, refl, ap, ◌∙◌, sym, List, [], ◌++◌, map, length}
 use Rattle.std.specs.List.{flat_map}
-use Rattle.policy_tokens.specs.declared.token.Token.{Token}
-use Rattle.policy_tokens.specs.Lexing.{spelling_of}
-use Rattle.token_readers.specs.declared.tree.PathTree.{PathTree}
-use Rattle.token_readers.specs.declared.tree.UidTree.{UidTree}
+use Rattle.expression_trees.specs.policy_tokens.declared.token.Token.{Token}
+use Rattle.expression_trees.specs.policy_tokens.Lexing.{spelling_of}
+use Rattle.expression_trees.specs.token_readers.declared.tree.PathTree.{PathTree}
+use Rattle.expression_trees.specs.token_readers.declared.tree.UidTree.{UidTree}
 use Rattle.expression_trees.specs.declared.tree.Access.{Access}
 use Rattle.expression_trees.specs.declared.tree.Access.TheVariants as access
 use Rattle.expression_trees.specs.declared.tree.Comparison.{Comparison}
@@ -12,14 +12,16 @@ use Rattle.expression_trees.specs.declared.tree.Entry.{Entry}
 use Rattle.expression_trees.specs.declared.tree.KeyTree.{KeyTree}
 use Rattle.expression_trees.specs.declared.tree.Variable.{Variable}
 use Rattle.expression_trees.specs.declared.tree.Term.{Term}
-use Rattle.expression_trees.specs.declared.tree.ExprTree.{ExprTree, out-ExprTree, roll-ExprTree, map-ExprTree, fold_out-ExprTree, roll-out-ExprTree}
+use Rattle.expression_trees.specs.declared.tree.ExprTree.{ExprTree, out-ExprTree, roll-ExprTree, map-ExprTree}
+use Rattle.expression_trees.specs.declared.tree.ExprTree.{fold_out-ExprTree, roll-out-ExprTree}
 use Rattle.expression_trees.specs.declared.tree.ExprTree.TheVariants as t
 use Rattle.expression_trees.specs.declared.tree.ExprTree.TheOpen.{ExprTree-F as tree}
 use Rattle.expression_trees.specs.declared.tree.ExprTree.TheFolds.{fold-roll-ExprTree}
 use Rattle.desugaring.specs.Numbers.{fits, fits_negated}
 use Rattle.desugaring.specs.Core.{in_access}
 use Rattle.desugaring.specs.Repeats.{repeat_faults}
-use Rattle.desugaring.specs.Faults.{Faulty, fault_step, fault_meaning, faults_of, negated_faults, range, function_faults, access_faults, key_of}
+use Rattle.desugaring.specs.Faults.{Faulty, fault_step, fault_meaning, faults_of, negated_faults, range}
+use Rattle.desugaring.specs.Faults.{function_faults, access_faults, key_of}
 use Rattle.expression_trees.proofs.Flat.{joined, flat_map_map, flat_map_each}
 use Rattle.desugaring.proofs.Lists.{map_map, map_accesses, length-mapped}
 

@@ -1,15 +1,16 @@
 -- The words of a path are identifiers.
-use Rattle.std.proofs.Common.{◌≡◌, ℕ, ◌+◌, ◌<◌, true, false, List, [], ◌∷◌, ◌++◌, length, take, get_or, map, refl, sym, ◌∙◌, ap, subst}
+use Rattle.std.proofs.Common.{◌≡◌, ℕ, ◌+◌, ◌<◌, true, false, List, [], ◌∷◌, ◌++◌, length, take, get_or, map, refl, sym}
+use Rattle.std.proofs.Common.{◌∙◌, ap, subst}
 use Rattle.std.proofs.lemmas.List.{take_more, map-append}
 use denote.Ref.{Bor}
 use Rattle.plain.specs.Words.{AreIdents, IsIdent}
-use Rattle.policy_tokens.specs.declared.token.TokenKind.{TokenKind}
-use Rattle.policy_tokens.specs.declared.token.TokenKind.TheVariants as k
-use Rattle.policy_tokens.specs.declared.token.Token.{Token}
-use Rattle.policy_tokens.specs.Idents.{is_ident}
-use Rattle.policy_tokens.specs.Lexing.{spelling_of}
-use Rattle.token_readers.specs.Grammar.{identifiers}
-use Rattle.token_readers.specs.Kinds.{only, same_kind}
+use Rattle.expression_trees.specs.policy_tokens.declared.token.TokenKind.{TokenKind}
+use Rattle.expression_trees.specs.policy_tokens.declared.token.TokenKind.TheVariants as k
+use Rattle.expression_trees.specs.policy_tokens.declared.token.Token.{Token}
+use Rattle.expression_trees.specs.policy_tokens.Idents.{is_ident}
+use Rattle.expression_trees.specs.policy_tokens.Lexing.{spelling_of}
+use Rattle.expression_trees.specs.token_readers.Grammar.{identifiers}
+use Rattle.expression_trees.specs.token_readers.Kinds.{only, same_kind}
 use Rattle.desugaring.proofs.Lists.{idents-more}
 
 refuted : {A : Type 0} → false ≡ true → A

@@ -13,3 +13,5 @@ pub mod Telling
 pub mod WellFormedLemmas
 pub mod AgainFront
 pub mod Again
+-- crates below, passed on to those above
+pub use Rattle.expression_trees.proofs.of_policy_tokens

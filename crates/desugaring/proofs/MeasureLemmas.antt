@@ -2,10 +2,10 @@
 use Rattle.std.proofs.Common.{◌≡◌, ℕ, ◌+◌, Bool, refl, ap, ◌∙◌, sym, List, [], ◌∷◌, ◌++◌, map, length, None}
 use Rattle.std.proofs.lemmas.List.{append-nil}
 use Rattle.std.specs.List.{fold, flat_map}
-use Rattle.policy_tokens.specs.declared.token.Token.{Token}
-use Rattle.policy_tokens.specs.Lexing.{spelling_of}
-use Rattle.token_readers.specs.declared.tree.PathTree.{PathTree}
-use Rattle.token_readers.specs.declared.tree.UidTree.{UidTree}
+use Rattle.expression_trees.specs.policy_tokens.declared.token.Token.{Token}
+use Rattle.expression_trees.specs.policy_tokens.Lexing.{spelling_of}
+use Rattle.expression_trees.specs.token_readers.declared.tree.PathTree.{PathTree}
+use Rattle.expression_trees.specs.token_readers.declared.tree.UidTree.{UidTree}
 use Rattle.expression_trees.specs.declared.tree.Access.{Access}
 use Rattle.expression_trees.specs.declared.tree.Access.TheVariants as access
 use Rattle.expression_trees.specs.declared.tree.Comparison.{Comparison}
@@ -33,13 +33,24 @@ use Rattle.desugaring.specs.Repeats.{repeat_faults}
 use Rattle.desugaring.specs.Refused.{earlier_of, least}
 use Rattle.desugaring.specs.Faults.{faults_of, range, call_faults, function_faults, access_faults, key_of}
 use Rattle.desugaring.specs.Measured.{measure, of, of_row, measured, measured_negated}
-use Rattle.desugaring.specs.Sums.{nothing, leaf, above, beside, paired, called, with_fault, measured_all, measured_chain, measured_term, measured_entry, measured_compared, measured_call, measured_access}
+use Rattle.desugaring.specs.Sums.{nothing, leaf, above, beside, paired, called, with_fault, measured_all}
+use Rattle.desugaring.specs.Sums.{measured_chain, measured_term, measured_entry, measured_compared, measured_call}
+use Rattle.desugaring.specs.Sums.{measured_access}
 use Rattle.expression_trees.proofs.Flat.{flat_map_map}
 use Rattle.desugaring.proofs.Lists.{length-mapped}
 use Rattle.desugaring.proofs.Least.{least-append, earlier_same}
-use Rattle.desugaring.proofs.Sizing.{same, capped_above, of-Literal, of-Variable, of-Unary, of-Field, of-Has, of-Set, of-And, of-Or, of-Binary, of-If, of-compared, of-called, of-method, row-snoc, fused, fold_map, fold_snoc}
-use Rattle.desugaring.proofs.Cores.{core-Boolean, core-Number, core-Text, core-Variable, core-Uid, core-Call, core-Parentheses, core-Set, core-Record, core-Member, core-Not, core-Minus, core-Product, core-Sum, core-Compare, core-Has, core-Like, core-Is, core-IsIn, core-And, core-Or, core-If, negated-Number, negated-other}
-use Rattle.desugaring.proofs.FaultsOf.{faults-Boolean, faults-Number, faults-Text, faults-Variable, faults-Uid, faults-Call, faults-Parentheses, faults-Set, faults-Record, faults-Member, faults-Not, faults-Minus, faults-Product, faults-Sum, faults-Compare, faults-Has, faults-Like, faults-Is, faults-IsIn, faults-And, faults-Or, faults-If, negated_faults-Number, negated_faults-other}
+use Rattle.desugaring.proofs.Sizing.{same, capped_above, of-Literal, of-Variable, of-Unary, of-Field, of-Has, of-Set}
+use Rattle.desugaring.proofs.Sizing.{of-And, of-Or, of-Binary, of-If, of-compared, of-called, of-method, row-snoc}
+use Rattle.desugaring.proofs.Sizing.{fused, fold_map, fold_snoc}
+use Rattle.desugaring.proofs.Cores.{core-Boolean, core-Number, core-Text, core-Variable, core-Uid, core-Call}
+use Rattle.desugaring.proofs.Cores.{core-Parentheses, core-Set, core-Record, core-Member, core-Not, core-Minus}
+use Rattle.desugaring.proofs.Cores.{core-Product, core-Sum, core-Compare, core-Has, core-Like, core-Is, core-IsIn}
+use Rattle.desugaring.proofs.Cores.{core-And, core-Or, core-If, negated-Number, negated-other}
+use Rattle.desugaring.proofs.FaultsOf.{faults-Boolean, faults-Number, faults-Text, faults-Variable, faults-Uid}
+use Rattle.desugaring.proofs.FaultsOf.{faults-Call, faults-Parentheses, faults-Set, faults-Record, faults-Member}
+use Rattle.desugaring.proofs.FaultsOf.{faults-Not, faults-Minus, faults-Product, faults-Sum, faults-Compare, faults-Has}
+use Rattle.desugaring.proofs.FaultsOf.{faults-Like, faults-Is, faults-IsIn, faults-And, faults-Or, faults-If}
+use Rattle.desugaring.proofs.FaultsOf.{negated_faults-Number, negated_faults-other}
 
 same_of : {d e : Expr} {fs gs : List DesugarFault} → d ≡ e → fs ≡ gs → of d fs ≡ of e gs
 same_of {d} {e} {fs} {gs} a b = ap (λ x. of x fs) a ∙ ap (of e) b

@@ -1,10 +1,10 @@
 -- The parts of a tree that stands in a text stand there too.
 use Rattle.std.proofs.Common.{◌≡◌, ℕ, ap, ◌∙◌, subst, List, [], ◌∷◌, ◌++◌}
 use Rattle.std.specs.List.{AllByRecursion, flat_map}
-use Rattle.policy_tokens.specs.declared.token.TokenKind.TheVariants as k
-use Rattle.policy_tokens.specs.declared.token.Token.{Token}
-use Rattle.token_readers.specs.declared.tree.PathTree.{PathTree}
-use Rattle.token_readers.specs.declared.tree.UidTree.{UidTree}
+use Rattle.expression_trees.specs.policy_tokens.declared.token.TokenKind.TheVariants as k
+use Rattle.expression_trees.specs.policy_tokens.declared.token.Token.{Token}
+use Rattle.expression_trees.specs.token_readers.declared.tree.PathTree.{PathTree}
+use Rattle.expression_trees.specs.token_readers.declared.tree.UidTree.{UidTree}
 use Rattle.expression_trees.specs.declared.tree.Access.{Access}
 use Rattle.expression_trees.specs.declared.tree.Access.TheVariants as access
 use Rattle.expression_trees.specs.declared.tree.Comparison.{Comparison}
@@ -14,13 +14,18 @@ use Rattle.expression_trees.specs.declared.tree.KeyTree.TheVariants.{Word, Quote
 use Rattle.expression_trees.specs.declared.tree.Term.{Term}
 use Rattle.expression_trees.specs.declared.tree.ExprTree.{ExprTree}
 use Rattle.expression_trees.specs.declared.tree.ExprTree.TheVariants as t
-use Rattle.token_readers.specs.Kinds.{only}
-use Rattle.token_readers.specs.Grammar.{identifiers}
+use Rattle.expression_trees.specs.token_readers.Kinds.{only}
+use Rattle.expression_trees.specs.token_readers.Grammar.{identifiers}
 use Rattle.expression_trees.specs.Patterns.{patterns}
-use Rattle.expression_trees.specs.Parts.{Part, part, key_part, path_parts, uid_parts, parts_of, parts_of_access, parts_of_entry, parts_of_term}
+use Rattle.expression_trees.specs.Parts.{Part, part, key_part, path_parts, uid_parts, parts_of, parts_of_access}
+use Rattle.expression_trees.specs.Parts.{parts_of_entry, parts_of_term}
 use Rattle.expression_trees.proofs.Flat.{all_left, all_right, all_flat, all_mapped}
-use Rattle.expression_trees.proofs.PartsOf.{parts-Number, parts-Text, parts-Uid, parts-Call, parts-Parentheses, parts-Set, parts-Record, parts-Member, parts-Not, parts-Minus, parts-Product, parts-Sum, parts-Compare, parts-Has, parts-Like, parts-Is, parts-IsIn, parts-And, parts-Or, parts-If}
-use Rattle.desugaring.specs.inner.WellFormed.{TokenIn, WellFormed, KeyIn, PathIn, UidIn, AllWellFormed, WellFormedEntry, WellFormedTerm, WellFormedAccess}
+use Rattle.expression_trees.proofs.PartsOf.{parts-Number, parts-Text, parts-Uid, parts-Call, parts-Parentheses}
+use Rattle.expression_trees.proofs.PartsOf.{parts-Set, parts-Record, parts-Member, parts-Not, parts-Minus}
+use Rattle.expression_trees.proofs.PartsOf.{parts-Product, parts-Sum, parts-Compare, parts-Has, parts-Like, parts-Is}
+use Rattle.expression_trees.proofs.PartsOf.{parts-IsIn, parts-And, parts-Or, parts-If}
+use Rattle.desugaring.specs.inner.WellFormed.{TokenIn, WellFormed, KeyIn, PathIn, UidIn, AllWellFormed, WellFormedEntry}
+use Rattle.desugaring.specs.inner.WellFormed.{WellFormedTerm, WellFormedAccess}
 
 module _ (text : List ℕ) where
   abbrev Is : Part → Type 0

@@ -2,12 +2,12 @@
 use Rattle.std.proofs.Common.{ℕ, zero, suc, List, [], ◌∷◌, subst, arith}
 use Rattle.std.specs.Prelude.{Contains}
 use Rattle.std.specs.List.{AllByRecursion}
-use Rattle.policy_tokens.specs.declared.token.Token.{Token}
-use Rattle.policy_tokens.specs.Lexing.{IsSpelledIn}
-use Rattle.token_readers.specs.declared.tree.PathTree.{PathTree}
+use Rattle.expression_trees.specs.policy_tokens.declared.token.Token.{Token}
+use Rattle.expression_trees.specs.policy_tokens.Lexing.{IsSpelledIn}
+use Rattle.expression_trees.specs.token_readers.declared.tree.PathTree.{PathTree}
 use Rattle.expression_trees.specs.declared.tree.ExprTree.{ExprTree}
-use Rattle.token_readers.specs.Grammar.{identifiers}
-use Rattle.token_readers.specs.Kinds.{Kinds}
+use Rattle.expression_trees.specs.token_readers.Grammar.{identifiers}
+use Rattle.expression_trees.specs.token_readers.Kinds.{Kinds}
 use Rattle.expression_trees.specs.Parts.{Part, parts_of}
 use Rattle.expression_trees.specs.WellFormed.{WellFormedToken, WellFormedPath, WellFormedExpr}
 use Rattle.expression_trees.proofs.Flat.{all_as}

@@ -5,8 +5,8 @@
 -- Operators of one level group to the left.
 use Rattle.std.specs.Prelude.{ℕ, ℤ, false, List, [], ◌∷◌, map, Option, Some, None}
 use Rattle.std.specs.List.{fold}
-use Rattle.policy_tokens.specs.declared.token.Token.{Token}
-use Rattle.policy_tokens.specs.Lexing.{spelling_of}
+use Rattle.expression_trees.specs.policy_tokens.declared.token.Token.{Token}
+use Rattle.expression_trees.specs.policy_tokens.Lexing.{spelling_of}
 use Rattle.expressions.specs.declared.leaf.Literal.TheVariants as literal
 use Rattle.expressions.specs.declared.operator.Unary.TheVariants.{Not, Negate, Like, Is}
 use Rattle.expressions.specs.declared.operator.Binary.TheVariants.{Equal, In, Less, LessOrEqual, Multiply}
@@ -14,7 +14,7 @@ use Rattle.expressions.specs.declared.operator.UnaryCall.{UnaryCall}
 use Rattle.expressions.specs.declared.expr.Named.{Named}
 use Rattle.expressions.specs.declared.expr.Expr.{Expr}
 use Rattle.expressions.specs.declared.expr.Expr.TheVariants as core
-use Rattle.token_readers.specs.declared.tree.PathTree.{PathTree}
+use Rattle.expression_trees.specs.token_readers.declared.tree.PathTree.{PathTree}
 use Rattle.expression_trees.specs.declared.tree.Access.{Access}
 use Rattle.expression_trees.specs.declared.tree.Access.TheVariants as access
 use Rattle.expression_trees.specs.declared.tree.Comparison.{Comparison}

@@ -11,3 +11,6 @@ pub mod Strings
 pub mod Sums
 pub mod Refused
 pub mod inner
+-- crates below, passed on to those above
+pub use Rattle.expression_trees.specs.policy_tokens
+pub use Rattle.expression_trees.specs.token_readers

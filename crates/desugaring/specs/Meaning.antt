@@ -2,13 +2,13 @@
 use Rattle.std.specs.Prelude.{ℕ, List, map}
 use Rattle.plain.specs.Words.{joined_path}
 use Rattle.values.specs.declared.entity_uid.EntityUid.{EntityUid}
-use Rattle.policy_tokens.specs.Lexing.{spelling_of}
+use Rattle.expression_trees.specs.policy_tokens.Lexing.{spelling_of}
 use Rattle.expressions.specs.declared.leaf.Variable.{Variable}
 use Rattle.expressions.specs.declared.leaf.Variable.TheVariants.{Principal, Action, Resource, Context}
 use Rattle.expressions.specs.declared.operator.Binary.{Binary}
 use Rattle.expressions.specs.declared.operator.Binary.TheVariants.{Add, Subtract}
-use Rattle.token_readers.specs.declared.tree.PathTree.{PathTree}
-use Rattle.token_readers.specs.declared.tree.UidTree.{UidTree}
+use Rattle.expression_trees.specs.token_readers.declared.tree.PathTree.{PathTree}
+use Rattle.expression_trees.specs.token_readers.declared.tree.UidTree.{UidTree}
 use Rattle.expression_trees.specs.declared.tree.KeyTree.{KeyTree}
 use Rattle.expression_trees.specs.declared.tree.KeyTree.TheVariants.{Word, Quoted}
 use Rattle.expression_trees.specs.declared.tree.Sign.{Sign}

@@ -1,7 +1,7 @@
 -- What it is for functions to say what strings stand for.
 -- Source: Cedar reference guide 4.0, "Data types: String" and "Operators: like".
 use Rattle.std.specs.Prelude.{◌≡◌, ℕ, List}
-use Rattle.policy_tokens.specs.Strings.{IsStringOf, IsPatternOf}
+use Rattle.expression_trees.specs.policy_tokens.Strings.{IsStringOf, IsPatternOf}
 
 -- Two functions of what is written with its quotes: the one gives each string its value, the other gives each string
 -- its literal texts as a pattern, as the grammar of strings and their escapes has them. Of what is no string they may

@@ -2,7 +2,7 @@
 -- the functions of which the type says that they follow it.
 -- Source: Cedar reference guide 4.0, "Data types: String" and "Operators: like".
 use Rattle.std.specs.Prelude.{◌≡◌, ℕ, List}
-use Rattle.policy_tokens.specs.Strings.{IsStringOf, IsPatternOf}
+use Rattle.expression_trees.specs.policy_tokens.Strings.{IsStringOf, IsPatternOf}
 use Rattle.desugaring.specs.inner.StringReading.{string_meaning}
 
 -- the value of a string

@@ -1,12 +1,12 @@
 -- Measures put together.
 use Rattle.std.specs.Prelude.{◌≡◌, ℕ, ◌+◌, ◌++◌, max, List, length, Option, Some, None}
 use Rattle.std.specs.List.{fold}
-use Rattle.policy_tokens.specs.Lexing.{spelling_of}
+use Rattle.expression_trees.specs.policy_tokens.Lexing.{spelling_of}
 use Rattle.expressions.specs.declared.leaf.Literal.{Literal}
 use Rattle.expressions.specs.declared.operator.Unary.{Unary}
 use Rattle.expressions.specs.declared.expr.Expr.{Expr}
 use Rattle.expressions.specs.declared.expr.Expr.TheVariants as core
-use Rattle.token_readers.specs.declared.tree.PathTree.{PathTree}
+use Rattle.expression_trees.specs.token_readers.declared.tree.PathTree.{PathTree}
 use Rattle.expression_trees.specs.declared.tree.Access.{Access}
 use Rattle.expression_trees.specs.declared.tree.Access.TheVariants as access
 use Rattle.expression_trees.specs.declared.tree.Comparison.{Comparison}

@@ -17,10 +17,10 @@ use crate::measuring::function_at;
 use crate::names::method_named;
 use crate::pairs::{add, both};
 use crate::words::name;
+use expression_trees::policy_tokens::spelling;
 use expression_trees::{Access, Entry, ExprTree, Term};
 use expressions::{Expr, Named, Unary};
 use plain::{Boxed, Items, NoMemory};
-use policy_tokens::spelling;
 use std::alloc::Global;
 
 /// Returns the core expression of a tree; of one that has faults some expression.

@@ -1,6 +1,6 @@
 //! Core expressions from their operands.
 ghost use Rattle.std.specs.Prelude.{◌≡◌, IfOk};
-ghost use Rattle.policy_tokens.specs.Lexing.{spelling_of};
+ghost use Rattle.expression_trees.specs.policy_tokens.Lexing.{spelling_of};
 ghost use Rattle.expressions.specs.declared.operator.Unary.TheVariants as unary;
 ghost use Rattle.expressions.specs.declared.operator.Binary.TheVariants as binary;
 ghost use Rattle.expressions.specs.declared.expr.Expr.TheVariants as core;
@@ -13,10 +13,10 @@ ghost use Rattle.desugaring.specs.inner.WellFormed.{TokenIn, KeyIn, PathIn};
 
 use crate::pairs::{all_three, both};
 use crate::words::{name, path_type, pattern, sign};
+use expression_trees::policy_tokens::Token;
 use expression_trees::{Comparison, KeyTree, PathTree, Sign};
 use expressions::{Binary, Expr, Named, Unary};
 use plain::{Items, NoMemory, Text, beside};
-use policy_tokens::Token;
 use std::alloc::Global;
 
 /// How the operands of a chain are joined.

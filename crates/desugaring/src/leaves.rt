@@ -1,10 +1,10 @@
 //! Core expressions that a single token makes, or a uid.
 ghost use Rattle.std.specs.Prelude.{◌≡◌, IfOk};
-ghost use Rattle.policy_tokens.specs.declared.token.TokenKind.TheVariants as k;
-ghost use Rattle.policy_tokens.specs.Lexing.{spelling_of};
+ghost use Rattle.expression_trees.specs.policy_tokens.declared.token.TokenKind.TheVariants as k;
+ghost use Rattle.expression_trees.specs.policy_tokens.Lexing.{spelling_of};
 ghost use Rattle.expressions.specs.declared.leaf.Literal.TheVariants as literal;
 ghost use Rattle.expressions.specs.declared.expr.Expr.TheVariants as core;
-ghost use Rattle.token_readers.specs.Kinds.{only};
+ghost use Rattle.expression_trees.specs.token_readers.Kinds.{only};
 ghost use Rattle.desugaring.specs.Strings.{value_of};
 ghost use Rattle.desugaring.specs.Numbers.{positive, negative};
 ghost use Rattle.desugaring.specs.Meaning.{variable_of, uid_of};
@@ -14,9 +14,9 @@ ghost use Rattle.desugaring.specs.inner.WellFormed.{TokenIn, UidIn};
 use crate::numbers;
 use crate::words::{path_type, string};
 use expression_trees::UidTree;
+use expression_trees::policy_tokens::{Token, spelling};
 use expressions::{Expr, Literal, Variable};
 use plain::{NoMemory, Text};
-use policy_tokens::{Token, spelling};
 use std::alloc::Global;
 use values::{EntityUid, SharedText};
 

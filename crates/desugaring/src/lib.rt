@@ -17,6 +17,7 @@ mod repeats;
 mod whole;
 mod words;
 
+pub use expression_trees::policy_tokens;
 pub use fault::{DesugarFault, earlier_of};
 pub use laws::{least_fault_is_told, measures_add_up, repeats_stand_again, strings_are_read};
 pub use measure::Measure;

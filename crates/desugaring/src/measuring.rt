@@ -2,10 +2,10 @@
 //! keys of records alone.
 ghost use Rattle.std.specs.Prelude.{◌≡◌, IfOk};
 ghost use Rattle.std.specs.List.{AllByRecursion, fold};
-ghost use Rattle.policy_tokens.specs.declared.token.TokenKind.TheVariants as k;
-ghost use Rattle.policy_tokens.specs.Lexing.{spelling_of};
-ghost use Rattle.token_readers.specs.Kinds.{only};
-ghost use Rattle.token_readers.specs.Grammar.{identifiers};
+ghost use Rattle.expression_trees.specs.policy_tokens.declared.token.TokenKind.TheVariants as k;
+ghost use Rattle.expression_trees.specs.policy_tokens.Lexing.{spelling_of};
+ghost use Rattle.expression_trees.specs.token_readers.Kinds.{only};
+ghost use Rattle.expression_trees.specs.token_readers.Grammar.{identifiers};
 ghost use Rattle.desugaring.specs.Core.{function};
 ghost use Rattle.desugaring.specs.Names.{method_takes, method_of};
 ghost use Rattle.desugaring.specs.Numbers as number;
@@ -23,10 +23,10 @@ use crate::measure::Measure;
 use crate::names::{function_named, method_named};
 use crate::numbers::{fits, fits_negated};
 use crate::repeats::repeated_key;
+use expression_trees::policy_tokens::{Token, spelling};
 use expression_trees::{Access, Comparison, Entry, ExprTree, PathTree, Term};
 use expressions::UnaryCall;
 use plain::{Boxed, Items, NoMemory};
-use policy_tokens::{Token, spelling};
 use std::alloc::Global;
 
 /// What is told, but for want of memory.

@@ -1,19 +1,19 @@
 //! What the tokens of a tree stand for.
 ghost use Rattle.std.specs.Prelude.{◌≡◌, ◌∷◌, IfOk, map};
 ghost use Rattle.plain.specs.Words.{AreIdents};
-ghost use Rattle.policy_tokens.specs.Lexing.{spelling_of};
-ghost use Rattle.policy_tokens.specs.declared.token.TokenKind.TheVariants as k;
-ghost use Rattle.token_readers.specs.Kinds.{only};
-ghost use Rattle.token_readers.specs.Grammar.{identifiers};
+ghost use Rattle.expression_trees.specs.policy_tokens.Lexing.{spelling_of};
+ghost use Rattle.expression_trees.specs.policy_tokens.declared.token.TokenKind.TheVariants as k;
+ghost use Rattle.expression_trees.specs.token_readers.Kinds.{only};
+ghost use Rattle.expression_trees.specs.token_readers.Grammar.{identifiers};
 ghost use Rattle.expression_trees.specs.Patterns.{patterns};
 ghost use Rattle.desugaring.specs.inner.WellFormed.{TokenIn, KeyIn, PathIn};
 ghost use Rattle.desugaring.specs.Strings.{value_of, pattern_of};
 ghost use Rattle.desugaring.specs.Meaning.{sign_of, path_name, name_of, place_of};
 
+use expression_trees::policy_tokens::{Token, decode_pattern, decode_string, spelling};
 use expression_trees::{KeyTree, PathTree, Sign};
 use expressions::{Binary, Pattern};
 use plain::{NoMemory, Text};
-use policy_tokens::{Token, decode_pattern, decode_string, spelling};
 use std::alloc::Global;
 use values::TypeName;
 

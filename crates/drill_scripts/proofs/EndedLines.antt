@@ -1,10 +1,11 @@
 -- Lines, each with its end, and the last end taken away.
-use Rattle.std.proofs.Common.{◌≡◌, ◌∙◌, ℕ, ◌+◌, ◌<◌, List, [], ◌∷◌, ◌++◌, length, map, Option, Some, None, refl, sym, ap, arith, false}
+use Rattle.std.proofs.Common.{◌≡◌, ◌∙◌, ℕ, ◌+◌, ◌<◌, List, [], ◌∷◌, ◌++◌, length, map, Option, Some, None, refl, sym}
+use Rattle.std.proofs.Common.{ap, arith, false}
 use Rattle.std.specs.Option.{option_to_list, IsSome}
 use Rattle.std.specs.List.{AllZip, join_with_byte}
 use Rattle.std.proofs.lemmas.List.{append_assoc, append-nil, length-append, map-append}
 use Rattle.serde_json.specs.Written.{has_float}
-use Rattle.site.specs.Seen.{Seen}
+use Rattle.service_replies.specs.site.Seen.{Seen}
 use Rattle.site_worlds.specs.declared.event.EventReply.{EventReply}
 use Rattle.drill_scripts.specs.Lines.{line_end}
 use Rattle.drill_scripts.specs.Told.{message_json, summary_json, state_told}

@@ -1,16 +1,18 @@
 -- A script, one line more at each turn.
-use Rattle.std.proofs.Common.{◌≡◌, ◌∙◌, ℕ, suc, ◌+◌, ◌≤◌, List, [], ◌∷◌, ◌++◌, length, Option, Some, None, Result, Ok, Err, refl, sym, ap, arith}
+use Rattle.std.proofs.Common.{◌≡◌, ◌∙◌, ℕ, suc, ◌+◌, ◌≤◌, List, [], ◌∷◌, ◌++◌, length, Option, Some, None, Result, Ok}
+use Rattle.std.proofs.Common.{Err, refl, sym, ap, arith}
 use Rattle.std.specs.List.{AllZip}
 use Rattle.std.proofs.lemmas.List.{append_assoc, append-nil, length-append}
 use Rattle.json_words.specs.ReadsAs.{◌>>=◌}
-use Rattle.decision_texts.specs.declared.refusal.Refusal.{Refusal}
-use Rattle.decision_texts.specs.Refusals.{bad_shape}
+use Rattle.policy_checks.specs.decision_texts.declared.refusal.Refusal.{Refusal}
+use Rattle.policy_checks.specs.decision_texts.Refusals.{bad_shape}
 use Rattle.site_worlds.specs.declared.event.Deed.{Deed}
 use Rattle.site_worlds.specs.declared.event.Deed.TheVariants as deed
 use Rattle.site_worlds.specs.declared.event.Event.{Event}
 use Rattle.drill_scripts.specs.declared.made.Made.{Made}
 use Rattle.drill_scripts.specs.Lines.{lines}
-use Rattle.drill_scripts.specs.Said.{Asked, plain, put_entity, authorize, Said, said_of, after_deed, after_asked, IsDeedOf, IsEventOf}
+use Rattle.drill_scripts.specs.Said.{Asked, plain, put_entity, authorize, Said, said_of, after_deed, after_asked}
+use Rattle.drill_scripts.specs.Said.{IsDeedOf, IsEventOf}
 use Rattle.drill_scripts.specs.Scripts.{said_from, none_made, script_of, AreEventsOf, IsScriptRefused}
 use Rattle.drill_scripts.specs.inner.Reading.{IsLineRead, onto, IsReadUpTo}
 

@@ -3,10 +3,10 @@
 -- line end between each two.
 use Rattle.std.specs.Prelude.{◌≡◌, ◌⊎◌, ℕ, List, ◌++◌, map, Some}
 use Rattle.std.specs.List.{AllZip, join_with_byte}
-use Rattle.decision_texts.specs.declared.refusal.Refusal.{Refusal}
+use Rattle.policy_checks.specs.decision_texts.declared.refusal.Refusal.{Refusal}
 use Rattle.policy_checks.specs.Checks.{IsSchemaRefused}
-use Rattle.schema.specs.Schemas.{StatedSchema, IsSchemaOf}
-use Rattle.site.specs.Seen.{Seen}
+use Rattle.policy_checks.specs.schema.Schemas.{StatedSchema, IsSchemaOf}
+use Rattle.service_replies.specs.site.Seen.{Seen}
 use Rattle.site_worlds.specs.Sites.{first_sites}
 use Rattle.site_worlds.specs.Played.{IsPlayed}
 use Rattle.site_worlds.specs.declared.event.Event.{Event}

@@ -6,7 +6,7 @@ use Rattle.std.specs.Str.{bytes_eq}
 use Rattle.serde_json.specs.Data.{Data}
 use Rattle.serde_json.specs.Find.{get, as_number, as_u64}
 use Rattle.json_words.specs.Json.{json_of, text_at}
-use Rattle.uid_json.specs.Uids.{uid_in}
+use Rattle.policy_checks.specs.uid_json.Uids.{uid_in}
 use Rattle.values.specs.declared.entity_uid.EntityUid.{EntityUid}
 use Rattle.site_worlds.specs.declared.event.Deed.{Deed}
 use Rattle.site_worlds.specs.declared.event.Deed.TheVariants as deed

@@ -3,8 +3,8 @@
 use Rattle.std.specs.Prelude.{◌≡◌, ℕ, suc, List, [], ◌∷◌, Some, Result, Ok, Err}
 use Rattle.std.specs.List.{AllZip}
 use Rattle.json_words.specs.ReadsAs.{◌>>=◌, or_fault}
-use Rattle.decision_texts.specs.declared.refusal.Refusal.{Refusal}
-use Rattle.decision_texts.specs.Refusals.{bad_shape}
+use Rattle.policy_checks.specs.decision_texts.declared.refusal.Refusal.{Refusal}
+use Rattle.policy_checks.specs.decision_texts.Refusals.{bad_shape}
 use Rattle.site_worlds.specs.declared.event.Event.{Event}
 use Rattle.drill_scripts.specs.declared.made.Made.{Made}
 use Rattle.drill_scripts.specs.Lines.{lines}

@@ -4,12 +4,12 @@ use Rattle.std.specs.Prelude.{ℕ, List, Option, Some, None, Ok, Err, codes}
 use Rattle.serde_json.specs.Data.{Data, number, object, unsigned, no_members, member}
 use Rattle.serde_json.specs.Written.{compact_text}
 use Rattle.service_replies.specs.Replies.{answer_reply, fault_reply, put_reply, stamp_reply, taken_reply}
-use Rattle.site.specs.Seen.{Seen, schema_of, store_in}
-use Rattle.site_runs.specs.declared.reply.Reply.{Reply}
-use Rattle.site_runs.specs.declared.reply.Reply.TheVariants as reply
+use Rattle.service_replies.specs.site.Seen.{Seen, schema_of, store_in}
+use Rattle.site_worlds.specs.site_runs.declared.reply.Reply.{Reply}
+use Rattle.site_worlds.specs.site_runs.declared.reply.Reply.TheVariants as reply
 use Rattle.site_worlds.specs.declared.event.EventReply.{EventReply}
 use Rattle.site_worlds.specs.declared.event.EventReply.TheVariants.{Unknown, Replied, Message, Summary}
-use Rattle.state_messages.specs.Messages.{state_text}
+use Rattle.service_replies.specs.state_messages.Messages.{state_text}
 
 -- {"message":0}
 abbrev pub message_json : ℕ → Data

@@ -1,17 +1,17 @@
 //! A schema and a script, played.
 ghost use Rattle.std.specs.Prelude.{◌≤◌, ◌≡◌, IfOk, IfErr};
-ghost use Rattle.decision_texts.specs.Refusals.{no_memory};
-ghost use Rattle.schema.specs.Views.{schema_view};
+ghost use Rattle.policy_checks.specs.decision_texts.Refusals.{no_memory};
+ghost use Rattle.policy_checks.specs.schema.Views.{schema_view};
 ghost use Rattle.drill_scripts.specs.Drills.{IsDrilled, IsPlayedOut, IsDrillRefused};
 ghost use Rattle.drill_scripts.specs.Scripts.{IsScriptRefused};
 ghost use Rattle.drill_scripts.specs.inner.Under.{IsDrilledUnder};
 
 use crate::reporting::world_lines;
 use crate::whole::read_script;
-use decision_texts::Refusal;
 use plain::{NoMemory, Shared};
+use policy_checks::decision_texts::Refusal;
+use policy_checks::schema::Schema;
 use policy_checks::schema_in;
-use schema::Schema;
 use site_worlds::{Event, simulate};
 use std::alloc::Global;
 

@@ -8,5 +8,5 @@ mod reporting;
 mod split;
 mod whole;
 
-pub use decision_texts::Refusal;
 pub use drilling::drill_text;
+pub use policy_checks::decision_texts::Refusal;

@@ -5,7 +5,7 @@ ghost use Rattle.serde_json.specs.Find.{get};
 ghost use Rattle.serde_json.specs.Read.{max_depth};
 ghost use Rattle.serde_json.specs.View.{view};
 ghost use Rattle.json_words.specs.Json.{json_of, text_at};
-ghost use Rattle.uid_json.specs.Uids.{uid_in};
+ghost use Rattle.policy_checks.specs.uid_json.Uids.{uid_in};
 ghost use Rattle.drill_scripts.specs.Said.{asked_by, authorize, delivered, delta_offered, entity_deleted, number_in};
 ghost use Rattle.drill_scripts.specs.Said.{policy_deleted, policy_put, put_entity, said_in, said_of, within};
 ghost use Rattle.drill_scripts.specs.inner.Reading.{IsReadAs, IsLineRead, AreBytesOf};
@@ -13,10 +13,10 @@ ghost use Rattle.drill_scripts.specs.inner.Reading.{IsReadAs, IsLineRead, AreByt
 use crate::made::Made;
 use json_words::{read_json, text_at, write_json};
 use plain::{Items, NoMemory, Text};
+use policy_checks::uid_json::read_uid;
 use serde_json::Value;
 use site_worlds::{Deed, Event};
 use std::alloc::Global;
-use uid_json::read_uid;
 
 /// Returns the number, if it lies in these bounds.
 fn within(least: u64, most: u64, number: Option<u64>) -> Option<u64>

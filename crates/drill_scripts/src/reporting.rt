@@ -2,7 +2,7 @@
 ghost use Rattle.std.specs.Prelude.{◌≡◌, ℕ, List, [], ◌∷◌, ◌++◌, map, IfOk, OnOk, Some};
 ghost use Rattle.std.specs.List.{AllZip, join_with_byte};
 ghost use Rattle.serde_json.specs.View.{view};
-ghost use Rattle.decision_texts.specs.Lines.{answer_line};
+ghost use Rattle.policy_checks.specs.decision_texts.Lines.{answer_line};
 ghost use Rattle.service_replies.specs.Replies.{answer_reply, fault_reply, put_reply, stamp_reply, taken_reply};
 ghost use Rattle.drill_scripts.specs.Drills.{IsTold};
 ghost use Rattle.drill_scripts.specs.Lines.{line_end};
@@ -10,15 +10,15 @@ ghost use Rattle.drill_scripts.specs.Told.{answer_told, message_json, message_li
 ghost use Rattle.drill_scripts.specs.Told.{summary_json, summary_line};
 ghost use Rattle.drill_scripts.specs.inner.Ended.{AreTold, IsToldOf, ended};
 
-use authoriser::Answer;
-use decision_texts::answer_line;
 use json_words::write_json;
 use plain::NoMemory;
+use policy_checks::authoriser::Answer;
+use policy_checks::decision_texts::answer_line;
 use serde_json::{Value, json};
+use service_replies::stamped_store::Stamp;
 use service_replies::{LINE_ROOM, report_fault, report_put, report_stamp, report_taken};
-use site_runs::{Put, Taken};
+use site_worlds::site_runs::{Put, Taken};
 use site_worlds::{EventReply, Reply, Site, SiteFault, World};
-use stamped_store::Stamp;
 use std::alloc::Global;
 
 // ---- one line

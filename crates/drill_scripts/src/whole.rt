@@ -1,12 +1,12 @@
 //! Scripts, read line by line.
 ghost use Rattle.std.specs.Prelude.{◌≡◌, IfOk, IfErr, Some};
-ghost use Rattle.decision_texts.specs.Refusals.{bad_shape, no_memory};
+ghost use Rattle.policy_checks.specs.decision_texts.Refusals.{bad_shape, no_memory};
 ghost use Rattle.drill_scripts.specs.Scripts.{AreEventsOf, IsScriptRefused};
 
 use crate::made::{Made, after_deed};
 use crate::one_line::said_of;
 use crate::split::first_line;
-use decision_texts::Refusal;
+use policy_checks::decision_texts::Refusal;
 use site_worlds::Event;
 use std::alloc::Global;
 

@@ -7,9 +7,9 @@ use Rattle.serde_json.specs.Data.{Data, object, array, Members, no_members, memb
 use Rattle.serde_json.specs.View.{items_of}
 use Rattle.values.specs.Values.{fields_of}
 use Rattle.values.specs.declared.entity_uid.EntityUid.{EntityUid}
-use Rattle.uid_json.specs.Tokens.{Adds, tokens_of, AppendsValue}
-use Rattle.uid_json.specs.Uids.{uid_json}
-use Rattle.uid_json.proofs.Nested.{object_begun, member_next, member_written, object_ended}
+use Rattle.typed_values.specs.uid_json.Tokens.{Adds, tokens_of, AppendsValue}
+use Rattle.typed_values.specs.uid_json.Uids.{uid_json}
+use Rattle.typed_values.proofs.of_uid_json.Nested.{object_begun, member_next, member_written, object_ended}
 use Rattle.typed_values.specs.Canonical.{fields_json}
 use Rattle.entity_worlds.specs.declared.entity.Entity.{Entity}
 use Rattle.entities.specs.Canonical.{canonical_json}

@@ -1,5 +1,6 @@
 -- The one JSON of an entity that was read is read as that entity.
-use Rattle.std.proofs.Common.{◌≡◌, ◌∙◌, ◌≤◌, ℕ, suc, List, [], ◌∷◌, map, Bool, true, false, inr, ◌<◌, Option, Some, None, MatchOption, Result, Ok, Err, refl, sym, ap, subst, arith}
+use Rattle.std.proofs.Common.{◌≡◌, ◌∙◌, ◌≤◌, ℕ, suc, List, [], ◌∷◌, map, Bool, true, false, inr, ◌<◌, Option, Some}
+use Rattle.std.proofs.Common.{None, MatchOption, Result, Ok, Err, refl, sym, ap, subst, arith}
 use Rattle.std.specs.Prelude.{codes, not, ⊤}
 use Rattle.std.specs.List.{AllByRecursion}
 use Rattle.serde_json.specs.Data.{Data, object, depth, items_depth}
@@ -13,9 +14,9 @@ use Rattle.plain.specs.Words.{IsPath}
 use Rattle.values.specs.declared.entity_uid.EntityUid.{EntityUid}
 use Rattle.values.specs.Values.{fields_of}
 use Rattle.values.specs.Fields.{Field}
-use Rattle.ancestor_closure.specs.Hierarchy.{IsAscending}
-use Rattle.uid_json.specs.Uids.{IsPlainUid, IsUid, IsUnderEntity, IsRead, uid_in, uid_json}
-use Rattle.uid_json.specs.Laws.{OneUid, UidsAreFound, WrittenIsRead}
+use Rattle.entity_worlds.specs.ancestor_closure.Hierarchy.{IsAscending}
+use Rattle.typed_values.specs.uid_json.Uids.{IsPlainUid, IsUid, IsUnderEntity, IsRead, uid_in, uid_json}
+use Rattle.typed_values.specs.uid_json.Laws.{OneUid, UidsAreFound, WrittenIsRead}
 use Rattle.schema_types.specs.Cedar.{Cedar, deep, IsTooLarge}
 use Rattle.schema.specs.Schemas.{StatedSchema}
 use Rattle.schema.specs.WellFormed.{IsWellFormed}
@@ -28,8 +29,10 @@ use Rattle.entities.specs.declared.fault.EntityFault.TheVariants.{BadShape, Acti
 use Rattle.entities.specs.declared.stated.StatedEntity.{StatedEntity}
 use Rattle.entity_worlds.specs.declared.entity.Entity.{Entity}
 use Rattle.entities.specs.Faults.{told}
-use Rattle.entities.specs.Stated.{stated_uid, uids_of, stated_parents, has_objects, is_absent_or_empty, or_empty, stated_in}
-use Rattle.entities.specs.Entities.{is_action_type, shape_of, attributes_in, parent_fits, parents_fit, parents_in, entity_stated_in}
+use Rattle.entities.specs.Stated.{stated_uid, uids_of, stated_parents, has_objects, is_absent_or_empty, or_empty}
+use Rattle.entities.specs.Stated.{stated_in}
+use Rattle.entities.specs.Entities.{is_action_type, shape_of, attributes_in, parent_fits, parents_fit, parents_in}
+use Rattle.entities.specs.Entities.{entity_stated_in}
 use Rattle.entity_worlds.specs.UidSets.{uid_set}
 use Rattle.entities.specs.Canonical.{canonical_json}
 use Rattle.entities.specs.Laws.{CanonicalIsRead, CanonicalNests, CanonicalIsOne, ParentsAscend}

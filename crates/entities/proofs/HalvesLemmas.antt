@@ -1,5 +1,7 @@
 -- The first environment that passes, looked for by halves.
-use Rattle.std.proofs.Common.{◌≡◌, ◌∙◌, ◌⊎◌, inl, inr, ℕ, zero, suc, ◌<◌, ◌≤◌, arith, Bool, true, false, List, [], ◌∷◌, map, length, get_or, Option, Some, None, option_map, slice_get, refl, sym, ap, ap₂, subst, ◌&&◌, if◌then◌else◌}
+use Rattle.std.proofs.Common.{◌≡◌, ◌∙◌, ◌⊎◌, inl, inr, ℕ, zero, suc, ◌<◌, ◌≤◌, arith, Bool, true, false, List, [], ◌∷◌}
+use Rattle.std.proofs.Common.{map, length, get_or, Option, Some, None, option_map, slice_get, refl, sym, ap, ap₂, subst}
+use Rattle.std.proofs.Common.{◌&&◌, if◌then◌else◌}
 use Rattle.std.specs.List.{AllByRecursion}
 use Rattle.std.specs.List.Sorted.{IsStrictlySortedBy, IsPartitionedBy, IsPartitionPoint}
 use Rattle.std.specs.Ordering.{ordering_index, ordering_then, is_eq, is_lt}
@@ -11,7 +13,7 @@ use Rattle.std.proofs.lemmas.Map.Text.{is_eq-slice_cmp}
 use Rattle.values.specs.declared.entity_uid.EntityUid.{EntityUid}
 use Rattle.values.specs.Names.{uid_cmp, text_cmp, uid_cmp-IsTotalOrder, text_cmp-IsTotalOrder, uid_cmp-IsAntisymmetric}
 use Rattle.schema_types.specs.Cedar.{Cedar}
-use Rattle.schema.specs.passed_on.schema_parts.{Place}
+use Rattle.schema.specs.schema_parts.declared.parts.Place.{Place}
 use Rattle.schema.specs.Schemas.{EnvironmentOf, place_cmp}
 use Rattle.entities.specs.declared.requests.Asked.{Asked}
 use Rattle.entities.specs.Contexts.{context_where, is_of_action, is_place}

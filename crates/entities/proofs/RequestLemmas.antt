@@ -1,5 +1,6 @@
 -- What has not the form of a request, and that one request is stated at most.
-use Rattle.std.proofs.Common.{◌≡◌, ◌∙◌, false, List, Option, Some, None, MatchOption, Result, Ok, Err, refl, sym, ap, subst}
+use Rattle.std.proofs.Common.{◌≡◌, ◌∙◌, false, List, Option, Some, None, MatchOption, Result, Ok, Err, refl, sym, ap}
+use Rattle.std.proofs.Common.{subst}
 use Rattle.std.specs.Prelude.{codes}
 use Rattle.serde_json.specs.Data.{Data}
 use Rattle.serde_json.specs.Find.{get}
@@ -7,8 +8,8 @@ use Rattle.json_words.specs.ReadsAs.{Fails}
 use Rattle.values.specs.declared.entity_uid.EntityUid.{EntityUid}
 use Rattle.values.specs.Fields.{Field}
 use Rattle.schema.specs.Schemas.{StatedSchema}
-use Rattle.uid_json.specs.Uids.{NamesEntity}
-use Rattle.uid_json.specs.Laws.{OneName}
+use Rattle.typed_values.specs.uid_json.Uids.{NamesEntity}
+use Rattle.typed_values.specs.uid_json.Laws.{OneName}
 use Rattle.entities.specs.declared.fault.EntityFault.{EntityFault}
 use Rattle.entities.specs.declared.fault.EntityFault.TheVariants.{NoMemory, BadShape}
 use Rattle.entities.specs.declared.requests.Asked.{Asked}

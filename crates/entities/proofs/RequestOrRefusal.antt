@@ -1,15 +1,16 @@
 -- A value states a request or is refused.
-use Rattle.std.proofs.Common.{◌≡◌, ◌⊎◌, ℕ, Bool, true, false, List, Option, Some, None, Result, Ok, Err, MatchOption, inl, inr, refl, codes}
+use Rattle.std.proofs.Common.{◌≡◌, ◌⊎◌, ℕ, Bool, true, false, List, Option, Some, None, Result, Ok, Err, MatchOption}
+use Rattle.std.proofs.Common.{inl, inr, refl, codes}
 use Rattle.serde_json.specs.Data.{Data}
 use Rattle.serde_json.specs.Find.{get, as_str}
 use Rattle.values.specs.declared.entity_uid.EntityUid.{EntityUid}
 use Rattle.values.specs.declared.request.Request.{Request}
 use Rattle.values.specs.Fields.{Field}
-use Rattle.uid_json.specs.passed_on.policy_grammar.{ReadFault}
-use Rattle.uid_json.specs.passed_on.policy_grammar.{IsUidText, IsUidRefused}
-use Rattle.uid_json.specs.passed_on.policy_grammar.{HasOneReading}
-use Rattle.uid_json.specs.Uids.{IsUid, NamesEntity, IsRead, uid_in}
-use Rattle.uid_json.specs.Laws.{UidsAreFound}
+use Rattle.typed_values.specs.text_trees.declared.fault.ReadFault.{ReadFault}
+use Rattle.typed_values.specs.policy_grammar.PolicyText.{IsUidText, IsUidRefused}
+use Rattle.typed_values.specs.policy_grammar.Unique.{HasOneReading}
+use Rattle.typed_values.specs.uid_json.Uids.{IsUid, NamesEntity, IsRead, uid_in}
+use Rattle.typed_values.specs.uid_json.Laws.{UidsAreFound}
 use Rattle.schema.specs.Schemas.{StatedSchema}
 use Rattle.entities.specs.declared.fault.EntityFault.{EntityFault}
 use Rattle.entities.specs.declared.fault.EntityFault.TheVariants.{BadShape}

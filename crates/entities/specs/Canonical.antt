@@ -6,7 +6,7 @@ use Rattle.serde_json.specs.Data.{Data, object, array, no_members, member}
 use Rattle.serde_json.specs.View.{items_of}
 use Rattle.serde_json.specs.Written.{compact_text}
 use Rattle.values.specs.Values.{fields_of}
-use Rattle.uid_json.specs.Uids.{uid_json}
+use Rattle.typed_values.specs.uid_json.Uids.{uid_json}
 use Rattle.typed_values.specs.Canonical.{fields_json}
 use Rattle.entity_worlds.specs.declared.entity.Entity.{Entity}
 

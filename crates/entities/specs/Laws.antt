@@ -4,7 +4,7 @@ use Rattle.serde_json.specs.Data.{Data, depth}
 use Rattle.serde_json.specs.Read.{max_depth}
 use Rattle.values.specs.declared.entity_uid.EntityUid.{EntityUid}
 use Rattle.values.specs.declared.request.Request.{Request}
-use Rattle.ancestor_closure.specs.Hierarchy.{IsAscending}
+use Rattle.entity_worlds.specs.ancestor_closure.Hierarchy.{IsAscending}
 use Rattle.schema.specs.Schemas.{StatedSchema}
 use Rattle.schema.specs.WellFormed.{IsActionType, IsWellFormed}
 use Rattle.entities.specs.declared.fault.EntityFault.{EntityFault}

@@ -10,7 +10,7 @@ use Rattle.json_words.specs.ReadsAs.{◌>>=◌, or_fault}
 use Rattle.values.specs.declared.entity_uid.EntityUid.{EntityUid}
 use Rattle.values.specs.declared.request.Request.{Request}
 use Rattle.values.specs.Fields.{Field}
-use Rattle.uid_json.specs.Uids.{NamesEntity}
+use Rattle.typed_values.specs.uid_json.Uids.{NamesEntity}
 use Rattle.schema.specs.Schemas.{StatedSchema}
 use Rattle.typed_values.specs.Typing.{record_in}
 use Rattle.entities.specs.declared.fault.EntityFault.{EntityFault}

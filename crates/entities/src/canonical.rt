@@ -4,16 +4,16 @@ ghost use Rattle.serde_json.specs.Data.{array, depth};
 ghost use Rattle.serde_json.specs.Read.{max_depth};
 ghost use Rattle.serde_json.specs.View.{items_of};
 ghost use Rattle.json_words.specs.Json.{json_of};
-ghost use Rattle.uid_json.specs.Tokens.{AppendsValue};
-ghost use Rattle.uid_json.specs.Uids.{uid_json};
+ghost use Rattle.typed_values.specs.uid_json.Tokens.{AppendsValue};
+ghost use Rattle.typed_values.specs.uid_json.Uids.{uid_json};
 ghost use Rattle.entities.specs.Canonical.{canonical_json, canonical_text};
 
 use entity_worlds::Entity;
 use json::Writer;
 use plain::NoMemory;
 use std::alloc::Global;
+use typed_values::uid_json::write_uid;
 use typed_values::write_record;
-use uid_json::write_uid;
 use values::EntityUid;
 
 /// So much room is made at once for a text, in bytes: most entities take less, and their texts do not grow.

@@ -11,6 +11,7 @@ use json_words::only_keys;
 use plain::Items;
 use serde_json::Value;
 use std::alloc::Global;
+use typed_values::uid_json;
 use values::EntityUid;
 
 /// The name of an entity and its parents, as its JSON states them.

@@ -4,14 +4,16 @@ use Rattle.std.specs.Prelude.{Contains, IsSome, ◌⊎◌, ◌↔◌, option_map
 use Rattle.std.specs.Ordering.{is_eq}
 use Rattle.values.specs.declared.entity_uid.EntityUid.{EntityUid}
 use Rattle.values.specs.Names.{uid_cmp}
-use Rattle.ancestor_closure.specs.Hierarchy.{Parents, Path, Above, IsOnCycle, no_parents, with_parents}
-use Rattle.ancestor_closure.specs.Deciding.{Contains-here, Contains-there, Contains-none, same_uid, Above-joined}
-use Rattle.schema_names.specs.Qualifying.{FoundAction, FoundSchema}
-use Rattle.schema.specs.Schemas.{StatedSchema, Answers, IsAction, action_parents}
-use Rattle.schema.specs.Schemas.{with_actions as with_action_parents}
-use Rattle.schema.specs.WellFormed.{IsWellFormed}
-use Rattle.evaluator.specs.Operators.{world_of}
-use Rattle.entity_worlds.specs.Entities.{EntityMap, kept_parents, attributes_of, action_or, with_actions, world_in}
+use Rattle.authoriser.specs.ancestor_closure.Hierarchy.{Parents, Path, Above, IsOnCycle, no_parents, with_parents}
+use Rattle.authoriser.specs.ancestor_closure.Deciding.{Contains-here, Contains-there, Contains-none, same_uid}
+use Rattle.authoriser.specs.ancestor_closure.Deciding.{Above-joined}
+use Rattle.entities.specs.schema_names.Qualifying.{FoundAction, FoundSchema}
+use Rattle.entities.specs.schema.Schemas.{StatedSchema, Answers, IsAction, action_parents}
+use Rattle.entities.specs.schema.Schemas.{with_actions as with_action_parents}
+use Rattle.entities.specs.schema.WellFormed.{IsWellFormed}
+use Rattle.authoriser.specs.evaluator.Operators.{world_of}
+use Rattle.entities.specs.entity_worlds.Entities.{EntityMap, kept_parents, attributes_of, action_or, with_actions}
+use Rattle.entities.specs.entity_worlds.Entities.{world_in}
 use Rattle.entity_store.specs.Laws.{by_member_of, stated_world, closed_world}
 use Rattle.entity_store.specs.Alike.{LeadAlike, HaveSameCycles}
 use Rattle.entity_store.proofs.PutLemmas.{cycles_alike}

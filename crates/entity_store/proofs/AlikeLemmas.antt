@@ -5,22 +5,23 @@ use Rattle.values.specs.declared.entity_uid.EntityUid.{EntityUid}
 use Rattle.values.specs.declared.request.Request.{Request}
 use Rattle.values.specs.Values.{PlainValue}
 use Rattle.values.specs.Fields.{Field}
-use Rattle.ancestor_closure.specs.Hierarchy.{Parents, IsIn}
-use Rattle.ancestor_closure.specs.LeastCycle.{HasNoCycle, IsLeastCycle}
-use Rattle.expressions.specs.declared.expr.Expr.{Expr}
-use Rattle.expressions.specs.declared.operator.Binary.{Binary}
-use Rattle.evaluator.specs.declared.fault.EvalFault.{EvalFault}
-use Rattle.evaluator.specs.Outcomes.{EvaluationResult, IsTruthOf, holds, fails}
-use Rattle.evaluator.specs.Operators as op
-use Rattle.evaluator.specs.Operators.{World, world_of, BinaryGives, FieldGives, HasGives}
-use Rattle.evaluator.specs.Evaluation as rule
-use Rattle.evaluator.specs.Evaluation.{EvaluatesTo, TestFails, EachEvaluatesTo}
-use Rattle.policy_grammar.specs.Whole.{expression_of}
-use Rattle.policy_grammar.specs.declared.policy.Policy.{Policy}
+use Rattle.authoriser.specs.ancestor_closure.Hierarchy.{Parents, IsIn}
+use Rattle.authoriser.specs.ancestor_closure.LeastCycle.{HasNoCycle, IsLeastCycle}
+use Rattle.authoriser.specs.expressions.declared.expr.Expr.{Expr}
+use Rattle.authoriser.specs.expressions.declared.operator.Binary.{Binary}
+use Rattle.authoriser.specs.evaluator.declared.fault.EvalFault.{EvalFault}
+use Rattle.authoriser.specs.evaluator.Outcomes.{EvaluationResult, IsTruthOf, holds, fails}
+use Rattle.authoriser.specs.evaluator.Operators as op
+use Rattle.authoriser.specs.evaluator.Operators.{World, world_of, BinaryGives, FieldGives, HasGives}
+use Rattle.authoriser.specs.evaluator.Evaluation as rule
+use Rattle.authoriser.specs.evaluator.Evaluation.{EvaluatesTo, TestFails, EachEvaluatesTo}
+use Rattle.authoriser.specs.policy_grammar.Whole.{expression_of}
+use Rattle.authoriser.specs.policy_grammar.declared.policy.Policy.{Policy}
 use Rattle.authoriser.specs.declared.outcome.Outcome.{Outcome as Verdict}
 use Rattle.authoriser.specs.declared.outcome.Outcome.TheVariants.{Satisfied, NotSatisfied, Errs}
 use Rattle.authoriser.specs.declared.answer.Answer.{Answer}
-use Rattle.authoriser.specs.Answers.{NamedPolicy, PolicyOutcome, PolicyEvaluatesTo, ArePolicyOutcomes, IsCycleDenial, IsAnswer}
+use Rattle.authoriser.specs.Answers.{NamedPolicy, PolicyOutcome, PolicyEvaluatesTo, ArePolicyOutcomes, IsCycleDenial}
+use Rattle.authoriser.specs.Answers.{IsAnswer}
 use Rattle.entity_store.specs.Alike.{LeadAlike, HaveSameCycles, GiveAlike, AnswerAlike}
 
 told : {P Q : Type 0} (r : EvaluationResult) → (P → Q) → (Q → P) → IsTruthOf P r → IsTruthOf Q r

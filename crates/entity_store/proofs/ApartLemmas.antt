@@ -1,18 +1,19 @@
 -- No entity that is read under a schema is one of its actions.
-use Rattle.std.proofs.Common.{◌≡◌, ◌∙◌, ℕ, List, Option, Some, None, Result, Ok, Err, Bool, true, false, not, refl, sym, subst}
+use Rattle.std.proofs.Common.{◌≡◌, ◌∙◌, ℕ, List, Option, Some, None, Result, Ok, Err, Bool, true, false, not, refl, sym}
+use Rattle.std.proofs.Common.{subst}
 use Rattle.std.specs.Prelude.{codes, ⊤, IsSome}
 use Rattle.serde_json.specs.Data.{Data}
 use Rattle.serde_json.specs.Find.{get}
 use Rattle.values.specs.declared.entity_uid.EntityUid.{EntityUid}
 use Rattle.values.specs.Fields.{Field}
 use Rattle.json_words.specs.ReadsAs.{◌>>=◌, or_fault, demand}
-use Rattle.schema_types.specs.Cedar.{Cedar}
-use Rattle.schema.specs.Schemas.{StatedSchema}
-use Rattle.schema.specs.WellFormed.{IsWellFormed, StatedSchemasAreWellFormed}
-use Rattle.entities.specs.passed_on.typed_values.{record_in}
+use Rattle.entities.specs.schema_types.Cedar.{Cedar}
+use Rattle.entities.specs.schema.Schemas.{StatedSchema}
+use Rattle.entities.specs.schema.WellFormed.{IsWellFormed, StatedSchemasAreWellFormed}
+use Rattle.entities.specs.typed_values.Typing.{record_in}
 use Rattle.entities.specs.declared.fault.EntityFault.{EntityFault}
 use Rattle.entities.specs.declared.fault.EntityFault.TheVariants.{UnknownType, ActionEntity, TagsLeftOut}
-use Rattle.entity_worlds.specs.declared.entity.Entity.{Entity}
+use Rattle.entities.specs.entity_worlds.declared.entity.Entity.{Entity}
 use Rattle.entities.specs.declared.stated.StatedEntity.{StatedEntity}
 use Rattle.entities.specs.Faults.{told}
 use Rattle.entities.specs.Stated.{stated_in, is_absent_or_empty, or_empty}

@@ -5,8 +5,8 @@ use Rattle.std.specs.Prelude.{Contains, ◌⊎◌, ◌↔◌, if◌then◌else�
 use Rattle.std.specs.Ordering.{is_eq}
 use Rattle.values.specs.declared.entity_uid.EntityUid.{EntityUid}
 use Rattle.values.specs.Names.{uid_cmp}
-use Rattle.ancestor_closure.specs.Hierarchy.{Parents, Path, Above, IsOnCycle, with_parents}
-use Rattle.ancestor_closure.specs.Deciding.{same_uid, Above-joined}
+use Rattle.authoriser.specs.ancestor_closure.Hierarchy.{Parents, Path, Above, IsOnCycle, with_parents}
+use Rattle.authoriser.specs.ancestor_closure.Deciding.{same_uid, Above-joined}
 
 module _ (P Q : Parents) (edge : (b c : EntityUid) → Contains (P b) c → Contains (Q b) c)
     (jump : (b c : EntityUid) → Contains (Q b) c → Above P c b) (u : EntityUid) (ps : List EntityUid) where

@@ -2,11 +2,11 @@
 use Rattle.std.proofs.Common.{List, [], ◌∷◌, Option, Some, None, ◌≡◌, refl, subst}
 use Rattle.std.specs.Prelude.{ℕ, Contains, IsSome}
 use Rattle.values.specs.declared.entity_uid.EntityUid.{EntityUid}
-use Rattle.ancestor_closure.specs.Hierarchy.{Path}
-use Rattle.ancestor_closure.specs.Deciding.{Contains-none}
-use Rattle.schema.specs.Schemas.{StatedSchema, IsSchemaOf, action_parents}
-use Rattle.schema.specs.WellFormed.{IsWellFormed}
-use Rattle.entity_worlds.specs.Apart.{AreApart, edges_of, stated_parents}
+use Rattle.authoriser.specs.ancestor_closure.Hierarchy.{Path}
+use Rattle.authoriser.specs.ancestor_closure.Deciding.{Contains-none}
+use Rattle.entities.specs.schema.Schemas.{StatedSchema, IsSchemaOf, action_parents}
+use Rattle.entities.specs.schema.WellFormed.{IsWellFormed}
+use Rattle.entities.specs.entity_worlds.Apart.{AreApart, edges_of, stated_parents}
 use Rattle.entity_store.proofs.ActionLemmas.{is_declared}
 
 module _ (bytes : List ℕ) (v : StatedSchema) (stated : IsSchemaOf bytes v) where

@@ -2,12 +2,12 @@
 use Rattle.std.specs.Prelude.{◌↔◌, List}
 use Rattle.values.specs.declared.entity_uid.EntityUid.{EntityUid}
 use Rattle.values.specs.declared.request.Request.{Request}
-use Rattle.ancestor_closure.specs.Hierarchy.{Parents, Above}
-use Rattle.ancestor_closure.specs.LeastCycle.{IsClosedWalk}
-use Rattle.expressions.specs.declared.expr.Expr.{Expr}
-use Rattle.evaluator.specs.Outcomes.{EvaluationResult}
-use Rattle.evaluator.specs.Operators.{World}
-use Rattle.evaluator.specs.Evaluation.{EvaluatesTo}
+use Rattle.authoriser.specs.ancestor_closure.Hierarchy.{Parents, Above}
+use Rattle.authoriser.specs.ancestor_closure.LeastCycle.{IsClosedWalk}
+use Rattle.authoriser.specs.expressions.declared.expr.Expr.{Expr}
+use Rattle.authoriser.specs.evaluator.Outcomes.{EvaluationResult}
+use Rattle.authoriser.specs.evaluator.Operators.{World}
+use Rattle.authoriser.specs.evaluator.Evaluation.{EvaluatesTo}
 use Rattle.authoriser.specs.declared.answer.Answer.{Answer}
 use Rattle.authoriser.specs.Answers.{NamedPolicy, IsAnswer}
 

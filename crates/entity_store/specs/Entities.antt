@@ -2,10 +2,10 @@
 -- Source: Cedar reference guide 4.0, "Schema JSON format", `actions` and `memberOf`.
 use Rattle.std.specs.Prelude.{List, map}
 use Rattle.values.specs.declared.entity_uid.EntityUid.{EntityUid}
-use Rattle.schema.specs.SchemaEntries.{SchemaEntries}
-use Rattle.schema.specs.Views.{parents_at}
-use Rattle.entity_worlds.specs.Entities.{EntityMap, Actions, AreActions, with_actions}
-use Rattle.entity_worlds.specs.Listing.{keys_are_found}
+use Rattle.entities.specs.schema.SchemaEntries.{SchemaEntries}
+use Rattle.entities.specs.schema.Views.{parents_at}
+use Rattle.entities.specs.entity_worlds.Entities.{EntityMap, Actions, AreActions, with_actions}
+use Rattle.entities.specs.entity_worlds.Listing.{keys_are_found}
 
 -- The actions of a schema, of each as parents those that its `memberOf` states. That edges to all that is above an
 -- action would lead to the same entities, and every answer be the same, is a law of this crate.

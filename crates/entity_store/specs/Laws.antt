@@ -5,14 +5,14 @@ use Rattle.std.specs.Prelude.{◌≡◌, ◌↔◌, ℕ, List, Option, None, Ok,
 use Rattle.serde_json.specs.Data.{Data}
 use Rattle.values.specs.declared.entity_uid.EntityUid.{EntityUid}
 use Rattle.values.specs.Fields.{Field}
-use Rattle.ancestor_closure.specs.Hierarchy.{Parents, IsOnCycle, with_parents}
-use Rattle.ancestor_closure.specs.LeastCycle.{HasNoCycle}
-use Rattle.evaluator.specs.Operators.{World, world_of}
-use Rattle.schema_names.specs.Qualifying.{FoundSchema}
-use Rattle.schema.specs.Schemas.{StatedSchema, IsSchemaOf, action_parents}
-use Rattle.entity_worlds.specs.declared.entity.Entity.{Entity}
+use Rattle.authoriser.specs.ancestor_closure.Hierarchy.{Parents, IsOnCycle, with_parents}
+use Rattle.authoriser.specs.ancestor_closure.LeastCycle.{HasNoCycle}
+use Rattle.authoriser.specs.evaluator.Operators.{World, world_of}
+use Rattle.entities.specs.schema_names.Qualifying.{FoundSchema}
+use Rattle.entities.specs.schema.Schemas.{StatedSchema, IsSchemaOf, action_parents}
+use Rattle.entities.specs.entity_worlds.declared.entity.Entity.{Entity}
 use Rattle.entities.specs.Entities.{entity_stated_in}
-use Rattle.entity_worlds.specs.Entities.{EntityMap, Actions, with_actions, world_in}
+use Rattle.entities.specs.entity_worlds.Entities.{EntityMap, Actions, with_actions, world_in}
 use Rattle.entity_store.specs.Alike.{LeadAlike, HaveSameCycles, GiveAlike, AnswerAlike}
 
 -- Whatever the edges are, each expression gives the same where they lead to the same; and each answer is the same where

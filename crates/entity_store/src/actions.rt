@@ -2,8 +2,8 @@
 ghost use Rattle.std.specs.Prelude.{◌≡◌};
 ghost use Rattle.entity_store.specs.Entities.{actions_under, action_uids, actions_are_listed};
 
-use entity_worlds::ActionSource;
-use schema::{Schema, stated_schemas_are_well_formed};
+use entities::entity_worlds::ActionSource;
+use entities::schema::{Schema, stated_schemas_are_well_formed};
 use std::marker::Model;
 use values::EntityUid;
 
@@ -15,8 +15,8 @@ pub struct SchemaActions<'a> {
 
 impl<'a> Model for SchemaActions<'a> {
     ghost use Rattle.std.specs.Coded.{codes};
-    ghost use Rattle.schema_types.specs.contracts.cedar.CedarType as cedar;
-    ghost use Rattle.schema.specs.SchemaEntries.{SchemaEntries};
+    ghost use Rattle.entities.specs.schema_types.contracts.cedar.CedarType as cedar;
+    ghost use Rattle.entities.specs.schema.SchemaEntries.{SchemaEntries};
 
     ghost Value = { SchemaEntries };
 

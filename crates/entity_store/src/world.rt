@@ -2,8 +2,9 @@
 ghost use Rattle.std.specs.Prelude.{◌≡◌};
 
 use crate::actions::SchemaActions;
-use entity_worlds::EntitySource;
-use schema::Schema;
+use entities::entity_worlds;
+use entities::entity_worlds::EntitySource;
+use entities::schema::Schema;
 use std::alloc::Global;
 
 /// The entities of a source, and the actions of a schema.

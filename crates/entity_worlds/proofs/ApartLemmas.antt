@@ -3,9 +3,9 @@
 use Rattle.std.proofs.Common.{◌≡◌, List, [], ◌∷◌, Option, Some, None, refl, sym, subst}
 use Rattle.std.specs.Prelude.{Contains, IsSome, MatchOption}
 use Rattle.values.specs.declared.entity_uid.EntityUid.{EntityUid}
-use Rattle.ancestor_closure.specs.Hierarchy.{Parents, Path, Above, IsOnCycle, AreOnCycles}
-use Rattle.ancestor_closure.specs.Deciding.{Contains-none, Above-joined}
-use Rattle.ancestor_closure.specs.LeastCycle.{IsClosedWalk, HasNoCycle, IsLeastCycle}
+use Rattle.evaluator.specs.ancestor_closure.Hierarchy.{Parents, Path, Above, IsOnCycle, AreOnCycles}
+use Rattle.evaluator.specs.ancestor_closure.Deciding.{Contains-none, Above-joined}
+use Rattle.evaluator.specs.ancestor_closure.LeastCycle.{IsClosedWalk, HasNoCycle, IsLeastCycle}
 use Rattle.entity_worlds.specs.declared.data.EntityData.{EntityData}
 use Rattle.entity_worlds.specs.Apart.{AreApart, edges_of, stated_parents}
 use Rattle.entity_worlds.specs.Entities.{EntityMap, Actions, no_actions, kept_parents, action_or, with_actions}

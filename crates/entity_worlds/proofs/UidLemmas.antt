@@ -1,5 +1,6 @@
 -- Uids of two lists, sorted and each once.
-use Rattle.std.proofs.Common.{◌≡◌, ◌∙◌, ◌↔◌, List, [], ◌∷◌, ◌++◌, Bool, true, false, cond, Ordering, Less, Equal, Greater, refl, sym, ap, subst, inl, inr}
+use Rattle.std.proofs.Common.{◌≡◌, ◌∙◌, ◌↔◌, List, [], ◌∷◌, ◌++◌, Bool, true, false, cond, Ordering, Less, Equal}
+use Rattle.std.proofs.Common.{Greater, refl, sym, ap, subst, inl, inr}
 use Rattle.std.specs.Prelude.{Contains, IsTrue, IfOk, Result, Ok, Err, ◌⊎◌, ◌&&◌}
 use Rattle.std.specs.Borrow.{Bor}
 use Rattle.std.specs.List.{AllByRecursion, dedup_from, dedup}
@@ -10,8 +11,8 @@ use Rattle.std.proofs.lemmas.List.Kept.{Contains-dedup, Contains-from_dedup}
 use Rattle.std.proofs.lemmas.List.Sorted.{Contains-permutation, IsPermutation-sym, IsPermutation-map}
 use Rattle.values.specs.declared.entity_uid.EntityUid.{EntityUid}
 use Rattle.values.specs.Names.{text_cmp, uid_cmp, uid_cmp-IsTotalOrder}
-use Rattle.ancestor_closure.specs.Hierarchy.{IsAscending, AscendingListsAreOne, names}
-use Rattle.ancestor_closure.specs.Deciding.{Contains-here, Contains-there, Contains-cases}
+use Rattle.evaluator.specs.ancestor_closure.Hierarchy.{IsAscending, AscendingListsAreOne, names}
+use Rattle.evaluator.specs.ancestor_closure.Deciding.{Contains-here, Contains-there, Contains-cases}
 use Rattle.entity_worlds.specs.UidSets.{put_uid, uid_set}
 use Rattle.entity_worlds.specs.Entities.{Actions, AreActions, uids_with}
 use Rattle.entity_worlds.specs.Listing.{set_has, in_first, in_second, in_either}

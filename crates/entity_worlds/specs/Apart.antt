@@ -3,8 +3,8 @@
 -- member of are actions, and none is above itself: bytes that declare such an action state no schema.
 use Rattle.std.specs.Prelude.{List, [], Contains, Option, Some, None, IsSome}
 use Rattle.values.specs.declared.entity_uid.EntityUid.{EntityUid}
-use Rattle.ancestor_closure.specs.Hierarchy.{Parents}
-use Rattle.ancestor_closure.specs.LeastCycle.{HasNoCycle}
+use Rattle.evaluator.specs.ancestor_closure.Hierarchy.{Parents}
+use Rattle.evaluator.specs.ancestor_closure.LeastCycle.{HasNoCycle}
 use Rattle.entity_worlds.specs.Entities.{Actions}
 
 -- the parents of an action; what is no action has none

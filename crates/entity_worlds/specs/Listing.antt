@@ -7,9 +7,10 @@ use Rattle.std.specs.BTreeMap.{is_at}
 use Rattle.std.specs.Ordering.{match_ordering}
 use Rattle.values.specs.declared.entity_uid.EntityUid.{EntityUid}
 use Rattle.values.specs.Names.{uid_cmp, uid_cmp-IsAntisymmetric}
-use Rattle.ancestor_closure.specs.Decided.{is_same, HaveAllParents, Decides, reaches}
-use Rattle.ancestor_closure.specs.Deciding.{Contains-here, Contains-there, Contains-none, Contains-cases, same_uid}
-use Rattle.ancestor_closure.specs.Deciding.{same_self, decided}
+use Rattle.evaluator.specs.ancestor_closure.Decided.{is_same, HaveAllParents, Decides, reaches}
+use Rattle.evaluator.specs.ancestor_closure.Deciding.{Contains-here, Contains-there, Contains-none, Contains-cases}
+use Rattle.evaluator.specs.ancestor_closure.Deciding.{same_uid}
+use Rattle.evaluator.specs.ancestor_closure.Deciding.{same_self, decided}
 use Rattle.entity_worlds.specs.UidSets.{put_uid, uid_set}
 use Rattle.entity_worlds.specs.declared.data.EntityData.{EntityData}
 use Rattle.entity_worlds.specs.Entities.{EntityMap, AreListed, kept_parents, Actions, AreActions, action_or}

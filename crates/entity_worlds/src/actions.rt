@@ -1,7 +1,7 @@
 //! Actions, as whoever declares them lends them.
 ghost use Rattle.std.specs.Prelude.{◌≡◌, [], List, None, option_map};
 ghost use Rattle.values.specs.declared.entity_uid.EntityUid.{EntityUid};
-ghost use Rattle.ancestor_closure.specs.Hierarchy.{IsAscending};
+ghost use Rattle.evaluator.specs.ancestor_closure.Hierarchy.{IsAscending};
 ghost use Rattle.entity_worlds.specs.Apart.{AreApart};
 ghost use Rattle.entity_worlds.specs.Entities.{Actions, AreActions, no_actions};
 ghost use Rattle.entity_worlds.specs.Listing.{none_is_an_action};

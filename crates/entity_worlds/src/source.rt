@@ -1,7 +1,7 @@
 //! Entities, as whoever keeps them lends them.
 ghost use Rattle.std.specs.Prelude.{◌≡◌, List, IfOk, option_map};
 ghost use Rattle.values.specs.declared.entity_uid.EntityUid.{EntityUid};
-ghost use Rattle.ancestor_closure.specs.Hierarchy.{IsAscending, names};
+ghost use Rattle.evaluator.specs.ancestor_closure.Hierarchy.{IsAscending, names};
 ghost use Rattle.entity_worlds.specs.Entities.{EntityMap, AreListed, attributes_of, kept_parents};
 
 use plain::NoMemory;

@@ -1,11 +1,11 @@
 //! The uids of entities and of actions.
 ghost use Rattle.std.specs.Prelude.{◌≡◌, ◌↔◌, ◌⊎◌, Contains, IfOk};
 ghost use Rattle.values.specs.declared.entity_uid.EntityUid.{EntityUid as PlainUid};
-ghost use Rattle.ancestor_closure.specs.Hierarchy.{IsAscending, names};
+ghost use Rattle.evaluator.specs.ancestor_closure.Hierarchy.{IsAscending, names};
 ghost use Rattle.entity_worlds.specs.Entities.{uids_with};
 
 use crate::actions::ActionSource;
-use ancestor_closure::laws::ascending_lists_are_one;
+use evaluator::ancestor_closure::laws::ascending_lists_are_one;
 use plain::NoMemory;
 use values::{EntityUid, entity_uids_are_ordered};
 

@@ -1,6 +1,6 @@
 //! The entities that requests are decided over.
 ghost use Rattle.std.specs.Prelude.{◌≡◌, Option, Some, None, option_map};
-ghost use Rattle.ancestor_closure.specs.Decided.{reaches};
+ghost use Rattle.evaluator.specs.ancestor_closure.Decided.{reaches};
 ghost use Rattle.entity_worlds.specs.Entities.{with_actions, uids_with, attributes_of, kept_parents};
 ghost use Rattle.entity_worlds.specs.Listing.{all_listed, all_decided};
 
@@ -8,10 +8,10 @@ use crate::actions::ActionSource;
 use crate::alone::Alone;
 use crate::source::EntitySource;
 use crate::uids::with_actions;
-use ancestor_closure::{
+use evaluator::Lookup;
+use evaluator::ancestor_closure::{
     Ancestry, Graph, ParentsOf, ancestors_of, is_above, least_cycle, on_cycles,
 };
-use evaluator::Lookup;
 use plain::NoMemory;
 use std::alloc::Global;
 use std::marker::Model;

@@ -1,17 +1,19 @@
 -- What operators, `in`, fields and `has` compute is what their rules give, where a test decides who is above whom.
-use Rattle.std.specs.Prelude.{◌≡◌, ◌⊎◌, ◌↔◌, ℕ, ℤ, neg_ℤ, ◌+ℤ◌, ◌-ℤ◌, ◌*ℤ◌, int_lt, int_le, List, [], ◌∷◌, map, Bool, not, ◌||◌, IsTrue, Contains, Option, Some, None, is_some, Ok, Err, refl}
+use Rattle.std.specs.Prelude.{◌≡◌, ◌⊎◌, ◌↔◌, ℕ, ℤ, neg_ℤ, ◌+ℤ◌, ◌-ℤ◌, ◌*ℤ◌, int_lt, int_le, List, [], ◌∷◌, map, Bool}
+use Rattle.std.specs.Prelude.{not, ◌||◌, IsTrue, Contains, Option, Some, None, is_some, Ok, Err, refl}
 use Rattle.std.proofs.Common.{inl, inr, ap, sym, subst, ◌∙◌}
 use Rattle.std.specs.List.{list_any, list_all}
 use Rattle.std.specs.Ordering.{is_eq}
 use Rattle.std.specs.Str.{bytes_eq}
 use Rattle.std.proofs.lemmas.Slice.Eq.{bytes_eq-Decides}
-use Rattle.extensions.specs.Network.{Network}
-use Rattle.extensions.specs.DecimalText.{IsDecimalText}
-use Rattle.extensions.specs.NetworkText.{IsNetworkText}
+use Rattle.values.specs.extensions.Network.{Network}
+use Rattle.values.specs.extensions.DecimalText.{IsDecimalText}
+use Rattle.values.specs.extensions.NetworkText.{IsNetworkText}
 use Rattle.values.specs.declared.entity_uid.EntityUid.{EntityUid}
 use Rattle.values.specs.Fields.{Field, find_field}
 use Rattle.values.specs.Sets.{has_member}
-use Rattle.values.specs.Values.{PlainValue, PlainValues, PlainFields, boolean, long, text, entity, set, record_of, decimal, ipaddr, list_of, pairs_of}
+use Rattle.values.specs.Values.{PlainValue, PlainValues, PlainFields, boolean, long, text, entity, set, record_of}
+use Rattle.values.specs.Values.{decimal, ipaddr, list_of, pairs_of}
 use Rattle.values.specs.ValueOrder.{value_cmp}
 use Rattle.values.specs.Laws.{SetsHoldTheirMembers, SetsAreOneList, MemberTestIsExact}
 use Rattle.plain.proofs.Members.{Contains-here, Contains-there, Contains-cases, Contains-none}
@@ -23,13 +25,19 @@ use Rattle.expressions.specs.declared.operator.Binary.{Binary}
 use Rattle.expressions.specs.declared.operator.Binary.TheVariants as ops
 use Rattle.evaluation_steps.specs.Attributes.{found_among}
 use Rattle.evaluator.specs.declared.fault.EvalFault.TheVariants.{AttrDoesNotExist, TypeError}
-use Rattle.evaluator.specs.Outcomes.{EvaluationResult, boolean_in, long_in, text_in, entity_uid_in, members_in, record_fields_in}
+use Rattle.evaluator.specs.Outcomes.{EvaluationResult, boolean_in, long_in, text_in, entity_uid_in, members_in}
+use Rattle.evaluator.specs.Outcomes.{record_fields_in}
 use Rattle.ancestor_closure.specs.Hierarchy.{IsIn}
 use Rattle.evaluator.specs.Operators as rule
-use Rattle.evaluator.specs.Operators.{World, UnaryGives, BinaryGives, FieldGives, HasGives, NumbersGive, TakesNumbers, TakesSets}
-use Rattle.evaluator.specs.inner.Computing.{DecidedWorld, decided_world, and_then, demanded, two_demanded, truth, bounded, apply_unary, is_in, in_members, in_value, numbers, sets, apply_binary, found_or, value_or_fault, attribute, field_of, has_attribute, has_field}
+use Rattle.evaluator.specs.Operators.{World, UnaryGives, BinaryGives, FieldGives, HasGives, NumbersGive, TakesNumbers}
+use Rattle.evaluator.specs.Operators.{TakesSets}
+use Rattle.evaluator.specs.inner.Computing.{DecidedWorld, decided_world, and_then, demanded, two_demanded, truth}
+use Rattle.evaluator.specs.inner.Computing.{bounded, apply_unary, is_in, in_members, in_value, numbers, sets}
+use Rattle.evaluator.specs.inner.Computing.{apply_binary, found_or, value_or_fault, attribute, field_of, has_attribute}
+use Rattle.evaluator.specs.inner.Computing.{has_field}
 use Rattle.evaluator.proofs.ByKind.{boolean_cases, long_cases, text_cases, entity_cases, members_cases}
-use Rattle.evaluator.proofs.Telling.{tells_test, test_is, int_lt_iff, int_le_iff, comes_bounded, bounded_is, value_eq_iff, any_iff, all_iff, is_in_iff}
+use Rattle.evaluator.proofs.Telling.{tells_test, test_is, int_lt_iff, int_le_iff, comes_bounded, bounded_is}
+use Rattle.evaluator.proofs.Telling.{value_eq_iff, any_iff, all_iff, is_in_iff}
 
 -- a text is of one decimal at most, and of one address at most
 abbrev pub OneDecimal : Type 0

@@ -1,24 +1,28 @@
 -- What calls with one operand and with two compute is what their rules give.
 use Rattle.std.specs.Prelude.{◌≡◌, ◌⊎◌, ℕ, ℤ, int_lt, int_le, List, Bool, not, Some, None, Ok, Err, refl}
 use Rattle.std.proofs.Common.{inl, inr, ap}
-use Rattle.extensions.specs.Network.{Network, loopback_v4, loopback_v6, multicast_v4, multicast_v6}
-use Rattle.extensions.specs.DecimalText.{IsDecimalText}
-use Rattle.extensions.specs.NetworkText.{IsNetworkText}
+use Rattle.values.specs.extensions.Network.{Network, loopback_v4, loopback_v6, multicast_v4, multicast_v6}
+use Rattle.values.specs.extensions.DecimalText.{IsDecimalText}
+use Rattle.values.specs.extensions.NetworkText.{IsNetworkText}
 use Rattle.values.specs.Values.{PlainValue, text, decimal, ipaddr}
 use Rattle.expressions.specs.declared.operator.UnaryCall.{UnaryCall}
 use Rattle.expressions.specs.declared.operator.UnaryCall.TheVariants as one
 use Rattle.expressions.specs.declared.operator.BinaryCall.{BinaryCall}
 use Rattle.expressions.specs.declared.operator.BinaryCall.TheVariants as two
 use Rattle.evaluator.specs.declared.fault.EvalFault.TheVariants.{TypeError, ExtensionError}
-use Rattle.extensions.specs.Decided.{Decided, told}
-use Rattle.extensions.specs.TextsDecided.{decimal_text_decided, network_text_decided, in_either_decided, within_decided}
+use Rattle.values.specs.extensions.Decided.{Decided, told}
+use Rattle.values.specs.extensions.TextsDecided.{decimal_text_decided, network_text_decided, in_either_decided}
+use Rattle.values.specs.extensions.TextsDecided.{within_decided}
 use Rattle.evaluator.specs.Outcomes.{EvaluationResult, IsTruthOf, text_in, decimal_in, network_in}
 use Rattle.evaluator.specs.Operators as rule
-use Rattle.evaluator.specs.Operators.{UnaryCallGives, BinaryCallGives, IsTested, TakesAddress, AreCompared, TakesDecimals}
-use Rattle.evaluator.specs.inner.Computing.{and_then, demanded, truth, decimal_read, network_read, is_v4, tested, apply_unary_call, decimals, networks, apply_binary_call}
+use Rattle.evaluator.specs.Operators.{UnaryCallGives, BinaryCallGives, IsTested, TakesAddress, AreCompared}
+use Rattle.evaluator.specs.Operators.{TakesDecimals}
+use Rattle.evaluator.specs.inner.Computing.{and_then, demanded, truth, decimal_read, network_read, is_v4, tested}
+use Rattle.evaluator.specs.inner.Computing.{apply_unary_call, decimals, networks, apply_binary_call}
 use Rattle.evaluator.proofs.ByKind.{text_cases, decimal_cases, network_cases}
 use Rattle.evaluator.proofs.Telling.{told_iff, tells_test, test_is, int_lt_iff, int_le_iff, v4_iff, v6_iff}
-use Rattle.evaluator.proofs.Applied.{OneDecimal, OneNetwork, LawsBelow, other, other_is, others_are, two_others, two_others_are}
+use Rattle.evaluator.proofs.Applied.{OneDecimal, OneNetwork, LawsBelow, other, other_is, others_are, two_others}
+use Rattle.evaluator.proofs.Applied.{two_others_are}
 
 -- ---- calls with one operand
 

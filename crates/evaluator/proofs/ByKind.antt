@@ -1,6 +1,6 @@
 -- Values by kind: those of one kind, and the others.
 use Rattle.std.specs.Prelude.{◌≡◌, ℕ, ℤ, List, Bool, None, refl}
-use Rattle.extensions.specs.Network.{Network}
+use Rattle.values.specs.extensions.Network.{Network}
 use Rattle.values.specs.declared.entity_uid.EntityUid.{EntityUid}
 use Rattle.values.specs.Values.{PlainValue, PlainValues, boolean, long, text, entity, set, record_of, decimal, ipaddr}
 use Rattle.evaluator.specs.Outcomes.{boolean_in, long_in, text_in, entity_uid_in, members_in, decimal_in, network_in}

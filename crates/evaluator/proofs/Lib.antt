@@ -8,3 +8,5 @@ pub mod Telling
 pub mod TestsTold
 pub mod Variables
 pub mod Wanting
+-- crates below, passed on to those above
+pub use Rattle.expressions.proofs as of_expressions

@@ -1,14 +1,15 @@
 -- Tests that compute tell what they stand for.
-use Rattle.std.specs.Prelude.{◌≡◌, ◌⊎◌, ◌↔◌, ℤ, pos, neg_ℤ, ◌≤ℤ◌, ◌<ℤ◌, int_lt, int_le, List, [], ◌∷◌, Bool, true, false, not, ◌||◌, if◌then◌else◌, IsTrue, Contains, FitsSigned, Ok, Err, refl}
+use Rattle.std.specs.Prelude.{◌≡◌, ◌⊎◌, ◌↔◌, ℤ, pos, neg_ℤ, ◌≤ℤ◌, ◌<ℤ◌, int_lt, int_le, List, [], ◌∷◌, Bool, true}
+use Rattle.std.specs.Prelude.{false, not, ◌||◌, if◌then◌else◌, IsTrue, Contains, FitsSigned, Ok, Err, refl}
 use Rattle.std.proofs.Common.{inl, inr, arith, sym, subst}
 use Rattle.std.proofs.lemmas.Bool.{false≢true, and_from, and_parts, cases_Bool}
 use Rattle.std.proofs.lemmas.Int.{ints}
 use Rattle.std.specs.Int.{w64}
 use Rattle.std.specs.List.{list_any, list_all}
 use Rattle.std.specs.Ordering.{is_eq}
-use Rattle.extensions.specs.Decided.{Decided, told}
-use Rattle.extensions.specs.declared.ip_net.Version.{Version}
-use Rattle.extensions.specs.declared.ip_net.Version.TheVariants.{V4, V6}
+use Rattle.values.specs.extensions.Decided.{Decided, told}
+use Rattle.values.specs.extensions.declared.ip_net.Version.{Version}
+use Rattle.values.specs.extensions.declared.ip_net.Version.TheVariants.{V4, V6}
 use Rattle.values.specs.declared.entity_uid.EntityUid.{EntityUid}
 use Rattle.values.specs.Names.{uid_cmp, uid_cmp-IsTotalOrder, uid_cmp-IsAntisymmetric}
 use Rattle.values.specs.Uids.{equal-is}

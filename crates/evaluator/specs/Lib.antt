@@ -5,3 +5,6 @@ pub mod Laws
 pub mod Operators
 pub mod Outcomes
 pub mod inner
+-- crates below, passed on to those above
+pub use Rattle.ancestor_closure.specs as ancestor_closure
+pub use Rattle.expressions.specs as expressions

@@ -3,10 +3,10 @@
 -- (`apply₁`, `apply₂`, `inₑ`, `inₛ`, `hasAttr`, `getAttr`) and ExtFun.lean (`call`).
 use Rattle.std.specs.Prelude.{◌≡◌, ◌⊎◌, ⊤, ℕ, ℤ, neg_ℤ, ◌+ℤ◌, ◌-ℤ◌, ◌*ℤ◌, ◌≤ℤ◌, ◌<ℤ◌, List, map, Bool, false, not}
 use Rattle.std.specs.Prelude.{Contains, Option, Some, None, IsSome, Ok, Err}
-use Rattle.extensions.specs.declared.ip_net.Version.TheVariants.{V4, V6}
-use Rattle.extensions.specs.Network.{Network, IsWithin, loopback_v4, loopback_v6, multicast_v4, multicast_v6}
-use Rattle.extensions.specs.DecimalText.{IsDecimalText}
-use Rattle.extensions.specs.NetworkText.{IsNetworkText}
+use Rattle.values.specs.extensions.declared.ip_net.Version.TheVariants.{V4, V6}
+use Rattle.values.specs.extensions.Network.{Network, IsWithin, loopback_v4, loopback_v6, multicast_v4, multicast_v6}
+use Rattle.values.specs.extensions.DecimalText.{IsDecimalText}
+use Rattle.values.specs.extensions.NetworkText.{IsNetworkText}
 use Rattle.values.specs.declared.entity_uid.EntityUid.{EntityUid}
 use Rattle.values.specs.Fields.{Field, find_field}
 use Rattle.values.specs.Values.{PlainValue, PlainValues, PlainFields, boolean, long, text, entity, set, record_of}

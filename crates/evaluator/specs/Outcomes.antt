@@ -2,7 +2,7 @@
 -- Source: Cedar reference guide 4.0, "Operators and functions".
 use Rattle.std.specs.Prelude.{ℕ, ℤ, List, Bool, true, false, Option, Some, None, Result, Ok, Err, FitsSigned}
 use Rattle.std.specs.Int.{w64}
-use Rattle.extensions.specs.Network.{Network}
+use Rattle.values.specs.extensions.Network.{Network}
 use Rattle.values.specs.declared.entity_uid.EntityUid.{EntityUid}
 use Rattle.values.specs.Fields.{Field}
 use Rattle.values.specs.Values.{PlainValue, boolean, long, text, entity, set, record_of, decimal, ipaddr, list_of}

@@ -1,9 +1,9 @@
 //! What the functions and methods of extensions give on values.
 ghost use Rattle.std.specs.Prelude.{◌≡◌, not, int_lt, int_le};
-ghost use Rattle.extensions.specs.Network.{loopback_v4, loopback_v6, multicast_v4, multicast_v6};
-ghost use Rattle.extensions.specs.Decided.{told};
-ghost use Rattle.extensions.specs.TextsDecided.{decimal_text_decided, network_text_decided, in_either_decided};
-ghost use Rattle.extensions.specs.TextsDecided.{within_decided};
+ghost use Rattle.values.specs.extensions.Network.{loopback_v4, loopback_v6, multicast_v4, multicast_v6};
+ghost use Rattle.values.specs.extensions.Decided.{told};
+ghost use Rattle.values.specs.extensions.TextsDecided.{decimal_text_decided, network_text_decided, in_either_decided};
+ghost use Rattle.values.specs.extensions.TextsDecided.{within_decided};
 ghost use Rattle.evaluator.specs.inner.Computing.{decimal_read, network_read, is_v4, apply_unary_call};
 ghost use Rattle.evaluator.specs.inner.Computing.{apply_binary_call, and_then, truth};
 
@@ -11,10 +11,10 @@ use crate::borrowed_or_owned::BorrowedOrOwned;
 use crate::fault::EvalFault;
 use crate::operands::{decimals_of, network_of, text_of};
 use expressions::{BinaryCall, UnaryCall};
-use extensions::decimal::one_decimal_a_text;
-use extensions::ip_net::one_network_a_text;
-use extensions::{Decimal, IpNet};
 use values::Value;
+use values::extensions::decimal::one_decimal_a_text;
+use values::extensions::ip_net::one_network_a_text;
+use values::extensions::{Decimal, IpNet};
 
 /// Returns the decimal of a text.
 fn read_decimal(text: &str) -> Result<Value, EvalFault>

@@ -17,6 +17,7 @@ mod question;
 mod steps;
 mod testing;
 
+pub use ancestor_closure;
 pub use borrowed_or_owned::BorrowedOrOwned;
 pub use evaluating::{evaluate, evaluate_asked, evaluate_asked_test, evaluate_test};
 pub use fault::EvalFault;

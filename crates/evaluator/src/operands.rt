@@ -6,8 +6,8 @@ ghost use Rattle.evaluator.specs.inner.Computing.{demanded, two_demanded};
 
 use crate::borrowed_or_owned::BorrowedOrOwned;
 use crate::fault::EvalFault;
-use extensions::{Decimal, IpNet};
 use plain::Text;
+use values::extensions::{Decimal, IpNet};
 use values::{BorrowedKind, EntityUid, Set};
 
 /// Returns the value as a boolean.

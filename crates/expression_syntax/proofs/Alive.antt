@@ -1,25 +1,27 @@
 -- Operators, relations and levels derive something, and what each begins with.
 use Rattle.std.proofs.Common.{ℕ, zero, suc, Bool, [], refl}
-use Rattle.policy_tokens.specs.declared.token.TokenKind.{TokenKind}
-use Rattle.policy_tokens.specs.declared.token.TokenKind.TheVariants as k
-use Rattle.token_readers.specs.declared.tree.PathTree.{PathTree}
+use Rattle.expression_trees.specs.policy_tokens.declared.token.TokenKind.{TokenKind}
+use Rattle.expression_trees.specs.policy_tokens.declared.token.TokenKind.TheVariants as k
+use Rattle.expression_trees.specs.token_readers.declared.tree.PathTree.{PathTree}
 use Rattle.expression_trees.specs.declared.tree.Comparison.{Comparison}
 use Rattle.expression_trees.specs.declared.tree.Sign.{Sign}
 use Rattle.expression_trees.specs.declared.tree.Term.{Term}
 use Rattle.expression_trees.specs.declared.tree.ExprTree.{ExprTree}
 use Rattle.expression_trees.specs.declared.tree.ExprTree.TheVariants as tree
-use Rattle.token_readers.specs.Kinds.{Kinds, only, same_kind}
-use Rattle.token_readers.specs.Lang.{Lang}
-use Rattle.token_readers.specs.Lang as lang
+use Rattle.expression_trees.specs.token_readers.Kinds.{Kinds, only, same_kind}
+use Rattle.expression_trees.specs.token_readers.Lang.{Lang}
+use Rattle.expression_trees.specs.token_readers.Lang as lang
 use Rattle.expression_syntax.specs.Expressions as g
 use Rattle.expression_syntax.specs.Expressions.{sign_of, comparison_of, signs, comparisons, is_in}
 use Rattle.expression_syntax.specs.ExpressionReading.{firsts}
-use Rattle.token_readers.specs.Reads.{Begins}
-use Rattle.token_readers.proofs.Forms.{Starts, starts_of, starts_both, starts_or, alive_empty, alive_right}
-use Rattle.token_readers.proofs.Steps.{go, go_one, alive_maybe, starts_one, wide_starts}
-use Rattle.token_readers.proofs.Openings.{Opening, opening_one, starts_gate}
+use Rattle.expression_trees.specs.token_readers.Reads.{Begins}
+use Rattle.expression_trees.proofs.of_token_readers.Forms.{Starts, starts_of, starts_both, starts_or, alive_empty}
+use Rattle.expression_trees.proofs.of_token_readers.Forms.{alive_right}
+use Rattle.expression_trees.proofs.of_token_readers.Steps.{go, go_one, alive_maybe, starts_one, wide_starts}
+use Rattle.expression_trees.proofs.of_token_readers.Openings.{Opening, opening_one, starts_gate}
 use Rattle.expression_syntax.proofs.SymbolRules.{starts_symbol}
-use Rattle.expression_syntax.proofs.AlivePrimaries.{primary_firsts, minus_firsts, unary_firsts, alive_chain, starts_chain, term_of, alive_member, starts_member}
+use Rattle.expression_syntax.proofs.AlivePrimaries.{primary_firsts, minus_firsts, unary_firsts, alive_chain}
+use Rattle.expression_syntax.proofs.AlivePrimaries.{starts_chain, term_of, alive_member, starts_member}
 
 module _ (o : Bool) (E : Lang ExprTree) where
   -- ---- operators

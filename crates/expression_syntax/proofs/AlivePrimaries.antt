@@ -1,9 +1,9 @@
 -- Literals, keys, lists, primaries and what is asked of them derive something, and what each begins with.
 use Rattle.std.proofs.Common.{◌≡◌, ◌⊎◌, inl, inr, Bool, true, false, List, [], ◌∷◌, Option, Some, None, refl}
-use Rattle.policy_tokens.specs.declared.token.Token.{Token}
-use Rattle.policy_tokens.specs.declared.token.TokenKind.{TokenKind}
-use Rattle.policy_tokens.specs.declared.token.TokenKind.TheVariants as k
-use Rattle.token_readers.specs.declared.tree.PathTree.{PathTree}
+use Rattle.expression_trees.specs.policy_tokens.declared.token.Token.{Token}
+use Rattle.expression_trees.specs.policy_tokens.declared.token.TokenKind.{TokenKind}
+use Rattle.expression_trees.specs.policy_tokens.declared.token.TokenKind.TheVariants as k
+use Rattle.expression_trees.specs.token_readers.declared.tree.PathTree.{PathTree}
 use Rattle.expression_trees.specs.declared.tree.Access.{Access}
 use Rattle.expression_trees.specs.declared.tree.Entry.{Entry}
 use Rattle.expression_trees.specs.declared.tree.KeyTree.{KeyTree}
@@ -12,19 +12,20 @@ use Rattle.expression_trees.specs.declared.tree.Sign.{Sign}
 use Rattle.expression_trees.specs.declared.tree.Term.{Term}
 use Rattle.expression_trees.specs.declared.tree.ExprTree.{ExprTree}
 use Rattle.expression_trees.specs.declared.tree.ExprTree.TheVariants as tree
-use Rattle.token_readers.specs.Kinds.{Kinds, only, same_kind}
-use Rattle.token_readers.specs.Lang.{Lang}
-use Rattle.token_readers.specs.Lang as lang
-use Rattle.token_readers.specs.Grammar.{identifiers, path, uid}
+use Rattle.expression_trees.specs.token_readers.Kinds.{Kinds, only, same_kind}
+use Rattle.expression_trees.specs.token_readers.Lang.{Lang}
+use Rattle.expression_trees.specs.token_readers.Lang as lang
+use Rattle.expression_trees.specs.token_readers.Grammar.{identifiers, path, uid}
 use Rattle.expression_syntax.specs.Expressions as g
 use Rattle.expression_syntax.specs.Expressions.{known, boolean_of, variable_of, booleans, keys, joined, accessed}
 use Rattle.expression_syntax.specs.ExpressionReading.{openers, access_firsts}
-use Rattle.token_readers.specs.Reads.{Begins}
-use Rattle.token_readers.proofs.Forms.{Starts, starts_of, starts_both, starts_or, alive_empty, alive_left, alive_right, begin_of}
-use Rattle.token_readers.proofs.Many.{alive_many}
-use Rattle.token_readers.proofs.Steps.{go, go_one, starts_one, wide_starts}
-use Rattle.token_readers.proofs.NameRules.{starts_path, starts_uid}
-use Rattle.token_readers.proofs.Openings.{Opening, opening_one, opening_then, starts_gate}
+use Rattle.expression_trees.specs.token_readers.Reads.{Begins}
+use Rattle.expression_trees.proofs.of_token_readers.Forms.{Starts, starts_of, starts_both, starts_or, alive_empty}
+use Rattle.expression_trees.proofs.of_token_readers.Forms.{alive_left, alive_right, begin_of}
+use Rattle.expression_trees.proofs.of_token_readers.Many.{alive_many}
+use Rattle.expression_trees.proofs.of_token_readers.Steps.{go, go_one, starts_one, wide_starts}
+use Rattle.expression_trees.proofs.of_token_readers.NameRules.{starts_path, starts_uid}
+use Rattle.expression_trees.proofs.of_token_readers.Openings.{Opening, opening_one, opening_then, starts_gate}
 use Rattle.expression_syntax.proofs.SymbolRules.{starts_symbol, begin_symbol}
 use Rattle.expression_syntax.proofs.NamedRules.{rest_of_call}
 

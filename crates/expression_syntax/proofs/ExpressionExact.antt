@@ -1,19 +1,20 @@
 -- An expression as a whole list of tokens.
 use Rattle.std.proofs.Common.{ℕ, zero, suc, ◌-◌, ◌≤◌, ◌<◌, List, [], Result, length, refl, arith}
-use Rattle.policy_tokens.specs.declared.token.Token.{Token}
-use Rattle.token_readers.specs.declared.fault.Halt.{Halt}
+use Rattle.expression_trees.specs.policy_tokens.declared.token.Token.{Token}
+use Rattle.expression_trees.specs.token_readers.declared.fault.Halt.{Halt}
 use Rattle.expression_trees.specs.declared.tree.ExprTree.{ExprTree}
 use Rattle.expression_syntax.specs.Expressions as g
 use Rattle.expression_syntax.specs.Expressions.{nesting_limit, any_expr}
 use Rattle.expression_syntax.specs.ExpressionReading as r
-use Rattle.token_readers.specs.ParsesTo.{ParsesTo}
-use Rattle.token_readers.specs.Reads.{Begins, HasOneTree, HasOneAnswerWithin, ReadsWithin, ReadsFrontWithin, OpensNextLevel, whole_of}
-use Rattle.token_readers.proofs.Rules.{Rule}
+use Rattle.expression_trees.specs.token_readers.ParsesTo.{ParsesTo}
+use Rattle.expression_trees.specs.token_readers.Reads.{Begins, HasOneTree, HasOneAnswerWithin, ReadsWithin}
+use Rattle.expression_trees.specs.token_readers.Reads.{ReadsFrontWithin, OpensNextLevel, whole_of}
+use Rattle.expression_trees.proofs.of_token_readers.Rules.{Rule}
 use Rattle.expression_syntax.proofs.Follows.{after_expr}
 use Rattle.expression_syntax.proofs.ExpressionRules.{expr_rule, alive_expr}
 use Rattle.expression_syntax.proofs.ExpressionFirm.{firm_expr}
-use Rattle.token_readers.proofs.Depths as depths
-use Rattle.token_readers.proofs.Depths.{levels}
+use Rattle.expression_trees.proofs.of_token_readers.Depths as depths
+use Rattle.expression_trees.proofs.of_token_readers.Depths.{levels}
 
 rule : (n m : ℕ) → n ≤ m → Rule (g.expr (suc n)) (g.expr (suc m)) (r.expr (suc n)) (r.expr (suc m)) after_expr (levels (suc n) (suc m))
 rule n m le = expr_rule (suc n) (suc m) (omega (arith, le)) refl

@@ -1,34 +1,40 @@
 -- A reader of expressions stops for a token at no place at which an expression ends.
 use Rattle.std.proofs.Common.{◌≡◌, inl, inr, ℕ, zero, suc, Bool, true, refl, arith}
-use Rattle.policy_tokens.specs.declared.token.TokenKind.{TokenKind}
-use Rattle.policy_tokens.specs.declared.token.TokenKind.TheVariants as k
-use Rattle.token_readers.specs.declared.tree.PathTree.{PathTree}
+use Rattle.expression_trees.specs.policy_tokens.declared.token.TokenKind.{TokenKind}
+use Rattle.expression_trees.specs.policy_tokens.declared.token.TokenKind.TheVariants as k
+use Rattle.expression_trees.specs.token_readers.declared.tree.PathTree.{PathTree}
 use Rattle.expression_trees.specs.declared.tree.Comparison.{Comparison}
 use Rattle.expression_trees.specs.declared.tree.Sign.{Sign}
 use Rattle.expression_trees.specs.declared.tree.ExprTree.{ExprTree}
 use Rattle.expression_trees.specs.declared.tree.ExprTree.TheVariants as tree
-use Rattle.token_readers.specs.Kinds.{only, same_kind}
-use Rattle.token_readers.specs.Lang.{Lang}
-use Rattle.token_readers.specs.Lang as lang
+use Rattle.expression_trees.specs.token_readers.Kinds.{only, same_kind}
+use Rattle.expression_trees.specs.token_readers.Lang.{Lang}
+use Rattle.expression_trees.specs.token_readers.Lang as lang
 use Rattle.expression_syntax.specs.Expressions as g
-use Rattle.expression_syntax.specs.Expressions.{sign_of, comparison_of, patterns, signs, comparisons, is_in, is_positive}
-use Rattle.token_readers.specs.Reading.{Parser, ◌>>=◌, ◌>>◌, pure, token, optional}
+use Rattle.expression_syntax.specs.Expressions.{sign_of, comparison_of, patterns, signs, comparisons, is_in}
+use Rattle.expression_syntax.specs.Expressions.{is_positive}
+use Rattle.expression_trees.specs.token_readers.Reading.{Parser, ◌>>=◌, ◌>>◌, pure, token, optional}
 use Rattle.expression_syntax.specs.ExpressionReading as r
-use Rattle.token_readers.proofs.Sets.{apart}
-use Rattle.token_readers.proofs.Rules.{Rule, Levels}
-use Rattle.token_readers.proofs.Forms.{Leads, of, nothing, leads_starts, leads_empty, leads_or, leads_both, leads_maybe, alive_empty, begin_of}
-use Rattle.token_readers.proofs.More.{maybe}
-use Rattle.token_readers.proofs.Steps.{none, seq, free, behind, go, leads_first, starts_one}
-use Rattle.token_readers.proofs.NameRules.{path_rule, alive_path}
-use Rattle.token_readers.proofs.NamesFirm.{firm_path}
-use Rattle.token_readers.proofs.Depths.{levels}
-use Rattle.token_readers.proofs.Openings.{opening_one, opening_then, giving}
-use Rattle.token_readers.proofs.Firm.{Firm, Fresh, solid_starts, fresh_opening, firm_free, firm_nothing, firm_same, firm_seq, firm_token, firm_giving, firm_or, firm_gated, firm_maybe}
-use Rattle.expression_syntax.proofs.Follows.{after_member, after_product, after_sum, after_relation, after_conjunction, after_expr}
+use Rattle.expression_trees.proofs.of_token_readers.Sets.{apart}
+use Rattle.expression_trees.proofs.of_token_readers.Rules.{Rule, Levels}
+use Rattle.expression_trees.proofs.of_token_readers.Forms.{Leads, of, nothing, leads_starts, leads_empty, leads_or}
+use Rattle.expression_trees.proofs.of_token_readers.Forms.{leads_both, leads_maybe, alive_empty, begin_of}
+use Rattle.expression_trees.proofs.of_token_readers.More.{maybe}
+use Rattle.expression_trees.proofs.of_token_readers.Steps.{none, seq, free, behind, go, leads_first, starts_one}
+use Rattle.expression_trees.proofs.of_token_readers.NameRules.{path_rule, alive_path}
+use Rattle.expression_trees.proofs.of_token_readers.NamesFirm.{firm_path}
+use Rattle.expression_trees.proofs.of_token_readers.Depths.{levels}
+use Rattle.expression_trees.proofs.of_token_readers.Openings.{opening_one, opening_then, giving}
+use Rattle.expression_trees.proofs.of_token_readers.Firm.{Firm, Fresh, solid_starts, fresh_opening, firm_free}
+use Rattle.expression_trees.proofs.of_token_readers.Firm.{firm_nothing, firm_same, firm_seq, firm_token, firm_giving}
+use Rattle.expression_trees.proofs.of_token_readers.Firm.{firm_or, firm_gated, firm_maybe}
+use Rattle.expression_syntax.proofs.Follows.{after_member, after_product, after_sum, after_relation, after_conjunction}
+use Rattle.expression_syntax.proofs.Follows.{after_expr}
 use Rattle.expression_syntax.proofs.AlivePrimaries.{primary_firsts, minus_firsts, unary_firsts, term_of}
 use Rattle.expression_syntax.proofs.SymbolRules.{symbol_rule, opening_symbol}
 use Rattle.expression_syntax.proofs.PrimaryRules.{Inner}
-use Rattle.expression_syntax.proofs.ExpressionRules.{not_or_minuses, same_unary, one_deeper, expr_rule, starts_expr, alive_expr}
+use Rattle.expression_syntax.proofs.ExpressionRules.{not_or_minuses, same_unary, one_deeper, expr_rule, starts_expr}
+use Rattle.expression_syntax.proofs.ExpressionRules.{alive_expr}
 use Rattle.expression_syntax.proofs.PrimaryFirm.{firm_chain, firm_member}
 use Rattle.expression_syntax.proofs.AlivePrimaries as primaries
 use Rattle.expression_syntax.proofs.Alive as a

@@ -1,28 +1,32 @@
 -- Expressions are read exactly, at each depth of nesting: operators, relations and levels.
 use Rattle.std.proofs.Common.{◌≡◌, inl, inr, ℕ, zero, suc, ◌≤◌, ◌<◌, Bool, true, List, [], refl, ap, arith}
-use Rattle.policy_tokens.specs.declared.token.Token.{Token}
-use Rattle.policy_tokens.specs.declared.token.TokenKind.{TokenKind}
-use Rattle.policy_tokens.specs.declared.token.TokenKind.TheVariants as k
+use Rattle.expression_trees.specs.policy_tokens.declared.token.Token.{Token}
+use Rattle.expression_trees.specs.policy_tokens.declared.token.TokenKind.{TokenKind}
+use Rattle.expression_trees.specs.policy_tokens.declared.token.TokenKind.TheVariants as k
 use Rattle.expression_trees.specs.declared.tree.ExprTree.{ExprTree}
 use Rattle.expression_trees.specs.declared.tree.ExprTree.TheVariants as tree
-use Rattle.token_readers.specs.Kinds.{Kinds, only, same_kind}
-use Rattle.token_readers.specs.Lang.{Lang}
-use Rattle.token_readers.specs.Lang as lang
+use Rattle.expression_trees.specs.token_readers.Kinds.{Kinds, only, same_kind}
+use Rattle.expression_trees.specs.token_readers.Lang.{Lang}
+use Rattle.expression_trees.specs.token_readers.Lang as lang
 use Rattle.expression_syntax.specs.Expressions as g
-use Rattle.expression_syntax.specs.Expressions.{sign_of, comparison_of, patterns, signs, comparisons, is_in, is_positive}
-use Rattle.token_readers.specs.Reading.{Parser, Why, Unexpected, TooDeep, ◌>>◌}
+use Rattle.expression_syntax.specs.Expressions.{sign_of, comparison_of, patterns, signs, comparisons, is_in}
+use Rattle.expression_syntax.specs.Expressions.{is_positive}
+use Rattle.expression_trees.specs.token_readers.Reading.{Parser, Why, Unexpected, TooDeep, ◌>>◌}
 use Rattle.expression_syntax.specs.ExpressionReading as r
 use Rattle.expression_syntax.specs.ExpressionReading.{firsts}
-use Rattle.token_readers.specs.Reads.{Begins}
-use Rattle.token_readers.proofs.Sets.{apart, within}
-use Rattle.token_readers.proofs.Rules.{Rule, Levels, Keeps}
-use Rattle.token_readers.proofs.Forms.{Starts, Leads, of, nothing, or, leads_starts, leads_empty, leads_or, leads_both, leads_maybe, alive_empty, begin_of}
-use Rattle.token_readers.proofs.More.{same, Same, maybe, gated}
-use Rattle.token_readers.proofs.Steps.{none, seq, free, behind, go, leads_first, leads_one, starts_one}
-use Rattle.token_readers.proofs.NameRules.{path_rule, alive_path}
-use Rattle.token_readers.proofs.Depths.{levels}
-use Rattle.token_readers.proofs.Openings.{giving, opening_gate}
-use Rattle.expression_syntax.proofs.Follows.{after_member, after_product, after_sum, after_relation, after_conjunction, after_expr}
+use Rattle.expression_trees.specs.token_readers.Reads.{Begins}
+use Rattle.expression_trees.proofs.of_token_readers.Sets.{apart, within}
+use Rattle.expression_trees.proofs.of_token_readers.Rules.{Rule, Levels, Keeps}
+use Rattle.expression_trees.proofs.of_token_readers.Forms.{Starts, Leads, of, nothing, or, leads_starts, leads_empty}
+use Rattle.expression_trees.proofs.of_token_readers.Forms.{leads_or, leads_both, leads_maybe, alive_empty, begin_of}
+use Rattle.expression_trees.proofs.of_token_readers.More.{same, Same, maybe, gated}
+use Rattle.expression_trees.proofs.of_token_readers.Steps.{none, seq, free, behind, go, leads_first, leads_one}
+use Rattle.expression_trees.proofs.of_token_readers.Steps.{starts_one}
+use Rattle.expression_trees.proofs.of_token_readers.NameRules.{path_rule, alive_path}
+use Rattle.expression_trees.proofs.of_token_readers.Depths.{levels}
+use Rattle.expression_trees.proofs.of_token_readers.Openings.{giving, opening_gate}
+use Rattle.expression_syntax.proofs.Follows.{after_member, after_product, after_sum, after_relation, after_conjunction}
+use Rattle.expression_syntax.proofs.Follows.{after_expr}
 use Rattle.expression_syntax.proofs.SymbolRules.{symbol_rule}
 use Rattle.expression_syntax.proofs.AlivePrimaries.{primary_firsts, minus_firsts, unary_firsts, term_of}
 use Rattle.expression_syntax.proofs.PrimaryRules.{Inner, chain, key_rule, member_rule}

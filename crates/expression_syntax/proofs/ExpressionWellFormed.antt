@@ -1,27 +1,31 @@
 -- An expression's tree is made of the tokens that derive it: one rule a production.
 use Rattle.std.proofs.Common.{ℕ, zero, suc, Bool, List, [], ◌∷◌, Option, Some, None, Result, Ok, Err, IfOk}
 use Rattle.std.specs.List.{AllByRecursion}
-use Rattle.policy_tokens.specs.declared.token.TokenKind.{TokenKind}
-use Rattle.policy_tokens.specs.declared.token.TokenKind.TheVariants as k
-use Rattle.policy_tokens.specs.declared.token.Token.{Token}
-use Rattle.token_readers.specs.declared.tree.PathTree.{PathTree}
+use Rattle.expression_trees.specs.policy_tokens.declared.token.TokenKind.{TokenKind}
+use Rattle.expression_trees.specs.policy_tokens.declared.token.TokenKind.TheVariants as k
+use Rattle.expression_trees.specs.policy_tokens.declared.token.Token.{Token}
+use Rattle.expression_trees.specs.token_readers.declared.tree.PathTree.{PathTree}
 use Rattle.expression_trees.specs.declared.tree.Access.TheVariants as access
 use Rattle.expression_trees.specs.declared.tree.ExprTree.{ExprTree}
 use Rattle.expression_trees.specs.declared.tree.KeyTree.TheVariants.{Word, Quoted}
 use Rattle.expression_trees.specs.declared.tree.ExprTree.TheVariants as tree
-use Rattle.token_readers.specs.Kinds.{only}
-use Rattle.token_readers.specs.Lang.{Lang}
-use Rattle.token_readers.specs.Lang as lang
-use Rattle.token_readers.specs.Grammar.{identifiers}
-use Rattle.token_readers.specs.Reads.{ReadsWithin}
-use Rattle.token_readers.specs.declared.fault.SyntaxFault.{SyntaxFault}
+use Rattle.expression_trees.specs.token_readers.Kinds.{only}
+use Rattle.expression_trees.specs.token_readers.Lang.{Lang}
+use Rattle.expression_trees.specs.token_readers.Lang as lang
+use Rattle.expression_trees.specs.token_readers.Grammar.{identifiers}
+use Rattle.expression_trees.specs.token_readers.Reads.{ReadsWithin}
+use Rattle.expression_trees.specs.token_readers.declared.fault.SyntaxFault.{SyntaxFault}
 use Rattle.expression_syntax.specs.Expressions as g
-use Rattle.expression_syntax.specs.Expressions.{boolean_of, variable_of, sign_of, comparison_of, patterns, joined, accessed, is_in, is_positive, expr}
+use Rattle.expression_syntax.specs.Expressions.{boolean_of, variable_of, sign_of, comparison_of, patterns, joined}
+use Rattle.expression_syntax.specs.Expressions.{accessed, is_in, is_positive, expr}
 use Rattle.expression_trees.specs.WellFormed.{WellFormedToken, WellFormedPath, WellFormedExpr}
-use Rattle.token_readers.proofs.WellFormedLemmas.{Makes, token_in, nothing_in, both_in, past_in, giving_in, or_in, maybe_in, many_in, gate_in, path_in, uid_in}
+use Rattle.expression_trees.proofs.of_token_readers.WellFormedLemmas.{Makes, token_in, nothing_in, both_in, past_in}
+use Rattle.expression_trees.proofs.of_token_readers.WellFormedLemmas.{giving_in, or_in, maybe_in, many_in, gate_in}
+use Rattle.expression_trees.proofs.of_token_readers.WellFormedLemmas.{path_in, uid_in}
 use Rattle.expression_syntax.proofs.SymbolRules.{symbol_in}
 use Rattle.expression_syntax.proofs.TreeWellFormed as form
-use Rattle.expression_syntax.proofs.TreeWellFormed.{Tree, Trees, WellFormedKey, WellFormedAccess, WellFormedEntry, WellFormedTerm}
+use Rattle.expression_syntax.proofs.TreeWellFormed.{Tree, Trees, WellFormedKey, WellFormedAccess, WellFormedEntry}
+use Rattle.expression_syntax.proofs.TreeWellFormed.{WellFormedTerm}
 
 module _ (all : List Token) where
   joined_stands : {A : Type 0} (make : ExprTree → List A → ExprTree) (P : A → Type 0) → ((x : ExprTree) (more : List A) → Tree all x → AllByRecursion P more → Tree all (make x more))

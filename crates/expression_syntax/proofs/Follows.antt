@@ -1,7 +1,7 @@
 -- What goes on with each production.
 use Rattle.std.proofs.Common.{true, false, ◌||◌}
-use Rattle.policy_tokens.specs.declared.token.TokenKind.TheVariants as k
-use Rattle.token_readers.specs.Kinds.{Kinds}
+use Rattle.expression_trees.specs.policy_tokens.declared.token.TokenKind.TheVariants as k
+use Rattle.expression_trees.specs.token_readers.Kinds.{Kinds}
 use Rattle.expression_syntax.specs.Expressions.{comparisons, keys}
 use Rattle.expression_syntax.specs.ExpressionReading.{firsts}
 

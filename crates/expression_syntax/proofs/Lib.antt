@@ -13,3 +13,6 @@ pub mod Unfollowed
 pub mod TreeWellFormed
 pub mod ExpressionWellFormed
 pub mod Published
+-- crates below, passed on to those above
+pub use Rattle.expression_trees.proofs.of_policy_tokens
+pub use Rattle.expression_trees.proofs.of_token_readers

@@ -1,25 +1,28 @@
 -- Variables, Uids and calls are read exactly, though they begin alike.
-use Rattle.std.proofs.Common.{◌≡◌, inl, inr, Bool, true, false, List, [], ◌∷◌, ◌++◌, Option, Some, None, is_some, refl, sym, ap, subst, ◌∙◌, append_assoc, append-nil}
-use Rattle.policy_tokens.specs.declared.token.Token.{Token}
-use Rattle.policy_tokens.specs.declared.token.TokenKind.TheVariants as k
-use Rattle.token_readers.specs.declared.tree.PathTree.{PathTree}
+use Rattle.std.proofs.Common.{◌≡◌, inl, inr, Bool, true, false, List, [], ◌∷◌, ◌++◌, Option, Some, None, is_some, refl}
+use Rattle.std.proofs.Common.{sym, ap, subst, ◌∙◌, append_assoc, append-nil}
+use Rattle.expression_trees.specs.policy_tokens.declared.token.Token.{Token}
+use Rattle.expression_trees.specs.policy_tokens.declared.token.TokenKind.TheVariants as k
+use Rattle.expression_trees.specs.token_readers.declared.tree.PathTree.{PathTree}
 use Rattle.expression_trees.specs.declared.tree.ExprTree.{ExprTree}
 use Rattle.expression_trees.specs.declared.tree.ExprTree.TheVariants as tree
 use Rattle.expression_trees.specs.declared.tree.Variable.{Variable}
-use Rattle.token_readers.specs.Kinds.{only, same_kind}
-use Rattle.token_readers.specs.Lang.{Lang}
-use Rattle.token_readers.specs.Lang as lang
-use Rattle.token_readers.specs.Grammar.{identifiers, path, uid}
+use Rattle.expression_trees.specs.token_readers.Kinds.{only, same_kind}
+use Rattle.expression_trees.specs.token_readers.Lang.{Lang}
+use Rattle.expression_trees.specs.token_readers.Lang as lang
+use Rattle.expression_trees.specs.token_readers.Grammar.{identifiers, path, uid}
 use Rattle.expression_syntax.specs.Expressions as g
 use Rattle.expression_syntax.specs.Expressions.{known, variable_of}
-use Rattle.token_readers.specs.Reads.{Begins}
-use Rattle.token_readers.specs.Parsing.{pieces, is_text, ended_by, ends, uid_tree}
+use Rattle.expression_trees.specs.token_readers.Reads.{Begins}
+use Rattle.expression_trees.specs.token_readers.Parsing.{pieces, is_text, ended_by, ends, uid_tree}
 use Rattle.expression_syntax.specs.ExpressionReading.{path_of, variable_at}
-use Rattle.token_readers.proofs.Sets.{is_within}
-use Rattle.token_readers.proofs.Forms.{same_self, Leads, leads_empty}
-use Rattle.token_readers.proofs.Many.{looped}
-use Rattle.token_readers.proofs.More.{Same}
-use Rattle.token_readers.proofs.NameRules.{path_word, segment, segments, closed, snoc, ends-snoc, word_as, as_word, no_text, not_ended, closed_is, to_uid, from_uid}
+use Rattle.expression_trees.proofs.of_token_readers.Sets.{is_within}
+use Rattle.expression_trees.proofs.of_token_readers.Forms.{same_self, Leads, leads_empty}
+use Rattle.expression_trees.proofs.of_token_readers.Many.{looped}
+use Rattle.expression_trees.proofs.of_token_readers.More.{Same}
+use Rattle.expression_trees.proofs.of_token_readers.NameRules.{path_word, segment, segments, closed, snoc, ends-snoc}
+use Rattle.expression_trees.proofs.of_token_readers.NameRules.{word_as, as_word, no_text, not_ended, closed_is, to_uid}
+use Rattle.expression_trees.proofs.of_token_readers.NameRules.{from_uid}
 use Rattle.expression_syntax.proofs.Follows.{after_named}
 
 -- ---- from the common front

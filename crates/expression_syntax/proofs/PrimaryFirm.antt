@@ -1,36 +1,42 @@
 -- A reader of a primary, and of what is asked of it, stops for a token at no place at which one ends.
 use Rattle.std.proofs.Common.{◌≡◌, ◌⊎◌, inl, inr, Bool, true, false, List, [], ◌∷◌, Option, Some, None, refl}
 use mathlib.Core.Path.{fun_ext}
-use Rattle.policy_tokens.specs.declared.token.Token.{Token}
-use Rattle.policy_tokens.specs.declared.token.TokenKind.{TokenKind}
-use Rattle.policy_tokens.specs.declared.token.TokenKind.TheVariants as k
-use Rattle.token_readers.specs.declared.tree.PathTree.{PathTree}
+use Rattle.expression_trees.specs.policy_tokens.declared.token.Token.{Token}
+use Rattle.expression_trees.specs.policy_tokens.declared.token.TokenKind.{TokenKind}
+use Rattle.expression_trees.specs.policy_tokens.declared.token.TokenKind.TheVariants as k
+use Rattle.expression_trees.specs.token_readers.declared.tree.PathTree.{PathTree}
 use Rattle.expression_trees.specs.declared.tree.Access.TheVariants as access
 use Rattle.expression_trees.specs.declared.tree.KeyTree.TheVariants.{Quoted}
 use Rattle.expression_trees.specs.declared.tree.Variable.{Variable}
 use Rattle.expression_trees.specs.declared.tree.ExprTree.{ExprTree}
 use Rattle.expression_trees.specs.declared.tree.ExprTree.TheVariants as tree
-use Rattle.token_readers.specs.Kinds.{Kinds, only, same_kind}
-use Rattle.token_readers.specs.Lang.{Lang}
-use Rattle.token_readers.specs.Lang as lang
-use Rattle.token_readers.specs.Grammar.{identifiers}
+use Rattle.expression_trees.specs.token_readers.Kinds.{Kinds, only, same_kind}
+use Rattle.expression_trees.specs.token_readers.Lang.{Lang}
+use Rattle.expression_trees.specs.token_readers.Lang as lang
+use Rattle.expression_trees.specs.token_readers.Grammar.{identifiers}
 use Rattle.expression_syntax.specs.Expressions as g
 use Rattle.expression_syntax.specs.Expressions.{boolean_of, booleans, joined, accessed}
-use Rattle.token_readers.specs.Reading.{Parser, ◌>>=◌, ◌>>◌, pure}
+use Rattle.expression_trees.specs.token_readers.Reading.{Parser, ◌>>=◌, ◌>>◌, pure}
 use Rattle.expression_syntax.specs.ExpressionReading as r
 use Rattle.expression_syntax.specs.ExpressionReading.{openers, access_firsts, path_of, name_by, variable_at}
-use Rattle.token_readers.specs.Parsing.{ends, uid_tree}
-use Rattle.token_readers.proofs.Sets.{apart, within}
-use Rattle.token_readers.proofs.Rules.{Rule, Levels}
-use Rattle.token_readers.proofs.Forms.{Starts, of, one, nothing, leads_starts, leads_empty, leads_or, leads_both, leads_many, alive_empty, alive_left, alive_right}
-use Rattle.token_readers.proofs.Many.{each}
-use Rattle.token_readers.proofs.Steps.{none, seq, free, behind, go_one, leads_one}
-use Rattle.token_readers.proofs.NameRules.{segments, segments_rule}
-use Rattle.token_readers.proofs.NamesFirm.{firm_segments}
-use Rattle.token_readers.proofs.Openings.{Opening, opening_one, giving}
-use Rattle.token_readers.proofs.Firm.{Firm, Fresh, solid_starts, solid_or, fresh_opening, firm_free, firm_nothing, firm_never, firm_same, firm_alike, firm_seq, firm_token, firm_giving, firm_or, firm_gated, firm_each}
-use Rattle.expression_syntax.proofs.Follows.{after_named, after_access, after_member, after_expr, after_arguments, after_entries}
-use Rattle.expression_syntax.proofs.NamedRules.{rest_of_call, variable_by, behind_by, behind_pieces, factored, leads_variable, same_named}
+use Rattle.expression_trees.specs.token_readers.Parsing.{ends, uid_tree}
+use Rattle.expression_trees.proofs.of_token_readers.Sets.{apart, within}
+use Rattle.expression_trees.proofs.of_token_readers.Rules.{Rule, Levels}
+use Rattle.expression_trees.proofs.of_token_readers.Forms.{Starts, of, one, nothing, leads_starts, leads_empty}
+use Rattle.expression_trees.proofs.of_token_readers.Forms.{leads_or, leads_both, leads_many, alive_empty, alive_left}
+use Rattle.expression_trees.proofs.of_token_readers.Forms.{alive_right}
+use Rattle.expression_trees.proofs.of_token_readers.Many.{each}
+use Rattle.expression_trees.proofs.of_token_readers.Steps.{none, seq, free, behind, go_one, leads_one}
+use Rattle.expression_trees.proofs.of_token_readers.NameRules.{segments, segments_rule}
+use Rattle.expression_trees.proofs.of_token_readers.NamesFirm.{firm_segments}
+use Rattle.expression_trees.proofs.of_token_readers.Openings.{Opening, opening_one, giving}
+use Rattle.expression_trees.proofs.of_token_readers.Firm.{Firm, Fresh, solid_starts, solid_or, fresh_opening, firm_free}
+use Rattle.expression_trees.proofs.of_token_readers.Firm.{firm_nothing, firm_never, firm_same, firm_alike, firm_seq}
+use Rattle.expression_trees.proofs.of_token_readers.Firm.{firm_token, firm_giving, firm_or, firm_gated, firm_each}
+use Rattle.expression_syntax.proofs.Follows.{after_named, after_access, after_member, after_expr, after_arguments}
+use Rattle.expression_syntax.proofs.Follows.{after_entries}
+use Rattle.expression_syntax.proofs.NamedRules.{rest_of_call, variable_by, behind_by, behind_pieces, factored}
+use Rattle.expression_syntax.proofs.NamedRules.{leads_variable, same_named}
 use Rattle.expression_syntax.proofs.AlivePrimaries.{other_firsts, literal_firsts}
 use Rattle.expression_syntax.proofs.SymbolRules.{symbol_rule}
 use Rattle.expression_syntax.proofs.PrimaryRules.{Inner, read_chain, regrouped, rest_of_pieces}

@@ -1,37 +1,42 @@
 -- Literals, names, calls, lists, primaries and what is asked of them are read exactly.
 use Rattle.std.proofs.Common.{◌≡◌, Bool, true, false, List, [], ◌∷◌, Option, Some, None, refl, subst}
 use mathlib.Core.Path.{fun_ext}
-use Rattle.policy_tokens.specs.declared.token.Token.{Token}
-use Rattle.policy_tokens.specs.declared.token.TokenKind.TheVariants as k
-use Rattle.token_readers.specs.declared.tree.PathTree.{PathTree}
+use Rattle.expression_trees.specs.policy_tokens.declared.token.Token.{Token}
+use Rattle.expression_trees.specs.policy_tokens.declared.token.TokenKind.TheVariants as k
+use Rattle.expression_trees.specs.token_readers.declared.tree.PathTree.{PathTree}
 use Rattle.expression_trees.specs.declared.tree.Access.TheVariants as access
 use Rattle.expression_trees.specs.declared.tree.ExprTree.{ExprTree}
 use Rattle.expression_trees.specs.declared.tree.KeyTree.TheVariants.{Word, Quoted}
 use Rattle.expression_trees.specs.declared.tree.ExprTree.TheVariants as tree
 use Rattle.expression_trees.specs.declared.tree.Variable.{Variable}
-use Rattle.token_readers.specs.Kinds.{Kinds, only, same_kind}
-use Rattle.token_readers.specs.Lang.{Lang}
-use Rattle.token_readers.specs.Lang as lang
-use Rattle.token_readers.specs.Grammar.{identifiers}
+use Rattle.expression_trees.specs.token_readers.Kinds.{Kinds, only, same_kind}
+use Rattle.expression_trees.specs.token_readers.Lang.{Lang}
+use Rattle.expression_trees.specs.token_readers.Lang as lang
+use Rattle.expression_trees.specs.token_readers.Grammar.{identifiers}
 use Rattle.expression_syntax.specs.Expressions as g
 use Rattle.expression_syntax.specs.Expressions.{boolean_of, booleans, keys, joined, accessed}
-use Rattle.token_readers.specs.Reading.{Parser, ParseResult, Read, Stop, and_then, ◌>>=◌, ◌>>◌, pure, many}
-use Rattle.token_readers.specs.Reading as reading
+use Rattle.expression_trees.specs.token_readers.Reading.{Parser, ParseResult, Read, Stop, and_then, ◌>>=◌, ◌>>◌, pure}
+use Rattle.expression_trees.specs.token_readers.Reading.{many}
+use Rattle.expression_trees.specs.token_readers.Reading as reading
 use Rattle.expression_syntax.specs.ExpressionReading as r
 use Rattle.expression_syntax.specs.ExpressionReading.{openers, access_firsts, firsts, path_of, name_by, variable_at}
-use Rattle.token_readers.specs.Parsing.{piece, ended_by, goes_on, ends, uid_tree}
-use Rattle.token_readers.specs.Reads.{Begins}
-use Rattle.token_readers.proofs.Sets.{apart, within}
-use Rattle.token_readers.proofs.Rules.{Rule, Levels, both}
-use Rattle.token_readers.proofs.Forms.{Starts, Leads, of, one, nothing, refused, or, starts_both, leads_starts, leads_empty, leads_or, leads_both, leads_many, alive_empty}
-use Rattle.token_readers.proofs.More.{same, gated}
-use Rattle.token_readers.proofs.Many.{each}
-use Rattle.token_readers.proofs.Steps.{none, seq, free, behind, go_one, leads_one, starts_one}
-use Rattle.token_readers.proofs.NameRules.{segments, segments_rule}
-use Rattle.token_readers.proofs.Openings.{giving, opening_gate, starts_gate}
-use Rattle.expression_syntax.proofs.Follows.{after_named, after_access, after_member, after_expr, after_arguments, after_entries}
+use Rattle.expression_trees.specs.token_readers.Parsing.{piece, ended_by, goes_on, ends, uid_tree}
+use Rattle.expression_trees.specs.token_readers.Reads.{Begins}
+use Rattle.expression_trees.proofs.of_token_readers.Sets.{apart, within}
+use Rattle.expression_trees.proofs.of_token_readers.Rules.{Rule, Levels, both}
+use Rattle.expression_trees.proofs.of_token_readers.Forms.{Starts, Leads, of, one, nothing, refused, or, starts_both}
+use Rattle.expression_trees.proofs.of_token_readers.Forms.{leads_starts, leads_empty, leads_or, leads_both, leads_many}
+use Rattle.expression_trees.proofs.of_token_readers.Forms.{alive_empty}
+use Rattle.expression_trees.proofs.of_token_readers.More.{same, gated}
+use Rattle.expression_trees.proofs.of_token_readers.Many.{each}
+use Rattle.expression_trees.proofs.of_token_readers.Steps.{none, seq, free, behind, go_one, leads_one, starts_one}
+use Rattle.expression_trees.proofs.of_token_readers.NameRules.{segments, segments_rule}
+use Rattle.expression_trees.proofs.of_token_readers.Openings.{giving, opening_gate, starts_gate}
+use Rattle.expression_syntax.proofs.Follows.{after_named, after_access, after_member, after_expr, after_arguments}
+use Rattle.expression_syntax.proofs.Follows.{after_entries}
 use Rattle.expression_syntax.proofs.SymbolRules.{symbol_rule}
-use Rattle.expression_syntax.proofs.NamedRules.{rest_of_call, variable_by, behind_by, behind_pieces, factored, on, leads_variable, leads_variable_colons, same_named}
+use Rattle.expression_syntax.proofs.NamedRules.{rest_of_call, variable_by, behind_by, behind_pieces, factored, on}
+use Rattle.expression_syntax.proofs.NamedRules.{leads_variable, leads_variable_colons, same_named}
 use Rattle.expression_syntax.proofs.AlivePrimaries.{other_firsts, literal_firsts, entry_of}
 use Rattle.expression_syntax.proofs.AlivePrimaries as primaries
 

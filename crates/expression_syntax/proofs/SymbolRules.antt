@@ -1,14 +1,15 @@
 -- Tokens that stand for something by their kind alone are read exactly.
-use Rattle.std.proofs.Common.{◌≡◌, inl, true, List, [], ◌∷◌, ◌++◌, length, Option, Some, None, is_some, refl, sym, ap, ◌∙◌, length-append, arith}
-use Rattle.policy_tokens.specs.declared.token.Token.{Token}
-use Rattle.policy_tokens.specs.declared.token.TokenKind.{TokenKind}
-use Rattle.token_readers.specs.Kinds.{Kinds}
-use Rattle.token_readers.specs.Reading.{Read, Stop, Why, Unexpected, TooDeep}
-use Rattle.token_readers.specs.Reads.{Begins, sees}
-use Rattle.token_readers.proofs.Rules.{Rule, Levels, ReadsFront, Stops}
-use Rattle.token_readers.proofs.Forms.{Starts}
-use Rattle.token_readers.proofs.Openings.{Opening}
-use Rattle.token_readers.proofs.WellFormedLemmas.{Makes}
+use Rattle.std.proofs.Common.{◌≡◌, inl, true, List, [], ◌∷◌, ◌++◌, length, Option, Some, None, is_some, refl, sym, ap}
+use Rattle.std.proofs.Common.{◌∙◌, length-append, arith}
+use Rattle.expression_trees.specs.policy_tokens.declared.token.Token.{Token}
+use Rattle.expression_trees.specs.policy_tokens.declared.token.TokenKind.{TokenKind}
+use Rattle.expression_trees.specs.token_readers.Kinds.{Kinds}
+use Rattle.expression_trees.specs.token_readers.Reading.{Read, Stop, Why, Unexpected, TooDeep}
+use Rattle.expression_trees.specs.token_readers.Reads.{Begins, sees}
+use Rattle.expression_trees.proofs.of_token_readers.Rules.{Rule, Levels, ReadsFront, Stops}
+use Rattle.expression_trees.proofs.of_token_readers.Forms.{Starts}
+use Rattle.expression_trees.proofs.of_token_readers.Openings.{Opening}
+use Rattle.expression_trees.proofs.of_token_readers.WellFormedLemmas.{Makes}
 use Rattle.expression_syntax.specs.Expressions as g
 use Rattle.expression_syntax.specs.Expressions.{known}
 use Rattle.expression_syntax.specs.ExpressionReading as r

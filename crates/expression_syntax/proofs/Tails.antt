@@ -1,12 +1,13 @@
 -- A relation is what stands behind its first Sum, joined to it.
 use Rattle.std.proofs.Common.{◌≡◌, Bool, true, false, List, Some, None, refl}
-use Rattle.policy_tokens.specs.declared.token.Token.{Token}
-use Rattle.policy_tokens.specs.declared.token.TokenKind.TheVariants as k
+use Rattle.expression_trees.specs.policy_tokens.declared.token.Token.{Token}
+use Rattle.expression_trees.specs.policy_tokens.declared.token.TokenKind.TheVariants as k
 use Rattle.expression_trees.specs.declared.tree.ExprTree.{ExprTree}
-use Rattle.token_readers.specs.Kinds.{only}
-use Rattle.token_readers.specs.Reads.{sees}
-use Rattle.token_readers.specs.Reading.{Parser, ParseResult, Read, Stop, and_then, take, token, pure, chosen}
-use Rattle.token_readers.specs.Parsing.{path}
+use Rattle.expression_trees.specs.token_readers.Kinds.{only}
+use Rattle.expression_trees.specs.token_readers.Reads.{sees}
+use Rattle.expression_trees.specs.token_readers.Reading.{Parser, ParseResult, Read, Stop, and_then, take, token, pure}
+use Rattle.expression_trees.specs.token_readers.Reading.{chosen}
+use Rattle.expression_trees.specs.token_readers.Parsing.{path}
 use Rattle.expression_syntax.specs.Expressions.{comparison_of, comparisons, patterns}
 use Rattle.expression_syntax.specs.ExpressionReading as r
 use Rattle.expression_syntax.specs.inner.Tails as t

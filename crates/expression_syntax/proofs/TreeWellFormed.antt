@@ -1,10 +1,10 @@
 -- A tree stands where what it is made of does.
 use Rattle.std.proofs.Common.{◌≡◌, Bool, sym, subst, List, [], ◌∷◌, ◌++◌}
 use Rattle.std.specs.List.{AllByRecursion, flat_map}
-use Rattle.policy_tokens.specs.declared.token.TokenKind.TheVariants as k
-use Rattle.policy_tokens.specs.declared.token.Token.{Token}
-use Rattle.token_readers.specs.declared.tree.PathTree.{PathTree}
-use Rattle.token_readers.specs.declared.tree.UidTree.{UidTree}
+use Rattle.expression_trees.specs.policy_tokens.declared.token.TokenKind.TheVariants as k
+use Rattle.expression_trees.specs.policy_tokens.declared.token.Token.{Token}
+use Rattle.expression_trees.specs.token_readers.declared.tree.PathTree.{PathTree}
+use Rattle.expression_trees.specs.token_readers.declared.tree.UidTree.{UidTree}
 use Rattle.expression_trees.specs.declared.tree.Access.{Access}
 use Rattle.expression_trees.specs.declared.tree.Comparison.{Comparison}
 use Rattle.expression_trees.specs.declared.tree.Entry.{Entry}
@@ -13,13 +13,17 @@ use Rattle.expression_trees.specs.declared.tree.Term.{Term}
 use Rattle.expression_trees.specs.declared.tree.ExprTree.{ExprTree}
 use Rattle.expression_trees.specs.declared.tree.ExprTree.TheVariants as t
 use Rattle.expression_trees.specs.declared.tree.Variable.{Variable}
-use Rattle.token_readers.specs.Kinds.{Kinds, only}
-use Rattle.token_readers.specs.Grammar.{identifiers}
+use Rattle.expression_trees.specs.token_readers.Kinds.{Kinds, only}
+use Rattle.expression_trees.specs.token_readers.Grammar.{identifiers}
 use Rattle.expression_syntax.specs.Expressions.{patterns}
-use Rattle.expression_trees.specs.Parts.{Part, part, key_part, path_parts, uid_parts, parts_of, parts_of_access, parts_of_entry, parts_of_term}
+use Rattle.expression_trees.specs.Parts.{Part, part, key_part, path_parts, uid_parts, parts_of, parts_of_access}
+use Rattle.expression_trees.specs.Parts.{parts_of_entry, parts_of_term}
 use Rattle.expression_trees.specs.WellFormed.{WellFormedToken, WellFormedPath, WellFormedUid, WellFormedExpr}
 use Rattle.expression_trees.proofs.Flat.{all_both, flat_all, mapped_all}
-use Rattle.expression_trees.proofs.PartsOf.{parts-Boolean, parts-Number, parts-Text, parts-Variable, parts-Uid, parts-Call, parts-Parentheses, parts-Set, parts-Record, parts-Member, parts-Not, parts-Minus, parts-Product, parts-Sum, parts-Compare, parts-Has, parts-Like, parts-Is, parts-IsIn, parts-And, parts-Or, parts-If}
+use Rattle.expression_trees.proofs.PartsOf.{parts-Boolean, parts-Number, parts-Text, parts-Variable, parts-Uid}
+use Rattle.expression_trees.proofs.PartsOf.{parts-Call, parts-Parentheses, parts-Set, parts-Record, parts-Member}
+use Rattle.expression_trees.proofs.PartsOf.{parts-Not, parts-Minus, parts-Product, parts-Sum, parts-Compare, parts-Has}
+use Rattle.expression_trees.proofs.PartsOf.{parts-Like, parts-Is, parts-IsIn, parts-And, parts-Or, parts-If}
 
 module _ (ts : List Token) where
   abbrev Is : Part → Type 0

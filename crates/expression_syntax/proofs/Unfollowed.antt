@@ -1,13 +1,13 @@
 -- An operand behind which no piece begins is a whole level.
 use Rattle.std.proofs.Common.{◌≡◌, ℕ, zero, suc, Bool, true, false, List, [], Result, Ok, Err, refl, ap, ◌∙◌}
-use Rattle.policy_tokens.specs.declared.token.Token.{Token}
+use Rattle.expression_trees.specs.policy_tokens.declared.token.Token.{Token}
 use Rattle.expression_trees.specs.declared.tree.ExprTree.{ExprTree}
-use Rattle.token_readers.specs.Kinds.{Kinds}
-use Rattle.token_readers.specs.Reads.{sees}
-use Rattle.token_readers.specs.Reading.{Parser, Read, and_then, pure, chosen, loop_from}
-use Rattle.token_readers.specs.ParsesTo.{ParsesTo}
-use Rattle.token_readers.specs.declared.fault.Halt.{Halt}
-use Rattle.token_readers.specs.declared.fault.Halt.TheVariants as halt
+use Rattle.expression_trees.specs.token_readers.Kinds.{Kinds}
+use Rattle.expression_trees.specs.token_readers.Reads.{sees}
+use Rattle.expression_trees.specs.token_readers.Reading.{Parser, Read, and_then, pure, chosen, loop_from}
+use Rattle.expression_trees.specs.token_readers.ParsesTo.{ParsesTo}
+use Rattle.expression_trees.specs.token_readers.declared.fault.Halt.{Halt}
+use Rattle.expression_trees.specs.token_readers.declared.fault.Halt.TheVariants as halt
 use Rattle.expression_syntax.specs.Expressions.{joined}
 use Rattle.expression_syntax.specs.inner.Chains.{chained, chained_on}
 

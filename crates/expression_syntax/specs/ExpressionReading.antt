@@ -1,11 +1,11 @@
 -- How expressions are read, from the left, by the next token.
 use Rattle.std.specs.Prelude.{ℕ, zero, suc, Bool, true, false, List, [], ◌∷◌, Option, Some, None}
-use Rattle.policy_tokens.specs.declared.token.TokenKind.{TokenKind}
-use Rattle.policy_tokens.specs.declared.token.TokenKind.TheVariants as k
-use Rattle.policy_tokens.specs.declared.token.Token.{Token}
-use Rattle.token_readers.specs.declared.tree.PathTree.{PathTree}
-use Rattle.token_readers.specs.declared.tree.Name.{Name}
-use Rattle.token_readers.specs.declared.tree.Name.TheVariants as name
+use Rattle.expression_trees.specs.policy_tokens.declared.token.TokenKind.{TokenKind}
+use Rattle.expression_trees.specs.policy_tokens.declared.token.TokenKind.TheVariants as k
+use Rattle.expression_trees.specs.policy_tokens.declared.token.Token.{Token}
+use Rattle.expression_trees.specs.token_readers.declared.tree.PathTree.{PathTree}
+use Rattle.expression_trees.specs.token_readers.declared.tree.Name.{Name}
+use Rattle.expression_trees.specs.token_readers.declared.tree.Name.TheVariants as name
 use Rattle.expression_trees.specs.declared.tree.Access.{Access}
 use Rattle.expression_trees.specs.declared.tree.Access.TheVariants as access
 use Rattle.expression_trees.specs.declared.tree.Entry.{Entry}
@@ -15,13 +15,14 @@ use Rattle.expression_trees.specs.declared.tree.Term.{Term}
 use Rattle.expression_trees.specs.declared.tree.ExprTree.{ExprTree}
 use Rattle.expression_trees.specs.declared.tree.ExprTree.TheVariants as tree
 use Rattle.expression_trees.specs.declared.tree.Variable.{Variable}
-use Rattle.token_readers.specs.Kinds.{Kinds, only}
-use Rattle.token_readers.specs.Reading.{Parser, ParseResult, Read, Stop, Unexpected, take, token, pure, refuse, ◌>>=◌}
-use Rattle.token_readers.specs.Reading.{◌>>◌, either, optional, many, gate, too_deep}
-use Rattle.token_readers.specs.Grammar.{identifiers}
-use Rattle.token_readers.specs.Parsing.{path}
-pub use Rattle.token_readers.specs.Parsing.{path_of, name_by}
-unfoldable pub use Rattle.token_readers.specs.Parsing.{rest_of_name}
+use Rattle.expression_trees.specs.token_readers.Kinds.{Kinds, only}
+use Rattle.expression_trees.specs.token_readers.Reading.{Parser, ParseResult, Read, Stop, Unexpected, take, token, pure}
+use Rattle.expression_trees.specs.token_readers.Reading.{refuse, ◌>>=◌}
+use Rattle.expression_trees.specs.token_readers.Reading.{◌>>◌, either, optional, many, gate, too_deep}
+use Rattle.expression_trees.specs.token_readers.Grammar.{identifiers}
+use Rattle.expression_trees.specs.token_readers.Parsing.{path}
+pub use Rattle.expression_trees.specs.token_readers.Parsing.{path_of, name_by}
+unfoldable pub use Rattle.expression_trees.specs.token_readers.Parsing.{rest_of_name}
 use Rattle.expression_syntax.specs.Expressions.{boolean_of, variable_of, sign_of, comparison_of}
 use Rattle.expression_syntax.specs.Expressions.{booleans, keys, patterns, signs, comparisons}
 use Rattle.expression_syntax.specs.Expressions.{joined, accessed, is_in, is_positive}

@@ -2,10 +2,10 @@
 -- Source: Cedar reference guide 4.0, "Grammar specification for Cedar policy syntax". Rules of this product: a
 -- variable's word with `::` or `(` behind it is a Path, and expressions nest at most so deep.
 use Rattle.std.specs.Prelude.{◌≡◌, ℕ, zero, suc, Bool, true, false, List, [], ◌∷◌, Option, Some, None, is_some}
-use Rattle.policy_tokens.specs.declared.token.TokenKind.{TokenKind}
-use Rattle.policy_tokens.specs.declared.token.TokenKind.TheVariants as k
-use Rattle.policy_tokens.specs.declared.token.Token.{Token}
-use Rattle.token_readers.specs.declared.tree.PathTree.{PathTree}
+use Rattle.expression_trees.specs.policy_tokens.declared.token.TokenKind.{TokenKind}
+use Rattle.expression_trees.specs.policy_tokens.declared.token.TokenKind.TheVariants as k
+use Rattle.expression_trees.specs.policy_tokens.declared.token.Token.{Token}
+use Rattle.expression_trees.specs.token_readers.declared.tree.PathTree.{PathTree}
 use Rattle.expression_trees.specs.declared.tree.Access.{Access}
 use Rattle.expression_trees.specs.declared.tree.Access.TheVariants as access
 use Rattle.expression_trees.specs.declared.tree.Comparison.{Comparison}
@@ -20,11 +20,12 @@ use Rattle.expression_trees.specs.declared.tree.ExprTree.{ExprTree}
 use Rattle.expression_trees.specs.declared.tree.ExprTree.TheVariants as tree
 use Rattle.expression_trees.specs.declared.tree.Variable.{Variable}
 use Rattle.expression_trees.specs.declared.tree.Variable.TheVariants as variable
-use Rattle.token_readers.specs.Kinds.{Kinds}
+use Rattle.expression_trees.specs.token_readers.Kinds.{Kinds}
 pub use Rattle.expression_trees.specs.Patterns.{patterns}
-use Rattle.token_readers.specs.Lang.{Lang, of, one, empty, ◌>>=◌, ◌>>◌, ◌giving◌, ◌or◌, optional, many, never}
-use Rattle.token_readers.specs.Lang.{at_any, gate}
-use Rattle.token_readers.specs.Grammar.{identifiers, path, uid}
+use Rattle.expression_trees.specs.token_readers.Lang.{Lang, of, one, empty, ◌>>=◌, ◌>>◌, ◌giving◌, ◌or◌, optional, many}
+use Rattle.expression_trees.specs.token_readers.Lang.{never}
+use Rattle.expression_trees.specs.token_readers.Lang.{at_any, gate}
+use Rattle.expression_trees.specs.token_readers.Grammar.{identifiers, path, uid}
 
 -- ## Tokens that stand for something by their kind alone
 

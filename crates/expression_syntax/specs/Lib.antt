@@ -1,4 +1,7 @@
 pub mod ExpressionReading
 pub mod Expressions
 pub mod inner
-pub mod passed_on
+-- crates below, passed on to those above
+pub use Rattle.expression_trees.specs as expression_trees
+pub use Rattle.expression_trees.specs.policy_tokens
+pub use Rattle.expression_trees.specs.token_readers

@@ -4,17 +4,17 @@ ghost use Rattle.std.specs.Prelude.{◌≡◌, ◌<◌, Err};
 ghost use Rattle.expression_syntax.specs.ExpressionReading as spec;
 ghost use Rattle.expression_syntax.specs.Expressions as grammar;
 ghost use Rattle.expression_syntax.specs.Expressions.{is_positive};
-ghost use Rattle.token_readers.specs.ParsesTo.{ParsesTo};
+ghost use Rattle.expression_trees.specs.token_readers.ParsesTo.{ParsesTo};
 ghost use Rattle.expression_syntax.specs.inner.Nests.{Nests};
-ghost use Rattle.token_readers.specs.Reads.{ReadsFrontWithin};
-ghost use Rattle.token_readers.specs.declared.fault.Halt.TheVariants as halt;
+ghost use Rattle.expression_trees.specs.token_readers.Reads.{ReadsFrontWithin};
+ghost use Rattle.expression_trees.specs.token_readers.declared.fault.Halt.TheVariants as halt;
 
 use crate::primary::Reader;
 use expression_trees::ExprTree;
+use expression_trees::policy_tokens::TokenKind;
+use expression_trees::token_readers::{Cursor, Halt};
 use plain::{Boxed, beside};
-use policy_tokens::TokenKind;
 use std::alloc::Global;
-use token_readers::{Cursor, Halt};
 
 impl<F: Fn(Global, &mut Cursor<'_>, usize) -> Result<ExprTree, Halt>> Reader<F> {
     /// "else" Expr

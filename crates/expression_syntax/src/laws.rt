@@ -1,6 +1,6 @@
 //! Laws of the definitions.
 ghost use Rattle.expression_syntax.specs.Expressions.{expr, any_expr, nesting_limit};
-ghost use Rattle.token_readers.specs.Reads.{HasOneTree, HasOneAnswerWithin, OpensNextLevel};
+ghost use Rattle.expression_trees.specs.token_readers.Reads.{HasOneTree, HasOneAnswerWithin, OpensNextLevel};
 
 /// Proves that a list of tokens comes to one tree or one refusal, and that a token which is too deep opens the first
 /// level past the limit: it does nothing, and its clauses are laws of the definitions.

@@ -1,16 +1,16 @@
 //! Levels of operators: an operand, and behind it as many pieces as begin with a token of a set.
 
 ghost use Rattle.std.specs.Prelude.{◌≡◌, List, IfOk};
-ghost use Rattle.token_readers.specs.ParsesTo.{ParsesTo};
-ghost use Rattle.token_readers.specs.Reading.{Parser, many};
+ghost use Rattle.expression_trees.specs.token_readers.ParsesTo.{ParsesTo};
+ghost use Rattle.expression_trees.specs.token_readers.Reading.{Parser, many};
 ghost use Rattle.expression_trees.specs.declared.tree.ExprTree as trees;
 ghost use Rattle.expression_syntax.specs.Expressions.{joined};
 ghost use Rattle.expression_syntax.specs.inner.Chains.{chained, chained_on};
 
 use expression_trees::ExprTree;
+use expression_trees::token_readers::{Cursor, Halt, KindSet, read_many};
 use plain::{Boxed, Items, beside};
 use std::alloc::{AllocError, Global};
-use token_readers::{Cursor, Halt, KindSet, read_many};
 
 /// A level of operators, each proved once as a chain.
 pub(crate) trait Level {

@@ -15,8 +15,13 @@ mod symbols;
 mod token_sets;
 
 pub use expression::expr;
-pub use expression_trees::{Access, Comparison, Entry, ExprTree, KeyTree, Sign, Term, Variable};
+pub use expression_trees::token_readers::{
+    Cursor, Halt, PathTree, SyntaxFault, UidTree, path, uid,
+};
+pub use expression_trees::{
+    Access, Comparison, Entry, ExprTree, KeyTree, Sign, Term, Variable, policy_tokens,
+    token_readers,
+};
 pub use laws::expression_is_unique;
 pub use read::{NESTING_LIMIT, read_expression};
 pub use symbols::{Symbol, take_symbol};
-pub use token_readers::{Cursor, Halt, PathTree, SyntaxFault, UidTree, path, uid};

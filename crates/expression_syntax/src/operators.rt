@@ -3,7 +3,7 @@
 ghost use Rattle.std.specs.Prelude.{◌≡◌, IfOk};
 ghost use Rattle.expression_syntax.specs.ExpressionReading as spec;
 ghost use Rattle.expression_syntax.specs.Expressions.{is_positive, accessed};
-ghost use Rattle.token_readers.specs.ParsesTo.{ParsesTo};
+ghost use Rattle.expression_trees.specs.token_readers.ParsesTo.{ParsesTo};
 ghost use Rattle.expression_syntax.specs.inner.Nests.{Nests};
 ghost use Rattle.expression_syntax.specs.inner.Prefixes as prefixes;
 ghost use Rattle.expression_trees.specs.declared.tree.ExprTree.TheVariants as tree;
@@ -12,11 +12,11 @@ use crate::levels::{Level, chain};
 use crate::primary::{Reader, indexed};
 use crate::symbols::take_symbol;
 use crate::token_sets::TokenSet;
+use expression_trees::policy_tokens::{Token, TokenKind};
+use expression_trees::token_readers::{Cursor, Halt, NameSet};
 use expression_trees::{Access, ExprTree, KeyTree, Sign, Term};
 use plain::{Boxed, Items};
-use policy_tokens::{Token, TokenKind};
 use std::alloc::{AllocError, Global};
-use token_readers::{Cursor, Halt, NameSet};
 
 /// What stands up to four times before a Member.
 #[derive(Clone, Copy)]

@@ -3,17 +3,19 @@
 ghost use Rattle.std.specs.Prelude.{◌≡◌, IfErr};
 ghost use Rattle.expression_syntax.specs.ExpressionReading as spec;
 ghost use Rattle.expression_syntax.specs.Expressions.{is_positive};
-ghost use Rattle.token_readers.specs.ParsesTo.{ParsesTo};
+ghost use Rattle.expression_trees.specs.token_readers.ParsesTo.{ParsesTo};
 ghost use Rattle.expression_syntax.specs.inner.Nests.{Nests};
-ghost use Rattle.token_readers.specs.declared.fault.Halt.TheVariants as halt;
+ghost use Rattle.expression_trees.specs.token_readers.declared.fault.Halt.TheVariants as halt;
 
 use crate::symbols::{Symbol, take_symbol};
 use crate::token_sets::TokenSet;
+use expression_trees::policy_tokens::{Token, TokenKind};
+use expression_trees::token_readers::{
+    Cursor, Halt, Name, NameSet, PathTree, read_more, rest_of_name,
+};
 use expression_trees::{Access, Entry, ExprTree, KeyTree, Variable};
 use plain::{Boxed, Items, beside};
-use policy_tokens::{Token, TokenKind};
 use std::alloc::Global;
-use token_readers::{Cursor, Halt, Name, NameSet, PathTree, read_more, rest_of_name};
 
 /// "true" | "false" | Number | String
 #[tactic(auto, unfolding(crate::specs::ExpressionReading::literal))]

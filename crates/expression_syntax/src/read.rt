@@ -2,14 +2,14 @@
 
 ghost use Rattle.std.specs.Prelude.{IfOk};
 ghost use Rattle.expression_syntax.specs.Expressions as grammar;
-ghost use Rattle.token_readers.specs.Reads.{ReadsWithin};
+ghost use Rattle.expression_trees.specs.token_readers.Reads.{ReadsWithin};
 ghost use Rattle.expression_trees.specs.WellFormed.{WellFormedExpr};
 
 use crate::expression::expr;
 use expression_trees::ExprTree;
-use policy_tokens::Token;
+use expression_trees::policy_tokens::Token;
+use expression_trees::token_readers::{Cursor, SyntaxFault, read_to_end};
 use std::alloc::Global;
-use token_readers::{Cursor, SyntaxFault, read_to_end};
 
 /// The most levels that expressions nest: an expression's own, and one more for what stands in
 /// parentheses, brackets, braces or call arguments, and for each part of an `if`.

@@ -3,18 +3,18 @@
 ghost use Rattle.std.specs.Prelude.{◌≡◌, IfOk};
 ghost use Rattle.expression_syntax.specs.ExpressionReading as spec;
 ghost use Rattle.expression_syntax.specs.Expressions.{is_positive};
-ghost use Rattle.token_readers.specs.ParsesTo.{ParsesTo};
+ghost use Rattle.expression_trees.specs.token_readers.ParsesTo.{ParsesTo};
 ghost use Rattle.expression_syntax.specs.inner.Nests.{Nests};
 ghost use Rattle.expression_syntax.specs.inner.Tails as tails;
 
 use crate::primary::{Reader, key};
 use crate::symbols::take_symbol;
 use crate::token_sets::TokenSet;
+use expression_trees::policy_tokens::{Token, TokenKind};
+use expression_trees::token_readers::{Cursor, Halt, PathTree, path};
 use expression_trees::{Comparison, ExprTree, KeyTree};
 use plain::{Boxed, beside};
-use policy_tokens::{Token, TokenKind};
 use std::alloc::{AllocError, Global};
-use token_readers::{Cursor, Halt, PathTree, path};
 
 /// What may stand behind the first Sum of a relation.
 #[derive(Drop)]

@@ -1,15 +1,15 @@
 //! Tokens that stand for something by their kind alone.
 
 ghost use Rattle.std.specs.Prelude.{◌≡◌, IfErr, Option};
-ghost use Rattle.policy_tokens.specs.declared.token.TokenKind as kinds;
-ghost use Rattle.token_readers.specs.ParsesTo.{ParsesTo};
-ghost use Rattle.token_readers.specs.declared.fault.Halt.TheVariants as halt;
+ghost use Rattle.expression_trees.specs.policy_tokens.declared.token.TokenKind as kinds;
+ghost use Rattle.expression_trees.specs.token_readers.ParsesTo.{ParsesTo};
+ghost use Rattle.expression_trees.specs.token_readers.declared.fault.Halt.TheVariants as halt;
 ghost use Rattle.expression_syntax.specs.Expressions.{boolean_of, variable_of, sign_of, comparison_of};
 ghost use Rattle.expression_syntax.specs.ExpressionReading as spec;
 
+use expression_trees::policy_tokens::TokenKind;
+use expression_trees::token_readers::{Cursor, Halt};
 use expression_trees::{Comparison, Sign, Variable};
-use policy_tokens::TokenKind;
-use token_readers::{Cursor, Halt};
 
 /// What tokens of some kinds stand for, each by its kind alone.
 pub trait Symbol: Copy {

@@ -2,7 +2,7 @@
 use Rattle.std.specs.Prelude.{◌≡◌, List, [], ◌∷◌, ◌++◌, map, refl}
 use mathlib.Core.Path.{◌∙◌, ap}
 use Rattle.std.specs.List.{AllByRecursion, flat_map}
-use Rattle.policy_tokens.specs.declared.token.Token.{Token}
+use Rattle.token_readers.specs.policy_tokens.declared.token.Token.{Token}
 use Rattle.expression_trees.specs.declared.tree.Access.{Access}
 use Rattle.expression_trees.specs.declared.tree.Access.TheVariants as access
 use Rattle.expression_trees.specs.declared.tree.ExprTree.{ExprTree}

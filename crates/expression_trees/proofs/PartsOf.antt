@@ -2,8 +2,8 @@
 use Rattle.std.specs.Prelude.{◌≡◌, refl, Bool, List, [], ◌∷◌, ◌++◌}
 use mathlib.Core.Path.{◌∙◌, ap, sym}
 use Rattle.std.specs.List.{flat_map}
-use Rattle.policy_tokens.specs.declared.token.TokenKind.TheVariants as k
-use Rattle.policy_tokens.specs.declared.token.Token.{Token}
+use Rattle.token_readers.specs.policy_tokens.declared.token.TokenKind.TheVariants as k
+use Rattle.token_readers.specs.policy_tokens.declared.token.Token.{Token}
 use Rattle.token_readers.specs.declared.tree.PathTree.{PathTree}
 use Rattle.token_readers.specs.declared.tree.UidTree.{UidTree}
 use Rattle.expression_trees.specs.declared.tree.Access.{Access}
@@ -19,7 +19,8 @@ use Rattle.expression_trees.specs.declared.tree.ExprTree.TheFolds.{fold-roll-Exp
 use Rattle.token_readers.specs.Kinds.{only}
 use Rattle.token_readers.specs.Grammar.{identifiers}
 use Rattle.expression_trees.specs.Patterns.{patterns}
-use Rattle.expression_trees.specs.Parts.{Part, part, key_part, path_parts, uid_parts, access_parts, entry_parts, term_parts}
+use Rattle.expression_trees.specs.Parts.{Part, part, key_part, path_parts, uid_parts, access_parts, entry_parts}
+use Rattle.expression_trees.specs.Parts.{term_parts}
 use Rattle.expression_trees.specs.Parts.{parts_step, parts_of, parts_of_access, parts_of_entry, parts_of_term}
 use Rattle.expression_trees.proofs.Flat.{flat_map_map, flat_map_each, flat_map_accesses}
 

@@ -1,7 +1,7 @@
 -- The kinds of token that a pattern is written as.
 -- Source: Cedar reference guide 4.0, "Grammar specification for Cedar policy syntax".
 use Rattle.std.specs.Prelude.{true, false}
-use Rattle.policy_tokens.specs.declared.token.TokenKind.TheVariants as k
+use Rattle.token_readers.specs.policy_tokens.declared.token.TokenKind.TheVariants as k
 use Rattle.token_readers.specs.Kinds.{Kinds}
 
 -- Pattern: a String, in which `\*` may stand

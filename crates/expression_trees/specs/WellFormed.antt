@@ -1,7 +1,7 @@
 -- What a tree is made of: tokens of the text, each of the kind that its place asks for.
 use Rattle.std.specs.Prelude.{List}
 use Rattle.std.specs.List.{AllByRecursion}
-use Rattle.policy_tokens.specs.declared.token.Token.{Token}
+use Rattle.token_readers.specs.policy_tokens.declared.token.Token.{Token}
 use Rattle.expression_trees.specs.declared.tree.ExprTree.{ExprTree}
 pub use Rattle.token_readers.specs.WellFormed.{WellFormedToken, WellFormedPath, WellFormedUid}
 use Rattle.expression_trees.specs.Parts.{parts_of}

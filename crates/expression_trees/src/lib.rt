@@ -6,5 +6,6 @@
 
 mod tree;
 
-pub use token_readers::{PathTree, UidTree};
+pub use token_readers;
+pub use token_readers::{PathTree, UidTree, policy_tokens};
 pub use tree::{Access, Comparison, Entry, ExprTree, KeyTree, Sign, Term, Variable};

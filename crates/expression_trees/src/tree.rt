@@ -1,6 +1,6 @@
 //! Expressions as they are written.
 use plain::{Boxed, Items};
-use policy_tokens::Token;
+use token_readers::policy_tokens::Token;
 use token_readers::{PathTree, UidTree};
 
 /// A word that stands for a part of the request, where it is no name.

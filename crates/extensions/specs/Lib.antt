@@ -6,3 +6,5 @@ pub mod NetworkText
 pub mod Order
 pub mod TextsDecided
 pub mod inner
+-- crates below, passed on to those above
+pub use Rattle.plain.specs as plain

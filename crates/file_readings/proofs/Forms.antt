@@ -1,31 +1,33 @@
 -- Trees of two texts that say the same: one rule a form.
 use Rattle.std.proofs.Common.{◌≡◌, ℕ, Bool, List, [], ◌∷◌, map, refl, sym, ap, ◌∙◌}
 use Rattle.std.specs.List.{AllZip, fold}
-use Rattle.policy_tokens.specs.declared.token.Token.{Token}
-use Rattle.policy_tokens.specs.Lexing.{spelling_of}
-use Rattle.token_readers.specs.declared.tree.PathTree.{PathTree}
-use Rattle.token_readers.specs.declared.tree.UidTree.{UidTree}
-use Rattle.expression_trees.specs.declared.tree.Access.{Access}
-use Rattle.expression_trees.specs.declared.tree.Access.TheVariants as access
-use Rattle.expression_trees.specs.declared.tree.Comparison.{Comparison}
-use Rattle.expression_trees.specs.declared.tree.Entry.{Entry}
-use Rattle.expression_trees.specs.declared.tree.KeyTree.{KeyTree}
-use Rattle.expression_trees.specs.declared.tree.Variable.{Variable}
-use Rattle.expression_trees.specs.declared.tree.Term.{Term}
-use Rattle.expression_trees.specs.declared.tree.ExprTree.{ExprTree}
-use Rattle.expression_trees.specs.declared.tree.ExprTree.TheVariants as t
-use Rattle.expression_trees.specs.declared.tree.ExprTree.TheOpen.{ExprTree-F as tree}
-use Rattle.expression_trees.specs.declared.tree.ExprTree.TheFolds.{fold-roll-ExprTree}
-use Rattle.expressions.specs.declared.leaf.Literal.TheVariants as literal
-use Rattle.expressions.specs.declared.operator.Unary.TheVariants.{Not, Like, Is}
-use Rattle.expressions.specs.declared.operator.Binary.TheVariants.{In, Multiply}
-use Rattle.expressions.specs.declared.expr.Expr.{Expr}
-use Rattle.expressions.specs.declared.expr.Expr.TheVariants as core
-use Rattle.desugaring.specs.Strings.{value_of, pattern_of}
-use Rattle.desugaring.specs.Meaning.{variable_of, path_name, uid_of, name_of}
-use Rattle.desugaring.specs.Names.{method_of}
-use Rattle.desugaring.specs.Core.{Meaning, core_step, meaning, core_of, plain, number, compared, accessed, added, field, in_term, in_entry, in_access, called, function, method_called}
-use Rattle.desugaring.proofs.Cores as known
+use Rattle.policy_files.specs.policy_tokens.declared.token.Token.{Token}
+use Rattle.policy_files.specs.policy_tokens.Lexing.{spelling_of}
+use Rattle.policy_files.specs.token_readers.declared.tree.PathTree.{PathTree}
+use Rattle.policy_files.specs.token_readers.declared.tree.UidTree.{UidTree}
+use Rattle.policy_files.specs.expression_trees.declared.tree.Access.{Access}
+use Rattle.policy_files.specs.expression_trees.declared.tree.Access.TheVariants as access
+use Rattle.policy_files.specs.expression_trees.declared.tree.Comparison.{Comparison}
+use Rattle.policy_files.specs.expression_trees.declared.tree.Entry.{Entry}
+use Rattle.policy_files.specs.expression_trees.declared.tree.KeyTree.{KeyTree}
+use Rattle.policy_files.specs.expression_trees.declared.tree.Variable.{Variable}
+use Rattle.policy_files.specs.expression_trees.declared.tree.Term.{Term}
+use Rattle.policy_files.specs.expression_trees.declared.tree.ExprTree.{ExprTree}
+use Rattle.policy_files.specs.expression_trees.declared.tree.ExprTree.TheVariants as t
+use Rattle.policy_files.specs.expression_trees.declared.tree.ExprTree.TheOpen.{ExprTree-F as tree}
+use Rattle.policy_files.specs.expression_trees.declared.tree.ExprTree.TheFolds.{fold-roll-ExprTree}
+use Rattle.policy_grammar.specs.expressions.declared.leaf.Literal.TheVariants as literal
+use Rattle.policy_grammar.specs.expressions.declared.operator.Unary.TheVariants.{Not, Like, Is}
+use Rattle.policy_grammar.specs.expressions.declared.operator.Binary.TheVariants.{In, Multiply}
+use Rattle.policy_grammar.specs.expressions.declared.expr.Expr.{Expr}
+use Rattle.policy_grammar.specs.expressions.declared.expr.Expr.TheVariants as core
+use Rattle.policy_grammar.specs.desugaring.Strings.{value_of, pattern_of}
+use Rattle.policy_grammar.specs.desugaring.Meaning.{variable_of, path_name, uid_of, name_of}
+use Rattle.policy_grammar.specs.desugaring.Names.{method_of}
+use Rattle.policy_grammar.specs.desugaring.Core.{Meaning, core_step, meaning, core_of, plain, number, compared}
+use Rattle.policy_grammar.specs.desugaring.Core.{accessed, added, field, in_term, in_entry, in_access, called, function}
+use Rattle.policy_grammar.specs.desugaring.Core.{method_called}
+use Rattle.policy_grammar.proofs.of_desugaring.Cores as known
 use Rattle.file_readings.proofs.Kin.{Same}
 
 -- lists of which each two say the same

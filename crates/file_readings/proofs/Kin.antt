@@ -1,14 +1,15 @@
 -- What a production derives of some tokens it derives, as a tree that says the same, of all that are of the same kinds
 -- and spelled as these: one rule a form.
-use Rattle.std.proofs.Common.{◌≡◌, inl, inr, ℕ, Bool, true, false, List, [], ◌∷◌, ◌++◌, Option, Some, None, refl, sym, ap, ◌∙◌, subst}
+use Rattle.std.proofs.Common.{◌≡◌, inl, inr, ℕ, Bool, true, false, List, [], ◌∷◌, ◌++◌, Option, Some, None, refl, sym}
+use Rattle.std.proofs.Common.{ap, ◌∙◌, subst}
 use Rattle.std.specs.List.{AllZip}
-use Rattle.policy_tokens.specs.declared.token.TokenKind.{TokenKind}
-use Rattle.policy_tokens.specs.declared.token.Token.{Token}
-use Rattle.policy_tokens.specs.Lexing.{spelling_of}
-use Rattle.token_readers.specs.Kinds.{Kinds, only}
-use Rattle.token_readers.specs.Lang as lang
-use Rattle.token_readers.specs.Lang.{Lang}
-use Rattle.expression_syntax.specs.Expressions as e
+use Rattle.policy_files.specs.policy_tokens.declared.token.TokenKind.{TokenKind}
+use Rattle.policy_files.specs.policy_tokens.declared.token.Token.{Token}
+use Rattle.policy_files.specs.policy_tokens.Lexing.{spelling_of}
+use Rattle.policy_files.specs.token_readers.Kinds.{Kinds, only}
+use Rattle.policy_files.specs.token_readers.Lang as lang
+use Rattle.policy_files.specs.token_readers.Lang.{Lang}
+use Rattle.policy_files.specs.expression_syntax.Expressions as e
 
 -- tokens of two texts, of one kind and with one spelling
 pub record Same (text part : List ℕ) (t u : Token) : Type 0 where

@@ -1,26 +1,28 @@
 -- Expressions of two texts whose tokens are the same say the same: one rule a production.
 use Rattle.std.proofs.Common.{◌≡◌, ℕ, zero, suc, Bool, List, [], ◌∷◌, map, Option, Some, None, refl, ap}
 use Rattle.std.specs.List.{AllZip}
-use Rattle.policy_tokens.specs.declared.token.TokenKind.{TokenKind}
-use Rattle.policy_tokens.specs.declared.token.TokenKind.TheVariants as k
-use Rattle.policy_tokens.specs.declared.token.Token.{Token}
-use Rattle.policy_tokens.specs.Lexing.{spelling_of}
+use Rattle.policy_files.specs.policy_tokens.declared.token.TokenKind.{TokenKind}
+use Rattle.policy_files.specs.policy_tokens.declared.token.TokenKind.TheVariants as k
+use Rattle.policy_files.specs.policy_tokens.declared.token.Token.{Token}
+use Rattle.policy_files.specs.policy_tokens.Lexing.{spelling_of}
 use Rattle.plain.specs.Words.{joined_path}
-use Rattle.token_readers.specs.Kinds.{only}
-use Rattle.token_readers.specs.Lang as lang
-use Rattle.token_readers.specs.Lang.{Lang}
-use Rattle.token_readers.specs.Grammar as names
-use Rattle.token_readers.specs.Grammar.{identifiers}
-use Rattle.token_readers.specs.declared.tree.PathTree.{PathTree}
-use Rattle.expression_trees.specs.declared.tree.ExprTree.{ExprTree}
-use Rattle.expression_trees.specs.declared.tree.ExprTree.TheVariants as t
-use Rattle.expression_trees.specs.declared.tree.KeyTree.TheVariants.{Word, Quoted}
-use Rattle.expression_syntax.specs.Expressions as e
-use Rattle.expression_syntax.specs.Expressions.{boolean_of, variable_of, sign_of, comparison_of, patterns, joined, accessed, is_in, is_positive, expr}
-use Rattle.desugaring.specs.Strings.{value_of}
-use Rattle.desugaring.specs.Names.{function_of}
-use Rattle.desugaring.specs.Core.{function_at}
-use Rattle.file_readings.proofs.Kin.{Same, Kin, Both, of_kin, empty_kin, both_kin, giving_kin, or_kin, maybe_kin, many_kin, gate_kin, symbol_kin, behind_kin}
+use Rattle.policy_files.specs.token_readers.Kinds.{only}
+use Rattle.policy_files.specs.token_readers.Lang as lang
+use Rattle.policy_files.specs.token_readers.Lang.{Lang}
+use Rattle.policy_files.specs.token_readers.Grammar as names
+use Rattle.policy_files.specs.token_readers.Grammar.{identifiers}
+use Rattle.policy_files.specs.token_readers.declared.tree.PathTree.{PathTree}
+use Rattle.policy_files.specs.expression_trees.declared.tree.ExprTree.{ExprTree}
+use Rattle.policy_files.specs.expression_trees.declared.tree.ExprTree.TheVariants as t
+use Rattle.policy_files.specs.expression_trees.declared.tree.KeyTree.TheVariants.{Word, Quoted}
+use Rattle.policy_files.specs.expression_syntax.Expressions as e
+use Rattle.policy_files.specs.expression_syntax.Expressions.{boolean_of, variable_of, sign_of, comparison_of, patterns}
+use Rattle.policy_files.specs.expression_syntax.Expressions.{joined, accessed, is_in, is_positive, expr}
+use Rattle.policy_grammar.specs.desugaring.Strings.{value_of}
+use Rattle.policy_grammar.specs.desugaring.Names.{function_of}
+use Rattle.policy_grammar.specs.desugaring.Core.{function_at}
+use Rattle.file_readings.proofs.Kin.{Same, Kin, Both, of_kin, empty_kin, both_kin, giving_kin, or_kin, maybe_kin}
+use Rattle.file_readings.proofs.Kin.{many_kin, gate_kin, symbol_kin, behind_kin}
 use Rattle.file_readings.proofs.Forms.{same_maps, SameTree, SamePath, SameUid, SameKey, SameEntry, SameTerm, SameAccess}
 use Rattle.file_readings.proofs.Forms as form
 

@@ -1,19 +1,19 @@
 -- Policies of two texts whose tokens are the same say the same: one rule a production.
 use Rattle.std.proofs.Common.{◌≡◌, ℕ, List, [], ◌∷◌, map, Option, Some, None, refl, sym, ap, ◌∙◌}
 use Rattle.std.specs.List.{AllZip}
-use Rattle.policy_tokens.specs.declared.token.TokenKind.{TokenKind}
-use Rattle.policy_tokens.specs.declared.token.TokenKind.TheVariants as k
-use Rattle.token_readers.specs.Kinds.{only}
-use Rattle.token_readers.specs.declared.tree.PathTree.{PathTree}
-use Rattle.token_readers.specs.declared.tree.UidTree.{UidTree}
-use Rattle.policy_syntax.specs.declared.tree.PartTree.{PartTree}
-use Rattle.policy_syntax.specs.declared.tree.PartTree.TheVariants as part_tree
-use Rattle.policy_syntax.specs.declared.tree.ActionTree.{ActionTree}
-use Rattle.policy_syntax.specs.declared.tree.ActionTree.TheVariants as action_tree
-use Rattle.policy_syntax.specs.declared.tree.Condition.{Condition}
-use Rattle.policy_syntax.specs.declared.tree.PolicyTree.{PolicyTree}
-use Rattle.policy_syntax.specs.Grammar as g
-use Rattle.policy_syntax.specs.Grammar.{words, effects, condition_word_of, is_in}
+use Rattle.policy_files.specs.policy_tokens.declared.token.TokenKind.{TokenKind}
+use Rattle.policy_files.specs.policy_tokens.declared.token.TokenKind.TheVariants as k
+use Rattle.policy_files.specs.token_readers.Kinds.{only}
+use Rattle.policy_files.specs.token_readers.declared.tree.PathTree.{PathTree}
+use Rattle.policy_files.specs.token_readers.declared.tree.UidTree.{UidTree}
+use Rattle.policy_files.specs.policy_syntax.declared.tree.PartTree.{PartTree}
+use Rattle.policy_files.specs.policy_syntax.declared.tree.PartTree.TheVariants as part_tree
+use Rattle.policy_files.specs.policy_syntax.declared.tree.ActionTree.{ActionTree}
+use Rattle.policy_files.specs.policy_syntax.declared.tree.ActionTree.TheVariants as action_tree
+use Rattle.policy_files.specs.policy_syntax.declared.tree.Condition.{Condition}
+use Rattle.policy_files.specs.policy_syntax.declared.tree.PolicyTree.{PolicyTree}
+use Rattle.policy_files.specs.policy_syntax.Grammar as g
+use Rattle.policy_files.specs.policy_syntax.Grammar.{words, effects, condition_word_of, is_in}
 use Rattle.policy_grammar.specs.declared.policy.EntityScope.{EntityScope}
 use Rattle.policy_grammar.specs.declared.policy.EntityScope.TheVariants as entity
 use Rattle.policy_grammar.specs.declared.policy.ActionScope.{ActionScope}
@@ -22,7 +22,8 @@ use Rattle.policy_grammar.specs.declared.policy.Policy.{Policy}
 use Rattle.values.specs.declared.entity_uid.EntityUid.{EntityUid}
 use Rattle.policy_grammar.specs.Conditions.{asked_by, condition_of, joined}
 use Rattle.policy_grammar.specs.CoreOf.{AreUidsOf, IsEntityScopeOf, IsActionScopeOf, IsCoreOf}
-use Rattle.file_readings.proofs.Kin.{Kin, Both, of_kin, empty_kin, both_kin, giving_kin, or_kin, maybe_kin, many_kin, symbol_kin, behind_kin}
+use Rattle.file_readings.proofs.Kin.{Kin, Both, of_kin, empty_kin, both_kin, giving_kin, or_kin, maybe_kin, many_kin}
+use Rattle.file_readings.proofs.Kin.{symbol_kin, behind_kin}
 use Rattle.file_readings.proofs.Forms.{SameTree, SamePath, SameUid}
 use Rattle.file_readings.proofs.Readings.{path_kin, uid_kin, expr_kin}
 

@@ -1,25 +1,27 @@
 -- The text of each policy, with its tokens as they stand in the file, is read as the policy that it is there.
-use Rattle.std.proofs.Common.{◌≡◌, ◌⊎◌, inl, inr, ℕ, ◌+◌, ◌-◌, ◌≤◌, List, [], ◌∷◌, ◌++◌, length, take, drop, map, refl, sym, ap, ◌∙◌, subst, arith, append_assoc, length-append, take-append-drop}
+use Rattle.std.proofs.Common.{◌≡◌, ◌⊎◌, inl, inr, ℕ, ◌+◌, ◌-◌, ◌≤◌, List, [], ◌∷◌, ◌++◌, length, take, drop, map, refl}
+use Rattle.std.proofs.Common.{sym, ap, ◌∙◌, subst, arith, append_assoc, length-append, take-append-drop}
 use Rattle.std.specs.Prelude.{encode_utf8_all, chars, slice_range}
 use Rattle.std.specs.List.{AllByRecursion, AllZip}
 use Rattle.std.specs.Str.{IsUtf8, IsCharBoundary, trim_start, skip_leading_whitespace}
 use Rattle.std.proofs.Math.Seq.{take-append_seam}
 use Rattle.std.proofs.lemmas.List.{length-take-le}
 use Rattle.std.proofs.lemmas.Str.{IsCharBoundary-start, IsUtf8-between, encodes-chars}
-use Rattle.policy_tokens.specs.declared.token.Token.{Token}
-use Rattle.policy_tokens.specs.Lexing.{Lex, finish, gap, token, IsSpelledIn, OneLexing}
-use Rattle.policy_tokens.proofs.Parts.{past}
-use Rattle.policy_tokens.proofs.Spelled.{all_spelled}
-use Rattle.token_readers.specs.Reads.{HasOneTree}
-use Rattle.expression_syntax.specs.Expressions.{nesting_limit}
-use Rattle.policy_syntax.specs.declared.tree.PolicyTree.{PolicyTree}
-use Rattle.policy_syntax.specs.Grammar.{policies, policy}
+use Rattle.policy_files.specs.policy_tokens.declared.token.Token.{Token}
+use Rattle.policy_files.specs.policy_tokens.Lexing.{Lex, finish, gap, token, IsSpelledIn, OneLexing}
+use Rattle.policy_files.proofs.of_policy_tokens.Parts.{past}
+use Rattle.policy_files.proofs.of_policy_tokens.Spelled.{all_spelled}
+use Rattle.policy_files.specs.token_readers.Reads.{HasOneTree}
+use Rattle.policy_files.specs.expression_syntax.Expressions.{nesting_limit}
+use Rattle.policy_files.specs.policy_syntax.declared.tree.PolicyTree.{PolicyTree}
+use Rattle.policy_files.specs.policy_syntax.Grammar.{policies, policy}
 use Rattle.policy_grammar.specs.declared.policy.Policy.{Policy}
 use Rattle.policy_grammar.specs.CoreOf.{IsCoreOf}
 use Rattle.policy_grammar.proofs.Cores.{core-same}
 use Rattle.policy_files.specs.Cuts.{parts_from, policy_texts}
 use Rattle.policy_files.proofs.Splitting.{NoEnd, FirstPart, split}
-use Rattle.policy_files.proofs.Alone.{trimmed, moved, back, parts_first, part_is, rest_is, last_of, part_spaced, lex_len}
+use Rattle.policy_files.proofs.Alone.{trimmed, moved, back, parts_first, part_is, rest_is, last_of, part_spaced}
+use Rattle.policy_files.proofs.Alone.{lex_len}
 use Rattle.policy_files.proofs.Endless.{policy_ends}
 use Rattle.policy_files.proofs.Deriving.{same_end, no_such}
 use Rattle.file_readings.specs.SameReadings.{ReadsAs, EachReadsAsInItsFile}

@@ -9,6 +9,8 @@ pub mod laws;
 mod limits;
 pub mod reply_cut;
 
+pub use http_texts;
+
 /// The most bytes of a head, its empty line included.
 pub const MAX_HEAD: usize = 16_384;
 

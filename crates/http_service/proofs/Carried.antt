@@ -1,12 +1,12 @@
 -- What is said of routes over a borrowed site is said of the site in the midst of its run, and the borrow stays the
 -- same; and what is said of a site in its run is said of the site.
 use Rattle.std.proofs.Common.{◌≡◌, ℕ, Option, Result, List, [], ◌∷◌, ◌++◌, refl, sym, ap, ◌∙◌, subst}
-use Rattle.http_texts.specs.declared.status.Status.{Status}
+use Rattle.service_replies.specs.http_texts.declared.status.Status.{Status}
 use Rattle.http_streams.specs.Serving.{IsAnswered}
 use Rattle.http_streams.specs.declared.serve.StreamFault.{StreamFault}
 use Rattle.http_streams.proofs.Simulated.{answered}
-use Rattle.site_runs.specs.passed_on.entities.{schema_view}
-use Rattle.service_replies.specs.passed_on.site.{Seen, schema_of, store_in, IsSameSite}
+use Rattle.site_runs.specs.schema.Views.{schema_view}
+use Rattle.site_runs.specs.site.Seen.{Seen, schema_of, store_in, IsSameSite}
 use Rattle.site_runs.specs.Runs.{Run}
 use Rattle.site_runs.proofs.RunLemmas.{run_push, same_step}
 use Rattle.service_routes.specs.Routes.{route_stated}

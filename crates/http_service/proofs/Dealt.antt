@@ -1,20 +1,21 @@
 -- A request is dealt with: what was asked became of a step of the site, and was told.
-use Rattle.std.proofs.Common.{◌≡◌, ℕ, Bool, true, false, List, ◌++◌, Result, Ok, Err, Option, Some, None, option_map, IsTrue, refl, sym, ap, ◌∙◌, subst, inl, inr}
+use Rattle.std.proofs.Common.{◌≡◌, ℕ, Bool, true, false, List, ◌++◌, Result, Ok, Err, Option, Some, None, option_map}
+use Rattle.std.proofs.Common.{IsTrue, refl, sym, ap, ◌∙◌, subst, inl, inr}
 use Rattle.std.proofs.lemmas.Bool.{false≢true}
 use Rattle.std.specs.Str.{IsUtf8, is_utf8}
 use Rattle.std.proofs.lemmas.Str.{IsUtf8-from_is_utf8}
-use Rattle.http_texts.specs.declared.status.Status.{Status}
+use Rattle.service_replies.specs.http_texts.declared.status.Status.{Status}
 use Rattle.values.specs.declared.entity_uid.EntityUid.{EntityUid}
-use Rattle.site_runs.specs.passed_on.entities_EntityFault_variants.{BadShape}
-use Rattle.text_trees.specs.declared.fault.ReadFault.{ReadFault}
-use Rattle.text_trees.specs.declared.fault.ReadFault.TheVariants.{BadId}
-use Rattle.service_replies.specs.passed_on.site.{Seen, schema_of, store_in, IsSameSite}
-use Rattle.service_replies.specs.passed_on.site.{SiteFault}
-use Rattle.service_replies.specs.passed_on.site_SiteFault_variants as fault
-use Rattle.service_replies.specs.passed_on.site.{Put}
-use Rattle.service_replies.specs.passed_on.site.{PutsPolicy, Deletes, policy_found}
-use Rattle.service_replies.specs.passed_on.stamped_store.{Stamp}
-use Rattle.service_replies.specs.passed_on.stamped_store.{entity_name}
+use Rattle.site_runs.specs.entities.declared.fault.EntityFault.TheVariants.{BadShape}
+use Rattle.service_replies.specs.text_trees.declared.fault.ReadFault.{ReadFault}
+use Rattle.service_replies.specs.text_trees.declared.fault.ReadFault.TheVariants.{BadId}
+use Rattle.site_runs.specs.site.Seen.{Seen, schema_of, store_in, IsSameSite}
+use Rattle.site_runs.specs.site.declared.fault.SiteFault.{SiteFault}
+use Rattle.site_runs.specs.site.declared.fault.SiteFault.TheVariants as fault
+use Rattle.site_runs.specs.site.declared.outcome.Put.{Put}
+use Rattle.site_runs.specs.site.Steps.{PutsPolicy, Deletes, policy_found}
+use Rattle.site_runs.specs.stamped_entries.declared.entry.Stamp.{Stamp}
+use Rattle.site_runs.specs.stamped_store.Store.{entity_name}
 use Rattle.site_runs.specs.declared.reply.Found.{Found}
 use Rattle.site_runs.specs.Runs.{Step}
 use Rattle.site_runs.specs.declared.input.Input.{Input}

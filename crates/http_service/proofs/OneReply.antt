@@ -1,15 +1,19 @@
 -- A request has one reply from sites that are alike, want of memory aside.
 use Rattle.std.proofs.Common.{◌≡◌, ◌≢◌, ◌⊎◌, ℕ, List, Ok, Err, refl, sym, ap, ◌∙◌, subst, inl, inr}
-use Rattle.http_texts.specs.declared.status.Status.{Status}
-use Rattle.http_texts.specs.declared.status.Status.TheVariants.{ServiceUnavailable}
+use Rattle.service_replies.specs.http_texts.declared.status.Status.{Status}
+use Rattle.service_replies.specs.http_texts.declared.status.Status.TheVariants.{ServiceUnavailable}
 use Rattle.http_streams.specs.Laws.{HasOneAnswer, in_memory}
-use Rattle.site_runs.specs.passed_on.entities.{StatedSchema, schema_view}
-use Rattle.site_runs.specs.passed_on.schema.{SchemaEntries, IsSchemaOf, IsStated}
-use Rattle.service_replies.specs.passed_on.stamped_store.{Store}
-use Rattle.service_replies.specs.passed_on.site.{Seen, SiteFault, schema_of, store_in, IsSameSite}
-use Rattle.site.specs.declared.fault.SiteFault.TheVariants as fault
+use Rattle.site_runs.specs.schema.Schemas.{StatedSchema}
+use Rattle.site_runs.specs.schema.Views.{schema_view}
+use Rattle.site_runs.specs.schema.SchemaEntries.{SchemaEntries}
+use Rattle.site_runs.specs.schema.Schemas.{IsSchemaOf}
+use Rattle.site_runs.specs.schema.Views.{IsStated}
+use Rattle.site_runs.specs.stamped_store.Store.{Store}
+use Rattle.site_runs.specs.site.Seen.{Seen, schema_of, store_in, IsSameSite}
+use Rattle.site_runs.specs.site.declared.fault.SiteFault.{SiteFault}
+use Rattle.site_runs.specs.site.declared.fault.SiteFault.TheVariants as fault
 use Rattle.service_replies.specs.Replies.{fault_reply}
-use Rattle.site.specs.declared.outcome.Taken.TheVariants.{All, Short}
+use Rattle.site_runs.specs.site.declared.outcome.Taken.TheVariants.{All, Short}
 use Rattle.site_runs.specs.declared.input.Input.{Input}
 use Rattle.site_runs.specs.declared.reply.Reply.{Reply}
 use Rattle.site_runs.specs.declared.reply.Reply.TheVariants as reply

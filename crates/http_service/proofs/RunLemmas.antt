@@ -1,11 +1,12 @@
 -- What a stream leaves is what a run leaves.
-use Rattle.std.proofs.Common.{◌≡◌, ℕ, zero, suc, Bool, true, false, List, [], ◌∷◌, ◌++◌, refl, sym, ap, ◌∙◌, subst, inl, inr}
-use Rattle.http_texts.specs.declared.status.Status.{Status}
+use Rattle.std.proofs.Common.{◌≡◌, ℕ, zero, suc, Bool, true, false, List, [], ◌∷◌, ◌++◌, refl, sym, ap, ◌∙◌, subst, inl}
+use Rattle.std.proofs.Common.{inr}
+use Rattle.service_replies.specs.http_texts.declared.status.Status.{Status}
 use Rattle.http_streams.specs.Stream.{Closes, Ends, Exchanges, Halts, Rests, Serves, Stops}
-use Rattle.site_runs.specs.passed_on.entities.{StatedSchema}
-use Rattle.site_runs.specs.passed_on.entities.{schema_view}
-use Rattle.service_replies.specs.passed_on.stamped_store.{Store, store_of, updates}
-use Rattle.service_replies.specs.passed_on.site.{Seen, schema_of, store_in, IsSameSite}
+use Rattle.site_runs.specs.schema.Schemas.{StatedSchema}
+use Rattle.site_runs.specs.schema.Views.{schema_view}
+use Rattle.site_runs.specs.stamped_store.Store.{Store, store_of, updates}
+use Rattle.site_runs.specs.site.Seen.{Seen, schema_of, store_in, IsSameSite}
 use Rattle.site_runs.specs.Runs.{Run, took}
 use Rattle.site_runs.specs.declared.input.Input.{Input}
 use Rattle.site_runs.specs.declared.reply.Reply.{Reply}

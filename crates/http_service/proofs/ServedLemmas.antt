@@ -1,13 +1,14 @@
 -- What a served site is said to be, in parts: each request is answered by the site, and the inputs are those asked for.
-use Rattle.std.proofs.Common.{◌≡◌, ℕ, zero, suc, Bool, true, false, Option, Result, Ok, Err, List, [], ◌++◌, refl, sym, ap, ◌∙◌, subst, inl, inr, append-nil, append_assoc}
+use Rattle.std.proofs.Common.{◌≡◌, ℕ, zero, suc, Bool, true, false, Option, Result, Ok, Err, List, [], ◌++◌, refl, sym}
+use Rattle.std.proofs.Common.{ap, ◌∙◌, subst, inl, inr, append-nil, append_assoc}
 use Rattle.std.specs.Io.KnownBytes.{Consumes}
-use Rattle.http_texts.specs.declared.status.Status.{Status}
+use Rattle.service_replies.specs.http_texts.declared.status.Status.{Status}
 use Rattle.http_streams.specs.Stream.{Closes, Ends, Exchanges, Halts, Rests, Serves, Stops}
 use Rattle.http_streams.specs.Serving.{EndsAs, IsAnswered}
 use Rattle.http_streams.specs.declared.serve.StreamFault.{StreamFault}
 use Rattle.http_streams.specs.declared.serve.StreamFault.TheVariants as fault
 use Rattle.http_streams.proofs.Simulated.{answered}
-use Rattle.service_replies.specs.passed_on.site.{Seen}
+use Rattle.site_runs.specs.site.Seen.{Seen}
 use Rattle.site_runs.specs.declared.input.Input.{Input}
 use Rattle.service_routes.specs.Routes.{route_stated}
 use Rattle.http_service.specs.Asked.{Asked, asked, hands, refused, unserved}

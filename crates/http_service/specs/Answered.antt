@@ -1,9 +1,9 @@
 -- What is answered to a request, and what it leaves of the site. Rules of this product.
 use Rattle.std.specs.Prelude.{◌≡◌, ◌⊎◌, ℕ, List, Ok, Err, option_map}
-use Rattle.http_texts.specs.declared.status.Status.{Status}
-use Rattle.site_runs.specs.passed_on.schema.{IsStated}
-use Rattle.service_replies.specs.passed_on.site.{Seen, schema_of, store_in, IsSameSite}
-use Rattle.service_replies.specs.passed_on.site_SiteFault_variants as fault
+use Rattle.service_replies.specs.http_texts.declared.status.Status.{Status}
+use Rattle.site_runs.specs.schema.Views.{IsStated}
+use Rattle.site_runs.specs.site.Seen.{Seen, schema_of, store_in, IsSameSite}
+use Rattle.site_runs.specs.site.declared.fault.SiteFault.TheVariants as fault
 use Rattle.site_runs.specs.Runs.{Step}
 use Rattle.site_runs.specs.declared.reply.Reply.{Reply}
 use Rattle.site_runs.specs.declared.reply.Reply.TheVariants as reply

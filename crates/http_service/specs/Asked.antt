@@ -5,15 +5,15 @@ use Rattle.std.specs.Prelude.{ℕ, Bool, ◌&&◌, List, length, Option, Some, N
 use Rattle.std.specs.Str.{is_utf8}
 use Rattle.json_words.specs.Json.{json_of}
 use Rattle.values.specs.declared.entity_uid.EntityUid.{EntityUid}
-use Rattle.uid_json.specs.Uids.{uid_in}
-use Rattle.policy_grammar.specs.Limits.{most_id_bytes, most_policy_bytes}
-use Rattle.text_trees.specs.declared.fault.ReadFault.{ReadFault}
-use Rattle.text_trees.specs.declared.fault.ReadFault.TheVariants.{BadId, BadToken, TooLong}
-use Rattle.site_runs.specs.passed_on.entities_EntityFault_variants.{BadShape}
-use Rattle.http_texts.specs.declared.status.Status.{Status}
-use Rattle.http_texts.specs.declared.status.Status.TheVariants.{NotFound, MethodNotAllowed}
-use Rattle.service_replies.specs.passed_on.site.{SiteFault}
-use Rattle.service_replies.specs.passed_on.site_SiteFault_variants as fault
+use Rattle.service_replies.specs.uid_json.Uids.{uid_in}
+use Rattle.service_replies.specs.policy_grammar.Limits.{most_id_bytes, most_policy_bytes}
+use Rattle.service_replies.specs.text_trees.declared.fault.ReadFault.{ReadFault}
+use Rattle.service_replies.specs.text_trees.declared.fault.ReadFault.TheVariants.{BadId, BadToken, TooLong}
+use Rattle.site_runs.specs.entities.declared.fault.EntityFault.TheVariants.{BadShape}
+use Rattle.service_replies.specs.http_texts.declared.status.Status.{Status}
+use Rattle.service_replies.specs.http_texts.declared.status.Status.TheVariants.{NotFound, MethodNotAllowed}
+use Rattle.site_runs.specs.site.declared.fault.SiteFault.{SiteFault}
+use Rattle.site_runs.specs.site.declared.fault.SiteFault.TheVariants as fault
 use Rattle.site_runs.specs.declared.input.Input.{Input}
 use Rattle.site_runs.specs.declared.input.Input.TheVariants as input
 use Rattle.service_routes.specs.declared.route.PolicyId.{PolicyId}

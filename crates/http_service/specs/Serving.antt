@@ -2,11 +2,11 @@
 -- Source: RFC 9112, section 9.3 (replies in the order of the requests); that each request is one step at most is a rule
 -- of this product.
 use Rattle.std.specs.Prelude.{◌≡◌, ℕ, List, [], ◌∷◌, ◌++◌, Option, Result}
-use Rattle.http_texts.specs.declared.status.Status.{Status}
+use Rattle.service_replies.specs.http_texts.declared.status.Status.{Status}
 use Rattle.http_streams.specs.Serving.{IsAnswered}
 use Rattle.http_streams.specs.declared.serve.StreamFault.{StreamFault}
-use Rattle.service_replies.specs.passed_on.stamped_store.{store_of, updates}
-use Rattle.service_replies.specs.passed_on.site.{Seen, schema_of, store_in, IsSameSite}
+use Rattle.site_runs.specs.stamped_store.Store.{store_of, updates}
+use Rattle.site_runs.specs.site.Seen.{Seen, schema_of, store_in, IsSameSite}
 use Rattle.site_runs.specs.Runs.{Step, Run, took}
 use Rattle.site_runs.specs.declared.input.Input.{Input}
 use Rattle.site_runs.specs.declared.reply.Reply.{Reply}

@@ -2,9 +2,9 @@
 -- Source: RFC 9112, section 9.3.
 use Rattle.std.specs.Prelude.{◌≡◌, ℕ, suc, zero, List, [], ◌∷◌, ◌++◌}
 use Rattle.httparse.specs.Grammar.{RequestHead}
-use Rattle.http_framing.specs.Request.{ReadsWhole}
-use Rattle.service_replies.specs.passed_on.stamped_store.{store_of, updates}
-use Rattle.service_replies.specs.passed_on.site.{Seen, schema_of, store_in, IsSameSite}
+use Rattle.http_streams.specs.http_framing.Request.{ReadsWhole}
+use Rattle.site_runs.specs.stamped_store.Store.{store_of, updates}
+use Rattle.site_runs.specs.site.Seen.{Seen, schema_of, store_in, IsSameSite}
 use Rattle.site_runs.specs.Runs.{Run, took}
 use Rattle.site_runs.specs.declared.input.Input.{Input}
 use Rattle.site_runs.specs.declared.reply.Reply.{Reply}

@@ -3,29 +3,29 @@ ghost use Rattle.std.specs.Prelude.{◌≡◌, ◌≤◌, ◌+◌, IfOk, MatchOp
 ghost use Rattle.std.specs.Str.{is_utf8};
 ghost use Rattle.std.specs.Vec.{vec_capacity};
 ghost use Rattle.json_words.specs.Json.{json_of};
-ghost use Rattle.uid_json.specs.Uids.{uid_in};
-ghost use Rattle.service_replies.specs.passed_on.site.{schema_of, store_in, IsSameSite};
-ghost use Rattle.site.specs.Steps.{Answers, PutsEntity};
+ghost use Rattle.service_replies.specs.uid_json.Uids.{uid_in};
+ghost use Rattle.site_runs.specs.site.Seen.{schema_of, store_in, IsSameSite};
+ghost use Rattle.site_runs.specs.site.Steps.{Answers, PutsEntity};
 ghost use Rattle.http_streams.specs.declared.TheConstants.{REPLY_ROOM};
 ghost use Rattle.service_routes.specs.Routes.{route_stated};
 ghost use Rattle.site_runs.specs.declared.input.Input.TheVariants as input;
 ghost use Rattle.http_service.specs.Asked.{asked, hands, put_asked, removal_asked, not_text};
 ghost use Rattle.http_service.specs.inner.Dealing.{Deals};
 
-use authoriser::Answer;
-use http_texts::status::Status;
-use json_values::{Scratch, read_json_by};
 use plain::NoMemory;
-use policy_grammar::{MOST_ID_BYTES, MOST_POLICY_BYTES, ReadFault};
+use service_replies::authoriser::Answer;
+use service_replies::http_texts::status::Status;
+use service_replies::json_values::{Scratch, read_json_by};
+use service_replies::policy_grammar::{MOST_ID_BYTES, MOST_POLICY_BYTES, ReadFault};
+use service_replies::uid_json::read_uid;
 use service_replies::{
     Site, SiteFault, report_answer, report_fault, report_found, report_message, report_put,
     report_stamp, report_status, report_taken,
 };
 use service_routes::{PolicyId, Route, route_of};
+use site_runs::stamped_store::Stamp;
 use site_runs::{EntityFault, delta_bytes, state_bytes, summary_bytes, take_bytes};
-use stamped_store::Stamp;
 use std::alloc::Global;
-use uid_json::read_uid;
 use values::EntityUid;
 
 // ---- questions

@@ -1,14 +1,14 @@
 //! Laws of streams over a site.
 ghost use Rattle.std.specs.Prelude.{◌≡◌, ℕ, List, Result};
 ghost use Rattle.std.specs.Io.KnownBytes.{Consumes};
-ghost use Rattle.http_texts.specs.declared.status.Status.{Status};
+ghost use Rattle.service_replies.specs.http_texts.declared.status.Status.{Status};
 ghost use Rattle.http_streams.specs.Laws.{AgreeOn, AnswersAll, BeginsAnswer, HasOneAnswer, StopsIn, in_memory};
 ghost use Rattle.http_streams.specs.Serving.{IsAnswered};
 ghost use Rattle.http_streams.specs.Stream.{Ends, Rests, Stops};
-ghost use Rattle.service_replies.specs.passed_on.site.{Seen};
+ghost use Rattle.site_runs.specs.site.Seen.{Seen};
 ghost use Rattle.site_runs.specs.declared.input.Input.{Input};
 ghost use Rattle.site_runs.specs.declared.reply.Reply.{Reply};
-ghost use Rattle.site_runs.specs.passed_on.schema.{IsStated};
+ghost use Rattle.site_runs.specs.schema.Views.{IsStated};
 ghost use Rattle.site_runs.specs.Right.{IsHarmlessReply};
 ghost use Rattle.http_service.specs.Asked.{hands};
 ghost use Rattle.http_service.specs.Answered.{IsAlike, Replies, answers, told};
@@ -16,7 +16,7 @@ ghost use Rattle.http_service.specs.Serving.{IsServed};
 ghost use Rattle.http_service.specs.Streams.{AskFor, LeavesRun};
 
 use crate::site_service::Stated;
-use counted_devices::devices::{Sink, Source};
+use http_streams::counted_devices::devices::{Sink, Source};
 use http_streams::laws::{begins_answer, one_answer};
 use http_streams::serve::StreamFault;
 use site_runs::{inputs_have_one_outcome, runs_go_right, runs_leave_what_they_took};

@@ -1,9 +1,9 @@
 //! A site as a service of HTTP.
 use crate::handlers::answer;
 use http_streams::service::{Answers, Service};
-use http_texts::status::Status;
-use json_values::Scratch;
 use service_replies::Site;
+use service_replies::http_texts::status::Status;
+use service_replies::json_values::Scratch;
 use std::alloc::Global;
 use std::marker::Model;
 
@@ -30,8 +30,8 @@ pub struct Stated {
 }
 
 impl Model for Stated {
-    ghost use Rattle.service_replies.specs.passed_on.site.{Seen};
-    ghost use Rattle.site.specs.contracts.site.Site as row;
+    ghost use Rattle.site_runs.specs.site.Seen.{Seen};
+    ghost use Rattle.site_runs.specs.site.contracts.site.Site as row;
 
     ghost Value = { Seen };
 

@@ -1,8 +1,9 @@
 -- What went out before a fault is a beginning of what goes out without it.
-use Rattle.std.proofs.Common.{◌≡◌, ℕ, zero, suc, ◌⊎◌, inl, inr, true, false, List, [], ◌++◌, refl, sym, ap, ◌∙◌, subst, append_assoc, append-nil}
+use Rattle.std.proofs.Common.{◌≡◌, ℕ, zero, suc, ◌⊎◌, inl, inr, true, false, List, [], ◌++◌, refl, sym, ap, ◌∙◌, subst}
+use Rattle.std.proofs.Common.{append_assoc, append-nil}
 use Rattle.http_streams.specs.Laws.{AnswersAll, BeginsAnswer, HasOneAnswer, StopsIn}
-use Rattle.http_texts.specs.ReplyText.{error_line, reply_text}
-use Rattle.http_texts.specs.declared.status.Status.TheVariants.{BadRequest}
+use Rattle.http_framing.specs.http_texts.ReplyText.{error_line, reply_text}
+use Rattle.http_framing.specs.http_texts.declared.status.Status.TheVariants.{BadRequest}
 use Rattle.http_framing.specs.Request.{IsUnfinished}
 use Rattle.http_streams.specs.Stream.{Answering, Closes, Ends, Halts, Rests, Serves}
 use Rattle.http_streams.proofs.StreamLemmas.{Exchanges-append, Serves-append, Serves-push}

@@ -1,11 +1,12 @@
 -- Each answer to a stream is one in memory, or has a reply in it that memory was refused.
-use Rattle.std.proofs.Common.{◌≡◌, ◌≢◌, ℕ, zero, suc, ◌⊎◌, inl, inr, Bool, List, [], ◌++◌, refl, sym, ap, ◌∙◌, subst, append_assoc, append-nil}
+use Rattle.std.proofs.Common.{◌≡◌, ◌≢◌, ℕ, zero, suc, ◌⊎◌, inl, inr, Bool, List, [], ◌++◌, refl, sym, ap, ◌∙◌, subst}
+use Rattle.std.proofs.Common.{append_assoc, append-nil}
 use Rattle.http_streams.specs.Laws.{AnswersAll, LacksMemory, StopsIn, in_memory}
-use Rattle.http_texts.specs.declared.status.Status.{Status}
-use Rattle.http_texts.specs.declared.status.Status.TheVariants.{Ok, BadRequest, NotFound, MethodNotAllowed}
-use Rattle.http_texts.specs.declared.status.Status.TheVariants.{Conflict, LengthRequired, PayloadTooLarge}
-use Rattle.http_texts.specs.declared.status.Status.TheVariants.{UnprocessableEntity, NotImplemented}
-use Rattle.http_texts.specs.declared.status.Status.TheVariants.{ServiceUnavailable}
+use Rattle.http_framing.specs.http_texts.declared.status.Status.{Status}
+use Rattle.http_framing.specs.http_texts.declared.status.Status.TheVariants.{Ok, BadRequest, NotFound, MethodNotAllowed}
+use Rattle.http_framing.specs.http_texts.declared.status.Status.TheVariants.{Conflict, LengthRequired, PayloadTooLarge}
+use Rattle.http_framing.specs.http_texts.declared.status.Status.TheVariants.{UnprocessableEntity, NotImplemented}
+use Rattle.http_framing.specs.http_texts.declared.status.Status.TheVariants.{ServiceUnavailable}
 use Rattle.http_streams.specs.Stream.{Answering, Closes, Ends, Exchanges, Halts, Rests, Serves, Stops}
 use Rattle.http_streams.proofs.StreamLemmas.{Exchanges-append, Serves-append, Serves-none, Serves-then, status-append}
 

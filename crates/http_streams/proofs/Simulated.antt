@@ -1,6 +1,7 @@
 -- Where each answer of one service is an answer of another, between states that belong to its own, so is each stream.
-use Rattle.std.proofs.Common.{ℕ, zero, suc, Bool, true, false, Option, List, ◌++◌, Result, Ok, Err, refl, sym, subst, inl, inr}
-use Rattle.http_texts.specs.declared.status.Status.{Status}
+use Rattle.std.proofs.Common.{ℕ, zero, suc, Bool, true, false, Option, List, ◌++◌, Result, Ok, Err, refl, sym, subst}
+use Rattle.std.proofs.Common.{inl, inr}
+use Rattle.http_framing.specs.http_texts.declared.status.Status.{Status}
 use Rattle.http_streams.specs.Stream.{Answering, Closes, Ends, Exchanges, Halts, KeepsUp, Rests, Serves, Stops}
 use Rattle.http_streams.specs.Serving.{EndsAs, IsAnswered}
 use Rattle.http_streams.specs.declared.serve.StreamFault.{StreamFault}

@@ -1,11 +1,12 @@
 -- What was answered of a stream stays answered when more comes, and each part follows the one before.
-use Rattle.std.proofs.Common.{◌≡◌, ℕ, zero, suc, Bool, false, List, [], ◌++◌, drop, refl, sym, ap, ◌∙◌, subst, append_assoc, append-nil}
+use Rattle.std.proofs.Common.{◌≡◌, ℕ, zero, suc, Bool, false, List, [], ◌++◌, drop, refl, sym, ap, ◌∙◌, subst}
+use Rattle.std.proofs.Common.{append_assoc, append-nil}
 use Rattle.httparse.specs.Spans.{span_bytes}
-use Rattle.http_texts.specs.ReplyText.{reply_text}
+use Rattle.http_framing.specs.http_texts.ReplyText.{reply_text}
 use Rattle.http_framing.specs.Request.{IsUnfinished, IsWholeAt}
 use Rattle.http_framing.proofs.OneRequest.{ReadsWhole-append}
 use Rattle.http_framing.specs.declared.cut.Parts.{Parts}
-use Rattle.http_texts.specs.declared.status.Status.{Status}
+use Rattle.http_framing.specs.http_texts.declared.status.Status.{Status}
 use Rattle.http_streams.specs.Stream.{Answering, Closes, Ends, Exchanges, Halts, Rests, Serves, Stops}
 
 module _ {S : Type 0} (answers : Answering S) where

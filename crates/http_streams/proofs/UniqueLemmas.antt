@@ -1,16 +1,18 @@
 -- A stream of requests has one answer: its requests follow each other in one way, and each has one reply.
-use Rattle.std.proofs.Common.{◌≡◌, ℕ, zero, suc, ◌⊎◌, inl, inr, Bool, true, false, List, [], ◌++◌, sym, ap, ◌∙◌, subst, arith, append_assoc}
+use Rattle.std.proofs.Common.{◌≡◌, ℕ, zero, suc, ◌⊎◌, inl, inr, Bool, true, false, List, [], ◌++◌, sym, ap, ◌∙◌, subst}
+use Rattle.std.proofs.Common.{arith, append_assoc}
 use Rattle.std.proofs.lemmas.Bool.{false≢true}
 use Rattle.httparse.specs.Grammar.{RequestHead}
 use Rattle.http_framing.specs.declared.cut.Framing.TheVariants.{Body, Refused}
 use Rattle.http_framing.specs.Request.{IsRefused, IsUnfinished, framing_of, closes_of}
-use Rattle.http_texts.specs.ReplyText.{reply_text, error_line}
-use Rattle.http_texts.specs.Status.{code}
-use Rattle.http_texts.specs.declared.status.Status.{Status}
-use Rattle.http_texts.specs.declared.status.Status.TheVariants.{BadRequest}
+use Rattle.http_framing.specs.http_texts.ReplyText.{reply_text, error_line}
+use Rattle.http_framing.specs.http_texts.Status.{code}
+use Rattle.http_framing.specs.http_texts.declared.status.Status.{Status}
+use Rattle.http_framing.specs.http_texts.declared.status.Status.TheVariants.{BadRequest}
 use Rattle.http_streams.specs.Stream.{Answering, Closes, Ends, Exchanges, Refuses, Rests, Serves}
 use Rattle.http_streams.specs.Laws.{AgreeOn, AnswersAll, DiffersInCorner, HasOneAnswer, IsCorner}
-use Rattle.http_framing.proofs.OneRequest.{admits_unique, refused-append, refused_unique, whole_not_unfinished, whole_or_refused, whole_unique}
+use Rattle.http_framing.proofs.OneRequest.{admits_unique, refused-append, refused_unique, whole_not_unfinished}
+use Rattle.http_framing.proofs.OneRequest.{whole_or_refused, whole_unique}
 use Rattle.http_streams.proofs.StreamLemmas.{Exchanges-append, Serves-append}
 
 refused_unfinished : (rest : List ℕ) (status : Status) → IsRefused rest status → IsUnfinished rest

@@ -2,11 +2,11 @@
 -- A rule of this product.
 use Rattle.std.specs.Prelude.{◌≡◌, ◌≢◌, ◌≤◌, ℕ, ◌⊎◌, Bool, List, [], ◌++◌, length, true}
 use Rattle.httparse.specs.Grammar.{EndsInTarget, NeverHasRequest}
-use Rattle.http_texts.specs.ReplyText.{error_line, reply_text}
+use Rattle.http_framing.specs.http_texts.ReplyText.{error_line, reply_text}
 use Rattle.http_streams.specs.Stream.{Answering, Ends, Exchanges, Rests, Serves, Stops}
 use Rattle.http_framing.specs.declared.TheConstants.{MAX_HEAD}
-use Rattle.http_texts.specs.declared.status.Status.{Status}
-use Rattle.http_texts.specs.declared.status.Status.TheVariants.{BadRequest, ServiceUnavailable}
+use Rattle.http_framing.specs.http_texts.declared.status.Status.{Status}
+use Rattle.http_framing.specs.http_texts.declared.status.Status.TheVariants.{BadRequest, ServiceUnavailable}
 
 -- a rest on which a reader may answer either way: it ends inside a target that is no text
 pub record IsCorner (rest : List ℕ) : Type 0 where

@@ -2,10 +2,10 @@
 use Rattle.std.specs.Prelude.{◌≡◌, ◌<◌, ℕ, suc, zero, ◌⊎◌, Bool, true, false, Option, List, [], ◌++◌, length}
 use Rattle.httparse.specs.Grammar.{RequestHead}
 use Rattle.http_streams.specs.Reads.{EndsByOneRead}
-use Rattle.http_texts.specs.ReplyText.{error_line, reply_text}
+use Rattle.http_framing.specs.http_texts.ReplyText.{error_line, reply_text}
 use Rattle.http_framing.specs.Request.{ReadsWhole, IsRefused, IsUnfinished, closes_of}
-use Rattle.http_texts.specs.Status.{code}
-use Rattle.http_texts.specs.declared.status.Status.{Status}
+use Rattle.http_framing.specs.http_texts.Status.{code}
+use Rattle.http_framing.specs.http_texts.declared.status.Status.{Status}
 
 -- in a state, a method, a target and a body may be answered by a status and a body, which leaves a state
 abbrev pub Answering : Type 0 → Type 1

@@ -4,15 +4,15 @@ ghost use Rattle.std.specs.Prelude.{slice_range, vec_len};
 ghost use Rattle.std.specs.Io.KnownBytes.{Appends, Consumes, IsAtEnd};
 ghost use Rattle.counted_devices.specs.Devices.{FailsAtLast};
 ghost use Rattle.http_framing.specs.Reply.{IsBadReply, IsReplyAt, IsUnfinishedReply, ReadsReply};
-ghost use Rattle.http_texts.specs.RequestText.{request_text};
+ghost use Rattle.http_framing.specs.http_texts.RequestText.{request_text};
 ghost use Rattle.http_streams.specs.Reads.{EndsByOneRead};
 
 use crate::MAX_READ;
 use crate::buffers::{ReadFault, drop_front, read_more, room_for_heads, room_for_reads};
 use counted_devices::devices::{Sink, Source, write_all};
 use http_framing::MAX_HEAD;
+use http_framing::http_texts::request::{Ask, request_text};
 use http_framing::reply_cut::{ReplyCut, ReplyParts, cut_reply};
-use http_texts::request::{Ask, request_text};
 use httparse::spans::HeaderSpan;
 use std::alloc::{AllocError, Global};
 

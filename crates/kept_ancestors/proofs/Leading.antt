@@ -5,8 +5,8 @@ use Rattle.std.specs.Ordering.{is_eq}
 use Rattle.std.specs.Cmp.{eq_by_cmp_equiv}
 use Rattle.values.specs.declared.entity_uid.EntityUid.{EntityUid}
 use Rattle.values.specs.Names.{uid_cmp, uid_cmp-IsTotalOrder}
-use Rattle.ancestor_closure.specs.Hierarchy.{Parents, Path, Above, with_parents}
-use Rattle.ancestor_closure.specs.Deciding.{same_uid}
+use Rattle.ancestor_lists.specs.ancestor_closure.Hierarchy.{Parents, Path, Above, with_parents}
+use Rattle.ancestor_lists.specs.ancestor_closure.Deciding.{same_uid}
 use Rattle.ancestor_lists.specs.Lists.{AgreeBut}
 
 -- x is the entity or has it above

@@ -7,10 +7,10 @@ use Rattle.std.specs.Map.{lookup}
 use Rattle.std.specs.List.Sorted.{IsStrictlySortedBy}
 use Rattle.values.specs.declared.entity_uid.EntityUid.{EntityUid}
 use Rattle.values.specs.Names.{uid_cmp}
-use Rattle.ancestor_closure.specs.Hierarchy.{Path, Parents, no_parents, with_parents}
-use Rattle.ancestor_closure.specs.Search.{parents_of, items_or_none}
-use Rattle.ancestor_closure.specs.Decided.{is_same}
-use Rattle.ancestor_closure.specs.Deciding.{Contains-none, same_uid}
+use Rattle.ancestor_lists.specs.ancestor_closure.Hierarchy.{Path, Parents, no_parents, with_parents}
+use Rattle.ancestor_lists.specs.ancestor_closure.Search.{parents_of, items_or_none}
+use Rattle.ancestor_lists.specs.ancestor_closure.Decided.{is_same}
+use Rattle.ancestor_lists.specs.ancestor_closure.Deciding.{Contains-none, same_uid}
 use Rattle.kept_ancestors.specs.ClosedMeaning.{closed_entries, closed_parents}
 use Rattle.ancestor_lists.specs.Lists.{IsKeptOf, ancestors_in, children_in, ancestors_or_none, children_or_none}
 use Rattle.ancestor_lists.specs.declared.relatives.Relatives.{Relatives}

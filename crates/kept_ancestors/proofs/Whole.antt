@@ -1,5 +1,6 @@
 -- All that is kept of a graph.
-use Rattle.std.proofs.Common.{◌≡◌, ◌∙◌, Bool, true, false, cond, List, [], ◌∷◌, ◌++◌, refl, ap, sym, subst, inl, inr, Result, Ok, Err, OnErr}
+use Rattle.std.proofs.Common.{◌≡◌, ◌∙◌, Bool, true, false, cond, List, [], ◌∷◌, ◌++◌, refl, ap, sym, subst, inl, inr}
+use Rattle.std.proofs.Common.{Result, Ok, Err, OnErr}
 use Rattle.std.specs.Prelude.{Contains, ◌⊎◌, ◌↔◌}
 use Rattle.std.specs.Borrow.{Bor}
 use Rattle.std.specs.BTreeSet.{insert_key}
@@ -7,11 +8,12 @@ use Rattle.std.specs.List.Sorted.{IsStrictlySortedBy}
 use Rattle.std.proofs.lemmas.List.Elements.{Contains-append_left, Contains-push, Contains-push_cases}
 use Rattle.values.specs.declared.entity_uid.EntityUid.{EntityUid}
 use Rattle.values.specs.Names.{uid_cmp, uid_cmp-IsAntisymmetric}
-use Rattle.ancestor_closure.specs.Hierarchy.{Parents, Above, AreOnCycles, IsAscending, names}
-use Rattle.ancestor_closure.specs.Decided.{HaveAllParents, is_same}
-use Rattle.ancestor_closure.specs.Deciding.{same_uid, same_self, Contains-here, Contains-there, Contains-cases, Contains-none}
-use Rattle.ancestor_closure.proofs.Members.{insert_key-kept, insert_key-from, insert_key-here}
-use Rattle.ancestor_closure.specs.inner.Backwards.{AreChildrenAmong}
+use Rattle.ancestor_lists.specs.ancestor_closure.Hierarchy.{Parents, Above, AreOnCycles, IsAscending, names}
+use Rattle.ancestor_lists.specs.ancestor_closure.Decided.{HaveAllParents, is_same}
+use Rattle.ancestor_lists.specs.ancestor_closure.Deciding.{same_uid, same_self, Contains-here, Contains-there}
+use Rattle.ancestor_lists.specs.ancestor_closure.Deciding.{Contains-cases, Contains-none}
+use Rattle.ancestor_lists.proofs.of_ancestor_closure.Members.{insert_key-kept, insert_key-from, insert_key-here}
+use Rattle.ancestor_lists.specs.ancestor_closure.inner.Backwards.{AreChildrenAmong}
 use Rattle.ancestor_lists.specs.Lists.{IsListOf, IsKeptOf, AddsChild}
 use Rattle.kept_ancestors.specs.inner.WholeGraph.{AreListsOf}
 

@@ -8,8 +8,9 @@ use Rattle.std.specs.Map.{lookup}
 use Rattle.std.specs.Ordering.{is_eq}
 use Rattle.values.specs.declared.entity_uid.EntityUid.{EntityUid}
 use Rattle.values.specs.Names.{uid_cmp}
-use Rattle.ancestor_closure.specs.Decided.{Decides, reaches}
-use Rattle.ancestor_closure.specs.Deciding.{decided, same_uid, Contains-here, Contains-there, Contains-none}
+use Rattle.ancestor_lists.specs.ancestor_closure.Decided.{Decides, reaches}
+use Rattle.ancestor_lists.specs.ancestor_closure.Deciding.{decided, same_uid, Contains-here, Contains-there}
+use Rattle.ancestor_lists.specs.ancestor_closure.Deciding.{Contains-none}
 
 -- the entries of a map from entities to their parents
 abbrev pub closed_entries : List (EntityUid × Vec EntityUid Global) → List (EntityUid × List EntityUid)

@@ -1,6 +1,6 @@
 -- What is kept of a hierarchy: all that is above each entity, the children of each, and who is on a cycle.
 use Rattle.values.specs.declared.entity_uid.EntityUid.{EntityUid}
-use Rattle.ancestor_closure.specs.Hierarchy.{Parents}
+use Rattle.ancestor_lists.specs.ancestor_closure.Hierarchy.{Parents}
 use Rattle.ancestor_lists.specs.Lists.{IsKeptOf, AgreeBut, ancestors_in, children_in}
 use Rattle.kept_ancestors.specs.declared.keeping.KeptAncestors.{KeptAncestors}
 

@@ -1,13 +1,13 @@
 //! All that is kept of a graph, made anew.
 ghost use Rattle.std.specs.Prelude.{◌≡◌, ◌↔◌, ◌⊎◌, [], Contains, IfOk, OnOk};
 ghost use Rattle.values.specs.declared.entity_uid.EntityUid.{EntityUid as PlainUid};
-ghost use Rattle.ancestor_closure.specs.Hierarchy.{names};
-ghost use Rattle.ancestor_closure.specs.inner.Backwards.{AreChildrenAmong};
+ghost use Rattle.ancestor_lists.specs.ancestor_closure.Hierarchy.{names};
+ghost use Rattle.ancestor_lists.specs.ancestor_closure.inner.Backwards.{AreChildrenAmong};
 ghost use Rattle.ancestor_lists.specs.Lists.{ancestors_in, children_in, SameLists, SameChildren};
 ghost use Rattle.ancestor_lists.specs.Lists.{IsThere, StayThere, AddsChild};
 ghost use Rattle.kept_ancestors.specs.inner.WholeGraph.{AreListsOf};
 
-use ancestor_closure::ParentsOf;
+use ancestor_lists::ancestor_closure::ParentsOf;
 use ancestor_lists::{
     Relatives, Room, add_to_all, list_within, make_room, parents_by, shared, shared_all, write_list,
 };

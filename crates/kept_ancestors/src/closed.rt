@@ -2,15 +2,16 @@
 ghost use Rattle.std.specs.Prelude.{◌≡◌, ◌↔◌, [], IsTrue, IsOk, IfOk, OnOk, OnErr, IsSome, MatchOption};
 ghost use Rattle.std.specs.BTreeMap.{get};
 ghost use Rattle.values.specs.Names.{uid_cmp};
-ghost use Rattle.ancestor_closure.specs.Hierarchy.{Above, AreOnCycles, IsAscending, names, no_parents, with_parents};
-ghost use Rattle.ancestor_closure.specs.LeastCycle.{HasNoCycle, IsLeastCycle};
-ghost use Rattle.ancestor_closure.specs.Search.{parents_of};
+ghost use Rattle.ancestor_lists.specs.ancestor_closure.Hierarchy.{Above, AreOnCycles, IsAscending, names, no_parents};
+ghost use Rattle.ancestor_lists.specs.ancestor_closure.Hierarchy.{with_parents};
+ghost use Rattle.ancestor_lists.specs.ancestor_closure.LeastCycle.{HasNoCycle, IsLeastCycle};
+ghost use Rattle.ancestor_lists.specs.ancestor_closure.Search.{parents_of};
 ghost use Rattle.kept_ancestors.specs.Kept.{AreKept};
 ghost use Rattle.kept_ancestors.specs.ClosedMeaning.{closed_parents, closed_above, closed_is_decided};
 
 use crate::keeping::KeptAncestors;
-use ancestor_closure::{Ancestry, Changed, Hierarchy, ParentsOf};
 use ancestor_lists::Room;
+use ancestor_lists::ancestor_closure::{Ancestry, Changed, Hierarchy, ParentsOf};
 use plain::NoMemory;
 use std::alloc::Global;
 use std::collections::BTreeMap;
@@ -32,7 +33,7 @@ pub struct Closed {
 impl Model for Closed {
     ghost use Rattle.std.specs.Prelude.{List};
     ghost use Rattle.values.specs.declared.entity_uid.EntityUid.{EntityUid};
-    ghost use Rattle.ancestor_closure.specs.Search.{parents_of};
+    ghost use Rattle.ancestor_lists.specs.ancestor_closure.Search.{parents_of};
     ghost use Rattle.kept_ancestors.specs.ClosedMeaning.{closed_entries};
     ghost use Rattle.kept_ancestors.specs.Kept.{AreKept};
 

@@ -1,14 +1,15 @@
 //! Ancestors kept at hand for whoever keeps the edges.
 ghost use Rattle.std.specs.Prelude.{◌≡◌, ◌↔◌, ◌⊎◌, IsTrue, IsOk, IfOk, OnOk, OnErr, MatchOption};
-ghost use Rattle.ancestor_closure.specs.Hierarchy.{Parents, Above, IsAllAbove, IsAscending, AreOnCycles, names};
-ghost use Rattle.ancestor_closure.specs.Hierarchy.{no_parents, with_parents};
-ghost use Rattle.ancestor_closure.specs.LeastCycle.{HasNoCycle, IsLeastCycle};
+ghost use Rattle.ancestor_lists.specs.ancestor_closure.Hierarchy.{Parents, Above, IsAllAbove, IsAscending, AreOnCycles};
+ghost use Rattle.ancestor_lists.specs.ancestor_closure.Hierarchy.{names};
+ghost use Rattle.ancestor_lists.specs.ancestor_closure.Hierarchy.{no_parents, with_parents};
+ghost use Rattle.ancestor_lists.specs.ancestor_closure.LeastCycle.{HasNoCycle, IsLeastCycle};
 ghost use Rattle.values.specs.declared.entity_uid.EntityUid.{EntityUid as PlainUid};
 ghost use Rattle.ancestor_lists.specs.Lists.{IsListOf, ancestors_in};
 ghost use Rattle.kept_ancestors.specs.Kept.{AreKept, AreKeptBut};
 
 use crate::anew::{relatives_among, set_of};
-use ancestor_closure::{Graph, ParentsOf, least_cycle_among, on_cycles};
+use ancestor_lists::ancestor_closure::{Graph, ParentsOf, least_cycle_among, on_cycles};
 use ancestor_lists::{Relatives, Room, ancestors_at, are_none, follow, is_in, lent, members};
 use plain::{NoMemory, Shared};
 use std::alloc::Global;

@@ -1,5 +1,7 @@
 -- What is put of two files, and what it comes to.
-use Rattle.std.proofs.Common.{◌≡◌, ℕ, ◌+◌, ◌<◌, ◌≤◌, List, [], ◌∷◌, length, map, drop, get_or, Option, Some, None, Result, Ok, Err, OnOk, IfErr, refl, sym, ap, ◌∙◌, subst, String, string_bytes, option_map, option_and_then, Bor, zero, suc, arith}
+use Rattle.std.proofs.Common.{◌≡◌, ℕ, ◌+◌, ◌<◌, ◌≤◌, List, [], ◌∷◌, length, map, drop, get_or, Option, Some, None}
+use Rattle.std.proofs.Common.{Result, Ok, Err, OnOk, IfErr, refl, sym, ap, ◌∙◌, subst, String, string_bytes, option_map}
+use Rattle.std.proofs.Common.{option_and_then, Bor, zero, suc, arith}
 use Rattle.std.specs.Prelude.{⊤}
 use Rattle.std.proofs.lemmas.List.{drop_all, length-map}
 use Rattle.std.proofs.lemmas.Slice.Zip.{AllZip-long}
@@ -9,25 +11,26 @@ use Rattle.serde_json.specs.Find.{as_array}
 use Rattle.json_words.specs.Json.{json_of}
 use Rattle.json_words.specs.Each.{list_of}
 use Rattle.json_words.specs.ReadsAs.{◌>>=◌, or_fault}
-use Rattle.json_values.specs.Arrays.{array_of}
-use Rattle.schema.specs.Schemas.{StatedSchema}
-use Rattle.schema.specs.Views.{schema_view}
-use Rattle.entity_worlds.specs.declared.entity.Entity.{Entity}
-use Rattle.stamped_store.specs.Store.{Store, updates}
-use Rattle.state_messages.specs.Messages.{state_text, updates_stated}
-use Rattle.decision_texts.specs.declared.refusal.Refusal.{Refusal}
-use Rattle.decision_texts.specs.Refusals.{bad_shape}
+use Rattle.schema_decisions.specs.json_values.Arrays.{array_of}
+use Rattle.schema_decisions.specs.schema.Schemas.{StatedSchema}
+use Rattle.schema_decisions.specs.schema.Views.{schema_view}
+use Rattle.schema_decisions.specs.entity_worlds.declared.entity.Entity.{Entity}
+use Rattle.site.specs.stamped_store.Store.{Store, updates}
+use Rattle.site.specs.state_messages.Messages.{state_text, updates_stated}
+use Rattle.schema_decisions.specs.decision_texts.declared.refusal.Refusal.{Refusal}
+use Rattle.schema_decisions.specs.decision_texts.Refusals.{bad_shape}
 use Rattle.plain.specs.Refused.{OrNoMemory}
-use Rattle.decision_texts.specs.Refusals.{no_memory}
+use Rattle.schema_decisions.specs.decision_texts.Refusals.{no_memory}
 use Rattle.schema_decisions.specs.EntityArrays.{entities_in, entities_of}
 use Rattle.site.specs.Seen.{Seen, schema_of, store_in, IsSameSite}
-use Rattle.policy_tokens.specs.Lexing.{IsBadAt, BadIsNotLexed}
-use Rattle.policy_grammar.specs.declared.policy.Policy.{Policy}
-use Rattle.policy_grammar.specs.CoreOf.{IsCoreOf}
+use Rattle.policy_files.specs.policy_tokens.Lexing.{IsBadAt, BadIsNotLexed}
+use Rattle.schema_decisions.specs.policy_grammar.declared.policy.Policy.{Policy}
+use Rattle.schema_decisions.specs.policy_grammar.CoreOf.{IsCoreOf}
 use Rattle.policy_files.specs.Cuts.{AreTextsOf, AreAsManyAsPolicies}
-use Rattle.decision_texts.specs.Decisions.{ArePoliciesOf}
+use Rattle.schema_decisions.specs.decision_texts.Decisions.{ArePoliciesOf}
 use Rattle.loaded_files.specs.Puts.{policy_put, entity_put, AcceptsAll, RefusesFirst}
-use Rattle.loaded_files.specs.Loads.{policy_puts, items_of, AreNamedTexts, LoadsPolicies, RefusesPolicies, LoadsEntities, RefusesEntities, by_put, by_stored}
+use Rattle.loaded_files.specs.Loads.{policy_puts, items_of, AreNamedTexts, LoadsPolicies, RefusesPolicies}
+use Rattle.loaded_files.specs.Loads.{LoadsEntities, RefusesEntities, by_put, by_stored}
 use Rattle.loaded_files.specs.Loads.{LoadsIfNamed, RefusesIfNamed, IsLoadedState, IsRefused, by_entities}
 use Rattle.loaded_files.specs.inner.Steps.{HasTokens}
 use Rattle.loaded_files.proofs.PutLemmas.{turn, same_on}

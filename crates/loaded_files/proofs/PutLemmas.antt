@@ -1,17 +1,19 @@
 -- Puts one after another: one step for each, and the fault of one.
-use Rattle.std.proofs.Common.{◌≡◌, inl, inr, ℕ, suc, ◌+◌, ◌<◌, List, [], ◌∷◌, length, map, drop, get_or, Option, Some, None, option_map, Err, refl, sym, ap, ◌∙◌, subst, add-one, drop-cons}
+use Rattle.std.proofs.Common.{◌≡◌, inl, inr, ℕ, suc, ◌+◌, ◌<◌, List, [], ◌∷◌, length, map, drop, get_or, Option, Some}
+use Rattle.std.proofs.Common.{None, option_map, Err, refl, sym, ap, ◌∙◌, subst, add-one, drop-cons}
 use Rattle.serde_json.specs.Data.{Data}
-use Rattle.schema.specs.Views.{schema_view}
-use Rattle.schema.specs.Schemas.{StatedSchema}
-use Rattle.stamped_store.specs.Store.{Store}
-use Rattle.decision_texts.specs.declared.refusal.Refusal.{Refusal}
+use Rattle.schema_decisions.specs.schema.Views.{schema_view}
+use Rattle.schema_decisions.specs.schema.Schemas.{StatedSchema}
+use Rattle.site.specs.stamped_store.Store.{Store}
+use Rattle.schema_decisions.specs.decision_texts.declared.refusal.Refusal.{Refusal}
 use Rattle.plain.specs.Refused.{OrNoMemory}
-use Rattle.decision_texts.specs.Refusals.{no_memory}
+use Rattle.schema_decisions.specs.decision_texts.Refusals.{no_memory}
 use Rattle.site.specs.declared.fault.SiteFault.{SiteFault}
 use Rattle.site.specs.declared.fault.SiteFault.TheVariants as fault
 use Rattle.site.specs.Seen.{Seen, schema_of, IsSameSite}
 use Rattle.site.specs.Steps.{PutsPolicy, PutsEntity}
-use Rattle.loaded_files.specs.Puts.{Deed, policy_put, entity_put, put_refusal, Accepts, RefusesAt, AcceptsAll, RefusesFirst}
+use Rattle.loaded_files.specs.Puts.{Deed, policy_put, entity_put, put_refusal, Accepts, RefusesAt, AcceptsAll}
+use Rattle.loaded_files.specs.Puts.{RefusesFirst}
 
 -- ---- one put
 

@@ -8,14 +8,14 @@ use Rattle.serde_json.specs.Data.{Data}
 use Rattle.serde_json.specs.Find.{as_array}
 use Rattle.json_words.specs.Json.{json_of}
 use Rattle.json_words.specs.Each.{list_of}
-use Rattle.policy_grammar.specs.declared.policy.Policy.{Policy}
+use Rattle.schema_decisions.specs.policy_grammar.declared.policy.Policy.{Policy}
 use Rattle.policy_files.specs.Cuts.{AreTextsOf}
-use Rattle.schema.specs.Schemas.{StatedSchema}
-use Rattle.entity_worlds.specs.declared.entity.Entity.{Entity}
-use Rattle.stamped_store.specs.Store.{Store, updates}
-use Rattle.state_messages.specs.Messages.{state_text, updates_stated}
-use Rattle.decision_texts.specs.declared.refusal.Refusal.{Refusal}
-use Rattle.decision_texts.specs.Decisions.{ArePoliciesOf, ArePoliciesRefused}
+use Rattle.schema_decisions.specs.schema.Schemas.{StatedSchema}
+use Rattle.schema_decisions.specs.entity_worlds.declared.entity.Entity.{Entity}
+use Rattle.site.specs.stamped_store.Store.{Store, updates}
+use Rattle.site.specs.state_messages.Messages.{state_text, updates_stated}
+use Rattle.schema_decisions.specs.decision_texts.declared.refusal.Refusal.{Refusal}
+use Rattle.schema_decisions.specs.decision_texts.Decisions.{ArePoliciesOf, ArePoliciesRefused}
 use Rattle.schema_decisions.specs.EntityArrays.{entities_of}
 use Rattle.loaded_files.specs.Puts.{Deed, policy_put, entity_put, AcceptsAll, RefusesFirst}
 

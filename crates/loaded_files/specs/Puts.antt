@@ -2,11 +2,11 @@
 -- A rule of this product: each is put, and refused, as it would be by a put of its own.
 use Rattle.std.specs.Prelude.{◌≡◌, ◌⊎◌, ℕ, suc, List, [], ◌∷◌, Some, Ok, Err}
 use Rattle.serde_json.specs.Data.{Data}
-use Rattle.schema.specs.Schemas.{StatedSchema}
-use Rattle.stamped_entries.specs.declared.entry.Stamp.{Stamp}
-use Rattle.stamped_store.specs.Store.{Store}
-use Rattle.decision_texts.specs.declared.refusal.Refusal.{Refusal}
-use Rattle.decision_texts.specs.Refusals.{no_memory}
+use Rattle.schema_decisions.specs.schema.Schemas.{StatedSchema}
+use Rattle.site.specs.stamped_entries.declared.entry.Stamp.{Stamp}
+use Rattle.site.specs.stamped_store.Store.{Store}
+use Rattle.schema_decisions.specs.decision_texts.declared.refusal.Refusal.{Refusal}
+use Rattle.schema_decisions.specs.decision_texts.Refusals.{no_memory}
 use Rattle.site.specs.declared.fault.SiteFault.{SiteFault}
 use Rattle.site.specs.declared.fault.SiteFault.TheVariants.{NoMemory}
 use Rattle.site.specs.declared.outcome.Put.{Put}

@@ -2,16 +2,16 @@
 ghost use Rattle.std.specs.Prelude.{◌≡◌, ◌<◌, ◌^◌, List, length, map, Some, IfErr, OnOk};
 ghost use Rattle.serde_json.specs.Data.{Data};
 ghost use Rattle.serde_json.specs.View.{view};
-ghost use Rattle.json_values.specs.Arrays.{to_come};
+ghost use Rattle.schema_decisions.specs.json_values.Arrays.{to_come};
 ghost use Rattle.site.specs.Seen.{schema_of, store_in, IsSameSite};
 ghost use Rattle.plain.specs.Refused.{OrNoMemory};
-ghost use Rattle.decision_texts.specs.Refusals.{no_memory};
+ghost use Rattle.schema_decisions.specs.decision_texts.Refusals.{no_memory};
 ghost use Rattle.loaded_files.specs.Puts.{entity_put, Accepts, AcceptsAll, RefusesAt, RefusesFirst};
 ghost use Rattle.loaded_files.specs.Loads.{LoadsEntities, RefusesEntities};
 
 use crate::refusal::put_refusal;
-use decision_texts::Refusal;
-use json_values::{Member, Members, Scratch, members_of};
+use schema_decisions::decision_texts::Refusal;
+use schema_decisions::json_values::{Member, Members, Scratch, members_of};
 use schema_decisions::judge_entities;
 use serde_json::Value;
 use site::Site;

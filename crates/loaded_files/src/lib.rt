@@ -6,6 +6,8 @@ mod loading;
 mod policies;
 mod refusal;
 
-pub use decision_texts::Refusal;
 pub use loading::loaded_state;
+pub use schema_decisions;
+pub use schema_decisions::decision_texts::Refusal;
+pub use schema_decisions::schema;
 pub use site::Site;

@@ -2,13 +2,13 @@
 ghost use Rattle.std.specs.Prelude.{◌≡◌, option_map, IfOk, IfErr, OnOk};
 ghost use Rattle.site.specs.Seen.{schema_of, store_in, IsSameSite};
 ghost use Rattle.plain.specs.Refused.{OrNoMemory};
-ghost use Rattle.decision_texts.specs.Refusals.{no_memory};
+ghost use Rattle.schema_decisions.specs.decision_texts.Refusals.{no_memory};
 ghost use Rattle.loaded_files.specs.Loads.{IsLoadedState, IsRefused, LoadsIfNamed, RefusesIfNamed};
 ghost use Rattle.loaded_files.specs.Loads.{LoadsPolicies, RefusesPolicies, LoadsEntities, RefusesEntities};
 
 use crate::entity_file::load_entities;
 use crate::policies::load_policies;
-use decision_texts::Refusal;
+use schema_decisions::decision_texts::Refusal;
 use site::Site;
 use std::alloc::Global;
 

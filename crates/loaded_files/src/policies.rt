@@ -3,17 +3,17 @@ ghost use Rattle.std.specs.Prelude.{◌≡◌, length, map, string_bytes, IfOk, 
 ghost use Rattle.policy_files.specs.Cuts.{AreTextsOf};
 ghost use Rattle.site.specs.Seen.{schema_of, store_in, IsSameSite};
 ghost use Rattle.plain.specs.Refused.{OrNoMemory};
-ghost use Rattle.decision_texts.specs.Refusals.{no_memory};
+ghost use Rattle.schema_decisions.specs.decision_texts.Refusals.{no_memory};
 ghost use Rattle.loaded_files.specs.Puts.{policy_put, Accepts, AcceptsAll, RefusesAt, RefusesFirst};
 ghost use Rattle.loaded_files.specs.Loads.{policy_puts, LoadsPolicies, RefusesPolicies};
 ghost use Rattle.loaded_files.specs.inner.Steps.{HasTokens};
 
 use crate::refusal::put_refusal;
-use decision_texts::{Refusal, policies_in};
 use plain::NoMemory;
+use policy_files::policy_tokens::lexing_is_unique;
 use policy_files::{LexFault, files_are_cut_by_policies, policy_texts};
-use policy_grammar::Policy;
-use policy_tokens::lexing_is_unique;
+use schema_decisions::decision_texts::{Refusal, policies_in};
+use schema_decisions::policy_grammar::Policy;
 use site::Site;
 use std::alloc::Global;
 

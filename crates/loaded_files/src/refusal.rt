@@ -2,8 +2,8 @@
 ghost use Rattle.std.specs.Prelude.{◌≡◌};
 ghost use Rattle.loaded_files.specs.Puts.{put_refusal};
 
-use decision_texts::Refusal;
 use plain::NoMemory;
+use schema_decisions::decision_texts::Refusal;
 use site::SiteFault;
 
 /// Returns a fault of a put, told at the place of what was put in its file, counted from 0. Want of memory has no

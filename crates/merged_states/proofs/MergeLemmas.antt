@@ -3,15 +3,15 @@ use Rattle.std.specs.Prelude.{◌≡◌, ◌↔◌, ◌⊎◌, ℕ, List, ◌++�
 use Rattle.std.proofs.Common.{sym, ap, ◌∙◌, subst, ⊎_elim}
 use Rattle.std.specs.List.{Contains}
 use Rattle.std.proofs.lemmas.List.Elements.{Contains-append_left, Contains-append_right, Contains-append_cases}
-use Rattle.policy_grammar.specs.declared.policy.Policy.{Policy}
-use Rattle.entity_worlds.specs.declared.entity.Entity.{Entity}
-use Rattle.schema.specs.Schemas.{StatedSchema, IsSchemaOf}
-use Rattle.schema.specs.Outcomes.{OneSchema}
-use Rattle.stamped_store.specs.Store.{Store, Update, updates, store_of}
-use Rattle.sync_messages.specs.declared.fault.MessageFault.{MessageFault}
-use Rattle.state_messages.specs.Messages.{state_text}
-use Rattle.state_messages.specs.declared.update.Update.{Update as SentUpdate}
-use Rattle.state_messages.specs.Updates.{plain_updates}
+use Rattle.policy_checks.specs.policy_grammar.declared.policy.Policy.{Policy}
+use Rattle.policy_checks.specs.entity_worlds.declared.entity.Entity.{Entity}
+use Rattle.stored_texts.specs.schema.Schemas.{StatedSchema, IsSchemaOf}
+use Rattle.stored_texts.specs.schema.Outcomes.{OneSchema}
+use Rattle.stored_texts.specs.stamped_store.Store.{Store, Update, updates, store_of}
+use Rattle.stored_texts.specs.sync_messages.declared.fault.MessageFault.{MessageFault}
+use Rattle.stored_texts.specs.state_messages.Messages.{state_text}
+use Rattle.stored_texts.specs.state_messages.declared.update.Update.{Update as SentUpdate}
+use Rattle.stored_texts.specs.state_messages.Updates.{plain_updates}
 use Rattle.merged_states.specs.Messages.{IsMergeableMessage, IsReadBack}
 use Rattle.merged_states.specs.Merges.{IsStoreOfBoth, IsMerged, IsMergedBack}
 

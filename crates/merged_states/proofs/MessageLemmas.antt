@@ -1,23 +1,25 @@
 -- Messages of a schema: what they are told as, and what the store that they are joined into has.
 use Rattle.std.specs.Prelude.{◌≡◌, ℕ, List, [], ◌++◌, Ok}
 use Rattle.std.proofs.Common.{refl, sym, ap, ◌∙◌, subst}
-use Rattle.policy_grammar.specs.declared.policy.Policy.{Policy}
-use Rattle.entity_worlds.specs.declared.entity.Entity.{Entity}
-use Rattle.schema.specs.SchemaEntries.{SchemaEntries}
-use Rattle.schema.specs.Schemas.{StatedSchema}
-use Rattle.schema.specs.Views.{schema_view}
-use Rattle.stamped_store.specs.Store.{Store, Update, updates, store_of}
-use Rattle.sync_messages.specs.declared.fault.MessageFault.{MessageFault}
-use Rattle.sync_messages.specs.declared.fault.MessageFault.TheVariants as fault
-use Rattle.sync_messages.specs.Summaries.{IsStamped}
-use Rattle.state_messages.specs.Messages.{state_text, updates_stated}
+use Rattle.policy_checks.specs.policy_grammar.declared.policy.Policy.{Policy}
+use Rattle.policy_checks.specs.entity_worlds.declared.entity.Entity.{Entity}
+use Rattle.stored_texts.specs.schema.SchemaEntries.{SchemaEntries}
+use Rattle.stored_texts.specs.schema.Schemas.{StatedSchema}
+use Rattle.stored_texts.specs.schema.Views.{schema_view}
+use Rattle.stored_texts.specs.stamped_store.Store.{Store, Update, updates, store_of}
+use Rattle.stored_texts.specs.sync_messages.declared.fault.MessageFault.{MessageFault}
+use Rattle.stored_texts.specs.sync_messages.declared.fault.MessageFault.TheVariants as fault
+use Rattle.stored_texts.specs.sync_messages.Summaries.{IsStamped}
+use Rattle.stored_texts.specs.state_messages.Messages.{state_text, updates_stated}
 use Rattle.plain.specs.Refused.{OrNoMemory}
-use Rattle.state_messages.specs.declared.update.Update.{Update as SentUpdate}
-use Rattle.state_messages.specs.Updates.{IsMessage, IsMessageFault, IsValid, AreInRange, AreValid, stamped, plain_updates}
+use Rattle.stored_texts.specs.state_messages.declared.update.Update.{Update as SentUpdate}
+use Rattle.stored_texts.specs.state_messages.Updates.{IsMessage, IsMessageFault, IsValid, AreInRange, AreValid, stamped}
+use Rattle.stored_texts.specs.state_messages.Updates.{plain_updates}
 use Rattle.stored_texts.specs.declared.texts.SchemaTexts.{SchemaTexts}
 use Rattle.stored_texts.specs.Texts.{ReadsPolicy, RefusesPolicy, ReadsEntity, RefusesEntity}
-use Rattle.decision_texts.specs.Refusals.{no_memory}
-use Rattle.merged_states.specs.Messages.{IsMergeableMessage, message_refusal, IsMessageRefused, Joins, IsSendable, IsReadBack}
+use Rattle.policy_checks.specs.decision_texts.Refusals.{no_memory}
+use Rattle.merged_states.specs.Messages.{IsMergeableMessage, message_refusal, IsMessageRefused, Joins, IsSendable}
+use Rattle.merged_states.specs.Messages.{IsReadBack}
 use Rattle.merged_states.specs.inner.Merging.{IsMergedUnder}
 use Rattle.merged_states.proofs.StoreLemmas.{none_of_empty, store_all, append_all}
 

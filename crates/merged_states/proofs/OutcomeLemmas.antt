@@ -1,20 +1,20 @@
 -- The texts of a schema and of two messages come to exactly one thing.
 use Rattle.std.specs.Prelude.{◌≡◌, ◌⊎◌, ℕ, List, ◌++◌}
 use Rattle.std.proofs.Common.{inl, inr, refl, sym, ap, ◌∙◌, subst}
-use Rattle.policy_grammar.specs.declared.policy.Policy.{Policy}
-use Rattle.entity_worlds.specs.declared.entity.Entity.{Entity}
-use Rattle.schema_types.specs.declared.fault.SchemaFault.{SchemaFault}
-use Rattle.schema.specs.Schemas.{StatedSchema, IsSchemaOf, RefusedFor}
-use Rattle.schema.specs.Outcomes as schemas
-use Rattle.stamped_store.specs.Store.{store_of}
-use Rattle.sync_messages.specs.declared.fault.MessageFault.{MessageFault}
-use Rattle.state_messages.specs.Messages.{state_text}
-use Rattle.state_messages.specs.declared.update.Update.{Update as SentUpdate}
-use Rattle.state_messages.specs.Updates.{IsMessageFault, plain_updates}
-use Rattle.state_messages.specs.Bodies.{TextsHaveOneOutcome}
+use Rattle.policy_checks.specs.policy_grammar.declared.policy.Policy.{Policy}
+use Rattle.policy_checks.specs.entity_worlds.declared.entity.Entity.{Entity}
+use Rattle.policy_checks.specs.schema_types.declared.fault.SchemaFault.{SchemaFault}
+use Rattle.stored_texts.specs.schema.Schemas.{StatedSchema, IsSchemaOf, RefusedFor}
+use Rattle.stored_texts.specs.schema.Outcomes as schemas
+use Rattle.stored_texts.specs.stamped_store.Store.{store_of}
+use Rattle.stored_texts.specs.sync_messages.declared.fault.MessageFault.{MessageFault}
+use Rattle.stored_texts.specs.state_messages.Messages.{state_text}
+use Rattle.stored_texts.specs.state_messages.declared.update.Update.{Update as SentUpdate}
+use Rattle.stored_texts.specs.state_messages.Updates.{IsMessageFault, plain_updates}
+use Rattle.stored_texts.specs.state_messages.Bodies.{TextsHaveOneOutcome}
 use Rattle.stored_texts.specs.Laws.{PoliciesHaveOneReading, EntitiesHaveOneReading}
 use Rattle.stored_texts.specs.Texts.{ReadsPolicy, RefusesPolicy, ReadsEntity, RefusesEntity}
-use Rattle.decision_texts.specs.declared.refusal.Refusal.{Refusal}
+use Rattle.policy_checks.specs.decision_texts.declared.refusal.Refusal.{Refusal}
 use Rattle.policy_checks.specs.Refusals.{schema_refusal}
 use Rattle.merged_states.specs.Messages.{IsMergeableMessage, message_refusal, IsMessageRefused}
 use Rattle.merged_states.specs.Merges.{AreRefusedUnder, AreRefused}

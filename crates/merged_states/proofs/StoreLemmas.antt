@@ -1,6 +1,7 @@
 -- What is true of each of some updates is true of each update of their store; and what taking one after the other
 -- leaves.
-use Rattle.std.specs.Prelude.{◌≡◌, List, [], ◌∷◌, ◌++◌, length, Option, Some, None, Bool, true, false, cond, if◌then◌else◌}
+use Rattle.std.specs.Prelude.{◌≡◌, List, [], ◌∷◌, ◌++◌, length, Option, Some, None, Bool, true, false, cond}
+use Rattle.std.specs.Prelude.{if◌then◌else◌}
 use Rattle.std.proofs.Common.{refl, sym, ap, ◌∙◌, subst, append_assoc, append-nil}
 use Rattle.std.specs.List.{AllByRecursion}
 use Rattle.std.specs.Ordering.{is_eq, is_le}
@@ -10,9 +11,9 @@ use Rattle.std.specs.declared.cmp.Ordering.{Ordering}
 use Rattle.std.specs.declared.cmp.Ordering.TheVariants.{Less, Equal, Greater}
 use Rattle.values.specs.declared.name.Name.{Name}
 use Rattle.values.specs.Names.{name_cmp, name_cmp-IsTotalOrder, name_cmp-IsAntisymmetric}
-use Rattle.stamped_store.specs.EntryOrder.{PlainEntry, entry_cmp, greater_entry}
-use Rattle.stamped_store.specs.Stored.{joined_onto}
-use Rattle.stamped_store.specs.Store.{Store, Update, updates, store_of}
+use Rattle.stored_texts.specs.stamped_store.EntryOrder.{PlainEntry, entry_cmp, greater_entry}
+use Rattle.stored_texts.specs.stamped_store.Stored.{joined_onto}
+use Rattle.stored_texts.specs.stamped_store.Store.{Store, Update, updates, store_of}
 
 none_long : {X : Type 0} (xs : List X) → length xs ≡ 0 → xs ≡ []
 none_long [] h = refl

@@ -1,14 +1,14 @@
 -- What the texts of a schema and of two messages come to: the state of the store of the updates of both, or the first
 -- refusal. Rules of this product: the schema is judged first, then the first message, then the second.
 use Rattle.std.specs.Prelude.{◌≡◌, ◌⊎◌, ℕ, List, ◌++◌}
-use Rattle.policy_grammar.specs.declared.policy.Policy.{Policy}
-use Rattle.schema.specs.Schemas.{StatedSchema, IsSchemaOf}
-use Rattle.entity_worlds.specs.declared.entity.Entity.{Entity}
-use Rattle.stamped_store.specs.Store.{Store, store_of}
-use Rattle.state_messages.specs.declared.update.Update.{Update as SentUpdate}
-use Rattle.state_messages.specs.Messages.{state_text}
-use Rattle.state_messages.specs.Updates.{plain_updates}
-use Rattle.decision_texts.specs.declared.refusal.Refusal.{Refusal}
+use Rattle.policy_checks.specs.policy_grammar.declared.policy.Policy.{Policy}
+use Rattle.stored_texts.specs.schema.Schemas.{StatedSchema, IsSchemaOf}
+use Rattle.policy_checks.specs.entity_worlds.declared.entity.Entity.{Entity}
+use Rattle.stored_texts.specs.stamped_store.Store.{Store, store_of}
+use Rattle.stored_texts.specs.state_messages.declared.update.Update.{Update as SentUpdate}
+use Rattle.stored_texts.specs.state_messages.Messages.{state_text}
+use Rattle.stored_texts.specs.state_messages.Updates.{plain_updates}
+use Rattle.policy_checks.specs.decision_texts.declared.refusal.Refusal.{Refusal}
 use Rattle.policy_checks.specs.Checks.{IsSchemaRefused}
 use Rattle.merged_states.specs.Messages.{IsMergeableMessage, IsMessageRefused, IsReadBack}
 

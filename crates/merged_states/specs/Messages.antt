@@ -3,16 +3,16 @@
 -- updates are taken in their order, those that lose included; a refusal is told by a number, a place and the number of
 -- a refusal inside.
 use Rattle.std.specs.Prelude.{◌≡◌, ℕ, List, ◌++◌, length}
-use Rattle.policy_grammar.specs.declared.policy.Policy.{Policy}
-use Rattle.schema.specs.Schemas.{StatedSchema}
-use Rattle.entity_worlds.specs.declared.entity.Entity.{Entity}
-use Rattle.stamped_store.specs.Store.{Store, updates, store_of}
-use Rattle.sync_messages.specs.declared.fault.MessageFault.{MessageFault}
-use Rattle.sync_messages.specs.Faults.{code_of, place_of, within_of}
-use Rattle.state_messages.specs.declared.update.Update.{Update as SentUpdate}
-use Rattle.state_messages.specs.Updates.{IsMessage, IsMessageFault, AreInRange, AreValid, plain_updates}
+use Rattle.policy_checks.specs.policy_grammar.declared.policy.Policy.{Policy}
+use Rattle.stored_texts.specs.schema.Schemas.{StatedSchema}
+use Rattle.policy_checks.specs.entity_worlds.declared.entity.Entity.{Entity}
+use Rattle.stored_texts.specs.stamped_store.Store.{Store, updates, store_of}
+use Rattle.stored_texts.specs.sync_messages.declared.fault.MessageFault.{MessageFault}
+use Rattle.stored_texts.specs.sync_messages.Faults.{code_of, place_of, within_of}
+use Rattle.stored_texts.specs.state_messages.declared.update.Update.{Update as SentUpdate}
+use Rattle.stored_texts.specs.state_messages.Updates.{IsMessage, IsMessageFault, AreInRange, AreValid, plain_updates}
 use Rattle.stored_texts.specs.Texts.{ReadsPolicy, RefusesPolicy, ReadsEntity, RefusesEntity}
-use Rattle.decision_texts.specs.declared.refusal.Refusal.{Refusal}
+use Rattle.policy_checks.specs.decision_texts.declared.refusal.Refusal.{Refusal}
 
 -- ---- messages
 

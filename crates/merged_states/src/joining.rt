@@ -1,24 +1,24 @@
 //! A message's updates, joined into a store.
 ghost use Rattle.std.specs.Prelude.{◌≡◌, ◌++◌, ◌∷◌, [], length, IfOk, IfErr, OnOk};
-ghost use Rattle.schema.specs.Views.{schema_view};
-ghost use Rattle.stamped_store.specs.Store.{abstract_store, store_of, updates};
-ghost use Rattle.decision_texts.specs.Refusals.{no_memory};
-ghost use Rattle.state_messages.specs.Messages.{state_text};
-ghost use Rattle.state_messages.specs.Updates.{plain_update, plain_updates};
+ghost use Rattle.stored_texts.specs.schema.Views.{schema_view};
+ghost use Rattle.stored_texts.specs.stamped_store.Store.{abstract_store, store_of, updates};
+ghost use Rattle.policy_checks.specs.decision_texts.Refusals.{no_memory};
+ghost use Rattle.stored_texts.specs.state_messages.Messages.{state_text};
+ghost use Rattle.stored_texts.specs.state_messages.Updates.{plain_update, plain_updates};
 ghost use Rattle.merged_states.specs.Messages.{IsMergeableMessage, IsMessageRefused, IsSendable, IsReadBack, Joins};
 ghost use Rattle.merged_states.specs.Messages.{message_refusal};
 
-use decision_texts::Refusal;
-use entities::Entity;
 use plain::NoMemory;
-use policy_grammar::Policy;
-use schema::Schema;
-use stamped_store::PolicyStore;
-use stamped_store::laws::updates_have_one_store;
-use state_messages::{Update, read_message, valid_messages_are_read, write_state};
+use policy_checks::decision_texts::Refusal;
+use policy_checks::policy_grammar::Policy;
 use std::alloc::Global;
 use stored_texts::SchemaTexts;
-use sync_messages::MessageFault;
+use stored_texts::entities::Entity;
+use stored_texts::schema::Schema;
+use stored_texts::stamped_store::PolicyStore;
+use stored_texts::stamped_store::laws::updates_have_one_store;
+use stored_texts::state_messages::{Update, read_message, valid_messages_are_read, write_state};
+use stored_texts::sync_messages::MessageFault;
 
 /// Returns a fault of a message (50 to 56, or 1), with its place and the number of the refusal inside.
 pub fn message_refusal(fault: MessageFault) -> Refusal

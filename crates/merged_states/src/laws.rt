@@ -1,17 +1,17 @@
 //! Laws of merged states; the functions do nothing.
 ghost use Rattle.std.specs.Prelude.{ℕ, List};
-ghost use Rattle.schema_types.specs.declared.fault.SchemaFault.{SchemaFault};
-ghost use Rattle.schema.specs.SchemaEntries.{SchemaEntries as SchemaKept};
-ghost use Rattle.schema.specs.Schemas.{IsSchemaOf, RefusedFor};
-ghost use Rattle.schema.specs.Views.{schema_view};
+ghost use Rattle.policy_checks.specs.schema_types.declared.fault.SchemaFault.{SchemaFault};
+ghost use Rattle.stored_texts.specs.schema.SchemaEntries.{SchemaEntries as SchemaKept};
+ghost use Rattle.stored_texts.specs.schema.Schemas.{IsSchemaOf, RefusedFor};
+ghost use Rattle.stored_texts.specs.schema.Views.{schema_view};
 ghost use Rattle.merged_states.specs.Outcomes.{HaveOneOutcome, OrderDoesNotMatter, RepeatsDoNotMatter};
 ghost use Rattle.merged_states.specs.Outcomes.{GroupsDoNotMatter};
 
-use entities::Entity;
-use policy_grammar::Policy;
-use schema::bytes_have_one_outcome;
-use stamped_store::laws::updates_have_one_store;
-use state_messages::messages_have_one_outcome;
+use policy_checks::policy_grammar::Policy;
+use stored_texts::entities::Entity;
+use stored_texts::schema::bytes_have_one_outcome;
+use stored_texts::stamped_store::laws::updates_have_one_store;
+use stored_texts::state_messages::messages_have_one_outcome;
 use stored_texts::{SchemaTexts, stored_texts_have_one_reading};
 
 /// Proves that two messages come to the same state whichever way round they are merged, again with either of them, and,

@@ -8,9 +8,10 @@ mod joining;
 mod laws;
 mod merging;
 
-pub use decision_texts::Refusal;
-pub use entities::Entity;
 pub use joining::{Joined, join_message, message_refusal, state_of};
 pub use laws::{merges_have_one_outcome, order_and_repeats_do_not_matter};
 pub use merging::merge_texts;
-pub use policy_checks::schema_in;
+pub use policy_checks::decision_texts::Refusal;
+pub use policy_checks::{decision_texts, policy_grammar, schema_in};
+pub use stored_texts::entities::Entity;
+pub use stored_texts::{schema, stamped_store, sync_messages};

@@ -1,17 +1,17 @@
 //! Two messages, merged.
 ghost use Rattle.std.specs.Prelude.{◌≡◌, IfOk, IfErr};
-ghost use Rattle.schema.specs.Views.{schema_view};
-ghost use Rattle.decision_texts.specs.Refusals.{no_memory};
+ghost use Rattle.stored_texts.specs.schema.Views.{schema_view};
+ghost use Rattle.policy_checks.specs.decision_texts.Refusals.{no_memory};
 ghost use Rattle.merged_states.specs.Merges.{IsMerged, IsMergedBack, AreRefused, AreRefusedUnder};
 ghost use Rattle.merged_states.specs.inner.Merging.{IsMergedUnder};
 
 use crate::joining::{Joined, join_message, state_of};
-use decision_texts::Refusal;
+use policy_checks::decision_texts::Refusal;
 use policy_checks::schema_in;
-use schema::Schema;
-use stamped_store::PolicyStore;
-use stamped_store::laws::updates_have_one_store;
 use std::alloc::Global;
+use stored_texts::schema::Schema;
+use stored_texts::stamped_store::PolicyStore;
+use stored_texts::stamped_store::laws::updates_have_one_store;
 
 /// Returns the state of the store of the updates of two messages of a schema, or the refusal of the first that is none.
 fn merge_under(alloc: Global, schema: &Schema, f: &[u8], g: &[u8]) -> Result<Vec<u8>, Refusal>

@@ -1,8 +1,8 @@
 -- A fault of a schema's text, or want of memory.
 use Rattle.std.proofs.Common.{◌≡◌, ℕ, List, refl, ap}
-use Rattle.schema_types.specs.declared.fault.SchemaFault.{SchemaFault}
-use Rattle.schema_types.specs.declared.fault.SchemaFault.TheVariants as schema
-use Rattle.schema.specs.Schemas.{RefusedFor}
+use Rattle.validator.specs.schema_types.declared.fault.SchemaFault.{SchemaFault}
+use Rattle.validator.specs.schema_types.declared.fault.SchemaFault.TheVariants as schema
+use Rattle.validator.specs.schema.Schemas.{RefusedFor}
 use Rattle.decision_texts.specs.Refusals.{no_memory}
 use Rattle.policy_checks.specs.Refusals.{schema_refusal}
 use Rattle.policy_checks.specs.Checks.{IsSchemaRefused}

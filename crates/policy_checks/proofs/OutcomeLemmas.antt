@@ -1,19 +1,20 @@
 -- The texts of a schema and of policies have one outcome.
 use Rattle.std.proofs.Common.{◌≡◌, ◌∙◌, ℕ, Bool, List, [], ◌∷◌, map, inl, inr, refl, sym, ap, subst}
 use Rattle.std.specs.List.{AllZip, list_any, join_with_byte}
-use Rattle.policy_grammar.specs.declared.policy.Policy.{Policy}
-use Rattle.policy_grammar.specs.PolicyText.{IsFileRefused}
-use Rattle.policy_grammar.specs.Unique.{HasOneReading, IsFileOf}
-use Rattle.authoriser.specs.Answers.{NamedPolicy}
-use Rattle.schema.specs.Schemas.{StatedSchema, IsSchemaOf}
-use Rattle.schema.specs.Outcomes as schemas
+use Rattle.decision_texts.specs.policy_grammar.declared.policy.Policy.{Policy}
+use Rattle.decision_texts.specs.policy_grammar.PolicyText.{IsFileRefused}
+use Rattle.decision_texts.specs.policy_grammar.Unique.{HasOneReading, IsFileOf}
+use Rattle.decision_texts.specs.authoriser.Answers.{NamedPolicy}
+use Rattle.validator.specs.schema.Schemas.{StatedSchema, IsSchemaOf}
+use Rattle.validator.specs.schema.Outcomes as schemas
 use Rattle.decision_texts.specs.declared.refusal.Refusal.{Refusal}
 use Rattle.decision_texts.specs.Decisions.{refusal_by, named_policies}
 use Rattle.decision_texts.proofs.PolicyTexts.{PoliciesOrNone, policies_or_none, file_or_fault, fault_same}
 use Rattle.validator.specs.Outcomes.{PoliciesHaveOneOutcome}
 use Rattle.policy_checks.specs.Refusals.{schema_refusal}
 use Rattle.policy_checks.specs.Lines.{verdict_line, is_refusal}
-use Rattle.policy_checks.specs.Checks.{line_end, PolicyReport, IsReportOf, AreReportsOf, AreReportsOnFile, IsChecked, AreChecksRefused}
+use Rattle.policy_checks.specs.Checks.{line_end, PolicyReport, IsReportOf, AreReportsOf, AreReportsOnFile, IsChecked}
+use Rattle.policy_checks.specs.Checks.{AreChecksRefused}
 use Rattle.policy_checks.specs.Outcomes.{CheckOutcome, checked, refused, IsOutcomeOfTexts, TextsHaveOneOutcome}
 
 -- the laws of what the texts are made of

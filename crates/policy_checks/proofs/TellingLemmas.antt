@@ -1,11 +1,12 @@
 -- The lines of policies, one more at each turn.
-use Rattle.std.proofs.Common.{◌≡◌, ◌∙◌, ℕ, zero, suc, ◌+◌, ◌<◌, ◌==◌, ◌||◌, Bool, true, false, List, [], ◌∷◌, ◌++◌, map, take, length, get_or, refl, sym, ap, subst, arith, eqb-true}
+use Rattle.std.proofs.Common.{◌≡◌, ◌∙◌, ℕ, zero, suc, ◌+◌, ◌<◌, ◌==◌, ◌||◌, Bool, true, false, List, [], ◌∷◌, ◌++◌, map}
+use Rattle.std.proofs.Common.{take, length, get_or, refl, sym, ap, subst, arith, eqb-true}
 use Rattle.std.proofs.Common.{String, Global, string_bytes}
 use Rattle.std.specs.List.{AllZip, list_any, join_with_byte}
 use Rattle.std.proofs.lemmas.List.{take_more, append_assoc}
-use Rattle.policy_grammar.specs.declared.policy.Policy.{Policy}
-use Rattle.schema.specs.Schemas.{StatedSchema, IsSchemaOf}
-use Rattle.authoriser.specs.Answers.{NamedPolicy}
+use Rattle.decision_texts.specs.policy_grammar.declared.policy.Policy.{Policy}
+use Rattle.validator.specs.schema.Schemas.{StatedSchema, IsSchemaOf}
+use Rattle.decision_texts.specs.authoriser.Answers.{NamedPolicy}
 use Rattle.decision_texts.specs.Decisions.{named_policies, ArePoliciesOf}
 use Rattle.validator.specs.Outcomes.{CheckResult, IsCheckResult}
 use Rattle.policy_checks.specs.Lines.{verdict_line, is_refusal}

@@ -4,10 +4,10 @@
 use Rattle.std.specs.Prelude.{◌≡◌, ◌⊎◌, ℕ, Bool, List, map}
 use Prim.Native.Char.{code}
 use Rattle.std.specs.List.{AllZip, list_any, join_with_byte}
-use Rattle.policy_grammar.specs.declared.policy.Policy.{Policy}
-use Rattle.authoriser.specs.Answers.{NamedPolicy}
-use Rattle.schema_types.specs.declared.fault.SchemaFault.{SchemaFault}
-use Rattle.schema.specs.Schemas.{StatedSchema, IsSchemaOf, RefusedFor}
+use Rattle.decision_texts.specs.policy_grammar.declared.policy.Policy.{Policy}
+use Rattle.decision_texts.specs.authoriser.Answers.{NamedPolicy}
+use Rattle.validator.specs.schema_types.declared.fault.SchemaFault.{SchemaFault}
+use Rattle.validator.specs.schema.Schemas.{StatedSchema, IsSchemaOf, RefusedFor}
 use Rattle.decision_texts.specs.declared.refusal.Refusal.{Refusal}
 use Rattle.decision_texts.specs.Decisions.{ArePoliciesOf, ArePoliciesRefused, named_policies}
 use Rattle.validator.specs.Outcomes.{CheckResult, IsCheckResult}

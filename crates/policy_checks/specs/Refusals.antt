@@ -1,8 +1,8 @@
 -- Refusals of a schema's text and of policies that do not pass, by number and place. Numbers and places are rules of
 -- this product.
 use Rattle.std.specs.Prelude.{ℕ, Some, None}
-use Rattle.schema_types.specs.declared.fault.SchemaFault.{SchemaFault}
-use Rattle.schema_types.specs.Codes as schemas
+use Rattle.validator.specs.schema_types.declared.fault.SchemaFault.{SchemaFault}
+use Rattle.validator.specs.schema_types.Codes as schemas
 use Rattle.decision_texts.specs.declared.refusal.Refusal.{Refusal}
 use Rattle.decision_texts.specs.Refusals.{no_memory}
 use Rattle.validator.specs.declared.fault.CheckFault.{CheckFault}

@@ -1,6 +1,6 @@
 //! The texts of a schema and of policies, checked.
 ghost use Rattle.std.specs.Prelude.{◌≡◌, ◌||◌, IfOk, IfErr};
-ghost use Rattle.schema.specs.Views.{schema_view};
+ghost use Rattle.validator.specs.schema.Views.{schema_view};
 ghost use Rattle.decision_texts.specs.Refusals.{no_memory};
 ghost use Rattle.decision_texts.specs.Decisions.{ArePoliciesRefused};
 ghost use Rattle.validator.specs.Outcomes.{IsCheckResult};
@@ -10,11 +10,11 @@ ghost use Rattle.policy_checks.specs.inner.Named.{named_in, outcome_of};
 
 use crate::lines::{add_line, verdict_line};
 use crate::reading::schema_in;
+use decision_texts::policy_grammar::Policy;
 use decision_texts::{Refusal, policies_in};
 use plain::NoMemory;
-use policy_grammar::Policy;
-use schema::Schema;
 use std::alloc::Global;
+use validator::schema::Schema;
 use validator::{CheckFault, Verdict, check};
 
 /// Returns what a policy comes to.

@@ -8,7 +8,10 @@ mod reading;
 mod refusal;
 
 pub use checking::check_texts;
-pub use decision_texts::Refusal;
+pub use decision_texts;
+pub use decision_texts::{Refusal, authoriser, json_values, policy_grammar, uid_json};
 pub use laws::checks_have_one_outcome;
 pub use reading::schema_in;
 pub use refusal::{check_refusal, schema_refusal};
+pub use validator;
+pub use validator::schema;

@@ -1,14 +1,14 @@
 //! The text of a schema, read.
 ghost use Rattle.std.specs.Prelude.{◌≡◌, IfOk, IfErr};
-ghost use Rattle.schema.specs.Schemas.{IsSchemaOf};
-ghost use Rattle.schema.specs.Views.{schema_view};
+ghost use Rattle.validator.specs.schema.Schemas.{IsSchemaOf};
+ghost use Rattle.validator.specs.schema.Views.{schema_view};
 ghost use Rattle.decision_texts.specs.Refusals.{no_memory};
 ghost use Rattle.policy_checks.specs.Checks.{IsSchemaRefused};
 
 use crate::refusal::schema_refusal;
 use decision_texts::Refusal;
-use schema::{Schema, read_schema};
 use std::alloc::Global;
+use validator::schema::{Schema, read_schema};
 
 /// Returns the schema that bytes state, or the refusal (20 to 25), which has no place.
 pub fn schema_in(alloc: Global, bytes: &[u8]) -> Result<Schema, Refusal>

@@ -1,17 +1,19 @@
 -- What a production derives of some tokens it derives, as some tree, of all that are of the same kinds: one rule a form,
 -- and one a production. No production asks what an earlier one derived, but to build its tree.
-use Rattle.std.proofs.Common.{◌≡◌, inl, inr, ℕ, zero, suc, Bool, true, false, List, [], ◌∷◌, ◌++◌, map, Option, Some, None, refl, sym, ap, ◌∙◌}
-use Rattle.policy_tokens.specs.declared.token.TokenKind.{TokenKind}
-use Rattle.policy_tokens.specs.declared.token.TokenKind.TheVariants as k
-use Rattle.policy_tokens.specs.declared.token.Token.{Token}
-use Rattle.policy_tokens.specs.Idents.{is_ident}
-use Rattle.token_readers.specs.Kinds.{Kinds, only}
-use Rattle.token_readers.specs.Lang as lang
-use Rattle.token_readers.specs.Lang.{Lang}
-use Rattle.token_readers.specs.Grammar as names
-use Rattle.expression_syntax.specs.Expressions as e
-use Rattle.expression_syntax.specs.Expressions.{boolean_of, variable_of, sign_of, comparison_of, patterns, is_positive, expr}
-use Rattle.expression_trees.specs.declared.tree.ExprTree.TheVariants as tree
+use Rattle.std.proofs.Common.{◌≡◌, inl, inr, ℕ, zero, suc, Bool, true, false, List, [], ◌∷◌, ◌++◌, map, Option, Some}
+use Rattle.std.proofs.Common.{None, refl, sym, ap, ◌∙◌}
+use Rattle.policy_syntax.specs.policy_tokens.declared.token.TokenKind.{TokenKind}
+use Rattle.policy_syntax.specs.policy_tokens.declared.token.TokenKind.TheVariants as k
+use Rattle.policy_syntax.specs.policy_tokens.declared.token.Token.{Token}
+use Rattle.policy_syntax.specs.policy_tokens.Idents.{is_ident}
+use Rattle.policy_syntax.specs.token_readers.Kinds.{Kinds, only}
+use Rattle.policy_syntax.specs.token_readers.Lang as lang
+use Rattle.policy_syntax.specs.token_readers.Lang.{Lang}
+use Rattle.policy_syntax.specs.token_readers.Grammar as names
+use Rattle.policy_syntax.specs.expression_syntax.Expressions as e
+use Rattle.policy_syntax.specs.expression_syntax.Expressions.{boolean_of, variable_of, sign_of, comparison_of, patterns}
+use Rattle.policy_syntax.specs.expression_syntax.Expressions.{is_positive, expr}
+use Rattle.policy_syntax.specs.expression_trees.declared.tree.ExprTree.TheVariants as tree
 use Rattle.policy_syntax.specs.Grammar as g
 use Rattle.policy_syntax.specs.Grammar.{words, effects, condition_word_of}
 

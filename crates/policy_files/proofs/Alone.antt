@@ -1,5 +1,7 @@
 -- The text of each policy by itself: its tokens, and how it stands in its file.
-use Rattle.std.proofs.Common.{◌≡◌, ◌⊎◌, inl, inr, ℕ, zero, suc, ◌+◌, ◌-◌, ◌≤◌, Bool, true, false, not, List, [], ◌∷◌, ◌++◌, length, take, drop, map, refl, sym, ap, ◌∙◌, subst, arith, append_assoc, length-append, take-append-drop}
+use Rattle.std.proofs.Common.{◌≡◌, ◌⊎◌, inl, inr, ℕ, zero, suc, ◌+◌, ◌-◌, ◌≤◌, Bool, true, false, not, List, [], ◌∷◌}
+use Rattle.std.proofs.Common.{◌++◌, length, take, drop, map, refl, sym, ap, ◌∙◌, subst, arith, append_assoc}
+use Rattle.std.proofs.Common.{length-append, take-append-drop}
 use Rattle.std.specs.Prelude.{encode_utf8, encode_utf8_all, chars, slice_range}
 use Rattle.std.specs.List.{AllByRecursion, AllZip, concat}
 use Rattle.std.specs.Str.{IsUtf8, IsCharBoundary, trim_start, skip_leading_whitespace}
@@ -7,12 +9,13 @@ use Rattle.std.specs.Char.{is_whitespace}
 use Rattle.std.proofs.Math.Seq.{take-append_seam}
 use Rattle.std.proofs.lemmas.List.{append-nil, drop-drop, map-append}
 use Rattle.std.proofs.lemmas.Str.{IsCharBoundary-start, IsUtf8-between, encodes-chars, length-le-encodes}
-use Rattle.policy_tokens.specs.declared.token.Token.{Token}
-use Rattle.policy_tokens.specs.Lexing.{IsLexed, IsGap, blank, Lex, finish, gap, token, IsSpelledIn}
-use Rattle.policy_tokens.proofs.Unique.{gap_token, same_gap}
-use Rattle.policy_tokens.proofs.Parts.{past}
-use Rattle.policy_tokens.proofs.Spelled.{all_spelled}
-use Rattle.policy_files.specs.Cuts.{is_end, parts_from, left_from, StandsAlone, EachStandsAlone, IsSpaced, EachIsSpaced, PartsJoin}
+use Rattle.policy_syntax.specs.policy_tokens.declared.token.Token.{Token}
+use Rattle.policy_syntax.specs.policy_tokens.Lexing.{IsLexed, IsGap, blank, Lex, finish, gap, token, IsSpelledIn}
+use Rattle.policy_syntax.proofs.of_policy_tokens.Unique.{gap_token, same_gap}
+use Rattle.policy_syntax.proofs.of_policy_tokens.Parts.{past}
+use Rattle.policy_syntax.proofs.of_policy_tokens.Spelled.{all_spelled}
+use Rattle.policy_files.specs.Cuts.{is_end, parts_from, left_from, StandsAlone, EachStandsAlone, IsSpaced, EachIsSpaced}
+use Rattle.policy_files.specs.Cuts.{PartsJoin}
 use Rattle.policy_files.proofs.Splitting.{NoEnd, FirstPart, split}
 
 -- ---- parts, one behind the other

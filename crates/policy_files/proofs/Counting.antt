@@ -2,8 +2,8 @@
 use Rattle.std.proofs.Common.{◌≡◌, ℕ, suc, List, [], ◌∷◌, ◌++◌, length, ap, ◌∙◌, append_assoc}
 use Rattle.std.proofs.lemmas.List.{length-map}
 use Rattle.std.specs.Str.{trim_start}
-use Rattle.policy_tokens.specs.declared.token.Token.{Token}
-use Rattle.policy_tokens.specs.Lexing.{OneLexing}
+use Rattle.policy_syntax.specs.policy_tokens.declared.token.Token.{Token}
+use Rattle.policy_syntax.specs.policy_tokens.Lexing.{OneLexing}
 use Rattle.policy_syntax.specs.declared.tree.PolicyTree.{PolicyTree}
 use Rattle.policy_syntax.specs.Grammar.{policies}
 use Rattle.policy_files.specs.Cuts.{parts_from, AreAsManyAsPolicies}

@@ -1,12 +1,13 @@
 -- Each text of a policy is derived as one by itself.
-use Rattle.std.proofs.Common.{◌≡◌, ◌⊎◌, inl, inr, ℕ, ◌+◌, Bool, true, false, List, [], ◌∷◌, ◌++◌, length, drop, map, refl, sym, ap, ◌∙◌, subst, arith, append_assoc}
+use Rattle.std.proofs.Common.{◌≡◌, ◌⊎◌, inl, inr, ℕ, ◌+◌, Bool, true, false, List, [], ◌∷◌, ◌++◌, length, drop, map}
+use Rattle.std.proofs.Common.{refl, sym, ap, ◌∙◌, subst, arith, append_assoc}
 use Rattle.std.specs.Prelude.{chars, slice_range}
 use Rattle.std.specs.List.{AllByRecursion}
 use Rattle.std.specs.Str.{IsUtf8, IsCharBoundary, trim_start}
 use Rattle.std.proofs.lemmas.Str.{IsCharBoundary-start, IsUtf8-between, encodes-chars}
-use Rattle.policy_tokens.specs.declared.token.Token.{Token}
-use Rattle.policy_tokens.specs.Lexing.{Lex, IsSpelledIn}
-use Rattle.policy_tokens.proofs.Spelled.{all_spelled}
+use Rattle.policy_syntax.specs.policy_tokens.declared.token.Token.{Token}
+use Rattle.policy_syntax.specs.policy_tokens.Lexing.{Lex, IsSpelledIn}
+use Rattle.policy_syntax.proofs.of_policy_tokens.Spelled.{all_spelled}
 use Rattle.policy_syntax.specs.declared.tree.PolicyTree.{PolicyTree}
 use Rattle.policy_syntax.specs.Grammar.{policies, policy}
 use Rattle.policy_files.specs.Cuts.{is_end, parts_from, DerivesPolicy, EachDerivesPolicy}

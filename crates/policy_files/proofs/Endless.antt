@@ -1,19 +1,21 @@
 -- No production of the grammar below a policy has a token that ends a policy, and each derives something of whatever
 -- tokens are of the same kinds: one rule a form, and one a production.
-use Rattle.std.proofs.Common.{◌≡◌, inl, inr, ℕ, zero, suc, Bool, true, false, List, [], ◌∷◌, ◌++◌, Option, Some, None, refl, sym, ap, ◌∙◌, subst, append_assoc}
+use Rattle.std.proofs.Common.{◌≡◌, inl, inr, ℕ, zero, suc, Bool, true, false, List, [], ◌∷◌, ◌++◌, Option, Some, None}
+use Rattle.std.proofs.Common.{refl, sym, ap, ◌∙◌, subst, append_assoc}
 use Rattle.std.proofs.lemmas.List.{append-nil}
-use Rattle.policy_tokens.specs.declared.token.TokenKind.{TokenKind}
-use Rattle.policy_tokens.specs.declared.token.TokenKind.TheVariants as k
-use Rattle.policy_tokens.specs.declared.token.Token.{Token}
-use Rattle.policy_tokens.specs.Idents.{is_ident}
-use Rattle.token_readers.specs.Kinds.{Kinds, only, same_kind}
-use Rattle.token_readers.specs.Lang as lang
-use Rattle.token_readers.specs.Lang.{Lang}
-use Rattle.token_readers.specs.Grammar as names
-use Rattle.token_readers.proofs.KindLemmas.{kinds_are_same}
-use Rattle.expression_syntax.specs.Expressions as e
-use Rattle.expression_syntax.specs.Expressions.{boolean_of, variable_of, sign_of, comparison_of, patterns, is_positive, expr}
-use Rattle.expression_trees.specs.declared.tree.ExprTree.TheVariants as tree
+use Rattle.policy_syntax.specs.policy_tokens.declared.token.TokenKind.{TokenKind}
+use Rattle.policy_syntax.specs.policy_tokens.declared.token.TokenKind.TheVariants as k
+use Rattle.policy_syntax.specs.policy_tokens.declared.token.Token.{Token}
+use Rattle.policy_syntax.specs.policy_tokens.Idents.{is_ident}
+use Rattle.policy_syntax.specs.token_readers.Kinds.{Kinds, only, same_kind}
+use Rattle.policy_syntax.specs.token_readers.Lang as lang
+use Rattle.policy_syntax.specs.token_readers.Lang.{Lang}
+use Rattle.policy_syntax.specs.token_readers.Grammar as names
+use Rattle.policy_syntax.proofs.of_token_readers.KindLemmas.{kinds_are_same}
+use Rattle.policy_syntax.specs.expression_syntax.Expressions as e
+use Rattle.policy_syntax.specs.expression_syntax.Expressions.{boolean_of, variable_of, sign_of, comparison_of, patterns}
+use Rattle.policy_syntax.specs.expression_syntax.Expressions.{is_positive, expr}
+use Rattle.policy_syntax.specs.expression_trees.declared.tree.ExprTree.TheVariants as tree
 use Rattle.policy_syntax.specs.Grammar as g
 use Rattle.policy_syntax.specs.Grammar.{words, effects, condition_word_of}
 use Rattle.policy_files.specs.Cuts.{is_end}

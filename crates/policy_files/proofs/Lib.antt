@@ -5,3 +5,5 @@ pub mod Endless
 pub mod Counting
 pub mod Alike
 pub mod Deriving
+-- crates below, passed on to those above
+pub use Rattle.policy_syntax.proofs.of_policy_tokens

@@ -1,10 +1,12 @@
 -- The lexing of a text, split behind the first token that ends a policy.
-use Rattle.std.proofs.Common.{◌≡◌, ◌⊎◌, inl, inr, ℕ, ◌+◌, Bool, true, false, List, [], ◌∷◌, ◌++◌, length, refl, sym, ap, ◌∙◌, subst, arith, append_assoc, length-append}
+use Rattle.std.proofs.Common.{◌≡◌, ◌⊎◌, inl, inr, ℕ, ◌+◌, Bool, true, false, List, [], ◌∷◌, ◌++◌, length, refl, sym, ap}
+use Rattle.std.proofs.Common.{◌∙◌, subst, arith, append_assoc, length-append}
 use Rattle.std.proofs.lemmas.List.{append-nil}
 use Rattle.std.specs.List.{AllByRecursion}
-use Rattle.policy_tokens.specs.declared.token.TokenKind.{TokenKind}
-use Rattle.policy_tokens.specs.declared.token.Token.{Token}
-use Rattle.policy_tokens.specs.Lexing.{IsLongest, EndsLine, IsGap, blank, comment, Lex, finish, gap, token}
+use Rattle.policy_syntax.specs.policy_tokens.declared.token.TokenKind.{TokenKind}
+use Rattle.policy_syntax.specs.policy_tokens.declared.token.Token.{Token}
+use Rattle.policy_syntax.specs.policy_tokens.Lexing.{IsLongest, EndsLine, IsGap, blank, comment, Lex, finish, gap}
+use Rattle.policy_syntax.specs.policy_tokens.Lexing.{token}
 use Rattle.policy_files.specs.Cuts.{is_end}
 
 -- no token ends a policy

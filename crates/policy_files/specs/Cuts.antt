@@ -8,10 +8,10 @@ use Rattle.std.specs.Prelude.{if◌then◌else◌}
 use Rattle.std.specs.List.{AllByRecursion, AllZip, concat}
 use Rattle.std.specs.Str.{IsUtf8, NoCharPasses, trim_start}
 use Rattle.std.specs.Char.{is_not_whitespace}
-use Rattle.policy_tokens.specs.declared.token.TokenKind.{TokenKind}
-use Rattle.policy_tokens.specs.declared.token.TokenKind.TheVariants as k
-use Rattle.policy_tokens.specs.declared.token.Token.{Token}
-use Rattle.policy_tokens.specs.Lexing.{IsLexed}
+use Rattle.policy_syntax.specs.policy_tokens.declared.token.TokenKind.{TokenKind}
+use Rattle.policy_syntax.specs.policy_tokens.declared.token.TokenKind.TheVariants as k
+use Rattle.policy_syntax.specs.policy_tokens.declared.token.Token.{Token}
+use Rattle.policy_syntax.specs.policy_tokens.Lexing.{IsLexed}
 use Rattle.policy_syntax.specs.declared.tree.PolicyTree.{PolicyTree}
 use Rattle.policy_syntax.specs.Grammar.{policies, policy}
 

@@ -1,11 +1,11 @@
 //! A file's text, cut into the texts of its policies.
 ghost use Rattle.std.specs.Prelude.{◌≡◌, IfOk, IfErr, map};
 ghost use Rattle.std.specs.List.{AllByRecursion};
-ghost use Rattle.policy_tokens.specs.Lexing.{IsLexed, IsSpelledIn, AreInOrder, IsFault};
+ghost use Rattle.policy_syntax.specs.policy_tokens.Lexing.{IsLexed, IsSpelledIn, AreInOrder, IsFault};
 ghost use Rattle.policy_files.specs.Cuts.{is_end, policy_texts, AreTextsOf};
 
 use plain::NoMemory;
-use policy_tokens::{LexFault, Token, TokenKind, tokens};
+use policy_syntax::policy_tokens::{LexFault, Token, TokenKind, tokens};
 use std::alloc::Global;
 
 /// Returns whether a token of this kind ends a policy.

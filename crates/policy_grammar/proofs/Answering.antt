@@ -1,33 +1,38 @@
 -- A text is read or refused.
-use Rattle.std.proofs.Common.{◌≡◌, ◌⊎◌, ℕ, ◌+◌, ◌≤◌, ◌<◌, Bool, true, false, leb, leb-true, leb-false, List, [], ◌∷◌, length, Option, Some, None, find, slice_get, Contains, All, IfSome, if◌then◌else◌, Result, Ok, Err, refl, subst, inl, inr, not-le_of_lt}
+use Rattle.std.proofs.Common.{◌≡◌, ◌⊎◌, ℕ, ◌+◌, ◌≤◌, ◌<◌, Bool, true, false, leb, leb-true, leb-false, List, [], ◌∷◌}
+use Rattle.std.proofs.Common.{length, Option, Some, None, find, slice_get, Contains, All, IfSome, if◌then◌else◌, Result}
+use Rattle.std.proofs.Common.{Ok, Err, refl, subst, inl, inr, not-le_of_lt}
 use Rattle.std.specs.List.{AllByRecursion, AllZip, enumerate_from}
 use Rattle.std.proofs.lemmas.List.Elements.{All-from_recursion, recursion_from_All}
 use Rattle.values.specs.declared.entity_uid.EntityUid.{EntityUid}
-use Rattle.policy_tokens.specs.declared.token.TokenKind.{TokenKind}
-use Rattle.policy_tokens.specs.declared.token.TokenKind.TheVariants as k
-use Rattle.policy_tokens.specs.declared.token.Token.{Token}
-use Rattle.policy_tokens.specs.Lexing.{IsLexed, IsBadAt, IsToken, spelling_of, EachIsLexedOrBad, EachIsSpelled}
-use Rattle.policy_tokens.specs.Strings.{IsStringOf, HasValue}
-use Rattle.token_readers.specs.declared.fault.SyntaxFault.{SyntaxFault}
-use Rattle.token_readers.specs.declared.fault.SyntaxFault.TheVariants as syntax
-use Rattle.token_readers.specs.declared.tree.UidTree.{UidTree}
-use Rattle.token_readers.specs.Kinds.{only}
-use Rattle.token_readers.specs.Lang.{Lang, at_any}
-use Rattle.token_readers.specs.Reads.{IsRefusedWithin, IsAnswerWithin, HasOneAnswer, HasOneAnswerWithin}
-use Rattle.policy_syntax.specs.passed_on.expression_syntax.{nesting_limit}
-use Rattle.policy_syntax.specs.Grammar as grammar
-use Rattle.policy_syntax.specs.Grammar.{effects}
-use Rattle.policy_syntax.specs.WellFormed.{WellFormedToken, WellFormedUid, WellFormedValue, WellFormedAnnotation, WellFormedPart, WellFormedAction, WellFormedPolicy, IsMadeOfTokens}
-use Rattle.policy_syntax.specs.declared.tree.Annotation.{Annotation}
-use Rattle.policy_syntax.specs.declared.tree.PartTree.{PartTree}
-use Rattle.policy_syntax.specs.declared.tree.PartTree.TheVariants as part
-use Rattle.policy_syntax.specs.declared.tree.ActionTree.{ActionTree}
-use Rattle.policy_syntax.specs.declared.tree.ActionTree.TheVariants as action
-use Rattle.policy_syntax.specs.declared.tree.PolicyTree.{PolicyTree}
-use Rattle.desugaring.specs.Meaning as meaning
-use Rattle.desugaring.specs.Meaning.{path_name}
-use Rattle.desugaring.specs.declared.fault.DesugarFault.{DesugarFault}
-use Rattle.desugaring.specs.Refused.{least, NoneOfNone}
+use Rattle.text_trees.specs.policy_tokens.declared.token.TokenKind.{TokenKind}
+use Rattle.text_trees.specs.policy_tokens.declared.token.TokenKind.TheVariants as k
+use Rattle.text_trees.specs.policy_tokens.declared.token.Token.{Token}
+use Rattle.text_trees.specs.policy_tokens.Lexing.{IsLexed, IsBadAt, IsToken, spelling_of, EachIsLexedOrBad}
+use Rattle.text_trees.specs.policy_tokens.Lexing.{EachIsSpelled}
+use Rattle.text_trees.specs.policy_tokens.Strings.{IsStringOf, HasValue}
+use Rattle.text_trees.specs.token_readers.declared.fault.SyntaxFault.{SyntaxFault}
+use Rattle.text_trees.specs.token_readers.declared.fault.SyntaxFault.TheVariants as syntax
+use Rattle.text_trees.specs.token_readers.declared.tree.UidTree.{UidTree}
+use Rattle.text_trees.specs.token_readers.Kinds.{only}
+use Rattle.text_trees.specs.token_readers.Lang.{Lang, at_any}
+use Rattle.text_trees.specs.token_readers.Reads.{IsRefusedWithin, IsAnswerWithin, HasOneAnswer, HasOneAnswerWithin}
+use Rattle.text_trees.specs.expression_syntax.Expressions.{nesting_limit}
+use Rattle.text_trees.specs.policy_syntax.Grammar as grammar
+use Rattle.text_trees.specs.policy_syntax.Grammar.{effects}
+use Rattle.text_trees.specs.policy_syntax.WellFormed.{WellFormedToken, WellFormedUid, WellFormedValue}
+use Rattle.text_trees.specs.policy_syntax.WellFormed.{WellFormedAnnotation, WellFormedPart, WellFormedAction}
+use Rattle.text_trees.specs.policy_syntax.WellFormed.{WellFormedPolicy, IsMadeOfTokens}
+use Rattle.text_trees.specs.policy_syntax.declared.tree.Annotation.{Annotation}
+use Rattle.text_trees.specs.policy_syntax.declared.tree.PartTree.{PartTree}
+use Rattle.text_trees.specs.policy_syntax.declared.tree.PartTree.TheVariants as part
+use Rattle.text_trees.specs.policy_syntax.declared.tree.ActionTree.{ActionTree}
+use Rattle.text_trees.specs.policy_syntax.declared.tree.ActionTree.TheVariants as action
+use Rattle.text_trees.specs.policy_syntax.declared.tree.PolicyTree.{PolicyTree}
+use Rattle.text_trees.specs.desugaring.Meaning as meaning
+use Rattle.text_trees.specs.desugaring.Meaning.{path_name}
+use Rattle.text_trees.specs.desugaring.declared.fault.DesugarFault.{DesugarFault}
+use Rattle.text_trees.specs.desugaring.Refused.{least, NoneOfNone}
 use Rattle.policy_grammar.specs.declared.policy.Effect.{Effect}
 use Rattle.policy_grammar.specs.declared.policy.Effect.TheVariants.{Permit, Forbid}
 use Rattle.policy_grammar.specs.declared.policy.EntityScope.{EntityScope}
@@ -38,11 +43,15 @@ use Rattle.policy_grammar.specs.declared.policy.Policy.{Policy}
 use Rattle.text_trees.specs.declared.fault.ReadFault.{ReadFault}
 use Rattle.text_trees.specs.declared.fault.ReadFault.TheVariants as fault
 use Rattle.policy_grammar.specs.Conditions.{conditions_of}
-use Rattle.policy_grammar.specs.CoreOf.{IsUidOf, AreUidsOf, IsEntityScopeOf, IsActionScopeOf, effect_word, IsCoreOf, AreCoresOf, IsValueOf, is_id, IsNameBy, IsNameOf, AreNamesOf}
+use Rattle.policy_grammar.specs.CoreOf.{IsUidOf, AreUidsOf, IsEntityScopeOf, IsActionScopeOf, effect_word, IsCoreOf}
+use Rattle.policy_grammar.specs.CoreOf.{AreCoresOf, IsValueOf, is_id, IsNameBy, IsNameOf, AreNamesOf}
 use Rattle.text_trees.specs.Faults.{of_desugaring}
 use Rattle.expressions.specs.Size.{most_height, most_forms}
-use Rattle.policy_grammar.specs.Limits.{Shape, height, forms, shape_of, IsSmallShape, IsSmallTree, IsId, most_id_bytes, most_policy_bytes, most_file_bytes}
-use Rattle.policy_grammar.specs.PolicyText.{Derives, byte_of, IsUnread, IsReportedOf, tree_faults, file_faults, IsPolicyOf, HasNoPolicy, ArePoliciesOf, HaveNoPolicies, IsUidText, IsUidRefused, IsPolicyText, IsPolicyRefused, IsFileRefused}
+use Rattle.policy_grammar.specs.Limits.{Shape, height, forms, shape_of, IsSmallShape, IsSmallTree, IsId, most_id_bytes}
+use Rattle.policy_grammar.specs.Limits.{most_policy_bytes, most_file_bytes}
+use Rattle.policy_grammar.specs.PolicyText.{Derives, byte_of, IsUnread, IsReportedOf, tree_faults, file_faults}
+use Rattle.policy_grammar.specs.PolicyText.{IsPolicyOf, HasNoPolicy, ArePoliciesOf, HaveNoPolicies, IsUidText}
+use Rattle.policy_grammar.specs.PolicyText.{IsUidRefused, IsPolicyText, IsPolicyRefused, IsFileRefused}
 use Rattle.policy_grammar.specs.Unique.{IsFileOf}
 use Rattle.policy_grammar.proofs.Lists.{text-kind}
 use Rattle.policy_grammar.proofs.Sizes.{small_core, small_cores}

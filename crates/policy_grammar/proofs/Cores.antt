@@ -3,16 +3,16 @@ use Rattle.std.proofs.Common.{◌≡◌, ℕ, List, [], ◌∷◌, Option, Some,
 use Rattle.std.specs.List.{AllZip, enumerate_from}
 use Rattle.values.specs.declared.entity_uid.EntityUid.{EntityUid}
 use Rattle.expressions.specs.declared.expr.Expr.{Expr}
-use Rattle.policy_tokens.specs.declared.token.Token.{Token}
-use Rattle.policy_tokens.specs.Lexing.{spelling_of}
-use Rattle.policy_tokens.specs.Strings.{OneValue}
-use Rattle.token_readers.specs.declared.tree.UidTree.{UidTree}
-use Rattle.policy_syntax.specs.declared.tree.Annotation.{Annotation}
-use Rattle.policy_syntax.specs.declared.tree.PartTree.{PartTree}
-use Rattle.policy_syntax.specs.declared.tree.PartTree.TheVariants as part
-use Rattle.policy_syntax.specs.declared.tree.ActionTree.{ActionTree}
-use Rattle.policy_syntax.specs.declared.tree.ActionTree.TheVariants as action
-use Rattle.policy_syntax.specs.declared.tree.PolicyTree.{PolicyTree}
+use Rattle.text_trees.specs.policy_tokens.declared.token.Token.{Token}
+use Rattle.text_trees.specs.policy_tokens.Lexing.{spelling_of}
+use Rattle.text_trees.specs.policy_tokens.Strings.{OneValue}
+use Rattle.text_trees.specs.token_readers.declared.tree.UidTree.{UidTree}
+use Rattle.text_trees.specs.policy_syntax.declared.tree.Annotation.{Annotation}
+use Rattle.text_trees.specs.policy_syntax.declared.tree.PartTree.{PartTree}
+use Rattle.text_trees.specs.policy_syntax.declared.tree.PartTree.TheVariants as part
+use Rattle.text_trees.specs.policy_syntax.declared.tree.ActionTree.{ActionTree}
+use Rattle.text_trees.specs.policy_syntax.declared.tree.ActionTree.TheVariants as action
+use Rattle.text_trees.specs.policy_syntax.declared.tree.PolicyTree.{PolicyTree}
 use Rattle.policy_grammar.specs.declared.policy.Effect.{Effect}
 use Rattle.policy_grammar.specs.declared.policy.Effect.TheVariants.{Permit, Forbid}
 use Rattle.policy_grammar.specs.declared.policy.EntityScope.{EntityScope}
@@ -21,7 +21,8 @@ use Rattle.policy_grammar.specs.declared.policy.ActionScope.{ActionScope}
 use Rattle.policy_grammar.specs.declared.policy.ActionScope.TheVariants as actions
 use Rattle.policy_grammar.specs.declared.policy.Scope.{Scope}
 use Rattle.policy_grammar.specs.declared.policy.Policy.{Policy}
-use Rattle.policy_grammar.specs.CoreOf.{IsUidOf, IsEntityScopeOf, IsActionScopeOf, effect_word, IsCoreOf, AreCoresOf, IsValueOf, is_id, IsNameBy, IsNameOf, AreNamesOf}
+use Rattle.policy_grammar.specs.CoreOf.{IsUidOf, IsEntityScopeOf, IsActionScopeOf, effect_word, IsCoreOf, AreCoresOf}
+use Rattle.policy_grammar.specs.CoreOf.{IsValueOf, is_id, IsNameBy, IsNameOf, AreNamesOf}
 
 pub all_zip-same : {A B : Type 0} (R : A → B → Type 0) → ((x : A) (y z : B) → R x y → R x z → y ≡ z) → (xs : List A) (ys zs : List B) → AllZip R xs ys → AllZip R xs zs → ys ≡ zs
 all_zip-same R same [] [] [] all these = refl

@@ -1,12 +1,13 @@
 -- The fault that is told is the one at the least place, and the names of a file differ.
-use Rattle.std.proofs.Common.{◌≡◌, ℕ, Bool, true, false, cond, List, [], ◌∷◌, length, map, filter, Some, refl, sym, ◌∙◌, ap, subst, arith}
+use Rattle.std.proofs.Common.{◌≡◌, ℕ, Bool, true, false, cond, List, [], ◌∷◌, length, map, filter, Some, refl, sym, ◌∙◌}
+use Rattle.std.proofs.Common.{ap, subst, arith}
 use Rattle.std.specs.List.{AllByRecursion, IsDistinct, zip, flat_map}
 use Rattle.std.specs.Str.{bytes_eq}
 use Rattle.std.proofs.lemmas.Slice.Zip.{AllZip-long}
-use Rattle.desugaring.specs.declared.fault.DesugarFault.{DesugarFault}
-use Rattle.desugaring.specs.declared.fault.DesugarFault.TheVariants as desugar
-use Rattle.desugaring.specs.Refused.{at, LeastIsLeast}
-use Rattle.desugaring.specs.Repeats.{NameAt, places_of, repeats}
+use Rattle.text_trees.specs.desugaring.declared.fault.DesugarFault.{DesugarFault}
+use Rattle.text_trees.specs.desugaring.declared.fault.DesugarFault.TheVariants as desugar
+use Rattle.text_trees.specs.desugaring.Refused.{at, LeastIsLeast}
+use Rattle.text_trees.specs.desugaring.Repeats.{NameAt, places_of, repeats}
 use Rattle.policy_grammar.specs.CoreOf.{IsCoreOf}
 use Rattle.text_trees.specs.Faults.{place_of, of_desugaring}
 use Rattle.policy_grammar.specs.PolicyText.{tree_faults}

@@ -1,15 +1,17 @@
 -- Names by places are all different: which policies' names may stand twice.
-use Rattle.std.proofs.Common.{◌≡◌, ◌⊎◌, ℕ, suc, ◌+◌, ◌<◌, ◌≤◌, ◌^◌, ◌&&◌, ◌||◌, ◌==◌, Bool, true, false, List, [], ◌∷◌, ◌++◌, length, drop, get_or, Option, Some, None, codes, find, refl, sym, ◌∙◌, ap, inl, inr, arith, add-one}
+use Rattle.std.proofs.Common.{◌≡◌, ◌⊎◌, ℕ, suc, ◌+◌, ◌<◌, ◌≤◌, ◌^◌, ◌&&◌, ◌||◌, ◌==◌, Bool, true, false, List, [], ◌∷◌}
+use Rattle.std.proofs.Common.{◌++◌, length, drop, get_or, Option, Some, None, codes, find, refl, sym, ◌∙◌, ap, inl, inr}
+use Rattle.std.proofs.Common.{arith, add-one}
 use Rattle.std.specs.Prelude.{is_some}
 use Rattle.std.specs.List.{AllZip, enumerate_from, starts_with}
 use Rattle.std.specs.Fmt.{decimal}
 use Rattle.std.proofs.Math.Seq.{drop-cons}
 use Rattle.std.proofs.lemmas.Fmt.{decimal_injective}
-use Rattle.desugaring.specs.Refused.{least}
-use Rattle.desugaring.specs.Repeats.{NameAt, StandsAgain, repeat_faults, RepeatsAreReported}
-use Rattle.desugaring.proofs.AgainFront.{Later, again-there, again-here, again-front, again-none}
-use Rattle.policy_syntax.specs.declared.tree.Annotation.{Annotation}
-use Rattle.policy_syntax.specs.declared.tree.PolicyTree.{PolicyTree}
+use Rattle.text_trees.specs.desugaring.Refused.{least}
+use Rattle.text_trees.specs.desugaring.Repeats.{NameAt, StandsAgain, repeat_faults, RepeatsAreReported}
+use Rattle.text_trees.proofs.of_desugaring.AgainFront.{Later, again-there, again-here, again-front, again-none}
+use Rattle.text_trees.specs.policy_syntax.declared.tree.Annotation.{Annotation}
+use Rattle.text_trees.specs.policy_syntax.declared.tree.PolicyTree.{PolicyTree}
 use Rattle.policy_grammar.specs.CoreOf.{is_id, IsNameBy, IsNameOf, AreNamesOf}
 use Rattle.policy_grammar.specs.Repeats.{policy_names, start_of}
 use Rattle.policy_grammar.specs.inner.Parts.{has_id, looks_placed, meets_place, kept, doubtful_marks}

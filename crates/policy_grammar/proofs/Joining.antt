@@ -1,22 +1,23 @@
 -- Conditions joined from the last to the first.
-use Rattle.std.proofs.Common.{◌≡◌, ℕ, ◌+◌, ◌<◌, List, [], ◌∷◌, length, drop, get_or, None, refl, sym, ◌∙◌, ap, subst, arith}
+use Rattle.std.proofs.Common.{◌≡◌, ℕ, ◌+◌, ◌<◌, List, [], ◌∷◌, length, drop, get_or, None, refl, sym, ◌∙◌, ap, subst}
+use Rattle.std.proofs.Common.{arith}
 use Rattle.std.proofs.lemmas.List.{append-nil, length-drop}
 use Rattle.std.specs.List.{AllByRecursion, flat_map}
 use Rattle.expressions.specs.declared.leaf.Literal.TheVariants as literal
 use Rattle.expressions.specs.declared.operator.Unary.TheVariants.{Not}
 use Rattle.expressions.specs.declared.expr.Expr.{Expr}
 use Rattle.expressions.specs.declared.expr.Expr.TheVariants as core
-use Rattle.policy_syntax.specs.declared.tree.Condition.{Condition}
-use Rattle.policy_syntax.specs.declared.tree.ConditionWord.{ConditionWord}
-use Rattle.policy_syntax.specs.declared.tree.ConditionWord.TheVariants as word
-use Rattle.policy_syntax.specs.declared.tree.PolicyTree.{PolicyTree}
-use Rattle.policy_syntax.specs.WellFormed.{WellFormedCondition}
-use Rattle.desugaring.specs.declared.fault.DesugarFault.{DesugarFault}
-use Rattle.desugaring.specs.declared.measure.Measure.{Measure}
-use Rattle.desugaring.specs.Faults.{faults_of}
-use Rattle.desugaring.specs.Measured.{of}
-use Rattle.desugaring.specs.BuiltFrom.{IsBuiltFrom}
-use Rattle.desugaring.specs.Sums.{leaf, paired, LiteralIsLeaf, UnaryIsAbove, AndIsPaired}
+use Rattle.text_trees.specs.policy_syntax.declared.tree.Condition.{Condition}
+use Rattle.text_trees.specs.policy_syntax.declared.tree.ConditionWord.{ConditionWord}
+use Rattle.text_trees.specs.policy_syntax.declared.tree.ConditionWord.TheVariants as word
+use Rattle.text_trees.specs.policy_syntax.declared.tree.PolicyTree.{PolicyTree}
+use Rattle.text_trees.specs.policy_syntax.WellFormed.{WellFormedCondition}
+use Rattle.text_trees.specs.desugaring.declared.fault.DesugarFault.{DesugarFault}
+use Rattle.text_trees.specs.desugaring.declared.measure.Measure.{Measure}
+use Rattle.text_trees.specs.desugaring.Faults.{faults_of}
+use Rattle.text_trees.specs.desugaring.Measured.{of}
+use Rattle.text_trees.specs.desugaring.BuiltFrom.{IsBuiltFrom}
+use Rattle.text_trees.specs.desugaring.Sums.{leaf, paired, LiteralIsLeaf, UnaryIsAbove, AndIsPaired}
 use Rattle.policy_grammar.proofs.Lists.{all-at, next, none-left, none-right}
 use Rattle.policy_grammar.specs.Whole.{truth}
 use Rattle.policy_grammar.specs.Conditions.{asked_by, condition_of, conditions_of, condition_faults}

@@ -10,3 +10,5 @@ pub mod Cores
 pub mod Readings
 pub mod Differing
 pub mod Answering
+-- crates below, passed on to those above
+pub use Rattle.text_trees.proofs.of_desugaring

@@ -1,26 +1,30 @@
 -- A uid that is written plainly: its tokens, and what they stand for.
-use Rattle.std.proofs.Common.{◌≡◌, ◌≢◌, ℕ, suc, ◌+◌, ◌-◌, ◌≤◌, ◌<◌, Bool, true, false, List, [], ◌∷◌, ◌++◌, inl, inr, refl, sym, ◌∙◌, ap, subst, arith, length, length-append, take, drop, get_or, map, codes, if◌then◌else◌}
+use Rattle.std.proofs.Common.{◌≡◌, ◌≢◌, ℕ, suc, ◌+◌, ◌-◌, ◌≤◌, ◌<◌, Bool, true, false, List, [], ◌∷◌, ◌++◌, inl, inr}
+use Rattle.std.proofs.Common.{refl, sym, ◌∙◌, ap, subst, arith, length, length-append, take, drop, get_or, map, codes}
+use Rattle.std.proofs.Common.{if◌then◌else◌}
 use Rattle.std.specs.List.{AllByRecursion}
 use Rattle.std.proofs.Math.Nat.{add-sub_cancel_left}
 use Rattle.std.proofs.Math.Seq.{take-append_seam}
 use Rattle.std.proofs.lemmas.List.{append_assoc, append-nil}
-use Rattle.plain.specs.Words.{is_letter, is_digit, is_word_byte, AllAre, run, IsWord, IsIdent, AreIdents, joined_path, IsPath}
+use Rattle.plain.specs.Words.{is_letter, is_digit, is_word_byte, AllAre, run, IsWord, IsIdent, AreIdents, joined_path}
+use Rattle.plain.specs.Words.{IsPath}
 use Rattle.plain.proofs.Runs.{run_most}
 use Rattle.values.specs.declared.entity_uid.EntityUid.{EntityUid}
-use Rattle.policy_tokens.specs.declared.token.TokenKind.TheVariants as k
-use Rattle.policy_tokens.specs.declared.token.Token.{Token}
-use Rattle.policy_tokens.specs.declared.piece.Piece.{Piece}
-use Rattle.policy_tokens.specs.declared.piece.Piece.TheVariants.{Byte}
-use Rattle.policy_tokens.specs.Lexing.{kind_of_word, IsBody, done, itself, has_star, word, quoted, pair, IsLongest, Lex, finish, token, spelling_of}
-use Rattle.policy_tokens.specs.Strings.{bytes_of, IsStringOf}
-use Rattle.policy_tokens.proofs.FirstByte.{Class, others, class, OfClass, class_of_letter}
-use Rattle.policy_tokens.proofs.FrontTells.{begins}
-use Rattle.policy_tokens.proofs.WordKinds.{idents_by_kind}
-use Rattle.policy_tokens.proofs.Parts.{past}
-use Rattle.token_readers.specs.Kinds.{same_kind, only}
-use Rattle.token_readers.specs.Lang.{of, one, ◌>>◌, many}
-use Rattle.token_readers.specs.Grammar.{identifiers}
-use Rattle.desugaring.specs.Strings.{ValueIsValue}
+use Rattle.text_trees.specs.policy_tokens.declared.token.TokenKind.TheVariants as k
+use Rattle.text_trees.specs.policy_tokens.declared.token.Token.{Token}
+use Rattle.text_trees.specs.policy_tokens.declared.piece.Piece.{Piece}
+use Rattle.text_trees.specs.policy_tokens.declared.piece.Piece.TheVariants.{Byte}
+use Rattle.text_trees.specs.policy_tokens.Lexing.{kind_of_word, IsBody, done, itself, has_star, word, quoted, pair}
+use Rattle.text_trees.specs.policy_tokens.Lexing.{IsLongest, Lex, finish, token, spelling_of}
+use Rattle.text_trees.specs.policy_tokens.Strings.{bytes_of, IsStringOf}
+use Rattle.text_trees.proofs.of_policy_tokens.FirstByte.{Class, others, class, OfClass, class_of_letter}
+use Rattle.text_trees.proofs.of_policy_tokens.FrontTells.{begins}
+use Rattle.text_trees.proofs.of_policy_tokens.WordKinds.{idents_by_kind}
+use Rattle.text_trees.proofs.of_policy_tokens.Parts.{past}
+use Rattle.text_trees.specs.token_readers.Kinds.{same_kind, only}
+use Rattle.text_trees.specs.token_readers.Lang.{of, one, ◌>>◌, many}
+use Rattle.text_trees.specs.token_readers.Grammar.{identifiers}
+use Rattle.text_trees.specs.desugaring.Strings.{ValueIsValue}
 use Rattle.policy_grammar.specs.Limits.{most_policy_bytes}
 use Rattle.policy_grammar.specs.PolicyText.{IsUidText}
 use Rattle.policy_grammar.specs.inner.Parts.{IsWrittenPlainly}

@@ -1,18 +1,20 @@
 -- From the refusal of trees to the refusal of their text.
-use Rattle.std.proofs.Common.{◌≡◌, ◌↔◌, ℕ, Bool, true, false, IsTrue, List, length, Result, Ok, Err, IfOk, IfErr, ◌∙◌, inr}
+use Rattle.std.proofs.Common.{◌≡◌, ◌↔◌, ℕ, Bool, true, false, IsTrue, List, length, Result, Ok, Err, IfOk, IfErr, ◌∙◌}
+use Rattle.std.proofs.Common.{inr}
 use Rattle.std.specs.List.{enumerate_from}
 use Rattle.std.proofs.lemmas.List.FromFn.{length-enumerate_from}
 use Rattle.std.proofs.lemmas.Slice.Zip.{AllZip-long}
-use Rattle.policy_syntax.specs.passed_on.expression_syntax.{nesting_limit}
-use Rattle.policy_syntax.specs.declared.tree.PolicyTree.{PolicyTree}
-use Rattle.policy_syntax.specs.Grammar as grammar
+use Rattle.text_trees.specs.expression_syntax.Expressions.{nesting_limit}
+use Rattle.text_trees.specs.policy_syntax.declared.tree.PolicyTree.{PolicyTree}
+use Rattle.text_trees.specs.policy_syntax.Grammar as grammar
 use Rattle.policy_grammar.specs.declared.policy.Policy.{Policy}
 use Rattle.text_trees.specs.declared.fault.ReadFault.{ReadFault}
 use Rattle.text_trees.specs.declared.fault.ReadFault.TheVariants as fault
 use Rattle.policy_grammar.specs.CoreOf.{IsNameOf, AreNamesOf}
 use Rattle.policy_grammar.specs.Limits.{most_policy_bytes, most_file_bytes}
 use Rattle.plain.specs.Refused.{OrNoMemory}
-use Rattle.policy_grammar.specs.PolicyText.{Derives, HasNoPolicy, HaveNoPolicies, IsPolicyOf, IsPolicyText, IsPolicyRefused, IsFileRefused}
+use Rattle.policy_grammar.specs.PolicyText.{Derives, HasNoPolicy, HaveNoPolicies, IsPolicyOf, IsPolicyText}
+use Rattle.policy_grammar.specs.PolicyText.{IsPolicyRefused, IsFileRefused}
 
 pub refuted : (P : Type 0) (b : Bool) → (IsTrue b ↔ P) → b ≡ false → P → ⊥
 refuted P b iff no' p = let yes' : b ≡ true = iff.1 p in absurd (cc)

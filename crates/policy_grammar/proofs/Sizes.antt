@@ -16,12 +16,12 @@ use Rattle.expressions.specs.declared.expr.Expr.TheVariants as core
 use Rattle.expressions.specs.Size as size
 use Rattle.expressions.specs.Size.{height_step, forms_step, greatest, total, capped}
 use Rattle.expressions.proofs.Forms.{fold_literal, fold_variable, fold_and, fold_unary, fold_binary, fold_set}
-use Rattle.token_readers.specs.declared.tree.UidTree.{UidTree}
-use Rattle.policy_syntax.specs.declared.tree.PartTree.{PartTree}
-use Rattle.policy_syntax.specs.declared.tree.PartTree.TheVariants as part
-use Rattle.policy_syntax.specs.declared.tree.ActionTree.{ActionTree}
-use Rattle.policy_syntax.specs.declared.tree.ActionTree.TheVariants as action
-use Rattle.policy_syntax.specs.declared.tree.PolicyTree.{PolicyTree}
+use Rattle.text_trees.specs.token_readers.declared.tree.UidTree.{UidTree}
+use Rattle.text_trees.specs.policy_syntax.declared.tree.PartTree.{PartTree}
+use Rattle.text_trees.specs.policy_syntax.declared.tree.PartTree.TheVariants as part
+use Rattle.text_trees.specs.policy_syntax.declared.tree.ActionTree.{ActionTree}
+use Rattle.text_trees.specs.policy_syntax.declared.tree.ActionTree.TheVariants as action
+use Rattle.text_trees.specs.policy_syntax.declared.tree.PolicyTree.{PolicyTree}
 use Rattle.policy_grammar.specs.declared.policy.EntityScope.{EntityScope}
 use Rattle.policy_grammar.specs.declared.policy.EntityScope.TheVariants as entity
 use Rattle.policy_grammar.specs.declared.policy.ActionScope.{ActionScope}
@@ -30,7 +30,9 @@ use Rattle.policy_grammar.specs.declared.policy.Policy.{Policy}
 use Rattle.policy_grammar.specs.Whole.{entity_literal, entity_part, action_part, expression_of}
 use Rattle.policy_grammar.specs.Conditions.{conditions_of}
 use Rattle.policy_grammar.specs.CoreOf.{IsUidOf, IsEntityScopeOf, IsActionScopeOf, IsCoreOf, AreCoresOf}
-use Rattle.policy_grammar.specs.Limits.{Shape, leaf, over, both, literals, sized, forms, height, part_shape, action_shape, shape_over, shape_of, IsSmallOver, IsSmallTree, IsSmallPolicy, ShapesAreSizes, NineFormsMore, HeadsAreLow}
+use Rattle.policy_grammar.specs.Limits.{Shape, leaf, over, both, literals, sized, forms, height, part_shape}
+use Rattle.policy_grammar.specs.Limits.{action_shape, shape_over, shape_of, IsSmallOver, IsSmallTree, IsSmallPolicy}
+use Rattle.policy_grammar.specs.Limits.{ShapesAreSizes, NineFormsMore, HeadsAreLow}
 
 -- ---- no head is too high
 

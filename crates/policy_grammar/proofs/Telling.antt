@@ -1,14 +1,15 @@
 -- What is told of policies before their expressions are made.
-use Rattle.std.proofs.Common.{◌≡◌, ◌↔◌, IsTrue, ℕ, ◌+◌, ◌<◌, ◌≤◌, true, List, [], ◌∷◌, ◌++◌, length, take, get_or, Option, None, sym, ◌∙◌, ap, subst}
+use Rattle.std.proofs.Common.{◌≡◌, ◌↔◌, IsTrue, ℕ, ◌+◌, ◌<◌, ◌≤◌, true, List, [], ◌∷◌, ◌++◌, length, take, get_or}
+use Rattle.std.proofs.Common.{Option, None, sym, ◌∙◌, ap, subst}
 use Rattle.std.proofs.lemmas.List.{take_more, take_all, flat_map_more}
 use Rattle.std.specs.List.{AllByRecursion, flat_map}
-use Rattle.policy_syntax.specs.declared.tree.PolicyTree.{PolicyTree}
+use Rattle.text_trees.specs.policy_syntax.declared.tree.PolicyTree.{PolicyTree}
 use Rattle.expressions.specs.Size as size
-use Rattle.desugaring.specs.declared.fault.DesugarFault.{DesugarFault}
-use Rattle.desugaring.specs.declared.measure.Measure.{Measure}
-use Rattle.desugaring.specs.Measured.{of}
-use Rattle.desugaring.specs.Refused.{earlier_of, least, LeastOfBoth}
-use Rattle.desugaring.specs.Repeats.{repeat_faults}
+use Rattle.text_trees.specs.desugaring.declared.fault.DesugarFault.{DesugarFault}
+use Rattle.text_trees.specs.desugaring.declared.measure.Measure.{Measure}
+use Rattle.text_trees.specs.desugaring.Measured.{of}
+use Rattle.text_trees.specs.desugaring.Refused.{earlier_of, least, LeastOfBoth}
+use Rattle.text_trees.specs.desugaring.Repeats.{repeat_faults}
 use Rattle.policy_grammar.specs.declared.verdict.Verdict.{Verdict}
 use Rattle.policy_grammar.specs.Conditions.{conditions_of, condition_faults}
 use Rattle.policy_grammar.specs.Limits.{IsSmallOver, IsSmallTree}

@@ -4,15 +4,15 @@
 use Rattle.std.specs.Prelude.{◌≡◌, ◌⊎◌, ℕ, List, [], Some, All, ◌++◌}
 use Rattle.std.specs.List.{AllByRecursion, flat_map}
 use Rattle.values.specs.declared.entity_uid.EntityUid.{EntityUid}
-use Rattle.token_readers.specs.declared.tree.UidTree.{UidTree}
-use Rattle.policy_syntax.specs.declared.tree.PolicyTree.{PolicyTree}
-use Rattle.token_readers.specs.Lang.{at_any}
-use Rattle.policy_syntax.specs.passed_on.expression_syntax.{nesting_limit}
-use Rattle.policy_syntax.specs.Grammar as grammar
+use Rattle.text_trees.specs.token_readers.declared.tree.UidTree.{UidTree}
+use Rattle.text_trees.specs.policy_syntax.declared.tree.PolicyTree.{PolicyTree}
+use Rattle.text_trees.specs.token_readers.Lang.{at_any}
+use Rattle.text_trees.specs.expression_syntax.Expressions.{nesting_limit}
+use Rattle.text_trees.specs.policy_syntax.Grammar as grammar
 pub use Rattle.text_trees.specs.Texts.{Derives, byte_of, StopsAt, IsUnread}
-use Rattle.desugaring.specs.declared.fault.DesugarFault.{DesugarFault}
-use Rattle.desugaring.specs.Refused.{least}
-use Rattle.desugaring.specs.Repeats.{repeat_faults}
+use Rattle.text_trees.specs.desugaring.declared.fault.DesugarFault.{DesugarFault}
+use Rattle.text_trees.specs.desugaring.Refused.{least}
+use Rattle.text_trees.specs.desugaring.Repeats.{repeat_faults}
 use Rattle.policy_grammar.specs.declared.policy.Policy.{Policy}
 use Rattle.text_trees.specs.declared.fault.ReadFault.{ReadFault}
 use Rattle.text_trees.specs.declared.fault.ReadFault.TheVariants as fault

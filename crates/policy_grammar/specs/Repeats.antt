@@ -3,10 +3,10 @@
 -- stands once in a file.
 use Rattle.std.specs.Prelude.{ℕ, List, [], ◌∷◌, map}
 use Rattle.std.specs.List.{zip}
-use Rattle.policy_tokens.specs.declared.token.Token.{Token}
-use Rattle.policy_syntax.specs.declared.tree.Annotation.{Annotation}
-use Rattle.policy_syntax.specs.declared.tree.PolicyTree.{PolicyTree}
-use Rattle.desugaring.specs.Repeats.{NameAt}
+use Rattle.text_trees.specs.policy_tokens.declared.token.Token.{Token}
+use Rattle.text_trees.specs.policy_syntax.declared.tree.Annotation.{Annotation}
+use Rattle.text_trees.specs.policy_syntax.declared.tree.PolicyTree.{PolicyTree}
+use Rattle.text_trees.specs.desugaring.Repeats.{NameAt}
 pub use Rattle.text_trees.specs.Annotations.{key_at, annotation_keys}
 
 -- where the first token of a policy stands

@@ -4,8 +4,8 @@ use Rattle.std.specs.List.{IsDistinct}
 use Rattle.std.specs.Str.{bytes_eq}
 use Rattle.policy_grammar.specs.declared.policy.Policy.{Policy}
 use Rattle.text_trees.specs.declared.fault.ReadFault.{ReadFault}
-use Rattle.desugaring.specs.declared.fault.DesugarFault.{DesugarFault}
-use Rattle.desugaring.specs.Refused.{at, IsLeastOf}
+use Rattle.text_trees.specs.desugaring.declared.fault.DesugarFault.{DesugarFault}
+use Rattle.text_trees.specs.desugaring.Refused.{at, IsLeastOf}
 use Rattle.text_trees.specs.Faults.{place_of}
 use Rattle.policy_grammar.specs.PolicyText.{IsPolicyFile, IsReportedOf}
 

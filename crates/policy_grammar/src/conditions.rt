@@ -2,18 +2,18 @@
 ghost use Rattle.std.specs.Prelude.{◌≡◌, [], IfOk};
 ghost use Rattle.std.specs.List.{AllByRecursion};
 ghost use Rattle.expressions.specs.declared.expr.Expr.TheVariants as core;
-ghost use Rattle.desugaring.specs.Faults.{faults_of};
-ghost use Rattle.desugaring.specs.Measured.{of};
-ghost use Rattle.policy_syntax.specs.WellFormed.{WellFormedCondition};
+ghost use Rattle.text_trees.specs.desugaring.Faults.{faults_of};
+ghost use Rattle.text_trees.specs.desugaring.Measured.{of};
+ghost use Rattle.text_trees.specs.policy_syntax.WellFormed.{WellFormedCondition};
 ghost use Rattle.policy_grammar.specs.Conditions.{asked_by, condition_of, conditions_of, condition_faults};
-ghost use Rattle.desugaring.specs.BuiltFrom.{IsBuiltFrom};
+ghost use Rattle.text_trees.specs.desugaring.BuiltFrom.{IsBuiltFrom};
 ghost use Rattle.policy_grammar.specs.inner.Parts.{AreSound, judged_by};
 
-use desugaring::{Measure, build_expr, measure_expr, measures_add_up};
 use expressions::{Expr, Literal, Unary};
 use plain::{NoMemory, beside};
-use policy_syntax::{Condition, ConditionWord};
 use std::alloc::Global;
+use text_trees::desugaring::{Measure, build_expr, measure_expr, measures_add_up};
+use text_trees::policy_syntax::{Condition, ConditionWord};
 
 /// Returns what is told of an expression behind this word.
 fn judge_asked(word: ConditionWord, measure: Measure) -> Measure

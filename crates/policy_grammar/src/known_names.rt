@@ -1,15 +1,15 @@
 //! Names that are known already: where a further one is the same, both share one text.
 ghost use Rattle.std.specs.Prelude.{◌≡◌, IsTrue, IfOk};
-ghost use Rattle.policy_syntax.specs.WellFormed.{WellFormedPath};
-ghost use Rattle.desugaring.specs.BuiltFrom.{IsBuiltFrom};
-ghost use Rattle.desugaring.specs.Meaning.{path_name};
+ghost use Rattle.text_trees.specs.policy_syntax.WellFormed.{WellFormedPath};
+ghost use Rattle.text_trees.specs.desugaring.BuiltFrom.{IsBuiltFrom};
+ghost use Rattle.text_trees.specs.desugaring.Meaning.{path_name};
 
 use crate::policy::{ActionScope, EntityScope, Scope};
-use desugaring::type_name;
 use plain::{NoMemory, Text};
-use policy_syntax::PathTree;
-use policy_tokens::spelling;
 use std::alloc::Global;
+use text_trees::desugaring::type_name;
+use text_trees::policy_syntax::PathTree;
+use text_trees::policy_tokens::spelling;
 use values::{EntityUid, SharedText, TypeName};
 
 /// Returns whether a path is one word, and that this name. Of a longer path, which may have blanks between its words,

@@ -2,20 +2,20 @@
 ghost use Rattle.std.specs.Prelude.{◌≡◌, ◌++◌, [], IfOk, IfSome, codes, decimal, find, length, map, string_bytes};
 ghost use Rattle.std.specs.Option.{option_copied};
 ghost use Rattle.std.specs.List.{AllByRecursion};
-ghost use Rattle.policy_syntax.specs.WellFormed.{WellFormedAnnotation, WellFormedPolicy};
+ghost use Rattle.text_trees.specs.policy_syntax.WellFormed.{WellFormedAnnotation, WellFormedPolicy};
 ghost use Rattle.policy_grammar.specs.Conditions.{condition_faults};
 ghost use Rattle.policy_grammar.specs.CoreOf.{IsValueOf, is_id, IsNameOf, AreNamesOf, AreCoresOf};
-ghost use Rattle.desugaring.specs.BuiltFrom.{IsBuiltFrom};
+ghost use Rattle.text_trees.specs.desugaring.BuiltFrom.{IsBuiltFrom};
 ghost use Rattle.policy_grammar.specs.inner.Parts.{has_id};
 
 use crate::core_of::core_like;
 use crate::policy::{Policy, Scope};
 use itoa::Buffer;
 use plain::{NoMemory, Text};
-use policy_syntax::{Annotation, PolicyTree};
-use policy_tokens::{decode_string, spelling};
 use std::alloc::Global;
 use std::collections::VecDeque;
+use text_trees::policy_syntax::{Annotation, PolicyTree};
+use text_trees::policy_tokens::{decode_string, spelling};
 
 /// The bytes of the longest name by a place: `policy` and twenty digits.
 const MOST_PLACED_BYTES: usize = 26;

@@ -1,19 +1,19 @@
 //! Which policy's name stands a second time in a file, and where first.
 ghost use Rattle.std.specs.Prelude.{◌≡◌, ◌||◌, IfOk, length};
 ghost use Rattle.std.specs.List.{AllByRecursion};
-ghost use Rattle.policy_syntax.specs.WellFormed.{WellFormedPolicy};
+ghost use Rattle.text_trees.specs.policy_syntax.WellFormed.{WellFormedPolicy};
 ghost use Rattle.policy_grammar.specs.CoreOf.{AreNamesOf};
-ghost use Rattle.desugaring.specs.Refused.{least};
-ghost use Rattle.desugaring.specs.Repeats.{repeat_faults, abstract_names};
-ghost use Rattle.desugaring.specs.BuiltFrom.{IsBuiltFrom};
+ghost use Rattle.text_trees.specs.desugaring.Refused.{least};
+ghost use Rattle.text_trees.specs.desugaring.Repeats.{repeat_faults, abstract_names};
+ghost use Rattle.text_trees.specs.desugaring.BuiltFrom.{IsBuiltFrom};
 ghost use Rattle.policy_grammar.specs.Repeats.{policy_names, start_of};
 ghost use Rattle.policy_grammar.specs.inner.Parts.{has_id, looks_placed, meets_place, doubtful_marks};
 
 use crate::names::has_id;
-use desugaring::{DesugarFault, NameAt, first_duplicate, repeats_stand_again};
 use plain::{NoMemory, Text};
-use policy_syntax::PolicyTree;
 use std::alloc::Global;
+use text_trees::desugaring::{DesugarFault, NameAt, first_duplicate, repeats_stand_again};
+use text_trees::policy_syntax::PolicyTree;
 
 /// Where the first token of a policy stands.
 fn start(tree: &PolicyTree) -> usize

@@ -1,7 +1,7 @@
 //! Whole texts: a uid, a policy, a file of policies.
 ghost use Rattle.std.specs.Prelude.{IfOk, IfErr, map, string_bytes};
 ghost use Rattle.std.specs.List.{AllByRecursion};
-ghost use Rattle.policy_syntax.specs.WellFormed.{WellFormedPolicy};
+ghost use Rattle.text_trees.specs.policy_syntax.WellFormed.{WellFormedPolicy};
 ghost use Rattle.text_trees.specs.declared.fault.ReadFault.TheVariants as ReadFault;
 ghost use Rattle.policy_grammar.specs.CoreOf.{AreNamesOf};
 ghost use Rattle.policy_grammar.specs.PolicyText.{IsUidText, IsPolicyOf, HasNoPolicy, ArePoliciesOf};
@@ -9,7 +9,7 @@ ghost use Rattle.policy_grammar.specs.PolicyText.{HaveNoPolicies};
 ghost use Rattle.policy_grammar.specs.PolicyText.{IsPolicyText, IsPolicyFile, IsUidRefused};
 ghost use Rattle.plain.specs.Refused.{OrNoMemory};
 ghost use Rattle.policy_grammar.specs.PolicyText.{IsPolicyRefused, IsFileRefused};
-ghost use Rattle.desugaring.specs.BuiltFrom.{IsBuiltFrom};
+ghost use Rattle.text_trees.specs.desugaring.BuiltFrom.{IsBuiltFrom};
 
 use crate::core_of::{core_of, uid_of};
 use crate::held::after;
@@ -19,10 +19,10 @@ use crate::plain_uids::plain_uid;
 use crate::policy::Policy;
 use crate::repeats::repeated_name;
 use crate::verdict::{judge_policies, judge_policy};
-use desugaring::{earlier_of, least_fault_is_told};
 use plain::{NoMemory, Text};
-use policy_syntax::PolicyTree;
 use std::alloc::Global;
+use text_trees::desugaring::{earlier_of, least_fault_is_told};
+use text_trees::policy_syntax::PolicyTree;
 use text_trees::{ReadFault, policy_tree, policy_trees, uid_tree};
 use values::EntityUid;
 

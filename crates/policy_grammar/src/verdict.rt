@@ -2,17 +2,17 @@
 //! keep to the limits.
 ghost use Rattle.std.specs.Prelude.{◌≡◌, ◌↔◌, IsTrue, IfOk};
 ghost use Rattle.std.specs.List.{AllByRecursion};
-ghost use Rattle.desugaring.specs.Refused as spec;
-ghost use Rattle.desugaring.specs.BuiltFrom.{IsBuiltFrom};
-ghost use Rattle.policy_syntax.specs.WellFormed.{WellFormedPolicy};
+ghost use Rattle.text_trees.specs.desugaring.Refused as spec;
+ghost use Rattle.text_trees.specs.desugaring.BuiltFrom.{IsBuiltFrom};
+ghost use Rattle.text_trees.specs.policy_syntax.WellFormed.{WellFormedPolicy};
 ghost use Rattle.policy_grammar.specs.inner.Parts.{ReportsPolicy, ReportsFile};
 
 use crate::conditions::judge_conditions;
 use crate::limits::is_small;
-use desugaring::{DesugarFault, earlier_of, least_fault_is_told};
 use plain::NoMemory;
-use policy_syntax::PolicyTree;
 use std::alloc::Global;
+use text_trees::desugaring::{DesugarFault, earlier_of, least_fault_is_told};
+use text_trees::policy_syntax::PolicyTree;
 use text_trees::repeated_annotation;
 
 /// What is told of one policy, or of several.

@@ -1,18 +1,19 @@
 -- A policy and a list of policies, each as a whole list of tokens.
 use Rattle.std.proofs.Common.{suc, ◌-◌, Result, List, length}
-use Rattle.policy_tokens.specs.declared.token.Token.{Token}
-use Rattle.token_readers.specs.declared.fault.Halt.{Halt}
+use Rattle.expression_syntax.specs.policy_tokens.declared.token.Token.{Token}
+use Rattle.expression_syntax.specs.token_readers.declared.fault.Halt.{Halt}
 use Rattle.policy_syntax.specs.declared.tree.PolicyTree.{PolicyTree}
 use Rattle.policy_syntax.specs.Grammar as g
 use Rattle.policy_syntax.specs.inner.Parsing as r
 use Rattle.policy_syntax.specs.inner.Parsing.{policy_firsts}
-use Rattle.token_readers.specs.ParsesTo.{ParsesTo}
-use Rattle.token_readers.specs.Reads.{HasOneTree, HasOneAnswerWithin, OpensNextLevel, ReadsWithin, whole_of}
-use Rattle.token_readers.proofs.Steps.{none}
+use Rattle.expression_syntax.specs.token_readers.ParsesTo.{ParsesTo}
+use Rattle.expression_syntax.specs.token_readers.Reads.{HasOneTree, HasOneAnswerWithin, OpensNextLevel, ReadsWithin}
+use Rattle.expression_syntax.specs.token_readers.Reads.{whole_of}
+use Rattle.expression_syntax.proofs.of_token_readers.Steps.{none}
 use Rattle.policy_syntax.proofs.PolicyRules.{policy_rule, alive_policy, policies_rule, alive_policies}
 use Rattle.expression_syntax.specs.Expressions.{nesting_limit}
-use Rattle.token_readers.specs.Lang.{at_any}
-use Rattle.token_readers.proofs.Depths as depths
+use Rattle.expression_syntax.specs.token_readers.Lang.{at_any}
+use Rattle.expression_syntax.proofs.of_token_readers.Depths as depths
 
 -- ---- one policy, and what its reader answers
 

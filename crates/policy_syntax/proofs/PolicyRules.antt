@@ -1,32 +1,35 @@
 -- The rules of annotations, of conditions and of policies, over those of a scope.
-use Rattle.std.proofs.Common.{◌≡◌, ℕ, suc, ◌≤◌, true, false, List, [], ◌∷◌, ◌++◌, Option, None, refl, ap, ◌∙◌, append_assoc, arith}
-use Rattle.policy_tokens.specs.declared.token.Token.{Token}
-use Rattle.policy_tokens.specs.declared.token.TokenKind.TheVariants as k
+use Rattle.std.proofs.Common.{◌≡◌, ℕ, suc, ◌≤◌, true, false, List, [], ◌∷◌, ◌++◌, Option, None, refl, ap, ◌∙◌}
+use Rattle.std.proofs.Common.{append_assoc, arith}
+use Rattle.expression_syntax.specs.policy_tokens.declared.token.Token.{Token}
+use Rattle.expression_syntax.specs.policy_tokens.declared.token.TokenKind.TheVariants as k
 use Rattle.policy_syntax.specs.declared.tree.Annotation.{Annotation}
 use Rattle.policy_syntax.specs.declared.tree.ScopeTree.{ScopeTree}
-use Rattle.expression_syntax.specs.passed_on.expression_trees.{ExprTree}
+use Rattle.expression_syntax.specs.expression_trees.declared.tree.ExprTree.{ExprTree}
 use Rattle.policy_syntax.specs.declared.tree.Condition.{Condition}
 use Rattle.policy_syntax.specs.declared.tree.ConditionWord.{ConditionWord}
 use Rattle.policy_syntax.specs.declared.tree.PolicyTree.{PolicyTree}
-use Rattle.token_readers.specs.Kinds.{Kinds, only, same_kind}
-use Rattle.token_readers.specs.Lang.{Lang}
-use Rattle.token_readers.specs.Lang as lang
+use Rattle.expression_syntax.specs.token_readers.Kinds.{Kinds, only, same_kind}
+use Rattle.expression_syntax.specs.token_readers.Lang.{Lang}
+use Rattle.expression_syntax.specs.token_readers.Lang as lang
 use Rattle.policy_syntax.specs.Grammar as g
 use Rattle.policy_syntax.specs.Grammar.{words, effects, condition_word_of, condition_words}
 use Rattle.expression_syntax.specs.Expressions.{expr, symbol}
 use Rattle.expression_syntax.specs.ExpressionReading as expressions
 use Rattle.expression_syntax.proofs.Published.{after_expr, expr_rule, alive_expr, starts_symbol, symbol_rule}
-use Rattle.token_readers.proofs.Depths.{levels}
-use Rattle.token_readers.specs.Reads.{Begins, sees}
-use Rattle.token_readers.specs.Reading.{pure, ◌>>=◌}
+use Rattle.expression_syntax.proofs.of_token_readers.Depths.{levels}
+use Rattle.expression_syntax.specs.token_readers.Reads.{Begins, sees}
+use Rattle.expression_syntax.specs.token_readers.Reading.{pure, ◌>>=◌}
 use Rattle.policy_syntax.specs.inner.Parsing as r
 use Rattle.policy_syntax.specs.inner.Parsing.{policy_firsts}
-use Rattle.token_readers.proofs.Sets.{wide_sees, sees-append}
-use Rattle.token_readers.proofs.Rules.{Rule, Levels}
-use Rattle.token_readers.proofs.Forms.{Starts, of, one, nothing, or, starts_of, starts_both, leads_empty, alive_empty, alive_right, begin_of}
-use Rattle.token_readers.proofs.More.{maybe}
-use Rattle.token_readers.proofs.Many.{each, alive_many}
-use Rattle.token_readers.proofs.Steps.{none, seq, free, behind, go, go_one, alive_maybe, leads_first, leads_one, starts_one}
+use Rattle.expression_syntax.proofs.of_token_readers.Sets.{wide_sees, sees-append}
+use Rattle.expression_syntax.proofs.of_token_readers.Rules.{Rule, Levels}
+use Rattle.expression_syntax.proofs.of_token_readers.Forms.{Starts, of, one, nothing, or, starts_of, starts_both}
+use Rattle.expression_syntax.proofs.of_token_readers.Forms.{leads_empty, alive_empty, alive_right, begin_of}
+use Rattle.expression_syntax.proofs.of_token_readers.More.{maybe}
+use Rattle.expression_syntax.proofs.of_token_readers.Many.{each, alive_many}
+use Rattle.expression_syntax.proofs.of_token_readers.Steps.{none, seq, free, behind, go, go_one, alive_maybe}
+use Rattle.expression_syntax.proofs.of_token_readers.Steps.{leads_first, leads_one, starts_one}
 use Rattle.policy_syntax.proofs.ScopeRules.{after_part, alive_scope, scope_rule}
 
 -- ---- annotations

@@ -1,29 +1,33 @@
 -- The rules of a scope: of an entity, an action and the scope of both and the resource.
 use Rattle.std.proofs.Common.{◌≡◌, true, false, List, [], ◌∷◌, refl}
-use Rattle.policy_tokens.specs.declared.token.TokenKind.{TokenKind}
-use Rattle.policy_tokens.specs.declared.token.TokenKind.TheVariants as k
-use Rattle.token_readers.specs.declared.tree.PathTree.{PathTree}
-use Rattle.token_readers.specs.declared.tree.UidTree.{UidTree}
+use Rattle.expression_syntax.specs.policy_tokens.declared.token.TokenKind.{TokenKind}
+use Rattle.expression_syntax.specs.policy_tokens.declared.token.TokenKind.TheVariants as k
+use Rattle.expression_syntax.specs.token_readers.declared.tree.PathTree.{PathTree}
+use Rattle.expression_syntax.specs.token_readers.declared.tree.UidTree.{UidTree}
 use Rattle.policy_syntax.specs.declared.tree.PartTree.{PartTree}
 use Rattle.policy_syntax.specs.declared.tree.PartTree.TheVariants as part
 use Rattle.policy_syntax.specs.declared.tree.ActionTree.{ActionTree}
 use Rattle.policy_syntax.specs.declared.tree.ActionTree.TheVariants as action
 use Rattle.policy_syntax.specs.declared.tree.ScopeTree.{ScopeTree}
-use Rattle.token_readers.specs.Kinds.{Kinds, only, same_kind}
-use Rattle.token_readers.specs.Lang.{Lang}
-use Rattle.token_readers.specs.Lang as lang
+use Rattle.expression_syntax.specs.token_readers.Kinds.{Kinds, only, same_kind}
+use Rattle.expression_syntax.specs.token_readers.Lang.{Lang}
+use Rattle.expression_syntax.specs.token_readers.Lang as lang
 use Rattle.policy_syntax.specs.Grammar as g
 use Rattle.policy_syntax.specs.Grammar.{identifiers, is_in}
-use Rattle.token_readers.specs.Reads.{Begins}
-use Rattle.token_readers.specs.Reading.{Parser, pure, either, ◌>>=◌}
+use Rattle.expression_syntax.specs.token_readers.Reads.{Begins}
+use Rattle.expression_syntax.specs.token_readers.Reading.{Parser, pure, either, ◌>>=◌}
 use Rattle.policy_syntax.specs.inner.Parsing as r
-use Rattle.token_readers.proofs.Sets.{apart, within}
-use Rattle.token_readers.proofs.Rules.{Rule, Levels}
-use Rattle.token_readers.proofs.Forms.{Starts, Leads, nothing, or, starts_both, leads_empty, leads_or, leads_both, leads_many, leads_maybe, alive_empty, alive_right}
-use Rattle.token_readers.proofs.More.{maybe}
-use Rattle.token_readers.proofs.Many.{each, alive_many}
-use Rattle.token_readers.proofs.Steps.{seq, behind, go, go_one, alive_maybe, leads_first, leads_one, starts_one}
-use Rattle.token_readers.proofs.NameRules.{after_name, path_rule, alive_path, uid_rule, starts_uid, alive_uid}
+use Rattle.expression_syntax.proofs.of_token_readers.Sets.{apart, within}
+use Rattle.expression_syntax.proofs.of_token_readers.Rules.{Rule, Levels}
+use Rattle.expression_syntax.proofs.of_token_readers.Forms.{Starts, Leads, nothing, or, starts_both, leads_empty}
+use Rattle.expression_syntax.proofs.of_token_readers.Forms.{leads_or, leads_both, leads_many, leads_maybe, alive_empty}
+use Rattle.expression_syntax.proofs.of_token_readers.Forms.{alive_right}
+use Rattle.expression_syntax.proofs.of_token_readers.More.{maybe}
+use Rattle.expression_syntax.proofs.of_token_readers.Many.{each, alive_many}
+use Rattle.expression_syntax.proofs.of_token_readers.Steps.{seq, behind, go, go_one, alive_maybe, leads_first}
+use Rattle.expression_syntax.proofs.of_token_readers.Steps.{leads_one, starts_one}
+use Rattle.expression_syntax.proofs.of_token_readers.NameRules.{after_name, path_rule, alive_path, uid_rule, starts_uid}
+use Rattle.expression_syntax.proofs.of_token_readers.NameRules.{alive_uid}
 
 -- ---- principal and resource
 

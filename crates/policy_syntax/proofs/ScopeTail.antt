@@ -1,8 +1,8 @@
 -- What stands behind a policy's scope may be read apart from what stands before.
 use Rattle.std.proofs.Common.{◌≡◌, ℕ, List, refl}
-use Rattle.policy_tokens.specs.declared.token.TokenKind.TheVariants as k
-use Rattle.policy_tokens.specs.declared.token.Token.{Token}
-use Rattle.token_readers.specs.Reading.{ParseResult, Read, Stop, and_then, token, pure}
+use Rattle.expression_syntax.specs.policy_tokens.declared.token.TokenKind.TheVariants as k
+use Rattle.expression_syntax.specs.policy_tokens.declared.token.Token.{Token}
+use Rattle.expression_syntax.specs.token_readers.Reading.{ParseResult, Read, Stop, and_then, token, pure}
 use Rattle.policy_syntax.specs.declared.tree.Annotation.{Annotation}
 use Rattle.policy_syntax.specs.declared.tree.ScopeTree.{ScopeTree}
 use Rattle.policy_syntax.specs.declared.tree.Condition.{Condition}

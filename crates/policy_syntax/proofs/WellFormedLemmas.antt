@@ -1,24 +1,27 @@
 -- A policy's tree is made of the tokens that derive it: one rule a production.
 use Rattle.std.proofs.Common.{ℕ, List, ◌∷◌, [], Some, None, Result, Ok, Err, IfOk}
 use Rattle.std.specs.List.{AllByRecursion}
-use Rattle.policy_tokens.specs.declared.token.TokenKind.{TokenKind}
-use Rattle.policy_tokens.specs.declared.token.TokenKind.TheVariants as k
-use Rattle.policy_tokens.specs.declared.token.Token.{Token}
-use Rattle.token_readers.specs.declared.tree.PathTree.{PathTree}
-use Rattle.token_readers.specs.declared.tree.UidTree.{UidTree}
+use Rattle.expression_syntax.specs.policy_tokens.declared.token.TokenKind.{TokenKind}
+use Rattle.expression_syntax.specs.policy_tokens.declared.token.TokenKind.TheVariants as k
+use Rattle.expression_syntax.specs.policy_tokens.declared.token.Token.{Token}
+use Rattle.expression_syntax.specs.token_readers.declared.tree.PathTree.{PathTree}
+use Rattle.expression_syntax.specs.token_readers.declared.tree.UidTree.{UidTree}
 use Rattle.policy_syntax.specs.declared.tree.PartTree.TheVariants as part
 use Rattle.policy_syntax.specs.declared.tree.ActionTree.TheVariants as action
 use Rattle.policy_syntax.specs.declared.tree.ScopeTree.{ScopeTree}
 use Rattle.policy_syntax.specs.declared.tree.PolicyTree.{PolicyTree}
-use Rattle.token_readers.specs.Kinds.{only}
-use Rattle.token_readers.specs.Lang as lang
-use Rattle.token_readers.specs.Lang.{Lang}
-use Rattle.token_readers.specs.declared.fault.SyntaxFault.{SyntaxFault}
-use Rattle.token_readers.specs.Reads.{Reads, ReadsWithin}
+use Rattle.expression_syntax.specs.token_readers.Kinds.{only}
+use Rattle.expression_syntax.specs.token_readers.Lang as lang
+use Rattle.expression_syntax.specs.token_readers.Lang.{Lang}
+use Rattle.expression_syntax.specs.token_readers.declared.fault.SyntaxFault.{SyntaxFault}
+use Rattle.expression_syntax.specs.token_readers.Reads.{Reads, ReadsWithin}
 use Rattle.policy_syntax.specs.Grammar as g
 use Rattle.policy_syntax.specs.Grammar.{words, effects, condition_word_of, is_in}
-use Rattle.policy_syntax.specs.WellFormed.{WellFormedPath, WellFormedUid, WellFormedValue, WellFormedAnnotation, WellFormedPart, WellFormedAction, WellFormedCondition, WellFormedPolicy}
-use Rattle.token_readers.proofs.WellFormedLemmas.{Makes, token_in, nothing_in, both_in, past_in, giving_in, or_in, maybe_in, many_in, path_in, uid_in}
+use Rattle.policy_syntax.specs.WellFormed.{WellFormedPath, WellFormedUid, WellFormedValue, WellFormedAnnotation}
+use Rattle.policy_syntax.specs.WellFormed.{WellFormedPart, WellFormedAction, WellFormedCondition, WellFormedPolicy}
+use Rattle.expression_syntax.proofs.of_token_readers.WellFormedLemmas.{Makes, token_in, nothing_in, both_in, past_in}
+use Rattle.expression_syntax.proofs.of_token_readers.WellFormedLemmas.{giving_in, or_in, maybe_in, many_in, path_in}
+use Rattle.expression_syntax.proofs.of_token_readers.WellFormedLemmas.{uid_in}
 use Rattle.expression_syntax.proofs.Published.{expr_in, symbol_in}
 
 module _ (all : List Token) where

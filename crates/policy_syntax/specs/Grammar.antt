@@ -2,12 +2,12 @@
 -- Source: Cedar reference guide 4.0, "Grammar specification for Cedar policy syntax". Rules of this product: `__cedar`
 -- is reserved too, and so is no Ident; an annotation's value may be missing, with its parentheses or between them.
 use Rattle.std.specs.Prelude.{ℕ, true, false, ◌||◌, List, [], ◌∷◌, Option, Some, None}
-use Rattle.policy_tokens.specs.declared.token.TokenKind.{TokenKind}
-use Rattle.policy_tokens.specs.declared.token.TokenKind.TheVariants as k
-use Rattle.policy_tokens.specs.declared.token.Token.{Token}
-use Rattle.policy_tokens.specs.Idents.{is_reserved}
-use Rattle.token_readers.specs.declared.tree.PathTree.{PathTree}
-use Rattle.token_readers.specs.declared.tree.UidTree.{UidTree}
+use Rattle.expression_syntax.specs.policy_tokens.declared.token.TokenKind.{TokenKind}
+use Rattle.expression_syntax.specs.policy_tokens.declared.token.TokenKind.TheVariants as k
+use Rattle.expression_syntax.specs.policy_tokens.declared.token.Token.{Token}
+use Rattle.expression_syntax.specs.policy_tokens.Idents.{is_reserved}
+use Rattle.expression_syntax.specs.token_readers.declared.tree.PathTree.{PathTree}
+use Rattle.expression_syntax.specs.token_readers.declared.tree.UidTree.{UidTree}
 use Rattle.policy_syntax.specs.declared.tree.Annotation.{Annotation}
 use Rattle.policy_syntax.specs.declared.tree.PartTree.{PartTree}
 use Rattle.policy_syntax.specs.declared.tree.PartTree.TheVariants as part
@@ -18,10 +18,11 @@ use Rattle.policy_syntax.specs.declared.tree.Condition.{Condition}
 use Rattle.policy_syntax.specs.declared.tree.ConditionWord.{ConditionWord}
 use Rattle.policy_syntax.specs.declared.tree.ConditionWord.TheVariants.{When, Unless}
 use Rattle.policy_syntax.specs.declared.tree.PolicyTree.{PolicyTree}
-use Rattle.token_readers.specs.Kinds.{Kinds}
-pub use Rattle.token_readers.specs.Grammar.{identifiers, path, uid}
+use Rattle.expression_syntax.specs.token_readers.Kinds.{Kinds}
+pub use Rattle.expression_syntax.specs.token_readers.Grammar.{identifiers, path, uid}
 use Rattle.expression_syntax.specs.Expressions.{expr, symbol, known}
-use Rattle.token_readers.specs.Lang.{Lang, of, one, empty, ◌>>=◌, ◌>>◌, ◌giving◌, ◌or◌, optional, many}
+use Rattle.expression_syntax.specs.token_readers.Lang.{Lang, of, one, empty, ◌>>=◌, ◌>>◌, ◌giving◌, ◌or◌, optional}
+use Rattle.expression_syntax.specs.token_readers.Lang.{many}
 
 -- Ident | Reserved
 abbrev pub words : Kinds

@@ -1,8 +1,8 @@
 -- What a tree is made of: tokens of the text, each of the kind that its place asks for.
 use Rattle.std.specs.Prelude.{List, Option, Some, None}
 use Rattle.std.specs.List.{AllByRecursion}
-use Rattle.policy_tokens.specs.declared.token.TokenKind.TheVariants as k
-use Rattle.policy_tokens.specs.declared.token.Token.{Token}
+use Rattle.expression_syntax.specs.policy_tokens.declared.token.TokenKind.TheVariants as k
+use Rattle.expression_syntax.specs.policy_tokens.declared.token.Token.{Token}
 use Rattle.policy_syntax.specs.declared.tree.Annotation.{Annotation}
 use Rattle.policy_syntax.specs.declared.tree.PartTree.{PartTree}
 use Rattle.policy_syntax.specs.declared.tree.PartTree.TheVariants as part
@@ -10,10 +10,10 @@ use Rattle.policy_syntax.specs.declared.tree.ActionTree.{ActionTree}
 use Rattle.policy_syntax.specs.declared.tree.ActionTree.TheVariants as action
 use Rattle.policy_syntax.specs.declared.tree.Condition.{Condition}
 use Rattle.policy_syntax.specs.declared.tree.PolicyTree.{PolicyTree}
-use Rattle.token_readers.specs.Kinds.{only}
-use Rattle.token_readers.specs.Lang.{Lang}
-pub use Rattle.expression_syntax.specs.passed_on.expression_trees.{WellFormedToken, WellFormedPath, WellFormedUid}
-pub use Rattle.expression_syntax.specs.passed_on.expression_trees.{WellFormedExpr}
+use Rattle.expression_syntax.specs.token_readers.Kinds.{only}
+use Rattle.expression_syntax.specs.token_readers.Lang.{Lang}
+pub use Rattle.expression_syntax.specs.expression_trees.WellFormed.{WellFormedToken, WellFormedPath, WellFormedUid}
+pub use Rattle.expression_syntax.specs.expression_trees.WellFormed.{WellFormedExpr}
 use Rattle.policy_syntax.specs.Grammar.{words, effects}
 
 abbrev pub WellFormedValue : List Token → Option Token → Type 0

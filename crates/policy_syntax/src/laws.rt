@@ -3,8 +3,9 @@ ghost use Rattle.std.specs.List.{AllByRecursion};
 ghost use Rattle.policy_syntax.specs.Grammar.{policy, policies, uid};
 ghost use Rattle.policy_syntax.specs.WellFormed.{IsMadeOfTokens, WellFormedPolicy, WellFormedUid};
 ghost use Rattle.expression_syntax.specs.Expressions.{nesting_limit};
-ghost use Rattle.token_readers.specs.Lang.{at_any};
-ghost use Rattle.token_readers.specs.Reads.{HasOneTree, HasOneAnswer, HasOneAnswerWithin, OpensNextLevel};
+ghost use Rattle.expression_syntax.specs.token_readers.Lang.{at_any};
+ghost use Rattle.expression_syntax.specs.token_readers.Reads.{HasOneTree, HasOneAnswer, HasOneAnswerWithin};
+ghost use Rattle.expression_syntax.specs.token_readers.Reads.{OpensNextLevel};
 
 /// Proves that a list of tokens comes to one tree or one refusal, and that a token which is too deep opens the first
 /// level past the limit: it does nothing, and its clauses are laws of the definitions.

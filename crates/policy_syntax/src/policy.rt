@@ -1,19 +1,19 @@
 //! Annotations and policies.
 
 ghost use Rattle.std.specs.Prelude.{◌≡◌, IfErr};
-ghost use Rattle.token_readers.specs.ParsesTo.{ParsesTo};
-ghost use Rattle.token_readers.specs.declared.fault.Halt.TheVariants as halt;
+ghost use Rattle.expression_syntax.specs.token_readers.ParsesTo.{ParsesTo};
+ghost use Rattle.expression_syntax.specs.token_readers.declared.fault.Halt.TheVariants as halt;
 ghost use Rattle.expression_syntax.specs.Expressions.{nesting_limit};
 ghost use Rattle.policy_syntax.specs.inner.Parsing as spec;
 
 use crate::policy_sets::PolicySet;
 use crate::scope::scope;
 use crate::tree::{Annotation, Condition, ConditionWord, PolicyTree, ScopeTree};
+use expression_syntax::policy_tokens::{Token, TokenKind};
+use expression_syntax::token_readers::{Cursor, Halt, read_many};
 use expression_syntax::{NESTING_LIMIT, expr, take_symbol};
 use plain::{Items, beside};
-use policy_tokens::{Token, TokenKind};
 use std::alloc::Global;
-use token_readers::{Cursor, Halt, read_many};
 
 #[tactic(auto, unfolding(crate::specs::inner::Parsing::maybe_text))]
 fn maybe_text(tokens: &mut Cursor<'_>) -> Result<Option<Token>, Halt>

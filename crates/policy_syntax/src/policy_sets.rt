@@ -1,8 +1,8 @@
 //! The kinds of tokens that readers of policies ask for.
 ghost use Rattle.policy_syntax.specs.inner.Included.{included as of_policies};
 
-use policy_tokens::TokenKind;
-use token_readers::KindSet;
+use expression_syntax::policy_tokens::TokenKind;
+use expression_syntax::token_readers::KindSet;
 
 /// What readers of policies ask for.
 #[derive(Clone, Copy)]

@@ -3,16 +3,16 @@
 ghost use Rattle.std.specs.Prelude.{IfOk};
 ghost use Rattle.std.specs.List.{AllByRecursion};
 ghost use Rattle.expression_syntax.specs.Expressions.{nesting_limit};
-ghost use Rattle.token_readers.specs.Lang.{at_any};
-ghost use Rattle.token_readers.specs.Reads.{Reads, ReadsWithin, with_items};
+ghost use Rattle.expression_syntax.specs.token_readers.Lang.{at_any};
+ghost use Rattle.expression_syntax.specs.token_readers.Reads.{Reads, ReadsWithin, with_items};
 ghost use Rattle.policy_syntax.specs.Grammar as grammar;
 ghost use Rattle.policy_syntax.specs.WellFormed.{WellFormedPolicy, WellFormedUid};
 
 use crate::policy::{policies, policy};
 use crate::tree::PolicyTree;
-use policy_tokens::Token;
+use expression_syntax::policy_tokens::Token;
+use expression_syntax::token_readers::{Cursor, SyntaxFault, UidTree, read_to_end, uid};
 use std::alloc::Global;
-use token_readers::{Cursor, SyntaxFault, UidTree, read_to_end, uid};
 
 /// Returns the policy that the tokens are, or the first token with which no policy goes on.
 pub fn read_policy(alloc: Global, tokens: &[Token]) -> Result<PolicyTree, SyntaxFault>

@@ -1,13 +1,13 @@
 //! The parts of a scope.
 
-ghost use Rattle.token_readers.specs.ParsesTo.{ParsesTo};
+ghost use Rattle.expression_syntax.specs.token_readers.ParsesTo.{ParsesTo};
 ghost use Rattle.policy_syntax.specs.inner.Parsing as spec;
 
 use crate::tree::{ActionTree, PartTree, ScopeTree};
+use expression_syntax::policy_tokens::TokenKind;
+use expression_syntax::token_readers::{Cursor, Halt, NameSet, UidTree, path, read_more, uid};
 use plain::{Items, beside};
-use policy_tokens::TokenKind;
 use std::alloc::Global;
-use token_readers::{Cursor, Halt, NameSet, UidTree, path, read_more, uid};
 
 /// "==" Uid
 #[tactic(auto, unfolding(crate::specs::inner::Parsing::equal_uid))]

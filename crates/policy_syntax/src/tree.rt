@@ -1,8 +1,8 @@
 //! Policies as they are written.
 use expression_syntax::ExprTree;
+use expression_syntax::policy_tokens::Token;
+use expression_syntax::token_readers::{PathTree, UidTree};
 use plain::Items;
-use policy_tokens::Token;
-use token_readers::{PathTree, UidTree};
 
 /// An annotation: `@key("value")`.
 #[derive(Drop)]

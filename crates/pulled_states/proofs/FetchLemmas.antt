@@ -1,14 +1,15 @@
 -- What a fetch tells, told of a pull's request.
-use Rattle.std.proofs.Common.{◌≡◌, ◌≢◌, ◌∙◌, ℕ, List, [], ◌++◌, length, Option, Some, refl, sym, ap, subst, append_assoc, append-nil}
+use Rattle.std.proofs.Common.{◌≡◌, ◌≢◌, ◌∙◌, ℕ, List, [], ◌++◌, length, Option, Some, refl, sym, ap, subst}
+use Rattle.std.proofs.Common.{append_assoc, append-nil}
 use Rattle.std.specs.Prelude.{codes, decimal}
 use Rattle.std.specs.Borrow.{Bor}
 use Rattle.std.specs.Io.KnownBytes.{Appends, Consumes, IsAtEnd}
-use Rattle.counted_devices.specs.Devices.{FailsAtLast}
-use Rattle.http_framing.specs.Reply.{IsBadReply, IsUnfinishedReply, ReadsReply}
+use Rattle.http_streams.specs.counted_devices.Devices.{FailsAtLast}
+use Rattle.http_streams.specs.http_framing.Reply.{IsBadReply, IsUnfinishedReply, ReadsReply}
 use Rattle.http_streams.specs.Reads.{EndsByOneRead}
 use Rattle.http_streams.specs.declared.fetch.FetchFault.{FetchFault}
 use Rattle.http_streams.specs.declared.fetch.FetchFault.TheVariants as fetch
-use Rattle.http_texts.specs.RequestText.{request_start, length_field, body_bytes, request_text}
+use Rattle.http_streams.specs.http_texts.RequestText.{request_start, length_field, body_bytes, request_text}
 use Rattle.pulled_states.specs.declared.fault.NetworkFault.{NetworkFault}
 use Rattle.pulled_states.specs.declared.fault.NetworkFault.TheVariants as network
 use Rattle.pulled_states.specs.declared.fault.PullFault.TheVariants.{Network}

@@ -2,8 +2,8 @@
 -- Sources: RFC 9112, sections 3, 4 and 6; RFC 9110, section 15.3.1.
 use Rattle.std.specs.Prelude.{◌≡◌, ◌≢◌, ℕ, List, ◌++◌, Option}
 use Rattle.std.specs.Io.KnownBytes.{Appends, Consumes, IsAtEnd}
-use Rattle.counted_devices.specs.Devices.{FailsAtLast}
-use Rattle.http_framing.specs.Reply.{IsBadReply, IsUnfinishedReply, ReadsReply}
+use Rattle.http_streams.specs.counted_devices.Devices.{FailsAtLast}
+use Rattle.http_streams.specs.http_framing.Reply.{IsBadReply, IsUnfinishedReply, ReadsReply}
 use Rattle.http_streams.specs.Reads.{EndsByOneRead}
 use Rattle.pulled_states.specs.declared.fault.NetworkFault.{NetworkFault}
 use Rattle.pulled_states.specs.declared.fault.NetworkFault.TheVariants as network

@@ -2,11 +2,11 @@
 -- Rules of this product: the schema is judged first, then the state, both before the network is used, then the message
 -- that came; a state is answered only where nothing was refused.
 use Rattle.std.specs.Prelude.{◌≡◌, ◌⊎◌, ℕ, List, Option, Some, None}
-use Rattle.schema.specs.Schemas.{StatedSchema, IsSchemaOf}
-use Rattle.stamped_store.specs.Store.{Store}
-use Rattle.state_messages.specs.Messages.{state_text}
-use Rattle.decision_texts.specs.declared.refusal.Refusal.{Refusal}
-use Rattle.merged_states.specs.passed_on.policy_checks.{IsSchemaRefused}
+use Rattle.merged_states.specs.schema.Schemas.{StatedSchema, IsSchemaOf}
+use Rattle.merged_states.specs.stamped_store.Store.{Store}
+use Rattle.merged_states.specs.state_messages.Messages.{state_text}
+use Rattle.merged_states.specs.decision_texts.declared.refusal.Refusal.{Refusal}
+use Rattle.merged_states.specs.policy_checks.Checks.{IsSchemaRefused}
 use Rattle.merged_states.specs.Messages.{IsMessageRefused, IsReadBack, Joins}
 
 -- the message was joined into the store, and this is the state of what came of it, which is read back as its updates;

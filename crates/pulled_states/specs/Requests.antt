@@ -2,14 +2,14 @@
 -- Sources: RFC 9112, section 3; RFC 9110, sections 7.2, 7.6.1 and 8.6. A rule of this product: the summary of what is
 -- there is posted to /v1/delta, and a state that is absent is an empty store.
 use Rattle.std.specs.Prelude.{◌≡◌, ℕ, List, [], ◌++◌, Option, Some, None, length, codes, decimal}
-use Rattle.policy_grammar.specs.declared.policy.Policy.{Policy}
-use Rattle.schema.specs.Schemas.{StatedSchema, IsSchemaOf}
-use Rattle.entity_worlds.specs.declared.entity.Entity.{Entity}
-use Rattle.stamped_store.specs.Store.{Store, store_of}
-use Rattle.stamped_store.specs.Deltas.{summary_of}
-use Rattle.state_messages.specs.declared.update.Update.{Update as SentUpdate}
-use Rattle.state_messages.specs.Updates.{plain_updates}
-use Rattle.sync_messages.specs.Summaries.{summary_text}
+use Rattle.merged_states.specs.policy_grammar.declared.policy.Policy.{Policy}
+use Rattle.merged_states.specs.schema.Schemas.{StatedSchema, IsSchemaOf}
+use Rattle.merged_states.specs.entity_worlds.declared.entity.Entity.{Entity}
+use Rattle.merged_states.specs.stamped_store.Store.{Store, store_of}
+use Rattle.merged_states.specs.stamped_store.Deltas.{summary_of}
+use Rattle.merged_states.specs.state_messages.declared.update.Update.{Update as SentUpdate}
+use Rattle.merged_states.specs.state_messages.Updates.{plain_updates}
+use Rattle.merged_states.specs.sync_messages.Summaries.{summary_text}
 use Rattle.merged_states.specs.Messages.{IsMergeableMessage}
 
 -- what a state holds: nothing where it is absent, else the updates of the message that it is

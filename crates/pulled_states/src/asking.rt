@@ -1,17 +1,17 @@
 //! The request for what is news, and its reply.
 ghost use Rattle.std.specs.Prelude.{◌≡◌, ◌≢◌, Err, IfOk, OnErr};
-ghost use Rattle.decision_texts.specs.declared.refusal.Refusal.{Refusal};
-ghost use Rattle.decision_texts.specs.Refusals.{no_memory};
+ghost use Rattle.merged_states.specs.decision_texts.declared.refusal.Refusal.{Refusal};
+ghost use Rattle.merged_states.specs.decision_texts.Refusals.{no_memory};
 ghost use Rattle.pulled_states.specs.declared.fault.NetworkFault.{NetworkFault};
 ghost use Rattle.pulled_states.specs.Requests.{delta_request};
 ghost use Rattle.pulled_states.specs.Exchanges.{IsAnswered, IsUnanswered, IsRequestBegun};
 ghost use Rattle.pulled_states.specs.inner.Faults.{pull_fault};
 
 use crate::fault::{NetworkFault, PullFault};
-use counted_devices::devices::{Sink, Source};
-use decision_texts::Refusal;
+use http_streams::counted_devices::devices::{Sink, Source};
 use http_streams::fetch::{FetchFault, fetch};
-use http_texts::request::Ask;
+use http_streams::http_texts::request::Ask;
+use merged_states::decision_texts::Refusal;
 use plain::NoMemory;
 use std::alloc::Global;
 

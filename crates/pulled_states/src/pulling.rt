@@ -1,10 +1,10 @@
 //! What another site has that is news, pulled.
 ghost use Rattle.std.specs.Prelude.{◌≡◌, ◌≢◌, ◌⊎◌, ℕ, List, Ok, Err, IfOk, IfErr, OnErr, MatchResult, option_map};
-ghost use Rattle.schema.specs.Schemas.{StatedSchema};
-ghost use Rattle.schema.specs.Views.{schema_view};
-ghost use Rattle.stamped_store.specs.Store.{Store, abstract_store};
-ghost use Rattle.decision_texts.specs.declared.refusal.Refusal.{Refusal};
-ghost use Rattle.decision_texts.specs.Refusals.{no_memory};
+ghost use Rattle.merged_states.specs.schema.Schemas.{StatedSchema};
+ghost use Rattle.merged_states.specs.schema.Views.{schema_view};
+ghost use Rattle.merged_states.specs.stamped_store.Store.{Store, abstract_store};
+ghost use Rattle.merged_states.specs.decision_texts.declared.refusal.Refusal.{Refusal};
+ghost use Rattle.merged_states.specs.decision_texts.Refusals.{no_memory};
 ghost use Rattle.merged_states.specs.Messages.{IsMessageRefused, IsSendable};
 ghost use Rattle.pulled_states.specs.declared.fault.NetworkFault.{NetworkFault};
 ghost use Rattle.pulled_states.specs.Requests.{Holds, IsReady, request_for};
@@ -13,15 +13,15 @@ ghost use Rattle.pulled_states.specs.Pulls.{IsPulled, IsRefusedFirst, IsStateRef
 
 use crate::asking::ask;
 use crate::fault::PullFault;
-use counted_devices::devices::{Sink, Source};
-use decision_texts::Refusal;
+use http_streams::counted_devices::devices::{Sink, Source};
+use merged_states::decision_texts::Refusal;
+use merged_states::policy_grammar::Policy;
+use merged_states::schema::Schema;
+use merged_states::stamped_store::PolicyStore;
+use merged_states::sync_messages::write_summary;
 use merged_states::{Entity, Joined, join_message, schema_in, state_of};
 use plain::NoMemory;
-use policy_grammar::Policy;
-use schema::Schema;
-use stamped_store::PolicyStore;
 use std::alloc::Global;
-use sync_messages::write_summary;
 
 /// What was pulled.
 #[derive(Drop)]

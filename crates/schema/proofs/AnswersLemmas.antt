@@ -8,7 +8,7 @@ use Rattle.std.proofs.lemmas.List.Kept.{IsStrictlySortedBy-filter}
 use Rattle.std.proofs.lemmas.Map.Views.{btree_map_contains_key_iff, btree_map_get_iff}
 use Rattle.values.specs.declared.entity_uid.EntityUid.{EntityUid}
 use Rattle.values.specs.Names.{uid_cmp, text_cmp, uid_cmp-IsTotalOrder, uid_cmp-IsAntisymmetric}
-use Rattle.ancestor_closure.specs.Hierarchy.{Above, IsAscending, IsAllAbove}
+use Rattle.schema_parts.specs.ancestor_closure.Hierarchy.{Above, IsAscending, IsAllAbove}
 use Rattle.schema_types.specs.Cedar.{Cedar}
 use Rattle.schema_types.specs.CedarViews.{cedar_view}
 use Rattle.schema_types.specs.declared.cedar.CedarType.{CedarType}
@@ -22,7 +22,8 @@ use Rattle.sha2.specs.Sha256.{sha256}
 use Rattle.hex.specs.Hex.{encode_lower}
 use Rattle.schema_names.specs.Naming.{StatesNamed}
 use Rattle.schema_names.specs.Laws.{IsEntityType, NamesItsEntityTypes}
-use Rattle.schema.specs.Schemas.{EnvironmentOf, Answers, IsSound, IsSchemaOf, IsShape, IsAction, IsEnvironment, IsPlace, IsRecordOf, action_parents, type_parents, type_uid, place_cmp}
+use Rattle.schema.specs.Schemas.{EnvironmentOf, Answers, IsSound, IsSchemaOf, IsShape, IsAction, IsEnvironment, IsPlace}
+use Rattle.schema.specs.Schemas.{IsRecordOf, action_parents, type_parents, type_uid, place_cmp}
 use Rattle.schema.specs.SchemaEntries.{kept}
 use Rattle.schema_parts.specs.Places.{environment_of}
 use Rattle.schema_parts.specs.LookUps.{is_numbered_at, stands_below, is_above, stands_below_action, is_action_above}

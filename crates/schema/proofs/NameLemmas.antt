@@ -1,5 +1,6 @@
 -- What actions and entity types are called, and that the actions above an action are declared.
-use Rattle.std.proofs.Common.{◌≡◌, ◌∙◌, ℕ, suc, List, [], ◌∷◌, ◌++◌, map, Option, Some, None, Result, Ok, Err, Bool, true, false, not, cond, refl, sym, ap, subst, inl, inr}
+use Rattle.std.proofs.Common.{◌≡◌, ◌∙◌, ℕ, suc, List, [], ◌∷◌, ◌++◌, map, Option, Some, None, Result, Ok, Err, Bool}
+use Rattle.std.proofs.Common.{true, false, not, cond, refl, sym, ap, subst, inl, inr}
 use Rattle.std.specs.Prelude.{◌⊎◌, Contains, codes, ⊤, ◌==◌, ◌||◌}
 use Rattle.std.specs.Str.{bytes_eq}
 use Rattle.std.specs.Ordering.{is_eq}
@@ -11,20 +12,28 @@ use Rattle.json_words.specs.Each.{each, each_member}
 use Rattle.values.specs.declared.entity_uid.EntityUid.{EntityUid}
 use Rattle.values.specs.Names.{uid_cmp}
 use Rattle.values.specs.Paths.{is_path}
-use Rattle.ancestor_closure.specs.Deciding.{Contains-here, Contains-there, Contains-none, Contains-cases, any_at, same_uid}
+use Rattle.schema_parts.specs.ancestor_closure.Deciding.{Contains-here, Contains-there, Contains-none, Contains-cases}
+use Rattle.schema_parts.specs.ancestor_closure.Deciding.{any_at, same_uid}
 use Rattle.schema_types.specs.Names.{is_qualified, full_name}
 use Rattle.schema_types.specs.TypeShape.{type_name}
-use Rattle.named_types.specs.Actions.{action_type, action_uid, declared_action, first_of, action_of_type}
+use Rattle.schema_names.specs.named_types.Actions.{action_type, action_uid, declared_action, first_of, action_of_type}
 use Rattle.schema_types.specs.declared.fault.SchemaFault.{SchemaFault}
 use Rattle.schema_types.specs.declared.fault.SchemaFault.TheVariants.{BadShape, UnknownName}
 use Rattle.schema_types.specs.Raw.{Raw}
 use Rattle.schema_types.specs.Qualified.{Qualified}
 use Rattle.schema_types.specs.Names.{Scope}
 use Rattle.schema_types.specs.Optional.{optional}
-use Rattle.schema_names.specs.passed_on.schema_file.{StatedParent}
-use Rattle.schema_names.specs.passed_on.schema_file.{EntityTypeOf, ActionOf, NamespaceOf, members_in, ident, entity_type_name, entity_type_of, names_in, type_in, namespace_name, namespace_of, commons_in, entity_types_in, actions_in, entity_types_of, namespaces_of, stated}
-use Rattle.schema_names.specs.Qualifying.{FoundUse, FoundAction, FoundEntityType, FoundSchema, all_of, scope_in, is_action_in, actions_declared, type_named, entity_types_named, use_named, action_meant, action_meant_at, parent_named, parents_named}
-use Rattle.schema_names.specs.Qualifying.{qualified_entity_type, qualified_action, qualified_commons, qualified_entity_types, qualified_actions, qualified_namespace, qualified_namespaces, together, qualified}
+use Rattle.schema_names.specs.schema_file.declared.stated.StatedParent.{StatedParent}
+use Rattle.schema_names.specs.schema_file.Stated.{EntityTypeOf, ActionOf, NamespaceOf, members_in, ident}
+use Rattle.schema_names.specs.schema_file.Stated.{entity_type_name, entity_type_of, names_in, type_in, namespace_name}
+use Rattle.schema_names.specs.schema_file.Stated.{namespace_of, commons_in, entity_types_in, actions_in}
+use Rattle.schema_names.specs.schema_file.Stated.{entity_types_of, namespaces_of, stated}
+use Rattle.schema_names.specs.Qualifying.{FoundUse, FoundAction, FoundEntityType, FoundSchema, all_of, scope_in}
+use Rattle.schema_names.specs.Qualifying.{is_action_in, actions_declared, type_named, entity_types_named, use_named}
+use Rattle.schema_names.specs.Qualifying.{action_meant, action_meant_at, parent_named, parents_named}
+use Rattle.schema_names.specs.Qualifying.{qualified_entity_type, qualified_action, qualified_commons}
+use Rattle.schema_names.specs.Qualifying.{qualified_entity_types, qualified_actions, qualified_namespace}
+use Rattle.schema_names.specs.Qualifying.{qualified_namespaces, together, qualified}
 use Rattle.schema_names.specs.Naming.{StatesNamed}
 use Rattle.schema.specs.Schemas.{IsAction}
 use Rattle.schema.specs.WellFormed.{IsActionType}

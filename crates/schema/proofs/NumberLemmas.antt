@@ -1,5 +1,7 @@
 -- What is above each entity, as numbers.
-use Rattle.std.proofs.Common.{◌≡◌, ◌∙◌, ℕ, zero, suc, ◌+◌, ◌<◌, ◌≤◌, arith, Bool, true, false, cond, List, [], ◌∷◌, ◌++◌, length, drop, get_or, Option, Some, None, refl, sym, ap, subst, inl, inr, append_assoc, append-nil}
+use Rattle.std.proofs.Common.{◌≡◌, ◌∙◌, ℕ, zero, suc, ◌+◌, ◌<◌, ◌≤◌, arith, Bool, true, false, cond, List, [], ◌∷◌}
+use Rattle.std.proofs.Common.{◌++◌, length, drop, get_or, Option, Some, None, refl, sym, ap, subst, inl, inr}
+use Rattle.std.proofs.Common.{append_assoc, append-nil}
 use Rattle.std.specs.Prelude.{⊤, Contains, IsTrue, IsSome, ◌↔◌, ◌⊎◌, ◌||◌, ◌&&◌, nat_le}
 use Rattle.std.specs.Borrow.{Bor}
 use Rattle.std.specs.List.{slice_get}
@@ -11,19 +13,21 @@ use Rattle.std.proofs.lemmas.List.Folds.{list_any-append}
 use Rattle.std.proofs.lemmas.Option.{slice_get_within}
 use Rattle.std.proofs.lemmas.Map.Views.{tells_apart}
 use Rattle.json_words.proofs.EachSame.{cut}
-use Rattle.number_spans.specs.declared.spans.Span.{Span}
-use Rattle.number_spans.specs.Spans.{in_span, has_number}
+use Rattle.schema_parts.specs.number_spans.declared.spans.Span.{Span}
+use Rattle.schema_parts.specs.number_spans.Spans.{in_span, has_number}
 use Rattle.values.specs.declared.entity_uid.EntityUid.{EntityUid}
 use Rattle.values.specs.Names.{uid_cmp, text_cmp, uid_cmp-IsAntisymmetric}
-use Rattle.ancestor_closure.specs.Hierarchy.{Parents, Path, Above, IsAllAbove, names}
-use Rattle.ancestor_closure.specs.Deciding.{Contains-here, Contains-there, Contains-cases, Contains-none}
+use Rattle.schema_parts.specs.ancestor_closure.Hierarchy.{Parents, Path, Above, IsAllAbove, names}
+use Rattle.schema_parts.specs.ancestor_closure.Deciding.{Contains-here, Contains-there, Contains-cases, Contains-none}
 use Rattle.schema_names.specs.Qualifying.{FoundEntityType}
 use Rattle.schema_parts.specs.LookUps.{has_number_at}
 use Rattle.schema.specs.declared.numbering.Numbered.{Numbered}
 use Rattle.schema.specs.declared.type_numbers.TypeNumbers.{TypeNumbers}
 use Rattle.schema.specs.Schemas.{type_uid}
 use Rattle.schema.specs.inner.Filling as filling
-use Rattle.schema.specs.inner.Numbering.{Numbers, IsApart, IsNumbering, NumbersAll, AddsNumber, HasAbove, KeepsAbove, single, HasSpans, AddsParent, AddsParents, single_of, singles, AreAbove, AddsName, AreNames, type_points, AreNumbers}
+use Rattle.schema.specs.inner.Numbering.{Numbers, IsApart, IsNumbering, NumbersAll, AddsNumber, HasAbove, KeepsAbove}
+use Rattle.schema.specs.inner.Numbering.{single, HasSpans, AddsParent, AddsParents, single_of, singles, AreAbove}
+use Rattle.schema.specs.inner.Numbering.{AddsName, AreNames, type_points, AreNumbers}
 use Rattle.schema.proofs.HierarchyLemmas.{contains_map}
 
 some_same : {A : Type 0} (x y : A) → (let o : Option A = Some x in o) ≡ Some y → x ≡ y

@@ -1,14 +1,17 @@
 -- Bytes state a schema or are refused.
-use Rattle.std.proofs.Common.{◌≡◌, ◌∙◌, ℕ, ◌≤◌, arith, List, [], ◌∷◌, ◌++◌, map, Bool, true, false, cond, Option, Some, None, refl, sym, ap, subst, inl, inr, ltb-true, ltb-false}
+use Rattle.std.proofs.Common.{◌≡◌, ◌∙◌, ℕ, ◌≤◌, arith, List, [], ◌∷◌, ◌++◌, map, Bool, true, false, cond, Option, Some}
+use Rattle.std.proofs.Common.{None, refl, sym, ap, subst, inl, inr, ltb-true, ltb-false}
 use Rattle.std.specs.Prelude.{Contains, IsTrue, ◌⊎◌, nat_lt}
 use Rattle.std.specs.List.Sorted.{IsStrictlySortedBy}
 use Rattle.std.specs.Ordering.{is_eq}
 use Rattle.std.proofs.lemmas.List.Elements.{Contains-append_left, Contains-append_right}
 use Rattle.values.specs.declared.entity_uid.EntityUid.{EntityUid}
 use Rattle.values.specs.Names.{uid_cmp, uid_cmp-IsTotalOrder, uid_cmp-IsAntisymmetric}
-use Rattle.ancestor_closure.specs.Hierarchy.{Parents, Path, IsAllAbove, IsAscending, IsOnCycle, no_parents, with_parents}
-use Rattle.ancestor_closure.specs.Decided.{Decides, HaveAllParents, PathsAreDecided, reaches}
-use Rattle.ancestor_closure.specs.Deciding.{Contains-here, Contains-there, Contains-cases, Contains-none, same_uid}
+use Rattle.schema_parts.specs.ancestor_closure.Hierarchy.{Parents, Path, IsAllAbove, IsAscending, IsOnCycle, no_parents}
+use Rattle.schema_parts.specs.ancestor_closure.Hierarchy.{with_parents}
+use Rattle.schema_parts.specs.ancestor_closure.Decided.{Decides, HaveAllParents, PathsAreDecided, reaches}
+use Rattle.schema_parts.specs.ancestor_closure.Deciding.{Contains-here, Contains-there, Contains-cases, Contains-none}
+use Rattle.schema_parts.specs.ancestor_closure.Deciding.{same_uid}
 use Rattle.schema_types.specs.Qualified as qualified
 use Rattle.schema_types.specs.Qualified.{Qualified}
 use Rattle.schema_types.specs.Cedar.{Cedar, parts, deep, IsTooLarge}
@@ -22,7 +25,8 @@ use Rattle.schema_names.specs.Qualifying.{FoundEntityType, FoundUse, FoundAction
 use Rattle.schema_names.specs.Laws as names
 use Rattle.schema_names.specs.Laws.{DeclaresOnce, NamesItsOwn}
 use Rattle.schema.specs.Schemas as schemas
-use Rattle.schema.specs.Schemas.{IsWritten, StandsIn, SomeActionIsOnCycle, SomeTypeIsTooLarge, IsSound, IsUnsound, type_uid, with_actions, with_types}
+use Rattle.schema.specs.Schemas.{IsWritten, StandsIn, SomeActionIsOnCycle, SomeTypeIsTooLarge, IsSound, IsUnsound}
+use Rattle.schema.specs.Schemas.{type_uid, with_actions, with_types}
 use Rattle.schema.proofs.HierarchyLemmas.{first_edge, has_parent}
 use Rattle.schema.proofs.InOrder.{in_order, in_order_ascends, from_in_order, all_in_order}
 

@@ -3,7 +3,7 @@ use Rattle.std.proofs.Common.{◌≡◌, ℕ, arith, List, [], Option, Some, Non
 use Rattle.std.specs.Prelude.{◌⊎◌, Contains, IsSome}
 use Rattle.std.specs.List.Sorted.{IsStrictlySortedBy}
 use Rattle.values.specs.declared.entity_uid.EntityUid.{EntityUid}
-use Rattle.ancestor_closure.specs.Deciding.{Above-joined}
+use Rattle.schema_parts.specs.ancestor_closure.Deciding.{Above-joined}
 use Rattle.schema_types.specs.Qualified.{Qualified}
 use Rattle.schema_types.specs.Cedar.{Cedar, CedarFields, record_of, no_fields, IsTooLarge}
 use Rattle.schema_types.specs.WrittenOut.{Declares, WrittenOut}
@@ -14,7 +14,8 @@ use Rattle.schema_types.specs.Mentions.{MentionsEntity, NamesEntity}
 use Rattle.schema_names.specs.Qualifying.{FoundSchema}
 use Rattle.schema_names.specs.Laws as names
 use Rattle.schema_names.specs.Laws.{IsShapeOrContext, DeclaresOnce, TypesAscend, IsEntityType, NamesItsEntityTypes}
-use Rattle.schema.specs.Schemas.{StatedSchema, Answers, IsAction, IsRecordOf, IsSound, shape_or_context, action_parents, type_parents, type_uid}
+use Rattle.schema.specs.Schemas.{StatedSchema, Answers, IsAction, IsRecordOf, IsSound, shape_or_context, action_parents}
+use Rattle.schema.specs.Schemas.{type_parents, type_uid}
 use Rattle.schema.proofs.HierarchyLemmas.{last_edge, action_edge, above_declared, below_declared}
 use Rattle.schema.proofs.NameLemmas.{AreNamed, names_of}
 use Rattle.schema.specs.WellFormed.{AreAttributes, IsActionType, IsWellFormed, StatedSchemasAreWellFormed}

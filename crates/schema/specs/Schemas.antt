@@ -7,8 +7,9 @@ use Rattle.std.specs.List.Sorted.{IsStrictlySortedBy}
 use Rattle.sha2.specs.Sha256.{sha256}
 use Rattle.hex.specs.Hex.{encode_lower}
 use Rattle.values.specs.declared.entity_uid.EntityUid.{EntityUid}
-use Rattle.ancestor_closure.specs.Hierarchy.{Parents, Above, IsAllAbove, IsAscending, IsOnCycle, no_parents}
-use Rattle.ancestor_closure.specs.Hierarchy.{with_parents}
+use Rattle.schema_parts.specs.ancestor_closure.Hierarchy.{Parents, Above, IsAllAbove, IsAscending, IsOnCycle}
+use Rattle.schema_parts.specs.ancestor_closure.Hierarchy.{no_parents}
+use Rattle.schema_parts.specs.ancestor_closure.Hierarchy.{with_parents}
 use Rattle.schema_types.specs.Qualified as qualified
 use Rattle.schema_types.specs.Qualified.{Qualified}
 use Rattle.schema_types.specs.Cedar.{Cedar, record_of, no_fields, IsTooLarge}

@@ -2,7 +2,7 @@
 use Rattle.std.specs.Prelude.{List, ℕ, map, filter, Option, option_map}
 use Rattle.std.specs.Map.{lookup}
 use Rattle.std.specs.BTreeMap.{is_at}
-use Rattle.number_spans.specs.declared.spans.Span.{Span}
+use Rattle.schema_parts.specs.number_spans.declared.spans.Span.{Span}
 use Rattle.values.specs.declared.entity_uid.EntityUid.{EntityUid}
 use Rattle.values.specs.Names.{text_cmp}
 use Rattle.schema_types.specs.Cedar.{Cedar}

@@ -1,6 +1,6 @@
 //! From bytes to a schema.
 ghost use Rattle.std.specs.Prelude.{◌≢◌, IfOk, MatchResult};
-ghost use Rattle.ancestor_closure.specs.contracts.searched.SearchedAncestry.TheImpl as searched;
+ghost use Rattle.schema_parts.specs.ancestor_closure.contracts.searched.SearchedAncestry.TheImpl as searched;
 ghost use Rattle.schema_types.specs.WrittenOut.{Declarations};
 ghost use Rattle.written_types.specs.Knowledge.{AreWritten, AreWhole};
 ghost use Rattle.written_types.specs.TableViews.{knowledge};
@@ -19,9 +19,9 @@ use crate::hierarchies::{action_edges, make_members, type_edges, uids_of};
 use crate::numbering::{Above, above_each};
 use crate::shapes::make_shapes;
 use crate::type_numbers::{TypeNumbers, number_types};
-use ancestor_closure::Searched;
 use plain::{Items, NoMemory};
 use schema_names::{Found, files_name_their_entity_types, files_name_their_own, read_named};
+use schema_parts::ancestor_closure::Searched;
 use schema_parts::{EntityDecl, Environment, demand_no_cycle, label_of, listed};
 use schema_types::SchemaFault;
 use std::alloc::Global;

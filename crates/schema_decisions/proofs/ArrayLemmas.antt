@@ -1,5 +1,6 @@
 -- Reading an array of entities, as a loop does that puts each into a store.
-use Rattle.std.proofs.Common.{◌≡◌, ◌∙◌, ℕ, suc, ◌++◌, Bool, true, false, not, List, [], ◌∷◌, take, Option, Some, None, Result, Ok, Err, refl, sym, ap}
+use Rattle.std.proofs.Common.{◌≡◌, ◌∙◌, ℕ, suc, ◌++◌, Bool, true, false, not, List, [], ◌∷◌, take, Option, Some, None}
+use Rattle.std.proofs.Common.{Result, Ok, Err, refl, sym, ap}
 use Rattle.std.specs.Prelude.{⊤}
 use Rattle.std.specs.List.{list_any}
 use Rattle.serde_json.specs.Data.{Data}
@@ -7,16 +8,16 @@ use Rattle.json_words.specs.Json.{json_of}
 use Rattle.json_words.specs.ReadsAs.{◌>>=◌, Fails, demand}
 use Rattle.json_words.specs.Each.{each}
 use Rattle.json_words.proofs.EachLemmas.{bind_ok}
-use Rattle.json_values.specs.Arrays.{array_of, each_of}
-use Rattle.json_values.proofs.Readings.{SoFar, before, items_read}
+use Rattle.policy_checks.specs.json_values.Arrays.{array_of, each_of}
+use Rattle.policy_checks.proofs.of_json_values.Readings.{SoFar, before, items_read}
 use Rattle.values.specs.declared.entity_uid.EntityUid.{EntityUid}
-use Rattle.schema.specs.Schemas.{StatedSchema}
-use Rattle.entity_worlds.specs.declared.entity.Entity.{Entity}
-use Rattle.entities.specs.declared.fault.EntityFault.{EntityFault}
-use Rattle.entities.specs.declared.fault.EntityFault.TheVariants.{NoMemory}
-use Rattle.entities.specs.Entities.{entity_stated_in}
-use Rattle.decision_texts.specs.declared.refusal.Refusal.{Refusal}
-use Rattle.decision_texts.specs.Refusals.{no_memory, bad_shape}
+use Rattle.entity_store.specs.schema.Schemas.{StatedSchema}
+use Rattle.entity_store.specs.entity_worlds.declared.entity.Entity.{Entity}
+use Rattle.entity_store.specs.entities.declared.fault.EntityFault.{EntityFault}
+use Rattle.entity_store.specs.entities.declared.fault.EntityFault.TheVariants.{NoMemory}
+use Rattle.entity_store.specs.entities.Entities.{entity_stated_in}
+use Rattle.policy_checks.specs.decision_texts.declared.refusal.Refusal.{Refusal}
+use Rattle.policy_checks.specs.decision_texts.Refusals.{no_memory, bad_shape}
 use Rattle.schema_decisions.specs.Refusals.{entity_refusal}
 use Rattle.schema_decisions.specs.EntityArrays.{names, placed, entity_at, entities_in, entities_of}
 use Rattle.schema_decisions.specs.inner.Stores.{is_among, entity_after}

@@ -1,15 +1,15 @@
 -- Faults of each text, or want of memory.
 use Rattle.std.proofs.Common.{ℕ, List, None, ap, refl}
 use Rattle.std.specs.Prelude.{◌≢◌}
-use Rattle.policy_grammar.specs.declared.policy.Policy.{Policy}
+use Rattle.entity_store.specs.policy_grammar.declared.policy.Policy.{Policy}
 use Rattle.plain.specs.Refused.{OrNoMemory}
-use Rattle.decision_texts.specs.Refusals.{no_memory}
-use Rattle.schema.specs.Schemas.{StatedSchema}
-use Rattle.entities.specs.declared.fault.EntityFault.{EntityFault}
-use Rattle.entities.specs.declared.fault.EntityFault.TheVariants as entity_fault
-use Rattle.validator.specs.declared.fault.CheckFault.{CheckFault}
-use Rattle.validator.specs.declared.fault.CheckFault.TheVariants as check_fault
-use Rattle.validator.specs.Passing.{IsCheckRefused}
+use Rattle.policy_checks.specs.decision_texts.Refusals.{no_memory}
+use Rattle.entity_store.specs.schema.Schemas.{StatedSchema}
+use Rattle.entity_store.specs.entities.declared.fault.EntityFault.{EntityFault}
+use Rattle.entity_store.specs.entities.declared.fault.EntityFault.TheVariants as entity_fault
+use Rattle.policy_checks.specs.validator.declared.fault.CheckFault.{CheckFault}
+use Rattle.policy_checks.specs.validator.declared.fault.CheckFault.TheVariants as check_fault
+use Rattle.policy_checks.specs.validator.Passing.{IsCheckRefused}
 use Rattle.policy_checks.specs.Refusals.{check_refusal}
 use Rattle.schema_decisions.specs.Refusals.{entity_refusal}
 use Rattle.schema_decisions.specs.Policies.{IsUnpassed}

@@ -1,24 +1,25 @@
 -- Four texts have a line or a refusal.
-use Rattle.std.proofs.Common.{◌≡◌, ◌⊎◌, ℕ, suc, List, [], ◌∷◌, Option, Some, None, Result, Ok, Err, MatchOption, inl, inr, refl}
+use Rattle.std.proofs.Common.{◌≡◌, ◌⊎◌, ℕ, suc, List, [], ◌∷◌, Option, Some, None, Result, Ok, Err, MatchOption, inl}
+use Rattle.std.proofs.Common.{inr, refl}
 use Rattle.std.specs.Prelude.{All}
 use Rattle.std.proofs.lemmas.List.Elements.{All-nil, All-cons}
 use Rattle.serde_json.specs.Data.{Data}
 use Rattle.json_words.specs.Json.{json_of}
 use Rattle.values.specs.declared.request.Request.{Request}
-use Rattle.policy_grammar.specs.declared.policy.Policy.{Policy}
-use Rattle.authoriser.specs.Laws.{OneAnswerInFiniteHierarchies}
-use Rattle.schema.specs.Schemas.{StatedSchema, IsSchemaOf}
-use Rattle.schema.specs.Outcomes as schemas
-use Rattle.entity_worlds.specs.declared.entity.Entity.{Entity}
-use Rattle.entities.specs.declared.fault.EntityFault.{EntityFault}
-use Rattle.entities.specs.declared.fault.EntityFault.TheVariants.{BadShape}
-use Rattle.entities.specs.Requests.{StatesRequest, RequestRefused}
-use Rattle.entities.specs.Laws as requests
-use Rattle.validator.specs.Passing.{Passes}
-use Rattle.validator.specs.Outcomes as checks
-use Rattle.decision_texts.specs.declared.refusal.Refusal.{Refusal}
-use Rattle.decision_texts.specs.Lines.{answer_line}
-use Rattle.decision_texts.specs.Decisions.{ArePoliciesOf, named_policies}
+use Rattle.entity_store.specs.policy_grammar.declared.policy.Policy.{Policy}
+use Rattle.entity_store.specs.authoriser.Laws.{OneAnswerInFiniteHierarchies}
+use Rattle.entity_store.specs.schema.Schemas.{StatedSchema, IsSchemaOf}
+use Rattle.entity_store.specs.schema.Outcomes as schemas
+use Rattle.entity_store.specs.entity_worlds.declared.entity.Entity.{Entity}
+use Rattle.entity_store.specs.entities.declared.fault.EntityFault.{EntityFault}
+use Rattle.entity_store.specs.entities.declared.fault.EntityFault.TheVariants.{BadShape}
+use Rattle.entity_store.specs.entities.Requests.{StatesRequest, RequestRefused}
+use Rattle.entity_store.specs.entities.Laws as requests
+use Rattle.policy_checks.specs.validator.Passing.{Passes}
+use Rattle.policy_checks.specs.validator.Outcomes as checks
+use Rattle.policy_checks.specs.decision_texts.declared.refusal.Refusal.{Refusal}
+use Rattle.policy_checks.specs.decision_texts.Lines.{answer_line}
+use Rattle.policy_checks.specs.decision_texts.Decisions.{ArePoliciesOf, named_policies}
 use Rattle.policy_checks.specs.Refusals.{schema_refusal, check_refusal}
 use Rattle.policy_checks.specs.Outcomes as texts
 use Rattle.policy_checks.specs.Outcomes.{IsOutcomeOfTexts, TextsHaveOneOutcome}
@@ -26,11 +27,13 @@ use Rattle.schema_decisions.specs.Refusals.{entity_refusal}
 use Rattle.schema_decisions.specs.Policies.{ArePassing, FirstUnpassed, unpassed_here, unpassed_later, unread, unpassed}
 use Rattle.schema_decisions.specs.EntityArrays.{entities_of}
 use Rattle.schema_decisions.specs.Requests.{IsRequestText}
-use Rattle.schema_decisions.specs.Decisions.{world_under, IsQuestionAnswered, IsQuestionRefused, by_entities, by_request, IsDecidedUnder, IsRefusedUnder}
-use Rattle.schema_decisions.specs.Decisions.{by_policies, by_question, IsDecided, IsSchemaDecisionRefused, by_schema, under_schema}
+use Rattle.schema_decisions.specs.Decisions.{world_under, IsQuestionAnswered, IsQuestionRefused, by_entities}
+use Rattle.schema_decisions.specs.Decisions.{by_request, IsDecidedUnder, IsRefusedUnder}
+use Rattle.schema_decisions.specs.Decisions.{by_policies, by_question, IsDecided, IsSchemaDecisionRefused, by_schema}
+use Rattle.schema_decisions.specs.Decisions.{under_schema}
 use Rattle.schema_decisions.specs.Outcomes.{LineOrRefusal}
-use Rattle.decision_texts.proofs.PolicyTexts.{PoliciesOrNone}
-use Rattle.decision_texts.proofs.NameLemmas.{some_order}
+use Rattle.policy_checks.proofs.of_decision_texts.PolicyTexts.{PoliciesOrNone}
+use Rattle.policy_checks.proofs.of_decision_texts.NameLemmas.{some_order}
 use Rattle.schema_decisions.proofs.StoreLemmas.{with_parents, all_parents}
 
 -- the laws of what the texts are made of

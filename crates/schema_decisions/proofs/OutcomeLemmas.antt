@@ -1,45 +1,49 @@
 -- Four texts have one outcome.
-use Rattle.std.proofs.Common.{◌≡◌, ◌∙◌, ℕ, suc, List, [], ◌∷◌, Option, Some, None, Result, Ok, Err, MatchOption, inr, sym, ap, subst}
+use Rattle.std.proofs.Common.{◌≡◌, ◌∙◌, ℕ, suc, List, [], ◌∷◌, Option, Some, None, Result, Ok, Err, MatchOption, inr}
+use Rattle.std.proofs.Common.{sym, ap, subst}
 use Rattle.std.specs.Prelude.{All}
 use Rattle.std.proofs.lemmas.List.Elements.{All-head, All-tail}
 use Rattle.serde_json.specs.Data.{Data}
 use Rattle.json_words.specs.Json.{json_of}
 use Rattle.values.specs.declared.request.Request.{Request}
-use Rattle.policy_grammar.specs.declared.policy.Policy.{Policy}
-use Rattle.policy_grammar.specs.PolicyText.{IsFileRefused}
-use Rattle.policy_grammar.specs.Unique.{HasOneReading, IsFileOf, EachIsNamed, NamesDiffer}
-use Rattle.authoriser.specs.declared.answer.Answer.{Answer}
-use Rattle.evaluator.specs.Operators.{World}
-use Rattle.authoriser.specs.Answers.{NamedPolicy, IsAnswer}
-use Rattle.authoriser.specs.Laws.{OneAnswerInFiniteHierarchies, ListsAscend}
-use Rattle.schema.specs.Schemas.{StatedSchema, IsSchemaOf}
-use Rattle.schema.specs.Outcomes as schemas
-use Rattle.entity_worlds.specs.declared.entity.Entity.{Entity}
-use Rattle.entities.specs.declared.fault.EntityFault.{EntityFault}
-use Rattle.entities.specs.declared.fault.EntityFault.TheVariants.{BadShape}
-use Rattle.entities.specs.Requests.{StatesRequest, RequestRefused}
-use Rattle.entities.specs.Laws as requests
+use Rattle.entity_store.specs.policy_grammar.declared.policy.Policy.{Policy}
+use Rattle.entity_store.specs.policy_grammar.PolicyText.{IsFileRefused}
+use Rattle.entity_store.specs.policy_grammar.Unique.{HasOneReading, IsFileOf, EachIsNamed, NamesDiffer}
+use Rattle.entity_store.specs.authoriser.declared.answer.Answer.{Answer}
+use Rattle.entity_store.specs.evaluator.Operators.{World}
+use Rattle.entity_store.specs.authoriser.Answers.{NamedPolicy, IsAnswer}
+use Rattle.entity_store.specs.authoriser.Laws.{OneAnswerInFiniteHierarchies, ListsAscend}
+use Rattle.entity_store.specs.schema.Schemas.{StatedSchema, IsSchemaOf}
+use Rattle.entity_store.specs.schema.Outcomes as schemas
+use Rattle.entity_store.specs.entity_worlds.declared.entity.Entity.{Entity}
+use Rattle.entity_store.specs.entities.declared.fault.EntityFault.{EntityFault}
+use Rattle.entity_store.specs.entities.declared.fault.EntityFault.TheVariants.{BadShape}
+use Rattle.entity_store.specs.entities.Requests.{StatesRequest, RequestRefused}
+use Rattle.entity_store.specs.entities.Laws as requests
 use Rattle.entity_store.specs.Laws.{MemberOfIsKept}
-use Rattle.validator.specs.declared.fault.CheckFault.{CheckFault}
-use Rattle.validator.specs.Passing.{Passes, IsCheckRefused}
-use Rattle.validator.specs.Outcomes as checks
-use Rattle.decision_texts.specs.declared.refusal.Refusal.{Refusal}
-use Rattle.decision_texts.specs.Lines.{answer_line}
-use Rattle.decision_texts.specs.Decisions.{ArePoliciesOf, ArePoliciesRefused, named_policies}
+use Rattle.policy_checks.specs.validator.declared.fault.CheckFault.{CheckFault}
+use Rattle.policy_checks.specs.validator.Passing.{Passes, IsCheckRefused}
+use Rattle.policy_checks.specs.validator.Outcomes as checks
+use Rattle.policy_checks.specs.decision_texts.declared.refusal.Refusal.{Refusal}
+use Rattle.policy_checks.specs.decision_texts.Lines.{answer_line}
+use Rattle.policy_checks.specs.decision_texts.Decisions.{ArePoliciesOf, ArePoliciesRefused, named_policies}
 use Rattle.policy_checks.specs.Refusals.{schema_refusal, check_refusal}
 use Rattle.policy_checks.specs.Outcomes as texts
 use Rattle.policy_checks.specs.Outcomes.{TextsHaveOneOutcome}
 use Rattle.schema_decisions.specs.Refusals.{entity_refusal}
-use Rattle.schema_decisions.specs.Policies.{ArePassing, FirstUnpassed, unpassed_here, unpassed_later, ArePassingRefused, unread, unpassed}
+use Rattle.schema_decisions.specs.Policies.{ArePassing, FirstUnpassed, unpassed_here, unpassed_later, ArePassingRefused}
+use Rattle.schema_decisions.specs.Policies.{unread, unpassed}
 use Rattle.schema_decisions.specs.EntityArrays.{entities_of}
 use Rattle.schema_decisions.specs.Requests.{IsRequestText, IsRequestRefused}
 use Rattle.schema_decisions.specs.Decisions as decisions
-use Rattle.schema_decisions.specs.Decisions.{world_under, IsAnswerTo, IsQuestionAnswered, IsQuestionRefused, by_entities, by_request}
-use Rattle.schema_decisions.specs.Decisions.{IsDecidedUnder, IsRefusedUnder, by_policies, by_question, by_schema, under_schema}
+use Rattle.schema_decisions.specs.Decisions.{world_under, IsAnswerTo, IsQuestionAnswered, IsQuestionRefused}
+use Rattle.schema_decisions.specs.Decisions.{by_entities, by_request}
+use Rattle.schema_decisions.specs.Decisions.{IsDecidedUnder, IsRefusedUnder, by_policies, by_question, by_schema}
+use Rattle.schema_decisions.specs.Decisions.{under_schema}
 use Rattle.schema_decisions.specs.Outcomes.{OneLine, NotBoth, OneRefusal, ListsOfLinesAscend, MemberOfDecidesAlike}
 use Rattle.schema_decisions.proofs.StoreLemmas.{with_parents, all_parents}
-use Rattle.decision_texts.proofs.PolicyTexts.{file_or_fault}
-use Rattle.decision_texts.proofs.NameLemmas.{HaveOwnNames, own_names, one_order, ids_ascend}
+use Rattle.policy_checks.proofs.of_decision_texts.PolicyTexts.{file_or_fault}
+use Rattle.policy_checks.proofs.of_decision_texts.NameLemmas.{HaveOwnNames, own_names, one_order, ids_ascend}
 
 -- the laws of what the texts are made of
 pub record Laws : Type 0 where

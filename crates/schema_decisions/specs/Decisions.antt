@@ -4,18 +4,18 @@
 -- judged before the policies, these are all read before one is checked, and the entities are judged before the request.
 use Rattle.std.specs.Prelude.{◌≡◌, ℕ, List, [], ◌∷◌, if◌then◌else◌, Some, None, Ok, Err}
 use Rattle.values.specs.declared.request.Request.{Request}
-use Rattle.policy_grammar.specs.declared.policy.Policy.{Policy}
-use Rattle.ancestor_closure.specs.Decided.{is_same}
-use Rattle.evaluator.specs.Operators.{World}
-use Rattle.authoriser.specs.declared.answer.Answer.{Answer}
-use Rattle.authoriser.specs.Answers.{NamedPolicy, IsAnswer}
-use Rattle.schema.specs.Schemas.{StatedSchema, IsSchemaOf}
-use Rattle.entity_worlds.specs.declared.entity.Entity.{Entity}
-use Rattle.entity_worlds.specs.Entities.{EntityMap, with_actions, world_in}
-use Rattle.entity_worlds.specs.Keeping.{data_of}
-use Rattle.decision_texts.specs.declared.refusal.Refusal.{Refusal}
-use Rattle.decision_texts.specs.Decisions.{named_policies, IsInOrder}
-use Rattle.decision_texts.specs.Lines.{answer_line}
+use Rattle.entity_store.specs.policy_grammar.declared.policy.Policy.{Policy}
+use Rattle.entity_store.specs.ancestor_closure.Decided.{is_same}
+use Rattle.entity_store.specs.evaluator.Operators.{World}
+use Rattle.entity_store.specs.authoriser.declared.answer.Answer.{Answer}
+use Rattle.entity_store.specs.authoriser.Answers.{NamedPolicy, IsAnswer}
+use Rattle.entity_store.specs.schema.Schemas.{StatedSchema, IsSchemaOf}
+use Rattle.entity_store.specs.entity_worlds.declared.entity.Entity.{Entity}
+use Rattle.entity_store.specs.entity_worlds.Entities.{EntityMap, with_actions, world_in}
+use Rattle.entity_store.specs.entity_worlds.Keeping.{data_of}
+use Rattle.policy_checks.specs.decision_texts.declared.refusal.Refusal.{Refusal}
+use Rattle.policy_checks.specs.decision_texts.Decisions.{named_policies, IsInOrder}
+use Rattle.policy_checks.specs.decision_texts.Lines.{answer_line}
 use Rattle.policy_checks.specs.Checks.{IsSchemaRefused}
 use Rattle.schema_decisions.specs.Policies.{ArePassing, ArePassingRefused}
 use Rattle.schema_decisions.specs.EntityArrays.{entities_of}

@@ -2,12 +2,12 @@
 -- Source: Cedar reference guide 4.0, "Policy validation". Rules of this product: the whole file is read before a policy
 -- is checked, and policies are checked in the order of the file.
 use Rattle.std.specs.Prelude.{◌≡◌, ℕ, suc, List, ◌∷◌, All}
-use Rattle.policy_grammar.specs.declared.policy.Policy.{Policy}
-use Rattle.schema.specs.Schemas.{StatedSchema}
-use Rattle.validator.specs.declared.fault.CheckFault.{CheckFault}
-use Rattle.validator.specs.Passing.{Passes, IsCheckRefused}
-use Rattle.decision_texts.specs.declared.refusal.Refusal.{Refusal}
-use Rattle.decision_texts.specs.Decisions.{ArePoliciesOf, ArePoliciesRefused}
+use Rattle.entity_store.specs.policy_grammar.declared.policy.Policy.{Policy}
+use Rattle.entity_store.specs.schema.Schemas.{StatedSchema}
+use Rattle.policy_checks.specs.validator.declared.fault.CheckFault.{CheckFault}
+use Rattle.policy_checks.specs.validator.Passing.{Passes, IsCheckRefused}
+use Rattle.policy_checks.specs.decision_texts.declared.refusal.Refusal.{Refusal}
+use Rattle.policy_checks.specs.decision_texts.Decisions.{ArePoliciesOf, ArePoliciesRefused}
 use Rattle.policy_checks.specs.Refusals.{check_refusal}
 
 -- the names and the policies of a file, in its order; each policy passes

@@ -1,11 +1,11 @@
 //! The line of the answer to a request.
 ghost use Rattle.std.specs.Prelude.{IfOk, IfErr, map, string_bytes};
-ghost use Rattle.authoriser.specs.Answers.{IsAnswer};
-ghost use Rattle.authoriser.specs.Views.{named};
-ghost use Rattle.schema.specs.Views.{schema_view};
-ghost use Rattle.decision_texts.specs.Decisions.{named_policies};
+ghost use Rattle.entity_store.specs.authoriser.Answers.{IsAnswer};
+ghost use Rattle.entity_store.specs.authoriser.Views.{named};
+ghost use Rattle.entity_store.specs.schema.Views.{schema_view};
+ghost use Rattle.policy_checks.specs.decision_texts.Decisions.{named_policies};
 ghost use Rattle.plain.specs.Refused.{OrNoMemory};
-ghost use Rattle.decision_texts.specs.Refusals.{no_memory};
+ghost use Rattle.policy_checks.specs.decision_texts.Refusals.{no_memory};
 ghost use Rattle.schema_decisions.specs.Requests.{IsRequestRefused};
 ghost use Rattle.schema_decisions.specs.Decisions.{IsAnswerTo, IsQuestionAnswered, IsQuestionRefused};
 ghost use Rattle.schema_decisions.specs.Decisions.{IsDecidedUnder, IsRefusedUnder, IsDecided, IsSchemaDecisionRefused};
@@ -14,13 +14,13 @@ ghost use Rattle.schema_decisions.specs.inner.Stores.{world_held, IsLineIn, IsLi
 use crate::entity_array::read_entities;
 use crate::policies::passing_policies;
 use crate::question::request_in;
-use authoriser::{Answer, decide};
-use decision_texts::{Refusal, answer_line, in_order};
+use entity_store::authoriser::{Answer, decide};
+use entity_store::policy_grammar::Policy;
+use entity_store::schema::Schema;
 use entity_store::{EntityStore, world_under};
 use plain::NoMemory;
+use policy_checks::decision_texts::{Refusal, answer_line, in_order};
 use policy_checks::schema_in;
-use policy_grammar::Policy;
-use schema::Schema;
 use std::alloc::Global;
 use values::Request;
 

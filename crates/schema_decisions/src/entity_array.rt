@@ -2,21 +2,21 @@
 ghost use Rattle.std.specs.Prelude.{◌≡◌, ◌<◌, ◌^◌, List, length, None, Some, Ok, Err, IfErr, OnOk};
 ghost use Rattle.serde_json.specs.View.{view};
 ghost use Rattle.json_words.specs.ReadsAs.{ReadsAs};
-ghost use Rattle.json_values.specs.Arrays.{to_come, each_of, told};
-ghost use Rattle.schema.specs.Views.{schema_view};
-ghost use Rattle.entity_worlds.specs.declared.entity.Entity.{Entity as Stated};
-ghost use Rattle.entities.specs.Entities.{entity_stated_in};
-ghost use Rattle.decision_texts.specs.Refusals.{no_memory, bad_shape};
+ghost use Rattle.policy_checks.specs.json_values.Arrays.{to_come, each_of, told};
+ghost use Rattle.entity_store.specs.schema.Views.{schema_view};
+ghost use Rattle.entity_store.specs.entity_worlds.declared.entity.Entity.{Entity as Stated};
+ghost use Rattle.entity_store.specs.entities.Entities.{entity_stated_in};
+ghost use Rattle.policy_checks.specs.decision_texts.Refusals.{no_memory, bad_shape};
 ghost use Rattle.plain.specs.Refused.{OrNoMemory};
 ghost use Rattle.schema_decisions.specs.EntityArrays.{placed, entity_at, entities_of};
 ghost use Rattle.schema_decisions.specs.inner.Stores.{Holds, KeepsNext, ReadsStore};
 
 use crate::refusal::entity_refusal;
-use decision_texts::Refusal;
-use entities::{Entity, EntityFault, read_entity};
 use entity_store::EntityStore;
-use json_values::{Member, Members, Scratch, members_of};
-use schema::Schema;
+use entity_store::entities::{Entity, EntityFault, read_entity};
+use entity_store::schema::Schema;
+use policy_checks::decision_texts::Refusal;
+use policy_checks::json_values::{Member, Members, Scratch, members_of};
 use serde_json::Value;
 use std::alloc::Global;
 

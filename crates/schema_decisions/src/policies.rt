@@ -1,17 +1,17 @@
 //! The policies of a file, each of which passes.
 ghost use Rattle.std.specs.Prelude.{◌≡◌, IfOk, IfErr, All, MatchResult, Ok, Err, map, string_bytes};
-ghost use Rattle.schema.specs.Views.{schema_view};
-ghost use Rattle.validator.specs.Passing.{Passes};
+ghost use Rattle.entity_store.specs.schema.Views.{schema_view};
+ghost use Rattle.policy_checks.specs.validator.Passing.{Passes};
 ghost use Rattle.plain.specs.Refused.{OrNoMemory};
-ghost use Rattle.decision_texts.specs.Refusals.{no_memory};
+ghost use Rattle.policy_checks.specs.decision_texts.Refusals.{no_memory};
 ghost use Rattle.schema_decisions.specs.Policies.{ArePassing, IsUnpassed, FirstUnpassed, ArePassingRefused};
 
-use decision_texts::{Refusal, policies_in};
+use entity_store::policy_grammar::Policy;
+use entity_store::schema::Schema;
 use policy_checks::check_refusal;
-use policy_grammar::Policy;
-use schema::Schema;
+use policy_checks::decision_texts::{Refusal, policies_in};
+use policy_checks::validator::check;
 use std::alloc::Global;
-use validator::check;
 
 /// Checks that the policy at a place passes.
 fn check_at(alloc: Global, schema: &Schema, place: usize, policy: &Policy) -> Result<(), Refusal>

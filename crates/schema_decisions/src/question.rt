@@ -1,16 +1,16 @@
 //! The request of a text.
 ghost use Rattle.std.specs.Prelude.{◌≢◌, IfOk, IfErr};
-ghost use Rattle.schema.specs.Views.{schema_view};
-ghost use Rattle.entities.specs.declared.fault.EntityFault.TheVariants as EntityFault;
+ghost use Rattle.entity_store.specs.schema.Views.{schema_view};
+ghost use Rattle.entity_store.specs.entities.declared.fault.EntityFault.TheVariants as EntityFault;
 ghost use Rattle.plain.specs.Refused.{OrNoMemory};
-ghost use Rattle.decision_texts.specs.Refusals.{no_memory};
+ghost use Rattle.policy_checks.specs.decision_texts.Refusals.{no_memory};
 ghost use Rattle.schema_decisions.specs.Requests.{IsRequestText, IsRequestFault, IsRequestRefused};
 
 use crate::refusal::entity_refusal;
-use decision_texts::Refusal;
-use entities::{EntityFault, read_request};
+use entity_store::entities::{EntityFault, read_request};
+use entity_store::schema::Schema;
 use json_words::read_json;
-use schema::Schema;
+use policy_checks::decision_texts::Refusal;
 use std::alloc::Global;
 use values::Request;
 

@@ -9,6 +9,7 @@ mod reading_types;
 mod stated;
 
 pub use laws::stated_files_are_in_order;
+pub use named_types;
 pub use reading::read_stated;
 pub use stated::{
     StatedAction, StatedCommon, StatedEntityType, StatedNamespace, StatedParent, StatedUse,

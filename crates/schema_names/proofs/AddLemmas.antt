@@ -1,5 +1,6 @@
 -- What was added, one after another.
-use Rattle.std.proofs.Common.{◌≡◌, ◌∙◌, ℕ, Bool, true, false, cond, List, [], ◌∷◌, ◌++◌, map, String, Global, string_bytes, string_cmp, refl, ap}
+use Rattle.std.proofs.Common.{◌≡◌, ◌∙◌, ℕ, Bool, true, false, cond, List, [], ◌∷◌, ◌++◌, map, String, Global}
+use Rattle.std.proofs.Common.{string_bytes, string_cmp, refl, ap}
 use Rattle.std.specs.Prelude.{◌||◌}
 use Rattle.std.specs.Ordering.{is_eq, nat_cmp}
 use Rattle.std.specs.Cmp.Lexicographic.{slice_cmp}
@@ -10,12 +11,13 @@ use Rattle.std.specs.BTreeSet.{BTreeSet, contains, contains_text, Updates}
 use Rattle.std.proofs.lemmas.Map.Text.{btree_set_updates_text}
 use Rattle.values.specs.declared.entity_uid.EntityUid.{EntityUid}
 use Rattle.values.specs.Names.{uid_cmp}
-use Rattle.named_types.specs.declared.names.Names.{Names}
+use Rattle.schema_file.specs.named_types.declared.names.Names.{Names}
 use Rattle.schema_types.specs.Names.{full_name}
 use Rattle.schema_file.specs.Stated.{NamespaceOf}
 use Rattle.schema_names.specs.Qualifying.{common_in, commons_declared, entity_types_declared, actions_declared}
-use Rattle.named_types.specs.Actions.{action_type, action_uid}
-use Rattle.schema_names.specs.inner.Adding.{has_name, has_uid, Adds, AddsNamespace, AddsAll, Declares, any_common, any_name, any_uid}
+use Rattle.schema_file.specs.named_types.Actions.{action_type, action_uid}
+use Rattle.schema_names.specs.inner.Adding.{has_name, has_uid, Adds, AddsNamespace, AddsAll, Declares, any_common}
+use Rattle.schema_names.specs.inner.Adding.{any_name, any_uid}
 
 pub or_cond : (b x : Bool) → cond b true x ≡ (b || x)
 or_cond true x = refl

@@ -1,20 +1,22 @@
 -- From bytes to names, step by step.
-use Rattle.std.proofs.Common.{◌≡◌, ◌≢◌, ◌∙◌, inl, inr, ℕ, List, map, Option, Some, None, Result, Ok, Err, MatchResult, refl, sym, ap, subst}
+use Rattle.std.proofs.Common.{◌≡◌, ◌≢◌, ◌∙◌, inl, inr, ℕ, List, map, Option, Some, None, Result, Ok, Err, MatchResult}
+use Rattle.std.proofs.Common.{refl, sym, ap, subst}
 use Rattle.json_words.specs.ReadsAs.{or_fault, ReadsAs, Fails}
 use Rattle.json_words.specs.Json.{json_of}
 use Rattle.serde_json.specs.Data.{Data}
 use Rattle.schema_types.specs.declared.fault.SchemaFault.{SchemaFault}
 use Rattle.schema_types.specs.declared.fault.SchemaFault.TheVariants.{NoMemory, NotJson}
-use Rattle.named_types.specs.declared.names.Names.{Names}
+use Rattle.schema_file.specs.named_types.declared.names.Names.{Names}
 use Rattle.schema_names.specs.declared.qualifying.Found.{Found}
-use Rattle.named_types.specs.NamesViews.{scope_of, is_action_of}
+use Rattle.schema_file.specs.named_types.NamesViews.{scope_of, is_action_of}
 use Rattle.schema_file.specs.Stated.{NamespaceOf, stated}
 use Rattle.schema_names.specs.Qualifying.{together, scope_in, is_action_in, qualified_namespaces, qualified}
 use Rattle.schema_names.specs.FoundViews.{found_view}
 use Rattle.schema_names.specs.Records.{SomeIsNoRecord}
 use Rattle.schema_names.specs.inner.Adding.{Declares}
 use Rattle.schema_names.specs.inner.Spreading.{MayRefuseRecords}
-use Rattle.schema_names.specs.Naming.{IsNamed, NamesRefused, no_record, unknown, StatesNamed, NamingRefused, not_json, bad_shape, bad_names}
+use Rattle.schema_names.specs.Naming.{IsNamed, NamesRefused, no_record, unknown, StatesNamed, NamingRefused, not_json}
+use Rattle.schema_names.specs.Naming.{bad_shape, bad_names}
 
 pub records_refused : (ns : List NamespaceOf) (f : SchemaFault) → MayRefuseRecords ns f → f ≢ NoMemory → NamesRefused ns f
 records_refused ns f (inl m) apart = absurd (apart m)

@@ -1,5 +1,6 @@
 -- No full name and no action is declared twice, since no name stands twice in its namespace, nor a namespace in the file.
-use Rattle.std.proofs.Common.{◌≡◌, ◌≢◌, ◌∙◌, inl, inr, ℕ, suc, List, [], ◌∷◌, ◌++◌, map, Bool, true, false, Option, Some, None, Result, Ok, refl, sym, ap, subst, true≢false}
+use Rattle.std.proofs.Common.{◌≡◌, ◌≢◌, ◌∙◌, inl, inr, ℕ, suc, List, [], ◌∷◌, ◌++◌, map, Bool, true, false, Option}
+use Rattle.std.proofs.Common.{Some, None, Result, Ok, refl, sym, ap, subst, true≢false}
 use Rattle.std.specs.Prelude.{◌==◌, ◌||◌, ⊤, codes, not}
 use Rattle.std.specs.List.{AllByRecursion}
 use Rattle.std.specs.Str.{bytes_eq}
@@ -23,9 +24,16 @@ use Rattle.schema_types.specs.TypeShape.{type_name, type_of}
 use Rattle.schema_types.specs.declared.fault.SchemaFault.{SchemaFault}
 use Rattle.schema_types.specs.declared.fault.SchemaFault.TheVariants.{BadShape}
 use Rattle.schema_file.specs.Once.{AreApart, StatesOnce, AllStateOnce}
-use Rattle.schema_file.specs.Stated.{EntityTypeOf, ActionOf, NamespaceOf, ident, is_common, common_of, commons_of, entity_type_name, entity_type_of, entity_types_of, names_in, type_in, members_in, commons_in, entity_types_in, actions_in, namespace_name, namespace_of, namespaces_of, stated}
-use Rattle.schema_names.specs.Qualifying.{FoundEntityType, FoundAction, FoundSchema, all_of, entity_types_named, type_named, parents_named, use_named, qualified_common, qualified_commons, qualified_entity_type, qualified_entity_types, qualified_action, qualified_actions, qualified_namespace, qualified_namespaces, together, scope_in, is_action_in, qualified}
-use Rattle.named_types.specs.Actions.{action_type, action_uid}
+use Rattle.schema_file.specs.Stated.{EntityTypeOf, ActionOf, NamespaceOf, ident, is_common, common_of, commons_of}
+use Rattle.schema_file.specs.Stated.{entity_type_name, entity_type_of, entity_types_of, names_in, type_in, members_in}
+use Rattle.schema_file.specs.Stated.{commons_in, entity_types_in, actions_in, namespace_name, namespace_of}
+use Rattle.schema_file.specs.Stated.{namespaces_of, stated}
+use Rattle.schema_names.specs.Qualifying.{FoundEntityType, FoundAction, FoundSchema, all_of, entity_types_named}
+use Rattle.schema_names.specs.Qualifying.{type_named, parents_named, use_named, qualified_common, qualified_commons}
+use Rattle.schema_names.specs.Qualifying.{qualified_entity_type, qualified_entity_types, qualified_action}
+use Rattle.schema_names.specs.Qualifying.{qualified_actions, qualified_namespace, qualified_namespaces, together}
+use Rattle.schema_names.specs.Qualifying.{scope_in, is_action_in, qualified}
+use Rattle.schema_file.specs.named_types.Actions.{action_type, action_uid}
 use Rattle.schema_types.specs.AscendingLaw.{JsonAscends}
 use Rattle.schema_file.specs.Laws.{FilesStateOnce}
 use Rattle.schema_names.specs.Laws.{DeclaresOnce, FilesDeclareOnce}

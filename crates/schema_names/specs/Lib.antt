@@ -4,4 +4,6 @@ pub mod Naming
 pub mod Qualifying
 pub mod Records
 pub mod inner
-pub mod passed_on
+-- crates below, passed on to those above
+pub use Rattle.schema_file.specs as schema_file
+pub use Rattle.schema_file.specs.named_types

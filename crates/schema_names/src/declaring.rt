@@ -6,13 +6,13 @@ ghost use Rattle.values.specs.Names.{uid_cmp};
 ghost use Rattle.schema_types.specs.Names.{full_name};
 ghost use Rattle.schema_file.specs.StatedViews.{common_view, entity_type_view, action_view, namespace_view};
 ghost use Rattle.schema_names.specs.Qualifying.{common_in};
-ghost use Rattle.named_types.specs.Actions.{action_type, action_uid};
+ghost use Rattle.schema_file.specs.named_types.Actions.{action_type, action_uid};
 ghost use Rattle.schema_names.specs.inner.Adding.{has_name, has_uid, Adds, AddsNamespace, Declares, any_common};
 ghost use Rattle.schema_names.specs.inner.Adding.{any_name, any_uid};
 
 use crate::qualifying::uid_of;
-use named_types::{Names, full_name};
 use plain::NoMemory;
+use schema_file::named_types::{Names, full_name};
 use schema_file::{StatedAction, StatedCommon, StatedEntityType, StatedNamespace};
 use std::alloc::Global;
 use std::collections::BTreeSet;

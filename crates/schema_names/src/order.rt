@@ -4,7 +4,7 @@ ghost use Rattle.std.specs.Prelude.{◌≡◌, ◌++◌, ℕ, List, IfOk, OnOk, 
 ghost use Rattle.std.specs.BTreeMap.{get_by_text};
 ghost use Rattle.place_orders.specs.Orders.{graph_of, IsEndsFirst};
 ghost use Rattle.schema_types.specs.Views.{raw_view};
-ghost use Rattle.named_types.specs.NamesViews.{scope_of};
+ghost use Rattle.schema_file.specs.named_types.NamesViews.{scope_of};
 ghost use Rattle.schema_file.specs.StatedViews.{common_view, namespace_view};
 ghost use Rattle.schema_names.specs.Records.{common_meant};
 ghost use Rattle.schema_names.specs.Qualifying.{common_in, commons_declared};
@@ -12,9 +12,9 @@ ghost use Rattle.schema_names.specs.inner.Uses.{listed_view, in_list, place_of, 
 
 use crate::declaring::full_text;
 use crate::records::find_common;
-use named_types::Names;
 use place_orders::ends_first;
 use plain::NoMemory;
+use schema_file::named_types::Names;
 use schema_file::{StatedCommon, StatedNamespace};
 use schema_types::RawType;
 use std::alloc::Global;

@@ -3,8 +3,8 @@ ghost use Rattle.std.specs.Prelude.{◌≡◌, IfOk, map, option_map};
 ghost use Rattle.json_words.specs.ReadsAs.{ReadsAs};
 ghost use Rattle.schema_types.specs.Views.{raw_view};
 ghost use Rattle.schema_types.specs.QualifiedViews.{qualified_view};
-ghost use Rattle.named_types.specs.NamesViews.{scope_of, is_action_of};
-ghost use Rattle.named_types.specs.Actions.{action_type, action_uid};
+ghost use Rattle.schema_file.specs.named_types.NamesViews.{scope_of, is_action_of};
+ghost use Rattle.schema_file.specs.named_types.Actions.{action_type, action_uid};
 ghost use Rattle.schema_file.specs.StatedViews.{common_view, entity_type_view, use_view, action_view, namespace_view};
 ghost use Rattle.schema_types.specs.QualifiedViews.{found_common_view};
 ghost use Rattle.schema_names.specs.FoundViews.{found_entity_type_view, found_use_view, found_action_view, found_view};
@@ -16,10 +16,10 @@ ghost use Rattle.schema_names.specs.Qualifying.{qualified_actions, qualified_nam
 ghost use Rattle.schema_types.specs.declared.fault.SchemaFault.TheVariants as SchemaFault;
 
 use crate::held::followed_by;
-use named_types::{
+use plain::{Items, NoMemory, Text, beside};
+use schema_file::named_types::{
     Names, action_type, declared_action, find, find_action_of_type, full_name, resolve,
 };
-use plain::{Items, NoMemory, Text, beside};
 use schema_file::{
     StatedAction, StatedCommon, StatedEntityType, StatedNamespace, StatedParent, StatedUse,
 };

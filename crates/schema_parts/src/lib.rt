@@ -8,8 +8,10 @@ mod label;
 mod lookups;
 mod parts;
 
+pub use ancestor_closure;
 pub use cycles::demand_no_cycle;
 pub use environments::{listed, make_place};
 pub use label::label_of;
 pub use lookups::{is_action_above, may_have_parent, parents_at};
+pub use number_spans;
 pub use parts::{EntityDecl, Environment, Place};

@@ -11,3 +11,4 @@ mod found_by;
 mod index;
 
 pub use index::ScopeIndex;
+pub use policy_grammar;

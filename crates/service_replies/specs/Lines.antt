@@ -3,7 +3,7 @@
 use Rattle.std.specs.Prelude.{ℕ, Bool, List, Option, codes}
 use Rattle.serde_json.specs.Data.{Data, boolean, number, unsigned, string, object, no_members, member}
 use Rattle.serde_json.specs.Written.{compact_text}
-use Rattle.stamped_entries.specs.declared.entry.Stamp.{Stamp}
+use Rattle.site.specs.stamped_entries.declared.entry.Stamp.{Stamp}
 use Rattle.decision_texts.specs.Refusals.{error_line}
 
 -- {"count":2,"site":"00001"}

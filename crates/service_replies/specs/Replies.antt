@@ -3,8 +3,8 @@ use Rattle.std.specs.Prelude.{◌≡◌, ◌⊎◌, ℕ, List, Option, Some, Non
 use Rattle.http_texts.specs.declared.status.Status.{Status}
 use Rattle.http_texts.specs.declared.status.Status.TheVariants as status
 use Rattle.http_texts.specs.Status.{code}
-use Rattle.stamped_entries.specs.declared.entry.Stamp.{Stamp}
-use Rattle.authoriser.specs.declared.answer.Answer.{Answer}
+use Rattle.site.specs.stamped_entries.declared.entry.Stamp.{Stamp}
+use Rattle.decision_texts.specs.authoriser.declared.answer.Answer.{Answer}
 use Rattle.decision_texts.specs.Lines.{answer_line}
 use Rattle.site.specs.declared.fault.SiteFault.{SiteFault}
 use Rattle.site.specs.declared.fault.SiteFault.TheVariants as fault

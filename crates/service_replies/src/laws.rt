@@ -1,8 +1,8 @@
 //! Laws of replies, each the contract of a function that does nothing.
 ghost use Rattle.std.specs.Prelude.{◌≡◌, ◌++◌, ℕ, Bool, None, codes, decimal, if◌then◌else◌};
 ghost use Rattle.http_texts.specs.ReplyText.{error_line};
-ghost use Rattle.stamped_store.specs.SiteNames.{IsSiteName};
-ghost use Rattle.stamped_entries.specs.declared.entry.Stamp.{Stamp};
+ghost use Rattle.site.specs.stamped_store.SiteNames.{IsSiteName};
+ghost use Rattle.site.specs.stamped_entries.declared.entry.Stamp.{Stamp};
 ghost use Rattle.service_replies.specs.Lines.{fault_line, put_line, stamp_line};
 
 /// An error that is a status alone is told by one and the same line, whether a request is refused before it is read

@@ -5,12 +5,12 @@ ghost use Rattle.serde_json.specs.View.{view};
 ghost use Rattle.decision_texts.specs.Lines.{answer_line};
 ghost use Rattle.service_replies.specs.Lines.{found_json, found_line};
 
-use authoriser::Answer;
 use decision_texts::answer_line;
+use decision_texts::authoriser::Answer;
 use json_words::write_json;
 use plain::NoMemory;
 use serde_json::{Value, json};
-use stamped_store::Stamp;
+use site::stamped_store::Stamp;
 use std::alloc::Global;
 
 /// Appends bytes.

@@ -7,23 +7,23 @@ use Rattle.std.proofs.lemmas.Slice.Eq.{bytes_eq-Decides}
 use Rattle.serde_json.specs.Data.{Data}
 use Rattle.serde_json.specs.Read.{read}
 use Rattle.json_words.specs.Json.{json_of}
-use Rattle.ancestor_closure.specs.Deciding.{same_self}
+use Rattle.accelerated_store.specs.ancestor_closure.Deciding.{same_self}
 use Rattle.plain.specs.Words.{IsPath}
-use Rattle.policy_grammar.specs.declared.policy.Policy.{Policy}
-use Rattle.text_trees.specs.declared.fault.ReadFault.{ReadFault}
-use Rattle.text_trees.specs.declared.fault.ReadFault.TheVariants as reading
-use Rattle.policy_grammar.specs.Limits.{IsId}
+use Rattle.accelerated_store.specs.policy_grammar.declared.policy.Policy.{Policy}
+use Rattle.accelerated_store.specs.text_trees.declared.fault.ReadFault.{ReadFault}
+use Rattle.accelerated_store.specs.text_trees.declared.fault.ReadFault.TheVariants as reading
+use Rattle.accelerated_store.specs.policy_grammar.Limits.{IsId}
 use Rattle.plain.specs.Refused.{OrNoMemory}
-use Rattle.policy_grammar.specs.PolicyText.{IsPolicyText, IsPolicyRefused}
-use Rattle.schema.specs.Schemas.{StatedSchema}
-use Rattle.entity_worlds.specs.declared.entity.Entity.{Entity}
-use Rattle.entities.specs.Canonical.{canonical_json, canonical_text}
-use Rattle.entities.specs.Entities.{entity_stated_in}
-use Rattle.stored_texts.specs.passed_on.validator.{CheckFault}
-use Rattle.stored_texts.specs.passed_on.validator_CheckFault_variants as checking
-use Rattle.stored_texts.specs.passed_on.validator.{Passes, IsImpossible, IsCheckRefused}
-use Rattle.stamped_entries.specs.declared.entry.ReadText.{ReadText}
-use Rattle.stored_texts.specs.Texts.{entity_of_text, ReadsEntity}
+use Rattle.accelerated_store.specs.policy_grammar.PolicyText.{IsPolicyText, IsPolicyRefused}
+use Rattle.accelerated_store.specs.schema.Schemas.{StatedSchema}
+use Rattle.accelerated_store.specs.entity_worlds.declared.entity.Entity.{Entity}
+use Rattle.accelerated_store.specs.entities.Canonical.{canonical_json, canonical_text}
+use Rattle.accelerated_store.specs.entities.Entities.{entity_stated_in}
+use Rattle.typed_readings.specs.validator.declared.fault.CheckFault.{CheckFault}
+use Rattle.typed_readings.specs.validator.declared.fault.CheckFault.TheVariants as checking
+use Rattle.typed_readings.specs.validator.Passing.{Passes, IsImpossible, IsCheckRefused}
+use Rattle.accelerated_store.specs.stamped_entries.declared.entry.ReadText.{ReadText}
+use Rattle.typed_readings.specs.stored_texts.Texts.{entity_of_text, ReadsEntity}
 use Rattle.site.specs.declared.fault.SiteFault.{SiteFault}
 use Rattle.site.specs.declared.fault.SiteFault.TheVariants as fault
 use Rattle.site.specs.Admitted.{IsEntityUnder, IsNotAdmitted, no_policy, not_passing}

@@ -6,15 +6,15 @@ use Rattle.serde_json.specs.Find.{get}
 use Rattle.json_words.specs.ReadsAs.{◌>>=◌, or_fault, demand}
 use Rattle.plain.specs.Words.{IsPath}
 use Rattle.values.specs.declared.entity_uid.EntityUid.{EntityUid}
-use Rattle.uid_json.specs.Laws.{UidsAreFound}
-use Rattle.uid_json.specs.Uids.{IsPlainUid, IsUnderEntity, IsRead, IsUid, uid_in}
-use Rattle.schema.specs.Schemas.{StatedSchema}
-use Rattle.entity_worlds.specs.declared.entity.Entity.{Entity}
-use Rattle.entities.specs.declared.fault.EntityFault.{EntityFault}
-use Rattle.entities.specs.declared.fault.EntityFault.TheVariants.{BadShape}
-use Rattle.entities.specs.declared.stated.StatedEntity.{StatedEntity}
-use Rattle.entities.specs.Entities.{attributes_in, entity_stated_in, parents_in}
-use Rattle.entities.specs.Stated.{has_objects, stated_parents, stated_in, stated_uid}
+use Rattle.typed_readings.specs.uid_json.Laws.{UidsAreFound}
+use Rattle.typed_readings.specs.uid_json.Uids.{IsPlainUid, IsUnderEntity, IsRead, IsUid, uid_in}
+use Rattle.accelerated_store.specs.schema.Schemas.{StatedSchema}
+use Rattle.accelerated_store.specs.entity_worlds.declared.entity.Entity.{Entity}
+use Rattle.accelerated_store.specs.entities.declared.fault.EntityFault.{EntityFault}
+use Rattle.accelerated_store.specs.entities.declared.fault.EntityFault.TheVariants.{BadShape}
+use Rattle.accelerated_store.specs.entities.declared.stated.StatedEntity.{StatedEntity}
+use Rattle.accelerated_store.specs.entities.Entities.{attributes_in, entity_stated_in, parents_in}
+use Rattle.accelerated_store.specs.entities.Stated.{has_objects, stated_parents, stated_in, stated_uid}
 
 -- the value of a step that did not fail
 value_of : {A B F : Type 0} (r : Result A F) (f : A → Result B F) (y : B) → (r >>= f) ≡ Ok y

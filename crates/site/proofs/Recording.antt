@@ -6,18 +6,19 @@ use Rattle.std.specs.FinMap.{get}
 use Rattle.serde_json.specs.Data.{Data}
 use Rattle.values.specs.declared.entity_uid.EntityUid.{EntityUid}
 use Rattle.values.specs.declared.name.Name.{Name}
-use Rattle.policy_grammar.specs.declared.policy.Policy.{Policy}
-use Rattle.schema.specs.Schemas.{StatedSchema}
-use Rattle.entity_worlds.specs.declared.entity.Entity.{Entity}
-use Rattle.entities.specs.Canonical.{canonical_text}
-use Rattle.stamped_entries.specs.declared.entry.ReadText.{ReadText}
-use Rattle.stamped_entries.specs.declared.entry.Stamp.{Stamp}
-use Rattle.stamped_store.specs.Contents.{text_under}
-use Rattle.stamped_store.specs.Store.{Store, Update, StoreEntries, updates, store_of, issue, issued, policy_name, entity_name}
-use Rattle.stamped_store.specs.Store.{KeepsOtherNames, abstract_store}
-use Rattle.sync_messages.specs.Summaries.{IsStamped}
-use Rattle.state_messages.specs.Updates.{AreInRange, stamped}
-use Rattle.stored_world.specs.Said.{MakesCycle, MakesNoCycle}
+use Rattle.accelerated_store.specs.policy_grammar.declared.policy.Policy.{Policy}
+use Rattle.accelerated_store.specs.schema.Schemas.{StatedSchema}
+use Rattle.accelerated_store.specs.entity_worlds.declared.entity.Entity.{Entity}
+use Rattle.accelerated_store.specs.entities.Canonical.{canonical_text}
+use Rattle.accelerated_store.specs.stamped_entries.declared.entry.ReadText.{ReadText}
+use Rattle.accelerated_store.specs.stamped_entries.declared.entry.Stamp.{Stamp}
+use Rattle.accelerated_store.specs.stamped_store.Contents.{text_under}
+use Rattle.accelerated_store.specs.stamped_store.Store.{Store, Update, StoreEntries, updates, store_of, issue, issued}
+use Rattle.accelerated_store.specs.stamped_store.Store.{policy_name, entity_name}
+use Rattle.accelerated_store.specs.stamped_store.Store.{KeepsOtherNames, abstract_store}
+use Rattle.typed_readings.specs.sync_messages.Summaries.{IsStamped}
+use Rattle.typed_readings.specs.state_messages.Updates.{AreInRange, stamped}
+use Rattle.accelerated_store.specs.stored_world.Said.{MakesCycle, MakesNoCycle}
 use Rattle.site.specs.declared.fault.SiteFault.{SiteFault}
 use Rattle.site.specs.declared.fault.SiteFault.TheVariants as fault
 use Rattle.site.specs.Admitted.{IsEntityUnder, IsNotAdmitted, bad_id, no_policy, not_passing, entity_stated}

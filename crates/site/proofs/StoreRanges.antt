@@ -11,18 +11,18 @@ use Rattle.std.specs.FinMap.Entries.{find, is_sorted, below_all}
 use Rattle.std.specs.Ordering.{is_eq, is_lt, ordering_reverse}
 use Rattle.std.specs.declared.cmp.Ordering.{Ordering}
 use Rattle.std.specs.declared.cmp.Ordering.TheVariants.{Less, Equal, Greater}
-use Rattle.ancestor_closure.specs.Deciding.{Contains-cases, Contains-none}
+use Rattle.accelerated_store.specs.ancestor_closure.Deciding.{Contains-cases, Contains-none}
 use Rattle.values.specs.declared.name.Name.{Name}
 use Rattle.values.specs.Names.{name_cmp, name_cmp-IsTotalOrder}
-use Rattle.stamped_store.specs.Contents.{text_under}
-use Rattle.stamped_store.specs.Deltas.{Summary, delta, is_news, stamp_of, summary_of}
-use Rattle.stamped_store.specs.EntryOrder.{PlainEntry, entry_cmp}
-use Rattle.stamped_store.specs.Greatest.{IsGreatestAt, greatest_count}
-use Rattle.stamped_store.specs.SiteNames.{IsSiteName}
-use Rattle.stamped_store.specs.Store.{Store, Update, IsStoreOf, updates, store_of, issue}
-use Rattle.stamped_store.specs.Stored.{value_at}
-use Rattle.sync_messages.specs.Summaries.{AreStamped, IsName, IsStamped}
-use Rattle.state_messages.specs.Updates.{AreInRange, stamped}
+use Rattle.accelerated_store.specs.stamped_store.Contents.{text_under}
+use Rattle.accelerated_store.specs.stamped_store.Deltas.{Summary, delta, is_news, stamp_of, summary_of}
+use Rattle.accelerated_store.specs.stamped_store.EntryOrder.{PlainEntry, entry_cmp}
+use Rattle.accelerated_store.specs.stamped_store.Greatest.{IsGreatestAt, greatest_count}
+use Rattle.accelerated_store.specs.stamped_store.SiteNames.{IsSiteName}
+use Rattle.accelerated_store.specs.stamped_store.Store.{Store, Update, IsStoreOf, updates, store_of, issue}
+use Rattle.accelerated_store.specs.stamped_store.Stored.{value_at}
+use Rattle.typed_readings.specs.sync_messages.Summaries.{AreStamped, IsName, IsStamped}
+use Rattle.typed_readings.specs.state_messages.Updates.{AreInRange, stamped}
 use Rattle.site.specs.Steps.{most_count}
 
 -- ---- what is found in a store is one of its updates, and each of these is found

@@ -5,16 +5,17 @@ use Rattle.std.proofs.lemmas.List.{length-map}
 use Rattle.std.specs.declared.alloc.Global.{Global}
 use Rattle.std.specs.declared.string.String.{String}
 use Rattle.values.specs.declared.entity_uid.EntityUid.{EntityUid}
-use Rattle.policy_grammar.specs.declared.policy.Policy.{Policy}
-use Rattle.schema.specs.Schemas.{StatedSchema}
-use Rattle.entity_worlds.specs.declared.entity.Entity.{Entity}
-use Rattle.stamped_entries.specs.declared.entry.Entry.{Entry}
-use Rattle.stamped_entries.specs.declared.entry.ReadText.{ReadText}
-use Rattle.stamped_store.specs.EntryOrder.{body_bytes}
-use Rattle.stamped_store.specs.Reading.{AllNamed, IsBodyRead, IsEntryRead}
-use Rattle.stamped_store.specs.Abstraction.{abstract_entries}
-use Rattle.stamped_store.specs.Store.{Store, Update, StoreEntries, updates, store_of, abstract_store, abstract_updates, id_name, entity_name}
-use Rattle.state_messages.specs.Updates.{AreValid, IsBodyReadable}
+use Rattle.accelerated_store.specs.policy_grammar.declared.policy.Policy.{Policy}
+use Rattle.accelerated_store.specs.schema.Schemas.{StatedSchema}
+use Rattle.accelerated_store.specs.entity_worlds.declared.entity.Entity.{Entity}
+use Rattle.accelerated_store.specs.stamped_entries.declared.entry.Entry.{Entry}
+use Rattle.accelerated_store.specs.stamped_entries.declared.entry.ReadText.{ReadText}
+use Rattle.accelerated_store.specs.stamped_store.EntryOrder.{body_bytes}
+use Rattle.accelerated_store.specs.stamped_store.Reading.{AllNamed, IsBodyRead, IsEntryRead}
+use Rattle.accelerated_store.specs.stamped_store.Abstraction.{abstract_entries}
+use Rattle.accelerated_store.specs.stamped_store.Store.{Store, Update, StoreEntries, updates, store_of, abstract_store}
+use Rattle.accelerated_store.specs.stamped_store.Store.{abstract_updates, id_name, entity_name}
+use Rattle.typed_readings.specs.state_messages.Updates.{AreValid, IsBodyReadable}
 use Rattle.site.specs.Admitted.{IsPolicyUnder, IsEntityUnder}
 use Rattle.site.specs.Seen.{IsSite, MayBeHeld}
 

@@ -8,23 +8,23 @@ use Rattle.serde_json.specs.Data.{Data}
 use Rattle.json_words.specs.ReadsAs.{◌>>=◌, or_fault}
 use Rattle.values.specs.declared.entity_uid.EntityUid.{EntityUid}
 use Rattle.values.specs.declared.request.Request.{Request}
-use Rattle.policy_grammar.specs.declared.policy.Policy.{Policy}
-use Rattle.text_trees.specs.declared.fault.ReadFault.{ReadFault}
-use Rattle.text_trees.specs.declared.fault.ReadFault.TheVariants.{BadId}
-use Rattle.policy_grammar.specs.Limits.{IsId}
-use Rattle.policy_grammar.specs.PolicyText.{IsPolicyText, IsPolicyRefused}
-use Rattle.schema.specs.Schemas.{StatedSchema}
-use Rattle.entity_worlds.specs.declared.entity.Entity.{Entity}
-use Rattle.entities.specs.declared.fault.EntityFault.{EntityFault}
-use Rattle.entities.specs.declared.fault.EntityFault.TheVariants.{BadShape}
-use Rattle.entities.specs.Entities.{entity_stated_in}
-use Rattle.entities.specs.Requests.{StatesRequest, RequestRefused}
-use Rattle.stored_texts.specs.passed_on.validator.{CheckFault}
-use Rattle.stored_texts.specs.passed_on.validator.{IsCheckRefused}
-use Rattle.sync_messages.specs.Summaries.{IsStamped}
-use Rattle.state_messages.specs.declared.update.Update.{Update}
-use Rattle.state_messages.specs.Updates.{plain_update, stamped, IsUpdateRead}
-use Rattle.stored_texts.specs.Texts.{ReadsPolicy, ReadsEntity}
+use Rattle.accelerated_store.specs.policy_grammar.declared.policy.Policy.{Policy}
+use Rattle.accelerated_store.specs.text_trees.declared.fault.ReadFault.{ReadFault}
+use Rattle.accelerated_store.specs.text_trees.declared.fault.ReadFault.TheVariants.{BadId}
+use Rattle.accelerated_store.specs.policy_grammar.Limits.{IsId}
+use Rattle.accelerated_store.specs.policy_grammar.PolicyText.{IsPolicyText, IsPolicyRefused}
+use Rattle.accelerated_store.specs.schema.Schemas.{StatedSchema}
+use Rattle.accelerated_store.specs.entity_worlds.declared.entity.Entity.{Entity}
+use Rattle.accelerated_store.specs.entities.declared.fault.EntityFault.{EntityFault}
+use Rattle.accelerated_store.specs.entities.declared.fault.EntityFault.TheVariants.{BadShape}
+use Rattle.accelerated_store.specs.entities.Entities.{entity_stated_in}
+use Rattle.accelerated_store.specs.entities.Requests.{StatesRequest, RequestRefused}
+use Rattle.typed_readings.specs.validator.declared.fault.CheckFault.{CheckFault}
+use Rattle.typed_readings.specs.validator.Passing.{IsCheckRefused}
+use Rattle.typed_readings.specs.sync_messages.Summaries.{IsStamped}
+use Rattle.typed_readings.specs.state_messages.declared.update.Update.{Update}
+use Rattle.typed_readings.specs.state_messages.Updates.{plain_update, stamped, IsUpdateRead}
+use Rattle.typed_readings.specs.stored_texts.Texts.{ReadsPolicy, ReadsEntity}
 use Rattle.site.specs.declared.fault.SiteFault.{SiteFault}
 use Rattle.site.specs.declared.fault.SiteFault.TheVariants as fault
 

@@ -1,15 +1,15 @@
 -- The refusals of a site by number, which are a rule of this product, and the faults of what it calls among them.
 use Rattle.std.specs.Prelude.{ℕ, Option, Some, None}
-use Rattle.policy_grammar.specs.Faults as policy_faults
-use Rattle.text_trees.specs.declared.fault.ReadFault.{ReadFault}
-use Rattle.text_trees.specs.declared.fault.ReadFault.TheVariants as reading
-use Rattle.entities.specs.Faults as entity_faults
-use Rattle.stored_texts.specs.passed_on.validator_Faults as check_faults
-use Rattle.stored_texts.specs.passed_on.validator.{CheckFault}
-use Rattle.stored_texts.specs.passed_on.validator_CheckFault_variants as checking
-use Rattle.sync_messages.specs.Faults as message_faults
-use Rattle.sync_messages.specs.declared.fault.MessageFault.{MessageFault}
-use Rattle.sync_messages.specs.declared.fault.MessageFault.TheVariants as sending
+use Rattle.accelerated_store.specs.policy_grammar.Faults as policy_faults
+use Rattle.accelerated_store.specs.text_trees.declared.fault.ReadFault.{ReadFault}
+use Rattle.accelerated_store.specs.text_trees.declared.fault.ReadFault.TheVariants as reading
+use Rattle.accelerated_store.specs.entities.Faults as entity_faults
+use Rattle.typed_readings.specs.validator.Faults as check_faults
+use Rattle.typed_readings.specs.validator.declared.fault.CheckFault.{CheckFault}
+use Rattle.typed_readings.specs.validator.declared.fault.CheckFault.TheVariants as checking
+use Rattle.typed_readings.specs.sync_messages.Faults as message_faults
+use Rattle.typed_readings.specs.sync_messages.declared.fault.MessageFault.{MessageFault}
+use Rattle.typed_readings.specs.sync_messages.declared.fault.MessageFault.TheVariants as sending
 use Rattle.site.specs.declared.fault.SiteFault.{SiteFault}
 use Rattle.site.specs.declared.fault.SiteFault.TheVariants as fault
 

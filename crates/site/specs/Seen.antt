@@ -2,15 +2,15 @@
 -- A rule of this product: a site is a store of stamped texts, each beside what it was read as. What else it keeps, an
 -- index of its policies and the ancestors of its entities, changes no answer, and contracts do not see it.
 use Rattle.std.specs.Prelude.{◌≡◌, ℕ, List}
-use Rattle.policy_grammar.specs.declared.policy.Policy.{Policy}
-use Rattle.schema.specs.SchemaEntries as kept_schema
-use Rattle.schema.specs.Schemas.{StatedSchema}
-use Rattle.schema.specs.Views.{schema_view}
-use Rattle.entity_worlds.specs.declared.entity.Entity.{Entity}
-use Rattle.stamped_store.specs.Reading.{AreEntriesRead}
-use Rattle.stamped_store.specs.SiteNames.{IsSiteName}
-use Rattle.stamped_store.specs.Store.{Store, StoreEntries, abstract_store, updates}
-use Rattle.state_messages.specs.Updates.{AreInRange, AreValid}
+use Rattle.accelerated_store.specs.policy_grammar.declared.policy.Policy.{Policy}
+use Rattle.accelerated_store.specs.schema.SchemaEntries as kept_schema
+use Rattle.accelerated_store.specs.schema.Schemas.{StatedSchema}
+use Rattle.accelerated_store.specs.schema.Views.{schema_view}
+use Rattle.accelerated_store.specs.entity_worlds.declared.entity.Entity.{Entity}
+use Rattle.accelerated_store.specs.stamped_store.Reading.{AreEntriesRead}
+use Rattle.accelerated_store.specs.stamped_store.SiteNames.{IsSiteName}
+use Rattle.accelerated_store.specs.stamped_store.Store.{Store, StoreEntries, abstract_store, updates}
+use Rattle.typed_readings.specs.state_messages.Updates.{AreInRange, AreValid}
 use Rattle.site.specs.Admitted.{IsPolicyUnder, IsEntityUnder}
 
 pub record Seen : Type 0 where

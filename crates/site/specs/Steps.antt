@@ -8,19 +8,20 @@ use Rattle.std.specs.FinMap.{get}
 use Rattle.serde_json.specs.Data.{Data}
 use Rattle.values.specs.declared.name.Name.{Name}
 use Rattle.values.specs.declared.request.Request.{Request}
-use Rattle.policy_grammar.specs.declared.policy.Policy.{Policy}
-use Rattle.authoriser.specs.declared.answer.Answer.{Answer}
-use Rattle.schema.specs.Schemas.{StatedSchema}
-use Rattle.entity_worlds.specs.declared.entity.Entity.{Entity}
-use Rattle.entities.specs.Canonical.{canonical_text}
-use Rattle.stamped_entries.specs.declared.entry.Stamp.{Stamp}
-use Rattle.stamped_store.specs.EntryOrder.{PlainEntry}
-use Rattle.stamped_store.specs.Contents.{text_under}
-use Rattle.stamped_store.specs.Deltas.{stamp_of}
-use Rattle.stamped_store.specs.Greatest.{greatest_count}
-use Rattle.stamped_store.specs.Store.{Store, Update, updates, store_of, issue, issued, policy_name, entity_name}
-use Rattle.stored_world.specs.Said.{IsAnswerOver, MakesCycle, MakesNoCycle}
-use Rattle.stored_texts.specs.passed_on.validator.{IsImpossible}
+use Rattle.accelerated_store.specs.policy_grammar.declared.policy.Policy.{Policy}
+use Rattle.accelerated_store.specs.authoriser.declared.answer.Answer.{Answer}
+use Rattle.accelerated_store.specs.schema.Schemas.{StatedSchema}
+use Rattle.accelerated_store.specs.entity_worlds.declared.entity.Entity.{Entity}
+use Rattle.accelerated_store.specs.entities.Canonical.{canonical_text}
+use Rattle.accelerated_store.specs.stamped_entries.declared.entry.Stamp.{Stamp}
+use Rattle.accelerated_store.specs.stamped_store.EntryOrder.{PlainEntry}
+use Rattle.accelerated_store.specs.stamped_store.Contents.{text_under}
+use Rattle.accelerated_store.specs.stamped_store.Deltas.{stamp_of}
+use Rattle.accelerated_store.specs.stamped_store.Greatest.{greatest_count}
+use Rattle.accelerated_store.specs.stamped_store.Store.{Store, Update, updates, store_of, issue, issued, policy_name}
+use Rattle.accelerated_store.specs.stamped_store.Store.{entity_name}
+use Rattle.accelerated_store.specs.stored_world.Said.{IsAnswerOver, MakesCycle, MakesNoCycle}
+use Rattle.typed_readings.specs.validator.Passing.{IsImpossible}
 use Rattle.site.specs.declared.fault.SiteFault.{SiteFault}
 use Rattle.site.specs.declared.fault.SiteFault.TheVariants as fault
 use Rattle.site.specs.declared.outcome.Put.{Put}

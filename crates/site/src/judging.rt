@@ -2,30 +2,30 @@
 ghost use Rattle.std.specs.Prelude.{◌≡◌, ◌≢◌, ◌↔◌, ℕ, List, IsTrue, IfOk, IfErr, Some, Ok, Err, string_bytes};
 ghost use Rattle.serde_json.specs.View.{view};
 ghost use Rattle.plain.specs.Words.{IsPath};
-ghost use Rattle.policy_grammar.specs.Limits.{IsId};
-ghost use Rattle.policy_grammar.specs.PolicyText.{IsPolicyText};
-ghost use Rattle.schema.specs.Schemas.{StatedSchema};
-ghost use Rattle.schema.specs.Views.{schema_view};
-ghost use Rattle.entities.specs.Canonical.{canonical_text};
-ghost use Rattle.entities.specs.Entities.{entity_stated_in};
-ghost use Rattle.stored_texts.specs.passed_on.validator.{Passes, IsImpossible};
+ghost use Rattle.accelerated_store.specs.policy_grammar.Limits.{IsId};
+ghost use Rattle.accelerated_store.specs.policy_grammar.PolicyText.{IsPolicyText};
+ghost use Rattle.accelerated_store.specs.schema.Schemas.{StatedSchema};
+ghost use Rattle.accelerated_store.specs.schema.Views.{schema_view};
+ghost use Rattle.accelerated_store.specs.entities.Canonical.{canonical_text};
+ghost use Rattle.accelerated_store.specs.entities.Entities.{entity_stated_in};
+ghost use Rattle.typed_readings.specs.validator.Passing.{Passes, IsImpossible};
 ghost use Rattle.plain.specs.Refused.{OrNoMemory};
 ghost use Rattle.site.specs.declared.fault.SiteFault.TheVariants as SiteFault;
 ghost use Rattle.site.specs.Admitted.{IsEntityUnder, IsNotAdmitted, IsRequestOf};
 ghost use Rattle.site.specs.inner.Recording.{IsStated, IsStatedBy, StatesNone, AsksNone, IsJudged};
 
 use crate::fault::SiteFault;
-use entities::{
+use accelerated_store::entities::{
     Entity, EntityFault, canonical_text, entities_read_back, read_entity, read_request,
 };
+use accelerated_store::policy_grammar::{Policy, ReadFault, parse_policy};
+use accelerated_store::schema::{Schema, stated_schemas_are_well_formed};
+use accelerated_store::stamped_store::ReadText;
 use plain::{NoMemory, Text};
-use policy_grammar::{Policy, ReadFault, parse_policy};
-use schema::{Schema, stated_schemas_are_well_formed};
 use serde_json::Value;
-use stamped_store::ReadText;
 use std::alloc::Global;
-use stored_texts::check;
-use uid_json::names_read_back;
+use typed_readings::stored_texts::check;
+use typed_readings::uid_json::names_read_back;
 use values::{EntityUid, Request};
 
 // ---- policies

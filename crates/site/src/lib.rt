@@ -13,12 +13,19 @@ mod site;
 mod under_schema;
 mod updates;
 
+pub use accelerated_store::schema::{Schema, read_schema};
+pub use accelerated_store::stamped_store::is_site_name;
+pub use accelerated_store::stored_world::{
+    requests_have_one_answer, stored_actions_answer_alike, stores_have_one_reading,
+};
+pub use accelerated_store::{
+    ancestor_closure, authoriser, entities, policy_grammar, schema, stamped_store,
+};
 pub use fault::SiteFault;
 pub use outcome::{Put, Taken};
-pub use schema::{Schema, read_schema};
 pub use site::Site;
-pub use stamped_store::is_site_name;
-pub use stored_texts::{SchemaTexts, stored_texts_have_one_reading};
-pub use stored_world::{
-    requests_have_one_answer, stored_actions_answer_alike, stores_have_one_reading,
+pub use typed_readings;
+pub use typed_readings::stored_texts::{SchemaTexts, stored_texts_have_one_reading};
+pub use typed_readings::{
+    canonical_texts, state_messages, stored_texts, sync_messages, uid_json, validator,
 };

@@ -1,16 +1,18 @@
 //! That the names and the stamps of what a site keeps are those that messages may have.
 ghost use Rattle.std.specs.Prelude.{◌≡◌, ◌≤◌, ◌<◌, ◌++◌, ◌∷◌, [], ℕ, List, IsSome};
 ghost use Rattle.values.specs.declared.name.Name.{Name};
-ghost use Rattle.stamped_store.specs.Contents.{text_under};
-ghost use Rattle.stamped_store.specs.Deltas.{Summary, delta, summary_of};
-ghost use Rattle.stamped_store.specs.Greatest.{greatest_count};
-ghost use Rattle.stamped_store.specs.SiteNames.{IsSiteName};
-ghost use Rattle.stamped_store.specs.Store.{Store, Update, updates, store_of, issue};
-ghost use Rattle.sync_messages.specs.Summaries.{AreStamped, IsName, IsStamped};
-ghost use Rattle.state_messages.specs.Updates.{AreInRange, stamped};
+ghost use Rattle.accelerated_store.specs.stamped_store.Contents.{text_under};
+ghost use Rattle.accelerated_store.specs.stamped_store.Deltas.{Summary, delta, summary_of};
+ghost use Rattle.accelerated_store.specs.stamped_store.Greatest.{greatest_count};
+ghost use Rattle.accelerated_store.specs.stamped_store.SiteNames.{IsSiteName};
+ghost use Rattle.accelerated_store.specs.stamped_store.Store.{Store, Update, updates, store_of, issue};
+ghost use Rattle.typed_readings.specs.sync_messages.Summaries.{AreStamped, IsName, IsStamped};
+ghost use Rattle.typed_readings.specs.state_messages.Updates.{AreInRange, stamped};
 
-use stamped_store::COUNT_MAX;
-use stamped_store::laws::{deltas_are_joined, stamps_are_issued, updates_have_one_store};
+use accelerated_store::stamped_store::COUNT_MAX;
+use accelerated_store::stamped_store::laws::{
+    deltas_are_joined, stamps_are_issued, updates_have_one_store,
+};
 
 /// Proves that names and stamps stay in their ranges: those of the empty store, and of a store that an update is joined
 /// into whose own are in range; so are those of what is sent of such a store. Its greatest count is at most 10^18, a

@@ -1,13 +1,13 @@
 //! A site, what is asked of it, and what it tells other sites.
 ghost use Rattle.std.specs.Prelude.{◌≡◌, [], IfOk, option_map, Some, Ok};
 ghost use Rattle.serde_json.specs.View.{view};
-ghost use Rattle.schema.specs.Views.{schema_view, IsStated};
-ghost use Rattle.stamped_store.specs.Deltas.{delta, summary_of};
-ghost use Rattle.stamped_store.specs.SiteNames.{IsSiteName};
-ghost use Rattle.stamped_store.specs.Stamping.{has_stamps_of};
-ghost use Rattle.stamped_store.specs.Store.{store_of, updates};
-ghost use Rattle.sync_messages.specs.Summaries.{summary_text, summary_stated};
-ghost use Rattle.state_messages.specs.Messages.{state_text, delta_text, updates_stated};
+ghost use Rattle.accelerated_store.specs.schema.Views.{schema_view, IsStated};
+ghost use Rattle.accelerated_store.specs.stamped_store.Deltas.{delta, summary_of};
+ghost use Rattle.accelerated_store.specs.stamped_store.SiteNames.{IsSiteName};
+ghost use Rattle.accelerated_store.specs.stamped_store.Stamping.{has_stamps_of};
+ghost use Rattle.accelerated_store.specs.stamped_store.Store.{store_of, updates};
+ghost use Rattle.typed_readings.specs.sync_messages.Summaries.{summary_text, summary_stated};
+ghost use Rattle.typed_readings.specs.state_messages.Messages.{state_text, delta_text, updates_stated};
 ghost use Rattle.typed_readings.specs.Answers.{ErrsHarmlessly};
 ghost use Rattle.site.specs.Seen.{schema_of, store_in, MayBeHeld};
 ghost use Rattle.site.specs.Steps.{Answers, policy_found, most_count};
@@ -17,16 +17,16 @@ use crate::judging::stated_request;
 use crate::ranges::ranges_stay;
 use crate::under_schema::{answer_under, readings_stay};
 use accelerated_store::AcceleratedStore;
-use authoriser::Answer;
+use accelerated_store::authoriser::Answer;
+use accelerated_store::schema::Schema;
+use accelerated_store::stamped_store::{COUNT_MAX, SiteName, Stamp};
 use plain::{NoMemory, Shared};
-use schema::Schema;
 use serde_json::Value;
-use stamped_store::{COUNT_MAX, SiteName, Stamp};
-use state_messages::{write_delta, write_state};
 use std::alloc::Global;
 use std::marker::Model;
-use sync_messages::{Summary, write_summary};
+use typed_readings::state_messages::{write_delta, write_state};
 use typed_readings::stored_answers_go_right;
+use typed_readings::sync_messages::{Summary, write_summary};
 
 /// A site: a schema, a name, and a store of stamped texts, each kept with what it was read as under the schema.
 ///
@@ -40,10 +40,10 @@ pub struct Site {
 
 impl Model for Site {
     ghost use Rattle.std.specs.Coded.{codes};
-    ghost use Rattle.schema_types.specs.contracts.cedar.CedarType as cedar;
+    ghost use Rattle.accelerated_store.specs.schema_types.contracts.cedar.CedarType as cedar;
     ghost use Rattle.values.specs.ValueCode.{value_code};
-    ghost use Rattle.expressions.specs.contracts.expr.Expr as expr;
-    ghost use Rattle.schema.specs.Views.{schema_view};
+    ghost use Rattle.accelerated_store.specs.expressions.contracts.expr.Expr as expr;
+    ghost use Rattle.accelerated_store.specs.schema.Views.{schema_view};
     ghost use Rattle.site.specs.Seen.{Seen, IsSite};
 
     ghost Value = { Seen };

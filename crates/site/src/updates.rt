@@ -1,11 +1,11 @@
 //! Updates of another site, taken by this one.
 ghost use Rattle.std.specs.Prelude.{◌≡◌, ◌++◌, ◌∷◌, [], IsTrue, true, false, MatchResult, string_bytes};
 ghost use Rattle.std.specs.List.{AllByRecursion};
-ghost use Rattle.stamped_store.specs.EntryOrder.{plain_entry};
-ghost use Rattle.stamped_store.specs.Reading.{IsEntryRead};
-ghost use Rattle.stamped_store.specs.Store.{store_of, updates, policy_name, entity_name};
-ghost use Rattle.sync_messages.specs.Summaries.{IsStamped};
-ghost use Rattle.state_messages.specs.Updates.{plain_update, plain_updates};
+ghost use Rattle.accelerated_store.specs.stamped_store.EntryOrder.{plain_entry};
+ghost use Rattle.accelerated_store.specs.stamped_store.Reading.{IsEntryRead};
+ghost use Rattle.accelerated_store.specs.stamped_store.Store.{store_of, updates, policy_name, entity_name};
+ghost use Rattle.typed_readings.specs.sync_messages.Summaries.{IsStamped};
+ghost use Rattle.typed_readings.specs.state_messages.Updates.{plain_update, plain_updates};
 ghost use Rattle.site.specs.Admitted.{IsPolicyUnder, IsEntityUnder, IsValidUnder};
 ghost use Rattle.site.specs.Seen.{schema_of, store_in, IsSameSite};
 ghost use Rattle.site.specs.Steps.{TakesUpdates};
@@ -14,11 +14,11 @@ use crate::outcome::Taken;
 use crate::ranges::ranges_stay;
 use crate::site::Site;
 use crate::under_schema::readings_stay;
-use entities::Entity;
-use policy_grammar::Policy;
-use stamped_store::Entry;
-use stamped_store::laws::updates_have_one_store;
-use state_messages::Update;
+use accelerated_store::entities::Entity;
+use accelerated_store::policy_grammar::Policy;
+use accelerated_store::stamped_store::Entry;
+use accelerated_store::stamped_store::laws::updates_have_one_store;
+use typed_readings::state_messages::Update;
 use values::EntityUid;
 
 /// Returns whether an entry was stored.

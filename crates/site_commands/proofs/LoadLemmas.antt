@@ -1,8 +1,8 @@
 -- The state of a site that took files, and why there is none.
 use Rattle.std.proofs.Common.{◌≡◌, ℕ, List, Option, None, Some, Result, Ok, Err, IfOk, IfErr, Vec, subst}
-use Rattle.decision_texts.specs.declared.refusal.Refusal.{Refusal}
-use Rattle.decision_texts.specs.Refusals.{no_memory}
-use Rattle.http_service.specs.passed_on.site_runs.{Seen, schema_of, store_in}
+use Rattle.http_service.specs.decision_texts.declared.refusal.Refusal.{Refusal}
+use Rattle.http_service.specs.decision_texts.Refusals.{no_memory}
+use Rattle.loaded_files.specs.site.Seen.{Seen, schema_of, store_in}
 use Rattle.loaded_files.specs.Loads as loads
 use Rattle.site_commands.specs.Beginning.{IsBegun}
 use Rattle.site_commands.specs.Loading.{IsLoaded, IsLoadRefused, by_load}

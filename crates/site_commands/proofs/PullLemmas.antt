@@ -1,12 +1,12 @@
 -- What a pull comes to, from what came over the connection.
 use Rattle.std.proofs.Common.{◌≡◌, ◌≢◌, ◌⊎◌, inl, inr, ℕ, List, ◌∷◌, Option, Result, Ok, Err, IfOk, OnErr, refl}
-use Rattle.schema.specs.Schemas.{StatedSchema}
-use Rattle.stamped_store.specs.Store.{Store}
-use Rattle.decision_texts.specs.declared.refusal.Refusal.{Refusal}
-use Rattle.decision_texts.specs.Refusals.{no_memory}
-use Rattle.counted_devices.specs.declared.devices.Source.{Ghosts as Source}
-use Rattle.counted_devices.specs.declared.devices.Sink.{Ghosts as Sink}
-use Rattle.pulled_states.specs.passed_on.merged_states.{IsMessageRefused}
+use Rattle.loaded_files.specs.schema.Schemas.{StatedSchema}
+use Rattle.command_lines.specs.stamped_store.Store.{Store}
+use Rattle.http_service.specs.decision_texts.declared.refusal.Refusal.{Refusal}
+use Rattle.http_service.specs.decision_texts.Refusals.{no_memory}
+use Rattle.pulled_states.specs.counted_devices.declared.devices.Source.{Ghosts as Source}
+use Rattle.pulled_states.specs.counted_devices.declared.devices.Sink.{Ghosts as Sink}
+use Rattle.pulled_states.specs.merged_states.Messages.{IsMessageRefused}
 use Rattle.pulled_states.specs.declared.fault.NetworkFault.{NetworkFault}
 use Rattle.pulled_states.specs.declared.fault.NetworkFault.TheVariants as network
 use Rattle.pulled_states.specs.declared.fault.PullFault.{PullFault}
@@ -17,7 +17,8 @@ use Rattle.pulled_states.specs.Exchanges.{IsRequestBegun, IsUnanswered}
 use Rattle.pulled_states.specs.Pulls.{IsPulled, IsRefusedFirst}
 use Rattle.site_commands.specs.declared.device.Link.{Link}
 use Rattle.site_commands.specs.Events.{Event, closed, Runs}
-use Rattle.site_commands.specs.Pulling.{NoReadFailed, NoWriteFailed, IsAsked, IsNotMoreThanAsked, IsPullRefused, IsPull, IsPulledOver, IsPullTold}
+use Rattle.site_commands.specs.Pulling.{NoReadFailed, NoWriteFailed, IsAsked, IsNotMoreThanAsked, IsPullRefused, IsPull}
+use Rattle.site_commands.specs.Pulling.{IsPulledOver, IsPullTold}
 
 same_link : {R W : Type 0} (a b : Link R W) → a.reader ≡ b.reader → a.writer ≡ b.writer → a ≡ b
 same_link a b r w = λ i. record { reader = r i; writer = w i }

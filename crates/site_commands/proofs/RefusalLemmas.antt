@@ -1,7 +1,7 @@
 -- Want of memory among the refusals.
 use Rattle.std.proofs.Common.{◌≡◌, ◌⊎◌, inl, inr, ℕ, zero, suc, List, Option, None, Some, refl}
-use Rattle.decision_texts.specs.declared.refusal.Refusal.{Refusal}
-use Rattle.decision_texts.specs.Refusals.{no_memory}
+use Rattle.http_service.specs.decision_texts.declared.refusal.Refusal.{Refusal}
+use Rattle.http_service.specs.decision_texts.Refusals.{no_memory}
 use Rattle.site_commands.specs.Events.{Event}
 use Rattle.site_commands.specs.Reports.{IsRefusalReported, IsMemoryReported}
 use Rattle.site_commands.specs.Courses.{IsRefusedFor, IsLineOrRefusal}

@@ -1,22 +1,25 @@
 -- Connections that are served one after another, and what a site begins with.
-use Rattle.std.proofs.Common.{◌≡◌, ◌∙◌, inl, inr, ℕ, zero, suc, ◌+◌, List, [], ◌∷◌, ◌++◌, length, Option, None, Some, Result, Ok, Err}
+use Rattle.std.proofs.Common.{◌≡◌, ◌∙◌, inl, inr, ℕ, zero, suc, ◌+◌, List, [], ◌∷◌, ◌++◌, length, Option, None, Some}
+use Rattle.std.proofs.Common.{Result, Ok, Err}
 use Rattle.std.proofs.Common.{IfOk, IfErr, refl, sym, ap, subst, arith, append_assoc, append-nil}
-use Rattle.counted_devices.specs.declared.devices.Source.{Ghosts as Source}
-use Rattle.counted_devices.specs.declared.devices.Sink.{Ghosts as Sink}
-use Rattle.http_streams.specs.declared.serve.StreamFault.{StreamFault}
-use Rattle.decision_texts.specs.declared.refusal.Refusal.{Refusal}
-use Rattle.decision_texts.specs.Refusals.{no_memory}
-use Rattle.schema.specs.Schemas.{StatedSchema, IsSchemaOf}
-use Rattle.schema.specs.Views.{schema_view}
+use Rattle.pulled_states.specs.counted_devices.declared.devices.Source.{Ghosts as Source}
+use Rattle.pulled_states.specs.counted_devices.declared.devices.Sink.{Ghosts as Sink}
+use Rattle.pulled_states.specs.http_streams.declared.serve.StreamFault.{StreamFault}
+use Rattle.http_service.specs.decision_texts.declared.refusal.Refusal.{Refusal}
+use Rattle.http_service.specs.decision_texts.Refusals.{no_memory}
+use Rattle.loaded_files.specs.schema.Schemas.{StatedSchema, IsSchemaOf}
+use Rattle.loaded_files.specs.schema.Views.{schema_view}
 use Rattle.std.specs.FinMap.{len-empty, len-entries}
 use Rattle.values.specs.Names.{name_cmp}
-use Rattle.stamped_store.specs.EntryOrder.{PlainEntry}
-use Rattle.stamped_store.specs.Store.{store_of, updates}
-use Rattle.state_messages.specs.Updates.{plain_updates}
-use Rattle.http_service.specs.passed_on.site_runs.{Seen, schema_of, store_in}
-use Rattle.http_service.specs.passed_on.site_runs.{SiteFault}
-use Rattle.http_service.specs.passed_on.site_runs.{NoMemory, Policy, Check as Unfit, Entity, Message, NotThere, WouldCycle, ClockFull, Request}
-use Rattle.http_service.specs.passed_on.site_runs.{IsMessageOf, IsNoMessageOf}
+use Rattle.command_lines.specs.stamped_store.EntryOrder.{PlainEntry}
+use Rattle.command_lines.specs.stamped_store.Store.{store_of, updates}
+use Rattle.pulled_states.specs.state_messages.Updates.{plain_updates}
+use Rattle.loaded_files.specs.site.Seen.{Seen, schema_of, store_in}
+use Rattle.loaded_files.specs.site.declared.fault.SiteFault.{SiteFault}
+use Rattle.loaded_files.specs.site.declared.fault.SiteFault.TheVariants.{NoMemory, Policy, Check as Unfit, Entity}
+use Rattle.loaded_files.specs.site.declared.fault.SiteFault.TheVariants.{Message, NotThere, WouldCycle, ClockFull}
+use Rattle.loaded_files.specs.site.declared.fault.SiteFault.TheVariants.{Request}
+use Rattle.http_service.specs.site_runs.Runs.{IsMessageOf, IsNoMessageOf}
 use Rattle.site_commands.specs.declared.device.Link.{Link}
 use Rattle.site_commands.specs.Events.{Event, accepted, closed, served, Does, Runs}
 use Rattle.site_commands.specs.Beginning.{BeginsWith, IsBegun, IsNotBegun, IsStateRefused, site_refusal}

@@ -1,20 +1,20 @@
 -- What a site begins with. A rule of this product: the schema is judged first; then a message, a state or a delta, is
 -- refused whole, or the site takes its updates.
 use Rattle.std.specs.Prelude.{◌≡◌, ◌⊎◌, ℕ, List, [], Option, None, Some}
-use Rattle.policy_grammar.specs.declared.policy.Policy.{Policy}
-use Rattle.schema.specs.Schemas.{StatedSchema, IsSchemaOf}
-use Rattle.entity_worlds.specs.declared.entity.Entity.{Entity}
-use Rattle.stamped_store.specs.Store.{Store, store_of}
-use Rattle.sync_messages.specs.declared.fault.MessageFault.{MessageFault}
-use Rattle.state_messages.specs.declared.update.Update.{Update as SentUpdate}
-use Rattle.state_messages.specs.Updates.{plain_updates}
-use Rattle.decision_texts.specs.declared.refusal.Refusal.{Refusal}
-use Rattle.schema_decisions.specs.passed_on.policy_checks.{IsSchemaRefused}
-use Rattle.http_service.specs.passed_on.site_runs.{code_of, place_of, within_of}
-use Rattle.http_service.specs.passed_on.site_runs.{Seen, schema_of, store_in}
-use Rattle.http_service.specs.passed_on.site_runs.{SiteFault}
-use Rattle.http_service.specs.passed_on.site_runs.{Message}
-use Rattle.http_service.specs.passed_on.site_runs.{IsMessageOf, IsNoMessageOf}
+use Rattle.http_service.specs.policy_grammar.declared.policy.Policy.{Policy}
+use Rattle.loaded_files.specs.schema.Schemas.{StatedSchema, IsSchemaOf}
+use Rattle.http_service.specs.entity_worlds.declared.entity.Entity.{Entity}
+use Rattle.command_lines.specs.stamped_store.Store.{Store, store_of}
+use Rattle.pulled_states.specs.sync_messages.declared.fault.MessageFault.{MessageFault}
+use Rattle.pulled_states.specs.state_messages.declared.update.Update.{Update as SentUpdate}
+use Rattle.pulled_states.specs.state_messages.Updates.{plain_updates}
+use Rattle.http_service.specs.decision_texts.declared.refusal.Refusal.{Refusal}
+use Rattle.drill_scripts.specs.policy_checks.Checks.{IsSchemaRefused}
+use Rattle.loaded_files.specs.site.Faults.{code_of, place_of, within_of}
+use Rattle.loaded_files.specs.site.Seen.{Seen, schema_of, store_in}
+use Rattle.loaded_files.specs.site.declared.fault.SiteFault.{SiteFault}
+use Rattle.loaded_files.specs.site.declared.fault.SiteFault.TheVariants.{Message}
+use Rattle.http_service.specs.site_runs.Runs.{IsMessageOf, IsNoMessageOf}
 
 -- the fault of a site as it is told
 abbrev pub site_refusal : SiteFault → Refusal

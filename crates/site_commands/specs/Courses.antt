@@ -1,7 +1,7 @@
 -- How a run goes on, step by step: it reads files, writes one, opens a connection, and tells what came of it.
 -- A rule of this product.
 use Rattle.std.specs.Prelude.{◌≡◌, ◌⊎◌, ℕ, Bool, true, false, List, [], ◌∷◌, Option, None, Some, Result, Ok, Err}
-use Rattle.decision_texts.specs.declared.refusal.Refusal.{Refusal}
+use Rattle.http_service.specs.decision_texts.declared.refusal.Refusal.{Refusal}
 use Rattle.site_commands.specs.declared.device.FileFault.{FileFault}
 use Rattle.site_commands.specs.declared.device.FileFault.TheVariants as file
 use Rattle.site_commands.specs.Events.{Event, read, stored, wrote, connected, listened}

@@ -3,7 +3,7 @@
 use Rattle.std.specs.Prelude.{◌≡◌, ℕ, Bool, true, false, List, [], ◌∷◌, Option, Result}
 use Rattle.std.specs.Io.KnownBytes.{Appends}
 use Rattle.command_lines.specs.declared.fault.LineFault.{LineFault}
-use Rattle.http_streams.specs.declared.serve.StreamFault.{StreamFault}
+use Rattle.pulled_states.specs.http_streams.declared.serve.StreamFault.{StreamFault}
 use Rattle.site_commands.specs.declared.device.FileFault.{FileFault}
 use Rattle.site_commands.specs.declared.device.Stream.{Stream}
 use Rattle.site_commands.specs.declared.device.Stream.TheVariants.{Answers, Faults}

@@ -3,8 +3,8 @@
 -- then the policies, then the entities, each if it is named; a site begins as one that is served, and its state after
 -- the puts is told; where anything is refused, no state is.
 use Rattle.std.specs.Prelude.{◌⊎◌, ℕ, List, Option}
-use Rattle.decision_texts.specs.declared.refusal.Refusal.{Refusal}
-use Rattle.http_service.specs.passed_on.site_runs.{Seen, schema_of, store_in}
+use Rattle.http_service.specs.decision_texts.declared.refusal.Refusal.{Refusal}
+use Rattle.loaded_files.specs.site.Seen.{Seen, schema_of, store_in}
 use Rattle.loaded_files.specs.Loads as loads
 use Rattle.site_commands.specs.Beginning.{IsBegun, IsNotBegun}
 use Rattle.site_commands.specs.Courses.{Course, Reads, ReadsIfNamed, IsLineOrRefusal}

@@ -1,17 +1,17 @@
 -- What a run is that pulls from another site. A rule of this product: the files are read and the connection is opened
 -- before anything is judged, and the state's file is written last, where nothing was refused.
 use Rattle.std.specs.Prelude.{◌≡◌, ◌≢◌, ◌⊎◌, ℕ, List, ◌∷◌, Option, Result, Ok, Err}
-use Rattle.schema.specs.Schemas.{StatedSchema}
-use Rattle.stamped_store.specs.Store.{Store}
-use Rattle.decision_texts.specs.declared.refusal.Refusal.{Refusal}
-use Rattle.decision_texts.specs.Refusals.{no_memory}
-use Rattle.counted_devices.specs.declared.devices.Source.{Ghosts as Source}
-use Rattle.counted_devices.specs.declared.devices.Sink.{Ghosts as Sink}
+use Rattle.loaded_files.specs.schema.Schemas.{StatedSchema}
+use Rattle.command_lines.specs.stamped_store.Store.{Store}
+use Rattle.http_service.specs.decision_texts.declared.refusal.Refusal.{Refusal}
+use Rattle.http_service.specs.decision_texts.Refusals.{no_memory}
+use Rattle.pulled_states.specs.counted_devices.declared.devices.Source.{Ghosts as Source}
+use Rattle.pulled_states.specs.counted_devices.declared.devices.Sink.{Ghosts as Sink}
 use Rattle.pulled_states.specs.declared.fault.NetworkFault.TheVariants as network
 use Rattle.pulled_states.specs.declared.fault.PullFault.{PullFault}
 use Rattle.pulled_states.specs.declared.fault.PullFault.TheVariants.{Network, Refused}
 use Rattle.pulled_states.specs.declared.pulling.Pulled.{Pulled}
-use Rattle.pulled_states.specs.passed_on.merged_states.{IsMessageRefused}
+use Rattle.pulled_states.specs.merged_states.Messages.{IsMessageRefused}
 use Rattle.pulled_states.specs.Requests.{IsReady, request_for}
 use Rattle.pulled_states.specs.Exchanges.{IsAnswered, IsRequestBegun, IsUnanswered}
 use Rattle.pulled_states.specs.Pulls.{IsPulled, IsRefusedFirst}

@@ -2,8 +2,8 @@
 -- and a refusal's line are defined where texts are decided.
 use Prim.Native.Char.{code}
 use Rattle.std.specs.Prelude.{◌≡◌, ◌⊎◌, ℕ, Bool, List, [], ◌∷◌, ◌++◌, if◌then◌else◌, codes, decimal}
-use Rattle.decision_texts.specs.declared.refusal.Refusal.{Refusal}
-use Rattle.decision_texts.specs.Refusals.{error_line, no_memory}
+use Rattle.http_service.specs.decision_texts.declared.refusal.Refusal.{Refusal}
+use Rattle.http_service.specs.decision_texts.Refusals.{error_line, no_memory}
 use Rattle.command_lines.specs.declared.fault.LineFault.{LineFault}
 use Rattle.command_lines.specs.declared.fault.LineFault.TheVariants.{Help, Words, Site, Incomplete, NotText, NoMemory}
 use Rattle.site_commands.specs.declared.device.FileFault.{FileFault}

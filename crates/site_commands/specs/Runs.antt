@@ -2,10 +2,10 @@
 -- A rule of this product; what texts come to is defined where they are checked, decided, merged and pulled.
 use Rattle.std.specs.Prelude.{◌≡◌, ◌⊎◌, ℕ, Bool, List, [], Option, None, Some, option_map}
 use Rattle.clap.specs.Words.{Text, fault_of}
-use Rattle.decision_texts.specs.Decisions as bare
-use Rattle.schema_decisions.specs.Decisions as typed
-use Rattle.schema_decisions.specs.passed_on.policy_checks_Checks as checks
-use Rattle.pulled_states.specs.passed_on.merged_states_Merges as merges
+use Rattle.http_service.specs.decision_texts.Decisions as bare
+use Rattle.loaded_files.specs.schema_decisions.Decisions as typed
+use Rattle.drill_scripts.specs.policy_checks.Checks as checks
+use Rattle.pulled_states.specs.merged_states.Merges as merges
 use Rattle.drill_scripts.specs.Drills as drills
 use Rattle.command_lines.specs.declared.line.Line.{Line}
 use Rattle.command_lines.specs.declared.line.Line.TheVariants.{Check, Decide, Load, Serve, Pull, Merge, Drill}
@@ -13,8 +13,8 @@ use Rattle.command_lines.specs.declared.fault.LineFault.{LineFault}
 use Rattle.command_lines.specs.Apps.{site_app}
 use Rattle.command_lines.specs.Faults.{IsFaultOf}
 use Rattle.command_lines.specs.Lines.{Says}
-use Rattle.counted_devices.specs.declared.devices.Source.{Ghosts as Source}
-use Rattle.counted_devices.specs.declared.devices.Sink.{Ghosts as Sink}
+use Rattle.pulled_states.specs.counted_devices.declared.devices.Source.{Ghosts as Source}
+use Rattle.pulled_states.specs.counted_devices.declared.devices.Sink.{Ghosts as Sink}
 use Rattle.site_commands.specs.declared.device.Link.{Link}
 use Rattle.site_commands.specs.Reports.{AreLinesReported, IsFaultReported}
 use Rattle.site_commands.specs.Courses.{Course, Reads, ReadsIfNamed, IsRefusedFor, IsLineOrRefusal}

@@ -2,11 +2,11 @@
 -- is used; connections come one after another, and each is served, over itself, from what the one before left.
 use Rattle.std.specs.Prelude.{◌≡◌, ◌⊎◌, ℕ, zero, suc, List, [], ◌∷◌, ◌++◌, Option, None, Some, Result}
 use Rattle.std.specs.Prelude.{codes}
-use Rattle.counted_devices.specs.declared.devices.Source.{Ghosts as Source}
-use Rattle.counted_devices.specs.declared.devices.Sink.{Ghosts as Sink}
-use Rattle.http_streams.specs.declared.serve.StreamFault.{StreamFault}
-use Rattle.stamped_store.specs.Stamping.{has_stamps_of}
-use Rattle.http_service.specs.passed_on.site_runs.{Seen, store_in}
+use Rattle.pulled_states.specs.counted_devices.declared.devices.Source.{Ghosts as Source}
+use Rattle.pulled_states.specs.counted_devices.declared.devices.Sink.{Ghosts as Sink}
+use Rattle.pulled_states.specs.http_streams.declared.serve.StreamFault.{StreamFault}
+use Rattle.command_lines.specs.stamped_store.Stamping.{has_stamps_of}
+use Rattle.loaded_files.specs.site.Seen.{Seen, store_in}
 use Rattle.http_service.specs.Serving.{IsServed}
 use Rattle.site_commands.specs.declared.device.Link.{Link}
 use Rattle.site_commands.specs.Events.{Event, accepted, closed, served}

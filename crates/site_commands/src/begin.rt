@@ -1,17 +1,17 @@
 //! A site that begins with a state, or empty.
 ghost use Rattle.std.specs.Prelude.{◌≡◌, IfOk, IfErr, Some, option_map};
-ghost use Rattle.decision_texts.specs.Refusals.{no_memory};
-ghost use Rattle.schema.specs.Views.{schema_view};
-ghost use Rattle.http_service.specs.passed_on.site_runs.{schema_of};
+ghost use Rattle.http_service.specs.decision_texts.Refusals.{no_memory};
+ghost use Rattle.loaded_files.specs.schema.Views.{schema_view};
+ghost use Rattle.loaded_files.specs.site.Seen.{schema_of};
 ghost use Rattle.site_commands.specs.Beginning.{IsBegun, IsNotBegun, IsStateRefused, site_refusal};
 ghost use Rattle.site_commands.specs.inner.Begun.{IsBegunUnder, TakesState};
 
-use decision_texts::Refusal;
+use command_lines::stamped_store::SiteName;
+use http_service::decision_texts::Refusal;
 use http_service::{Site, SiteFault, Taken, take_bytes};
+use loaded_files::schema::Schema;
+use loaded_files::schema_decisions::schema_in;
 use plain::{NoMemory, Shared};
-use schema::Schema;
-use schema_decisions::schema_in;
-use stamped_store::SiteName;
 use std::alloc::Global;
 
 /// Returns a fault of a site, as it is told.

@@ -7,8 +7,8 @@ ghost use Rattle.site_commands.specs.Reports.{ended};
 
 use crate::device::{FileFault, Link, NetworkFailed, Stream, StreamFailed};
 use command_lines::LineFault;
-use counted_devices::devices::{Sink, Source};
-use http_streams::serve::StreamFault;
+use pulled_states::counted_devices::devices::{Sink, Source};
+use pulled_states::http_streams::serve::StreamFault;
 
 /// A machine with files, two streams and connections.
 pub trait Host {

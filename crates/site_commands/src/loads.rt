@@ -1,7 +1,7 @@
 //! Files of policies and entities that are put into a site, whose state is told.
 ghost use Rattle.std.specs.Prelude.{◌≡◌, option_map, IfOk, IfErr, MatchResult};
 ghost use Rattle.std.specs.Process.{exit_status};
-ghost use Rattle.decision_texts.specs.Refusals.{no_memory};
+ghost use Rattle.http_service.specs.decision_texts.Refusals.{no_memory};
 ghost use Rattle.site_commands.specs.Events.{Runs};
 ghost use Rattle.site_commands.specs.Loading.{IsLoaded, IsLoadRefused, IsLoadedOrRefused, IsLoadRun};
 ghost use Rattle.site_commands.specs.inner.Loads.{IsFound, IsUnreadIfNamed, IsLoadUnder};
@@ -11,9 +11,9 @@ use crate::host::Host;
 use crate::reading::read_file;
 use crate::report::{report_answer, report_refusal};
 use crate::states::lent;
-use decision_texts::Refusal;
+use command_lines::stamped_store::SiteName;
+use http_service::decision_texts::Refusal;
 use loaded_files::loaded_state;
-use stamped_store::SiteName;
 use std::alloc::Global;
 use std::process::ExitCode;
 

@@ -1,7 +1,7 @@
 //! What a run writes at its end, and the status that it ends with.
 ghost use Rattle.std.specs.Prelude.{◌≡◌, ◌⊎◌, ◌++◌, is_ok, if◌then◌else◌};
 ghost use Rattle.std.specs.Process.{exit_status};
-ghost use Rattle.decision_texts.specs.Refusals.{error_line};
+ghost use Rattle.http_service.specs.decision_texts.Refusals.{error_line};
 ghost use Rattle.site_commands.specs.Events.{Runs};
 ghost use Rattle.site_commands.specs.Reports.{IsReported, IsAnswerReported, IsRefusalReported, IsMemoryReported};
 ghost use Rattle.site_commands.specs.Reports.{IsFileReported};
@@ -11,7 +11,7 @@ ghost use Rattle.site_commands.specs.Reports.{status_after};
 use crate::device::{FileFault, Stream, StreamFailed};
 use crate::host::Host;
 use command_lines::LineFault;
-use decision_texts::{Refusal, error_line};
+use http_service::decision_texts::{Refusal, error_line};
 use std::alloc::Global;
 use std::process::ExitCode;
 

@@ -12,10 +12,10 @@ use crate::device::{Link, NetworkFailed, Stream};
 use crate::host::Host;
 use crate::reading::read_file;
 use crate::report::{ANSWERED, report_failure, report_refusal, status_of};
-use counted_devices::devices::{Sink, Source};
+use command_lines::stamped_store::SiteName;
 use http_service::{Site, serve};
-use http_streams::serve::StreamFault;
-use stamped_store::SiteName;
+use pulled_states::counted_devices::devices::{Sink, Source};
+use pulled_states::http_streams::serve::StreamFault;
 use std::alloc::Global;
 use std::process::ExitCode;
 

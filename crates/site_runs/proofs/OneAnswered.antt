@@ -3,22 +3,22 @@ use Rattle.std.specs.Prelude.{◌≡◌, ◌++◌, ℕ, List, length, Option, So
 use Rattle.std.proofs.Common.{sym, ap, ◌∙◌, subst}
 use Rattle.serde_json.specs.Data.{Data}
 use Rattle.values.specs.declared.request.Request.{Request}
-use Rattle.policy_grammar.specs.declared.policy.Policy.{Policy}
-use Rattle.authoriser.specs.declared.answer.Answer.{Answer}
-use Rattle.schema.specs.Schemas.{StatedSchema}
-use Rattle.entity_worlds.specs.declared.entity.Entity.{Entity}
-use Rattle.entities.specs.declared.fault.EntityFault.{EntityFault}
-use Rattle.entities.specs.Laws.{OneRequest, NotBoth, OneRefusal}
-use Rattle.stamped_entries.specs.declared.entry.Stamp.{Stamp}
-use Rattle.stamped_store.specs.Deltas as deltas
-use Rattle.stamped_store.specs.Store.{Store, updates, store_of}
-use Rattle.site.specs.passed_on.stored_world.{IsAnswerOver}
-use Rattle.sync_messages.specs.declared.fault.MessageFault.{MessageFault}
-use Rattle.sync_messages.specs.Summaries.{summary_stated}
-use Rattle.state_messages.specs.declared.update.Update.{Update as SentUpdate}
-use Rattle.state_messages.specs.Messages.{delta_text}
-use Rattle.state_messages.specs.Updates.{plain_updates, IsMessageFault}
-use Rattle.site.specs.passed_on.stored_texts.{RefusesPolicy, RefusesEntity}
+use Rattle.site.specs.policy_grammar.declared.policy.Policy.{Policy}
+use Rattle.site.specs.authoriser.declared.answer.Answer.{Answer}
+use Rattle.site.specs.schema.Schemas.{StatedSchema}
+use Rattle.site.specs.entity_worlds.declared.entity.Entity.{Entity}
+use Rattle.site.specs.entities.declared.fault.EntityFault.{EntityFault}
+use Rattle.site.specs.entities.Laws.{OneRequest, NotBoth, OneRefusal}
+use Rattle.site.specs.stamped_entries.declared.entry.Stamp.{Stamp}
+use Rattle.site.specs.stamped_store.Deltas as deltas
+use Rattle.site.specs.stamped_store.Store.{Store, updates, store_of}
+use Rattle.site.specs.stored_world.Said.{IsAnswerOver}
+use Rattle.site.specs.sync_messages.declared.fault.MessageFault.{MessageFault}
+use Rattle.site.specs.sync_messages.Summaries.{summary_stated}
+use Rattle.site.specs.state_messages.declared.update.Update.{Update as SentUpdate}
+use Rattle.site.specs.state_messages.Messages.{delta_text}
+use Rattle.site.specs.state_messages.Updates.{plain_updates, IsMessageFault}
+use Rattle.site.specs.stored_texts.Texts.{RefusesPolicy, RefusesEntity}
 use Rattle.site.specs.declared.fault.SiteFault.{SiteFault}
 use Rattle.site.specs.declared.fault.SiteFault.TheVariants as fault
 use Rattle.site.specs.declared.outcome.Taken as taking

@@ -4,19 +4,19 @@ use Rattle.std.proofs.Common.{sym, ap, ◌∙◌}
 use Rattle.json_words.specs.Json.{json_of}
 use Rattle.values.specs.declared.entity_uid.EntityUid.{EntityUid}
 use Rattle.values.specs.declared.request.Request.{Request}
-use Rattle.policy_grammar.specs.PolicyText.{IsPolicyText, IsPolicyRefused}
-use Rattle.policy_grammar.specs.Unique.{HasOneReading}
-use Rattle.authoriser.specs.declared.answer.Answer.{Answer}
-use Rattle.schema.specs.Schemas.{StatedSchema}
-use Rattle.entity_worlds.specs.declared.entity.Entity.{Entity}
-use Rattle.entities.specs.Laws.{OneRequest, NotBoth, OneRefusal}
-use Rattle.validator.specs.Outcomes.{PoliciesHaveOneOutcome, PassingIsNotRefused}
-use Rattle.stamped_entries.specs.declared.entry.Stamp.{Stamp}
-use Rattle.stamped_store.specs.Deltas as deltas
-use Rattle.stamped_store.specs.Store.{Store, policy_name, entity_name}
-use Rattle.site.specs.passed_on.stored_world.{AreEntities, IsAnswerOver}
-use Rattle.sync_messages.specs.Summaries.{summary_text}
-use Rattle.state_messages.specs.Messages.{state_text}
+use Rattle.site.specs.policy_grammar.PolicyText.{IsPolicyText, IsPolicyRefused}
+use Rattle.site.specs.policy_grammar.Unique.{HasOneReading}
+use Rattle.site.specs.authoriser.declared.answer.Answer.{Answer}
+use Rattle.site.specs.schema.Schemas.{StatedSchema}
+use Rattle.site.specs.entity_worlds.declared.entity.Entity.{Entity}
+use Rattle.site.specs.entities.Laws.{OneRequest, NotBoth, OneRefusal}
+use Rattle.site.specs.validator.Outcomes.{PoliciesHaveOneOutcome, PassingIsNotRefused}
+use Rattle.site.specs.stamped_entries.declared.entry.Stamp.{Stamp}
+use Rattle.site.specs.stamped_store.Deltas as deltas
+use Rattle.site.specs.stamped_store.Store.{Store, policy_name, entity_name}
+use Rattle.site.specs.stored_world.Said.{AreEntities, IsAnswerOver}
+use Rattle.site.specs.sync_messages.Summaries.{summary_text}
+use Rattle.site.specs.state_messages.Messages.{state_text}
 use Rattle.site.specs.declared.fault.SiteFault.{SiteFault}
 use Rattle.site.specs.declared.outcome.Put.{Put}
 use Rattle.site.specs.declared.outcome.Taken as taking
@@ -30,7 +30,8 @@ use Rattle.site_runs.specs.declared.reply.Reply.TheVariants as reply
 use Rattle.site_runs.specs.Runs.{TakesMessage, Finds, Writes, WritesDelta, Step}
 use Rattle.site_runs.specs.Outcomes.{HadMemory, HadMemoryForAll, IsWhole}
 use Rattle.site_runs.proofs.OneStored.{policy_comes, one_policy, delete_comes, one_delete, entity_comes, one_entity}
-use Rattle.site_runs.proofs.OneAnswered.{message_comes, MessagesAreOne, one_message, one_reply, one_found, one_written, delta_comes, one_delta}
+use Rattle.site_runs.proofs.OneAnswered.{message_comes, MessagesAreOne, one_message, one_reply, one_found, one_written}
+use Rattle.site_runs.proofs.OneAnswered.{delta_comes, one_delta}
 
 -- ---- a step, by its input
 

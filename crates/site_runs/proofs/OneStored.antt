@@ -1,27 +1,28 @@
 -- What is put or taken away by an input has one outcome at most, where memory suffices.
-use Rattle.std.specs.Prelude.{◌≡◌, ◌↔◌, ◌<◌, ◌++◌, ◌∷◌, [], ℕ, List, Bool, true, false, IsTrue, Option, Some, None, IsSome, Result, Ok, Err, refl}
+use Rattle.std.specs.Prelude.{◌≡◌, ◌↔◌, ◌<◌, ◌++◌, ◌∷◌, [], ℕ, List, Bool, true, false, IsTrue, Option, Some, None}
+use Rattle.std.specs.Prelude.{IsSome, Result, Ok, Err, refl}
 use Rattle.std.proofs.Common.{sym, ap, ◌∙◌, subst, arith}
 use Rattle.serde_json.specs.Data.{Data}
 use Rattle.values.specs.declared.entity_uid.EntityUid.{EntityUid}
 use Rattle.values.specs.declared.name.Name.{Name}
 use Rattle.values.specs.declared.request.Request.{Request}
-use Rattle.policy_grammar.specs.declared.policy.Policy.{Policy}
-use Rattle.text_trees.specs.declared.fault.ReadFault.{ReadFault}
-use Rattle.policy_grammar.specs.PolicyText.{IsPolicyText, IsPolicyRefused}
-use Rattle.policy_grammar.specs.Unique.{HasOneReading}
-use Rattle.ancestor_closure.specs.Hierarchy.{IsOnCycle}
-use Rattle.schema.specs.Schemas.{StatedSchema}
-use Rattle.entity_worlds.specs.declared.entity.Entity.{Entity}
-use Rattle.entities.specs.declared.fault.EntityFault.{EntityFault}
-use Rattle.entities.specs.Canonical.{canonical_text}
-use Rattle.validator.specs.declared.fault.CheckFault.{CheckFault}
-use Rattle.validator.specs.Outcomes.{refused as check_refused, PoliciesHaveOneOutcome, PassingIsNotRefused}
-use Rattle.validator.specs.Passing.{IsImpossible, IsCheckRefused}
-use Rattle.stamped_entries.specs.declared.entry.Stamp.{Stamp}
-use Rattle.stamped_store.specs.Contents.{text_under}
-use Rattle.stamped_store.specs.Greatest.{greatest_count}
-use Rattle.stamped_store.specs.Store.{Store, updates, store_of, issued, policy_name, entity_name}
-use Rattle.site.specs.passed_on.stored_world.{AreEntities, MakesCycle, MakesNoCycle, parents_with}
+use Rattle.site.specs.policy_grammar.declared.policy.Policy.{Policy}
+use Rattle.site.specs.text_trees.declared.fault.ReadFault.{ReadFault}
+use Rattle.site.specs.policy_grammar.PolicyText.{IsPolicyText, IsPolicyRefused}
+use Rattle.site.specs.policy_grammar.Unique.{HasOneReading}
+use Rattle.site.specs.ancestor_closure.Hierarchy.{IsOnCycle}
+use Rattle.site.specs.schema.Schemas.{StatedSchema}
+use Rattle.site.specs.entity_worlds.declared.entity.Entity.{Entity}
+use Rattle.site.specs.entities.declared.fault.EntityFault.{EntityFault}
+use Rattle.site.specs.entities.Canonical.{canonical_text}
+use Rattle.site.specs.validator.declared.fault.CheckFault.{CheckFault}
+use Rattle.site.specs.validator.Outcomes.{refused as check_refused, PoliciesHaveOneOutcome, PassingIsNotRefused}
+use Rattle.site.specs.validator.Passing.{IsImpossible, IsCheckRefused}
+use Rattle.site.specs.stamped_entries.declared.entry.Stamp.{Stamp}
+use Rattle.site.specs.stamped_store.Contents.{text_under}
+use Rattle.site.specs.stamped_store.Greatest.{greatest_count}
+use Rattle.site.specs.stamped_store.Store.{Store, updates, store_of, issued, policy_name, entity_name}
+use Rattle.site.specs.stored_world.Said.{AreEntities, MakesCycle, MakesNoCycle, parents_with}
 use Rattle.site.specs.declared.fault.SiteFault.{SiteFault}
 use Rattle.site.specs.declared.fault.SiteFault.TheVariants as fault
 use Rattle.site.specs.declared.outcome.Put.{Put}

@@ -2,12 +2,12 @@
 use Rattle.std.specs.Prelude.{◌≡◌, ℕ, List, [], ◌∷◌, Option, Some, None, Ok, Err}
 use Rattle.std.specs.List.{AllByRecursion}
 use Rattle.serde_json.specs.Data.{Data}
-use Rattle.authoriser.specs.declared.answer.Answer.{Answer}
+use Rattle.site.specs.authoriser.declared.answer.Answer.{Answer}
 use Rattle.json_words.specs.Json.{json_of}
-use Rattle.schema.specs.Schemas.{StatedSchema, IsSchemaOf}
-use Rattle.stamped_store.specs.Store.{Store}
+use Rattle.site.specs.schema.Schemas.{StatedSchema, IsSchemaOf}
+use Rattle.site.specs.stamped_store.Store.{Store}
 use Rattle.site.specs.Steps.{Answers}
-use Rattle.typed_readings.specs.Answers.{ErrsHarmlessly, StoredAnswersGoRight}
+use Rattle.site.specs.typed_readings.Answers.{ErrsHarmlessly, StoredAnswersGoRight}
 use Rattle.site_runs.specs.declared.input.Input.{Input}
 use Rattle.site_runs.specs.declared.input.Input.TheVariants as input
 use Rattle.site_runs.specs.declared.reply.Reply.{Reply}

@@ -4,16 +4,17 @@ use Rattle.std.specs.List.{AllByRecursion}
 use Rattle.std.proofs.Common.{sym, ap, ◌∙◌, subst, append_assoc, append-nil}
 use Rattle.serde_json.specs.Data.{Data}
 use Rattle.values.specs.declared.name.Name.{Name}
-use Rattle.policy_grammar.specs.declared.policy.Policy.{Policy}
-use Rattle.entity_worlds.specs.declared.entity.Entity.{Entity}
-use Rattle.schema.specs.Schemas.{StatedSchema}
-use Rattle.stamped_store.specs.Store.{Store, Update, updates, store_of, policy_name, entity_name}
-use Rattle.state_messages.specs.declared.update.Update.{Update as SentUpdate}
-use Rattle.state_messages.specs.Updates.{AreInRange, plain_updates, IsMessage, IsMessageFault, IsUpdateRead}
-use Rattle.site.specs.passed_on.stored_texts.{RefusesPolicy, RefusesEntity, PoliciesHaveOneReading, EntitiesHaveOneReading}
-use Rattle.state_messages.specs.Bodies.{TextsHaveOneOutcome}
-use Rattle.sync_messages.specs.declared.fault.MessageFault.{MessageFault}
-use Rattle.schema.specs.Views.{schema_view}
+use Rattle.site.specs.policy_grammar.declared.policy.Policy.{Policy}
+use Rattle.site.specs.entity_worlds.declared.entity.Entity.{Entity}
+use Rattle.site.specs.schema.Schemas.{StatedSchema}
+use Rattle.site.specs.stamped_store.Store.{Store, Update, updates, store_of, policy_name, entity_name}
+use Rattle.site.specs.state_messages.declared.update.Update.{Update as SentUpdate}
+use Rattle.site.specs.state_messages.Updates.{AreInRange, plain_updates, IsMessage, IsMessageFault, IsUpdateRead}
+use Rattle.site.specs.stored_texts.Texts.{RefusesPolicy, RefusesEntity}
+use Rattle.site.specs.stored_texts.Laws.{PoliciesHaveOneReading, EntitiesHaveOneReading}
+use Rattle.site.specs.state_messages.Bodies.{TextsHaveOneOutcome}
+use Rattle.site.specs.sync_messages.declared.fault.MessageFault.{MessageFault}
+use Rattle.site.specs.schema.Views.{schema_view}
 use Rattle.site.specs.declared.fault.SiteFault.{SiteFault}
 use Rattle.site.specs.declared.fault.SiteFault.TheVariants as fault
 use Rattle.site.specs.declared.outcome.Taken.TheVariants.{All, Short}
@@ -23,8 +24,8 @@ use Rattle.site_runs.specs.declared.input.Input.{Input}
 use Rattle.site_runs.specs.declared.input.Input.TheVariants as input
 use Rattle.site_runs.specs.declared.reply.Reply.{Reply}
 use Rattle.site_runs.specs.declared.reply.Reply.TheVariants as reply
-use Rattle.schema.specs.SchemaEntries.{SchemaEntries}
-use Rattle.site.specs.passed_on.stored_texts.{SchemaTexts}
+use Rattle.site.specs.schema.SchemaEntries.{SchemaEntries}
+use Rattle.site.specs.stored_texts.declared.texts.SchemaTexts.{SchemaTexts}
 use Rattle.site_runs.specs.Runs.{Step, Run, HoldsAfter, took_by, took, update_of_entity, updates_of_message}
 
 -- updates of a message are valid where they are in range and are read

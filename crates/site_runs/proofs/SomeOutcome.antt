@@ -1,10 +1,12 @@
 -- Each input of a site has an outcome where memory suffices, over a store that a site may hold.
-use Rattle.std.specs.Prelude.{◌≡◌, ◌↔◌, ◌<◌, ◌≤◌, ◌⊎◌, ◌++◌, ◌∷◌, [], ℕ, List, length, map, Bool, true, false, IsTrue, Contains, if◌then◌else◌}
+use Rattle.std.specs.Prelude.{◌≡◌, ◌↔◌, ◌<◌, ◌≤◌, ◌⊎◌, ◌++◌, ◌∷◌, [], ℕ, List, length, map, Bool, true, false, IsTrue}
+use Rattle.std.specs.Prelude.{Contains, if◌then◌else◌}
 use Rattle.std.specs.Prelude.{Option, Some, None, IsSome, option_and_then, option_map, Result, Ok, Err, refl}
 use Rattle.std.specs.List.{AllZip, flat_map}
 use Rattle.std.proofs.Common.{sym, ap, ◌∙◌, subst, arith, inl, inr}
 use Rattle.std.proofs.lemmas.Bool.{cases_lt}
-use Rattle.std.proofs.lemmas.List.Elements.{All-contains, All-from_recursion, Contains-append_left, Contains-append_right}
+use Rattle.std.proofs.lemmas.List.Elements.{All-contains, All-from_recursion, Contains-append_left}
+use Rattle.std.proofs.lemmas.List.Elements.{Contains-append_right}
 use Rattle.std.specs.FinMap.{get}
 use Rattle.std.specs.Ordering.{is_eq}
 use Rattle.serde_json.specs.Data.{Data}
@@ -14,39 +16,43 @@ use Rattle.values.specs.declared.name.Name.{Name}
 use Rattle.values.specs.declared.name.Name.TheVariants as name
 use Rattle.values.specs.declared.request.Request.{Request}
 use Rattle.values.specs.Names.{uid_cmp}
-use Rattle.policy_grammar.specs.declared.policy.Policy.{Policy}
-use Rattle.text_trees.specs.declared.fault.ReadFault.TheVariants.{BadId}
-use Rattle.policy_grammar.specs.Limits.{IsId}
-use Rattle.ancestor_closure.specs.Decided.{HaveAllParents, PathsAreDecided, reaches}
-use Rattle.ancestor_closure.specs.Deciding.{Contains-cases, Contains-here, Contains-none, Contains-there, same_uid}
-use Rattle.authoriser.specs.declared.answer.Answer.{Answer}
-use Rattle.authoriser.specs.Answers.{NamedPolicy}
-use Rattle.schema.specs.Schemas.{StatedSchema, IsSchemaOf}
-use Rattle.entity_worlds.specs.declared.entity.Entity.{Entity}
-use Rattle.entities.specs.declared.fault.EntityFault.{EntityFault}
-use Rattle.entities.specs.declared.fault.EntityFault.TheVariants.{BadShape}
-use Rattle.entities.specs.Canonical.{canonical_text}
-use Rattle.entities.specs.Laws.{RequestOrRefusal}
-use Rattle.entity_worlds.specs.declared.data.EntityData.{EntityData}
-use Rattle.entity_worlds.specs.Entities.{action_or, kept_parents}
-use Rattle.validator.specs.Outcomes.{passes, refused as check_refused, IsCheckResult, PoliciesHaveOneOutcome, PassingIsNotRefused, CheckResult as CheckOutcome}
-use Rattle.validator.specs.Passing.{Passes, IsImpossible}
-use Rattle.stamped_entries.specs.declared.entry.Stamp.{Stamp}
-use Rattle.stamped_store.specs.Contents.{text_under, policy_text, entities_of}
-use Rattle.stamped_store.specs.Deltas as deltas
-use Rattle.stamped_store.specs.EntryOrder.{PlainEntry, entry_cmp}
-use Rattle.stamped_store.specs.Greatest.{IsGreatestAt, greatest_count}
-use Rattle.stamped_store.specs.Store.{Store, Update, IsStoreOf, updates, store_of, issue, issued, policy_name, entity_name}
-use Rattle.site.specs.passed_on.stored_world.{ArePolicies, AreEntities, IsReadFrom, IsAnswerOver, MakesCycle, MakesNoCycle, data_of, parents_with, world_under}
-use Rattle.sync_messages.specs.declared.fault.MessageFault.{MessageFault}
-use Rattle.sync_messages.specs.Summaries.{summary_text, summary_stated}
-use Rattle.state_messages.specs.declared.bodies.BodyFault.{BodyFault}
-use Rattle.state_messages.specs.declared.update.Update.{Update as SentUpdate}
-use Rattle.state_messages.specs.Messages.{state_text, delta_text}
-use Rattle.state_messages.specs.Updates.{AreValid, IsReadable, IsValid, plain_updates, IsMessageFault, stamped}
-use Rattle.sync_messages.specs.Summaries.{IsStamped}
-use Rattle.site.specs.passed_on.stored_texts.{PoliciesHaveOneReading}
-use Rattle.site.specs.passed_on.stored_texts.{RefusesPolicy, RefusesEntity, entity_of_text, no_policy as text_of_none, not_passing as text_of_failing}
+use Rattle.site.specs.policy_grammar.declared.policy.Policy.{Policy}
+use Rattle.site.specs.text_trees.declared.fault.ReadFault.TheVariants.{BadId}
+use Rattle.site.specs.policy_grammar.Limits.{IsId}
+use Rattle.site.specs.ancestor_closure.Decided.{HaveAllParents, PathsAreDecided, reaches}
+use Rattle.site.specs.ancestor_closure.Deciding.{Contains-cases, Contains-here, Contains-none, Contains-there, same_uid}
+use Rattle.site.specs.authoriser.declared.answer.Answer.{Answer}
+use Rattle.site.specs.authoriser.Answers.{NamedPolicy}
+use Rattle.site.specs.schema.Schemas.{StatedSchema, IsSchemaOf}
+use Rattle.site.specs.entity_worlds.declared.entity.Entity.{Entity}
+use Rattle.site.specs.entities.declared.fault.EntityFault.{EntityFault}
+use Rattle.site.specs.entities.declared.fault.EntityFault.TheVariants.{BadShape}
+use Rattle.site.specs.entities.Canonical.{canonical_text}
+use Rattle.site.specs.entities.Laws.{RequestOrRefusal}
+use Rattle.site.specs.entity_worlds.declared.data.EntityData.{EntityData}
+use Rattle.site.specs.entity_worlds.Entities.{action_or, kept_parents}
+use Rattle.site.specs.validator.Outcomes.{passes, refused as check_refused, IsCheckResult, PoliciesHaveOneOutcome}
+use Rattle.site.specs.validator.Outcomes.{PassingIsNotRefused, CheckResult as CheckOutcome}
+use Rattle.site.specs.validator.Passing.{Passes, IsImpossible}
+use Rattle.site.specs.stamped_entries.declared.entry.Stamp.{Stamp}
+use Rattle.site.specs.stamped_store.Contents.{text_under, policy_text, entities_of}
+use Rattle.site.specs.stamped_store.Deltas as deltas
+use Rattle.site.specs.stamped_store.EntryOrder.{PlainEntry, entry_cmp}
+use Rattle.site.specs.stamped_store.Greatest.{IsGreatestAt, greatest_count}
+use Rattle.site.specs.stamped_store.Store.{Store, Update, IsStoreOf, updates, store_of, issue, issued, policy_name}
+use Rattle.site.specs.stamped_store.Store.{entity_name}
+use Rattle.site.specs.stored_world.Said.{ArePolicies, AreEntities, IsReadFrom, IsAnswerOver, MakesCycle, MakesNoCycle}
+use Rattle.site.specs.stored_world.Said.{data_of, parents_with, world_under}
+use Rattle.site.specs.sync_messages.declared.fault.MessageFault.{MessageFault}
+use Rattle.site.specs.sync_messages.Summaries.{summary_text, summary_stated}
+use Rattle.site.specs.state_messages.declared.bodies.BodyFault.{BodyFault}
+use Rattle.site.specs.state_messages.declared.update.Update.{Update as SentUpdate}
+use Rattle.site.specs.state_messages.Messages.{state_text, delta_text}
+use Rattle.site.specs.state_messages.Updates.{AreValid, IsReadable, IsValid, plain_updates, IsMessageFault, stamped}
+use Rattle.site.specs.sync_messages.Summaries.{IsStamped}
+use Rattle.site.specs.stored_texts.Laws.{PoliciesHaveOneReading}
+use Rattle.site.specs.stored_texts.Texts.{RefusesPolicy, RefusesEntity, entity_of_text, no_policy as text_of_none}
+use Rattle.site.specs.stored_texts.Texts.{not_passing as text_of_failing}
 use Rattle.site.specs.declared.fault.SiteFault.{SiteFault}
 use Rattle.site.specs.declared.fault.SiteFault.TheVariants as fault
 use Rattle.site.specs.declared.outcome.Taken as taking

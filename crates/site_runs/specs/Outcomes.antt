@@ -1,8 +1,8 @@
 -- That each input of a site comes to one thing wherever memory suffices: one reply, and one store behind it.
 -- A rule of this product: what is refused for want of memory is told as such, and nothing else is left open.
 use Rattle.std.specs.Prelude.{◌≡◌, ℕ, List, Result, Ok, Err}
-use Rattle.schema.specs.Schemas.{StatedSchema}
-use Rattle.stamped_store.specs.Store.{Store}
+use Rattle.site.specs.schema.Schemas.{StatedSchema}
+use Rattle.site.specs.stamped_store.Store.{Store}
 use Rattle.site.specs.declared.fault.SiteFault.{SiteFault}
 use Rattle.site.specs.declared.fault.SiteFault.TheVariants as fault
 use Rattle.site.specs.declared.outcome.Taken as taking

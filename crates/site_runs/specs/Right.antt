@@ -2,9 +2,9 @@
 -- Source: cedar-spec, cedar-lean/Cedar/Thm/Validation.lean (`validation_is_sound`).
 use Rattle.std.specs.Prelude.{ℕ, List, Ok}
 use Rattle.std.specs.List.{AllByRecursion}
-use Rattle.schema.specs.Schemas.{StatedSchema, IsSchemaOf}
-use Rattle.stamped_store.specs.Store.{Store}
-use Rattle.typed_readings.specs.Answers.{ErrsHarmlessly}
+use Rattle.site.specs.schema.Schemas.{StatedSchema, IsSchemaOf}
+use Rattle.site.specs.stamped_store.Store.{Store}
+use Rattle.site.specs.typed_readings.Answers.{ErrsHarmlessly}
 use Rattle.site_runs.specs.declared.input.Input.{Input}
 use Rattle.site_runs.specs.declared.reply.Reply.{Reply}
 use Rattle.site_runs.specs.declared.reply.Reply.TheVariants as reply

@@ -3,20 +3,20 @@
 -- its updates are taken in order; what is refused, and what is asked, changes nothing.
 use Rattle.std.specs.Prelude.{◌≡◌, ℕ, List, [], ◌∷◌, ◌++◌, take, Option, Some, None, option_map, Result, Ok, Err}
 use Rattle.json_words.specs.Json.{json_of}
-use Rattle.policy_grammar.specs.declared.policy.Policy.{Policy}
-use Rattle.schema.specs.Schemas.{StatedSchema}
-use Rattle.entity_worlds.specs.declared.entity.Entity.{Entity}
-use Rattle.entities.specs.declared.fault.EntityFault.{EntityFault}
-use Rattle.entities.specs.Canonical.{canonical_text}
-use Rattle.stamped_entries.specs.declared.entry.Stamp.{Stamp}
-use Rattle.stamped_store.specs.Deltas as deltas
-use Rattle.stamped_store.specs.Store.{Store, Update, updates, issued, policy_name, entity_name}
-use Rattle.sync_messages.specs.declared.fault.MessageFault.{MessageFault}
-use Rattle.sync_messages.specs.Summaries.{summary_text, summary_stated}
-use Rattle.state_messages.specs.declared.update.Update.{Update as SentUpdate}
-use Rattle.state_messages.specs.Messages.{state_text, delta_text, updates_stated}
-use Rattle.state_messages.specs.Updates.{IsMessage, IsMessageFault, plain_updates}
-use Rattle.site.specs.passed_on.stored_texts.{RefusesPolicy, RefusesEntity}
+use Rattle.site.specs.policy_grammar.declared.policy.Policy.{Policy}
+use Rattle.site.specs.schema.Schemas.{StatedSchema}
+use Rattle.site.specs.entity_worlds.declared.entity.Entity.{Entity}
+use Rattle.site.specs.entities.declared.fault.EntityFault.{EntityFault}
+use Rattle.site.specs.entities.Canonical.{canonical_text}
+use Rattle.site.specs.stamped_entries.declared.entry.Stamp.{Stamp}
+use Rattle.site.specs.stamped_store.Deltas as deltas
+use Rattle.site.specs.stamped_store.Store.{Store, Update, updates, issued, policy_name, entity_name}
+use Rattle.site.specs.sync_messages.declared.fault.MessageFault.{MessageFault}
+use Rattle.site.specs.sync_messages.Summaries.{summary_text, summary_stated}
+use Rattle.site.specs.state_messages.declared.update.Update.{Update as SentUpdate}
+use Rattle.site.specs.state_messages.Messages.{state_text, delta_text, updates_stated}
+use Rattle.site.specs.state_messages.Updates.{IsMessage, IsMessageFault, plain_updates}
+use Rattle.site.specs.stored_texts.Texts.{RefusesPolicy, RefusesEntity}
 use Rattle.site.specs.declared.fault.SiteFault.{SiteFault}
 use Rattle.site.specs.declared.fault.SiteFault.TheVariants as fault
 use Rattle.site.specs.declared.outcome.Taken as taking

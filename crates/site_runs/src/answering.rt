@@ -2,12 +2,12 @@
 ghost use Rattle.std.specs.Prelude.{◌≡◌, ◌++◌, IfOk, IfErr, OnErr};
 ghost use Rattle.std.specs.List.{AllByRecursion};
 ghost use Rattle.json_words.specs.Json.{json_of};
-ghost use Rattle.schema.specs.Views.{schema_view};
-ghost use Rattle.stamped_store.specs.Deltas.{summary_of};
-ghost use Rattle.stamped_store.specs.Store.{store_of, updates};
-ghost use Rattle.sync_messages.specs.Summaries.{summary_text};
-ghost use Rattle.state_messages.specs.Messages.{state_text};
-ghost use Rattle.typed_readings.specs.Answers.{ErrsHarmlessly};
+ghost use Rattle.site.specs.schema.Views.{schema_view};
+ghost use Rattle.site.specs.stamped_store.Deltas.{summary_of};
+ghost use Rattle.site.specs.stamped_store.Store.{store_of, updates};
+ghost use Rattle.site.specs.sync_messages.Summaries.{summary_text};
+ghost use Rattle.site.specs.state_messages.Messages.{state_text};
+ghost use Rattle.site.specs.typed_readings.Answers.{ErrsHarmlessly};
 ghost use Rattle.site.specs.Admitted.{IsValidUnder};
 ghost use Rattle.site.specs.Seen.{schema_of, store_in, IsSameSite};
 ghost use Rattle.site.specs.Steps.{PutsEntity, Answers};
@@ -18,18 +18,18 @@ ghost use Rattle.site_runs.specs.Runs.{Step, Run, took};
 use crate::input::Input;
 use crate::laws::runs_go_right;
 use crate::reply::{Found, Reply};
-use authoriser::Answer;
-use entities::{Entity, EntityFault};
 use json_words::read_json;
 use plain::{Items, NoMemory, Text};
-use policy_grammar::Policy;
-use schema::Schema;
+use site::authoriser::Answer;
+use site::entities::{Entity, EntityFault};
+use site::policy_grammar::Policy;
+use site::schema::Schema;
+use site::stamped_store::Stamp;
+use site::stamped_store::laws::updates_have_one_store;
+use site::state_messages::{Update, read_message};
+use site::sync_messages::{MessageFault, Summary, read_summary};
 use site::{SchemaTexts, Site, SiteFault, Taken};
-use stamped_store::Stamp;
-use stamped_store::laws::updates_have_one_store;
-use state_messages::{Update, read_message};
 use std::alloc::Global;
-use sync_messages::{MessageFault, Summary, read_summary};
 
 /// Puts the entity that bytes state, as its canonical text: JSON in UTF-8. Nothing is copied that is not kept.
 ///

@@ -1,28 +1,28 @@
 //! Laws of runs, each the contract of a function that does nothing.
 ghost use Rattle.std.specs.Prelude.{◌≡◌, ◌↔◌, ℕ, List, Contains};
 ghost use Rattle.values.specs.declared.request.Request.{Request};
-ghost use Rattle.authoriser.specs.declared.answer.Answer.{Answer};
-ghost use Rattle.schema.specs.SchemaEntries.{SchemaEntries as SchemaKept};
-ghost use Rattle.schema.specs.Schemas.{StatedSchema, IsSchemaOf};
-ghost use Rattle.schema.specs.Views.{schema_view};
-ghost use Rattle.stamped_store.specs.Store.{Store, Update};
-ghost use Rattle.site.specs.passed_on.stored_world.{IsAnswerOver};
-ghost use Rattle.state_messages.specs.Messages.{state_text};
+ghost use Rattle.site.specs.authoriser.declared.answer.Answer.{Answer};
+ghost use Rattle.site.specs.schema.SchemaEntries.{SchemaEntries as SchemaKept};
+ghost use Rattle.site.specs.schema.Schemas.{StatedSchema, IsSchemaOf};
+ghost use Rattle.site.specs.schema.Views.{schema_view};
+ghost use Rattle.site.specs.stamped_store.Store.{Store, Update};
+ghost use Rattle.site.specs.stored_world.Said.{IsAnswerOver};
+ghost use Rattle.site.specs.state_messages.Messages.{state_text};
 ghost use Rattle.site.specs.Admitted.{IsPolicyUnder, IsEntityUnder};
 ghost use Rattle.site_runs.specs.Outcomes.{InputsHaveAnOutcome, InputsHaveOneOutcome};
 ghost use Rattle.site_runs.specs.Right.{RunsGoRight};
 ghost use Rattle.site_runs.specs.Runs.{HoldsAfter};
 
-use ancestor_closure::laws::paths_are_decided;
-use entities::{Entity, requests_have_one_outcome};
-use policy_grammar::{Policy, texts_have_one_reading};
+use site::ancestor_closure::laws::paths_are_decided;
+use site::entities::{Entity, requests_have_one_outcome};
+use site::policy_grammar::{Policy, texts_have_one_reading};
+use site::stamped_store::laws::{contents_are_told, stamps_are_issued, updates_have_one_store};
+use site::state_messages::messages_have_one_outcome;
+use site::typed_readings::stored_answers_go_right;
+use site::validator::policies_have_one_outcome;
 use site::{
     SchemaTexts, requests_have_one_answer, stored_texts_have_one_reading, stores_have_one_reading,
 };
-use stamped_store::laws::{contents_are_told, stamps_are_issued, updates_have_one_store};
-use state_messages::messages_have_one_outcome;
-use typed_readings::stored_answers_go_right;
-use validator::policies_have_one_outcome;
 
 /// Sites of one schema that had and took equal sets of updates hold equal stores, whatever their names, and in
 /// whatever order, as often and in whatever groups the updates came; so they write equal states, and answer a request

@@ -1,12 +1,12 @@
 //! What a run leaves, as a law: the contract of a function that does nothing.
 ghost use Rattle.std.specs.Prelude.{◌≡◌, ◌++◌, ℕ, List};
-ghost use Rattle.schema.specs.Schemas.{StatedSchema};
-ghost use Rattle.stamped_store.specs.Store.{Store, store_of, updates};
+ghost use Rattle.site.specs.schema.Schemas.{StatedSchema};
+ghost use Rattle.site.specs.stamped_store.Store.{Store, store_of, updates};
 ghost use Rattle.site_runs.specs.declared.input.Input.{Input};
 ghost use Rattle.site_runs.specs.declared.reply.Reply.{Reply};
 ghost use Rattle.site_runs.specs.Runs.{Run, took};
 
-use stamped_store::laws::updates_have_one_store;
+use site::stamped_store::laws::updates_have_one_store;
 
 /// A run leaves the store of the updates that were there and of those that it took, whoever drove it.
 pub fn runs_leave_what_they_took()

@@ -14,9 +14,13 @@ mod reply;
 pub use answering::{
     authorize_bytes, delta_bytes, put_entity_bytes, run, state_bytes, summary_bytes, take_bytes,
 };
-pub use entities::EntityFault;
 pub use input::Input;
 pub use laws::{equal_updates_leave_equal_stores, inputs_have_one_outcome, runs_go_right};
 pub use leaving::runs_leave_what_they_took;
 pub use reply::{Found, Reply};
-pub use site::{Put, Site, SiteFault, Taken};
+pub use site;
+pub use site::entities::EntityFault;
+pub use site::{
+    Put, Site, SiteFault, Taken, canonical_texts, entities, policy_grammar, schema, stamped_store,
+    state_messages, stored_texts, sync_messages, uid_json,
+};

@@ -1,9 +1,9 @@
 //! What a site answers.
 
-use authoriser::Answer;
 use plain::{Items, Text};
+use site::authoriser::Answer;
+use site::stamped_store::Stamp;
 use site::{Put, SiteFault, Taken};
-use stamped_store::Stamp;
 
 /// A policy that was found.
 #[derive(Drop)]

@@ -2,7 +2,7 @@
 use Rattle.std.specs.Prelude.{◌≡◌, ◌<◌, ◌⊎◌, ◌∷◌, ◌++◌, [], ℕ, zero, suc, List, length, slice_get, Some, refl}
 use Rattle.std.proofs.Common.{sym, ap, ◌∙◌, subst, arith, inl, inr}
 use Rattle.std.proofs.lemmas.List.{length-append}
-use Rattle.stamped_store.specs.SiteNames.{IsSiteName, SiteDigitsAreNames, five_digits}
+use Rattle.site_runs.specs.stamped_store.SiteNames.{IsSiteName, SiteDigitsAreNames, five_digits}
 use Rattle.site_worlds.specs.Sites.{SiteName, AreSites, first_sites}
 
 -- what stands at a place stood there before, or is the last

@@ -1,12 +1,13 @@
 -- Events and answers together fix a world.
-use Rattle.std.proofs.Common.{◌≡◌, ◌∙◌, ℕ, List, [], ◌∷◌, ◌++◌, Option, Some, None, Result, Ok, Err, refl, sym, ap, subst}
+use Rattle.std.proofs.Common.{◌≡◌, ◌∙◌, ℕ, List, [], ◌∷◌, ◌++◌, Option, Some, None, Result, Ok, Err, refl, sym, ap}
+use Rattle.std.proofs.Common.{subst}
 use Rattle.std.specs.Prelude.{length, option_map, slice_get}
-use Rattle.schema.specs.Schemas.{StatedSchema}
-use Rattle.stamped_store.specs.Deltas as deltas
-use Rattle.stamped_store.specs.Store.{Store, store_of, updates}
-use Rattle.sync_messages.specs.Summaries.{summary_text, summary_stated}
-use Rattle.state_messages.specs.Messages.{state_text, delta_text}
-use Rattle.site.specs.declared.fault.SiteFault.{SiteFault}
+use Rattle.site_runs.specs.schema.Schemas.{StatedSchema}
+use Rattle.site_runs.specs.stamped_store.Deltas as deltas
+use Rattle.site_runs.specs.stamped_store.Store.{Store, store_of, updates}
+use Rattle.site_runs.specs.sync_messages.Summaries.{summary_text, summary_stated}
+use Rattle.site_runs.specs.state_messages.Messages.{state_text, delta_text}
+use Rattle.site_runs.specs.site.declared.fault.SiteFault.{SiteFault}
 use Rattle.site_runs.specs.declared.input.Input.{Input}
 use Rattle.site_runs.specs.declared.input.Input.TheVariants as input
 use Rattle.site_runs.specs.declared.reply.Reply.{Reply}
@@ -18,7 +19,8 @@ use Rattle.site_worlds.specs.declared.event.Event.{Event}
 use Rattle.site_worlds.specs.declared.event.EventReply.{EventReply}
 use Rattle.site_worlds.specs.declared.event.EventReply.TheVariants.{Replied, Message, Summary}
 use Rattle.site_worlds.specs.Sites.{SiteName, SentSummary, World, numbered, start}
-use Rattle.site_worlds.specs.Worlds.{input_of, answer_among, answer_of, after, HappensAt, Happens, Leads, AnswersFixWorlds}
+use Rattle.site_worlds.specs.Worlds.{input_of, answer_among, answer_of, after, HappensAt, Happens, Leads}
+use Rattle.site_worlds.specs.Worlds.{AnswersFixWorlds}
 
 replied_same : (r x : Reply) → Replied r ≡ Replied x → r ≡ x
 replied_same r x e = cc

@@ -1,5 +1,6 @@
 -- What a store has after updates entered.
-use Rattle.std.specs.Prelude.{◌≡◌, ◌≤◌, ◌⊎◌, ◌&&◌, ◌∷◌, ◌++◌, [], ℕ, zero, suc, List, set, slice_get, Bool, true, false, T, cond}
+use Rattle.std.specs.Prelude.{◌≡◌, ◌≤◌, ◌⊎◌, ◌&&◌, ◌∷◌, ◌++◌, [], ℕ, zero, suc, List, set, slice_get, Bool, true, false}
+use Rattle.std.specs.Prelude.{T, cond}
 use Rattle.std.specs.Prelude.{Option, Some, None, Contains, refl}
 use Rattle.std.proofs.Common.{ap, ◌∙◌, subst, arith, inl, inr}
 use Rattle.std.specs.Cmp.{tied_itself}
@@ -9,15 +10,16 @@ use Rattle.std.specs.Ordering.{is_eq, is_lt, ordering_reverse}
 use Rattle.std.specs.declared.cmp.Ordering.{Ordering}
 use Rattle.std.specs.declared.cmp.Ordering.TheVariants.{Less, Equal, Greater}
 use Rattle.std.proofs.lemmas.List.Elements.{Contains-append_cases}
-use Rattle.stamped_store.proofs.GreatestsBy.{by_place}
+use Rattle.site_runs.proofs.of_stamped_store.GreatestsBy.{by_place}
 use Rattle.values.specs.declared.name.Name.{Name}
 use Rattle.values.specs.Names.{name_cmp, name_cmp-IsTotalOrder}
-use Rattle.stamped_store.specs.EntryOrder.{PlainEntry, entry_cmp, greater_entry}
-use Rattle.stamped_store.specs.Greatest.{IsGreatestAt, greatest_count}
-use Rattle.stamped_store.specs.Joins.{option_below}
-use Rattle.stamped_store.specs.Store.{Store, Update, updates, store_of, IsStoreOf, plain_below, IsStoreBelow, issue, issued}
-use Rattle.stamped_store.proofs.Greatests.{greater_entry_is_join, count_le}
-use Rattle.stamped_store.proofs.Lifted.{itself, chains}
+use Rattle.site_runs.specs.stamped_store.EntryOrder.{PlainEntry, entry_cmp, greater_entry}
+use Rattle.site_runs.specs.stamped_store.Greatest.{IsGreatestAt, greatest_count}
+use Rattle.site_runs.specs.stamped_store.Joins.{option_below}
+use Rattle.site_runs.specs.stamped_store.Store.{Store, Update, updates, store_of, IsStoreOf, plain_below, IsStoreBelow}
+use Rattle.site_runs.specs.stamped_store.Store.{issue, issued}
+use Rattle.site_runs.proofs.of_stamped_store.Greatests.{greater_entry_is_join, count_le}
+use Rattle.site_runs.proofs.of_stamped_store.Lifted.{itself, chains}
 
 -- the store has this entry at this name
 abbrev pub Has : Store → Update → Type 0

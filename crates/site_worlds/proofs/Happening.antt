@@ -1,16 +1,18 @@
 -- One event keeps the invariant, whatever it is and however it is answered.
-use Rattle.std.specs.Prelude.{◌≡◌, ◌∷◌, ◌++◌, [], ℕ, zero, suc, true, List, map, slice_get, Option, Some, None, option_map, Result, Ok, Err, Contains, refl}
+use Rattle.std.specs.Prelude.{◌≡◌, ◌∷◌, ◌++◌, [], ℕ, zero, suc, true, List, map, slice_get, Option, Some, None}
+use Rattle.std.specs.Prelude.{option_map, Result, Ok, Err, Contains, refl}
 use Rattle.std.proofs.Common.{sym, ap, ◌∙◌, subst, append-nil}
 use Rattle.std.specs.FinMap.{get}
 use Rattle.values.specs.declared.name.Name.{Name}
-use Rattle.schema.specs.Schemas.{StatedSchema}
-use Rattle.stamped_store.specs.Deltas as deltas
-use Rattle.stamped_store.specs.EntryOrder.{PlainEntry}
-use Rattle.stamped_store.specs.Store.{Store, Update, updates, store_of}
-use Rattle.sync_messages.specs.declared.fault.MessageFault.{MessageFault}
-use Rattle.sync_messages.specs.Summaries.{AreStamped, HaveTexts, IsWritten, ascend, summary_text, summary_stated}
-use Rattle.state_messages.specs.Messages.{state_text, delta_text, updates_stated}
-use Rattle.state_messages.specs.Updates.{AreInRange}
+use Rattle.site_runs.specs.schema.Schemas.{StatedSchema}
+use Rattle.site_runs.specs.stamped_store.Deltas as deltas
+use Rattle.site_runs.specs.stamped_store.EntryOrder.{PlainEntry}
+use Rattle.site_runs.specs.stamped_store.Store.{Store, Update, updates, store_of}
+use Rattle.site_runs.specs.sync_messages.declared.fault.MessageFault.{MessageFault}
+use Rattle.site_runs.specs.sync_messages.Summaries.{AreStamped, HaveTexts, IsWritten, ascend, summary_text}
+use Rattle.site_runs.specs.sync_messages.Summaries.{summary_stated}
+use Rattle.site_runs.specs.state_messages.Messages.{state_text, delta_text, updates_stated}
+use Rattle.site_runs.specs.state_messages.Updates.{AreInRange}
 use Rattle.site_runs.specs.declared.input.Input.{Input}
 use Rattle.site_runs.specs.declared.input.Input.TheVariants as input
 use Rattle.site_runs.specs.declared.reply.Reply.{Reply}
@@ -21,13 +23,16 @@ use Rattle.site_worlds.specs.declared.event.Deed.TheVariants as deed
 use Rattle.site_worlds.specs.declared.event.Event.{Event}
 use Rattle.site_worlds.specs.declared.event.EventReply.{EventReply}
 use Rattle.site_worlds.specs.declared.event.EventReply.TheVariants.{Unknown}
-use Rattle.stamped_store.specs.SiteNames.{IsSiteName}
-use Rattle.site_worlds.specs.Sites.{SiteName, AreSites, numbered, set_numbered, SentSummary, SentMessage, World, content, part_since, Issue}
+use Rattle.site_runs.specs.stamped_store.SiteNames.{IsSiteName}
+use Rattle.site_worlds.specs.Sites.{SiteName, AreSites, numbered, set_numbered, SentSummary, SentMessage, World}
+use Rattle.site_worlds.specs.Sites.{content, part_since, Issue}
 use Rattle.site_worlds.specs.Worlds.{HasTexts, input_of, answer_of, after, IsStepAt, HappensAt, at_site, issues_of}
 use Rattle.site_worlds.proofs.Growing.{Has, StoreLaws, has_update}
-use Rattle.site_worlds.proofs.Keeping.{AllIssued, Keeps, keeps_issued, keeps_same, keeps_taken, keeps_message, keeps_summary}
-use Rattle.state_messages.specs.Texts.{IsText, AreTexts}
-use Rattle.site_worlds.proofs.StepFacts.{IsFit, Comes, nothing, one, CommandLaws, step_leaves, unchanged, policy_put, policy_deleted, entity_put, entity_deleted, from_message, all_of}
+use Rattle.site_worlds.proofs.Keeping.{AllIssued, Keeps, keeps_issued, keeps_same, keeps_taken, keeps_message}
+use Rattle.site_worlds.proofs.Keeping.{keeps_summary}
+use Rattle.site_runs.specs.state_messages.Texts.{IsText, AreTexts}
+use Rattle.site_worlds.proofs.StepFacts.{IsFit, Comes, nothing, one, CommandLaws, step_leaves, unchanged, policy_put}
+use Rattle.site_worlds.proofs.StepFacts.{policy_deleted, entity_put, entity_deleted, from_message, all_of}
 
 -- what was made, as bytes
 abbrev pub text_since : List ℕ → Store → Option SentSummary → List ℕ

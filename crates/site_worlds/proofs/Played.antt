@@ -1,14 +1,15 @@
 -- What the code plays is a world.
-use Rattle.std.specs.Prelude.{◌≡◌, ◌≤◌, ◌<◌, ◌+◌, ◌-◌, get_or, ◌∷◌, ◌++◌, [], ℕ, zero, suc, List, length, map, set, slice_get, Option, Some, None, option_map, refl}
+use Rattle.std.specs.Prelude.{◌≡◌, ◌≤◌, ◌<◌, ◌+◌, ◌-◌, get_or, ◌∷◌, ◌++◌, [], ℕ, zero, suc, List, length, map, set}
+use Rattle.std.specs.Prelude.{slice_get, Option, Some, None, option_map, refl}
 use Rattle.std.proofs.Common.{sym, ap, ◌∙◌, subst, arith}
 use Rattle.std.proofs.lemmas.List.{length-map, map-append}
 use Rattle.std.proofs.lemmas.Option.{slice_get_past, slice_get_read}
-use Rattle.schema.specs.Schemas.{StatedSchema}
+use Rattle.site_runs.specs.schema.Schemas.{StatedSchema}
 use Rattle.std.specs.FinMap.{empty}
-use Rattle.stamped_store.specs.SiteNames.{five_digits}
-use Rattle.stamped_store.specs.Store.{Store}
-use Rattle.site.specs.Seen.{Seen, schema_of, store_in, IsSameSite}
-use Rattle.schema.specs.Views.{schema_view}
+use Rattle.site_runs.specs.stamped_store.SiteNames.{five_digits}
+use Rattle.site_runs.specs.stamped_store.Store.{Store}
+use Rattle.site_runs.specs.site.Seen.{Seen, schema_of, store_in, IsSameSite}
+use Rattle.site_runs.specs.schema.Views.{schema_view}
 use Rattle.site_runs.specs.declared.input.Input.{Input}
 use Rattle.site_runs.specs.declared.input.Input.TheVariants as input
 use Rattle.site_runs.specs.declared.reply.Reply.{Reply}
@@ -18,8 +19,10 @@ use Rattle.site_worlds.specs.declared.event.Deed.TheVariants as deed
 use Rattle.site_worlds.specs.declared.event.Event.{Event}
 use Rattle.site_worlds.specs.declared.event.EventReply.{EventReply}
 use Rattle.site_worlds.specs.declared.event.EventReply.TheVariants.{Unknown}
-use Rattle.site_worlds.specs.Sites.{SiteName, first_sites, numbered, set_numbered, SentSummary, SentMessage, World, start}
-use Rattle.site_worlds.specs.Worlds.{HasTexts, input_of, answer_among, message_bytes, summary_bytes, message_made, summary_made, after, HappensAt, Happens, Leads}
+use Rattle.site_worlds.specs.Sites.{SiteName, first_sites, numbered, set_numbered, SentSummary, SentMessage, World}
+use Rattle.site_worlds.specs.Sites.{start}
+use Rattle.site_worlds.specs.Worlds.{HasTexts, input_of, answer_among, message_bytes, summary_bytes, message_made}
+use Rattle.site_worlds.specs.Worlds.{summary_made, after, HappensAt, Happens, Leads}
 use Rattle.site_worlds.specs.Played.{IsSiteOf, AreSitesOf, IsShown, IsPlayed}
 use Rattle.site_worlds.specs.inner.Playing.{input_among, AnswersDeed, Plays}
 

@@ -1,19 +1,20 @@
 -- What holds in every world, from the invariant.
-use Rattle.std.specs.Prelude.{◌≡◌, ◌∷◌, ◌++◌, [], ℕ, List, length, slice_get, Option, Some, None, option_map, Result, Ok, Err, Contains, refl}
+use Rattle.std.specs.Prelude.{◌≡◌, ◌∷◌, ◌++◌, [], ℕ, List, length, slice_get, Option, Some, None, option_map, Result}
+use Rattle.std.specs.Prelude.{Ok, Err, Contains, refl}
 use Rattle.std.proofs.Common.{sym, ap, ◌∙◌, subst, append_assoc, append-nil}
-use Rattle.schema.specs.Schemas.{StatedSchema}
-use Rattle.policy_grammar.specs.declared.policy.Policy.{Policy}
-use Rattle.entity_worlds.specs.declared.entity.Entity.{Entity}
-use Rattle.stamped_store.specs.Deltas.{delta, summary_of, HaveOneEntryForAStamp}
-use Rattle.stamped_store.specs.Store.{Store, Update, updates, store_of, joined_stores, IsStoreBelow}
-use Rattle.sync_messages.specs.Summaries.{summary_stated}
-use Rattle.state_messages.specs.declared.update.Update.{Update as SentUpdate}
-use Rattle.state_messages.specs.Messages.{updates_stated}
-use Rattle.state_messages.specs.Updates.{AreInRange, AreValid, IsValid, plain_updates}
-use Rattle.site.specs.Admitted.{IsPolicyUnder, IsEntityUnder}
-use Rattle.site.specs.declared.fault.SiteFault.{SiteFault}
-use Rattle.site.specs.declared.fault.SiteFault.TheVariants as fault
-use Rattle.site.specs.declared.outcome.Taken.TheVariants.{All}
+use Rattle.site_runs.specs.schema.Schemas.{StatedSchema}
+use Rattle.site_runs.specs.policy_grammar.declared.policy.Policy.{Policy}
+use Rattle.site_runs.specs.entity_worlds.declared.entity.Entity.{Entity}
+use Rattle.site_runs.specs.stamped_store.Deltas.{delta, summary_of, HaveOneEntryForAStamp}
+use Rattle.site_runs.specs.stamped_store.Store.{Store, Update, updates, store_of, joined_stores, IsStoreBelow}
+use Rattle.site_runs.specs.sync_messages.Summaries.{summary_stated}
+use Rattle.site_runs.specs.state_messages.declared.update.Update.{Update as SentUpdate}
+use Rattle.site_runs.specs.state_messages.Messages.{updates_stated}
+use Rattle.site_runs.specs.state_messages.Updates.{AreInRange, AreValid, IsValid, plain_updates}
+use Rattle.site_runs.specs.site.Admitted.{IsPolicyUnder, IsEntityUnder}
+use Rattle.site_runs.specs.site.declared.fault.SiteFault.{SiteFault}
+use Rattle.site_runs.specs.site.declared.fault.SiteFault.TheVariants as fault
+use Rattle.site_runs.specs.site.declared.outcome.Taken.TheVariants.{All}
 use Rattle.site_runs.specs.declared.input.Input.{Input}
 use Rattle.site_runs.specs.declared.input.Input.TheVariants as input
 use Rattle.site_runs.specs.declared.reply.Reply.{Reply}
@@ -24,13 +25,15 @@ use Rattle.site_worlds.specs.declared.event.Deed.TheVariants as deed
 use Rattle.site_worlds.specs.declared.event.Event.{Event}
 use Rattle.site_worlds.specs.declared.event.EventReply.{EventReply}
 use Rattle.site_worlds.specs.declared.event.EventReply.TheVariants.{Unknown, Replied}
-use Rattle.site_worlds.specs.Sites.{SiteName, AreSites, numbered, SentSummary, SentMessage, World, content, part_since, start, Issue}
+use Rattle.site_worlds.specs.Sites.{SiteName, AreSites, numbered, SentSummary, SentMessage, World, content, part_since}
+use Rattle.site_worlds.specs.Sites.{start, Issue}
 use Rattle.site_worlds.specs.Worlds.{HappensAt, IsStepAt, Happens, Leads, input_of, issues_of, issues}
 use Rattle.site_worlds.specs.Promises.{KeepsPromises, WorldsKeepPromises}
 use Rattle.site_worlds.proofs.Growing.{StoreLaws, has_update}
 use Rattle.site_worlds.proofs.Keeping.{AllIssued, Keeps, keeps_start, exchanged, get_set_numbered, some_same}
 use Rattle.site_worlds.proofs.StepFacts.{IsFit, CommandLaws, step_leaves, all_of}
-use Rattle.site_worlds.proofs.Happening.{IsOfMessage, IsOfSummary, SendingLaws, keeps_there, message_known, message_read, noted_read}
+use Rattle.site_worlds.proofs.Happening.{IsOfMessage, IsOfSummary, SendingLaws, keeps_there, message_known}
+use Rattle.site_worlds.proofs.Happening.{message_read, noted_read}
 
 -- from the laws of the crates below
 pub record TakingLaws (schema : StatedSchema) : Type 0 where

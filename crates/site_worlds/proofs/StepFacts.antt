@@ -1,52 +1,54 @@
 -- What one step of a site does to its store, told over stores: nothing enters, an update that it issues enters, or
 -- updates that were sent to it enter. And that what is issued may be sent to any site.
-use Rattle.std.specs.Prelude.{◌≡◌, ◌<◌, ◌∷◌, ◌++◌, [], ℕ, zero, suc, List, take, Option, Some, None, IsSome, option_and_then, Result, Ok, Err, Contains, refl}
+use Rattle.std.specs.Prelude.{◌≡◌, ◌<◌, ◌∷◌, ◌++◌, [], ℕ, zero, suc, List, take, Option, Some, None, IsSome}
+use Rattle.std.specs.Prelude.{option_and_then, Result, Ok, Err, Contains, refl}
 use Rattle.std.specs.List.{AllByRecursion}
 use Rattle.std.specs.Str.{IsUtf8}
 use Rattle.std.specs.FinMap.{get}
 use Rattle.std.proofs.Common.{sym, ap, ◌∙◌, subst, arith, append-nil}
 use Rattle.std.proofs.lemmas.List.Elements.{All-contains_itself, All-weaker, recursion_from_All}
 use Rattle.serde_json.specs.Data.{Data}
-use Rattle.canonical_texts.specs.Texts.{HasUtf8}
+use Rattle.site_runs.specs.canonical_texts.Texts.{HasUtf8}
 use Rattle.json_words.specs.Json.{json_of}
 use Rattle.values.specs.declared.name.Name.{Name}
 use Rattle.values.specs.declared.name.Name.TheVariants as name
-use Rattle.uid_json.specs.Laws.{UidsAreFound}
-use Rattle.schema.specs.Schemas.{StatedSchema}
-use Rattle.schema.specs.WellFormed.{IsWellFormed}
-use Rattle.entity_worlds.specs.declared.entity.Entity.{Entity}
-use Rattle.policy_grammar.specs.declared.policy.Policy.{Policy}
+use Rattle.site_runs.specs.uid_json.Laws.{UidsAreFound}
+use Rattle.site_runs.specs.schema.Schemas.{StatedSchema}
+use Rattle.site_runs.specs.schema.WellFormed.{IsWellFormed}
+use Rattle.site_runs.specs.entity_worlds.declared.entity.Entity.{Entity}
+use Rattle.site_runs.specs.policy_grammar.declared.policy.Policy.{Policy}
 use Rattle.values.specs.declared.entity_uid.EntityUid.{EntityUid}
-use Rattle.entities.specs.declared.fault.EntityFault.{EntityFault}
-use Rattle.entities.specs.Canonical.{canonical_json, canonical_text}
-use Rattle.entities.specs.Entities.{entity_stated_in}
-use Rattle.canonical_texts.specs.Laws.{JsonTextsAreUtf8, IsReadFrom, CanonicalTextsAreJson}
-use Rattle.stored_texts.specs.Laws.{CanonicalTextsAreRead}
-use Rattle.stamped_entries.specs.declared.entry.Stamp.{Stamp}
-use Rattle.stamped_store.specs.Contents.{text_under}
-use Rattle.stamped_store.specs.EntryOrder.{PlainEntry}
-use Rattle.stamped_store.specs.Greatest.{greatest_count}
-use Rattle.stamped_store.specs.Store.{Store, Update, updates, store_of, issue, issued, policy_name, entity_name}
-use Rattle.sync_messages.specs.Summaries.{HasTexts, IsName, IsStamped}
-use Rattle.state_messages.specs.Messages.{updates_stated}
-use Rattle.state_messages.specs.Updates.{stamped, IsValid}
-use Rattle.site.specs.Admitted.{IsPolicyUnder, IsEntityUnder, entity_stated}
-use Rattle.site.specs.Steps.{most_count, Records}
-use Rattle.site.specs.declared.outcome.Taken.TheVariants.{All, Short}
-use Rattle.site.proofs.JudgingLemmas.{json_utf8}
-use Rattle.site.proofs.Paths.{entity_path}
+use Rattle.site_runs.specs.entities.declared.fault.EntityFault.{EntityFault}
+use Rattle.site_runs.specs.entities.Canonical.{canonical_json, canonical_text}
+use Rattle.site_runs.specs.entities.Entities.{entity_stated_in}
+use Rattle.site_runs.specs.canonical_texts.Laws.{JsonTextsAreUtf8, IsReadFrom, CanonicalTextsAreJson}
+use Rattle.site_runs.specs.stored_texts.Laws.{CanonicalTextsAreRead}
+use Rattle.site_runs.specs.stamped_entries.declared.entry.Stamp.{Stamp}
+use Rattle.site_runs.specs.stamped_store.Contents.{text_under}
+use Rattle.site_runs.specs.stamped_store.EntryOrder.{PlainEntry}
+use Rattle.site_runs.specs.stamped_store.Greatest.{greatest_count}
+use Rattle.site_runs.specs.stamped_store.Store.{Store, Update, updates, store_of, issue, issued, policy_name}
+use Rattle.site_runs.specs.stamped_store.Store.{entity_name}
+use Rattle.site_runs.specs.sync_messages.Summaries.{HasTexts, IsName, IsStamped}
+use Rattle.site_runs.specs.state_messages.Messages.{updates_stated}
+use Rattle.site_runs.specs.state_messages.Updates.{stamped, IsValid}
+use Rattle.site_runs.specs.site.Admitted.{IsPolicyUnder, IsEntityUnder, entity_stated}
+use Rattle.site_runs.specs.site.Steps.{most_count, Records}
+use Rattle.site_runs.specs.site.declared.outcome.Taken.TheVariants.{All, Short}
+use Rattle.site_runs.proofs.of_site.JudgingLemmas.{json_utf8}
+use Rattle.site_runs.proofs.of_site.Paths.{entity_path}
 use Rattle.site_runs.specs.declared.input.Input.{Input}
 use Rattle.site_runs.specs.declared.input.Input.TheVariants as input
 use Rattle.site_runs.specs.declared.reply.Reply.{Reply}
 use Rattle.site_runs.specs.declared.reply.Reply.TheVariants as reply
 use Rattle.site_runs.specs.Runs.{Step, Run, took_by, took, update_of_entity, updates_of_message}
-use Rattle.stamped_store.specs.SiteNames.{IsSiteName}
+use Rattle.site_runs.specs.stamped_store.SiteNames.{IsSiteName}
 use Rattle.site_worlds.specs.Sites.{SiteName}
-use Rattle.sync_messages.specs.declared.fault.MessageFault.{MessageFault}
+use Rattle.site_runs.specs.sync_messages.declared.fault.MessageFault.{MessageFault}
 use Rattle.plain.proofs.Members.{Contains-here, Contains-there, Contains-none}
-use Rattle.stamped_store.proofs.GreatestsBy.{by_place}
+use Rattle.site_runs.proofs.of_stamped_store.GreatestsBy.{by_place}
 use Rattle.site_worlds.proofs.Growing.{Has}
-use Rattle.state_messages.specs.Texts.{IsText}
+use Rattle.site_runs.specs.state_messages.Texts.{IsText}
 
 -- an update that may be sent: its name and stamp are in their ranges, its text may be read under its name, and its
 -- texts are UTF-8

@@ -1,8 +1,8 @@
 -- A world as the code shows it: the sites themselves, and the bytes of what was made.
 use Rattle.std.specs.Prelude.{◌≡◌, ℕ, List, [], ◌∷◌, map}
-use Rattle.schema.specs.Schemas.{StatedSchema}
-use Rattle.stamped_store.specs.Store.{Store}
-use Rattle.site.specs.Seen.{Seen, schema_of, store_in}
+use Rattle.site_runs.specs.schema.Schemas.{StatedSchema}
+use Rattle.site_runs.specs.stamped_store.Store.{Store}
+use Rattle.site_runs.specs.site.Seen.{Seen, schema_of, store_in}
 use Rattle.site_worlds.specs.declared.event.Event.{Event}
 use Rattle.site_worlds.specs.declared.event.EventReply.{EventReply}
 use Rattle.site_worlds.specs.Sites.{SiteName, World}

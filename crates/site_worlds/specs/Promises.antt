@@ -2,12 +2,12 @@
 -- Rules of this product. That parts of states may be exchanged in place of states is from "Delta state replicated data
 -- types" (Almeida, Shoker, Baquero 2018).
 use Rattle.std.specs.Prelude.{◌≡◌, ℕ, List, slice_get, Some, Ok, Err, Contains}
-use Rattle.schema.specs.Schemas.{StatedSchema}
-use Rattle.stamped_store.specs.Store.{Store, Update, updates, joined_stores}
-use Rattle.state_messages.specs.Messages.{updates_stated}
-use Rattle.site.specs.declared.fault.SiteFault.{SiteFault}
-use Rattle.site.specs.declared.fault.SiteFault.TheVariants.{NoMemory}
-use Rattle.site.specs.declared.outcome.Taken.TheVariants.{All}
+use Rattle.site_runs.specs.schema.Schemas.{StatedSchema}
+use Rattle.site_runs.specs.stamped_store.Store.{Store, Update, updates, joined_stores}
+use Rattle.site_runs.specs.state_messages.Messages.{updates_stated}
+use Rattle.site_runs.specs.site.declared.fault.SiteFault.{SiteFault}
+use Rattle.site_runs.specs.site.declared.fault.SiteFault.TheVariants.{NoMemory}
+use Rattle.site_runs.specs.site.declared.outcome.Taken.TheVariants.{All}
 use Rattle.site_runs.specs.declared.input.Input.TheVariants as input
 use Rattle.site_runs.specs.declared.reply.Reply.TheVariants as reply
 use Rattle.site_runs.specs.Runs.{Step}

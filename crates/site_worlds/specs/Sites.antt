@@ -4,9 +4,9 @@
 use Rattle.std.specs.Prelude.{◌≡◌, ℕ, zero, suc, List, [], ◌∷◌, ◌++◌, map, set, slice_get, Option, Some, None}
 use Rattle.std.specs.List.{Contains}
 use Rattle.std.specs.FinMap.{empty}
-use Rattle.stamped_store.specs.Deltas.{delta, summary_of}
-use Rattle.stamped_store.specs.SiteNames.{IsSiteName, five_digits}
-use Rattle.stamped_store.specs.Store.{Store, Update}
+use Rattle.site_runs.specs.stamped_store.Deltas.{delta, summary_of}
+use Rattle.site_runs.specs.stamped_store.SiteNames.{IsSiteName, five_digits}
+use Rattle.site_runs.specs.stamped_store.Store.{Store, Update}
 
 -- ---- the names of sites
 

@@ -5,8 +5,8 @@
 use Rattle.std.specs.Prelude.{◌≡◌, ℕ, List, [], ◌∷◌, ◌++◌, length, map, slice_get}
 use Rattle.std.specs.Prelude.{Option, Some, None, option_map, Ok, Err}
 use Rattle.std.specs.Str.{IsUtf8}
-use Rattle.schema.specs.Schemas.{StatedSchema}
-use Rattle.stamped_store.specs.Store.{Store, Update}
+use Rattle.site_runs.specs.schema.Schemas.{StatedSchema}
+use Rattle.site_runs.specs.stamped_store.Store.{Store, Update}
 use Rattle.site_runs.specs.declared.input.Input.{Input}
 use Rattle.site_runs.specs.declared.input.Input.TheVariants as input
 use Rattle.site_runs.specs.declared.reply.Reply.{Reply}

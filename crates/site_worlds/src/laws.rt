@@ -1,22 +1,24 @@
 //! Laws of worlds, by the contract of a function that does nothing.
 ghost use Rattle.std.specs.Prelude.{◌<◌, ℕ};
-ghost use Rattle.schema.specs.Views.{schema_view};
+ghost use Rattle.site_runs.specs.schema.Views.{schema_view};
 ghost use Rattle.site_worlds.specs.Sites.{AreSites, first_sites};
 ghost use Rattle.site_worlds.specs.Promises.{WorldsKeepPromises};
 ghost use Rattle.site_worlds.specs.Worlds.{AnswersFixWorlds};
 
-use canonical_texts::json_texts_are_utf8;
-use entities::Entity;
-use policy_grammar::Policy;
-use schema::{Schema, stated_schemas_are_well_formed};
-use site::SchemaTexts;
-use site_runs::{inputs_have_one_outcome, runs_leave_what_they_took};
-use stamped_store::laws::{
+use site_runs::canonical_texts::json_texts_are_utf8;
+use site_runs::entities::Entity;
+use site_runs::policy_grammar::Policy;
+use site_runs::schema::{Schema, stated_schemas_are_well_formed};
+use site_runs::site::SchemaTexts;
+use site_runs::stamped_store::laws::{
     deltas_are_joined, site_names_are_told, stamps_are_issued, updates_have_one_store,
 };
-use state_messages::{messages_read_back, valid_messages_are_read};
-use sync_messages::summaries_read_back;
-use uid_json::names_read_back;
+use site_runs::state_messages::{messages_read_back, valid_messages_are_read};
+use site_runs::sync_messages::summaries_read_back;
+use site_runs::uid_json::names_read_back;
+use site_runs::{
+    canonical_texts, inputs_have_one_outcome, runs_leave_what_they_took, stored_texts,
+};
 
 /// In every world of sites with distinct names under the schema, whatever was delivered, in whatever order and however
 /// often: every entry in a store or a message was issued by a local command at the site that its stamp names; equal

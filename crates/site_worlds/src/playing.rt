@@ -1,8 +1,8 @@
 //! One event of a world.
-ghost use Rattle.schema.specs.Schemas.{StatedSchema};
+ghost use Rattle.site_runs.specs.schema.Schemas.{StatedSchema};
 ghost use Rattle.site_worlds.specs.Sites.{SiteName, start};
 ghost use Rattle.std.specs.Prelude.{◌≡◌, List, ◌++◌, IfOk, OnOk, length};
-ghost use Rattle.site.specs.Seen.{schema_of, store_in, IsSameSite};
+ghost use Rattle.site_runs.specs.site.Seen.{schema_of, store_in, IsSameSite};
 ghost use Rattle.site_worlds.specs.Worlds.{HasTexts, answer_among, message_bytes, summary_bytes as bytes_of_summary};
 ghost use Rattle.site_worlds.specs.Played.{IsPlayed, IsShown};
 ghost use Rattle.site_worlds.specs.inner.Playing.{input_among, AnswersDeed, Plays};

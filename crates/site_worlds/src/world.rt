@@ -1,9 +1,9 @@
 //! A world, played from its events.
 ghost use Rattle.std.specs.Prelude.{◌≤◌, IfOk, List, []};
-ghost use Rattle.schema.specs.Schemas.{StatedSchema};
-ghost use Rattle.schema.specs.Views.{schema_view};
-ghost use Rattle.stamped_store.specs.SiteNames.{five_digits};
-ghost use Rattle.stamped_store.specs.Store.{store_of};
+ghost use Rattle.site_runs.specs.schema.Schemas.{StatedSchema};
+ghost use Rattle.site_runs.specs.schema.Views.{schema_view};
+ghost use Rattle.site_runs.specs.stamped_store.SiteNames.{five_digits};
+ghost use Rattle.site_runs.specs.stamped_store.Store.{store_of};
 ghost use Rattle.site_worlds.specs.Sites.{SiteName as Named, first_sites, start};
 ghost use Rattle.site_worlds.specs.Promises.{WorldKeepsPromises};
 ghost use Rattle.site_worlds.specs.Played.{IsSiteOf, AreSitesOf, IsPlayed};
@@ -12,9 +12,9 @@ use crate::event::{Event, EventReply};
 use crate::laws::{first_sites_are_distinct, worlds_keep_promises};
 use crate::playing::play;
 use plain::{Items, NoMemory, Shared};
-use schema::Schema;
 use site_runs::Site;
-use stamped_store::SiteName;
+use site_runs::schema::Schema;
+use site_runs::stamped_store::SiteName;
 use std::alloc::Global;
 
 /// Sites that exchanged messages: the sites themselves, what was made, and what the events were answered.

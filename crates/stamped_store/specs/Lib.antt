@@ -12,3 +12,5 @@ pub use Rattle.stamped_entries.specs.SiteNames
 pub use Rattle.stamped_entries.specs.Joins
 pub use Rattle.stamped_entries.specs.EntryOrder
 pub use Rattle.stamped_entries.specs.EntryJoins
+-- crates below, passed on to those above
+pub use Rattle.stamped_entries.specs as stamped_entries

@@ -5,9 +5,9 @@ use Rattle.json.specs.Token.{begin_object, end_object, key}
 use Rattle.json.specs.Written.{Written}
 use Rattle.serde_json.specs.Data.{number, unsigned, string, array, no_members, member, put}
 use Rattle.serde_json.specs.View.{items_of}
-use Rattle.stamped_entries.specs.declared.entry.Stamp.{Stamp}
-use Rattle.stamped_store.specs.Deltas.{is_news}
-use Rattle.stamped_store.specs.Store.{Update}
+use Rattle.sync_messages.specs.stamped_entries.declared.entry.Stamp.{Stamp}
+use Rattle.sync_messages.specs.stamped_store.Deltas.{is_news}
+use Rattle.sync_messages.specs.stamped_store.Store.{Update}
 use Rattle.sync_messages.specs.Summaries.{name_json}
 use Rattle.sync_messages.specs.Tokens.{Adds, IsReadAgain, AppendsValue, AppendsMember, AppendsAll}
 use Rattle.sync_messages.proofs.Appending.{and_then, member_again, object_again, none_written, one_written}

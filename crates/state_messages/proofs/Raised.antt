@@ -10,16 +10,17 @@ use Rattle.json_words.specs.Json.{json_of, text_at}
 use Rattle.json_words.specs.Keys.{has_only}
 use Rattle.json_words.proofs.EachLemmas.{bind_ok}
 use Rattle.values.specs.declared.name.Name.{Name}
-use Rattle.stamped_entries.specs.declared.entry.Stamp.{Stamp}
-use Rattle.stamped_store.specs.Store.{Update, issued}
-use Rattle.stamped_store.specs.Raised.{NumberedUpdate, IsSiteNumber, HaveSiteNumbers, raise_update, raise}
+use Rattle.sync_messages.specs.stamped_entries.declared.entry.Stamp.{Stamp}
+use Rattle.sync_messages.specs.stamped_store.Store.{Update, issued}
+use Rattle.sync_messages.specs.stamped_store.Raised.{NumberedUpdate, IsSiteNumber, HaveSiteNumbers, raise_update, raise}
 use Rattle.sync_messages.specs.declared.fault.MessageFault.{MessageFault}
 use Rattle.sync_messages.specs.declared.fault.MessageFault.TheVariants.{BadShape, OtherSchema}
 use Rattle.sync_messages.specs.declared.version.MessageVersion.TheVariants.{One}
 use Rattle.sync_messages.specs.Summaries.{number_at, version_in, numbered_in, stamped_by, stamped_in}
 use Rattle.sync_messages.specs.Numbered.{NumberedStamp, raise_stamp}
 use Rattle.sync_messages.proofs.Raised.{map_read, stamped_raised, stamped_number}
-use Rattle.state_messages.specs.Messages.{body_in, entry_by, entry_in, entries_of, entries_by, entries_in, is_kind, updates_by, updates_in, updates_stated}
+use Rattle.state_messages.specs.Messages.{body_in, entry_by, entry_in, entries_of, entries_by, entries_in, is_kind}
+use Rattle.state_messages.specs.Messages.{updates_by, updates_in, updates_stated}
 use Rattle.state_messages.specs.Numbered.{numbered_entry, numbered_entry_in, numbered_entries_in, IsVersion1Message}
 use Rattle.state_messages.proofs.Found.{are_entries}
 

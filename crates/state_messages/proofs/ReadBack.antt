@@ -5,12 +5,13 @@ use Rattle.std.specs.Str.{IsUtf8}
 use Rattle.serde_json.specs.View.{items_of}
 use Rattle.serde_json.specs.Written.{compact_text}
 use Rattle.json_words.specs.Plain.{IsPlain, ArePlain, CompactReadsBack}
-use Rattle.stamped_store.specs.Store.{Store, Update, updates}
-use Rattle.stamped_store.specs.SiteNames.{SiteTestIsExact, SiteNamesAreTexts}
+use Rattle.sync_messages.specs.stamped_store.Store.{Store, Update, updates}
+use Rattle.sync_messages.specs.stamped_store.SiteNames.{SiteTestIsExact, SiteNamesAreTexts}
 use Rattle.sync_messages.specs.Summaries.{IsStamped}
 use Rattle.sync_messages.proofs.CompactUtf8.{key_is_utf8, json_again}
 use Rattle.sync_messages.proofs.OneText.{plain_name}
-use Rattle.state_messages.specs.Messages.{body_json, entry_json, message_json, state_text, delta_text, is_kind, updates_stated}
+use Rattle.state_messages.specs.Messages.{body_json, entry_json, message_json, state_text, delta_text, is_kind}
+use Rattle.state_messages.specs.Messages.{updates_stated}
 use Rattle.state_messages.specs.Texts.{IsBodyText, IsText, AreTexts}
 use Rattle.state_messages.specs.Updates.{AreInRange, stamped}
 use Rattle.state_messages.proofs.Written.{NamesBack, message_again, depth_message, stated_back}

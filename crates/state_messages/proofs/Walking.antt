@@ -1,5 +1,6 @@
 -- One walk over ascending names and ascending stamps finds what a search finds.
-use Rattle.std.specs.Prelude.{◌≡◌, ◌&&◌, ◌∷◌, ◌++◌, [], List, length, map, Bool, true, false, T, Option, Some, None, cond, refl}
+use Rattle.std.specs.Prelude.{◌≡◌, ◌&&◌, ◌∷◌, ◌++◌, [], List, length, map, Bool, true, false, T, Option, Some, None}
+use Rattle.std.specs.Prelude.{cond, refl}
 use Rattle.std.proofs.Common.{sym, ap, ◌∙◌, subst, arith}
 use Rattle.std.specs.List.{AllByRecursion, flat_map}
 use Rattle.std.specs.FinMap.{entries_sorted}
@@ -17,13 +18,14 @@ use Rattle.json.specs.Written.{Written}
 use Rattle.serde_json.specs.Data.{Data}
 use Rattle.values.specs.declared.name.Name.{Name}
 use Rattle.values.specs.Names.{name_cmp, name_cmp-IsTotalOrder, name_cmp-IsAntisymmetric}
-use Rattle.stamped_entries.specs.declared.entry.Entry.{Entry}
-use Rattle.stamped_entries.specs.declared.entry.Stamp.{Stamp}
-use Rattle.stamped_store.specs.EntryOrder.{plain_entry}
-use Rattle.stamped_store.specs.Deltas.{Summary, delta}
-use Rattle.stamped_store.specs.Abstraction.{abstract_entry, abstract_entries}
-use Rattle.stamped_store.specs.Store.{Update, updates, StoreEntries, abstract_store, abstract_updates, id_name, entity_name}
-use Rattle.stamped_store.specs.Stored.{value_at}
+use Rattle.sync_messages.specs.stamped_entries.declared.entry.Entry.{Entry}
+use Rattle.sync_messages.specs.stamped_entries.declared.entry.Stamp.{Stamp}
+use Rattle.sync_messages.specs.stamped_store.EntryOrder.{plain_entry}
+use Rattle.sync_messages.specs.stamped_store.Deltas.{Summary, delta}
+use Rattle.sync_messages.specs.stamped_store.Abstraction.{abstract_entry, abstract_entries}
+use Rattle.sync_messages.specs.stamped_store.Store.{Update, updates, StoreEntries, abstract_store, abstract_updates}
+use Rattle.sync_messages.specs.stamped_store.Store.{id_name, entity_name}
+use Rattle.sync_messages.specs.stamped_store.Stored.{value_at}
 use Rattle.sync_messages.specs.Summaries.{ascend}
 use Rattle.sync_messages.specs.Tokens.{AppendsAll}
 use Rattle.sync_messages.proofs.Appending.{none_written, both_written}

@@ -5,8 +5,8 @@ use Rattle.std.specs.Prelude.{◌≡◌, ℕ, List, map, codes, Option, Some, Re
 use Rattle.serde_json.specs.Data.{Data, number, unsigned, string, array, object, no_members, member}
 use Rattle.serde_json.specs.View.{items_of}
 use Rattle.json_words.specs.Json.{json_of}
-use Rattle.stamped_store.specs.EntryOrder.{EntryAt}
-use Rattle.stamped_store.specs.Raised.{NumberedUpdate}
+use Rattle.sync_messages.specs.stamped_store.EntryOrder.{EntryAt}
+use Rattle.sync_messages.specs.stamped_store.Raised.{NumberedUpdate}
 use Rattle.sync_messages.specs.declared.fault.MessageFault.{MessageFault}
 use Rattle.sync_messages.specs.Summaries.{StampAt, name_json, number_at, numbered_in, stamped_by}
 use Rattle.state_messages.specs.Messages.{body_json, entry_by, entries_by, updates_by}

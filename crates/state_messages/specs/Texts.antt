@@ -3,7 +3,7 @@
 use Rattle.std.specs.Prelude.{ℕ, List, Option, Some, None}
 use Rattle.std.specs.List.{AllByRecursion}
 use Rattle.std.specs.Str.{IsUtf8}
-use Rattle.stamped_store.specs.Store.{Update}
+use Rattle.sync_messages.specs.stamped_store.Store.{Update}
 use Rattle.sync_messages.specs.Summaries.{HasTexts}
 
 -- a body's text, if there is one

@@ -8,10 +8,11 @@ use Rattle.typing.specs.Laws.{IsTransitive}
 use Rattle.schema_types.specs.Cedar as cedar
 use Rattle.schema_types.specs.Cedar.{Cedar, CedarFields}
 use Rattle.schema_types.specs.Ascending.{Ascend, keys_of, KeysAscend, FieldKeysAscend}
-use Rattle.schema.specs.Schemas.{EnvironmentOf, StatedSchema, IsSchemaOf}
-use Rattle.schema.specs.WellFormed.{AreAttributes, StatedSchemasAreWellFormed}
+use Rattle.entities.specs.schema.Schemas.{EnvironmentOf, StatedSchema, IsSchemaOf}
+use Rattle.entities.specs.schema.WellFormed.{AreAttributes, StatedSchemasAreWellFormed}
 use Rattle.entities.specs.Entities.{is_action_type}
-use Rattle.static_types.specs.FromSchemas.{static, static_fields, field_types_in, shape_fields, attributes_of, typing_environment_of}
+use Rattle.static_types.specs.FromSchemas.{static, static_fields, field_types_in, shape_fields, attributes_of}
+use Rattle.static_types.specs.FromSchemas.{typing_environment_of}
 
 -- a key that is below others is below the first
 before_fields : (k : List ℕ) (fs : CedarFields) → Ascend (k ∷ keys_of fs) → IsBefore k (static_fields fs)

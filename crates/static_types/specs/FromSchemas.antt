@@ -9,7 +9,7 @@ use Rattle.typing.specs.Types.{decimal_type, ipaddr_type, FieldTypes, no_field_t
 use Rattle.typing.specs.Environment.{Environment}
 use Rattle.schema_types.specs.Cedar as cedar
 use Rattle.schema_types.specs.Cedar.{Cedar, CedarFields}
-use Rattle.schema.specs.Schemas.{EnvironmentOf, StatedSchema}
+use Rattle.entities.specs.schema.Schemas.{EnvironmentOf, StatedSchema}
 use Rattle.entities.specs.Entities.{is_action_type}
 
 -- the type of the values of a declared type

@@ -2,7 +2,7 @@
 use Rattle.std.specs.Prelude.{ℕ, List, Contains}
 use Rattle.typing.specs.Ordered.{HasOrderedTypes}
 use Rattle.typing.specs.Laws.{IsTransitive}
-use Rattle.schema.specs.Schemas.{EnvironmentOf, StatedSchema, IsSchemaOf}
+use Rattle.entities.specs.schema.Schemas.{EnvironmentOf, StatedSchema, IsSchemaOf}
 use Rattle.static_types.specs.FromSchemas.{typing_environment_of}
 
 -- what is below a type is below all that the type is below

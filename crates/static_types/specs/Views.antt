@@ -11,7 +11,7 @@ use Rattle.typing.specs.Environment as environment
 use Rattle.typing.specs.Environment.{Environment}
 use Rattle.typing.specs.Rows.{Row}
 use Rattle.schema_types.specs.CedarViews.{cedar_view, cedar_fields_view}
-use Rattle.schema.specs.Views.{schema_view, environment_view}
+use Rattle.entities.specs.schema.Views.{schema_view, environment_view}
 use Rattle.static_types.specs.FromSchemas.{static, static_fields, typing_environment_of}
 use Rattle.static_types.specs.declared.fault.TypeFault.{TypeFault}
 use Rattle.static_types.specs.declared.fault.TypeFault.TheVariants.{Unexpected, NoCommonType, AttributeMayBeMissing}

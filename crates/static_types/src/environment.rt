@@ -2,7 +2,7 @@
 ghost use Rattle.std.specs.Prelude.{◌≡◌, ◌↔◌, [], false, Contains, IsTrue};
 ghost use Rattle.values.specs.Names.{text_cmp};
 ghost use Rattle.schema_types.specs.CedarViews.{cedar_view, cedar_fields_view};
-ghost use Rattle.schema.specs.Views.{schema_view, environment_view};
+ghost use Rattle.entities.specs.schema.Views.{schema_view, environment_view};
 ghost use Rattle.entities.specs.Entities.{is_action_type};
 ghost use Rattle.typing.specs.Types.{field_declared_at};
 ghost use Rattle.typing.specs.Ordered.{AreOrdered};
@@ -13,9 +13,9 @@ ghost use Rattle.static_types.specs.inner.Parts.{found_view, found_held};
 
 use crate::parts::Part;
 use crate::static_type::{Leaf, StaticType};
+use entities::schema::{Environment, Schema, stated_schemas_are_well_formed};
 use expressions::Variable;
 use plain::Text;
-use schema::{Environment, Schema, stated_schemas_are_well_formed};
 use schema_types::CedarType;
 use std::cmp::Ordering;
 use values::{EntityUid, TypeName};

@@ -3,7 +3,7 @@ use Rattle.std.proofs.Common.{◌≡◌, ◌∙◌, Option, Some, None, true, fa
 use Rattle.std.specs.Prelude.{if◌then◌else◌}
 use Rattle.std.specs.Ordering.{is_le}
 use Rattle.std.specs.Cmp.{tied_itself}
-use Rattle.stamped_entries.specs.declared.entry.Entry.{Entry}
+use Rattle.stamped_store.specs.stamped_entries.declared.entry.Entry.{Entry}
 use Rattle.stamped_store.specs.EntryOrder.{read_cmp, greater}
 use Rattle.stamped_store.specs.EntryJoins.{read_cmp_total}
 use Rattle.store_index.specs.Staying.{Stays}

@@ -4,9 +4,9 @@
 use Rattle.std.specs.Prelude.{◌≡◌, ℕ, List, Option, option_map, option_and_then}
 use Rattle.std.specs.declared.alloc.Global.{Global}
 use Rattle.std.specs.declared.string.String.{String}
-use Rattle.policy_grammar.specs.declared.policy.Policy.{Policy}
+use Rattle.scope_index.specs.policy_grammar.declared.policy.Policy.{Policy}
 use Rattle.scope_index.specs.Keys.{Kept, kept_at}
-use Rattle.stamped_entries.specs.declared.entry.Entry.{Entry}
+use Rattle.stamped_store.specs.stamped_entries.declared.entry.Entry.{Entry}
 use Rattle.stamped_store.specs.Stored.{value_at_text}
 
 abbrev pub PolicyEntries : Type 0

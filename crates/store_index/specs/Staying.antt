@@ -2,7 +2,7 @@
 -- of the two stands, and of two that tie the stored one.
 -- Source: order theory's join (least upper bound): it is the stored entry exactly where the other is at most that.
 use Rattle.std.specs.Prelude.{◌≡◌, Option, Some}
-use Rattle.stamped_entries.specs.declared.entry.Entry.{Entry}
+use Rattle.stamped_store.specs.stamped_entries.declared.entry.Entry.{Entry}
 use Rattle.stamped_store.specs.EntryOrder.{greater}
 
 -- there is an entry, which stays where this one is joined onto it

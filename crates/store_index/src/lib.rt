@@ -8,4 +8,7 @@ mod index;
 mod staying;
 
 pub use index::{stand_index, take_policy};
+pub use scope_index;
+pub use scope_index::policy_grammar;
+pub use stamped_store;
 pub use staying::stays;

@@ -6,12 +6,12 @@ use Rattle.std.proofs.lemmas.Slice.Eq.{bytes_eq-Decides}
 use Rattle.serde_json.specs.Data.{Data}
 use Rattle.json_words.specs.ReadsAs.{◌>>=◌, or_fault, demand}
 use Rattle.json_words.specs.Json.{json_of}
-use Rattle.ancestor_closure.specs.Decided.{is_same}
-use Rattle.ancestor_closure.specs.Deciding.{same_self}
-use Rattle.schema.specs.Schemas.{StatedSchema}
-use Rattle.entity_worlds.specs.declared.entity.Entity.{Entity}
-use Rattle.entities.specs.Entities.{entity_stated_in}
-use Rattle.entities.specs.Canonical.{canonical_text}
+use Rattle.canonical_texts.specs.ancestor_closure.Decided.{is_same}
+use Rattle.canonical_texts.specs.ancestor_closure.Deciding.{same_self}
+use Rattle.canonical_texts.specs.schema.Schemas.{StatedSchema}
+use Rattle.canonical_texts.specs.entity_worlds.declared.entity.Entity.{Entity}
+use Rattle.canonical_texts.specs.entities.Entities.{entity_stated_in}
+use Rattle.canonical_texts.specs.entities.Canonical.{canonical_text}
 use Rattle.canonical_texts.specs.Laws.{CanonicalTextsReadBack}
 use Rattle.state_messages.specs.declared.bodies.BodyFault.TheVariants.{Refused, OtherName}
 use Rattle.stored_texts.specs.Texts.{refused_by, entity_of_text, ReadsEntity}

@@ -1,12 +1,12 @@
 -- The faults of reading and of the validator, as the faults of a text.
 use Rattle.std.specs.Prelude.{◌≡◌, ◌≢◌, ℕ, List}
 use Rattle.std.proofs.Common.{sym, subst}
-use Rattle.policy_grammar.specs.declared.policy.Policy.{Policy}
-use Rattle.text_trees.specs.declared.fault.ReadFault.{ReadFault}
-use Rattle.text_trees.specs.declared.fault.ReadFault.TheVariants as read
-use Rattle.policy_grammar.specs.Faults as grammar
-use Rattle.policy_grammar.specs.PolicyText.{IsPolicyText, IsPolicyRefused}
-use Rattle.schema.specs.Schemas.{StatedSchema}
+use Rattle.state_messages.specs.policy_grammar.declared.policy.Policy.{Policy}
+use Rattle.state_messages.specs.text_trees.declared.fault.ReadFault.{ReadFault}
+use Rattle.state_messages.specs.text_trees.declared.fault.ReadFault.TheVariants as read
+use Rattle.state_messages.specs.policy_grammar.Faults as grammar
+use Rattle.state_messages.specs.policy_grammar.PolicyText.{IsPolicyText, IsPolicyRefused}
+use Rattle.canonical_texts.specs.schema.Schemas.{StatedSchema}
 use Rattle.validator.specs.declared.fault.CheckFault.{CheckFault}
 use Rattle.validator.specs.declared.fault.CheckFault.TheVariants as check
 use Rattle.validator.specs.Faults as validation

@@ -1,3 +1,5 @@
 pub mod CanonicalTexts
 pub mod FaultLemmas
 pub mod Readings
+-- crates below, passed on to those above
+pub use Rattle.validator.proofs.of_expressions

@@ -3,15 +3,16 @@
 use Rattle.std.specs.Prelude.{◌≡◌, ◌⊎◌, ℕ, List, Result, Ok, Err}
 use Rattle.std.proofs.Common.{inl, inr, ap, sym, subst, ◌∙◌, refl}
 use Rattle.values.specs.declared.entity_uid.EntityUid.{EntityUid}
-use Rattle.policy_grammar.specs.declared.policy.Policy.{Policy}
-use Rattle.policy_grammar.specs.Faults as grammar
-use Rattle.policy_grammar.specs.PolicyText.{IsPolicyText, IsPolicyRefused}
-use Rattle.policy_grammar.specs.Unique.{HasOneReading}
-use Rattle.schema.specs.Schemas.{StatedSchema}
+use Rattle.state_messages.specs.policy_grammar.declared.policy.Policy.{Policy}
+use Rattle.state_messages.specs.policy_grammar.Faults as grammar
+use Rattle.state_messages.specs.policy_grammar.PolicyText.{IsPolicyText, IsPolicyRefused}
+use Rattle.state_messages.specs.policy_grammar.Unique.{HasOneReading}
+use Rattle.canonical_texts.specs.schema.Schemas.{StatedSchema}
 use Rattle.validator.specs.declared.fault.CheckFault.{CheckFault}
 use Rattle.validator.specs.Faults as validation
 use Rattle.validator.specs.Passing.{Passes, IsCheckRefused}
-use Rattle.validator.specs.Outcomes.{PoliciesHaveOneOutcome, PassingIsNotRefused, CheckResult, IsCheckResult, passes, refused}
+use Rattle.validator.specs.Outcomes.{PoliciesHaveOneOutcome, PassingIsNotRefused, CheckResult, IsCheckResult, passes}
+use Rattle.validator.specs.Outcomes.{refused}
 use Rattle.state_messages.specs.declared.bodies.BodyFault.{BodyFault}
 use Rattle.state_messages.specs.declared.bodies.BodyFault.TheVariants as body
 use Rattle.state_messages.specs.Bodies.{HasOneOutcome, HasOutcome}

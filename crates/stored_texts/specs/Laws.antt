@@ -1,10 +1,10 @@
 -- That each text comes to exactly one thing under a schema.
 use Rattle.std.specs.Prelude.{ℕ, List}
 use Rattle.values.specs.declared.entity_uid.EntityUid.{EntityUid}
-use Rattle.schema.specs.Schemas.{StatedSchema}
-use Rattle.schema.specs.WellFormed.{IsWellFormed}
-use Rattle.entity_worlds.specs.declared.entity.Entity.{Entity}
-use Rattle.entities.specs.Canonical.{canonical_text}
+use Rattle.canonical_texts.specs.schema.Schemas.{StatedSchema}
+use Rattle.canonical_texts.specs.schema.WellFormed.{IsWellFormed}
+use Rattle.canonical_texts.specs.entity_worlds.declared.entity.Entity.{Entity}
+use Rattle.canonical_texts.specs.entities.Canonical.{canonical_text}
 use Rattle.canonical_texts.specs.Laws.{IsReadFrom}
 use Rattle.state_messages.specs.declared.bodies.BodyFault.TheVariants.{OtherName}
 use Rattle.state_messages.specs.Bodies.{HasOneOutcome, HasOutcome}

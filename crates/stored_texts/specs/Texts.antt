@@ -8,17 +8,17 @@ use Rattle.std.specs.Str.{bytes_eq}
 use Rattle.json_words.specs.ReadsAs.{◌>>=◌, or_fault, demand}
 use Rattle.json_words.specs.Json.{json_of}
 use Rattle.values.specs.declared.entity_uid.EntityUid.{EntityUid}
-use Rattle.ancestor_closure.specs.Decided.{is_same}
-use Rattle.policy_grammar.specs.declared.policy.Policy.{Policy}
-use Rattle.text_trees.specs.declared.fault.ReadFault.{ReadFault}
-use Rattle.policy_grammar.specs.Faults as grammar
-use Rattle.policy_grammar.specs.PolicyText.{IsPolicyText, IsPolicyRefused}
-use Rattle.schema.specs.Schemas.{StatedSchema}
-use Rattle.entity_worlds.specs.declared.entity.Entity.{Entity}
-use Rattle.entities.specs.declared.fault.EntityFault.{EntityFault}
-use Rattle.entities.specs.Faults as entities
-use Rattle.entities.specs.Entities.{entity_stated_in}
-use Rattle.entities.specs.Canonical.{canonical_text}
+use Rattle.canonical_texts.specs.ancestor_closure.Decided.{is_same}
+use Rattle.state_messages.specs.policy_grammar.declared.policy.Policy.{Policy}
+use Rattle.state_messages.specs.text_trees.declared.fault.ReadFault.{ReadFault}
+use Rattle.state_messages.specs.policy_grammar.Faults as grammar
+use Rattle.state_messages.specs.policy_grammar.PolicyText.{IsPolicyText, IsPolicyRefused}
+use Rattle.canonical_texts.specs.schema.Schemas.{StatedSchema}
+use Rattle.canonical_texts.specs.entity_worlds.declared.entity.Entity.{Entity}
+use Rattle.canonical_texts.specs.entities.declared.fault.EntityFault.{EntityFault}
+use Rattle.canonical_texts.specs.entities.Faults as entities
+use Rattle.canonical_texts.specs.entities.Entities.{entity_stated_in}
+use Rattle.canonical_texts.specs.entities.Canonical.{canonical_text}
 use Rattle.validator.specs.declared.fault.CheckFault.{CheckFault}
 use Rattle.validator.specs.Faults as validation
 use Rattle.validator.specs.Passing.{Passes, IsCheckRefused}

@@ -2,6 +2,7 @@
 ghost use Rattle.stored_texts.specs.Laws.{PoliciesHaveOneReading, EntitiesHaveOneReading};
 ghost use Rattle.stored_texts.specs.Laws.{PoliciesHaveNoOtherName, CanonicalTextsAreRead};
 
+use state_messages::policy_grammar;
 use validator::policies_have_one_outcome;
 
 /// Proves that under a schema each text is that of one policy that passes, or refused for one fault, and never both;

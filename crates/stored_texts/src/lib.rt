@@ -5,6 +5,11 @@
 mod laws;
 mod texts;
 
+pub use canonical_texts;
+pub use canonical_texts::{entities, schema};
 pub use laws::{canonical_texts_are_read, stored_texts_have_one_reading};
+pub use state_messages;
+pub use state_messages::{stamped_store, sync_messages, uid_json};
 pub use texts::SchemaTexts;
-pub use validator::{CheckFault, check};
+pub use validator;
+pub use validator::{CheckFault, check, static_types, typing};

@@ -4,25 +4,25 @@ ghost use Rattle.std.specs.Str.{bytes_eq};
 ghost use Rattle.serde_json.specs.View.{view};
 ghost use Rattle.json_words.specs.ReadsAs.{ReadsAs, AlwaysReadsAs, or_fault, demand};
 ghost use Rattle.json_words.specs.Json.{json_of};
-ghost use Rattle.ancestor_closure.specs.Decided.{is_same};
-ghost use Rattle.policy_grammar.specs.Faults as grammar;
-ghost use Rattle.policy_grammar.specs.PolicyText.{IsPolicyText};
-ghost use Rattle.schema.specs.Schemas.{StatedSchema};
-ghost use Rattle.schema.specs.Views.{schema_view};
-ghost use Rattle.entities.specs.Entities.{entity_stated_in};
-ghost use Rattle.entities.specs.Canonical.{canonical_text};
+ghost use Rattle.canonical_texts.specs.ancestor_closure.Decided.{is_same};
+ghost use Rattle.state_messages.specs.policy_grammar.Faults as grammar;
+ghost use Rattle.state_messages.specs.policy_grammar.PolicyText.{IsPolicyText};
+ghost use Rattle.canonical_texts.specs.schema.Schemas.{StatedSchema};
+ghost use Rattle.canonical_texts.specs.schema.Views.{schema_view};
+ghost use Rattle.canonical_texts.specs.entities.Entities.{entity_stated_in};
+ghost use Rattle.canonical_texts.specs.entities.Canonical.{canonical_text};
 ghost use Rattle.validator.specs.Faults as validation;
 ghost use Rattle.validator.specs.Passing.{Passes};
 ghost use Rattle.plain.specs.Refused.{OrNoMemory};
 ghost use Rattle.stored_texts.specs.Texts.{ReadsPolicy, RefusesPolicy, RefusesEntity};
 ghost use Rattle.stored_texts.specs.Texts.{entity_of_text, refused_by};
 
-use entities::{Entity, EntityFault, canonical_text, read_entity};
-use json_values::{Scratch, read_json_by};
-use policy_grammar::{Policy, ReadFault, parse_policy};
-use schema::Schema;
+use canonical_texts::entities::{Entity, EntityFault, canonical_text, read_entity};
+use canonical_texts::schema::Schema;
 use serde_json::Value;
-use stamped_store::Readings;
+use state_messages::json_values::{Scratch, read_json_by};
+use state_messages::policy_grammar::{Policy, ReadFault, parse_policy};
+use state_messages::stamped_store::Readings;
 use state_messages::{Bodies, BodyFault};
 use std::alloc::Global;
 use validator::{CheckFault, check};
@@ -45,7 +45,7 @@ impl<'a> SchemaTexts<'a> {
 }
 
 impl Readings<Policy, Entity> for SchemaTexts<'_> {
-    ghost use Rattle.schema.specs.Views.{schema_view};
+    ghost use Rattle.canonical_texts.specs.schema.Views.{schema_view};
     ghost use Rattle.stored_texts.specs.Texts.{ReadsPolicy, ReadsEntity};
 
     ghost reads_policy = { λ t _ text p. ReadsPolicy (schema_view t.schema.now) text p };

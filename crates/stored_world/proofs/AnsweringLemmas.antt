@@ -3,18 +3,18 @@ use Rattle.std.specs.Prelude.{◌≡◌, ◌↔◌, ℕ, List, Bool, true, false
 use Rattle.std.proofs.Common.{◌∙◌, sym, subst}
 use Rattle.values.specs.declared.entity_uid.EntityUid.{EntityUid}
 use Rattle.values.specs.declared.request.Request.{Request}
-use Rattle.policy_grammar.specs.declared.policy.Policy.{Policy}
-use Rattle.ancestor_closure.specs.Hierarchy.{IsOnCycle, with_parents}
-use Rattle.evaluator.specs.Operators.{World, world_of}
-use Rattle.authoriser.specs.declared.answer.Answer.{Answer}
-use Rattle.authoriser.specs.Answers.{NamedPolicy, IsAnswer}
-use Rattle.schema.specs.SchemaEntries as schema_kept
-use Rattle.schema.specs.Views.{schema_view}
-use Rattle.entity_worlds.specs.Entities.{EntityMap, attributes_of, kept_parents}
+use Rattle.entity_store.specs.policy_grammar.declared.policy.Policy.{Policy}
+use Rattle.entity_store.specs.ancestor_closure.Hierarchy.{IsOnCycle, with_parents}
+use Rattle.entity_store.specs.evaluator.Operators.{World, world_of}
+use Rattle.entity_store.specs.authoriser.declared.answer.Answer.{Answer}
+use Rattle.entity_store.specs.authoriser.Answers.{NamedPolicy, IsAnswer}
+use Rattle.entity_store.specs.schema.SchemaEntries as schema_kept
+use Rattle.entity_store.specs.schema.Views.{schema_view}
+use Rattle.entity_store.specs.entity_worlds.Entities.{EntityMap, attributes_of, kept_parents}
 use Rattle.entity_store.specs.Entities.{entities_under}
 use Rattle.stored_world.specs.declared.stored_entities.StoredEntities.{StoredEntities}
-use Rattle.schema.specs.Schemas.{StatedSchema}
-use Rattle.entity_worlds.specs.declared.entity.Entity.{Entity}
+use Rattle.entity_store.specs.schema.Schemas.{StatedSchema}
+use Rattle.entity_store.specs.entity_worlds.declared.entity.Entity.{Entity}
 use Rattle.stamped_store.specs.Store.{StoreEntries, updates, abstract_store, abstract_updates}
 use Rattle.stamped_store.specs.Reading.{AreEntriesRead}
 use Rattle.stored_world.specs.Said.{data_in, world_under, parents_with, IsAnswerOver, MakesCycle, MakesNoCycle}

@@ -2,11 +2,11 @@
 use Rattle.std.proofs.Common.{sym, subst}
 use Rattle.std.specs.Prelude.{ℕ, List}
 use Rattle.values.specs.declared.entity_uid.EntityUid.{EntityUid}
-use Rattle.policy_grammar.specs.declared.policy.Policy.{Policy}
-use Rattle.ancestor_closure.specs.Hierarchy.{IsOnCycle, with_parents}
-use Rattle.evaluator.specs.Operators.{World}
-use Rattle.authoriser.specs.Answers.{IsAnswer}
-use Rattle.entity_worlds.specs.declared.entity.Entity.{Entity}
+use Rattle.entity_store.specs.policy_grammar.declared.policy.Policy.{Policy}
+use Rattle.entity_store.specs.ancestor_closure.Hierarchy.{IsOnCycle, with_parents}
+use Rattle.entity_store.specs.evaluator.Operators.{World}
+use Rattle.entity_store.specs.authoriser.Answers.{IsAnswer}
+use Rattle.entity_store.specs.entity_worlds.declared.entity.Entity.{Entity}
 use Rattle.entity_store.specs.Laws.{MemberOfIsKept}
 use Rattle.stored_world.specs.Said.{data_in}
 use Rattle.stored_world.specs.ByMemberOf.{StoredActionsAnswerAlike, StoredActionsCycleAlike, StoredActionsAllowAlike}

@@ -1,5 +1,6 @@
 -- The entities that stand beside the texts of a store are those that it says, and there is one at each uid.
-use Rattle.std.specs.Prelude.{◌≡◌, ◌↔◌, ℕ, List, [], ◌∷◌, ◌++◌, Option, Some, None, true, false, cond, refl, option_and_then, option_map}
+use Rattle.std.specs.Prelude.{◌≡◌, ◌↔◌, ℕ, List, [], ◌∷◌, ◌++◌, Option, Some, None, true, false, cond, refl}
+use Rattle.std.specs.Prelude.{option_and_then, option_map}
 use Rattle.std.proofs.Common.{sym, ap, ◌∙◌, subst}
 use Rattle.std.specs.Ordering.{is_eq}
 use Rattle.std.specs.FinMap.{get-entries}
@@ -10,14 +11,15 @@ use Rattle.std.specs.declared.cmp.Ordering.TheVariants.{Less, Equal, Greater}
 use Rattle.std.specs.declared.string.String.{String}
 use Rattle.values.specs.declared.entity_uid.EntityUid.{EntityUid}
 use Rattle.values.specs.Names.{name_cmp, uid_cmp, uid_cmp-IsAntisymmetric}
-use Rattle.policy_grammar.specs.declared.policy.Policy.{Policy}
-use Rattle.entity_worlds.specs.declared.entity.Entity.{Entity}
-use Rattle.stamped_entries.specs.declared.entry.Entry.{Entry}
-use Rattle.stamped_entries.specs.declared.entry.ReadText.{ReadText}
+use Rattle.entity_store.specs.policy_grammar.declared.policy.Policy.{Policy}
+use Rattle.entity_store.specs.entity_worlds.declared.entity.Entity.{Entity}
+use Rattle.stamped_store.specs.stamped_entries.declared.entry.Entry.{Entry}
+use Rattle.stamped_store.specs.stamped_entries.declared.entry.ReadText.{ReadText}
 use Rattle.stamped_store.specs.EntryOrder.{PlainEntry, plain_entry, body_bytes}
 use Rattle.stamped_store.specs.Abstraction.{abstract_entries}
 use Rattle.stamped_store.specs.Stored.{value_at}
-use Rattle.stamped_store.specs.Store.{Store, Update, StoreEntries, updates, abstract_store, abstract_updates, id_name, entity_name}
+use Rattle.stamped_store.specs.Store.{Store, Update, StoreEntries, updates, abstract_store, abstract_updates, id_name}
+use Rattle.stamped_store.specs.Store.{entity_name}
 use Rattle.stamped_store.specs.Contents.{text_under}
 use Rattle.stamped_store.specs.Reading.{AllNamed, IsBodyRead, IsEntryRead}
 use Rattle.stored_world.specs.Said.{IsReadFrom, AreEntities, HaveOneReading}

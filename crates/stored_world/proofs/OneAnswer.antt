@@ -5,18 +5,19 @@ use Rattle.std.proofs.lemmas.List.Elements.{Contains-append_left, Contains-appen
 use Rattle.plain.proofs.Members.{Contains-here, Contains-there, Contains-cases, Contains-none}
 use Rattle.values.specs.declared.entity_uid.EntityUid.{EntityUid}
 use Rattle.values.specs.declared.request.Request.{Request}
-use Rattle.policy_grammar.specs.declared.policy.Policy.{Policy}
-use Rattle.ancestor_closure.specs.Decided.{HaveAllParents}
-use Rattle.authoriser.specs.declared.answer.Answer.{Answer}
-use Rattle.authoriser.specs.Answers.{NamedPolicy, IsAnswer}
-use Rattle.authoriser.specs.Laws.{HasOneAnswer, OneAnswerInFiniteHierarchies}
-use Rattle.schema.specs.Schemas.{StatedSchema, IsSchemaOf}
-use Rattle.entity_worlds.specs.declared.entity.Entity.{Entity}
-use Rattle.entity_worlds.specs.declared.data.EntityData.{EntityData}
-use Rattle.entity_worlds.specs.Entities.{kept_parents, action_or}
+use Rattle.entity_store.specs.policy_grammar.declared.policy.Policy.{Policy}
+use Rattle.entity_store.specs.ancestor_closure.Decided.{HaveAllParents}
+use Rattle.entity_store.specs.authoriser.declared.answer.Answer.{Answer}
+use Rattle.entity_store.specs.authoriser.Answers.{NamedPolicy, IsAnswer}
+use Rattle.entity_store.specs.authoriser.Laws.{HasOneAnswer, OneAnswerInFiniteHierarchies}
+use Rattle.entity_store.specs.schema.Schemas.{StatedSchema, IsSchemaOf}
+use Rattle.entity_store.specs.entity_worlds.declared.entity.Entity.{Entity}
+use Rattle.entity_store.specs.entity_worlds.declared.data.EntityData.{EntityData}
+use Rattle.entity_store.specs.entity_worlds.Entities.{kept_parents, action_or}
 use Rattle.stamped_store.specs.Store.{Store, entity_name}
 use Rattle.stamped_store.specs.Contents.{text_under, entities_of}
-use Rattle.stored_world.specs.Said.{ArePolicies, IsReadFrom, AreEntities, HaveOneReading, data_of, world_under, IsAnswerOver}
+use Rattle.stored_world.specs.Said.{ArePolicies, IsReadFrom, AreEntities, HaveOneReading, data_of, world_under}
+use Rattle.stored_world.specs.Said.{IsAnswerOver}
 use Rattle.stored_world.proofs.PolicyLemmas.{one_policies}
 use Rattle.stored_world.proofs.EntityLemmas.{one_entities}
 

@@ -1,5 +1,6 @@
 -- The policies that stand beside the texts of a store are those that it says; these ascend, and there is one list.
-use Rattle.std.specs.Prelude.{T, ◌&&◌, ◌≡◌, ◌↔◌, Vec, Result, Ok, Err, IfOk, ℕ, List, [], ◌∷◌, ◌++◌, map, Option, Some, None, Bool, true, false, Contains, refl, string_bytes}
+use Rattle.std.specs.Prelude.{T, ◌&&◌, ◌≡◌, ◌↔◌, Vec, Result, Ok, Err, IfOk, ℕ, List, [], ◌∷◌, ◌++◌, map, Option, Some}
+use Rattle.std.specs.Prelude.{None, Bool, true, false, Contains, refl, string_bytes}
 use Rattle.std.proofs.Common.{sym, ◌∙◌, subst}
 use Rattle.std.specs.Borrow.{Bor}
 use Rattle.std.specs.List.{AllZip, AllByRecursion, flat_map}
@@ -15,16 +16,17 @@ use Rattle.values.specs.declared.name.Name.{Name}
 use Rattle.values.specs.declared.name.Name.TheVariants as name
 use Rattle.values.specs.declared.entity_uid.EntityUid.{EntityUid}
 use Rattle.values.specs.Names.{name_cmp, text_cmp}
-use Rattle.policy_grammar.specs.declared.policy.Policy.{Policy}
-use Rattle.authoriser.specs.Answers.{NamedPolicy}
-use Rattle.authoriser.specs.Laws.{AreIdsAscending}
-use Rattle.authoriser.specs.Views.{named}
-use Rattle.entity_worlds.specs.declared.entity.Entity.{Entity}
-use Rattle.stamped_entries.specs.declared.entry.Entry.{Entry}
-use Rattle.stamped_entries.specs.declared.entry.ReadText.{ReadText}
+use Rattle.entity_store.specs.policy_grammar.declared.policy.Policy.{Policy}
+use Rattle.entity_store.specs.authoriser.Answers.{NamedPolicy}
+use Rattle.entity_store.specs.authoriser.Laws.{AreIdsAscending}
+use Rattle.entity_store.specs.authoriser.Views.{named}
+use Rattle.entity_store.specs.entity_worlds.declared.entity.Entity.{Entity}
+use Rattle.stamped_store.specs.stamped_entries.declared.entry.Entry.{Entry}
+use Rattle.stamped_store.specs.stamped_entries.declared.entry.ReadText.{ReadText}
 use Rattle.stamped_store.specs.EntryOrder.{body_bytes}
 use Rattle.stamped_store.specs.Abstraction.{abstract_entries}
-use Rattle.stamped_store.specs.Store.{Store, Update, StoreEntries, updates, abstract_store, abstract_updates, id_name, entity_name, policy_name}
+use Rattle.stamped_store.specs.Store.{Store, Update, StoreEntries, updates, abstract_store, abstract_updates, id_name}
+use Rattle.stamped_store.specs.Store.{entity_name, policy_name}
 use Rattle.stamped_store.specs.Contents.{text_under, policy_text, policies_of}
 use Rattle.stamped_store.specs.Reading.{AllNamed, IsBodyRead, IsEntryRead}
 use Rattle.stored_world.specs.Said.{ArePolicies, HaveOneReading}

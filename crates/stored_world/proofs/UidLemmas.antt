@@ -1,5 +1,6 @@
 -- Where the uids of entries ascend, those of entries with a text are those at which there is an entity, and ascend too.
-use Rattle.std.specs.Prelude.{◌≡◌, Vec, Result, Ok, Err, IfOk, List, [], ◌∷◌, ◌++◌, Option, Some, None, is_some, Bool, false, cond, refl, option_and_then}
+use Rattle.std.specs.Prelude.{◌≡◌, Vec, Result, Ok, Err, IfOk, List, [], ◌∷◌, ◌++◌, Option, Some, None, is_some, Bool}
+use Rattle.std.specs.Prelude.{false, cond, refl, option_and_then}
 use Rattle.std.proofs.Common.{sym, ap, ◌∙◌, subst}
 use Rattle.std.proofs.lemmas.List.Kept.{IsStrictlySortedBy-filter}
 use Rattle.std.specs.Borrow.{Bor}
@@ -12,10 +13,10 @@ use Rattle.std.specs.Cmp.{tied_itself}
 use Rattle.std.specs.declared.cmp.Ordering.TheVariants.{Less}
 use Rattle.values.specs.declared.entity_uid.EntityUid.{EntityUid}
 use Rattle.values.specs.Names.{uid_cmp, uid_cmp-IsTotalOrder}
-use Rattle.ancestor_closure.specs.Hierarchy.{IsAscending, names}
-use Rattle.entity_worlds.specs.declared.entity.Entity.{Entity}
-use Rattle.stamped_entries.specs.declared.entry.Entry.{Entry}
-use Rattle.stamped_entries.specs.declared.entry.ReadText.{ReadText}
+use Rattle.entity_store.specs.ancestor_closure.Hierarchy.{IsAscending, names}
+use Rattle.entity_store.specs.entity_worlds.declared.entity.Entity.{Entity}
+use Rattle.stamped_store.specs.stamped_entries.declared.entry.Entry.{Entry}
+use Rattle.stamped_store.specs.stamped_entries.declared.entry.ReadText.{ReadText}
 use Rattle.stamped_store.specs.Stored.{value_at}
 use Rattle.stored_world.specs.TextsRead.{entity_read, entity_at, uids_read}
 use Rattle.stored_world.specs.inner.Listing.{uid_with, uids_with_text}

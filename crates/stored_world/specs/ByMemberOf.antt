@@ -5,13 +5,13 @@
 use Rattle.std.specs.Prelude.{◌↔◌, ℕ, List, Option}
 use Rattle.values.specs.declared.entity_uid.EntityUid.{EntityUid}
 use Rattle.values.specs.declared.request.Request.{Request}
-use Rattle.policy_grammar.specs.declared.policy.Policy.{Policy}
-use Rattle.ancestor_closure.specs.Hierarchy.{Parents, IsOnCycle, with_parents}
-use Rattle.evaluator.specs.Operators.{World}
-use Rattle.authoriser.specs.declared.answer.Answer.{Answer}
-use Rattle.authoriser.specs.Answers.{NamedPolicy, IsAnswer}
-use Rattle.schema.specs.Schemas.{StatedSchema, IsSchemaOf}
-use Rattle.entity_worlds.specs.declared.entity.Entity.{Entity}
+use Rattle.entity_store.specs.policy_grammar.declared.policy.Policy.{Policy}
+use Rattle.entity_store.specs.ancestor_closure.Hierarchy.{Parents, IsOnCycle, with_parents}
+use Rattle.entity_store.specs.evaluator.Operators.{World}
+use Rattle.entity_store.specs.authoriser.declared.answer.Answer.{Answer}
+use Rattle.entity_store.specs.authoriser.Answers.{NamedPolicy, IsAnswer}
+use Rattle.entity_store.specs.schema.Schemas.{StatedSchema, IsSchemaOf}
+use Rattle.entity_store.specs.entity_worlds.declared.entity.Entity.{Entity}
 use Rattle.entity_store.specs.Laws.{stated_world}
 use Rattle.stamped_store.specs.Store.{Store}
 use Rattle.stored_world.specs.Said.{ArePolicies, AreEntities, data_in, IsAnswerOver, MakesCycle, MakesNoCycle}

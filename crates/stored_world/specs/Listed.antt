@@ -7,10 +7,11 @@ use Rattle.std.specs.Map.{keys_of}
 use Rattle.std.specs.Ordering.{is_eq}
 use Rattle.values.specs.declared.entity_uid.EntityUid.{EntityUid}
 use Rattle.values.specs.Names.{uid_cmp}
-use Rattle.ancestor_closure.specs.Deciding.{Contains-here, Contains-there, Contains-cases, Contains-none, same_uid}
-use Rattle.entity_worlds.specs.declared.entity.Entity.{Entity}
-use Rattle.entity_worlds.specs.Entities.{AreListed}
-use Rattle.stamped_entries.specs.declared.entry.Entry.{Entry}
+use Rattle.entity_store.specs.ancestor_closure.Deciding.{Contains-here, Contains-there, Contains-cases, Contains-none}
+use Rattle.entity_store.specs.ancestor_closure.Deciding.{same_uid}
+use Rattle.entity_store.specs.entity_worlds.declared.entity.Entity.{Entity}
+use Rattle.entity_store.specs.entity_worlds.Entities.{AreListed}
+use Rattle.stamped_store.specs.stamped_entries.declared.entry.Entry.{Entry}
 use Rattle.stamped_store.specs.Stored.{value_at}
 use Rattle.stored_world.specs.Said.{data_of, data_in}
 use Rattle.stored_world.specs.TextsRead.{entity_at, uids_read}

@@ -6,15 +6,15 @@ use Rattle.std.specs.Prelude.{◌≡◌, ℕ, List, Option, Some, None, option_m
 use Rattle.std.specs.List.{AllZip}
 use Rattle.values.specs.declared.entity_uid.EntityUid.{EntityUid}
 use Rattle.values.specs.declared.request.Request.{Request}
-use Rattle.policy_grammar.specs.declared.policy.Policy.{Policy}
-use Rattle.ancestor_closure.specs.Hierarchy.{Parents, IsOnCycle, with_parents}
-use Rattle.evaluator.specs.Operators.{World}
-use Rattle.authoriser.specs.declared.answer.Answer.{Answer}
-use Rattle.authoriser.specs.Answers.{NamedPolicy, IsAnswer}
-use Rattle.schema.specs.Schemas.{StatedSchema}
-use Rattle.entity_worlds.specs.declared.entity.Entity.{Entity}
-use Rattle.entity_worlds.specs.declared.data.EntityData.{EntityData}
-use Rattle.entity_worlds.specs.Entities.{EntityMap, with_actions, world_in}
+use Rattle.entity_store.specs.policy_grammar.declared.policy.Policy.{Policy}
+use Rattle.entity_store.specs.ancestor_closure.Hierarchy.{Parents, IsOnCycle, with_parents}
+use Rattle.entity_store.specs.evaluator.Operators.{World}
+use Rattle.entity_store.specs.authoriser.declared.answer.Answer.{Answer}
+use Rattle.entity_store.specs.authoriser.Answers.{NamedPolicy, IsAnswer}
+use Rattle.entity_store.specs.schema.Schemas.{StatedSchema}
+use Rattle.entity_store.specs.entity_worlds.declared.entity.Entity.{Entity}
+use Rattle.entity_store.specs.entity_worlds.declared.data.EntityData.{EntityData}
+use Rattle.entity_store.specs.entity_worlds.Entities.{EntityMap, with_actions, world_in}
 use Rattle.stamped_store.specs.Store.{Store, entity_name}
 use Rattle.stamped_store.specs.Contents.{text_under, policies_of}
 

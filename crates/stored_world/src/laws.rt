@@ -2,20 +2,20 @@
 ghost use Rattle.std.specs.Prelude.{◌≡◌, ◌↔◌, ℕ, List, Option, Some, Contains, map};
 ghost use Rattle.values.specs.declared.entity_uid.EntityUid.{EntityUid};
 ghost use Rattle.values.specs.declared.request.Request.{Request as PlainRequest};
-ghost use Rattle.authoriser.specs.declared.answer.Answer.{Answer as PlainAnswer};
-ghost use Rattle.authoriser.specs.Answers.{NamedPolicy};
-ghost use Rattle.authoriser.specs.Laws.{AreIdsAscending};
-ghost use Rattle.schema.specs.Schemas.{StatedSchema, IsSchemaOf};
-ghost use Rattle.entity_worlds.specs.declared.entity.Entity.{Entity as PlainEntity};
+ghost use Rattle.entity_store.specs.authoriser.declared.answer.Answer.{Answer as PlainAnswer};
+ghost use Rattle.entity_store.specs.authoriser.Answers.{NamedPolicy};
+ghost use Rattle.entity_store.specs.authoriser.Laws.{AreIdsAscending};
+ghost use Rattle.entity_store.specs.schema.Schemas.{StatedSchema, IsSchemaOf};
+ghost use Rattle.entity_store.specs.entity_worlds.declared.entity.Entity.{Entity as PlainEntity};
 ghost use Rattle.stamped_store.specs.Store.{Store, policy_name, entity_name};
 ghost use Rattle.stamped_store.specs.Contents.{text_under};
 ghost use Rattle.stored_world.specs.Said.{ArePolicies, AreEntities, HaveOneReading, IsAnswerOver};
 ghost use Rattle.stored_world.specs.ByMemberOf.{StoredActionsAnswerAlike, StoredActionsCycleAlike};
 ghost use Rattle.stored_world.specs.ByMemberOf.{StoredActionsAllowAlike};
 
-use authoriser::answers_are_lawful;
+use entity_store::authoriser::answers_are_lawful;
+use entity_store::policy_grammar::Policy;
 use entity_store::{Entity, actions_may_be_closed};
-use policy_grammar::Policy;
 use stamped_store::Readings;
 use stamped_store::laws::contents_are_told;
 

@@ -8,6 +8,9 @@ mod laws;
 mod policies;
 mod stored_entities;
 
+pub use entity_store;
+pub use entity_store::{ancestor_closure, authoriser, entities, evaluator, schema};
 pub use laws::{requests_have_one_answer, stored_actions_answer_alike, stores_have_one_reading};
 pub use policies::policies_in;
+pub use stamped_store;
 pub use stored_entities::StoredEntities;

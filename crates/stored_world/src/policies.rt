@@ -1,13 +1,13 @@
 //! The policies of a store.
 ghost use Rattle.std.specs.Prelude.{◌≡◌, IfOk, map};
-ghost use Rattle.authoriser.specs.Views.{named};
-ghost use Rattle.authoriser.specs.Laws.{AreIdsAscending};
+ghost use Rattle.entity_store.specs.authoriser.Views.{named};
+ghost use Rattle.entity_store.specs.authoriser.Laws.{AreIdsAscending};
 ghost use Rattle.stamped_store.specs.Store.{updates, abstract_store, abstract_updates};
 ghost use Rattle.stored_world.specs.TextsRead.{policies_read};
 
 use entity_store::Entity;
+use entity_store::policy_grammar::Policy;
 use plain::NoMemory;
-use policy_grammar::Policy;
 use stamped_store::PolicyStore;
 use std::alloc::Global;
 

@@ -1,7 +1,7 @@
 //! The entities of a store, for whoever asks.
 ghost use Rattle.std.specs.Prelude.{◌≡◌, IfOk};
 ghost use Rattle.std.specs.Option.{option_copied};
-ghost use Rattle.ancestor_closure.specs.Hierarchy.{IsAscending, names};
+ghost use Rattle.entity_store.specs.ancestor_closure.Hierarchy.{IsAscending, names};
 ghost use Rattle.std.specs.List.Sorted.{IsStrictlySortedBy};
 ghost use Rattle.std.specs.Map.{keys_of};
 ghost use Rattle.values.specs.Names.{uid_cmp};
@@ -10,9 +10,9 @@ ghost use Rattle.stored_world.specs.TextsRead.{entity_at, uids_read};
 ghost use Rattle.stored_world.specs.Said.{data_in};
 ghost use Rattle.stored_world.specs.Listed.{entities_listed};
 
+use entity_store::policy_grammar::Policy;
 use entity_store::{Entity, EntitySource};
 use plain::NoMemory;
-use policy_grammar::Policy;
 use stamped_store::PolicyStore;
 use std::alloc::Global;
 use values::{EntityUid, Record};

@@ -8,11 +8,12 @@ use Rattle.serde_json.specs.Written.{compact_text}
 use Rattle.values.specs.Paths.{PathTestIsExact}
 use Rattle.values.specs.declared.name.Name.{Name}
 use Rattle.values.specs.declared.name.Name.TheVariants.{Policy, Entity}
-use Rattle.stamped_entries.specs.declared.entry.Stamp.{Stamp}
+use Rattle.stamped_store.specs.stamped_entries.declared.entry.Stamp.{Stamp}
 use Rattle.stamped_store.specs.Deltas.{Summary}
 use Rattle.stamped_store.specs.SiteNames.{SiteTestIsExact, SiteNamesAreTexts}
 use Rattle.sync_messages.specs.declared.fault.MessageFault.{MessageFault}
-use Rattle.sync_messages.specs.Summaries.{IsStamped, AreStamped, HasTexts, HaveTexts, IsWritten, name_json, stamp_json, summary_json, summary_text, summary_in, summary_stated}
+use Rattle.sync_messages.specs.Summaries.{IsStamped, AreStamped, HasTexts, HaveTexts, IsWritten, name_json, stamp_json}
+use Rattle.sync_messages.specs.Summaries.{summary_json, summary_text, summary_in, summary_stated}
 use Rattle.sync_messages.proofs.CompactUtf8.{key_is_utf8, json_again}
 use Rattle.sync_messages.proofs.RoundTrip.{summary_again, depth_summary, stated_back}
 

@@ -1,5 +1,6 @@
 -- A summary's JSON is read as the summary.
-use Rattle.std.proofs.Common.{◌≡◌, ◌∙◌, ℕ, suc, ◌≤◌, List, [], ◌∷◌, map, Bool, true, false, Ok, Some, refl, sym, ap, subst, arith, T}
+use Rattle.std.proofs.Common.{◌≡◌, ◌∙◌, ℕ, suc, ◌≤◌, List, [], ◌∷◌, map, Bool, true, false, Ok, Some, refl, sym, ap}
+use Rattle.std.proofs.Common.{subst, arith, T}
 use Rattle.std.specs.Prelude.{◌&&◌}
 use Rattle.std.specs.Ordering.{is_lt}
 use Rattle.std.specs.Str.{bytes_eq}
@@ -19,14 +20,18 @@ use Rattle.values.specs.declared.entity_uid.EntityUid.{EntityUid}
 use Rattle.values.specs.Names.{name_cmp}
 use Rattle.values.specs.Paths.{PathTestIsExact}
 use Rattle.uid_json.specs.Uids.{uid_in, plain_uid_in, uid_json}
-use Rattle.stamped_entries.specs.declared.entry.Stamp.{Stamp}
+use Rattle.stamped_store.specs.stamped_entries.declared.entry.Stamp.{Stamp}
 use Rattle.stamped_store.specs.Deltas.{Summary, stamp_of, summary_of}
 use Rattle.stamped_store.specs.Store.{Store, Update, updates}
 use Rattle.stamped_store.specs.SiteNames.{SiteTestIsExact}
 use Rattle.stamped_store.specs.Raised.{IsSiteNumber}
 use Rattle.sync_messages.specs.declared.version.MessageVersion.TheVariants.{One, Two}
-use Rattle.sync_messages.specs.Summaries.{version_in, numbered_in, raised_in, named_in, ascend, IsName, IsStamped, AreStamped, name_json, stamp_json, summary_json, policy_in, entity_name_in, name_in, stamped_by, stamped_in, stamp_in, stamps_of, stamps_in, is_name_in_range, judged, summary_in, summary_stated}
-use Rattle.sync_messages.specs.Numbered.{NumberedStamp, HaveNumbers, raise_stamp, raise_stamps, numbered_stamp_json, numbered_summary_json}
+use Rattle.sync_messages.specs.Summaries.{version_in, numbered_in, raised_in, named_in, ascend, IsName, IsStamped}
+use Rattle.sync_messages.specs.Summaries.{AreStamped, name_json, stamp_json, summary_json, policy_in, entity_name_in}
+use Rattle.sync_messages.specs.Summaries.{name_in, stamped_by, stamped_in, stamp_in, stamps_of, stamps_in}
+use Rattle.sync_messages.specs.Summaries.{is_name_in_range, judged, summary_in, summary_stated}
+use Rattle.sync_messages.specs.Numbered.{NumberedStamp, HaveNumbers, raise_stamp, raise_stamps, numbered_stamp_json}
+use Rattle.sync_messages.specs.Numbered.{numbered_summary_json}
 
 -- ---- one stamp
 uid_again : PathTestIsExact → (uid : EntityUid) → IsPath uid.type_name → uid_in (uid_json uid) ≡ Some uid

@@ -1,5 +1,6 @@
 -- What is read as a summary has names and stamps in their ranges, and its names ascend.
-use Rattle.std.proofs.Common.{◌≡◌, ◌∙◌, ℕ, suc, List, [], ◌∷◌, length, Bool, true, false, Result, Ok, Option, Some, None, refl, sym, ap, subst, arith}
+use Rattle.std.proofs.Common.{◌≡◌, ◌∙◌, ℕ, suc, List, [], ◌∷◌, length, Bool, true, false, Result, Ok, Option, Some}
+use Rattle.std.proofs.Common.{None, refl, sym, ap, subst, arith}
 use Rattle.std.specs.Prelude.{⊤, ◌&&◌, codes, nat_le, if◌then◌else◌}
 use Rattle.std.specs.Str.{bytes_eq}
 use Rattle.std.specs.List.{AllByRecursion}
@@ -17,15 +18,19 @@ use Rattle.values.specs.declared.name.Name.TheVariants.{Policy, Entity}
 use Rattle.values.specs.declared.entity_uid.EntityUid.{EntityUid}
 use Rattle.uid_json.specs.Uids.{IsUid, uid_in}
 use Rattle.uid_json.specs.Laws.{UidsAreFound}
-use Rattle.stamped_entries.specs.declared.entry.Stamp.{Stamp}
+use Rattle.stamped_store.specs.stamped_entries.declared.entry.Stamp.{Stamp}
 use Rattle.stamped_store.specs.Deltas.{Summary}
 use Rattle.stamped_store.specs.Raised.{IsSiteNumber}
 use Rattle.stamped_store.specs.SiteNames.{IsSiteName, SiteTestIsExact, SiteDigitsAreNames, is_site_name, five_digits}
 use Rattle.sync_messages.specs.declared.version.MessageVersion.{MessageVersion}
 use Rattle.sync_messages.specs.declared.version.MessageVersion.TheVariants.{One, Two}
 use Rattle.sync_messages.specs.declared.fault.MessageFault.{MessageFault}
-use Rattle.sync_messages.specs.declared.fault.MessageFault.TheVariants.{NotJson, BadShape, OtherSchema, CountRange, BadEntry}
-use Rattle.sync_messages.specs.Summaries.{ascend, IsName, IsStamped, AreStamped, number_at, policy_in, entity_name_in, name_in, version_in, numbered_in, raised_in, named_in, site_in, StampAt, stamped_by, stamped_in, stamp_in, stamps_of, stamps_in, is_name_in_range, bad_id, judged, summary_in, summary_stated}
+use Rattle.sync_messages.specs.declared.fault.MessageFault.TheVariants.{NotJson, BadShape, OtherSchema, CountRange}
+use Rattle.sync_messages.specs.declared.fault.MessageFault.TheVariants.{BadEntry}
+use Rattle.sync_messages.specs.Summaries.{ascend, IsName, IsStamped, AreStamped, number_at, policy_in, entity_name_in}
+use Rattle.sync_messages.specs.Summaries.{name_in, version_in, numbered_in, raised_in, named_in, site_in, StampAt}
+use Rattle.sync_messages.specs.Summaries.{stamped_by, stamped_in, stamp_in, stamps_of, stamps_in, is_name_in_range}
+use Rattle.sync_messages.specs.Summaries.{bad_id, judged, summary_in, summary_stated}
 
 abbrev read : {A : Type 0} → A → Result A MessageFault
 read x = Ok x

@@ -10,11 +10,12 @@ use Rattle.serde_json.specs.Data.{Data, number, unsigned, string, array, no_memb
 use Rattle.serde_json.specs.View.{items_of}
 use Rattle.values.specs.declared.entity_uid.EntityUid.{EntityUid}
 use Rattle.values.specs.declared.name.Name.{Name}
-use Rattle.stamped_entries.specs.declared.entry.Entry.{Entry}
-use Rattle.stamped_entries.specs.declared.entry.Stamp.{Stamp}
+use Rattle.stamped_store.specs.stamped_entries.declared.entry.Entry.{Entry}
+use Rattle.stamped_store.specs.stamped_entries.declared.entry.Stamp.{Stamp}
 use Rattle.stamped_store.specs.Abstraction.{abstract_entries}
 use Rattle.stamped_store.specs.Deltas.{Summary, stamp_of, summary_of}
-use Rattle.stamped_store.specs.Store.{StoreEntries, Update, abstract_store, abstract_updates, updates, id_name, entity_name}
+use Rattle.stamped_store.specs.Store.{StoreEntries, Update, abstract_store, abstract_updates, updates, id_name}
+use Rattle.stamped_store.specs.Store.{entity_name}
 use Rattle.sync_messages.specs.Summaries.{name_json, stamp_json, summary_json}
 use Rattle.uid_json.specs.Tokens.{Adds, IsReadAgain, AppendsValue, AppendsMember, AppendsAll}
 use Rattle.sync_messages.specs.inner.Writing.{stamps_json}

@@ -6,7 +6,7 @@ use Rattle.std.specs.List.{AllByRecursion}
 use Rattle.serde_json.specs.Data.{Data, number, unsigned, string, array, object, no_members, member}
 use Rattle.serde_json.specs.View.{items_of}
 use Rattle.values.specs.declared.name.Name.{Name}
-use Rattle.stamped_entries.specs.declared.entry.Stamp.{Stamp}
+use Rattle.stamped_store.specs.stamped_entries.declared.entry.Stamp.{Stamp}
 use Rattle.stamped_store.specs.Deltas.{Summary}
 use Rattle.stamped_store.specs.Raised.{IsSiteNumber}
 use Rattle.stamped_store.specs.SiteNames.{five_digits}

@@ -21,7 +21,7 @@ use Rattle.values.specs.declared.name.Name.{Name}
 use Rattle.values.specs.declared.name.Name.TheVariants.{Policy, Entity}
 use Rattle.values.specs.Names.{name_cmp}
 use Rattle.uid_json.specs.Uids.{uid_in, uid_json}
-use Rattle.stamped_entries.specs.declared.entry.Stamp.{Stamp}
+use Rattle.stamped_store.specs.stamped_entries.declared.entry.Stamp.{Stamp}
 use Rattle.stamped_store.specs.Deltas.{Summary}
 use Rattle.stamped_store.specs.SiteNames.{IsSiteName, is_site_name, five_digits}
 use Rattle.sync_messages.specs.declared.version.MessageVersion.{MessageVersion}

@@ -3,7 +3,7 @@ ghost use Rattle.std.specs.Prelude.{◌≡◌, true, Ok, List, ℕ};
 ghost use Rattle.std.specs.Str.{IsUtf8};
 ghost use Rattle.serde_json.specs.Data.{Data};
 ghost use Rattle.values.specs.declared.name.Name.{Name};
-ghost use Rattle.stamped_entries.specs.declared.entry.Stamp.{Stamp};
+ghost use Rattle.stamped_store.specs.stamped_entries.declared.entry.Stamp.{Stamp};
 ghost use Rattle.stamped_store.specs.Deltas.{Summary, summary_of};
 ghost use Rattle.stamped_store.specs.Store.{Store};
 ghost use Rattle.sync_messages.specs.declared.version.MessageVersion.{MessageVersion};

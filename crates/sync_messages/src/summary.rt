@@ -15,7 +15,7 @@ pub struct Summary {
 impl Model for Summary {
     ghost use Rattle.std.specs.Prelude.{◌≡◌, List, true};
     ghost use Rattle.values.specs.declared.name.Name.{Name};
-    ghost use Rattle.stamped_entries.specs.declared.entry.Stamp.{Stamp};
+    ghost use Rattle.stamped_store.specs.stamped_entries.declared.entry.Stamp.{Stamp};
     ghost use Rattle.sync_messages.specs.Summaries.{ascend};
 
     ghost Value = { List (Name × Stamp) };

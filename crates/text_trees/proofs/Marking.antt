@@ -1,7 +1,7 @@
 -- Marks that a loop makes, one more at each turn.
 use Rattle.std.proofs.Common.{◌≡◌, ℕ, ◌+◌, ◌<◌, List, [], ◌∷◌, ◌++◌, length, take, get_or, map, sym, ◌∙◌, ap}
 use Rattle.std.proofs.lemmas.List.{take_more, map-append}
-use Rattle.policy_tokens.specs.Lexing.{spelling_of}
+use Rattle.desugaring.specs.policy_tokens.Lexing.{spelling_of}
 use Rattle.policy_syntax.specs.declared.tree.Annotation.{Annotation}
 use Rattle.desugaring.specs.declared.repeats.NameAt as code
 use Rattle.desugaring.specs.Repeats.{NameAt, abstract_names}

@@ -1,10 +1,10 @@
 -- From the refusal of tokens to the refusal of their text.
 use Rattle.std.proofs.Common.{◌≡◌, ℕ, List, ◌⊎◌, refl, ap, inl, inr}
-use Rattle.policy_tokens.specs.declared.token.Token.{Token}
-use Rattle.token_readers.specs.declared.fault.SyntaxFault.{SyntaxFault}
-use Rattle.token_readers.specs.declared.fault.SyntaxFault.TheVariants as syntax
-use Rattle.token_readers.specs.Lang.{Lang}
-use Rattle.token_readers.specs.Reads.{IsRefusedWithin}
+use Rattle.desugaring.specs.policy_tokens.declared.token.Token.{Token}
+use Rattle.desugaring.specs.token_readers.declared.fault.SyntaxFault.{SyntaxFault}
+use Rattle.desugaring.specs.token_readers.declared.fault.SyntaxFault.TheVariants as syntax
+use Rattle.desugaring.specs.token_readers.Lang.{Lang}
+use Rattle.desugaring.specs.token_readers.Reads.{IsRefusedWithin}
 use Rattle.text_trees.specs.declared.fault.ReadFault.TheVariants as fault
 use Rattle.plain.specs.Refused.{OrNoMemory}
 use Rattle.text_trees.specs.Texts.{IsUnread}

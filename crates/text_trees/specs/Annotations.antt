@@ -1,7 +1,7 @@
 -- The keys of a policy's annotations, of which each stands once.
 -- Source: Cedar reference guide 4.0, "Annotations": a key stands once in a policy.
 use Rattle.std.specs.Prelude.{ℕ, List, map}
-use Rattle.policy_tokens.specs.Lexing.{spelling_of}
+use Rattle.desugaring.specs.policy_tokens.Lexing.{spelling_of}
 use Rattle.policy_syntax.specs.declared.tree.Annotation.{Annotation}
 use Rattle.policy_syntax.specs.declared.tree.PolicyTree.{PolicyTree}
 use Rattle.desugaring.specs.Repeats.{NameAt}

@@ -1,7 +1,7 @@
 -- The refusals by number and place. The numbers are a rule of this product.
 use Rattle.std.specs.Prelude.{ℕ, Option, Some, None}
-use Rattle.policy_tokens.specs.declared.fault.LexFault.{LexFault}
-use Rattle.policy_tokens.specs.declared.fault.LexFault.TheVariants as lex
+use Rattle.desugaring.specs.policy_tokens.declared.fault.LexFault.{LexFault}
+use Rattle.desugaring.specs.policy_tokens.declared.fault.LexFault.TheVariants as lex
 use Rattle.desugaring.specs.declared.fault.DesugarFault.{DesugarFault}
 use Rattle.desugaring.specs.declared.fault.DesugarFault.TheVariants as desugar
 use Rattle.text_trees.specs.declared.fault.ReadFault.{ReadFault}

@@ -3,12 +3,12 @@
 -- Source: Cedar reference guide 4.0, "Grammar specification for Cedar policy syntax". The limits, the refusals and
 -- their order are rules of this product.
 use Rattle.std.specs.Prelude.{◌≡◌, ℕ, ◌≤◌, ◌<◌, List, length, Option, Some, None, slice_get}
-use Rattle.policy_tokens.specs.declared.token.Token.{Token}
-use Rattle.policy_tokens.specs.Lexing.{IsLexed, IsBadAt}
-use Rattle.token_readers.specs.declared.fault.SyntaxFault.{SyntaxFault}
-use Rattle.token_readers.specs.declared.fault.SyntaxFault.TheVariants as syntax
-use Rattle.token_readers.specs.Lang.{Lang}
-use Rattle.token_readers.specs.Reads.{IsRefusedWithin}
+use Rattle.desugaring.specs.policy_tokens.declared.token.Token.{Token}
+use Rattle.desugaring.specs.policy_tokens.Lexing.{IsLexed, IsBadAt}
+use Rattle.desugaring.specs.token_readers.declared.fault.SyntaxFault.{SyntaxFault}
+use Rattle.desugaring.specs.token_readers.declared.fault.SyntaxFault.TheVariants as syntax
+use Rattle.desugaring.specs.token_readers.Lang.{Lang}
+use Rattle.desugaring.specs.token_readers.Reads.{IsRefusedWithin}
 use Rattle.text_trees.specs.declared.fault.ReadFault.{ReadFault}
 use Rattle.text_trees.specs.declared.fault.ReadFault.TheVariants as fault
 

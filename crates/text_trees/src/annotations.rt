@@ -6,10 +6,10 @@ ghost use Rattle.desugaring.specs.Repeats.{repeat_faults, abstract_names};
 ghost use Rattle.desugaring.specs.BuiltFrom.{IsBuiltFrom};
 ghost use Rattle.text_trees.specs.Annotations.{annotation_keys};
 
+use desugaring::policy_tokens::spelling;
 use desugaring::{DesugarFault, NameAt, first_duplicate};
 use plain::NoMemory;
 use policy_syntax::PolicyTree;
-use policy_tokens::spelling;
 use std::alloc::Global;
 
 /// Returns the annotations of a policy, each at its `@`.

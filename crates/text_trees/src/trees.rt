@@ -1,8 +1,8 @@
 //! Whole texts as trees: a uid, a policy, a file of policies.
 ghost use Rattle.std.specs.Prelude.{◌≡◌, IfOk, IfErr, slice_get};
 ghost use Rattle.std.specs.List.{AllByRecursion};
-ghost use Rattle.policy_syntax.specs.passed_on.expression_syntax.{nesting_limit};
-ghost use Rattle.token_readers.specs.Lang.{at_any};
+ghost use Rattle.policy_syntax.specs.expression_syntax.Expressions.{nesting_limit};
+ghost use Rattle.desugaring.specs.token_readers.Lang.{at_any};
 ghost use Rattle.policy_syntax.specs.Grammar as grammar;
 ghost use Rattle.policy_syntax.specs.WellFormed.{WellFormedUid, WellFormedPolicy};
 ghost use Rattle.desugaring.specs.BuiltFrom.{IsBuiltFrom};
@@ -12,8 +12,8 @@ ghost use Rattle.text_trees.specs.Texts.{most_policy_bytes, most_file_bytes, Der
 ghost use Rattle.text_trees.specs.inner.Parts.{LexedIn, IsUnlexed, refusal_of};
 
 use crate::fault::ReadFault;
+use desugaring::policy_tokens::{Token, tokens};
 use policy_syntax::{PolicyTree, SyntaxFault, UidTree, read_policies, read_policy, read_uid};
-use policy_tokens::{Token, tokens};
 use std::alloc::Global;
 
 /// The most bytes of a policy text, or of one uid.

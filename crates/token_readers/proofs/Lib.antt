@@ -27,3 +27,5 @@ pub mod NameLoop
 pub mod WellFormedLemmas
 pub mod NamesFirm
 pub mod NamesExact
+-- crates below, passed on to those above
+pub use Rattle.policy_tokens.proofs as of_policy_tokens

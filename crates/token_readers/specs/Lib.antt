@@ -8,3 +8,5 @@ pub mod ParsesTo
 pub mod WellFormed
 pub mod Included
 pub mod Repeats
+-- crates below, passed on to those above
+pub use Rattle.policy_tokens.specs as policy_tokens

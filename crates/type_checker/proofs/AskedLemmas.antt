@@ -10,13 +10,13 @@ use Rattle.expressions.specs.declared.expr.Expr.{Expr}
 use Rattle.expressions.specs.declared.expr.Expr.TheVariants as form
 use Rattle.expressions.specs.declared.expr.Expr.TheViews.{out-Expr}
 use Rattle.expressions.specs.declared.expr.Expr.TheOpen.{Expr-F}
-use Rattle.typing.specs.Types as types
-use Rattle.typing.specs.Environment.{Environment, unexpected}
-use Rattle.typing.specs.Learned.{Pairs}
-use Rattle.typing.specs.Rows.{Row, MayBeTrue, unary_type}
-use Rattle.typing.specs.Typing as typing
-use Rattle.typing.specs.Typing.{Types}
-use Rattle.typing.specs.Faults.{Faults}
+use Rattle.static_types.specs.typing.Types as types
+use Rattle.static_types.specs.typing.Environment.{Environment, unexpected}
+use Rattle.static_types.specs.typing.Learned.{Pairs}
+use Rattle.static_types.specs.typing.Rows.{Row, MayBeTrue, unary_type}
+use Rattle.static_types.specs.typing.Typing as typing
+use Rattle.static_types.specs.typing.Typing.{Types}
+use Rattle.static_types.specs.typing.Faults.{Faults}
 use Rattle.static_types.specs.Views.{static_view, fault_view}
 use Rattle.static_types.specs.declared.fault.TypeFault.{TypeFault}
 use Rattle.type_checker.specs.declared.typed.Typed.{Typed}

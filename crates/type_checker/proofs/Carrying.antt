@@ -1,24 +1,25 @@
 -- What is judged of a form, by what is judged of its operands.
-use Rattle.std.proofs.Common.{◌≡◌, ◌≢◌, ◌⊎◌, ◌++◌, List, [], map, Result, Ok, Err, Option, Some, None, refl, sym, subst, ap, inl, inr}
+use Rattle.std.proofs.Common.{◌≡◌, ◌≢◌, ◌⊎◌, ◌++◌, List, [], map, Result, Ok, Err, Option, Some, None, refl, sym, subst}
+use Rattle.std.proofs.Common.{ap, inl, inr}
 use Rattle.std.specs.Prelude.{Vec, IfOk, MatchResult}
 use Rattle.std.specs.Option.{option_map}
 use Rattle.std.specs.declared.alloc.Global.{Global}
 use Rattle.expressions.specs.declared.operator.UnaryCall.{UnaryCall}
 use Rattle.expressions.specs.declared.expr.Expr.{Expr}
 use Rattle.expressions.specs.declared.expr.Expr.TheVariants as form
-use Rattle.evaluator.specs.Operators.{TakesAddress}
-use Rattle.typing.specs.Types as types
-use Rattle.typing.specs.Environment as environment
-use Rattle.typing.specs.Environment.{Environment}
-use Rattle.typing.specs.Learned as learned
-use Rattle.typing.specs.Learned.{Pairs, has_learns}
-use Rattle.typing.specs.Literals.{ReadsLiteral, TakesText}
-use Rattle.typing.specs.Rows as rows
-use Rattle.typing.specs.Rows.{Row}
-use Rattle.typing.specs.Typing as typing
-use Rattle.typing.specs.Typing.{Types, TypesEach}
-use Rattle.typing.specs.Faults as faults
-use Rattle.typing.specs.Faults.{Faults, FaultsEach}
+use Rattle.static_types.specs.evaluator.Operators.{TakesAddress}
+use Rattle.static_types.specs.typing.Types as types
+use Rattle.static_types.specs.typing.Environment as environment
+use Rattle.static_types.specs.typing.Environment.{Environment}
+use Rattle.static_types.specs.typing.Learned as learned
+use Rattle.static_types.specs.typing.Learned.{Pairs, has_learns}
+use Rattle.static_types.specs.typing.Literals.{ReadsLiteral, TakesText}
+use Rattle.static_types.specs.typing.Rows as rows
+use Rattle.static_types.specs.typing.Rows.{Row}
+use Rattle.static_types.specs.typing.Typing as typing
+use Rattle.static_types.specs.typing.Typing.{Types, TypesEach}
+use Rattle.static_types.specs.typing.Faults as faults
+use Rattle.static_types.specs.typing.Faults.{Faults, FaultsEach}
 use Rattle.static_types.specs.Views.{static_view, boolean_view, fault_view, Answers}
 use Rattle.static_types.specs.declared.static_type.StaticType.{StaticType}
 use Rattle.static_types.specs.declared.static_type.BooleanType.{BooleanType}
@@ -29,7 +30,8 @@ use Rattle.type_checker.specs.declared.typed.Typed.{Typed}
 use Rattle.type_checker.specs.declared.typed.Then.{Then}
 use Rattle.type_checker.specs.declared.typed.Then.TheVariants as then
 use Rattle.known_pairs.specs.Pairs.{pairs}
-use Rattle.type_checker.specs.inner.Judged.{Judged, JudgedBehind, JudgedEach, JudgedMembers, MembersHave, ThenTyped, ThenJudged, ThenIs, IsBranch, IsRow, IsHasRow, CallTyped}
+use Rattle.type_checker.specs.inner.Judged.{Judged, JudgedBehind, JudgedEach, JudgedMembers, MembersHave, ThenTyped}
+use Rattle.type_checker.specs.inner.Judged.{ThenJudged, ThenIs, IsBranch, IsRow, IsHasRow, CallTyped}
 
 pub is_boolean_view : (b : BooleanType) → types.IsBoolean (boolean_view b)
 is_boolean_view truth.True = types.is_true

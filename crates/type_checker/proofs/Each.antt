@@ -1,15 +1,16 @@
 -- What is judged of several, one after the other, and of one behind a stack of pairs.
-use Rattle.std.proofs.Common.{◌≡◌, ◌<◌, ◌+◌, ◌++◌, ℕ, List, [], ◌∷◌, map, length, get_or, take, drop, Result, Ok, Err, sym, subst, ap, ◌∙◌}
+use Rattle.std.proofs.Common.{◌≡◌, ◌<◌, ◌+◌, ◌++◌, ℕ, List, [], ◌∷◌, map, length, get_or, take, drop, Result, Ok, Err}
+use Rattle.std.proofs.Common.{sym, subst, ap, ◌∙◌}
 use Rattle.std.proofs.lemmas.List.{drop_more, take_more, take-append-drop, map-append}
 use Rattle.expressions.specs.declared.expr.Expr.{Expr}
-use Rattle.typing.specs.Types as types
-use Rattle.typing.specs.Environment as environment
-use Rattle.typing.specs.Environment.{Environment}
-use Rattle.typing.specs.Learned.{Pairs}
-use Rattle.typing.specs.Typing as typing
-use Rattle.typing.specs.Typing.{Types, TypesEach}
-use Rattle.typing.specs.Faults as faults
-use Rattle.typing.specs.Faults.{Faults, FaultsEach}
+use Rattle.static_types.specs.typing.Types as types
+use Rattle.static_types.specs.typing.Environment as environment
+use Rattle.static_types.specs.typing.Environment.{Environment}
+use Rattle.static_types.specs.typing.Learned.{Pairs}
+use Rattle.static_types.specs.typing.Typing as typing
+use Rattle.static_types.specs.typing.Typing.{Types, TypesEach}
+use Rattle.static_types.specs.typing.Faults as faults
+use Rattle.static_types.specs.typing.Faults.{Faults, FaultsEach}
 use Rattle.static_types.specs.Views.{static_view}
 use Rattle.static_types.specs.declared.static_type.StaticType.{StaticType}
 use Rattle.static_types.specs.declared.fault.TypeFault.{TypeFault}

@@ -1,20 +1,21 @@
 -- What leads from the parts of a whole to the next, and to what is judged of it.
-use Rattle.std.proofs.Common.{◌≡◌, ◌≢◌, ◌<◌, ◌≤◌, ◌+◌, ◌++◌, ℕ, List, [], length, get_or, drop, Option, Some, None, Result, Ok, Err, refl, sym, subst, ap, ◌∙◌}
+use Rattle.std.proofs.Common.{◌≡◌, ◌≢◌, ◌<◌, ◌≤◌, ◌+◌, ◌++◌, ℕ, List, [], length, get_or, drop, Option, Some, None}
+use Rattle.std.proofs.Common.{Result, Ok, Err, refl, sym, subst, ap, ◌∙◌}
 use Rattle.std.proofs.lemmas.List.{drop_more, drop_all}
 use Rattle.std.specs.Prelude.{IfOk, IfErr, MatchResult}
 use Rattle.std.specs.Option.{option_map}
 use Rattle.expressions.specs.declared.expr.Expr.{Expr}
 use Rattle.expressions.specs.declared.expr.Expr.TheVariants as form
-use Rattle.typing.specs.Types as types
-use Rattle.typing.specs.Types.{IsBoolean}
-use Rattle.typing.specs.Environment.{Environment, unexpected}
-use Rattle.typing.specs.Learned.{Pairs}
-use Rattle.typing.specs.Rows.{and_type, MayBeTrue}
-use Rattle.typing.specs.Rows as rows
-use Rattle.typing.specs.Typing as typing
-use Rattle.typing.specs.Typing.{Types}
-use Rattle.typing.specs.Faults as faults
-use Rattle.typing.specs.Faults.{Faults}
+use Rattle.static_types.specs.typing.Types as types
+use Rattle.static_types.specs.typing.Types.{IsBoolean}
+use Rattle.static_types.specs.typing.Environment.{Environment, unexpected}
+use Rattle.static_types.specs.typing.Learned.{Pairs}
+use Rattle.static_types.specs.typing.Rows.{and_type, MayBeTrue}
+use Rattle.static_types.specs.typing.Rows as rows
+use Rattle.static_types.specs.typing.Typing as typing
+use Rattle.static_types.specs.typing.Typing.{Types}
+use Rattle.static_types.specs.typing.Faults as faults
+use Rattle.static_types.specs.typing.Faults.{Faults}
 use Rattle.static_types.specs.Views.{boolean_view, static_view, fault_view}
 use Rattle.static_types.specs.declared.fault.TypeFault as fault
 use Rattle.static_types.specs.declared.fault.TypeFault.TheVariants.{NoMemory, Unexpected}

@@ -1,16 +1,17 @@
 -- Members of a set, one after the other: one that repeats the one before is passed over.
-use Rattle.std.proofs.Common.{◌≡◌, ◌∙◌, ◌+◌, ℕ, List, [], ◌∷◌, ◌++◌, map, take, drop, Option, Some, None, refl, sym, subst, ap}
+use Rattle.std.proofs.Common.{◌≡◌, ◌∙◌, ◌+◌, ℕ, List, [], ◌∷◌, ◌++◌, map, take, drop, Option, Some, None, refl, sym}
+use Rattle.std.proofs.Common.{subst, ap}
 use Rattle.std.specs.Prelude.{IsSomeAnd, ⊤}
 use Rattle.std.specs.Borrow.{Bor}
 use Rattle.expressions.specs.declared.expr.Expr.{Expr}
-use Rattle.typing.specs.Types as types
-use Rattle.typing.specs.Environment as environment
-use Rattle.typing.specs.Environment.{Environment}
-use Rattle.typing.specs.Learned.{Pairs}
-use Rattle.typing.specs.Rows.{set_literal_type}
-use Rattle.typing.specs.Typing as typing
-use Rattle.typing.specs.Typing.{Types, TypesEach}
-use Rattle.typing.specs.Faults.{Faults, FaultsEach}
+use Rattle.static_types.specs.typing.Types as types
+use Rattle.static_types.specs.typing.Environment as environment
+use Rattle.static_types.specs.typing.Environment.{Environment}
+use Rattle.static_types.specs.typing.Learned.{Pairs}
+use Rattle.static_types.specs.typing.Rows.{set_literal_type}
+use Rattle.static_types.specs.typing.Typing as typing
+use Rattle.static_types.specs.typing.Typing.{Types, TypesEach}
+use Rattle.static_types.specs.typing.Faults.{Faults, FaultsEach}
 use Rattle.static_types.specs.Views.{static_view}
 use Rattle.static_types.specs.declared.static_type.StaticType.{StaticType}
 use Rattle.type_checker.specs.inner.Judged.{IsNext}

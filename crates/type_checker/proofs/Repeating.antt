@@ -1,12 +1,14 @@
 -- What members of a set that repeat the one before add to its type: nothing.
-use Rattle.std.proofs.Common.{◌≡◌, ◌∙◌, ℕ, List, [], ◌∷◌, ◌++◌, Bool, true, false, ◌&&◌, if◌then◌else◌, Option, Some, None, Ok, Err, refl, sym, ap}
+use Rattle.std.proofs.Common.{◌≡◌, ◌∙◌, ℕ, List, [], ◌∷◌, ◌++◌, Bool, true, false, ◌&&◌, if◌then◌else◌, Option, Some}
+use Rattle.std.proofs.Common.{None, Ok, Err, refl, sym, ap}
 use Rattle.std.specs.Option.{option_map, option_and_then}
 use Rattle.std.specs.Str.{bytes_eq}
 use Rattle.std.proofs.lemmas.Slice.Eq.{bytes_eq-Decides}
-use Rattle.typing.specs.Types as types
-use Rattle.typing.specs.Types.{StaticType, FieldTypes, common, common_fields, common_of, field_before, same_requirement}
-use Rattle.typing.specs.Environment as environment
-use Rattle.typing.specs.Rows.{Row, set_of_common, set_literal_type}
+use Rattle.static_types.specs.typing.Types as types
+use Rattle.static_types.specs.typing.Types.{StaticType, FieldTypes, common, common_fields, common_of, field_before}
+use Rattle.static_types.specs.typing.Types.{same_requirement}
+use Rattle.static_types.specs.typing.Environment as environment
+use Rattle.static_types.specs.typing.Rows.{Row, set_of_common, set_literal_type}
 
 -- ---- the common type of a type with itself
 

@@ -1,12 +1,13 @@
 -- What literals are, and what they settle.
-use Rattle.std.proofs.Common.{◌≡◌, ◌⊎◌, ◌↔◌, ◌<◌, ◌++◌, ℕ, ℤ, zero, suc, List, [], ◌∷◌, length, get_or, Bool, false, IsTrue, Option, Some, None, Contains, refl, sym, subst, ap, ◌∙◌, inl, inr, arith}
+use Rattle.std.proofs.Common.{◌≡◌, ◌⊎◌, ◌↔◌, ◌<◌, ◌++◌, ℕ, ℤ, zero, suc, List, [], ◌∷◌, length, get_or, Bool, false}
+use Rattle.std.proofs.Common.{IsTrue, Option, Some, None, Contains, refl, sym, subst, ap, ◌∙◌, inl, inr, arith}
 use Rattle.std.proofs.lemmas.Bool.{false≢true}
 use Rattle.std.proofs.lemmas.List.Elements.{Contains-append_left, Contains-append_right, Contains-append_cases}
 use Rattle.std.specs.Bool.{Decides}
 use Rattle.values.specs.declared.entity_uid.EntityUid.{EntityUid}
-use Rattle.extensions.specs.DecimalText.{IsDecimalText}
-use Rattle.extensions.specs.Network.{Network}
-use Rattle.extensions.specs.NetworkText.{IsNetworkText}
+use Rattle.values.specs.extensions.DecimalText.{IsDecimalText}
+use Rattle.values.specs.extensions.Network.{Network}
+use Rattle.values.specs.extensions.NetworkText.{IsNetworkText}
 use Rattle.expressions.specs.declared.leaf.Literal.{Literal}
 use Rattle.expressions.specs.declared.leaf.Literal.TheVariants as literal
 use Rattle.expressions.specs.declared.leaf.Variable.{Variable}
@@ -17,10 +18,11 @@ use Rattle.expressions.specs.declared.expr.Expr.{Expr}
 use Rattle.expressions.specs.declared.expr.Expr.TheVariants as form
 use Rattle.expressions.specs.declared.expr.Expr.TheViews.{out-Expr}
 use Rattle.expressions.specs.declared.expr.Expr.TheOpen.{Expr-F}
-use Rattle.typing.specs.Types as types
-use Rattle.typing.specs.Environment.{Environment}
-use Rattle.typing.specs.Literals as literals
-use Rattle.typing.specs.Literals.{IsLiteral, AreEntityLiterals, ListsEntities, IsActionIn, Settled, IsUnsettled, ReadsLiteral}
+use Rattle.static_types.specs.typing.Types as types
+use Rattle.static_types.specs.typing.Environment.{Environment}
+use Rattle.static_types.specs.typing.Literals as literals
+use Rattle.static_types.specs.typing.Literals.{IsLiteral, AreEntityLiterals, ListsEntities, IsActionIn, Settled}
+use Rattle.static_types.specs.typing.Literals.{IsUnsettled, ReadsLiteral}
 use Rattle.expressions.specs.declared.operator.Binary.{Binary}
 use Rattle.plain.proofs.Members.{Contains-here, Contains-cases, Contains-none}
 

@@ -1,8 +1,8 @@
 -- What `||` learns, by the type of its right.
 use Rattle.std.proofs.Common.{◌≡◌, List, [], sym, subst}
-use Rattle.typing.specs.Types as types
-use Rattle.typing.specs.Learned as learned
-use Rattle.typing.specs.Learned.{Pairs, InBoth}
+use Rattle.static_types.specs.typing.Types as types
+use Rattle.static_types.specs.typing.Learned as learned
+use Rattle.static_types.specs.typing.Learned.{Pairs, InBoth}
 use Rattle.static_types.specs.Views.{boolean_view}
 use Rattle.static_types.specs.declared.static_type.BooleanType.{BooleanType}
 use Rattle.static_types.specs.declared.static_type.BooleanType.TheVariants as truth

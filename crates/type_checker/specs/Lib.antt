@@ -1,3 +1,2 @@
 pub mod Joined
 pub mod inner
-pub mod passed_on

@@ -2,11 +2,11 @@
 ghost use Rattle.std.specs.Prelude.{◌≡◌, IsTrue, IfSome, MatchResult};
 ghost use Rattle.expressions.specs.declared.expr.Expr.{Expr};
 ghost use Rattle.expressions.specs.declared.expr.Expr.TheVariants as form;
-ghost use Rattle.typing.specs.Types as types;
-ghost use Rattle.typing.specs.Rows.{MayBeTrue};
-ghost use Rattle.typing.specs.Learned.{Pairs};
-ghost use Rattle.typing.specs.Literals.{IsUnsettled};
-ghost use Rattle.typing.specs.Typing.{Types};
+ghost use Rattle.static_types.specs.typing.Types as types;
+ghost use Rattle.static_types.specs.typing.Rows.{MayBeTrue};
+ghost use Rattle.static_types.specs.typing.Learned.{Pairs};
+ghost use Rattle.static_types.specs.typing.Literals.{IsUnsettled};
+ghost use Rattle.static_types.specs.typing.Typing.{Types};
 ghost use Rattle.static_types.specs.Views.{static_view, typing_environment};
 ghost use Rattle.type_checker.specs.inner.Judged.{Judged};
 ghost use Rattle.type_checker.specs.inner.Asking.{AsksAgain, MayHold};

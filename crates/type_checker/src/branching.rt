@@ -4,11 +4,11 @@
 ghost use Rattle.std.specs.Prelude.{◌≡◌, ◌≢◌, IfOk, MatchResult, Ok, Err, Some, None};
 ghost use Rattle.expressions.specs.declared.expr.Expr.{Expr};
 ghost use Rattle.expressions.specs.declared.expr.Expr.TheVariants as form;
-ghost use Rattle.typing.specs.Types.{false_type, boolean_type};
-ghost use Rattle.typing.specs.Rows.{MayBeTrue, and_type, or_type};
-ghost use Rattle.typing.specs.Environment as environment;
-ghost use Rattle.typing.specs.Learned.{Pairs, InBoth, OrLearns};
-ghost use Rattle.typing.specs.Typing.{Types};
+ghost use Rattle.static_types.specs.typing.Types.{false_type, boolean_type};
+ghost use Rattle.static_types.specs.typing.Rows.{MayBeTrue, and_type, or_type};
+ghost use Rattle.static_types.specs.typing.Environment as environment;
+ghost use Rattle.static_types.specs.typing.Learned.{Pairs, InBoth, OrLearns};
+ghost use Rattle.static_types.specs.typing.Typing.{Types};
 ghost use Rattle.static_types.specs.Views.{boolean_view};
 ghost use Rattle.known_pairs.specs.Pairs.{pairs};
 ghost use Rattle.type_checker.specs.inner.Judged.{Judged, JudgedBehind, ThenTyped};

@@ -3,15 +3,15 @@ ghost use Rattle.std.specs.Prelude.{◌≡◌, ◌≢◌, ◌↔◌, ℕ, List, 
 ghost use Rattle.expressions.specs.declared.leaf.Literal.TheVariants as literal;
 ghost use Rattle.expressions.specs.declared.operator.UnaryCall.TheVariants as unary_call;
 ghost use Rattle.expressions.specs.declared.expr.Expr.TheVariants as form;
-ghost use Rattle.typing.specs.Types as types;
-ghost use Rattle.typing.specs.Literals.{ReadsLiteral};
+ghost use Rattle.static_types.specs.typing.Types as types;
+ghost use Rattle.static_types.specs.typing.Literals.{ReadsLiteral};
 ghost use Rattle.static_types.specs.Views.{static_view, leaf_view};
 ghost use Rattle.type_checker.specs.inner.Judged.{CallTyped};
 
 use expressions::{Expr, Literal, UnaryCall};
-use extensions::{Decimal, IpNet};
 use plain::Text;
 use static_types::{Leaf, StaticType, TypeFault, address_test_type};
+use values::extensions::{Decimal, IpNet};
 
 /// Returns the text that an expression is a literal of.
 fn as_text(expr: &Expr) -> Option<&Text>

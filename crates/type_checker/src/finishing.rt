@@ -4,12 +4,12 @@
 ghost use Rattle.std.specs.Prelude.{◌≡◌, ◌≢◌, List, map, IfOk, MatchResult};
 ghost use Rattle.expressions.specs.declared.expr.Expr.{Expr};
 ghost use Rattle.expressions.specs.declared.expr.Expr.TheVariants as form;
-ghost use Rattle.typing.specs.Environment as environment;
-ghost use Rattle.typing.specs.Learned as learned;
-ghost use Rattle.typing.specs.Learned.{Pairs, has_learns};
-ghost use Rattle.typing.specs.Literals.{IsUnsettled};
-ghost use Rattle.typing.specs.Typing.{Types};
-ghost use Rattle.typing.specs.Faults.{Faults};
+ghost use Rattle.static_types.specs.typing.Environment as environment;
+ghost use Rattle.static_types.specs.typing.Learned as learned;
+ghost use Rattle.static_types.specs.typing.Learned.{Pairs, has_learns};
+ghost use Rattle.static_types.specs.typing.Literals.{IsUnsettled};
+ghost use Rattle.static_types.specs.typing.Typing.{Types};
+ghost use Rattle.static_types.specs.typing.Faults.{Faults};
 ghost use Rattle.static_types.specs.Views.{static_view, fault_view, typing_environment};
 ghost use Rattle.known_pairs.specs.Pairs.{pairs};
 ghost use Rattle.type_checker.specs.inner.Pairs.{if_learned};

@@ -2,10 +2,10 @@
 ghost use Rattle.std.specs.Prelude.{◌≡◌, ◌≢◌, ◌++◌, Some, option_map, MatchResult};
 ghost use Rattle.expressions.specs.declared.expr.Expr.{Expr};
 ghost use Rattle.expressions.specs.declared.expr.Expr.TheVariants as form;
-ghost use Rattle.typing.specs.Types.{IsBoolean};
-ghost use Rattle.typing.specs.Learned.{Pairs};
-ghost use Rattle.typing.specs.Typing.{Types};
-ghost use Rattle.typing.specs.Faults.{Faults};
+ghost use Rattle.static_types.specs.typing.Types.{IsBoolean};
+ghost use Rattle.static_types.specs.typing.Learned.{Pairs};
+ghost use Rattle.static_types.specs.typing.Typing.{Types};
+ghost use Rattle.static_types.specs.typing.Faults.{Faults};
 ghost use Rattle.static_types.specs.Views.{boolean_view, static_view, fault_view, typing_environment};
 ghost use Rattle.known_pairs.specs.Pairs.{pairs};
 ghost use Rattle.type_checker.specs.inner.Joining.{and_so_far, IsSide};

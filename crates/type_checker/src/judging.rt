@@ -2,8 +2,8 @@
 ghost use Rattle.std.specs.Prelude.{map};
 ghost use Rattle.expressions.specs.declared.expr.Expr.{Expr};
 ghost use Rattle.expressions.specs.declared.expr.Expr.TheVariants as form;
-ghost use Rattle.typing.specs.Learned.{Pairs};
-ghost use Rattle.typing.specs.Literals.{IsUnsettled};
+ghost use Rattle.static_types.specs.typing.Learned.{Pairs};
+ghost use Rattle.static_types.specs.typing.Literals.{IsUnsettled};
 ghost use Rattle.static_types.specs.Views.{typing_environment};
 ghost use Rattle.known_pairs.specs.Pairs.{pairs};
 ghost use Rattle.type_checker.specs.inner.Judged.{Judged, JudgedBehind, JudgedEach, JudgedMembers, ThenJudged};

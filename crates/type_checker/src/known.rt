@@ -1,6 +1,6 @@
 //! Known pairs, as typing puts them and asks for them.
 ghost use Rattle.std.specs.Prelude.{◌≡◌, ◌↔◌, ◌∷◌, [], ◌++◌, IsTrue, IfOk, Contains};
-ghost use Rattle.typing.specs.Learned.{Pairs, InBoth};
+ghost use Rattle.static_types.specs.typing.Learned.{Pairs, InBoth};
 ghost use Rattle.known_pairs.specs.Pairs.{pair_of, pairs};
 
 use expressions::Expr;

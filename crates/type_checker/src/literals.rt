@@ -5,7 +5,8 @@ ghost use Rattle.expressions.specs.declared.leaf.Literal.{Literal};
 ghost use Rattle.expressions.specs.declared.leaf.Literal.TheVariants as literal;
 ghost use Rattle.expressions.specs.declared.operator.Binary.TheVariants as binary;
 ghost use Rattle.values.specs.declared.entity_uid.EntityUid.{EntityUid};
-ghost use Rattle.typing.specs.Literals.{IsLiteral, AreEntityLiterals, ListsEntities, IsActionIn, Settled, IsUnsettled};
+ghost use Rattle.static_types.specs.typing.Literals.{IsLiteral, AreEntityLiterals, ListsEntities, IsActionIn, Settled};
+ghost use Rattle.static_types.specs.typing.Literals.{IsUnsettled};
 ghost use Rattle.static_types.specs.Views.{typing_environment};
 ghost use Rattle.type_checker.specs.inner.Literals.{literal_of};
 

@@ -1,7 +1,7 @@
 //! What is judged of an expression, while it is judged.
 ghost use Rattle.std.specs.Prelude.{◌≡◌, ◌↔◌, [], IsTrue, Ok, Err};
-ghost use Rattle.typing.specs.Types as types;
-ghost use Rattle.typing.specs.Rows.{MayBeTrue};
+ghost use Rattle.static_types.specs.typing.Types as types;
+ghost use Rattle.static_types.specs.typing.Rows.{MayBeTrue};
 ghost use Rattle.static_types.specs.Views.{boolean_view};
 ghost use Rattle.type_checker.specs.inner.Judged.{IsRow, AddsLearned, IsBranch};
 

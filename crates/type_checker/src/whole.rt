@@ -1,8 +1,8 @@
 //! The type of expressions that are joined, where nothing is known.
 ghost use Rattle.std.specs.Prelude.{◌≢◌, [], IfOk, IfErr};
-ghost use Rattle.typing.specs.Learned.{Pairs};
-ghost use Rattle.typing.specs.Typing.{Types};
-ghost use Rattle.typing.specs.Faults.{Faults};
+ghost use Rattle.static_types.specs.typing.Learned.{Pairs};
+ghost use Rattle.static_types.specs.typing.Typing.{Types};
+ghost use Rattle.static_types.specs.typing.Faults.{Faults};
 ghost use Rattle.static_types.specs.Views.{static_view, fault_view, typing_environment};
 ghost use Rattle.type_checker.specs.Joined.{joined};
 

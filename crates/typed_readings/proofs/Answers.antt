@@ -1,5 +1,6 @@
 -- Each policy that errs in an answer over a store errs for one of the two causes that are left.
-use Rattle.std.proofs.Common.{◌≡◌, ◌↔◌, ℕ, List, [], ◌∷◌, map, Option, Some, None, Result, Ok, Err, refl, subst, inl, inr}
+use Rattle.std.proofs.Common.{◌≡◌, ◌↔◌, ℕ, List, [], ◌∷◌, map, Option, Some, None, Result, Ok, Err, refl, subst, inl}
+use Rattle.std.proofs.Common.{inr}
 use Rattle.std.specs.Prelude.{Contains, IsSome, ⊤, option_map}
 use Rattle.std.specs.List.{AllZip}
 use Rattle.std.specs.Str.{bytes_eq}
@@ -8,36 +9,38 @@ use Rattle.json_words.specs.Json.{json_of}
 use Rattle.json_words.specs.ReadsAs.{◌>>=◌, or_fault, demand}
 use Rattle.values.specs.declared.entity_uid.EntityUid.{EntityUid}
 use Rattle.values.specs.declared.request.Request.{Request}
-use Rattle.policy_grammar.specs.declared.policy.Effect.{Effect}
-use Rattle.policy_grammar.specs.declared.policy.Effect.TheVariants.{Permit, Forbid}
-use Rattle.policy_grammar.specs.Whole.{expression_of}
-use Rattle.ancestor_closure.specs.Decided.{is_same}
-use Rattle.ancestor_closure.specs.Deciding.{Contains-here, Contains-there, Contains-none, Contains-cases, same_uid}
-use Rattle.evaluator.specs.Operators.{World}
-use Rattle.evaluator.specs.Outcomes.{EvaluationResult}
-use Rattle.evaluator.specs.Evaluation.{EvaluatesTo}
-use Rattle.typing.specs.Types.{boolean_type}
-use Rattle.typing.specs.Conforming.{Fits, IsHarmless}
-use Rattle.authoriser.specs.declared.answer.Answer.{Answer}
-use Rattle.authoriser.specs.declared.answer.ErringPolicy.{ErringPolicy}
-use Rattle.authoriser.specs.declared.outcome.Outcome.{Outcome}
-use Rattle.authoriser.specs.declared.outcome.Outcome.TheVariants.{Satisfied, NotSatisfied, Errs}
-use Rattle.authoriser.specs.Answers.{NamedPolicy, PolicyOutcome, ArePolicyOutcomes, PolicyEvaluatesTo, fault_of, if_erring, erring, satisfied, decided, IsAnswer}
-use Rattle.schema.specs.Schemas.{StatedSchema}
-use Rattle.entity_worlds.specs.declared.entity.Entity.{Entity}
-use Rattle.entity_worlds.specs.declared.data.EntityData.{EntityData}
-use Rattle.entity_worlds.specs.Entities.{AreListed}
-use Rattle.entity_worlds.specs.Listing.{in_either}
-use Rattle.entity_store.specs.Laws.{MemberOfIsKept, MemberOfGivesAlike}
-use Rattle.static_types.specs.passed_on.entities.{entity_stated_in}
-use Rattle.stamped_store.specs.Contents.{text_under, entities_of, policies_of}
-use Rattle.stamped_store.specs.Store.{Store, entity_name}
-use Rattle.state_messages.specs.declared.bodies.BodyFault.TheVariants.{Refused, OtherName}
-use Rattle.entities.specs.Canonical.{canonical_text}
-use Rattle.entities.specs.declared.fault.EntityFault.{EntityFault}
+use Rattle.stored_world.specs.policy_grammar.declared.policy.Effect.{Effect}
+use Rattle.stored_world.specs.policy_grammar.declared.policy.Effect.TheVariants.{Permit, Forbid}
+use Rattle.stored_world.specs.policy_grammar.Whole.{expression_of}
+use Rattle.stored_world.specs.ancestor_closure.Decided.{is_same}
+use Rattle.stored_world.specs.ancestor_closure.Deciding.{Contains-here, Contains-there, Contains-none, Contains-cases}
+use Rattle.stored_world.specs.ancestor_closure.Deciding.{same_uid}
+use Rattle.stored_world.specs.evaluator.Operators.{World}
+use Rattle.stored_world.specs.evaluator.Outcomes.{EvaluationResult}
+use Rattle.stored_world.specs.evaluator.Evaluation.{EvaluatesTo}
+use Rattle.stored_texts.specs.typing.Types.{boolean_type}
+use Rattle.stored_texts.specs.typing.Conforming.{Fits, IsHarmless}
+use Rattle.stored_world.specs.authoriser.declared.answer.Answer.{Answer}
+use Rattle.stored_world.specs.authoriser.declared.answer.ErringPolicy.{ErringPolicy}
+use Rattle.stored_world.specs.authoriser.declared.outcome.Outcome.{Outcome}
+use Rattle.stored_world.specs.authoriser.declared.outcome.Outcome.TheVariants.{Satisfied, NotSatisfied, Errs}
+use Rattle.stored_world.specs.authoriser.Answers.{NamedPolicy, PolicyOutcome, ArePolicyOutcomes, PolicyEvaluatesTo}
+use Rattle.stored_world.specs.authoriser.Answers.{fault_of, if_erring, erring, satisfied, decided, IsAnswer}
+use Rattle.stored_world.specs.schema.Schemas.{StatedSchema}
+use Rattle.stored_world.specs.entity_worlds.declared.entity.Entity.{Entity}
+use Rattle.stored_world.specs.entity_worlds.declared.data.EntityData.{EntityData}
+use Rattle.stored_world.specs.entity_worlds.Entities.{AreListed}
+use Rattle.stored_world.specs.entity_worlds.Listing.{in_either}
+use Rattle.stored_world.specs.entity_store.Laws.{MemberOfIsKept, MemberOfGivesAlike}
+use Rattle.stored_world.specs.entities.Entities.{entity_stated_in}
+use Rattle.stored_world.specs.stamped_store.Contents.{text_under, entities_of, policies_of}
+use Rattle.stored_world.specs.stamped_store.Store.{Store, entity_name}
+use Rattle.stored_texts.specs.state_messages.declared.bodies.BodyFault.TheVariants.{Refused, OtherName}
+use Rattle.stored_world.specs.entities.Canonical.{canonical_text}
+use Rattle.stored_world.specs.entities.declared.fault.EntityFault.{EntityFault}
 use Rattle.stored_texts.specs.Texts.{ReadsPolicy, ReadsEntity, entity_of_text, refused_by}
 use Rattle.stored_world.specs.Said.{AreEntities, IsReadFrom, data_of, data_in}
-use Rattle.validator.specs.Passing.{Passes}
+use Rattle.stored_texts.specs.validator.Passing.{Passes}
 use Rattle.typed_readings.specs.Answers.{ErrsHarmlessly, StoredPoliciesGoRight, StoredAnswersGoRight}
 use Rattle.typed_readings.specs.Worlds.{AreRead, WhatIsStoredGoesRight, entity_kept}
 use Rattle.typed_readings.proofs.Values.{bound, is_it, demanded}

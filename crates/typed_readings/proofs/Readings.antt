@@ -1,24 +1,26 @@
 -- What is read of entities and requests is of the types that a schema declares.
-use Rattle.std.proofs.Common.{◌≡◌, ℕ, List, [], ◌∷◌, Bool, true, false, not, cond, Option, Some, Result, Ok, Err, refl, sym, ap, subst}
+use Rattle.std.proofs.Common.{◌≡◌, ℕ, List, [], ◌∷◌, Bool, true, false, not, cond, Option, Some, Result, Ok, Err, refl}
+use Rattle.std.proofs.Common.{sym, ap, subst}
 use Rattle.std.specs.Prelude.{Contains, ◌&&◌}
 use Rattle.std.specs.Str.{bytes_eq}
-use Rattle.ancestor_closure.specs.Decided.{is_same}
-use Rattle.ancestor_closure.specs.Deciding.{Contains-here, Contains-there, same_uid}
+use Rattle.stored_world.specs.ancestor_closure.Decided.{is_same}
+use Rattle.stored_world.specs.ancestor_closure.Deciding.{Contains-here, Contains-there, same_uid}
 use Rattle.serde_json.specs.Find.{get}
 use Rattle.std.specs.Prelude.{codes, ⊤}
 use Rattle.values.specs.declared.entity_uid.EntityUid.{EntityUid}
-use Rattle.schema_parts.specs.declared.parts.Place.{Place}
-use Rattle.schema.specs.Schemas.{EnvironmentOf, StatedSchema}
-use Rattle.typed_values.specs.declared.fault.ValueFault.{ValueFault}
-use Rattle.static_types.specs.passed_on.entities_EntityFault_variants.{UnknownType, ActionEntity, TagsLeftOut, NotApplicable}
-use Rattle.entity_worlds.specs.declared.entity.Entity.{Entity}
-use Rattle.static_types.specs.passed_on.entities.{StatedEntity}
-use Rattle.static_types.specs.passed_on.entities.{told}
-use Rattle.static_types.specs.passed_on.entities.{stated_in, is_absent_or_empty, or_empty}
-use Rattle.static_types.specs.passed_on.entities.{is_action_type, shape_of, attributes_in, parents_in, entity_stated_in}
-use Rattle.static_types.specs.passed_on.entities.{context_where, is_place}
-use Rattle.static_types.specs.passed_on.entities.{context_asked}
-use Rattle.static_types.specs.FromSchemas.{shape_fields, attributes_of}
+use Rattle.stored_world.specs.schema_parts.declared.parts.Place.{Place}
+use Rattle.stored_world.specs.schema.Schemas.{EnvironmentOf, StatedSchema}
+use Rattle.stored_world.specs.typed_values.declared.fault.ValueFault.{ValueFault}
+use Rattle.stored_world.specs.entities.declared.fault.EntityFault.TheVariants.{UnknownType, ActionEntity, TagsLeftOut}
+use Rattle.stored_world.specs.entities.declared.fault.EntityFault.TheVariants.{NotApplicable}
+use Rattle.stored_world.specs.entity_worlds.declared.entity.Entity.{Entity}
+use Rattle.stored_world.specs.entities.declared.stated.StatedEntity.{StatedEntity}
+use Rattle.stored_world.specs.entities.Faults.{told}
+use Rattle.stored_world.specs.entities.Stated.{stated_in, is_absent_or_empty, or_empty}
+use Rattle.stored_world.specs.entities.Entities.{is_action_type, shape_of, attributes_in, parents_in, entity_stated_in}
+use Rattle.stored_world.specs.entities.Contexts.{context_where, is_place}
+use Rattle.stored_world.specs.entities.Requests.{context_asked}
+use Rattle.stored_texts.specs.static_types.FromSchemas.{shape_fields, attributes_of}
 use Rattle.typed_readings.proofs.Values.{same_bytes, both_true}
 use Rattle.serde_json.specs.Data.{Data}
 use Rattle.serde_json.specs.Data as json
@@ -27,14 +29,14 @@ use Rattle.json_words.specs.ReadsAs.{◌>>=◌, or_fault, demand}
 use Rattle.values.specs.Values.{record_of, fields_of}
 use Rattle.values.specs.Fields.{Field}
 use Rattle.values.specs.Laws.{SetsHoldTheirMembers}
-use Rattle.schema_types.specs.Cedar as cedar
-use Rattle.schema_types.specs.Cedar.{Cedar, CedarFields}
-use Rattle.typed_values.specs.declared.fault.ValueFault.TheVariants.{WrongType, Missing}
-use Rattle.typed_values.specs.Parts as parts
-use Rattle.typed_values.specs.Typing.{all_there, typed_members, record_in}
-use Rattle.typing.specs.Types.{FieldTypes, no_field_types, record_type}
-use Rattle.typing.specs.Membership.{Of}
-use Rattle.static_types.specs.FromSchemas.{static_fields, field_types_in}
+use Rattle.stored_world.specs.schema_types.Cedar as cedar
+use Rattle.stored_world.specs.schema_types.Cedar.{Cedar, CedarFields}
+use Rattle.stored_world.specs.typed_values.declared.fault.ValueFault.TheVariants.{WrongType, Missing}
+use Rattle.stored_world.specs.typed_values.Parts as parts
+use Rattle.stored_world.specs.typed_values.Typing.{all_there, typed_members, record_in}
+use Rattle.stored_texts.specs.typing.Types.{FieldTypes, no_field_types, record_type}
+use Rattle.stored_texts.specs.typing.Membership.{Of}
+use Rattle.stored_texts.specs.static_types.FromSchemas.{static_fields, field_types_in}
 use Rattle.typed_readings.specs.Laws.{RecordsAreOfTheirTypes, EntitiesAreOfTheirTypes, RequestsAreOfAnEnvironment}
 use Rattle.typed_readings.proofs.Values.{bound, is_it, some_of, demanded, record_is_of, members_of}
 

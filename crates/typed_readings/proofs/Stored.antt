@@ -2,16 +2,16 @@
 use Rattle.std.proofs.Common.{◌≡◌, List, [], ◌∷◌, ◌++◌, map, Option, Some, None, refl, sym, ap, subst, inl, inr}
 use Rattle.std.specs.Prelude.{Contains, IsSome}
 use Rattle.values.specs.declared.entity_uid.EntityUid.{EntityUid}
-use Rattle.ancestor_closure.specs.Decided.{HaveAllParents, PathsAreDecided, reaches}
-use Rattle.ancestor_closure.specs.Deciding.{Contains-here, Contains-there, Contains-none, Contains-cases}
-use Rattle.schema.specs.Schemas.{StatedSchema}
-use Rattle.schema.specs.WellFormed.{IsWellFormed, StatedSchemasAreWellFormed}
-use Rattle.entity_worlds.specs.declared.data.EntityData.{EntityData}
-use Rattle.entity_worlds.specs.Entities.{EntityMap, AreListed, kept_parents, action_or}
-use Rattle.entity_store.specs.Laws.{closed_world}
-use Rattle.entity_worlds.specs.Listing.{in_first, in_second}
-use Rattle.static_types.specs.FromSchemas.{typing_environment_of}
-use Rattle.validator.specs.Outcomes.{PassingPoliciesGoRight}
+use Rattle.stored_world.specs.ancestor_closure.Decided.{HaveAllParents, PathsAreDecided, reaches}
+use Rattle.stored_world.specs.ancestor_closure.Deciding.{Contains-here, Contains-there, Contains-none, Contains-cases}
+use Rattle.stored_world.specs.schema.Schemas.{StatedSchema}
+use Rattle.stored_world.specs.schema.WellFormed.{IsWellFormed, StatedSchemasAreWellFormed}
+use Rattle.stored_world.specs.entity_worlds.declared.data.EntityData.{EntityData}
+use Rattle.stored_world.specs.entity_worlds.Entities.{EntityMap, AreListed, kept_parents, action_or}
+use Rattle.stored_world.specs.entity_store.Laws.{closed_world}
+use Rattle.stored_world.specs.entity_worlds.Listing.{in_first, in_second}
+use Rattle.stored_texts.specs.static_types.FromSchemas.{typing_environment_of}
+use Rattle.stored_texts.specs.validator.Outcomes.{PassingPoliciesGoRight}
 use Rattle.typed_readings.specs.Worlds.{WhatIsReadConforms, WhatIsStoredGoesRight}
 
 -- each entity with parents is kept, or an action

@@ -1,31 +1,38 @@
 -- What JSON is read as by a type is of that type.
-use Rattle.std.proofs.Common.{◌≡◌, ◌∙◌, ℕ, List, [], ◌∷◌, Bool, true, false, not, cond, Option, Some, None, Result, Ok, Err, Less, Equal, Greater, refl, sym, ap, subst, inl, inr}
+use Rattle.std.proofs.Common.{◌≡◌, ◌∙◌, ℕ, List, [], ◌∷◌, Bool, true, false, not, cond, Option, Some, None, Result, Ok}
+use Rattle.std.proofs.Common.{Err, Less, Equal, Greater, refl, sym, ap, subst, inl, inr}
 use Rattle.std.specs.Prelude.{Contains, is_some, codes, ⊤, ◌&&◌, ◌||◌}
 use Rattle.std.specs.Str.{bytes_eq}
 use Rattle.std.specs.Ordering.{match_ordering}
 use Rattle.std.proofs.lemmas.Slice.Eq.{bytes_eq-Decides}
-use Rattle.ancestor_closure.specs.Deciding.{Contains-here, Contains-there, Contains-none, Contains-cases}
+use Rattle.stored_world.specs.ancestor_closure.Deciding.{Contains-here, Contains-there, Contains-none, Contains-cases}
 use Rattle.serde_json.specs.Data.{Data, Items, no_items, item, Members, no_members, member}
 use Rattle.serde_json.specs.Data as json
 use Rattle.serde_json.specs.Find.{as_bool, as_number, as_i64, as_str, get_member}
 use Rattle.json_words.specs.ReadsAs.{◌>>=◌, or_fault, demand}
-use Rattle.values.specs.Values.{PlainValue, boolean, long, text, entity, decimal, ipaddr, set, record_of, values_of, fields_of, pairs_of-fields_of}
+use Rattle.values.specs.Values.{PlainValue, boolean, long, text, entity, decimal, ipaddr, set, record_of, values_of}
+use Rattle.values.specs.Values.{fields_of, pairs_of-fields_of}
 use Rattle.values.specs.Fields.{Field, find_field}
 use Rattle.values.specs.Uids.{text_cmp, text_cmp-IsAntisymmetric}
 use Rattle.values.specs.Sets.{set_list}
 use Rattle.values.specs.Laws.{SetsHoldTheirMembers}
-use Rattle.typed_values.specs.declared.fault.ValueFault.{ValueFault}
-use Rattle.typed_values.specs.declared.fault.ValueFault.TheVariants.{WrongType, Undeclared}
-use Rattle.schema_types.specs.Cedar as cedar
-use Rattle.schema_types.specs.Cedar.{Cedar, CedarFields, no_fields, field}
-use Rattle.typed_values.specs.Parts.{element_of, fields_in, declared_at}
-use Rattle.uid_json.specs.Uids.{uid_in}
-use Rattle.typed_values.specs.passed_on.extensions.{decimal_of, network_of}
-use Rattle.typed_values.specs.Typing.{argument_in, boolean_in, is_long, long_of, long_in, text_in, entity_in, decimal_in, ipaddr_in, leaf, all_there, with_or, inside, typed_value, typed_items, typed_members}
-use Rattle.typing.specs.Types as static_type
-use Rattle.typing.specs.Types.{StaticType, Declared, declared_as, boolean_type, long_type, text_type, entity_type, set_type, record_type, decimal_type, ipaddr_type, undeclared}
-use Rattle.typing.specs.Membership.{Of, of_boolean, of_long, of_text, of_entity, of_set, of_record, of_decimal, of_ipaddr, EachOf, each_none, each_more, FieldOf, absent, left_out, has_optional, has_required}
-use Rattle.static_types.specs.FromSchemas.{static, static_fields}
+use Rattle.stored_world.specs.typed_values.declared.fault.ValueFault.{ValueFault}
+use Rattle.stored_world.specs.typed_values.declared.fault.ValueFault.TheVariants.{WrongType, Undeclared}
+use Rattle.stored_world.specs.schema_types.Cedar as cedar
+use Rattle.stored_world.specs.schema_types.Cedar.{Cedar, CedarFields, no_fields, field}
+use Rattle.stored_world.specs.typed_values.Parts.{element_of, fields_in, declared_at}
+use Rattle.stored_texts.specs.uid_json.Uids.{uid_in}
+use Rattle.values.specs.extensions.TextsDecided.{decimal_of, network_of}
+use Rattle.stored_world.specs.typed_values.Typing.{argument_in, boolean_in, is_long, long_of, long_in, text_in}
+use Rattle.stored_world.specs.typed_values.Typing.{entity_in, decimal_in, ipaddr_in, leaf, all_there, with_or, inside}
+use Rattle.stored_world.specs.typed_values.Typing.{typed_value, typed_items, typed_members}
+use Rattle.stored_texts.specs.typing.Types as static_type
+use Rattle.stored_texts.specs.typing.Types.{StaticType, Declared, declared_as, boolean_type, long_type, text_type}
+use Rattle.stored_texts.specs.typing.Types.{entity_type, set_type, record_type, decimal_type, ipaddr_type, undeclared}
+use Rattle.stored_texts.specs.typing.Membership.{Of, of_boolean, of_long, of_text, of_entity, of_set, of_record}
+use Rattle.stored_texts.specs.typing.Membership.{of_decimal, of_ipaddr, EachOf, each_none, each_more, FieldOf, absent}
+use Rattle.stored_texts.specs.typing.Membership.{left_out, has_optional, has_required}
+use Rattle.stored_texts.specs.static_types.FromSchemas.{static, static_fields}
 
 -- one step of reading, and the next
 pub bound : {A B F : Type 0} (r : Result A F) (f : A → Result B F) (y : B) → (r >>= f) ≡ Ok y → (x : A) × (r ≡ Ok x) × (f x ≡ Ok y)

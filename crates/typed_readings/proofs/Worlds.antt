@@ -1,5 +1,6 @@
 -- Entities that were read, with a schema's actions, conform to it.
-use Rattle.std.proofs.Common.{◌≡◌, ℕ, List, [], ◌∷◌, Bool, true, false, not, cond, Option, Some, None, Ok, refl, sym, subst, inl, inr}
+use Rattle.std.proofs.Common.{◌≡◌, ℕ, List, [], ◌∷◌, Bool, true, false, not, cond, Option, Some, None, Ok, refl, sym}
+use Rattle.std.proofs.Common.{subst, inl, inr}
 use Rattle.std.specs.Prelude.{Contains, ⊤, IsTrue, IsFalse, IsSome}
 use Rattle.serde_json.specs.Data.{Data}
 use Rattle.serde_json.specs.Find.{get}
@@ -9,30 +10,33 @@ use Rattle.values.specs.declared.entity_uid.EntityUid.{EntityUid}
 use Rattle.values.specs.declared.request.Request.{Request}
 use Rattle.values.specs.Values.{record_of, fields_of}
 use Rattle.values.specs.Fields.{Field}
-use Rattle.ancestor_closure.specs.Hierarchy.{Path, Above, IsAllAbove}
-use Rattle.ancestor_closure.specs.Decided.{is_same}
-use Rattle.ancestor_closure.specs.Deciding.{Contains-none, Contains-cases}
-use Rattle.schema_types.specs.Cedar.{Cedar}
-use Rattle.schema.specs.Schemas.{EnvironmentOf, StatedSchema}
-use Rattle.schema.specs.WellFormed.{IsWellFormed, StatedSchemasAreWellFormed}
-use Rattle.static_types.specs.passed_on.entities_EntityFault_variants.{UnknownType, ActionEntity, TagsLeftOut, SelfParent, BadParent}
-use Rattle.entity_worlds.specs.declared.entity.Entity.{Entity}
-use Rattle.static_types.specs.passed_on.entities.{StatedEntity}
-use Rattle.static_types.specs.passed_on.entities.{told}
-use Rattle.static_types.specs.passed_on.entities.{stated_in, is_absent_or_empty, or_empty}
-use Rattle.static_types.specs.passed_on.entities.{is_action_type, shape_of, attributes_in, parent_fits, parents_fit, parents_in, entity_stated_in}
-use Rattle.static_types.specs.passed_on.entities.{ActionTypeTestIsExact, SetsHoldTheirMembers}
-use Rattle.entity_worlds.specs.UidSets.{uid_set}
-use Rattle.typed_values.specs.Typing.{record_in}
-use Rattle.entity_worlds.specs.declared.data.EntityData.{EntityData}
-use Rattle.entity_worlds.specs.Entities.{EntityMap, action_or}
-use Rattle.entity_worlds.specs.Entities as store
-use Rattle.entity_store.specs.Laws.{closed_world}
-use Rattle.evaluator.specs.Operators.{World}
-use Rattle.typing.specs.Types.{no_field_types, record_type}
-use Rattle.typing.specs.Membership.{Of, of_record, absent}
-use Rattle.typing.specs.Laws.{ParentsTellAncestors}
-use Rattle.static_types.specs.FromSchemas.{attributes_of, shape_fields, declared_ancestors, typing_environment_of}
+use Rattle.stored_world.specs.ancestor_closure.Hierarchy.{Path, Above, IsAllAbove}
+use Rattle.stored_world.specs.ancestor_closure.Decided.{is_same}
+use Rattle.stored_world.specs.ancestor_closure.Deciding.{Contains-none, Contains-cases}
+use Rattle.stored_world.specs.schema_types.Cedar.{Cedar}
+use Rattle.stored_world.specs.schema.Schemas.{EnvironmentOf, StatedSchema}
+use Rattle.stored_world.specs.schema.WellFormed.{IsWellFormed, StatedSchemasAreWellFormed}
+use Rattle.stored_world.specs.entities.declared.fault.EntityFault.TheVariants.{UnknownType, ActionEntity, TagsLeftOut}
+use Rattle.stored_world.specs.entities.declared.fault.EntityFault.TheVariants.{SelfParent, BadParent}
+use Rattle.stored_world.specs.entity_worlds.declared.entity.Entity.{Entity}
+use Rattle.stored_world.specs.entities.declared.stated.StatedEntity.{StatedEntity}
+use Rattle.stored_world.specs.entities.Faults.{told}
+use Rattle.stored_world.specs.entities.Stated.{stated_in, is_absent_or_empty, or_empty}
+use Rattle.stored_world.specs.entities.Entities.{is_action_type, shape_of, attributes_in, parent_fits, parents_fit}
+use Rattle.stored_world.specs.entities.Entities.{parents_in, entity_stated_in}
+use Rattle.stored_world.specs.entities.Laws.{ActionTypeTestIsExact, SetsHoldTheirMembers}
+use Rattle.stored_world.specs.entity_worlds.UidSets.{uid_set}
+use Rattle.stored_world.specs.typed_values.Typing.{record_in}
+use Rattle.stored_world.specs.entity_worlds.declared.data.EntityData.{EntityData}
+use Rattle.stored_world.specs.entity_worlds.Entities.{EntityMap, action_or}
+use Rattle.stored_world.specs.entity_worlds.Entities as store
+use Rattle.stored_world.specs.entity_store.Laws.{closed_world}
+use Rattle.stored_world.specs.evaluator.Operators.{World}
+use Rattle.stored_texts.specs.typing.Types.{no_field_types, record_type}
+use Rattle.stored_texts.specs.typing.Membership.{Of, of_record, absent}
+use Rattle.stored_texts.specs.typing.Laws.{ParentsTellAncestors}
+use Rattle.stored_texts.specs.static_types.FromSchemas.{attributes_of, shape_fields, declared_ancestors}
+use Rattle.stored_texts.specs.static_types.FromSchemas.{typing_environment_of}
 use Rattle.typed_readings.specs.Laws.{EntitiesAreOfTheirTypes, RequestsAreOfAnEnvironment}
 use Rattle.typed_readings.specs.Worlds.{AreRead, entity_kept, WhatIsReadConforms}
 use Rattle.typed_readings.proofs.Values.{bound, is_it, demanded}

@@ -7,19 +7,19 @@ use Rattle.serde_json.specs.Data.{Data}
 use Rattle.values.specs.declared.entity_uid.EntityUid.{EntityUid}
 use Rattle.values.specs.declared.request.Request.{Request}
 use Rattle.values.specs.Values.{boolean}
-use Rattle.policy_grammar.specs.Whole.{expression_of}
-use Rattle.evaluator.specs.Outcomes.{EvaluationResult}
-use Rattle.evaluator.specs.Evaluation.{EvaluatesTo}
-use Rattle.typing.specs.Types.{boolean_type}
-use Rattle.typing.specs.Conforming.{Fits, IsHarmless}
-use Rattle.authoriser.specs.declared.answer.Answer.{Answer}
-use Rattle.authoriser.specs.declared.answer.ErringPolicy.{ErringPolicy}
-use Rattle.authoriser.specs.Answers.{NamedPolicy, fault_of}
-use Rattle.schema.specs.Schemas.{StatedSchema, IsSchemaOf}
-use Rattle.entity_worlds.specs.declared.entity.Entity.{Entity}
-use Rattle.static_types.specs.passed_on.entities.{StatesRequest}
-use Rattle.validator.specs.Passing.{IsImpossible}
-use Rattle.stamped_store.specs.Store.{Store}
+use Rattle.stored_world.specs.policy_grammar.Whole.{expression_of}
+use Rattle.stored_world.specs.evaluator.Outcomes.{EvaluationResult}
+use Rattle.stored_world.specs.evaluator.Evaluation.{EvaluatesTo}
+use Rattle.stored_texts.specs.typing.Types.{boolean_type}
+use Rattle.stored_texts.specs.typing.Conforming.{Fits, IsHarmless}
+use Rattle.stored_world.specs.authoriser.declared.answer.Answer.{Answer}
+use Rattle.stored_world.specs.authoriser.declared.answer.ErringPolicy.{ErringPolicy}
+use Rattle.stored_world.specs.authoriser.Answers.{NamedPolicy, fault_of}
+use Rattle.stored_world.specs.schema.Schemas.{StatedSchema, IsSchemaOf}
+use Rattle.stored_world.specs.entity_worlds.declared.entity.Entity.{Entity}
+use Rattle.stored_world.specs.entities.Requests.{StatesRequest}
+use Rattle.stored_texts.specs.validator.Passing.{IsImpossible}
+use Rattle.stored_world.specs.stamped_store.Store.{Store}
 use Rattle.stored_texts.specs.Texts.{ReadsPolicy, ReadsEntity}
 use Rattle.stored_world.specs.Said.{ArePolicies, AreEntities, IsAnswerOver, world_under}
 

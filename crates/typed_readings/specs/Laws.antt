@@ -6,16 +6,16 @@ use Rattle.serde_json.specs.Data.{Data}
 use Rattle.values.specs.declared.request.Request.{Request}
 use Rattle.values.specs.Fields.{Field}
 use Rattle.values.specs.Values.{PlainValue, record_of, fields_of}
-use Rattle.schema_types.specs.Cedar.{Cedar}
-use Rattle.schema.specs.Schemas.{EnvironmentOf, StatedSchema}
-use Rattle.typed_values.specs.Typing.{typed_value, record_in}
-use Rattle.entity_worlds.specs.declared.entity.Entity.{Entity}
-use Rattle.static_types.specs.passed_on.entities.{entity_stated_in}
-use Rattle.static_types.specs.passed_on.entities.{StatesRequest}
-use Rattle.typing.specs.Types.{record_type}
-use Rattle.typing.specs.Environment.{Environment}
-use Rattle.typing.specs.Membership.{Of}
-use Rattle.static_types.specs.FromSchemas.{static, field_types_in, attributes_of, typing_environment_of}
+use Rattle.stored_world.specs.schema_types.Cedar.{Cedar}
+use Rattle.stored_world.specs.schema.Schemas.{EnvironmentOf, StatedSchema}
+use Rattle.stored_world.specs.typed_values.Typing.{typed_value, record_in}
+use Rattle.stored_world.specs.entity_worlds.declared.entity.Entity.{Entity}
+use Rattle.stored_world.specs.entities.Entities.{entity_stated_in}
+use Rattle.stored_world.specs.entities.Requests.{StatesRequest}
+use Rattle.stored_texts.specs.typing.Types.{record_type}
+use Rattle.stored_texts.specs.typing.Environment.{Environment}
+use Rattle.stored_texts.specs.typing.Membership.{Of}
+use Rattle.stored_texts.specs.static_types.FromSchemas.{static, field_types_in, attributes_of, typing_environment_of}
 
 -- what JSON is read as by a type is of that type
 abbrev pub ValuesAreOfTheirTypes : Type 0

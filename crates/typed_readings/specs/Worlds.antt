@@ -8,21 +8,21 @@ use Rattle.serde_json.specs.Data.{Data}
 use Rattle.values.specs.declared.entity_uid.EntityUid.{EntityUid}
 use Rattle.values.specs.declared.request.Request.{Request}
 use Rattle.values.specs.Values.{boolean}
-use Rattle.policy_grammar.specs.declared.policy.Policy.{Policy}
-use Rattle.policy_grammar.specs.Whole.{expression_of}
-use Rattle.evaluator.specs.Outcomes.{EvaluationResult}
-use Rattle.evaluator.specs.Evaluation.{EvaluatesTo}
-use Rattle.schema.specs.Schemas.{EnvironmentOf, StatedSchema, IsSchemaOf}
-use Rattle.entity_worlds.specs.declared.entity.Entity.{Entity}
-use Rattle.static_types.specs.passed_on.entities.{entity_stated_in}
-use Rattle.static_types.specs.passed_on.entities.{StatesRequest}
-use Rattle.entity_worlds.specs.declared.data.EntityData.{EntityData}
-use Rattle.entity_worlds.specs.Entities.{EntityMap, AreListed}
-use Rattle.entity_store.specs.Laws.{closed_world}
-use Rattle.typing.specs.Types.{boolean_type}
-use Rattle.typing.specs.Conforming.{Conforms, Fits}
-use Rattle.static_types.specs.FromSchemas.{typing_environment_of}
-use Rattle.validator.specs.Passing.{Passes, IsImpossible}
+use Rattle.stored_world.specs.policy_grammar.declared.policy.Policy.{Policy}
+use Rattle.stored_world.specs.policy_grammar.Whole.{expression_of}
+use Rattle.stored_world.specs.evaluator.Outcomes.{EvaluationResult}
+use Rattle.stored_world.specs.evaluator.Evaluation.{EvaluatesTo}
+use Rattle.stored_world.specs.schema.Schemas.{EnvironmentOf, StatedSchema, IsSchemaOf}
+use Rattle.stored_world.specs.entity_worlds.declared.entity.Entity.{Entity}
+use Rattle.stored_world.specs.entities.Entities.{entity_stated_in}
+use Rattle.stored_world.specs.entities.Requests.{StatesRequest}
+use Rattle.stored_world.specs.entity_worlds.declared.data.EntityData.{EntityData}
+use Rattle.stored_world.specs.entity_worlds.Entities.{EntityMap, AreListed}
+use Rattle.stored_world.specs.entity_store.Laws.{closed_world}
+use Rattle.stored_texts.specs.typing.Types.{boolean_type}
+use Rattle.stored_texts.specs.typing.Conforming.{Conforms, Fits}
+use Rattle.stored_texts.specs.static_types.FromSchemas.{typing_environment_of}
+use Rattle.stored_texts.specs.validator.Passing.{Passes, IsImpossible}
 
 -- what is kept under a uid, as an entity
 abbrev pub entity_kept : EntityUid → EntityData → Entity

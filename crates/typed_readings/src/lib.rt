@@ -10,3 +10,5 @@ pub use laws::{
     stored_answers_go_right, what_is_read_conforms, what_is_read_is_of_its_type,
     what_is_stored_goes_right,
 };
+pub use stored_texts;
+pub use stored_texts::{canonical_texts, state_messages, sync_messages, uid_json, validator};

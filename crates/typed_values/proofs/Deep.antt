@@ -1,23 +1,28 @@
 -- The one JSON of a value that was read nests no deeper than its type allows.
-use Rattle.std.proofs.Common.{◌≡◌, ℕ, suc, ◌≤◌, List, [], ◌∷◌, Bool, true, false, cond, Option, Some, None, Ok, refl, ap, subst, arith}
+use Rattle.std.proofs.Common.{◌≡◌, ℕ, suc, ◌≤◌, List, [], ◌∷◌, Bool, true, false, cond, Option, Some, None, Ok, refl}
+use Rattle.std.proofs.Common.{ap, subst, arith}
 use Rattle.std.specs.Prelude.{max}
 use Rattle.std.specs.List.{AllByRecursion}
 use Rattle.std.specs.Str.{bytes_eq}
-use Rattle.serde_json.specs.Data.{Data, Items, no_items, item, Members, no_members, member, depth, items_depth, members_depth}
+use Rattle.serde_json.specs.Data.{Data, Items, no_items, item, Members, no_members, member, depth, items_depth}
+use Rattle.serde_json.specs.Data.{members_depth}
 use Rattle.serde_json.specs.Data as json
 use Rattle.serde_json.specs.Find.{as_bool, as_number, as_i64, as_str}
 use Rattle.json_words.specs.ReadsAs.{◌>>=◌, or_fault, demand}
 use Rattle.json_words.proofs.EachLemmas.{bind_ok}
 use Rattle.std.specs.Prelude.{codes}
-use Rattle.values.specs.Values.{PlainValue, boolean, long, text, entity, decimal, ipaddr, set, record_of, values_of, fields_of}
+use Rattle.values.specs.Values.{PlainValue, boolean, long, text, entity, decimal, ipaddr, set, record_of, values_of}
+use Rattle.values.specs.Values.{fields_of}
 use Rattle.values.specs.Sets.{set_list}
 use Rattle.typed_values.specs.declared.fault.ValueFault.TheVariants.{WrongType, Undeclared}
 use Rattle.schema_types.specs.Cedar as cedar
 use Rattle.schema_types.specs.Cedar.{Cedar, CedarFields, no_fields, field, deep, field_depth}
 use Rattle.typed_values.specs.Parts.{element_of, fields_in, declared_at}
 use Rattle.uid_json.specs.Uids.{uid_in}
-use Rattle.extensions.specs.TextsDecided.{decimal_of, network_of}
-use Rattle.typed_values.specs.Typing.{argument_in, boolean_in, is_long, long_of, long_in, text_in, entity_in, decimal_in, ipaddr_in, leaf, all_there, with_or, inside, typed_value, typed_items, typed_members, record_in}
+use Rattle.values.specs.extensions.TextsDecided.{decimal_of, network_of}
+use Rattle.typed_values.specs.Typing.{argument_in, boolean_in, is_long, long_of, long_in, text_in, entity_in}
+use Rattle.typed_values.specs.Typing.{decimal_in, ipaddr_in, leaf, all_there, with_or, inside, typed_value, typed_items}
+use Rattle.typed_values.specs.Typing.{typed_members, record_in}
 use Rattle.typed_values.specs.Canonical.{value_json, values_json, fields_json}
 use Rattle.typed_values.proofs.Sets.{all_set}
 use Rattle.typed_values.proofs.Leaves.{ok_is, some_of, some_from, inside_ok}

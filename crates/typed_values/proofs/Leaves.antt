@@ -1,5 +1,6 @@
 -- The JSON of a value that is no set and no record is read as it.
-use Rattle.std.proofs.Common.{◌≡◌, ◌∙◌, ℕ, ℤ, pos, negsuc, List, [], ◌∷◌, Bool, true, false, cond, Option, Some, None, Result, Ok, Err, refl, sym, ap, subst, inl, inr}
+use Rattle.std.proofs.Common.{◌≡◌, ◌∙◌, ℕ, ℤ, pos, negsuc, List, [], ◌∷◌, Bool, true, false, cond, Option, Some, None}
+use Rattle.std.proofs.Common.{Result, Ok, Err, refl, sym, ap, subst, inl, inr}
 use Rattle.std.specs.Prelude.{IfSome, IsNone, ◌^◌, codes, FitsSigned, ⊤}
 use Rattle.std.specs.Int.{w64}
 use mir.Val.{to_z, of_z}
@@ -14,21 +15,22 @@ use Rattle.json_words.specs.ReadsAs.{◌>>=◌, or_fault, demand}
 use Rattle.json_words.specs.Keys.{has_only}
 use Rattle.json_words.specs.Json.{text_at}
 use Rattle.json_words.proofs.EachLemmas.{bind_ok}
-use Rattle.extensions.specs.DecimalText.{IsDecimalText, decimal_text}
-use Rattle.extensions.specs.NetworkText.{IsNetworkText, network_text}
-use Rattle.extensions.specs.Network.{Network}
-use Rattle.extensions.proofs.SignedTexts.{one_decimal}
-use Rattle.extensions.proofs.CanonicalNetworks.{one_network, network_reads_back}
-use Rattle.extensions.proofs.CanonicalDecimals.{reads_back}
+use Rattle.values.specs.extensions.DecimalText.{IsDecimalText, decimal_text}
+use Rattle.values.specs.extensions.NetworkText.{IsNetworkText, network_text}
+use Rattle.values.specs.extensions.Network.{Network}
+use Rattle.values.proofs.of_extensions.SignedTexts.{one_decimal}
+use Rattle.values.proofs.of_extensions.CanonicalNetworks.{one_network, network_reads_back}
+use Rattle.values.proofs.of_extensions.CanonicalDecimals.{reads_back}
 use Rattle.values.specs.declared.entity_uid.EntityUid.{EntityUid}
 use Rattle.values.specs.Values.{PlainValue, boolean, long, text, entity, decimal, ipaddr}
 use Rattle.typed_values.specs.declared.fault.ValueFault.{ValueFault}
 use Rattle.typed_values.specs.declared.fault.ValueFault.TheVariants.{WrongType}
-use Rattle.extensions.specs.Decided.{Decided, found}
-use Rattle.extensions.specs.TextsDecided.{decimal_text_decided, network_text_decided, decimal_of, network_of}
+use Rattle.values.specs.extensions.Decided.{Decided, found}
+use Rattle.values.specs.extensions.TextsDecided.{decimal_text_decided, network_text_decided, decimal_of, network_of}
 use Rattle.schema_types.specs.Cedar as cedar
 use Rattle.schema_types.specs.Cedar.{Cedar}
-use Rattle.typed_values.specs.Typing.{plain_call, call_in, argument_in, boolean_in, is_long, long_of, long_in, text_in, entity_in, decimal_in, ipaddr_in, leaf, inside, typed_value}
+use Rattle.typed_values.specs.Typing.{plain_call, call_in, argument_in, boolean_in, is_long, long_of, long_in, text_in}
+use Rattle.typed_values.specs.Typing.{entity_in, decimal_in, ipaddr_in, leaf, inside, typed_value}
 use Rattle.uid_json.specs.Uids.{uid_in, plain_uid_in, uid_made_of, uid_under, entity_json}
 use Rattle.values.specs.Paths.{is_path}
 use Rattle.typed_values.specs.Canonical.{call_json, value_json}

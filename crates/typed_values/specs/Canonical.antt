@@ -5,8 +5,8 @@ use Rattle.std.specs.Prelude.{ℕ, List, codes}
 use Rattle.serde_json.specs.Data.{Data, Items, no_items, item, Members, no_members, member}
 use Rattle.serde_json.specs.Data as json
 use Rattle.serde_json.specs.Find.{of_integer}
-use Rattle.extensions.specs.DecimalText.{decimal_text}
-use Rattle.extensions.specs.NetworkText.{network_text}
+use Rattle.values.specs.extensions.DecimalText.{decimal_text}
+use Rattle.values.specs.extensions.NetworkText.{network_text}
 use Rattle.uid_json.specs.Uids.{entity_json}
 use Rattle.values.specs.Values.{PlainValue, boolean, long, text, entity, set, record_of, decimal, ipaddr}
 use Rattle.values.specs.Values.{PlainValues, no_values, value, PlainFields, no_fields, field}

@@ -4,4 +4,7 @@ pub mod Parts
 pub mod Texts
 pub mod Typing
 pub mod inner
-pub mod passed_on
+-- crates below, passed on to those above
+pub use Rattle.uid_json.specs as uid_json
+pub use Rattle.uid_json.specs.policy_grammar
+pub use Rattle.uid_json.specs.text_trees

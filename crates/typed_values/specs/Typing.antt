@@ -17,7 +17,7 @@ use Rattle.values.specs.Sets.{set_list}
 use Rattle.typed_values.specs.declared.fault.ValueFault.{ValueFault}
 use Rattle.typed_values.specs.declared.fault.ValueFault.TheVariants.{WrongType, Undeclared, Missing}
 use Rattle.uid_json.specs.Uids.{uid_in}
-use Rattle.extensions.specs.TextsDecided.{decimal_of, network_of}
+use Rattle.values.specs.extensions.TextsDecided.{decimal_of, network_of}
 use Rattle.schema_types.specs.Cedar as cedar
 use Rattle.schema_types.specs.Cedar.{Cedar, CedarFields, no_fields, field}
 use Rattle.typed_values.specs.Parts.{element_of, fields_in, declared_at}

@@ -15,4 +15,6 @@ pub use laws::{
     values_have_no_float, written_is_read_again,
 };
 pub use reading::read_record;
+pub use uid_json;
+pub use uid_json::policy_grammar;
 pub use writing::write_record;

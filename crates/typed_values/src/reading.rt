@@ -5,7 +5,7 @@ ghost use Rattle.json_words.specs.ReadsAs.{ReadsAs, AlwaysReadsAs, or_fault};
 ghost use Rattle.json_words.specs.Json.{text_at as text_in_json};
 ghost use Rattle.schema_types.specs.CedarViews.{cedar_view, cedar_fields_view};
 ghost use Rattle.typed_values.specs.declared.fault.ValueFault.TheVariants as ValueFault;
-ghost use Rattle.extensions.specs.TextsDecided.{decimal_of, network_of};
+ghost use Rattle.values.specs.extensions.TextsDecided.{decimal_of, network_of};
 ghost use Rattle.typed_values.specs.Parts.{element_of, fields_in, declared_at};
 ghost use Rattle.typed_values.specs.Typing.{plain_call, call_in, argument_in, boolean_in, long_of, long_in, text_in};
 ghost use Rattle.typed_values.specs.Typing.{entity_in, decimal_in, ipaddr_in, leaf, all_there, typed_value as typed_of};
@@ -16,13 +16,13 @@ ghost use Rattle.typed_values.specs.inner.Ahead.{StateAlikeFrom};
 ghost use Rattle.typed_values.specs.Typing.{typed_items as items_of_type, typed_members as members_of_type};
 
 use crate::ValueFault;
-use extensions::{Decimal, IpNet};
 use json_words::{only_keys, text_at};
 use plain::{Items, Text};
 use schema_types::CedarType;
 use serde_json::{Map, Value as Json};
 use std::alloc::Global;
 use uid_json::read_uid;
+use values::extensions::{Decimal, IpNet};
 use values::{Record, TypeName, Value};
 
 type Field = (Text, CedarType, bool);

@@ -1,17 +1,17 @@
 //! The one JSON of a value, written token by token: no JSON value is built, and no name copied.
 ghost use Rattle.std.specs.Prelude.{OnOk, codes};
 ghost use Rattle.serde_json.specs.Data.{array, object};
-ghost use Rattle.extensions.specs.DecimalText.{decimal_text};
-ghost use Rattle.extensions.specs.NetworkText.{network_text};
+ghost use Rattle.values.specs.extensions.DecimalText.{decimal_text};
+ghost use Rattle.values.specs.extensions.NetworkText.{network_text};
 ghost use Rattle.values.specs.Values.{boolean, long, text, entity, values_of, fields_of};
 ghost use Rattle.uid_json.specs.Tokens.{AppendsValue};
 ghost use Rattle.typed_values.specs.Canonical.{call_json, value_json, values_json, fields_json};
 
-use extensions::{Decimal, IpNet};
 use json::Writer;
 use plain::NoMemory;
 use std::alloc::Global;
 use uid_json::write_entity;
+use values::extensions::{Decimal, IpNet};
 use values::{Kind, Record, Value};
 
 fn write_integer(out: &mut Writer, integer: i64) -> Result<(), NoMemory>

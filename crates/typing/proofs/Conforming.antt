@@ -1,5 +1,6 @@
 -- The example conforms.
-use Rattle.std.specs.Prelude.{◌≡◌, ◌⊎◌, ℕ, List, [], ◌∷◌, pos, Bool, true, false, codes, IsTrue, IsFalse, Contains, Some, None, if◌then◌else◌, refl}
+use Rattle.std.specs.Prelude.{◌≡◌, ◌⊎◌, ℕ, List, [], ◌∷◌, pos, Bool, true, false, codes, IsTrue, IsFalse, Contains}
+use Rattle.std.specs.Prelude.{Some, None, if◌then◌else◌, refl}
 use Rattle.std.specs.Bool.{Decides}
 use Rattle.std.proofs.Common.{inl, inr, ap, sym, ◌∙◌, subst}
 use Rattle.std.proofs.lemmas.Bool.{cases_Bool, false≢true}
@@ -9,12 +10,12 @@ use Rattle.values.specs.declared.entity_uid.EntityUid.{EntityUid}
 use Rattle.values.specs.Fields.{Field}
 use Rattle.values.specs.Uids.{uid_cmp, uid_cmp-IsTotalOrder, uid_cmp-IsAntisymmetric, equal-is}
 use Rattle.values.specs.Values.{PlainValue, boolean, long}
-use Rattle.expressions.specs.declared.leaf.Literal.TheVariants as literal
-use Rattle.expressions.specs.declared.leaf.Variable.TheVariants as variable
-use Rattle.expressions.specs.declared.operator.Binary.TheVariants as binary
-use Rattle.expressions.specs.declared.expr.Expr.{Expr}
-use Rattle.expressions.specs.declared.expr.Expr.TheVariants as form
-use Rattle.ancestor_closure.specs.Hierarchy.{Path, Above}
+use Rattle.evaluator.specs.expressions.declared.leaf.Literal.TheVariants as literal
+use Rattle.evaluator.specs.expressions.declared.leaf.Variable.TheVariants as variable
+use Rattle.evaluator.specs.expressions.declared.operator.Binary.TheVariants as binary
+use Rattle.evaluator.specs.expressions.declared.expr.Expr.{Expr}
+use Rattle.evaluator.specs.expressions.declared.expr.Expr.TheVariants as form
+use Rattle.evaluator.specs.ancestor_closure.Hierarchy.{Path, Above}
 use Rattle.typing.specs.Types
 use Rattle.typing.specs.Types.{StaticType, declared_as, field_declared_at}
 use Rattle.typing.specs.Membership

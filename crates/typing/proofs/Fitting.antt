@@ -1,5 +1,6 @@
 -- Each row's demand on types is enough for its operation on values.
-use Rattle.std.specs.Prelude.{◌≡◌, ◌⊎◌, ℕ, ℤ, List, Bool, true, false, ◌||◌, Contains, IsSome, Option, Some, None, Ok, Err, if◌then◌else◌, refl}
+use Rattle.std.specs.Prelude.{◌≡◌, ◌⊎◌, ℕ, ℤ, List, Bool, true, false, ◌||◌, Contains, IsSome, Option, Some, None, Ok}
+use Rattle.std.specs.Prelude.{Err, if◌then◌else◌, refl}
 use Rattle.std.specs.Bool.{Decides}
 use Rattle.std.proofs.Common.{inl, inr, ap, sym, ◌∙◌, subst}
 use Rattle.std.proofs.lemmas.Bool.{cases_Bool, false≢true}
@@ -9,19 +10,20 @@ use Rattle.values.specs.declared.entity_uid.EntityUid.{EntityUid}
 use Rattle.values.specs.declared.request.Request.{Request}
 use Rattle.values.specs.Fields.{Field, find_field}
 use Rattle.values.specs.Values.{PlainValue, PlainFields, boolean, entity, record_of, pairs_of}
-use Rattle.expressions.specs.declared.operator.Unary.{Unary}
-use Rattle.expressions.specs.declared.operator.Unary.TheVariants as unary
-use Rattle.expressions.specs.declared.operator.Binary.{Binary}
-use Rattle.expressions.specs.declared.operator.Binary.TheVariants as binary
-use Rattle.expressions.specs.declared.operator.UnaryCall.{UnaryCall}
-use Rattle.expressions.specs.declared.operator.BinaryCall.{BinaryCall}
-use Rattle.expressions.specs.declared.operator.BinaryCall.TheVariants as call
+use Rattle.evaluator.specs.expressions.declared.operator.Unary.{Unary}
+use Rattle.evaluator.specs.expressions.declared.operator.Unary.TheVariants as unary
+use Rattle.evaluator.specs.expressions.declared.operator.Binary.{Binary}
+use Rattle.evaluator.specs.expressions.declared.operator.Binary.TheVariants as binary
+use Rattle.evaluator.specs.expressions.declared.operator.UnaryCall.{UnaryCall}
+use Rattle.evaluator.specs.expressions.declared.operator.BinaryCall.{BinaryCall}
+use Rattle.evaluator.specs.expressions.declared.operator.BinaryCall.TheVariants as call
 use Rattle.evaluator.specs.declared.fault.EvalFault.TheVariants as fault
 use Rattle.evaluator.specs.Outcomes
 use Rattle.evaluator.specs.Outcomes.{EvaluationResult, IsTruthOf, IsChecked}
-use Rattle.ancestor_closure.specs.Hierarchy.{IsIn}
+use Rattle.evaluator.specs.ancestor_closure.Hierarchy.{IsIn}
 use Rattle.evaluator.specs.Operators
-use Rattle.evaluator.specs.Operators.{World, UnaryGives, BinaryGives, FieldGives, HasGives, UnaryCallGives, BinaryCallGives, TakesAddress, TakesDecimals}
+use Rattle.evaluator.specs.Operators.{World, UnaryGives, BinaryGives, FieldGives, HasGives, UnaryCallGives}
+use Rattle.evaluator.specs.Operators.{BinaryCallGives, TakesAddress, TakesDecimals}
 use Rattle.typing.specs.Types
 use Rattle.typing.specs.Types.{StaticType, Declared, field_declared_at, common, truth_type}
 use Rattle.typing.specs.Membership

@@ -4,16 +4,18 @@ use Rattle.std.proofs.Common.{sym, subst}
 use Rattle.values.specs.declared.request.Request.{Request}
 use Rattle.values.specs.Sets.{IsSetOf}
 use Rattle.values.specs.Values.{PlainValue, boolean, set, record_of, values_of, fields_of}
-use Rattle.expressions.specs.declared.expr.Named.{Named}
-use Rattle.expressions.specs.declared.expr.Expr.{Expr}
-use Rattle.expressions.specs.declared.expr.Expr.TheVariants as form
-use Rattle.expressions.specs.declared.expr.Expr.TheViews.{out-Expr}
-use Rattle.expressions.specs.declared.expr.Expr.TheOpen.{Expr-F}
+use Rattle.evaluator.specs.expressions.declared.expr.Named.{Named}
+use Rattle.evaluator.specs.expressions.declared.expr.Expr.{Expr}
+use Rattle.evaluator.specs.expressions.declared.expr.Expr.TheVariants as form
+use Rattle.evaluator.specs.expressions.declared.expr.Expr.TheViews.{out-Expr}
+use Rattle.evaluator.specs.expressions.declared.expr.Expr.TheOpen.{Expr-F}
 use Rattle.evaluator.specs.declared.fault.EvalFault.{EvalFault}
 use Rattle.evaluator.specs.Outcomes.{EvaluationResult}
-use Rattle.evaluator.specs.Operators.{World, UnaryGives, BinaryGives, FieldGives, HasGives, UnaryCallGives, BinaryCallGives}
+use Rattle.evaluator.specs.Operators.{World, UnaryGives, BinaryGives, FieldGives, HasGives, UnaryCallGives}
+use Rattle.evaluator.specs.Operators.{BinaryCallGives}
 use Rattle.evaluator.specs.Evaluation as rule
-use Rattle.evaluator.specs.Evaluation.{EvaluatesTo, TestFails, EachEvaluatesTo, HasOperands, literal_value, variable_value, put_each}
+use Rattle.evaluator.specs.Evaluation.{EvaluatesTo, TestFails, EachEvaluatesTo, HasOperands, literal_value}
+use Rattle.evaluator.specs.Evaluation.{variable_value, put_each}
 
 module _ (W : World) (q : Request) where
   pub data IfGives (a b c : Expr) : EvaluationResult → Type 0 where

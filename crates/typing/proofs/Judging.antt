@@ -1,20 +1,23 @@
 -- The typing rules as a function: an expression's type and what it learns, or its fault.
-use Rattle.std.specs.Prelude.{◌≡◌, ℕ, List, [], ◌∷◌, ◌++◌, map, Bool, true, false, Option, Some, None, Result, Ok, Err, refl}
+use Rattle.std.specs.Prelude.{◌≡◌, ℕ, List, [], ◌∷◌, ◌++◌, map, Bool, true, false, Option, Some, None, Result, Ok, Err}
+use Rattle.std.specs.Prelude.{refl}
 use Rattle.std.proofs.Common.{ap, ◌∙◌}
-use Rattle.expressions.proofs.Forms.{Every, Cases, by_forms, fold_literal, fold_variable, fold_if, fold_and, fold_or, fold_unary, fold_binary, fold_field, fold_has, fold_set, fold_record, fold_unary_call, fold_binary_call}
-use Rattle.expressions.specs.declared.leaf.Literal.{Literal}
-use Rattle.expressions.specs.declared.leaf.Variable.{Variable}
-use Rattle.expressions.specs.declared.operator.Unary.{Unary}
-use Rattle.expressions.specs.declared.operator.Binary.{Binary}
-use Rattle.expressions.specs.declared.operator.UnaryCall.{UnaryCall}
-use Rattle.expressions.specs.declared.operator.UnaryCall.TheVariants as unary_call
-use Rattle.expressions.specs.declared.operator.BinaryCall.{BinaryCall}
-use Rattle.expressions.specs.declared.expr.Named.{Named}
-use Rattle.expressions.specs.declared.expr.Expr.{Expr}
-use Rattle.expressions.specs.declared.expr.Expr.TheVariants as form
-use Rattle.expressions.specs.declared.expr.Expr.TheViews.{roll-Expr}
-use Rattle.expressions.specs.declared.expr.Expr.TheOpen.{Expr-F}
-use Rattle.expressions.specs.declared.expr.Expr.TheFolds.{map-Expr, fold-Expr}
+use Rattle.evaluator.proofs.of_expressions.Forms.{Every, Cases, by_forms, fold_literal, fold_variable, fold_if}
+use Rattle.evaluator.proofs.of_expressions.Forms.{fold_and, fold_or, fold_unary, fold_binary, fold_field, fold_has}
+use Rattle.evaluator.proofs.of_expressions.Forms.{fold_set, fold_record, fold_unary_call, fold_binary_call}
+use Rattle.evaluator.specs.expressions.declared.leaf.Literal.{Literal}
+use Rattle.evaluator.specs.expressions.declared.leaf.Variable.{Variable}
+use Rattle.evaluator.specs.expressions.declared.operator.Unary.{Unary}
+use Rattle.evaluator.specs.expressions.declared.operator.Binary.{Binary}
+use Rattle.evaluator.specs.expressions.declared.operator.UnaryCall.{UnaryCall}
+use Rattle.evaluator.specs.expressions.declared.operator.UnaryCall.TheVariants as unary_call
+use Rattle.evaluator.specs.expressions.declared.operator.BinaryCall.{BinaryCall}
+use Rattle.evaluator.specs.expressions.declared.expr.Named.{Named}
+use Rattle.evaluator.specs.expressions.declared.expr.Expr.{Expr}
+use Rattle.evaluator.specs.expressions.declared.expr.Expr.TheVariants as form
+use Rattle.evaluator.specs.expressions.declared.expr.Expr.TheViews.{roll-Expr}
+use Rattle.evaluator.specs.expressions.declared.expr.Expr.TheOpen.{Expr-F}
+use Rattle.evaluator.specs.expressions.declared.expr.Expr.TheFolds.{map-Expr, fold-Expr}
 use Rattle.typing.specs.Types
 use Rattle.typing.specs.Types.{StaticType}
 use Rattle.typing.specs.Environment

@@ -3,8 +3,8 @@ use Rattle.std.specs.Prelude.{◌≡◌, ◌↔◌, IsTrue, List, [], ◌∷◌,
 use Rattle.std.proofs.lemmas.Bool.{false≢true}
 use Rattle.std.proofs.Common.{inl, inr, sym, subst}
 use Rattle.plain.proofs.Members.{Contains-here, Contains-there, Contains-cases, Contains-none}
-use Rattle.extensions.specs.Decided.{Decided, told}
-use Rattle.extensions.specs.inner.Deciding.{decided_as, either_decided}
+use Rattle.values.specs.extensions.Decided.{Decided, told}
+use Rattle.values.specs.extensions.inner.Deciding.{decided_as, either_decided}
 
 module _ {X : Type 0} where
   pub contains_decided : ((x y : X) → Decided (x ≡ y)) → (xs : List X) (x : X) → Decided (Contains xs x)

@@ -1,20 +1,21 @@
 -- A typed expression goes right: it gives a value of its type or one of two errors, and where it is true what it
 -- learns is present.
-use Rattle.std.specs.Prelude.{◌≡◌, ℕ, List, [], ◌∷◌, ◌++◌, map, Bool, true, false, Contains, Option, Some, None, Result, Ok, Err, refl}
+use Rattle.std.specs.Prelude.{◌≡◌, ℕ, List, [], ◌∷◌, ◌++◌, map, Bool, true, false, Contains, Option, Some, None, Result}
+use Rattle.std.specs.Prelude.{Ok, Err, refl}
 use Rattle.std.specs.Bool.{Decides}
 use Rattle.std.proofs.Common.{inl, inr, ap, sym, ◌∙◌, subst}
 use Rattle.values.specs.declared.request.Request.{Request}
 use Rattle.values.specs.Fields.{Field, put}
 use Rattle.values.specs.Sets.{IsSetOf}
 use Rattle.values.specs.Values.{PlainValue, boolean, set, values_of}
-use Rattle.expressions.specs.declared.leaf.Literal.{Literal}
-use Rattle.expressions.specs.declared.leaf.Literal.TheVariants as literal
-use Rattle.expressions.specs.declared.leaf.Variable.{Variable}
-use Rattle.expressions.specs.declared.leaf.Variable.TheVariants as variable
-use Rattle.expressions.specs.declared.expr.Named.{Named}
-use Rattle.expressions.specs.declared.expr.Expr.{Expr}
-use Rattle.expressions.specs.declared.expr.Expr.TheVariants as form
-use Rattle.expressions.specs.declared.expr.Expr.TheOpen.{Expr-F}
+use Rattle.evaluator.specs.expressions.declared.leaf.Literal.{Literal}
+use Rattle.evaluator.specs.expressions.declared.leaf.Literal.TheVariants as literal
+use Rattle.evaluator.specs.expressions.declared.leaf.Variable.{Variable}
+use Rattle.evaluator.specs.expressions.declared.leaf.Variable.TheVariants as variable
+use Rattle.evaluator.specs.expressions.declared.expr.Named.{Named}
+use Rattle.evaluator.specs.expressions.declared.expr.Expr.{Expr}
+use Rattle.evaluator.specs.expressions.declared.expr.Expr.TheVariants as form
+use Rattle.evaluator.specs.expressions.declared.expr.Expr.TheOpen.{Expr-F}
 use Rattle.evaluator.specs.declared.fault.EvalFault.{EvalFault}
 use Rattle.evaluator.specs.Outcomes.{EvaluationResult, boolean_in}
 use Rattle.evaluator.specs.Operators.{World, HasGives}

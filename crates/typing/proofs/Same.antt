@@ -6,26 +6,26 @@ use Rattle.std.proofs.lemmas.Bool.Decides.{Decides-int_eq}
 use Rattle.std.specs.Ordering.{int_eq, is_eq}
 use Rattle.values.specs.declared.entity_uid.EntityUid.{EntityUid}
 use Rattle.values.specs.Uids.{uid_cmp, uid_cmp-IsTotalOrder, uid_cmp-IsAntisymmetric, equal-is}
-use Rattle.expressions.proofs.Forms.{Every, Cases, by_forms}
-use Rattle.expressions.specs.declared.leaf.Literal.{Literal}
-use Rattle.expressions.specs.declared.leaf.Literal.TheVariants as literal
-use Rattle.expressions.specs.declared.leaf.Variable.{Variable}
-use Rattle.expressions.specs.declared.leaf.Variable.TheVariants as variable
-use Rattle.expressions.specs.declared.operator.Unary.{Unary}
-use Rattle.expressions.specs.declared.operator.Unary.TheVariants as unary
-use Rattle.expressions.specs.declared.operator.Binary.{Binary}
-use Rattle.expressions.specs.declared.operator.Binary.TheVariants as binary
-use Rattle.expressions.specs.declared.operator.UnaryCall.{UnaryCall}
-use Rattle.expressions.specs.declared.operator.UnaryCall.TheVariants as unary_call
-use Rattle.expressions.specs.declared.operator.BinaryCall.{BinaryCall}
-use Rattle.expressions.specs.declared.operator.BinaryCall.TheVariants as binary_call
-use Rattle.expressions.specs.declared.expr.Named.{Named}
-use Rattle.expressions.specs.declared.expr.Expr.{Expr}
-use Rattle.expressions.specs.declared.expr.Expr.TheVariants as form
-use Rattle.expressions.specs.declared.expr.Expr.TheViews.{roll-Expr, out-Expr, roll-out-Expr}
-use Rattle.expressions.specs.declared.expr.Expr.TheOpen.{Expr-F}
-use Rattle.extensions.specs.Decided.{Decided}
-use Rattle.extensions.specs.inner.Deciding.{decided_as, both_decided, text_decided}
+use Rattle.evaluator.proofs.of_expressions.Forms.{Every, Cases, by_forms}
+use Rattle.evaluator.specs.expressions.declared.leaf.Literal.{Literal}
+use Rattle.evaluator.specs.expressions.declared.leaf.Literal.TheVariants as literal
+use Rattle.evaluator.specs.expressions.declared.leaf.Variable.{Variable}
+use Rattle.evaluator.specs.expressions.declared.leaf.Variable.TheVariants as variable
+use Rattle.evaluator.specs.expressions.declared.operator.Unary.{Unary}
+use Rattle.evaluator.specs.expressions.declared.operator.Unary.TheVariants as unary
+use Rattle.evaluator.specs.expressions.declared.operator.Binary.{Binary}
+use Rattle.evaluator.specs.expressions.declared.operator.Binary.TheVariants as binary
+use Rattle.evaluator.specs.expressions.declared.operator.UnaryCall.{UnaryCall}
+use Rattle.evaluator.specs.expressions.declared.operator.UnaryCall.TheVariants as unary_call
+use Rattle.evaluator.specs.expressions.declared.operator.BinaryCall.{BinaryCall}
+use Rattle.evaluator.specs.expressions.declared.operator.BinaryCall.TheVariants as binary_call
+use Rattle.evaluator.specs.expressions.declared.expr.Named.{Named}
+use Rattle.evaluator.specs.expressions.declared.expr.Expr.{Expr}
+use Rattle.evaluator.specs.expressions.declared.expr.Expr.TheVariants as form
+use Rattle.evaluator.specs.expressions.declared.expr.Expr.TheViews.{roll-Expr, out-Expr, roll-out-Expr}
+use Rattle.evaluator.specs.expressions.declared.expr.Expr.TheOpen.{Expr-F}
+use Rattle.values.specs.extensions.Decided.{Decided}
+use Rattle.values.specs.extensions.inner.Deciding.{decided_as, both_decided, text_decided}
 
 abbrev pub two : {A B C : Type 0} (f : A → B → C) {a c : A} {b d : B} → a ≡ c → b ≡ d → f a b ≡ f c d
 two f {a} {c} {b} {d} p q = ap (λ x. f x b) p ∙ ap (f c) q

@@ -3,27 +3,27 @@
 use Rattle.std.specs.Prelude.{◌≡◌, ℕ, ℤ, List, [], ◌∷◌, map, Bool, Contains, IsTrue, Some, None, Ok, Err, refl}
 use Rattle.std.specs.Bool.{Decides}
 use Rattle.std.proofs.Common.{inl, inr, ap, sym, ◌∙◌, subst}
-use Rattle.extensions.specs.DecimalText.{IsDecimalText}
-use Rattle.extensions.specs.Network.{Network}
-use Rattle.extensions.specs.NetworkText.{IsNetworkText}
+use Rattle.values.specs.extensions.DecimalText.{IsDecimalText}
+use Rattle.values.specs.extensions.Network.{Network}
+use Rattle.values.specs.extensions.NetworkText.{IsNetworkText}
 use Rattle.values.specs.declared.entity_uid.EntityUid.{EntityUid}
 use Rattle.values.specs.declared.request.Request.{Request}
 use Rattle.values.specs.Sets.{IsSetOf}
 use Rattle.values.specs.Values.{PlainValue, text, entity, set, values_of, list_of-values_of}
-use Rattle.expressions.specs.declared.leaf.Literal.{Literal}
-use Rattle.expressions.specs.declared.leaf.Literal.TheVariants as literal
-use Rattle.expressions.specs.declared.leaf.Variable.TheVariants as variable
-use Rattle.expressions.specs.declared.operator.Binary.{Binary}
-use Rattle.expressions.specs.declared.operator.Binary.TheVariants as binary
-use Rattle.expressions.specs.declared.operator.UnaryCall.{UnaryCall}
-use Rattle.expressions.specs.declared.operator.UnaryCall.TheVariants as unary_call
-use Rattle.expressions.specs.declared.expr.Expr.{Expr}
-use Rattle.expressions.specs.declared.expr.Expr.TheVariants as form
-use Rattle.expressions.specs.declared.expr.Expr.TheOpen.{Expr-F}
+use Rattle.evaluator.specs.expressions.declared.leaf.Literal.{Literal}
+use Rattle.evaluator.specs.expressions.declared.leaf.Literal.TheVariants as literal
+use Rattle.evaluator.specs.expressions.declared.leaf.Variable.TheVariants as variable
+use Rattle.evaluator.specs.expressions.declared.operator.Binary.{Binary}
+use Rattle.evaluator.specs.expressions.declared.operator.Binary.TheVariants as binary
+use Rattle.evaluator.specs.expressions.declared.operator.UnaryCall.{UnaryCall}
+use Rattle.evaluator.specs.expressions.declared.operator.UnaryCall.TheVariants as unary_call
+use Rattle.evaluator.specs.expressions.declared.expr.Expr.{Expr}
+use Rattle.evaluator.specs.expressions.declared.expr.Expr.TheVariants as form
+use Rattle.evaluator.specs.expressions.declared.expr.Expr.TheOpen.{Expr-F}
 use Rattle.evaluator.specs.declared.fault.EvalFault.{EvalFault}
 use Rattle.evaluator.specs.Outcomes
 use Rattle.evaluator.specs.Outcomes.{EvaluationResult, IsTruthOf}
-use Rattle.ancestor_closure.specs.Hierarchy.{IsIn}
+use Rattle.evaluator.specs.ancestor_closure.Hierarchy.{IsIn}
 use Rattle.evaluator.specs.Operators
 use Rattle.evaluator.specs.Operators.{World, BinaryGives, UnaryCallGives}
 use Rattle.evaluator.specs.Evaluation as rule

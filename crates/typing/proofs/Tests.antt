@@ -1,31 +1,33 @@
 -- What literals settle, and what calls read of them, as tests.
-use Rattle.std.specs.Prelude.{◌≡◌, ◌⊎◌, ℕ, ℤ, List, [], ◌∷◌, Bool, true, false, IsTrue, Contains, Option, Some, None, refl}
+use Rattle.std.specs.Prelude.{◌≡◌, ◌⊎◌, ℕ, ℤ, List, [], ◌∷◌, Bool, true, false, IsTrue, Contains, Option, Some, None}
+use Rattle.std.specs.Prelude.{refl}
 use Rattle.std.specs.Bool.{Decides, one_answer}
 use Rattle.std.proofs.Common.{inl, inr, ap, sym, subst, ◌∙◌}
 use Rattle.std.proofs.lemmas.Bool.{false≢true}
-use Rattle.extensions.specs.DecimalText.{IsDecimalText}
-use Rattle.extensions.specs.Network.{Network}
-use Rattle.extensions.specs.NetworkText.{IsNetworkText}
+use Rattle.values.specs.extensions.DecimalText.{IsDecimalText}
+use Rattle.values.specs.extensions.Network.{Network}
+use Rattle.values.specs.extensions.NetworkText.{IsNetworkText}
 use Rattle.values.specs.declared.entity_uid.EntityUid.{EntityUid}
-use Rattle.expressions.specs.declared.leaf.Literal.{Literal}
-use Rattle.expressions.specs.declared.leaf.Literal.TheVariants as literal
-use Rattle.expressions.specs.declared.leaf.Variable.TheVariants as variable
-use Rattle.expressions.specs.declared.operator.Binary.{Binary}
-use Rattle.expressions.specs.declared.operator.Binary.TheVariants as binary
-use Rattle.expressions.specs.declared.operator.UnaryCall.{UnaryCall}
-use Rattle.expressions.specs.declared.operator.UnaryCall.TheVariants as unary_call
-use Rattle.expressions.specs.declared.expr.Expr.{Expr}
-use Rattle.expressions.specs.declared.expr.Expr.TheVariants as form
-use Rattle.expressions.specs.declared.expr.Expr.TheViews.{roll-Expr, out-Expr, roll-out-Expr}
-use Rattle.expressions.specs.declared.expr.Expr.TheOpen.{Expr-F}
-use Rattle.extensions.specs.Decided.{Decided, told}
-use Rattle.extensions.specs.inner.Deciding.{decided_as, both_decided, either_decided}
-use Rattle.extensions.specs.TextsDecided.{decimal_text_decided, network_text_decided}
+use Rattle.evaluator.specs.expressions.declared.leaf.Literal.{Literal}
+use Rattle.evaluator.specs.expressions.declared.leaf.Literal.TheVariants as literal
+use Rattle.evaluator.specs.expressions.declared.leaf.Variable.TheVariants as variable
+use Rattle.evaluator.specs.expressions.declared.operator.Binary.{Binary}
+use Rattle.evaluator.specs.expressions.declared.operator.Binary.TheVariants as binary
+use Rattle.evaluator.specs.expressions.declared.operator.UnaryCall.{UnaryCall}
+use Rattle.evaluator.specs.expressions.declared.operator.UnaryCall.TheVariants as unary_call
+use Rattle.evaluator.specs.expressions.declared.expr.Expr.{Expr}
+use Rattle.evaluator.specs.expressions.declared.expr.Expr.TheVariants as form
+use Rattle.evaluator.specs.expressions.declared.expr.Expr.TheViews.{roll-Expr, out-Expr, roll-out-Expr}
+use Rattle.evaluator.specs.expressions.declared.expr.Expr.TheOpen.{Expr-F}
+use Rattle.values.specs.extensions.Decided.{Decided, told}
+use Rattle.values.specs.extensions.inner.Deciding.{decided_as, both_decided, either_decided}
+use Rattle.values.specs.extensions.TextsDecided.{decimal_text_decided, network_text_decided}
 use Rattle.typing.specs.Types
 use Rattle.typing.specs.Types.{StaticType}
 use Rattle.typing.specs.Environment.{Environment}
 use Rattle.typing.specs.Literals
-use Rattle.typing.specs.Literals.{IsLiteral, AreEntityLiterals, ListsEntities, IsActionIn, Settled, IsUnsettled, ReadsLiteral}
+use Rattle.typing.specs.Literals.{IsLiteral, AreEntityLiterals, ListsEntities, IsActionIn, Settled, IsUnsettled}
+use Rattle.typing.specs.Literals.{ReadsLiteral}
 use Rattle.typing.proofs.Same.{two, literal_decided, uid_decided}
 use Rattle.typing.proofs.Members.{told_iff, contains_decided, some_decided}
 

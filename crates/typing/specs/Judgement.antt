@@ -1,5 +1,5 @@
 -- What the rules judge of an expression: its type, with what it learns, or why it has none.
-use Rattle.expressions.specs.declared.expr.Expr.{Expr}
+use Rattle.evaluator.specs.expressions.declared.expr.Expr.{Expr}
 use Rattle.typing.specs.Types.{StaticType}
 use Rattle.typing.specs.Environment.{Environment, TypeFault}
 use Rattle.typing.specs.Learned.{Pairs}

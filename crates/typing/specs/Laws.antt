@@ -3,10 +3,10 @@ use Rattle.std.specs.Prelude.{◌≡◌, ◌≢◌, ℕ, List, [], ◌∷◌, Co
 use Rattle.values.specs.declared.entity_uid.EntityUid.{EntityUid}
 use Rattle.values.specs.declared.request.Request.{Request}
 use Rattle.values.specs.Values.{boolean}
-use Rattle.ancestor_closure.specs.Hierarchy.{Parents, Above}
-use Rattle.ancestor_closure.specs.Decided.{Decides, HaveAllParents}
-use Rattle.expressions.specs.declared.expr.Expr.{Expr}
-use Rattle.expressions.specs.declared.expr.Expr.TheVariants as form
+use Rattle.evaluator.specs.ancestor_closure.Hierarchy.{Parents, Above}
+use Rattle.evaluator.specs.ancestor_closure.Decided.{Decides, HaveAllParents}
+use Rattle.evaluator.specs.expressions.declared.expr.Expr.{Expr}
+use Rattle.evaluator.specs.expressions.declared.expr.Expr.TheVariants as form
 use Rattle.evaluator.specs.Outcomes.{EvaluationResult}
 use Rattle.evaluator.specs.Operators.{World}
 use Rattle.evaluator.specs.Evaluation.{EvaluatesTo}

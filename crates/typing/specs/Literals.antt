@@ -4,19 +4,19 @@
 -- actions; `ip` and `decimal` take a string literal.
 use Rattle.std.specs.Prelude.{◌≡◌, ◌⊎◌, ⊤, ℕ, ℤ, List, [], ◌∷◌, Contains, IsTrue, Bool}
 use Rattle.std.specs.Bool.{Decides}
-use Rattle.extensions.specs.DecimalText.{IsDecimalText}
-use Rattle.extensions.specs.Network.{Network}
-use Rattle.extensions.specs.NetworkText.{IsNetworkText}
+use Rattle.values.specs.extensions.DecimalText.{IsDecimalText}
+use Rattle.values.specs.extensions.Network.{Network}
+use Rattle.values.specs.extensions.NetworkText.{IsNetworkText}
 use Rattle.values.specs.declared.entity_uid.EntityUid.{EntityUid}
-use Rattle.expressions.specs.declared.leaf.Literal.{Literal}
-use Rattle.expressions.specs.declared.leaf.Literal.TheVariants as literal
-use Rattle.expressions.specs.declared.leaf.Variable.TheVariants.{Action}
-use Rattle.expressions.specs.declared.operator.Binary.{Binary}
-use Rattle.expressions.specs.declared.operator.Binary.TheVariants.{Equal, In}
-use Rattle.expressions.specs.declared.operator.UnaryCall.{UnaryCall}
-use Rattle.expressions.specs.declared.operator.UnaryCall.TheVariants.{Ip, Decimal}
-use Rattle.expressions.specs.declared.expr.Expr.{Expr}
-use Rattle.expressions.specs.declared.expr.Expr.TheVariants as form
+use Rattle.evaluator.specs.expressions.declared.leaf.Literal.{Literal}
+use Rattle.evaluator.specs.expressions.declared.leaf.Literal.TheVariants as literal
+use Rattle.evaluator.specs.expressions.declared.leaf.Variable.TheVariants.{Action}
+use Rattle.evaluator.specs.expressions.declared.operator.Binary.{Binary}
+use Rattle.evaluator.specs.expressions.declared.operator.Binary.TheVariants.{Equal, In}
+use Rattle.evaluator.specs.expressions.declared.operator.UnaryCall.{UnaryCall}
+use Rattle.evaluator.specs.expressions.declared.operator.UnaryCall.TheVariants.{Ip, Decimal}
+use Rattle.evaluator.specs.expressions.declared.expr.Expr.{Expr}
+use Rattle.evaluator.specs.expressions.declared.expr.Expr.TheVariants as form
 use Rattle.typing.specs.Types.{StaticType, decimal_type, ipaddr_type}
 use Rattle.typing.specs.Environment.{Environment}
 

@@ -1,4 +1,6 @@
 pub mod Laws
 pub mod Tokens
 pub mod Uids
-pub mod passed_on
+-- crates below, passed on to those above
+pub use Rattle.policy_grammar.specs as policy_grammar
+pub use Rattle.policy_grammar.specs.text_trees

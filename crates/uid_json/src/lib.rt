@@ -11,6 +11,7 @@ mod writing;
 
 pub use laws::names_read_back;
 pub use names::read_name;
+pub use policy_grammar;
 pub use policy_grammar::texts_have_one_reading;
 pub use uids::{read_uid, read_uids};
 pub use writing::{write_entity, write_uid};

@@ -1,7 +1,7 @@
 //! Uids as requests name them: as JSON, or as one text.
 ghost use Rattle.std.specs.Prelude.{◌≢◌, IfOk, OnOk};
 ghost use Rattle.serde_json.specs.View.{view};
-ghost use Rattle.text_trees.specs.declared.fault.ReadFault.TheVariants as ReadFault;
+ghost use Rattle.policy_grammar.specs.text_trees.declared.fault.ReadFault.TheVariants as ReadFault;
 ghost use Rattle.policy_grammar.specs.PolicyText.{IsUidText};
 ghost use Rattle.uid_json.specs.Uids.{IsRead, NamesEntity};
 

@@ -1,18 +1,19 @@
 -- What the environments come to in turn, and a policy by its names and its environments.
-use Rattle.std.specs.Prelude.{◌≡◌, ◌≢◌, ℕ, ◌+◌, ◌<◌, ◌≤◌, ◌&&◌, List, [], ◌∷◌, map, length, drop, get_or, Bool, true, false, Result, Ok, Err, refl}
+use Rattle.std.specs.Prelude.{◌≡◌, ◌≢◌, ℕ, ◌+◌, ◌<◌, ◌≤◌, ◌&&◌, List, [], ◌∷◌, map, length, drop, get_or, Bool, true}
+use Rattle.std.specs.Prelude.{false, Result, Ok, Err, refl}
 use Rattle.std.proofs.Common.{sym, ap, ◌∙◌, subst, suc, drop-cons, add-one}
 use Rattle.std.proofs.lemmas.Bool.{and_from}
 use Rattle.std.proofs.lemmas.List.{drop_all}
 use Rattle.std.proofs.lemmas.List.Elements.{All-nil, All-cons, All-head, All-tail}
 use Rattle.expressions.specs.declared.expr.Expr.{Expr}
-use Rattle.policy_grammar.specs.declared.policy.Policy.{Policy}
-use Rattle.policy_grammar.specs.Whole.{expression_of}
-use Rattle.schema_parts.specs.declared.parts.Environment as given
-use Rattle.schema.specs.Schemas.{StatedSchema}
-use Rattle.schema.specs.Views.{environment_view}
-use Rattle.typing.specs.Types.{false_type}
-use Rattle.typing.specs.Environment.{Environment}
-use Rattle.type_checker.specs.passed_on.static_types.{typing_environment_of}
+use Rattle.static_types.specs.policy_grammar.declared.policy.Policy.{Policy}
+use Rattle.static_types.specs.policy_grammar.Whole.{expression_of}
+use Rattle.static_types.specs.schema_parts.declared.parts.Environment as given
+use Rattle.static_types.specs.schema.Schemas.{StatedSchema}
+use Rattle.static_types.specs.schema.Views.{environment_view}
+use Rattle.static_types.specs.typing.Types.{false_type}
+use Rattle.static_types.specs.typing.Environment.{Environment}
+use Rattle.static_types.specs.FromSchemas.{typing_environment_of}
 use Rattle.validator.specs.declared.fault.CheckFault.{CheckFault}
 use Rattle.validator.specs.declared.fault.CheckFault.TheVariants.{NoMemory}
 use Rattle.validator.specs.Names.{names_of}

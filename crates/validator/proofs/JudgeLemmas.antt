@@ -3,18 +3,18 @@ use Rattle.std.specs.Prelude.{◌≡◌, ◌≢◌, List, [], Bool, Result, Ok, 
 use Rattle.std.specs.Bool.{Decides}
 use Rattle.std.proofs.Common.{ap, ◌∙◌, subst, inl, inr}
 use Rattle.expressions.specs.declared.expr.Expr.{Expr}
-use Rattle.policy_grammar.specs.declared.policy.Policy.{Policy}
-use Rattle.policy_grammar.specs.Whole.{expression_of}
-use Rattle.typing.specs.Types.{StaticType, false_type}
-use Rattle.typing.specs.Environment.{Environment}
-use Rattle.typing.specs.Learned.{Pairs}
-use Rattle.typing.specs.Typing.{Types}
-use Rattle.typing.specs.Faults.{Faults}
-use Rattle.typing.specs.Laws.{HaveOneJudgement}
-use Rattle.type_checker.specs.passed_on.static_types_TypeFault as at_hand
-use Rattle.type_checker.specs.passed_on.static_types_TypeFault_variants as fault
-use Rattle.type_checker.specs.passed_on.static_types_StaticType as at_hand_type
-use Rattle.type_checker.specs.passed_on.static_types.{static_view, fault_view}
+use Rattle.static_types.specs.policy_grammar.declared.policy.Policy.{Policy}
+use Rattle.static_types.specs.policy_grammar.Whole.{expression_of}
+use Rattle.static_types.specs.typing.Types.{StaticType, false_type}
+use Rattle.static_types.specs.typing.Environment.{Environment}
+use Rattle.static_types.specs.typing.Learned.{Pairs}
+use Rattle.static_types.specs.typing.Typing.{Types}
+use Rattle.static_types.specs.typing.Faults.{Faults}
+use Rattle.static_types.specs.typing.Laws.{HaveOneJudgement}
+use Rattle.static_types.specs.declared.fault.TypeFault as at_hand
+use Rattle.static_types.specs.declared.fault.TypeFault.TheVariants as fault
+use Rattle.static_types.specs.declared.static_type.StaticType as at_hand_type
+use Rattle.static_types.specs.Views.{static_view, fault_view}
 use Rattle.type_checker.specs.Joined.{joined}
 use Rattle.validator.specs.declared.fault.CheckFault.{CheckFault}
 use Rattle.validator.specs.declared.fault.CheckFault.TheVariants.{NoMemory}

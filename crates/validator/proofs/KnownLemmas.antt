@@ -1,5 +1,6 @@
 -- Whether a schema knows a name is decided by the tests of the walk.
-use Rattle.std.specs.Prelude.{◌≡◌, ℕ, List, [], ◌∷◌, Contains, All, IsTrue, IsFalse, is_some, ◌||◌, Bool, true, false, if◌then◌else◌, Ok, Err, refl}
+use Rattle.std.specs.Prelude.{◌≡◌, ℕ, List, [], ◌∷◌, Contains, All, IsTrue, IsFalse, is_some, ◌||◌, Bool, true, false}
+use Rattle.std.specs.Prelude.{if◌then◌else◌, Ok, Err, refl}
 use Rattle.std.specs.Bool.{Decides, one_answer}
 use Rattle.std.specs.List.{list_any}
 use Rattle.std.specs.Str.{bytes_eq}
@@ -11,15 +12,16 @@ use Rattle.std.proofs.lemmas.Map.Views.{Contains-from_any, list_any-from_Contain
 use Rattle.std.proofs.lemmas.Slice.Eq.{bytes_eq-Decides}
 use Rattle.values.specs.declared.entity_uid.EntityUid.{EntityUid}
 use Rattle.values.specs.Names.{uid_cmp-IsTotalOrder, uid_cmp-IsAntisymmetric}
-use Rattle.schema.specs.Schemas.{StatedSchema}
-use Rattle.schema.specs.WellFormed.{IsWellFormed}
-use Rattle.type_checker.specs.passed_on.static_types.{is_action_type}
+use Rattle.static_types.specs.schema.Schemas.{StatedSchema}
+use Rattle.static_types.specs.schema.WellFormed.{IsWellFormed}
+use Rattle.static_types.specs.entities.Entities.{is_action_type}
 use Rattle.validator.specs.declared.fault.CheckFault.{CheckFault}
 use Rattle.validator.specs.declared.fault.CheckFault.TheVariants.{UnknownType, UnknownAction}
 use Rattle.validator.specs.Names.{Name, tested_type, entity}
 use Rattle.validator.specs.Unknown
 use Rattle.validator.specs.Unknown.{IsEntityType, IsTypeOfAction, IsUnknown, IsKnown, FirstUnknown}
-use Rattle.validator.specs.inner.Walking.{WalkResult, and_then, or_fault, is_type_of_action, is_declared_action, action_told, other_told, name_told, names_told}
+use Rattle.validator.specs.inner.Walking.{WalkResult, and_then, or_fault, is_type_of_action, is_declared_action}
+use Rattle.validator.specs.inner.Walking.{action_told, other_told, name_told, names_told}
 
 -- ---- actions
 

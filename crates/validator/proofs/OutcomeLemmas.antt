@@ -6,21 +6,21 @@ use Rattle.std.proofs.lemmas.Bool.{false≢true}
 use Rattle.std.proofs.lemmas.List.Elements.{All-nil, All-cons, All-head, All-tail, All-contains}
 use Rattle.expressions.specs.declared.expr.Expr.{Expr}
 use Rattle.expressions.specs.declared.expr.Expr.TheVariants as form
-use Rattle.policy_grammar.specs.declared.policy.Policy.{Policy}
-use Rattle.policy_grammar.specs.Whole.{expression_of}
-use Rattle.schema.specs.Schemas.{StatedSchema}
-use Rattle.typing.specs.Types
-use Rattle.typing.specs.Types.{StaticType, IsBoolean, false_type}
-use Rattle.typing.specs.Environment.{Environment, TypeFault, unexpected}
-use Rattle.typing.specs.Learned.{Pairs}
-use Rattle.typing.specs.Rows
-use Rattle.typing.specs.Rows.{MayBeTrue}
-use Rattle.typing.specs.Typing
-use Rattle.typing.specs.Typing.{Types}
-use Rattle.typing.specs.Faults.{Faults}
-use Rattle.typing.specs.Judgement.{Judgement, typed, faulty, Judges}
-use Rattle.typing.specs.Laws.{HaveOneJudgement, PoliciesGoRight}
-use Rattle.type_checker.specs.passed_on.static_types.{typing_environment_of}
+use Rattle.static_types.specs.policy_grammar.declared.policy.Policy.{Policy}
+use Rattle.static_types.specs.policy_grammar.Whole.{expression_of}
+use Rattle.static_types.specs.schema.Schemas.{StatedSchema}
+use Rattle.static_types.specs.typing.Types
+use Rattle.static_types.specs.typing.Types.{StaticType, IsBoolean, false_type}
+use Rattle.static_types.specs.typing.Environment.{Environment, TypeFault, unexpected}
+use Rattle.static_types.specs.typing.Learned.{Pairs}
+use Rattle.static_types.specs.typing.Rows
+use Rattle.static_types.specs.typing.Rows.{MayBeTrue}
+use Rattle.static_types.specs.typing.Typing
+use Rattle.static_types.specs.typing.Typing.{Types}
+use Rattle.static_types.specs.typing.Faults.{Faults}
+use Rattle.static_types.specs.typing.Judgement.{Judgement, typed, faulty, Judges}
+use Rattle.static_types.specs.typing.Laws.{HaveOneJudgement, PoliciesGoRight}
+use Rattle.static_types.specs.FromSchemas.{typing_environment_of}
 use Rattle.validator.specs.declared.fault.CheckFault.{CheckFault}
 use Rattle.validator.specs.Faults.{of_typing}
 use Rattle.validator.specs.Names.{names_of}
@@ -28,7 +28,8 @@ use Rattle.validator.specs.Unknown.{IsKnown}
 use Rattle.validator.specs.Passing
 use Rattle.validator.specs.Passing.{environments_of, HasType, HasBooleanType, FirstFaulty, Passes, IsCheckRefused}
 use Rattle.validator.specs.Outcomes
-use Rattle.validator.specs.Outcomes.{CheckResult, IsCheckResult, PoliciesHaveOneOutcome, NoEnvironmentIsImpossible, PassingPoliciesGoRight, PassingIsNotRefused}
+use Rattle.validator.specs.Outcomes.{CheckResult, IsCheckResult, PoliciesHaveOneOutcome, NoEnvironmentIsImpossible}
+use Rattle.validator.specs.Outcomes.{PassingPoliciesGoRight, PassingIsNotRefused}
 use Rattle.validator.specs.inner.Walking.{WalkResult, names_told}
 use Rattle.validator.proofs.KnownLemmas.{ReportsNames, names_tell, one_first, none_first}
 

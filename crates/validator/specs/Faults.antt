@@ -1,8 +1,8 @@
 -- The refusals by number, which are a rule of this product, and those of typing among them.
 use Rattle.std.specs.Prelude.{ℕ}
-use Rattle.typing.specs.Environment as typing
-use Rattle.type_checker.specs.passed_on.static_types.{TypeFault}
-use Rattle.type_checker.specs.passed_on.static_types_TypeFault_variants as found
+use Rattle.static_types.specs.typing.Environment as typing
+use Rattle.static_types.specs.declared.fault.TypeFault.{TypeFault}
+use Rattle.static_types.specs.declared.fault.TypeFault.TheVariants as found
 use Rattle.validator.specs.declared.fault.CheckFault.{CheckFault}
 use Rattle.validator.specs.declared.fault.CheckFault.TheVariants.{NoMemory, UnknownType, UnknownAction, Unexpected}
 use Rattle.validator.specs.declared.fault.CheckFault.TheVariants.{NoCommonType, AttributeMayBeMissing, EmptySet}

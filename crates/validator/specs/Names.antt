@@ -13,8 +13,8 @@ use Rattle.expressions.specs.declared.operator.Unary.TheVariants.{Is}
 use Rattle.expressions.specs.declared.expr.Expr.{Expr}
 use Rattle.expressions.specs.declared.expr.Expr.TheOpen.{Expr-F}
 use Rattle.expressions.specs.declared.expr.Expr.TheFolds.{fold-Expr}
-use Rattle.policy_grammar.specs.declared.policy.Policy.{Policy}
-use Rattle.policy_grammar.specs.Whole.{expression_of}
+use Rattle.static_types.specs.policy_grammar.declared.policy.Policy.{Policy}
+use Rattle.static_types.specs.policy_grammar.Whole.{expression_of}
 
 pub data Name : Type 0 where
   -- the entity type behind `is`

@@ -3,16 +3,16 @@ use Rattle.std.specs.Prelude.{◌≡◌, ◌≢◌, Bool, true, [], All, Contain
 use Rattle.values.specs.declared.entity_uid.EntityUid.{EntityUid}
 use Rattle.values.specs.declared.request.Request.{Request}
 use Rattle.values.specs.Values.{boolean}
-use Rattle.ancestor_closure.specs.Decided as hierarchy
-use Rattle.policy_grammar.specs.declared.policy.Policy.{Policy}
-use Rattle.policy_grammar.specs.Whole.{expression_of}
-use Rattle.schema.specs.Schemas.{StatedSchema}
-use Rattle.evaluator.specs.Operators.{World}
-use Rattle.evaluator.specs.Outcomes as evaluation
-use Rattle.evaluator.specs.Evaluation.{EvaluatesTo}
-use Rattle.typing.specs.Types.{boolean_type}
-use Rattle.typing.specs.Environment.{Environment}
-use Rattle.typing.specs.Conforming.{Conforms, Fits}
+use Rattle.static_types.specs.ancestor_closure.Decided as hierarchy
+use Rattle.static_types.specs.policy_grammar.declared.policy.Policy.{Policy}
+use Rattle.static_types.specs.policy_grammar.Whole.{expression_of}
+use Rattle.static_types.specs.schema.Schemas.{StatedSchema}
+use Rattle.static_types.specs.evaluator.Operators.{World}
+use Rattle.static_types.specs.evaluator.Outcomes as evaluation
+use Rattle.static_types.specs.evaluator.Evaluation.{EvaluatesTo}
+use Rattle.static_types.specs.typing.Types.{boolean_type}
+use Rattle.static_types.specs.typing.Environment.{Environment}
+use Rattle.static_types.specs.typing.Conforming.{Conforms, Fits}
 use Rattle.validator.specs.declared.fault.CheckFault.{CheckFault}
 use Rattle.validator.specs.Names.{names_of}
 use Rattle.validator.specs.Unknown.{IsKnown}

@@ -6,15 +6,15 @@
 -- whose names are all known.
 use Rattle.std.specs.Prelude.{◌↔◌, List, [], ◌∷◌, map, All, Bool, IsTrue}
 use Rattle.expressions.specs.declared.expr.Expr.{Expr}
-use Rattle.policy_grammar.specs.declared.policy.Policy.{Policy}
-use Rattle.policy_grammar.specs.Whole.{expression_of}
-use Rattle.schema.specs.Schemas.{StatedSchema}
-use Rattle.typing.specs.Types.{StaticType, false_type, IsBoolean}
-use Rattle.typing.specs.Environment.{Environment, TypeFault}
-use Rattle.typing.specs.Learned.{Pairs}
-use Rattle.typing.specs.Typing.{Types}
-use Rattle.typing.specs.Faults.{Faults}
-use Rattle.type_checker.specs.passed_on.static_types.{typing_environment_of}
+use Rattle.static_types.specs.policy_grammar.declared.policy.Policy.{Policy}
+use Rattle.static_types.specs.policy_grammar.Whole.{expression_of}
+use Rattle.static_types.specs.schema.Schemas.{StatedSchema}
+use Rattle.static_types.specs.typing.Types.{StaticType, false_type, IsBoolean}
+use Rattle.static_types.specs.typing.Environment.{Environment, TypeFault}
+use Rattle.static_types.specs.typing.Learned.{Pairs}
+use Rattle.static_types.specs.typing.Typing.{Types}
+use Rattle.static_types.specs.typing.Faults.{Faults}
+use Rattle.static_types.specs.FromSchemas.{typing_environment_of}
 use Rattle.validator.specs.declared.fault.CheckFault.{CheckFault}
 use Rattle.validator.specs.Faults.{of_typing}
 use Rattle.validator.specs.Names.{names_of}

@@ -5,8 +5,8 @@
 -- action.
 use Rattle.std.specs.Prelude.{◌≡◌, ℕ, List, ◌∷◌, Contains, IsTrue, IsFalse, IsSome}
 use Rattle.values.specs.declared.entity_uid.EntityUid.{EntityUid}
-use Rattle.schema.specs.Schemas.{StatedSchema}
-use Rattle.type_checker.specs.passed_on.static_types.{is_action_type}
+use Rattle.static_types.specs.schema.Schemas.{StatedSchema}
+use Rattle.static_types.specs.entities.Entities.{is_action_type}
 use Rattle.validator.specs.declared.fault.CheckFault.{CheckFault}
 use Rattle.validator.specs.declared.fault.CheckFault.TheVariants.{UnknownType, UnknownAction}
 use Rattle.validator.specs.Names.{Name, tested_type, entity}

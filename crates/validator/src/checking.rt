@@ -1,8 +1,8 @@
 //! Whether a policy passes.
 ghost use Rattle.std.specs.Prelude.{◌≡◌, ◌≢◌, ◌&&◌, IfOk, IfErr, true};
-ghost use Rattle.policy_grammar.specs.Whole.{expression_of};
-ghost use Rattle.schema.specs.Views.{schema_view, environment_view};
-ghost use Rattle.type_checker.specs.passed_on.static_types.{typing_environment_of};
+ghost use Rattle.static_types.specs.policy_grammar.Whole.{expression_of};
+ghost use Rattle.static_types.specs.schema.Views.{schema_view, environment_view};
+ghost use Rattle.static_types.specs.FromSchemas.{typing_environment_of};
 ghost use Rattle.validator.specs.Passing.{IsVerdict, IsCheckRefused};
 ghost use Rattle.validator.specs.inner.Checking.{scope_parts, typed_in, ReportsFalse, IsJudged, AreJudged};
 ghost use Rattle.validator.specs.inner.Walking.{parts_told};
@@ -12,11 +12,11 @@ use crate::scope::parts_of;
 use crate::walking::{walk, walk_each};
 use expressions::Expr;
 use plain::NoMemory;
-use policy_grammar::Policy;
-use schema::{Environment, Schema};
+use static_types::policy_grammar::Policy;
+use static_types::schema::{Environment, Schema};
+use static_types::typing::expressions_have_one_judgement;
 use std::alloc::Global;
 use type_checker::{StaticType, TypeFault, TypingEnvironment, judge_all};
-use typing::expressions_have_one_judgement;
 
 /// What is told of a policy that passes.
 #[derive(Clone, Copy, PartialEq, Eq)]

@@ -2,12 +2,12 @@
 ghost use Rattle.std.specs.Prelude.{◌≡◌, is_some, slice_get};
 ghost use Rattle.std.specs.Ordering.{is_lt};
 ghost use Rattle.values.specs.Names.{text_cmp};
-ghost use Rattle.schema.specs.Views.{schema_view};
+ghost use Rattle.static_types.specs.schema.Views.{schema_view};
 ghost use Rattle.validator.specs.inner.Walking.{type_at, is_type_of_action, is_declared_action, tested_type_told};
 ghost use Rattle.validator.specs.inner.Walking.{action_told, other_told, entity_told};
 
 use crate::fault::CheckFault;
-use schema::{Schema, stated_schemas_are_well_formed};
+use static_types::schema::{Schema, stated_schemas_are_well_formed};
 use type_checker::is_action_type;
 use values::{EntityUid, TypeName};
 

@@ -14,3 +14,5 @@ mod walking;
 pub use checking::{Verdict, check};
 pub use fault::CheckFault;
 pub use laws::{passing_policies_go_right, policies_have_one_outcome};
+pub use static_types;
+pub use static_types::{schema, typing};

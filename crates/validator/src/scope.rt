@@ -1,11 +1,11 @@
 //! The expression of a policy's scope, part by part: what stands in it before the conditions.
 ghost use Rattle.std.specs.Prelude.{◌≡◌, map, IfOk};
-ghost use Rattle.policy_grammar.specs.Whole.{entity_literal, is_equal, is_in, entity_part, action_part};
+ghost use Rattle.static_types.specs.policy_grammar.Whole.{entity_literal, is_equal, is_in, entity_part, action_part};
 ghost use Rattle.validator.specs.inner.Checking.{scope_parts};
 
 use expressions::{Binary, Expr, Literal, Unary, Variable};
 use plain::{Items, NoMemory};
-use policy_grammar::{ActionScope, EntityScope, Scope};
+use static_types::policy_grammar::{ActionScope, EntityScope, Scope};
 use std::alloc::Global;
 use values::{EntityUid, TypeName};
 

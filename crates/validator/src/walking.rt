@@ -1,6 +1,6 @@
 //! The walk over the names of an expression, in the order of the text.
 ghost use Rattle.std.specs.Prelude.{◌≡◌, map};
-ghost use Rattle.schema.specs.Views.{schema_view};
+ghost use Rattle.static_types.specs.schema.Views.{schema_view};
 ghost use Rattle.validator.specs.inner.Walking.{in_turn, literal_told, operator_told, walk, named_walk};
 ghost use Rattle.expressions.specs.Size.{values_of};
 
@@ -8,7 +8,7 @@ use crate::fault::CheckFault;
 use crate::known::{check_entity, check_tested_type};
 use expressions::{Expr, Literal, Named, Unary};
 use plain::Shared;
-use schema::Schema;
+use static_types::schema::Schema;
 
 fn check_literal(schema: &Schema, literal: &Literal) -> Result<(), CheckFault>
     ensures { result ≡ literal_told (schema_view schema.now) literal.now }

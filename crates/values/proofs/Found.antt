@@ -16,7 +16,7 @@ use Rattle.std.proofs.lemmas.Bool.{cases_Bool}
 use Rattle.values.specs.Values.{PlainValue}
 use Rattle.values.specs.ValueOrder.{value_cmp, value_cmp-IsTotalOrder, value_cmp-IsAntisymmetric}
 use Rattle.values.specs.Sets.{has_member}
-use Rattle.plain.proofs.Members.{Contains-there, Contains-cases, Contains-none}
+use Rattle.extensions.proofs.of_plain.Members.{Contains-there, Contains-cases, Contains-none}
 
 -- what a greater one compares as is no less
 rises : (a b x : PlainValue) → value_cmp a b ≡ Less → (r : Ordering) → value_cmp b x ≡ r → ordering_index (value_cmp a x) ≤ ordering_index r

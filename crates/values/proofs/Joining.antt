@@ -4,7 +4,7 @@ use Rattle.std.specs.Prelude.{map, codes, slice_index_or}
 use Rattle.std.specs.Borrow.{Bor}
 use Rattle.std.proofs.lemmas.List.{append_assoc, append-nil}
 use Rattle.std.proofs.Math.Seq.{take-length}
-use Rattle.plain.specs.Words.{IsPath, AreIdents, joined_path}
+use Rattle.extensions.specs.plain.Words.{IsPath, AreIdents, joined_path}
 use Rattle.values.specs.Paths.{path_of}
 
 -- each word behind `::`

@@ -12,3 +12,5 @@ pub mod Scanning
 pub mod Unique
 pub mod Within
 pub mod WellFormedLemmas
+-- crates below, passed on to those above
+pub use Rattle.extensions.proofs as of_extensions

@@ -1,11 +1,13 @@
 -- The test decides what a Path is.
-use Rattle.std.proofs.Common.{◌≡◌, ◌∙◌, ℕ, suc, zero, Bool, true, false, List, [], ◌∷◌, ◌++◌, inl, inr, refl, sym, ap, subst, arith, append_assoc, append-nil}
+use Rattle.std.proofs.Common.{◌≡◌, ◌∙◌, ℕ, suc, zero, Bool, true, false, List, [], ◌∷◌, ◌++◌, inl, inr, refl, sym, ap}
+use Rattle.std.proofs.Common.{subst, arith, append_assoc, append-nil}
 use Rattle.std.specs.Prelude.{◌==◌, ◌&&◌, not, codes, Contains}
 use Rattle.std.specs.List.{list_any, list_all}
 use Rattle.std.specs.Str.{bytes_eq}
 use Rattle.std.proofs.lemmas.Bool.{cases_Bool, eqb-true}
 use Rattle.std.proofs.lemmas.Slice.Eq.{bytes_eq-Decides}
-use Rattle.plain.specs.Words.{is_letter, is_digit, is_word_byte, AllAre, IsWord, IsIdent, AreIdents, reserved_words, joined_path, IsPath}
+use Rattle.extensions.specs.plain.Words.{is_letter, is_digit, is_word_byte, AllAre, IsWord, IsIdent, AreIdents}
+use Rattle.extensions.specs.plain.Words.{reserved_words, joined_path, IsPath}
 use Rattle.values.specs.Paths.{is_word, is_ident, pieces, is_path}
 
 abbrev joined : List (List ℕ) → List ℕ

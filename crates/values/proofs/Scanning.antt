@@ -1,12 +1,14 @@
 -- Where the first word of a Path ends, and what comes behind it.
-use Rattle.std.proofs.Common.{◌≡◌, ◌↔◌, ℕ, true, false, List, [], ◌∷◌, ◌++◌, inl, inr, refl, sym, ◌∙◌, ap, subst, arith, length, take, drop}
+use Rattle.std.proofs.Common.{◌≡◌, ◌↔◌, ℕ, true, false, List, [], ◌∷◌, ◌++◌, inl, inr, refl, sym, ◌∙◌, ap, subst, arith}
+use Rattle.std.proofs.Common.{length, take, drop}
 use Rattle.std.specs.Prelude.{◌⊎◌, ◌==◌, nat_eq, codes}
 use Rattle.std.specs.Cmp.Lexicographic.{pointwise}
 use Rattle.std.proofs.lemmas.Bool.{cases_Bool, eqb-true}
 use Rattle.std.proofs.lemmas.Slice.Eq.{bytes_eq-Decides}
 use Rattle.std.proofs.lemmas.List.{take-append-drop, append_assoc, append-nil}
-use Rattle.plain.specs.Words.{is_letter, is_digit, is_word_byte, AllAre, IsWord, IsIdent, joined_path, IsPath, run}
-use Rattle.plain.proofs.Runs.{run_all}
+use Rattle.extensions.specs.plain.Words.{is_letter, is_digit, is_word_byte, AllAre, IsWord, IsIdent, joined_path}
+use Rattle.extensions.specs.plain.Words.{IsPath, run}
+use Rattle.extensions.proofs.of_plain.Runs.{run_all}
 
 letter_word : (c : ℕ) → is_letter c ≡ true → is_word_byte c ≡ true
 unfolding is_word_byte

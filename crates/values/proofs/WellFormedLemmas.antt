@@ -1,5 +1,6 @@
 -- Sets and records of well-formed values are well formed, and so is what they hold.
-use Rattle.std.proofs.Common.{◌≡◌, ℕ, zero, suc, List, [], ◌∷◌, Some, Ordering, Less, Equal, Greater, refl, sym, subst, arith}
+use Rattle.std.proofs.Common.{◌≡◌, ℕ, zero, suc, List, [], ◌∷◌, Some, Ordering, Less, Equal, Greater, refl, sym, subst}
+use Rattle.std.proofs.Common.{arith}
 use Rattle.std.specs.Prelude.{Contains}
 use Rattle.std.specs.Ordering.{match_ordering}
 use Rattle.std.specs.List.Sorted.{IsStrictlySortedBy}
@@ -9,7 +10,7 @@ use Rattle.values.specs.Sets.{set_list}
 use Rattle.values.specs.Uids.{text_cmp}
 use Rattle.values.specs.ValueOrder.{value_cmp}
 use Rattle.values.specs.WellFormed.{IsWellFormed, AreMembersWellFormed, AreFieldsWellFormed}
-use Rattle.plain.proofs.Members.{Contains-here, Contains-there}
+use Rattle.extensions.proofs.of_plain.Members.{Contains-here, Contains-there}
 use Rattle.values.proofs.Puts.{put_ascending}
 use Rattle.values.proofs.Unique.{set_of}
 

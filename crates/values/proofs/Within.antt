@@ -2,7 +2,7 @@
 use Rattle.std.proofs.Common.{◌≡◌, ◌∙◌, ℕ, List, [], ◌∷◌, ◌++◌, refl, ap}
 use Rattle.std.specs.Prelude.{codes}
 use Rattle.std.proofs.lemmas.List.{append_assoc}
-use Rattle.plain.specs.Words.{IsPath, AreIdents, joined_path}
+use Rattle.extensions.specs.plain.Words.{IsPath, AreIdents, joined_path}
 
 join_both : (first : List ℕ) (more : List (List ℕ)) (next : List ℕ) (rest : List (List ℕ))
     → joined_path first more ++ codes "::" ++ joined_path next rest ≡ joined_path first (more ++ next ∷ rest)

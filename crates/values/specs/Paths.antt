@@ -5,7 +5,7 @@ use Prim.Native.Char.{code}
 use Rattle.std.specs.Prelude.{◌↔◌, IsTrue, false, ℕ, List, [], ◌∷◌, ◌++◌, Bool, not, ◌==◌, ◌&&◌, if◌then◌else◌}
 use Rattle.std.specs.List.{list_any, list_all}
 use Rattle.std.specs.Str.{bytes_eq}
-use Rattle.plain.specs.Words.{is_letter, is_word_byte, reserved_words, joined_path, IsIdent, IsPath}
+use Rattle.extensions.specs.plain.Words.{is_letter, is_word_byte, reserved_words, joined_path, IsIdent, IsPath}
 
 -- the words with `::` between each two
 abbrev pub path_of : List (List ℕ) → List ℕ

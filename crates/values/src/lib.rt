@@ -16,6 +16,7 @@ mod value;
 mod value_ref;
 
 pub use entity_uid::EntityUid;
+pub use extensions;
 pub use laws::{
     paths_are_told, records_are_maps, sets_hold_their_members, values_stay_well_formed,
 };

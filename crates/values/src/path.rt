@@ -1,8 +1,8 @@
 //! Whether a text is a Path of the policy language.
 ghost use Rattle.std.specs.Prelude.{◌↔◌, IsTrue};
-ghost use Rattle.plain.specs.Words.{is_word_byte, AllAre, IsReserved, IsIdent, IsPath};
+ghost use Rattle.extensions.specs.plain.Words.{is_word_byte, AllAre, IsReserved, IsIdent, IsPath};
 
-use plain::words::{letter, word_len};
+use extensions::plain::words::{letter, word_len};
 
 /// The words that are no identifier.
 const RESERVED: [&[u8]; 10] = [

@@ -5,12 +5,12 @@ ghost use Rattle.std.specs.Ordering.{nat_cmp, is_eq};
 ghost use Rattle.std.specs.Cmp.{partial_equiv_from_equiv, partial_order_from_agreeing_total};
 ghost use Rattle.std.specs.Cmp.Lexicographic.{slice_cmp};
 ghost use Rattle.std.proofs.lemmas.Cmp.{eq_by_cmp_equiv, nat_list_cmp_total};
-ghost use Rattle.plain.specs.Words.{IsPath, AreIdents};
+ghost use Rattle.extensions.specs.plain.Words.{IsPath, AreIdents};
 ghost use Rattle.values.specs.Paths.{path_of};
 
 use crate::path::is_path;
 use crate::shared_text::SharedText;
-use plain::{NoMemory, Text};
+use extensions::plain::{NoMemory, Text};
 use std::alloc::Global;
 use std::cmp::Ordering;
 use std::marker::Model;
@@ -30,7 +30,7 @@ impl Model for TypeName {
 
     ghost Value = { List ℕ };
 
-    ghost use Rattle.plain.specs.Words.{IsPath};
+    ghost use Rattle.extensions.specs.plain.Words.{IsPath};
 
     ghost view = { λ t. t.text };
 

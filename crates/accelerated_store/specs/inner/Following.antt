@@ -1,11 +1,11 @@
 -- Ancestors beside a store while they follow a change.
 use Rattle.std.specs.Prelude.{◌≡◌, [], Some}
 use Rattle.values.specs.declared.entity_uid.EntityUid.{EntityUid}
-use Rattle.ancestor_closure.specs.Hierarchy.{Parents}
+use Rattle.kept_ancestors.specs.ancestor_closure.Hierarchy.{Parents}
 use Rattle.kept_ancestors.specs.declared.keeping.KeptAncestors.{KeptAncestors}
 use Rattle.kept_ancestors.specs.Kept.{AreKept, AreKeptBut}
-use Rattle.schema.specs.Schemas.{StatedSchema}
-use Rattle.entity_worlds.specs.Entities.{Actions}
+use Rattle.stored_world.specs.schema.Schemas.{StatedSchema}
+use Rattle.stored_world.specs.entity_worlds.Entities.{Actions}
 use Rattle.accelerated_store.specs.Kept.{EntityEntries, edges_under}
 
 -- what is kept was of the edges before the parents of one entity changed, which led to these

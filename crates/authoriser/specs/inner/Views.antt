@@ -5,10 +5,10 @@ use Rattle.std.specs.Borrow.{Bor}
 use Rattle.values.specs.declared.entity_uid.EntityUid.{EntityUid}
 use Rattle.values.specs.declared.request.Request.{Request}
 use Rattle.values.specs.Values.{boolean}
-use Rattle.ancestor_closure.specs.Hierarchy.{Parents, IsAllAbove, IsAscending, names}
+use Rattle.evaluator.specs.ancestor_closure.Hierarchy.{Parents, IsAllAbove, IsAscending, names}
 use Rattle.expressions.specs.declared.expr.Expr.{Expr}
-use Rattle.policy_grammar.specs.declared.policy.Scope.{Scope}
-use Rattle.policy_grammar.specs.declared.policy.Effect.TheVariants.{Permit, Forbid}
+use Rattle.scope_index.specs.policy_grammar.declared.policy.Scope.{Scope}
+use Rattle.scope_index.specs.policy_grammar.declared.policy.Effect.TheVariants.{Permit, Forbid}
 use Rattle.evaluator.specs.Operators.{World}
 use Rattle.evaluator.specs.Evaluation.{EvaluatesTo, TestFails}
 use Rattle.authoriser.specs.declared.answer.ErringPolicy.{ErringPolicy}

@@ -4,9 +4,9 @@ use Rattle.std.specs.List.{list_any}
 use Rattle.serde_json.specs.Data.{Data}
 use Rattle.values.specs.declared.entity_uid.EntityUid.{EntityUid}
 use Rattle.values.specs.declared.request.Request.{Request}
-use Rattle.ancestor_closure.specs.Decided.{is_same}
+use Rattle.entity_worlds.specs.ancestor_closure.Decided.{is_same}
 use Rattle.json_words.specs.ReadsAs.{◌>>=◌, demand, Fails}
-use Rattle.evaluator.specs.Operators.{World}
+use Rattle.entity_worlds.specs.evaluator.Operators.{World}
 use Rattle.entity_worlds.specs.declared.data.EntityData.{EntityData}
 use Rattle.entity_worlds.specs.Entities.{EntityMap}
 use Rattle.entity_worlds.specs.Entities.{world_in as entities_world}

@@ -7,11 +7,12 @@ use Rattle.std.proofs.Common.{append_assoc, Some, None, nat_eq, inl, inr}
 use Rattle.std.proofs.lemmas.Bool.{cases_Bool, eqb-true}
 use Rattle.std.specs.Char.{digit_value}
 use Rattle.plain.specs.Words.{AllAre}
-use Rattle.policy_tokens.specs.declared.piece.Piece.{Piece}
-use Rattle.policy_tokens.specs.declared.piece.Piece.TheVariants as piece
-use Rattle.policy_tokens.specs.Lexing.{escaped, quote, backslash, is_hex, hex_after, IsEscape, letter, star, short}
-use Rattle.policy_tokens.specs.Lexing.{long, IsBody, done, itself, escape}
-use Rattle.policy_tokens.specs.Strings.{bytes_of, literals_of, IsStringOf, IsPatternOf}
+use Rattle.expression_trees.specs.policy_tokens.declared.piece.Piece.{Piece}
+use Rattle.expression_trees.specs.policy_tokens.declared.piece.Piece.TheVariants as piece
+use Rattle.expression_trees.specs.policy_tokens.Lexing.{escaped, quote, backslash, is_hex, hex_after, IsEscape, letter}
+use Rattle.expression_trees.specs.policy_tokens.Lexing.{star, short}
+use Rattle.expression_trees.specs.policy_tokens.Lexing.{long, IsBody, done, itself, escape}
+use Rattle.expression_trees.specs.policy_tokens.Strings.{bytes_of, literals_of, IsStringOf, IsPatternOf}
 use Rattle.desugaring.specs.StringMeaning.{StringMeaning}
 
 -- how far a string is read: up to a piece's end, behind a backslash, behind `\x` and its first digit, behind `\u` and

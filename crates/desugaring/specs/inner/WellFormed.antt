@@ -1,11 +1,11 @@
 -- What a tree is made of: tokens of the text, each of a kind that its place asks for.
 use Rattle.std.specs.Prelude.{◌≡◌, ℕ, true, List}
 use Rattle.std.specs.List.{AllByRecursion}
-use Rattle.policy_tokens.specs.declared.token.TokenKind.TheVariants as k
-use Rattle.policy_tokens.specs.declared.token.Token.{Token}
-use Rattle.policy_tokens.specs.Lexing.{IsSpelledIn}
-use Rattle.token_readers.specs.declared.tree.PathTree.{PathTree}
-use Rattle.token_readers.specs.declared.tree.UidTree.{UidTree}
+use Rattle.expression_trees.specs.policy_tokens.declared.token.TokenKind.TheVariants as k
+use Rattle.expression_trees.specs.policy_tokens.declared.token.Token.{Token}
+use Rattle.expression_trees.specs.policy_tokens.Lexing.{IsSpelledIn}
+use Rattle.expression_trees.specs.token_readers.declared.tree.PathTree.{PathTree}
+use Rattle.expression_trees.specs.token_readers.declared.tree.UidTree.{UidTree}
 use Rattle.expression_trees.specs.declared.tree.Access.{Access}
 use Rattle.expression_trees.specs.declared.tree.Access.TheVariants as access
 use Rattle.expression_trees.specs.declared.tree.Entry.{Entry}
@@ -13,8 +13,8 @@ use Rattle.expression_trees.specs.declared.tree.KeyTree.{KeyTree}
 use Rattle.expression_trees.specs.declared.tree.KeyTree.TheVariants.{Word, Quoted}
 use Rattle.expression_trees.specs.declared.tree.Term.{Term}
 use Rattle.expression_trees.specs.declared.tree.ExprTree.{ExprTree}
-use Rattle.token_readers.specs.Kinds.{Kinds, only}
-use Rattle.token_readers.specs.Grammar.{identifiers}
+use Rattle.expression_trees.specs.token_readers.Kinds.{Kinds, only}
+use Rattle.expression_trees.specs.token_readers.Grammar.{identifiers}
 use Rattle.expression_trees.specs.Parts.{parts_of}
 
 -- The token is spelled in the text, and of these kinds.

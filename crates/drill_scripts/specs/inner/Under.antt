@@ -1,6 +1,6 @@
 -- A script that is played under a schema that was read.
 use Rattle.std.specs.Prelude.{ℕ, List}
-use Rattle.schema.specs.Schemas.{StatedSchema}
+use Rattle.policy_checks.specs.schema.Schemas.{StatedSchema}
 use Rattle.site_worlds.specs.declared.event.Event.{Event}
 use Rattle.drill_scripts.specs.Scripts.{AreEventsOf}
 use Rattle.drill_scripts.specs.Drills.{IsPlayedOut}

@@ -1,9 +1,9 @@
 -- The edges that lead from entities which are no actions: all that a cycle can go along.
 use Rattle.std.specs.Prelude.{List, [], Contains, Option, Some, None, IsSome}
 use Rattle.values.specs.declared.entity_uid.EntityUid.{EntityUid}
-use Rattle.ancestor_closure.specs.Hierarchy.{Parents}
-use Rattle.ancestor_closure.specs.Decided.{HaveAllParents}
-use Rattle.ancestor_closure.specs.Deciding.{Contains-none}
+use Rattle.evaluator.specs.ancestor_closure.Hierarchy.{Parents}
+use Rattle.evaluator.specs.ancestor_closure.Decided.{HaveAllParents}
+use Rattle.evaluator.specs.ancestor_closure.Deciding.{Contains-none}
 use Rattle.entity_worlds.specs.declared.data.EntityData.{EntityData}
 use Rattle.entity_worlds.specs.Entities.{EntityMap, AreListed, Actions, kept_parents}
 use Rattle.entity_worlds.specs.Listing.{kept_with_parents}

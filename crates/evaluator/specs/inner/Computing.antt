@@ -7,11 +7,11 @@ use Rattle.std.proofs.Common.{inl, inr}
 use Rattle.std.specs.List.{list_any, list_all}
 use Rattle.std.specs.Ordering.{is_eq}
 use Rattle.std.specs.Str.{bytes_eq}
-use Rattle.extensions.specs.declared.ip_net.Version.{Version}
-use Rattle.extensions.specs.declared.ip_net.Version.TheVariants.{V4, V6}
-use Rattle.extensions.specs.Network.{Network, loopback_v4, loopback_v6, multicast_v4, multicast_v6}
-use Rattle.extensions.specs.DecimalText.{IsDecimalText}
-use Rattle.extensions.specs.NetworkText.{IsNetworkText}
+use Rattle.values.specs.extensions.declared.ip_net.Version.{Version}
+use Rattle.values.specs.extensions.declared.ip_net.Version.TheVariants.{V4, V6}
+use Rattle.values.specs.extensions.Network.{Network, loopback_v4, loopback_v6, multicast_v4, multicast_v6}
+use Rattle.values.specs.extensions.DecimalText.{IsDecimalText}
+use Rattle.values.specs.extensions.NetworkText.{IsNetworkText}
 use Rattle.values.specs.declared.entity_uid.EntityUid.{EntityUid}
 use Rattle.values.specs.declared.request.Request.{Request}
 use Rattle.values.specs.Names.{uid_cmp}
@@ -43,9 +43,9 @@ use Rattle.evaluator.specs.declared.fault.EvalFault.{EvalFault}
 use Rattle.evaluator.specs.declared.numbers.Numbers.{Numbers}
 use Rattle.evaluator.specs.declared.fault.EvalFault.TheVariants.{EntityDoesNotExist, AttrDoesNotExist, TypeError}
 use Rattle.evaluator.specs.declared.fault.EvalFault.TheVariants.{ArithBoundsError, ExtensionError, NoMemory}
-use Rattle.extensions.specs.Decided.{Decided, told}
-use Rattle.extensions.specs.TextsDecided.{decimal_text_decided, network_text_decided, in_either_decided}
-use Rattle.extensions.specs.TextsDecided.{within_decided}
+use Rattle.values.specs.extensions.Decided.{Decided, told}
+use Rattle.values.specs.extensions.TextsDecided.{decimal_text_decided, network_text_decided, in_either_decided}
+use Rattle.values.specs.extensions.TextsDecided.{within_decided}
 use Rattle.evaluator.specs.Outcomes.{EvaluationResult, boolean_in, long_in, text_in, entity_uid_in, members_in}
 use Rattle.evaluator.specs.Outcomes.{decimal_in, network_in}
 use Rattle.evaluator.specs.Evaluation.{literal_value, variable_value}

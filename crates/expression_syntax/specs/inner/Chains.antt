@@ -1,7 +1,7 @@
 -- How a level of operators is read: an operand, and behind it as many pieces as begin with a token of a set.
 use Rattle.std.specs.Prelude.{List}
-use Rattle.token_readers.specs.Kinds.{Kinds}
-use Rattle.token_readers.specs.Reading.{Parser, many, pure, ◌>>=◌}
+use Rattle.expression_trees.specs.token_readers.Kinds.{Kinds}
+use Rattle.expression_trees.specs.token_readers.Reading.{Parser, many, pure, ◌>>=◌}
 use Rattle.expression_trees.specs.declared.tree.ExprTree.{ExprTree}
 use Rattle.expression_syntax.specs.Expressions.{joined}
 

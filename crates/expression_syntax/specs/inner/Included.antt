@@ -1,7 +1,7 @@
 -- The kinds of each set of tokens that readers of expressions ask for by name.
 use Rattle.expression_syntax.specs.declared.token_sets.TokenSet.{TokenSet}
 use Rattle.expression_syntax.specs.declared.token_sets.TokenSet.TheVariants as set
-use Rattle.token_readers.specs.Kinds.{Kinds}
+use Rattle.expression_trees.specs.token_readers.Kinds.{Kinds}
 use Rattle.expression_syntax.specs.Expressions.{booleans, keys, patterns, signs, comparisons}
 use Rattle.expression_syntax.specs.ExpressionReading.{openers, access_firsts, firsts}
 

@@ -2,10 +2,10 @@
 use Rattle.std.specs.Prelude.{ℕ, Result}
 use Rattle.std.specs.declared.alloc.Global.{Global}
 use denote.Ref.{MutBor}
-use Rattle.token_readers.specs.declared.cursor.Cursor.{Cursor}
+use Rattle.expression_trees.specs.token_readers.declared.cursor.Cursor.{Cursor}
 use Rattle.expression_trees.specs.declared.tree.ExprTree.{ExprTree}
-use Rattle.token_readers.specs.declared.fault.Halt.{Halt}
-use Rattle.token_readers.specs.ParsesTo.{ParsesTo}
+use Rattle.expression_trees.specs.token_readers.declared.fault.Halt.{Halt}
+use Rattle.expression_trees.specs.token_readers.ParsesTo.{ParsesTo}
 use Rattle.expression_syntax.specs.ExpressionReading.{expr}
 
 pub record Nests (levels : ℕ) (pre : Global → MutBor Cursor → ℕ → Type 0)

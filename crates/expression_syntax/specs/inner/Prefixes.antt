@@ -1,6 +1,6 @@
 -- What stands before a Member, and what it makes.
-use Rattle.policy_tokens.specs.declared.token.TokenKind.{TokenKind}
-use Rattle.policy_tokens.specs.declared.token.TokenKind.TheVariants as k
+use Rattle.expression_trees.specs.policy_tokens.declared.token.TokenKind.{TokenKind}
+use Rattle.expression_trees.specs.policy_tokens.declared.token.TokenKind.TheVariants as k
 use Rattle.expression_syntax.specs.declared.operators.Prefix.{Prefix}
 use Rattle.expression_syntax.specs.declared.operators.Prefix.TheVariants.{Not, Minus}
 use Rattle.expression_trees.specs.declared.tree.ExprTree.{ExprTree}

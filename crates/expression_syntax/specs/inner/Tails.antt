@@ -1,11 +1,11 @@
 -- What stands behind the first Sum of a relation, read before it is joined to the Sum.
 use Rattle.std.specs.Prelude.{Bool, Option, Some, None}
-use Rattle.policy_tokens.specs.declared.token.TokenKind.TheVariants as k
+use Rattle.expression_trees.specs.policy_tokens.declared.token.TokenKind.TheVariants as k
 use Rattle.expression_trees.specs.declared.tree.ExprTree.{ExprTree}
 use Rattle.expression_trees.specs.declared.tree.ExprTree.TheVariants as tree
-use Rattle.token_readers.specs.Kinds.{only}
-use Rattle.token_readers.specs.Reading.{Parser, take, token, pure, ◌>>=◌, ◌>>◌, either}
-use Rattle.token_readers.specs.Parsing.{path}
+use Rattle.expression_trees.specs.token_readers.Kinds.{only}
+use Rattle.expression_trees.specs.token_readers.Reading.{Parser, take, token, pure, ◌>>=◌, ◌>>◌, either}
+use Rattle.expression_trees.specs.token_readers.Parsing.{path}
 use Rattle.expression_syntax.specs.Expressions.{comparison_of, comparisons, patterns, is_in}
 use Rattle.expression_syntax.specs.ExpressionReading.{symbol, key, sum, maybe_inside}
 use Rattle.expression_syntax.specs.declared.relations.Tail.{Tail}

@@ -1,7 +1,7 @@
 -- What becomes of one request, with the text that its reply is appended to.
 use Rattle.std.specs.Prelude.{◌≡◌, ℕ, List, ◌++◌}
-use Rattle.http_texts.specs.declared.status.Status.{Status}
-use Rattle.service_replies.specs.passed_on.site.{Seen}
+use Rattle.service_replies.specs.http_texts.declared.status.Status.{Status}
+use Rattle.site_runs.specs.site.Seen.{Seen}
 use Rattle.service_replies.specs.Replies.{IsReplyOrNoMemory}
 use Rattle.http_service.specs.Asked.{Asked}
 use Rattle.http_service.specs.Answered.{Replies}

@@ -1,7 +1,7 @@
 -- All that is kept of a graph, made anew.
 use Rattle.std.specs.Prelude.{◌≡◌, ◌⊎◌, List, [], Contains}
 use Rattle.values.specs.declared.entity_uid.EntityUid.{EntityUid}
-use Rattle.ancestor_closure.specs.Hierarchy.{Parents}
+use Rattle.ancestor_lists.specs.ancestor_closure.Hierarchy.{Parents}
 use Rattle.ancestor_lists.specs.Lists.{IsListOf}
 
 -- each of these entities has its list, and no other has one

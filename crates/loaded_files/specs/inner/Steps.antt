@@ -1,8 +1,8 @@
 -- What stands between the steps of a load.
 use Rattle.std.specs.Prelude.{List, ℕ}
 use Rattle.std.specs.Str.{IsUtf8}
-use Rattle.policy_tokens.specs.declared.token.Token.{Token}
-use Rattle.policy_tokens.specs.Lexing.{IsLexed}
+use Rattle.policy_files.specs.policy_tokens.declared.token.Token.{Token}
+use Rattle.policy_files.specs.policy_tokens.Lexing.{IsLexed}
 
 -- the bytes are a text with tokens
 pub record HasTokens (bytes : List ℕ) : Type 0 where

@@ -1,8 +1,8 @@
 -- Two messages merged under a schema that is read already.
 use Rattle.std.specs.Prelude.{◌≡◌, ℕ, List}
-use Rattle.schema.specs.Schemas.{StatedSchema}
-use Rattle.stamped_store.specs.Store.{Store}
-use Rattle.state_messages.specs.Messages.{state_text}
+use Rattle.stored_texts.specs.schema.Schemas.{StatedSchema}
+use Rattle.stored_texts.specs.stamped_store.Store.{Store}
+use Rattle.stored_texts.specs.state_messages.Messages.{state_text}
 use Rattle.merged_states.specs.Messages.{IsReadBack}
 use Rattle.merged_states.specs.Merges.{IsStoreOfBoth}
 

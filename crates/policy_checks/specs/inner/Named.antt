@@ -1,8 +1,8 @@
 -- Policies with their names, as code holds them.
 use Rattle.std.specs.Prelude.{List, map, String, string_bytes, ◌∷◌, ℕ, Bool, true, false, Result, Ok, Err}
 use Rattle.std.specs.Global.{Global}
-use Rattle.policy_grammar.specs.declared.policy.Policy.{Policy}
-use Rattle.authoriser.specs.Answers.{NamedPolicy}
+use Rattle.decision_texts.specs.policy_grammar.declared.policy.Policy.{Policy}
+use Rattle.decision_texts.specs.authoriser.Answers.{NamedPolicy}
 use Rattle.validator.specs.declared.checking.Verdict.{Verdict}
 use Rattle.validator.specs.declared.fault.CheckFault.{CheckFault}
 use Rattle.validator.specs.Outcomes.{CheckResult, passes, refused}

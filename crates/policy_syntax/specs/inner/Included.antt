@@ -1,5 +1,5 @@
 -- The kinds of each set of tokens that readers of policies ask for by name.
-use Rattle.token_readers.specs.Kinds.{Kinds}
+use Rattle.expression_syntax.specs.token_readers.Kinds.{Kinds}
 use Rattle.policy_syntax.specs.declared.policy_sets.PolicySet.{PolicySet}
 use Rattle.policy_syntax.specs.declared.policy_sets.PolicySet.TheVariants as set
 use Rattle.policy_syntax.specs.Grammar.{words, effects, condition_words}

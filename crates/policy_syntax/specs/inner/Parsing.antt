@@ -1,9 +1,9 @@
 -- How the grammar is read, from the left, by the next token.
 use Rattle.std.specs.Prelude.{ℕ, true, List, [], ◌∷◌, Option, None}
-use Rattle.policy_tokens.specs.declared.token.TokenKind.{TokenKind}
-use Rattle.policy_tokens.specs.declared.token.TokenKind.TheVariants as k
-use Rattle.policy_tokens.specs.declared.token.Token.{Token}
-use Rattle.token_readers.specs.declared.tree.UidTree.{UidTree}
+use Rattle.expression_syntax.specs.policy_tokens.declared.token.TokenKind.{TokenKind}
+use Rattle.expression_syntax.specs.policy_tokens.declared.token.TokenKind.TheVariants as k
+use Rattle.expression_syntax.specs.policy_tokens.declared.token.Token.{Token}
+use Rattle.expression_syntax.specs.token_readers.declared.tree.UidTree.{UidTree}
 use Rattle.policy_syntax.specs.declared.tree.Annotation.{Annotation}
 use Rattle.policy_syntax.specs.declared.tree.PartTree.{PartTree}
 use Rattle.policy_syntax.specs.declared.tree.PartTree.TheVariants as part
@@ -12,9 +12,10 @@ use Rattle.policy_syntax.specs.declared.tree.ActionTree.TheVariants as action
 use Rattle.policy_syntax.specs.declared.tree.ScopeTree.{ScopeTree}
 use Rattle.policy_syntax.specs.declared.tree.Condition.{Condition}
 use Rattle.policy_syntax.specs.declared.tree.PolicyTree.{PolicyTree}
-use Rattle.token_readers.specs.Kinds.{Kinds, only}
-use Rattle.token_readers.specs.Reading.{Parser, take, token, pure, ◌>>=◌, ◌>>◌, either, optional, many}
-pub use Rattle.token_readers.specs.Parsing.{path, uid}
+use Rattle.expression_syntax.specs.token_readers.Kinds.{Kinds, only}
+use Rattle.expression_syntax.specs.token_readers.Reading.{Parser, take, token, pure, ◌>>=◌, ◌>>◌, either, optional}
+use Rattle.expression_syntax.specs.token_readers.Reading.{many}
+pub use Rattle.expression_syntax.specs.token_readers.Parsing.{path, uid}
 use Rattle.expression_syntax.specs.ExpressionReading.{expr, symbol}
 use Rattle.policy_syntax.specs.Grammar.{identifiers, words, effects, is_in, condition_word_of, condition_words}
 

@@ -1,5 +1,5 @@
 -- The faults of a fetch among those of a pull.
-use Rattle.decision_texts.specs.Refusals.{no_memory}
+use Rattle.merged_states.specs.decision_texts.Refusals.{no_memory}
 use Rattle.http_streams.specs.declared.fetch.FetchFault.{FetchFault}
 use Rattle.http_streams.specs.declared.fetch.FetchFault.TheVariants as fetch
 use Rattle.pulled_states.specs.declared.fault.NetworkFault.TheVariants as network

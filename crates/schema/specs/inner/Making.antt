@@ -3,7 +3,7 @@ use Rattle.std.specs.Prelude.{◌≡◌, ⊤, ℕ, List, Contains, Option, Some,
 use Rattle.std.specs.BTreeMap.{BTreeMap, get}
 use Rattle.values.specs.declared.entity_uid.EntityUid.{EntityUid}
 use Rattle.values.specs.Names.{uid_cmp, text_cmp}
-use Rattle.ancestor_closure.specs.Hierarchy.{Parents}
+use Rattle.schema_parts.specs.ancestor_closure.Hierarchy.{Parents}
 use Rattle.schema_types.specs.Qualified.{Qualified}
 use Rattle.schema_types.specs.Cedar.{Cedar}
 use Rattle.schema_types.specs.CedarViews.{cedar_view}

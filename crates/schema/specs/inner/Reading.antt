@@ -3,7 +3,7 @@ use Rattle.std.specs.Prelude.{◌≡◌, map}
 use Rattle.std.specs.BTreeMap.{keys, get}
 use Rattle.std.specs.BTreeMap as tree
 use Rattle.values.specs.Names.{uid_cmp}
-use Rattle.ancestor_closure.specs.Hierarchy.{Parents, IsAscending}
+use Rattle.schema_parts.specs.ancestor_closure.Hierarchy.{Parents, IsAscending}
 use Rattle.schema_types.specs.Qualified.{Qualified}
 use Rattle.schema_types.specs.WrittenOut.{Declarations}
 use Rattle.schema_types.specs.Mentions.{IsClosed}

@@ -5,16 +5,16 @@ use Rattle.plain.specs.Words.{IsPath}
 use Rattle.values.specs.declared.entity_uid.EntityUid.{EntityUid}
 use Rattle.values.specs.declared.name.Name.{Name}
 use Rattle.serde_json.specs.Data.{Data}
-use Rattle.policy_grammar.specs.declared.policy.Policy.{Policy}
-use Rattle.schema.specs.Schemas.{StatedSchema}
-use Rattle.entity_worlds.specs.declared.entity.Entity.{Entity}
-use Rattle.entities.specs.Canonical.{canonical_text}
-use Rattle.entities.specs.Entities.{entity_stated_in}
-use Rattle.stamped_entries.specs.declared.entry.ReadText.{ReadText}
-use Rattle.stamped_entries.specs.declared.entry.Stamp.{Stamp}
-use Rattle.stamped_store.specs.Greatest.{greatest_count}
-use Rattle.stamped_store.specs.Store.{Store, entity_name, issue}
-use Rattle.stored_texts.specs.passed_on.validator.{IsImpossible}
+use Rattle.accelerated_store.specs.policy_grammar.declared.policy.Policy.{Policy}
+use Rattle.accelerated_store.specs.schema.Schemas.{StatedSchema}
+use Rattle.accelerated_store.specs.entity_worlds.declared.entity.Entity.{Entity}
+use Rattle.accelerated_store.specs.entities.Canonical.{canonical_text}
+use Rattle.accelerated_store.specs.entities.Entities.{entity_stated_in}
+use Rattle.accelerated_store.specs.stamped_entries.declared.entry.ReadText.{ReadText}
+use Rattle.accelerated_store.specs.stamped_entries.declared.entry.Stamp.{Stamp}
+use Rattle.accelerated_store.specs.stamped_store.Greatest.{greatest_count}
+use Rattle.accelerated_store.specs.stamped_store.Store.{Store, entity_name, issue}
+use Rattle.typed_readings.specs.validator.Passing.{IsImpossible}
 use Rattle.site.specs.declared.fault.SiteFault.{SiteFault}
 use Rattle.site.specs.declared.fault.SiteFault.TheVariants as fault
 use Rattle.site.specs.declared.outcome.Put.{Put}

@@ -1,13 +1,13 @@
 -- A site that takes a message before it serves.
 use Rattle.std.specs.Prelude.{◌≡◌, ℕ, List, ◌++◌, Option}
-use Rattle.policy_grammar.specs.declared.policy.Policy.{Policy}
-use Rattle.entity_worlds.specs.declared.entity.Entity.{Entity}
-use Rattle.stamped_store.specs.Store.{store_of, updates}
-use Rattle.state_messages.specs.declared.update.Update.{Update as SentUpdate}
-use Rattle.state_messages.specs.Updates.{plain_updates}
-use Rattle.http_service.specs.passed_on.site_runs.{Seen, schema_of, store_in, IsSameSite}
-use Rattle.schema.specs.Schemas.{StatedSchema}
-use Rattle.http_service.specs.passed_on.site_runs.{IsMessageOf}
+use Rattle.http_service.specs.policy_grammar.declared.policy.Policy.{Policy}
+use Rattle.http_service.specs.entity_worlds.declared.entity.Entity.{Entity}
+use Rattle.command_lines.specs.stamped_store.Store.{store_of, updates}
+use Rattle.pulled_states.specs.state_messages.declared.update.Update.{Update as SentUpdate}
+use Rattle.pulled_states.specs.state_messages.Updates.{plain_updates}
+use Rattle.loaded_files.specs.site.Seen.{Seen, schema_of, store_in, IsSameSite}
+use Rattle.loaded_files.specs.schema.Schemas.{StatedSchema}
+use Rattle.http_service.specs.site_runs.Runs.{IsMessageOf}
 use Rattle.site_commands.specs.Beginning.{BeginsWith}
 
 -- all updates of the message are taken

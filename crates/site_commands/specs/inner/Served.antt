@@ -1,7 +1,7 @@
 -- What is left of a run that serves, once the schema is read, and one connection of it.
 use Rattle.std.specs.Prelude.{ℕ, List, Option, Some}
-use Rattle.counted_devices.specs.declared.devices.Source.{Ghosts as Source}
-use Rattle.counted_devices.specs.declared.devices.Sink.{Ghosts as Sink}
+use Rattle.pulled_states.specs.counted_devices.declared.devices.Source.{Ghosts as Source}
+use Rattle.pulled_states.specs.counted_devices.declared.devices.Sink.{Ghosts as Sink}
 use Rattle.site_commands.specs.declared.device.Link.{Link}
 use Rattle.site_commands.specs.Courses.{Course, Reads, ReadsIfNamed}
 use Rattle.site_commands.specs.Serving.{IsServedFrom}

@@ -3,8 +3,8 @@ use Rattle.std.specs.Prelude.{◌≡◌, ℕ, List, ◌∷◌, Option, None, Som
 use Rattle.site_commands.specs.declared.device.FileFault.{FileFault}
 use Rattle.site_commands.specs.declared.device.FileFault.TheVariants.{Missing}
 use Rattle.site_commands.specs.Events.{Event, read}
-use Rattle.counted_devices.specs.declared.devices.Source.{Ghosts as Source}
-use Rattle.counted_devices.specs.declared.devices.Sink.{Ghosts as Sink}
+use Rattle.pulled_states.specs.counted_devices.declared.devices.Source.{Ghosts as Source}
+use Rattle.pulled_states.specs.counted_devices.declared.devices.Sink.{Ghosts as Sink}
 use Rattle.site_commands.specs.declared.device.Link.{Link}
 use Rattle.site_commands.specs.Reports.{IsFileReported}
 use Rattle.site_commands.specs.Courses.{Course, Reads, ReadsIfThere, Connects}

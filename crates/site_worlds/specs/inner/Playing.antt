@@ -1,8 +1,8 @@
 -- What one event does to what the code keeps: the sites themselves, and the bytes of what was made.
 use Rattle.std.specs.Prelude.{◌≡◌, ℕ, List, slice_get, Option, Some, None}
-use Rattle.schema.specs.Schemas.{StatedSchema}
-use Rattle.stamped_store.specs.Store.{Store}
-use Rattle.site.specs.Seen.{Seen}
+use Rattle.site_runs.specs.schema.Schemas.{StatedSchema}
+use Rattle.site_runs.specs.stamped_store.Store.{Store}
+use Rattle.site_runs.specs.site.Seen.{Seen}
 use Rattle.site_runs.specs.declared.input.Input.{Input}
 use Rattle.site_runs.specs.declared.reply.Reply.{Reply}
 use Rattle.site_runs.specs.Runs.{Step}

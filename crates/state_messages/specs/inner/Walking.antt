@@ -6,11 +6,11 @@ use Rattle.std.specs.FinMap.Entries.{is_sorted}
 use Rattle.json.specs.Written.{Written}
 use Rattle.values.specs.declared.name.Name.{Name}
 use Rattle.values.specs.Names.{name_cmp}
-use Rattle.stamped_entries.specs.declared.entry.Entry.{Entry}
-use Rattle.stamped_store.specs.Abstraction.{abstract_entries}
-use Rattle.stamped_store.specs.Deltas.{Summary}
-use Rattle.stamped_store.specs.Store.{Update}
-use Rattle.stamped_store.specs.Stored.{value_at}
+use Rattle.sync_messages.specs.stamped_entries.declared.entry.Entry.{Entry}
+use Rattle.sync_messages.specs.stamped_store.Abstraction.{abstract_entries}
+use Rattle.sync_messages.specs.stamped_store.Deltas.{Summary}
+use Rattle.sync_messages.specs.stamped_store.Store.{Update}
+use Rattle.sync_messages.specs.stamped_store.Stored.{value_at}
 use Rattle.sync_messages.specs.Summaries.{ascend}
 use Rattle.sync_messages.specs.Tokens.{AppendsAll}
 use Rattle.state_messages.specs.inner.Writing.{all_news_json}

@@ -1,7 +1,7 @@
 -- An index while it follows a change of a store.
 use Rattle.std.specs.Prelude.{◌≡◌, ℕ, List, Option, Some, None, false}
 use Rattle.std.specs.Str.{bytes_eq}
-use Rattle.policy_grammar.specs.declared.policy.Policy.{Policy}
+use Rattle.scope_index.specs.policy_grammar.declared.policy.Policy.{Policy}
 use Rattle.scope_index.specs.Keys.{Kept, kept_at}
 use Rattle.store_index.specs.Indexed.{PolicyEntries, policy_at}
 

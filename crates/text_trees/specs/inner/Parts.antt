@@ -1,10 +1,10 @@
 -- What the parts of the reader tell one another.
 use Rattle.std.specs.Prelude.{ℕ, ◌≤◌, ◌<◌, List, length, slice_get}
 use Rattle.std.specs.List.{AllByRecursion}
-use Rattle.policy_tokens.specs.declared.token.Token.{Token}
-use Rattle.policy_tokens.specs.Lexing.{IsLexed, IsSpelledIn, IsBadAt}
-use Rattle.token_readers.specs.declared.fault.SyntaxFault.{SyntaxFault}
-use Rattle.token_readers.specs.declared.fault.SyntaxFault.TheVariants as syntax
+use Rattle.desugaring.specs.policy_tokens.declared.token.Token.{Token}
+use Rattle.desugaring.specs.policy_tokens.Lexing.{IsLexed, IsSpelledIn, IsBadAt}
+use Rattle.desugaring.specs.token_readers.declared.fault.SyntaxFault.{SyntaxFault}
+use Rattle.desugaring.specs.token_readers.declared.fault.SyntaxFault.TheVariants as syntax
 use Rattle.text_trees.specs.declared.fault.ReadFault.{ReadFault}
 use Rattle.text_trees.specs.declared.fault.ReadFault.TheVariants as fault
 use Rattle.text_trees.specs.Texts.{byte_of}

@@ -4,9 +4,9 @@ use Rattle.expressions.specs.declared.operator.Unary.TheVariants.{Is}
 use Rattle.expressions.specs.declared.operator.Binary.{Binary}
 use Rattle.expressions.specs.declared.expr.Expr.{Expr}
 use Rattle.expressions.specs.declared.expr.Expr.TheVariants as form
-use Rattle.typing.specs.Environment.{Environment}
-use Rattle.typing.specs.Literals.{IsUnsettled}
-use Rattle.typing.specs.Rows.{MayBeTrue}
+use Rattle.static_types.specs.typing.Environment.{Environment}
+use Rattle.static_types.specs.typing.Literals.{IsUnsettled}
+use Rattle.static_types.specs.typing.Rows.{MayBeTrue}
 use Rattle.static_types.specs.Views.{static_view}
 use Rattle.static_types.specs.declared.fault.TypeFault.{TypeFault}
 use Rattle.type_checker.specs.declared.typed.Typed.{Typed}

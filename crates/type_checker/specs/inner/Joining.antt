@@ -1,12 +1,12 @@
 -- Expressions joined by `&&`, to the right, of which the first have been looked at.
 use Rattle.std.specs.Prelude.{[], Option, Some, None}
 use Rattle.expressions.specs.declared.expr.Expr.{Expr}
-use Rattle.typing.specs.Types.{StaticType, IsBoolean}
-use Rattle.typing.specs.Environment.{Environment, TypeFault, unexpected}
-use Rattle.typing.specs.Learned.{Pairs}
-use Rattle.typing.specs.Rows.{and_type}
-use Rattle.typing.specs.Typing.{Types}
-use Rattle.typing.specs.Faults.{Faults}
+use Rattle.static_types.specs.typing.Types.{StaticType, IsBoolean}
+use Rattle.static_types.specs.typing.Environment.{Environment, TypeFault, unexpected}
+use Rattle.static_types.specs.typing.Learned.{Pairs}
+use Rattle.static_types.specs.typing.Rows.{and_type}
+use Rattle.static_types.specs.typing.Typing.{Types}
+use Rattle.static_types.specs.typing.Faults.{Faults}
 
 -- the type of those so far, none or of type s, with one of type t behind them
 abbrev pub and_so_far : Option StaticType → StaticType → StaticType

@@ -4,15 +4,15 @@ use Rattle.std.specs.Prelude.{◌≡◌, ◌≢◌, ◌⊎◌, List, [], ◌∷�
 use Rattle.expressions.specs.declared.operator.UnaryCall.{UnaryCall}
 use Rattle.expressions.specs.declared.expr.Expr.{Expr}
 use Rattle.expressions.specs.declared.expr.Expr.TheVariants as form
-use Rattle.typing.specs.Types.{StaticType, true_type, false_type, boolean_type}
-use Rattle.evaluator.specs.Operators.{TakesAddress}
-use Rattle.typing.specs.Environment.{Environment, bad_extension_literal}
-use Rattle.typing.specs.Learned as learned
-use Rattle.typing.specs.Learned.{Pairs, has_learns}
-use Rattle.typing.specs.Literals.{ReadsLiteral, TakesText}
-use Rattle.typing.specs.Rows.{address_test_type, set_literal_type}
-use Rattle.typing.specs.Typing.{Types, TypesEach}
-use Rattle.typing.specs.Faults.{Faults, FaultsEach}
+use Rattle.static_types.specs.typing.Types.{StaticType, true_type, false_type, boolean_type}
+use Rattle.static_types.specs.evaluator.Operators.{TakesAddress}
+use Rattle.static_types.specs.typing.Environment.{Environment, bad_extension_literal}
+use Rattle.static_types.specs.typing.Learned as learned
+use Rattle.static_types.specs.typing.Learned.{Pairs, has_learns}
+use Rattle.static_types.specs.typing.Literals.{ReadsLiteral, TakesText}
+use Rattle.static_types.specs.typing.Rows.{address_test_type, set_literal_type}
+use Rattle.static_types.specs.typing.Typing.{Types, TypesEach}
+use Rattle.static_types.specs.typing.Faults.{Faults, FaultsEach}
 use Rattle.static_types.specs.Views.{static_view, fault_view}
 use Rattle.static_types.specs.declared.static_type.StaticType as built
 use Rattle.static_types.specs.declared.fault.TypeFault.{TypeFault}

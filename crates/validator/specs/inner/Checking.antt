@@ -3,18 +3,18 @@ use Rattle.std.specs.Prelude.{◌≡◌, ◌≢◌, List, [], ◌∷◌, map, Al
 use Rattle.std.specs.Bool.{Decides}
 use Rattle.expressions.specs.declared.leaf.Variable.TheVariants.{Principal, Resource}
 use Rattle.expressions.specs.declared.expr.Expr.{Expr}
-use Rattle.policy_grammar.specs.declared.policy.Scope.{Scope}
-use Rattle.policy_grammar.specs.Whole.{entity_part, action_part}
-use Rattle.schema_parts.specs.declared.parts.Environment as given
-use Rattle.schema.specs.Schemas.{StatedSchema}
-use Rattle.schema.specs.Views.{environment_view}
-use Rattle.typing.specs.Types.{false_type}
-use Rattle.typing.specs.Environment.{Environment, TypeFault}
-use Rattle.typing.specs.Faults.{Faults}
-use Rattle.type_checker.specs.passed_on.static_types.{typing_environment_of}
-use Rattle.type_checker.specs.passed_on.static_types.{TypeFault as FoundFault}
-use Rattle.type_checker.specs.passed_on.static_types.{StaticType}
-use Rattle.type_checker.specs.passed_on.static_types.{static_view}
+use Rattle.static_types.specs.policy_grammar.declared.policy.Scope.{Scope}
+use Rattle.static_types.specs.policy_grammar.Whole.{entity_part, action_part}
+use Rattle.static_types.specs.schema_parts.declared.parts.Environment as given
+use Rattle.static_types.specs.schema.Schemas.{StatedSchema}
+use Rattle.static_types.specs.schema.Views.{environment_view}
+use Rattle.static_types.specs.typing.Types.{false_type}
+use Rattle.static_types.specs.typing.Environment.{Environment, TypeFault}
+use Rattle.static_types.specs.typing.Faults.{Faults}
+use Rattle.static_types.specs.FromSchemas.{typing_environment_of}
+use Rattle.static_types.specs.declared.fault.TypeFault.{TypeFault as FoundFault}
+use Rattle.static_types.specs.declared.static_type.StaticType.{StaticType}
+use Rattle.static_types.specs.Views.{static_view}
 use Rattle.validator.specs.declared.fault.CheckFault.{CheckFault}
 use Rattle.validator.specs.declared.fault.CheckFault.TheVariants.{NoMemory}
 use Rattle.validator.specs.Faults.{of_typing, of_types}

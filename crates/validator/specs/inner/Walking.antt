@@ -4,7 +4,7 @@ use Rattle.std.specs.Prelude.{⊤, Result, Ok, Err}
 use Rattle.std.specs.List.{list_any}
 use Rattle.std.specs.Str.{bytes_eq}
 use Rattle.values.specs.declared.entity_uid.EntityUid.{EntityUid}
-use Rattle.ancestor_closure.specs.Decided.{is_same}
+use Rattle.static_types.specs.ancestor_closure.Decided.{is_same}
 use Rattle.expressions.specs.Size.{values_of}
 use Rattle.expressions.specs.declared.leaf.Literal.{Literal}
 use Rattle.expressions.specs.declared.leaf.Literal.TheVariants as literal
@@ -14,8 +14,8 @@ use Rattle.expressions.specs.declared.expr.Named.{Named}
 use Rattle.expressions.specs.declared.expr.Expr.{Expr}
 use Rattle.expressions.specs.declared.expr.Expr.TheOpen.{Expr-F}
 use Rattle.expressions.specs.declared.expr.Expr.TheFolds.{fold-Expr}
-use Rattle.schema.specs.Schemas.{StatedSchema}
-use Rattle.type_checker.specs.passed_on.static_types.{is_action_type}
+use Rattle.static_types.specs.schema.Schemas.{StatedSchema}
+use Rattle.static_types.specs.entities.Entities.{is_action_type}
 use Rattle.validator.specs.declared.fault.CheckFault.{CheckFault}
 use Rattle.validator.specs.declared.fault.CheckFault.TheVariants.{UnknownType, UnknownAction}
 use Rattle.validator.specs.Names.{Name, tested_type, entity}

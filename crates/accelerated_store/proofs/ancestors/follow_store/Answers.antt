@@ -1,6 +1,6 @@
 use Rattle.std.proofs.Common.{sym, subst}
 use Rattle.std.specs.Prelude.{OnOk}
-use Rattle.ancestor_closure.specs.Hierarchy.{Parents}
+use Rattle.kept_ancestors.specs.ancestor_closure.Hierarchy.{Parents}
 use Rattle.kept_ancestors.specs.Kept.{AreKept, AreKeptBut}
 use Rattle.accelerated_store.proofs.WorldSeen.{edges_are}
 use Rattle.accelerated_store.proofs.ancestors.follow_store.Goals as goal

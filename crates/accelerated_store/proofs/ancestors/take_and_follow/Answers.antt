@@ -1,10 +1,10 @@
 use Rattle.std.proofs.Common.{ap, sym, subst, Option}
 use Rattle.std.specs.Prelude.{IfSome}
 use Rattle.kept_ancestors.specs.declared.keeping.KeptAncestors.{KeptAncestors}
-use Rattle.policy_grammar.specs.declared.policy.Policy.{Policy}
-use Rattle.schema.specs.Views.{schema_view}
-use Rattle.entity_worlds.specs.declared.entity.Entity.{Entity}
-use Rattle.stamped_store.specs.Store.{StoreEntries}
+use Rattle.store_index.specs.policy_grammar.declared.policy.Policy.{Policy}
+use Rattle.stored_world.specs.schema.Views.{schema_view}
+use Rattle.stored_world.specs.entity_worlds.declared.entity.Entity.{Entity}
+use Rattle.store_index.specs.stamped_store.Store.{StoreEntries}
 use Rattle.accelerated_store.specs.Kept.{AreAncestorsOf}
 use Rattle.accelerated_store.proofs.AncestorsFollow.{right_elsewhere}
 use Rattle.accelerated_store.proofs.ancestors.take_and_follow.Goals as goal

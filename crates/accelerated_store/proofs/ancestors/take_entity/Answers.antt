@@ -1,4 +1,4 @@
-use Rattle.schema.specs.Views.{schema_view}
+use Rattle.stored_world.specs.schema.Views.{schema_view}
 use Rattle.accelerated_store.proofs.Stays.{ancestors_stay}
 use Rattle.accelerated_store.proofs.ancestors.take_entity.Goals as goal
 

@@ -1,7 +1,7 @@
 use Rattle.std.proofs.Common.{subst, IsTrue, List}
 use Rattle.std.specs.Prelude.{◌↔◌}
 use Rattle.values.specs.declared.entity_uid.EntityUid.{EntityUid}
-use Rattle.ancestor_closure.specs.Hierarchy.{IsOnCycle, with_parents}
+use Rattle.kept_ancestors.specs.ancestor_closure.Hierarchy.{IsOnCycle, with_parents}
 use Rattle.accelerated_store.specs.Kept.{edges_under}
 use Rattle.accelerated_store.proofs.ancestors.would_cycle_by.Goals as goal
 

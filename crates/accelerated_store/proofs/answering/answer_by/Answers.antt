@@ -1,7 +1,7 @@
 use Rattle.std.proofs.Common.{subst}
 use Rattle.std.specs.Prelude.{IfOk}
-use Rattle.evaluator.specs.Operators.{world_of}
-use Rattle.authoriser.specs.Answers.{IsAnswer}
+use Rattle.stored_world.specs.evaluator.Operators.{world_of}
+use Rattle.stored_world.specs.authoriser.Answers.{IsAnswer}
 use Rattle.stored_world.specs.TextsRead.{policies_read}
 use Rattle.accelerated_store.proofs.answering.answer_by.Goals as goal
 

@@ -1,6 +1,6 @@
 use Rattle.std.proofs.Common.{ap, ◌∙◌}
-use Rattle.evaluator.specs.Operators.{world_of}
-use Rattle.authoriser.specs.Views.{named}
+use Rattle.stored_world.specs.evaluator.Operators.{world_of}
+use Rattle.stored_world.specs.authoriser.Views.{named}
 use Rattle.stored_world.specs.TextsRead.{policies_read}
 use Rattle.accelerated_store.proofs.Answered.{over_same}
 use Rattle.accelerated_store.proofs.answering.answer_over_all.Goals as goal

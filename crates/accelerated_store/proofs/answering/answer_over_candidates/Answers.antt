@@ -1,5 +1,5 @@
-use Rattle.evaluator.specs.Operators.{world_of}
-use Rattle.authoriser.specs.Views.{named}
+use Rattle.stored_world.specs.evaluator.Operators.{world_of}
+use Rattle.stored_world.specs.authoriser.Views.{named}
 use Rattle.accelerated_store.proofs.Answered.{over_candidates}
 use Rattle.accelerated_store.proofs.answering.answer_over_candidates.Goals as goal
 

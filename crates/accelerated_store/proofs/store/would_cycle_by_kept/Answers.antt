@@ -2,7 +2,7 @@ use Rattle.std.proofs.Common.{subst}
 use Rattle.std.specs.Prelude.{Option}
 use Rattle.std.specs.Option.{IfSome}
 use Rattle.kept_ancestors.specs.declared.keeping.KeptAncestors.{KeptAncestors}
-use Rattle.schema.specs.Views.{schema_view}
+use Rattle.stored_world.specs.schema.Views.{schema_view}
 use Rattle.accelerated_store.specs.Kept.{AreAncestorsOf}
 use Rattle.accelerated_store.proofs.store.would_cycle_by_kept.Goals as goal
 

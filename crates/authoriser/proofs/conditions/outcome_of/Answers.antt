@@ -2,7 +2,7 @@ use Rattle.std.proofs.Common.{refl, sym, subst}
 use Rattle.std.proofs.lemmas.Result.{IfOk-weaker}
 use Rattle.std.specs.Prelude.{IfOk}
 use Rattle.expressions.specs.declared.expr.Expr.{Expr}
-use Rattle.policy_grammar.specs.declared.policy.Scope.{Scope}
+use Rattle.scope_index.specs.policy_grammar.declared.policy.Scope.{Scope}
 use Rattle.evaluator.specs.Operators.{world_of}
 use Rattle.authoriser.specs.Answers.{PolicyEvaluatesTo}
 use Rattle.authoriser.specs.inner.Views.{ConditionEvaluatesTo, IsTrueOf}

@@ -12,16 +12,23 @@ use Rattle.expressions.specs.declared.expr.Named.{Named}
 use Rattle.expressions.specs.declared.expr.Expr.TheVariants as core
 use Rattle.desugaring.specs.Strings.{pattern_of}
 use Rattle.desugaring.specs.Meaning.{path_name, name_of, sign_of}
-use Rattle.desugaring.specs.Core.{core_of, negated, field, in_entry, in_term, in_access, added, accessed, joined_by, compared, called, method_called, function}
+use Rattle.desugaring.specs.Core.{core_of, negated, field, in_entry, in_term, in_access, added, accessed, joined_by}
+use Rattle.desugaring.specs.Core.{compared, called, method_called, function}
 use Rattle.desugaring.specs.Names.{method_of}
 use Rattle.desugaring.specs.declared.forms.Chain.{Chain}
-use Rattle.policy_tokens.specs.Lexing.{spelling_of}
-use Rattle.desugaring.specs.inner.WellFormed.{WellFormed, AllWellFormed, WellFormedEntry, WellFormedTerm, WellFormedAccess}
+use Rattle.expression_trees.specs.policy_tokens.Lexing.{spelling_of}
+use Rattle.desugaring.specs.inner.WellFormed.{WellFormed, AllWellFormed, WellFormedEntry, WellFormedTerm}
+use Rattle.desugaring.specs.inner.WellFormed.{WellFormedAccess}
 use Rattle.desugaring.specs.inner.Giving.{Gave}
 use Rattle.desugaring.proofs.Lists.{all-at, map_map, stepped, taken}
 use Rattle.desugaring.proofs.Gaving.{given, one, two, three}
-use Rattle.desugaring.proofs.PartsOf.{of-Number, of-Text, of-Uid, of-Call, of-Parentheses, of-Not, of-Minus, of-Set, of-Record, of-Member, of-Product, of-Sum, of-Compare, of-Has, of-Like, of-Is, of-IsIn, of-And, of-Or, of-If}
-use Rattle.desugaring.proofs.Cores.{core-Boolean, core-Number, core-Text, core-Variable, core-Uid, core-Call, core-Parentheses, core-Minus, core-Set, core-Record, core-Member, core-Not, core-Product, core-Sum, core-Compare, core-Has, core-Like, core-Is, core-IsIn, core-And, core-Or, core-If, negated-Number, negated-other}
+use Rattle.desugaring.proofs.PartsOf.{of-Number, of-Text, of-Uid, of-Call, of-Parentheses, of-Not, of-Minus, of-Set}
+use Rattle.desugaring.proofs.PartsOf.{of-Record, of-Member, of-Product, of-Sum, of-Compare, of-Has, of-Like, of-Is}
+use Rattle.desugaring.proofs.PartsOf.{of-IsIn, of-And, of-Or, of-If}
+use Rattle.desugaring.proofs.Cores.{core-Boolean, core-Number, core-Text, core-Variable, core-Uid, core-Call}
+use Rattle.desugaring.proofs.Cores.{core-Parentheses, core-Minus, core-Set, core-Record, core-Member, core-Not}
+use Rattle.desugaring.proofs.Cores.{core-Product, core-Sum, core-Compare, core-Has, core-Like, core-Is, core-IsIn}
+use Rattle.desugaring.proofs.Cores.{core-And, core-Or, core-If, negated-Number, negated-other}
 use Rattle.desugaring.proofs.build.+build.Goals as goal
 
 abbrev a_field : List ℕ → Expr → Named Expr

@@ -1,5 +1,5 @@
 use Rattle.std.proofs.Common.{◌∙◌}
-use Rattle.policy_tokens.specs.Lexing.{spelling_of}
+use Rattle.expression_trees.specs.policy_tokens.Lexing.{spelling_of}
 use Rattle.desugaring.specs.inner.StringReading.{string_meaning}
 use Rattle.desugaring.proofs.words.pattern.Goals as goal
 

@@ -1,6 +1,6 @@
 use Rattle.std.proofs.Common.{◌≡◌}
-use Rattle.policy_tokens.specs.Lexing.{spelling_of}
-use Rattle.policy_tokens.specs.Strings.{IsStringOf}
+use Rattle.expression_trees.specs.policy_tokens.Lexing.{spelling_of}
+use Rattle.expression_trees.specs.policy_tokens.Strings.{IsStringOf}
 use Rattle.desugaring.specs.Strings.{value_of}
 use Rattle.desugaring.proofs.Idents.{text-kind}
 use Rattle.desugaring.specs.inner.StringReading.{string_meaning}

@@ -1,6 +1,6 @@
 use Rattle.std.proofs.Common.{◌≡◌, ◌∙◌, ◌∷◌, map, subst}
 use Rattle.std.proofs.lemmas.List.{take_all}
-use Rattle.policy_tokens.specs.Lexing.{spelling_of}
+use Rattle.expression_trees.specs.policy_tokens.Lexing.{spelling_of}
 use Rattle.desugaring.proofs.Lists.{all-at}
 use Rattle.desugaring.proofs.Idents.{ident-kind, words-first, words-more}
 use Rattle.desugaring.proofs.words.words_of.Goals as goal

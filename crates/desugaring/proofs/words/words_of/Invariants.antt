@@ -1,6 +1,6 @@
 use Rattle.std.proofs.Common.{◌≡◌, ◌∷◌, map, take}
 use Rattle.plain.specs.Words.{AreIdents}
-use Rattle.policy_tokens.specs.Lexing.{spelling_of}
+use Rattle.expression_trees.specs.policy_tokens.Lexing.{spelling_of}
 use Rattle.desugaring.proofs.words.words_of.Given as goal
 
 -- the words up to here

@@ -1,6 +1,6 @@
 use Rattle.std.proofs.Common.{◌≡◌, ◌+◌, ◌++◌, ◌∷◌, [], sym, ap, ◌∙◌, List, map, take, arith}
 use Rattle.std.proofs.lemmas.List.{take_more}
-use Rattle.site.specs.Seen.{Seen}
+use Rattle.service_replies.specs.site.Seen.{Seen}
 use Rattle.drill_scripts.specs.Told.{state_told}
 use Rattle.drill_scripts.specs.inner.Ended.{ended}
 use Rattle.drill_scripts.proofs.EndedLines.{states_more}

@@ -1,5 +1,5 @@
 use Rattle.std.proofs.Common.{◌∙◌, ℕ, Some, ap, sym, subst, rules}
-use Rattle.decision_texts.specs.Refusals.{bad_shape}
+use Rattle.policy_checks.specs.decision_texts.Refusals.{bad_shape}
 use Rattle.drill_scripts.specs.Said.{said_of}
 use Rattle.drill_scripts.specs.inner.Reading.{IsLineRead, IsReadUpTo}
 use Rattle.drill_scripts.proofs.ScriptSteps.{read_more, all_read, next_refused, is_unread}

@@ -1,6 +1,6 @@
-use Rattle.uid_json.specs.Uids.{uid_json}
-use Rattle.uid_json.proofs.Appending.{wrote, ends}
-use Rattle.uid_json.proofs.Nested.{list_begun, list_next, list_ended}
+use Rattle.typed_values.specs.uid_json.Uids.{uid_json}
+use Rattle.typed_values.proofs.of_uid_json.Appending.{wrote, ends}
+use Rattle.typed_values.proofs.of_uid_json.Nested.{list_begun, list_next, list_ended}
 use Rattle.entities.proofs.CanonicalLemmas.{uid_written}
 use Rattle.entities.proofs.canonical.write_parents.Goals as goal
 

@@ -1,5 +1,5 @@
-use Rattle.uid_json.specs.Uids.{uid_json}
-use Rattle.uid_json.proofs.Nested.{IsInList}
+use Rattle.typed_values.specs.uid_json.Uids.{uid_json}
+use Rattle.typed_values.proofs.of_uid_json.Nested.{IsInList}
 use Rattle.entities.proofs.canonical.write_parents.Given as goal
 
 -- the parents from here on are left

@@ -1,7 +1,7 @@
 use Rattle.std.proofs.Common.{subst, Option, List}
 use Rattle.values.specs.declared.entity_uid.EntityUid.{EntityUid}
 use Rattle.values.specs.Fields.{Field}
-use Rattle.evaluator.specs.Operators.{world_of}
+use Rattle.authoriser.specs.evaluator.Operators.{world_of}
 use Rattle.entity_store.specs.Laws.{stated_world, closed_world}
 use Rattle.entity_store.specs.Alike.{GiveAlike, AnswerAlike}
 use Rattle.entity_store.proofs.ActionLemmas.{members_kept, lead_alike, same_cycles, same_stored, puts_alike}

@@ -6,7 +6,7 @@ use Rattle.std.proofs.lemmas.List.Kept.{IsStrictlySortedBy-dedup}
 use Rattle.std.proofs.lemmas.Cmp.{on_total}
 use Rattle.values.specs.declared.entity_uid.EntityUid.{EntityUid}
 use Rattle.values.specs.Names.{uid_cmp-IsTotalOrder}
-use Rattle.ancestor_closure.specs.Hierarchy.{names}
+use Rattle.evaluator.specs.ancestor_closure.Hierarchy.{names}
 use Rattle.entity_worlds.proofs.UidLemmas.{ascending_names, members_of, ties}
 use Rattle.entity_worlds.proofs.uids.together.Goals as goal
 

@@ -1,5 +1,5 @@
 use Rattle.std.proofs.Common.{◌≡◌, ◌++◌, take}
-use Rattle.ancestor_closure.specs.Hierarchy.{names}
+use Rattle.evaluator.specs.ancestor_closure.Hierarchy.{names}
 use Rattle.entity_worlds.proofs.uids.together.Given as goal
 
 abbrev pub invariant-loop-uid : goal.invariant-loop-uid

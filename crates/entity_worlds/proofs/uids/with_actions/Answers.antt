@@ -1,7 +1,7 @@
 use Rattle.std.specs.Prelude.{◌≡◌, ◌↔◌, ◌⊎◌, Contains}
 use Rattle.std.proofs.lemmas.Result.{IfOk-weaker}
 use Rattle.values.specs.declared.entity_uid.EntityUid.{EntityUid}
-use Rattle.ancestor_closure.specs.Hierarchy.{IsAscending, names}
+use Rattle.evaluator.specs.ancestor_closure.Hierarchy.{IsAscending, names}
 use Rattle.entity_worlds.specs.Entities.{uids_with}
 use Rattle.entity_worlds.proofs.UidLemmas.{one_list, both_ok}
 use Rattle.entity_worlds.proofs.uids.with_actions.Goals as goal

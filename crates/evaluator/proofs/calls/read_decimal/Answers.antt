@@ -1,5 +1,5 @@
 use Rattle.std.proofs.Common.{Ok, ap, sym, ◌∙◌}
-use Rattle.extensions.specs.TextsDecided.{decimal_text_decided}
+use Rattle.values.specs.extensions.TextsDecided.{decimal_text_decided}
 use Rattle.evaluator.proofs.AppliedCalls.{decimal_is}
 use Rattle.evaluator.proofs.calls.read_decimal.Goals as goal
 

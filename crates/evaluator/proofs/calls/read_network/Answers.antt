@@ -1,5 +1,5 @@
 use Rattle.std.proofs.Common.{Ok, ap, sym, refl, ◌∙◌}
-use Rattle.extensions.specs.TextsDecided.{network_text_decided}
+use Rattle.values.specs.extensions.TextsDecided.{network_text_decided}
 use Rattle.evaluator.proofs.AppliedCalls.{network_is, no_network_is}
 use Rattle.evaluator.proofs.calls.read_network.Goals as goal
 

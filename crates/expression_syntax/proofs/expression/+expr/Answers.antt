@@ -1,6 +1,6 @@
 use Rattle.std.proofs.Common.{◌≡◌, ap, arith}
 use Rattle.expression_syntax.specs.ExpressionReading.{expr}
-use Rattle.token_readers.proofs.Gathered.{deeper, instead}
+use Rattle.expression_trees.proofs.of_token_readers.Gathered.{deeper, instead}
 use Rattle.expression_syntax.proofs.ExpressionExact.{expression_front}
 use Rattle.expression_syntax.proofs.expression.+expr.Goals as goal
 

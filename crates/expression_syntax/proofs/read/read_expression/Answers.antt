@@ -1,6 +1,6 @@
 use Rattle.std.proofs.Common.{subst, sym}
 use Rattle.expression_syntax.specs.Expressions.{expr, any_expr, nesting_limit}
-use Rattle.token_readers.specs.Reads.{ReadsWithin}
+use Rattle.expression_trees.specs.token_readers.Reads.{ReadsWithin}
 use Rattle.expression_syntax.proofs.ExpressionExact.{expression_answered}
 use Rattle.expression_syntax.proofs.ExpressionWellFormed.{answered_stands}
 use Rattle.expression_syntax.proofs.read.read_expression.Goals as goal

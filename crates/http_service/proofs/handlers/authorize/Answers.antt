@@ -1,5 +1,5 @@
 use Rattle.std.proofs.Common.{Err, refl}
-use Rattle.service_replies.specs.passed_on.site_SiteFault_variants as fault
+use Rattle.site_runs.specs.site.declared.fault.SiteFault.TheVariants as fault
 use Rattle.site_runs.specs.declared.input.Input.TheVariants as input
 use Rattle.site_runs.specs.declared.reply.Reply.TheVariants as reply
 use Rattle.http_service.proofs.Dealt.{asked_of}

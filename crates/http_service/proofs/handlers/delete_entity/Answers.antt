@@ -1,6 +1,6 @@
 use Rattle.std.proofs.Common.{sym, ◌∙◌, option_and_then}
 use Rattle.json_words.specs.Json.{json_of}
-use Rattle.uid_json.specs.Uids.{uid_in}
+use Rattle.service_replies.specs.uid_json.Uids.{uid_in}
 use Rattle.http_service.proofs.Dealt.{removed, removal_lacks}
 use Rattle.http_service.proofs.handlers.delete_entity.Goals as goal
 

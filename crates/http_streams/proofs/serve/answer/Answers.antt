@@ -1,7 +1,7 @@
 use Rattle.std.proofs.Common.{◌≡◌, ◌≤◌, ◌++◌, ◌-◌, ℕ, Bool, List, length, take, drop, sym, ap, ◌∙◌, inl, arith}
 use Rattle.std.proofs.lemmas.List.{drop_at, length-take-le, take_rest}
-use Rattle.http_texts.specs.ReplyText.{reply_text}
-use Rattle.http_texts.specs.declared.status.Status.{Status}
+use Rattle.http_framing.specs.http_texts.ReplyText.{reply_text}
+use Rattle.http_framing.specs.http_texts.declared.status.Status.{Status}
 use Rattle.http_streams.proofs.StreamLemmas.{exchanged}
 use Rattle.http_streams.proofs.serve.answer.Goals as goal
 

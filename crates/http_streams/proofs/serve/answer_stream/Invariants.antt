@@ -3,7 +3,7 @@ use Rattle.std.specs.Io.KnownBytes.{Appends, Consumes}
 use Rattle.std.specs.Vec.{vec_capacity}
 use Rattle.http_framing.specs.declared.TheConstants.{MAX_HEAD}
 use Rattle.http_streams.specs.declared.TheConstants.{MAX_READ, REPLY_ROOM}
-use Rattle.http_texts.specs.declared.reply.TheConstants.{HEAD_ROOM}
+use Rattle.http_framing.specs.http_texts.declared.reply.TheConstants.{HEAD_ROOM}
 use Rattle.http_framing.specs.Request.{IsUnfinished, StaysUnfinished}
 use Rattle.http_streams.specs.Stream.{Serves}
 use Rattle.http_streams.proofs.serve.answer_stream.Given as goal

@@ -1,7 +1,7 @@
 use Rattle.std.proofs.Common.{◌≡◌, ◌∙◌, sym, subst, ap}
 use Rattle.std.specs.Prelude.{Contains}
 use Rattle.values.specs.declared.entity_uid.EntityUid.{EntityUid}
-use Rattle.ancestor_closure.specs.Hierarchy.{names}
+use Rattle.ancestor_lists.specs.ancestor_closure.Hierarchy.{names}
 use Rattle.ancestor_lists.specs.Lists.{children_in, AddsChild, IsThere}
 use Rattle.std.proofs.lemmas.Result.{on_ok_weaker}
 use Rattle.kept_ancestors.proofs.Whole.{adds_all, adds_before}

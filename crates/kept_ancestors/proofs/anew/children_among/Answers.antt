@@ -5,10 +5,10 @@ use Rattle.std.specs.Map.{lookup}
 use Rattle.std.proofs.lemmas.List.{take_more, take_all}
 use Rattle.std.proofs.lemmas.List.Elements.{Contains-push_cases}
 use Rattle.values.specs.Names.{uid_cmp}
-use Rattle.ancestor_closure.specs.Hierarchy.{names}
-use Rattle.ancestor_closure.specs.Deciding.{Contains-none}
-use Rattle.ancestor_closure.specs.inner.Backwards.{AreChildrenAmong}
-use Rattle.ancestor_closure.proofs.Members.{names-push}
+use Rattle.ancestor_lists.specs.ancestor_closure.Hierarchy.{names}
+use Rattle.ancestor_lists.specs.ancestor_closure.Deciding.{Contains-none}
+use Rattle.ancestor_lists.specs.ancestor_closure.inner.Backwards.{AreChildrenAmong}
+use Rattle.ancestor_lists.proofs.of_ancestor_closure.Members.{names-push}
 use Rattle.ancestor_lists.specs.Lists.{ancestors_or_none, children_or_none, children_in, IsThere}
 use Rattle.kept_ancestors.proofs.Whole.{children_more}
 use Rattle.kept_ancestors.proofs.anew.children_among.Goals as goal

@@ -1,8 +1,8 @@
 use Rattle.std.proofs.Common.{◌≡◌, [], take}
 use Rattle.std.specs.Prelude.{Contains}
 use Rattle.values.specs.declared.entity_uid.EntityUid.{EntityUid}
-use Rattle.ancestor_closure.specs.Hierarchy.{names}
-use Rattle.ancestor_closure.specs.inner.Backwards.{AreChildrenAmong}
+use Rattle.ancestor_lists.specs.ancestor_closure.Hierarchy.{names}
+use Rattle.ancestor_lists.specs.ancestor_closure.inner.Backwards.{AreChildrenAmong}
 use Rattle.ancestor_lists.specs.Lists.{ancestors_in, children_in, IsThere}
 use Rattle.kept_ancestors.proofs.anew.children_among.Given as goal
 

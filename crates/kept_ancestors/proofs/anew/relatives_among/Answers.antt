@@ -1,6 +1,6 @@
 use Rattle.std.proofs.Common.{sym, subst}
 use Rattle.std.specs.Prelude.{Contains, ◌↔◌}
-use Rattle.ancestor_closure.specs.Hierarchy.{names}
+use Rattle.ancestor_lists.specs.ancestor_closure.Hierarchy.{names}
 use Rattle.kept_ancestors.proofs.anew.relatives_among.Goals as goal
 
 pub returns-clause-children : goal.returns-clause-children

@@ -3,9 +3,9 @@ use Rattle.std.specs.Prelude.{Contains, ◌↔◌}
 use Rattle.std.specs.BTreeSet.{insert_key}
 use Rattle.std.proofs.lemmas.List.{take_more, take_all}
 use Rattle.values.specs.Names.{uid_cmp}
-use Rattle.ancestor_closure.specs.Hierarchy.{names}
-use Rattle.ancestor_closure.specs.Deciding.{Contains-none}
-use Rattle.ancestor_closure.proofs.Members.{names-push}
+use Rattle.ancestor_lists.specs.ancestor_closure.Hierarchy.{names}
+use Rattle.ancestor_lists.specs.ancestor_closure.Deciding.{Contains-none}
+use Rattle.ancestor_lists.proofs.of_ancestor_closure.Members.{names-push}
 use Rattle.kept_ancestors.proofs.Whole.{member_more}
 use Rattle.kept_ancestors.proofs.anew.set_of.Goals as goal
 

@@ -1,8 +1,8 @@
 use Rattle.std.proofs.Common.{◌∙◌, [], ◌∷◌, ◌++◌, take, refl, sym, ap, subst, inr}
 use Rattle.std.proofs.lemmas.List.{take_more, take_all}
-use Rattle.ancestor_closure.specs.Hierarchy.{names}
-use Rattle.ancestor_closure.specs.Deciding.{Contains-none}
-use Rattle.ancestor_closure.proofs.Members.{names-push}
+use Rattle.ancestor_lists.specs.ancestor_closure.Hierarchy.{names}
+use Rattle.ancestor_lists.specs.ancestor_closure.Deciding.{Contains-none}
+use Rattle.ancestor_lists.proofs.of_ancestor_closure.Members.{names-push}
 use Rattle.ancestor_lists.specs.Lists.{ancestors_in}
 use Rattle.kept_ancestors.specs.inner.WholeGraph.{AreListsOf}
 use Rattle.kept_ancestors.proofs.Whole.{lists_more, names_has}

@@ -1,5 +1,5 @@
 use Rattle.std.proofs.Common.{take}
-use Rattle.ancestor_closure.specs.Hierarchy.{names}
+use Rattle.ancestor_lists.specs.ancestor_closure.Hierarchy.{names}
 use Rattle.ancestor_lists.specs.Lists.{ancestors_in, SameChildren, StayThere}
 use Rattle.kept_ancestors.specs.inner.WholeGraph.{AreListsOf}
 use Rattle.kept_ancestors.proofs.anew.write_lists.Given as goal

@@ -1,4 +1,4 @@
-use Rattle.ancestor_closure.specs.Search.{parents_of}
+use Rattle.ancestor_lists.specs.ancestor_closure.Search.{parents_of}
 use Rattle.std.proofs.lemmas.Result.{on_err_weaker}
 use Rattle.kept_ancestors.proofs.Leading.{agrees}
 use Rattle.kept_ancestors.proofs.closed.follow_change.Goals as goal

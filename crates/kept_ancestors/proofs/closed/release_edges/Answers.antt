@@ -1,5 +1,5 @@
 use Rattle.std.proofs.Common.{◌∙◌, [], sym}
-use Rattle.ancestor_closure.specs.Search.{parents_of}
+use Rattle.ancestor_lists.specs.ancestor_closure.Search.{parents_of}
 use Rattle.kept_ancestors.proofs.Pairs.{edges_gone, with_same}
 use Rattle.kept_ancestors.proofs.closed.release_edges.Goals as goal
 

@@ -1,8 +1,8 @@
 use Rattle.std.proofs.Common.{◌≡◌, ◌∙◌, [], sym, ap, false, is_some}
 use Rattle.std.specs.BTreeMap.{get}
 use Rattle.values.specs.Names.{uid_cmp}
-use Rattle.ancestor_closure.specs.Search.{parents_of, items_or_none}
-use Rattle.ancestor_closure.proofs.Levels.{none_from_test}
+use Rattle.ancestor_lists.specs.ancestor_closure.Search.{parents_of, items_or_none}
+use Rattle.ancestor_lists.proofs.of_ancestor_closure.Levels.{none_from_test}
 use Rattle.kept_ancestors.proofs.Pairs.{edges_written, with_same}
 use Rattle.kept_ancestors.proofs.closed.reserve_edges.Goals as goal
 

@@ -1,6 +1,6 @@
 use Rattle.std.proofs.Common.{◌∙◌, ap, sym, subst}
-use Rattle.ancestor_closure.specs.Hierarchy.{with_parents}
-use Rattle.ancestor_closure.specs.Search.{parents_of}
+use Rattle.ancestor_lists.specs.ancestor_closure.Hierarchy.{with_parents}
+use Rattle.ancestor_lists.specs.ancestor_closure.Search.{parents_of}
 use Rattle.kept_ancestors.specs.Kept.{AreKept}
 use Rattle.kept_ancestors.proofs.closed.set.Goals as goal
 

@@ -2,7 +2,7 @@ use Rattle.std.proofs.Common.{◌∙◌, [], ◌∷◌, ◌++◌, take, refl, sy
 use Rattle.std.specs.Prelude.{Contains}
 use Rattle.std.proofs.lemmas.List.{take_more, take_all}
 use Rattle.std.proofs.lemmas.List.Elements.{Contains-push_cases}
-use Rattle.ancestor_closure.specs.Deciding.{Contains-none}
+use Rattle.ancestor_lists.specs.ancestor_closure.Deciding.{Contains-none}
 use Rattle.kept_ancestors.proofs.Leading.{Leads, cycle_leads, leads_cycle}
 use Rattle.kept_ancestors.proofs.keeping.leads_back.Goals as goal
 

@@ -1,7 +1,7 @@
 use Rattle.std.proofs.Common.{take}
 use Rattle.std.specs.Prelude.{Contains}
 use Rattle.values.specs.declared.entity_uid.EntityUid.{EntityUid}
-use Rattle.ancestor_closure.specs.Hierarchy.{Parents}
+use Rattle.ancestor_lists.specs.ancestor_closure.Hierarchy.{Parents}
 use Rattle.ancestor_lists.specs.Lists.{IsListOf, ancestors_in}
 use Rattle.kept_ancestors.proofs.Leading.{Leads}
 use Rattle.kept_ancestors.proofs.keeping.leads_back.Given as goal

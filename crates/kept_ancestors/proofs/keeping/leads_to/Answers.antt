@@ -1,9 +1,9 @@
 use Rattle.std.proofs.Common.{◌≡◌, ◌∙◌, true, false, refl, sym, subst, inl, inr, IsTrue}
 use Rattle.std.specs.Prelude.{Contains, ◌↔◌}
-use Rattle.ancestor_closure.specs.Hierarchy.{IsAscending}
-use Rattle.ancestor_closure.specs.Decided.{is_same}
-use Rattle.ancestor_closure.specs.Deciding.{same_uid, same_self}
-use Rattle.ancestor_closure.proofs.Cycles.{uid_ties}
+use Rattle.ancestor_lists.specs.ancestor_closure.Hierarchy.{IsAscending}
+use Rattle.ancestor_lists.specs.ancestor_closure.Decided.{is_same}
+use Rattle.ancestor_lists.specs.ancestor_closure.Deciding.{same_uid, same_self}
+use Rattle.ancestor_lists.proofs.of_ancestor_closure.Cycles.{uid_ties}
 use Rattle.kept_ancestors.proofs.keeping.leads_to.Goals as goal
 
 pub returns-then-eq : goal.returns-then-eq

@@ -1,7 +1,7 @@
 use Rattle.std.proofs.Common.{◌≡◌, ◌∙◌, Ok, sym, subst}
-use Rattle.json_values.proofs.Readings.{array_begun, none_begun}
-use Rattle.schema.specs.SchemaEntries.{SchemaEntries}
-use Rattle.schema.specs.Views.{schema_view}
+use Rattle.schema_decisions.proofs.of_json_values.Readings.{array_begun, none_begun}
+use Rattle.schema_decisions.specs.schema.SchemaEntries.{SchemaEntries}
+use Rattle.schema_decisions.specs.schema.Views.{schema_view}
 use Rattle.schema_decisions.specs.EntityArrays.{entities_of}
 use Rattle.site.specs.Seen.{schema_of, store_in}
 use Rattle.loaded_files.proofs.LoadLemmas.{some_members, members_are, items_are, entities_loaded, entities_refused}

@@ -1,11 +1,12 @@
 use Rattle.std.proofs.Common.{refl, arith}
 use Rattle.std.proofs.lemmas.Result.{err_from_is_err_and}
 use Rattle.serde_json.specs.View.{view}
-use Rattle.json_values.specs.Arrays.{to_come}
-use Rattle.json_values.proofs.Readings.{value_told, fewer_left, end_told, not_json_told}
+use Rattle.schema_decisions.specs.json_values.Arrays.{to_come}
+use Rattle.schema_decisions.proofs.of_json_values.Readings.{value_told, fewer_left, end_told, not_json_told}
 use Rattle.site.specs.Seen.{schema_of, store_in}
 use Rattle.loaded_files.specs.Puts.{entity_put}
-use Rattle.loaded_files.proofs.PutLemmas.{all_left, one_put, one_refused, all_put, none_put, accepts_same, refuses_same, same_on}
+use Rattle.loaded_files.proofs.PutLemmas.{all_left, one_put, one_refused, all_put, none_put, accepts_same, refuses_same}
+use Rattle.loaded_files.proofs.PutLemmas.{same_on}
 use Rattle.loaded_files.proofs.entity_file.put_each.Goals as goal
 
 pub members-init : goal.members-init

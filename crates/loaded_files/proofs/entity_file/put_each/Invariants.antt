@@ -1,5 +1,5 @@
 use Rattle.std.proofs.Common.{◌+◌, ◌≤◌, length}
-use Rattle.json_values.specs.Arrays.{to_come}
+use Rattle.schema_decisions.specs.json_values.Arrays.{to_come}
 use Rattle.site.specs.Seen.{schema_of, store_in, IsSameSite}
 use Rattle.loaded_files.proofs.PutLemmas.{AreAlong}
 use Rattle.loaded_files.proofs.entity_file.put_each.Given as goal

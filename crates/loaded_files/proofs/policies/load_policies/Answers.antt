@@ -1,5 +1,5 @@
 use Rattle.std.proofs.Common.{List, ℕ, subst, sym, Bor}
-use Rattle.decision_texts.specs.Decisions.{ArePoliciesOf}
+use Rattle.schema_decisions.specs.decision_texts.Decisions.{ArePoliciesOf}
 use Rattle.policy_files.specs.Cuts.{AreTextsOf}
 use Rattle.site.specs.Seen.{schema_of, store_in}
 use Rattle.loaded_files.proofs.LoadLemmas.{Files, words, cores, nows, as_many_there, policies_loaded, policies_refused}

@@ -1,7 +1,7 @@
 use Rattle.std.proofs.Common.{◌+◌, drop, get_or, string_bytes, subst, ℕ, List}
 use Rattle.std.proofs.lemmas.Result.{err_from_is_err_and}
 use Rattle.plain.specs.Refused.{OrNoMemory}
-use Rattle.decision_texts.specs.Refusals.{no_memory}
+use Rattle.schema_decisions.specs.decision_texts.Refusals.{no_memory}
 use Rattle.loaded_files.specs.Loads.{policy_puts}
 use Rattle.loaded_files.proofs.LoadLemmas.{words, nows, none, next_puts}
 use Rattle.site.specs.Seen.{schema_of, store_in}

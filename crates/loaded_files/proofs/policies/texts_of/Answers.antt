@@ -1,6 +1,6 @@
 use Rattle.std.proofs.Common.{subst}
-use Rattle.policy_tokens.specs.declared.fault.LexFault.{LexFault}
-use Rattle.policy_tokens.specs.Lexing.{IsFault}
+use Rattle.policy_files.specs.policy_tokens.declared.fault.LexFault.{LexFault}
+use Rattle.policy_files.specs.policy_tokens.Lexing.{IsFault}
 use Rattle.loaded_files.proofs.LoadLemmas.{no_bad_token}
 use Rattle.loaded_files.proofs.policies.texts_of.Goals as goal
 

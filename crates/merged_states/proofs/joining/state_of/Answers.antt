@@ -1,5 +1,5 @@
 use Rattle.std.proofs.lemmas.Result.{IfOk-weaker}
-use Rattle.stamped_store.specs.Store.{abstract_store}
+use Rattle.stored_texts.specs.stamped_store.Store.{abstract_store}
 use Rattle.merged_states.proofs.MessageLemmas.{texts_of, read_back}
 use Rattle.merged_states.proofs.joining.state_of.Goals as goal
 

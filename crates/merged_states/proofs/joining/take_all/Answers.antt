@@ -1,7 +1,7 @@
 use Rattle.std.proofs.Common.{◌++◌, ◌∷◌, [], refl, sym, ap, ◌∙◌, arith, length-append, append_assoc}
 use Rattle.std.proofs.lemmas.List.{map-append}
-use Rattle.stamped_store.specs.Store.{abstract_store, store_of, updates}
-use Rattle.state_messages.specs.Updates.{plain_update, plain_updates}
+use Rattle.stored_texts.specs.stamped_store.Store.{abstract_store, store_of, updates}
+use Rattle.stored_texts.specs.state_messages.Updates.{plain_update, plain_updates}
 use Rattle.merged_states.proofs.StoreLemmas.{stores_none, stores_more}
 use Rattle.merged_states.proofs.joining.take_all.Goals as goal
 

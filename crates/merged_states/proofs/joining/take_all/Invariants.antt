@@ -1,6 +1,6 @@
 use Rattle.std.proofs.Common.{◌≡◌, ◌++◌, length}
-use Rattle.stamped_store.specs.Store.{abstract_store, store_of, updates}
-use Rattle.state_messages.specs.Updates.{plain_updates}
+use Rattle.stored_texts.specs.stamped_store.Store.{abstract_store, store_of, updates}
+use Rattle.stored_texts.specs.state_messages.Updates.{plain_updates}
 use Rattle.merged_states.proofs.joining.take_all.Given as goal
 
 -- what was yielded is taken

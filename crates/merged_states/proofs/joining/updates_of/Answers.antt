@@ -1,7 +1,7 @@
 use Rattle.std.proofs.Common.{◌≡◌, sym, subst}
-use Rattle.schema.specs.Views.{schema_view}
-use Rattle.decision_texts.specs.declared.refusal.Refusal.{Refusal}
-use Rattle.decision_texts.specs.Refusals.{no_memory}
+use Rattle.stored_texts.specs.schema.Views.{schema_view}
+use Rattle.policy_checks.specs.decision_texts.declared.refusal.Refusal.{Refusal}
+use Rattle.policy_checks.specs.decision_texts.Refusals.{no_memory}
 use Rattle.merged_states.specs.Messages.{IsMessageRefused}
 use Rattle.merged_states.proofs.MessageLemmas.{message_of, told}
 use Rattle.merged_states.proofs.joining.updates_of.Goals as goal

@@ -1,5 +1,5 @@
-use Rattle.schema.specs.SchemaEntries.{SchemaEntries}
-use Rattle.schema.specs.Views.{schema_view}
+use Rattle.stored_texts.specs.schema.SchemaEntries.{SchemaEntries}
+use Rattle.stored_texts.specs.schema.Views.{schema_view}
 use Rattle.stored_texts.specs.declared.texts.SchemaTexts.{SchemaTexts}
 use Rattle.merged_states.proofs.OutcomeLemmas.{Laws, stated, unstated, texts_are_one}
 use Rattle.merged_states.proofs.laws.merges_have_one_outcome.Goals as goal

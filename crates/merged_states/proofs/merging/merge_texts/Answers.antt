@@ -1,5 +1,5 @@
 use Rattle.std.proofs.lemmas.Result.{IfOk-weaker}
-use Rattle.schema.specs.Views.{schema_view}
+use Rattle.stored_texts.specs.schema.Views.{schema_view}
 use Rattle.merged_states.proofs.merging.merge_texts.Goals as goal
 
 pub returns-clause-merged : goal.returns-clause-merged

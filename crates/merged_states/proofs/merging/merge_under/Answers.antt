@@ -1,5 +1,5 @@
-use Rattle.schema.specs.Views.{schema_view}
-use Rattle.stamped_store.specs.Store.{abstract_store}
+use Rattle.stored_texts.specs.schema.Views.{schema_view}
+use Rattle.stored_texts.specs.stamped_store.Store.{abstract_store}
 use Rattle.merged_states.proofs.MessageLemmas.{merged_under}
 use Rattle.merged_states.proofs.merging.merge_under.Goals as goal
 

@@ -1,5 +1,5 @@
 use Rattle.std.proofs.Common.{◌∙◌, ◌++◌, ◌==◌, ◌||◌, ap, Bool, List, ℕ}
-use Rattle.schema.specs.Views.{schema_view}
+use Rattle.validator.specs.schema.Views.{schema_view}
 use Rattle.policy_checks.specs.Lines.{verdict_line}
 use Rattle.policy_checks.specs.inner.Named.{outcome_of, set_apart}
 use Rattle.policy_checks.proofs.TellingLemmas.{told-step}

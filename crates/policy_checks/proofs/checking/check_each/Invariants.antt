@@ -1,5 +1,5 @@
 use Rattle.std.proofs.Common.{take}
-use Rattle.schema.specs.Views.{schema_view}
+use Rattle.validator.specs.schema.Views.{schema_view}
 use Rattle.policy_checks.specs.Checks.{AreReportsOf}
 use Rattle.policy_checks.specs.inner.Named.{named_in}
 use Rattle.policy_checks.proofs.checking.check_each.Given as goal

@@ -1,4 +1,4 @@
-use Rattle.schema.specs.Views.{schema_view}
+use Rattle.validator.specs.schema.Views.{schema_view}
 use Rattle.policy_checks.proofs.TellingLemmas.{file_told}
 use Rattle.policy_checks.proofs.checking.check_file.Goals as goal
 

@@ -1,5 +1,5 @@
 use Rattle.std.proofs.lemmas.Result.{IfOk-weaker}
-use Rattle.schema.specs.Views.{schema_view}
+use Rattle.validator.specs.schema.Views.{schema_view}
 use Rattle.policy_checks.proofs.TellingLemmas.{are_checked}
 use Rattle.policy_checks.proofs.checking.check_texts.Goals as goal
 

@@ -1,5 +1,6 @@
-use Rattle.token_readers.proofs.NamesExact.{one_uid, uid_answer}
-use Rattle.policy_syntax.proofs.Exact.{one_policy, one_list, policy_answer, list_answer, policy_next_level, list_next_level}
+use Rattle.expression_syntax.proofs.of_token_readers.NamesExact.{one_uid, uid_answer}
+use Rattle.policy_syntax.proofs.Exact.{one_policy, one_list, policy_answer, list_answer, policy_next_level}
+use Rattle.policy_syntax.proofs.Exact.{list_next_level}
 use Rattle.policy_syntax.proofs.laws.reading_is_unique.Goals as goal
 
 pub returns : goal.returns

@@ -2,8 +2,8 @@ use Rattle.std.proofs.Common.{subst, sym}
 use Rattle.std.proofs.lemmas.Result.{err_from_is_err_and}
 use Rattle.std.specs.List.{AllByRecursion}
 use Rattle.expression_syntax.specs.Expressions.{nesting_limit}
-use Rattle.token_readers.specs.Lang.{at_any}
-use Rattle.token_readers.specs.Reads.{ReadsWithin}
+use Rattle.expression_syntax.specs.token_readers.Lang.{at_any}
+use Rattle.expression_syntax.specs.token_readers.Reads.{ReadsWithin}
 use Rattle.policy_syntax.specs.Grammar as grammar
 use Rattle.policy_syntax.specs.WellFormed.{WellFormedPolicy}
 use Rattle.policy_syntax.proofs.Exact.{policies_answered}

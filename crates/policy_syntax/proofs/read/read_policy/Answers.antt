@@ -1,7 +1,7 @@
 use Rattle.std.proofs.Common.{subst, sym}
 use Rattle.expression_syntax.specs.Expressions.{nesting_limit}
-use Rattle.token_readers.specs.Lang.{at_any}
-use Rattle.token_readers.specs.Reads.{ReadsWithin}
+use Rattle.expression_syntax.specs.token_readers.Lang.{at_any}
+use Rattle.expression_syntax.specs.token_readers.Reads.{ReadsWithin}
 use Rattle.policy_syntax.specs.Grammar as grammar
 use Rattle.policy_syntax.proofs.Exact.{policy_answered}
 use Rattle.policy_syntax.proofs.WellFormedLemmas.{policy_answer_stands}

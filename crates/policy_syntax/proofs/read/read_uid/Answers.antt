@@ -1,7 +1,7 @@
 use Rattle.std.proofs.Common.{subst, sym}
-use Rattle.token_readers.specs.Reads.{Reads}
+use Rattle.expression_syntax.specs.token_readers.Reads.{Reads}
 use Rattle.policy_syntax.specs.Grammar as grammar
-use Rattle.token_readers.proofs.NamesExact.{uid_answered}
+use Rattle.expression_syntax.proofs.of_token_readers.NamesExact.{uid_answered}
 use Rattle.policy_syntax.proofs.WellFormedLemmas.{uid_answer_stands}
 use Rattle.policy_syntax.proofs.read.read_uid.Goals as goal
 

@@ -1,7 +1,7 @@
 use Rattle.std.proofs.Common.{inr, option_map}
 use Rattle.std.proofs.lemmas.Result.{IfOk-weaker}
-use Rattle.schema.specs.Views.{schema_view}
-use Rattle.stamped_store.specs.Store.{abstract_store}
+use Rattle.merged_states.specs.schema.Views.{schema_view}
+use Rattle.merged_states.specs.stamped_store.Store.{abstract_store}
 use Rattle.pulled_states.specs.Requests.{IsReady}
 use Rattle.pulled_states.proofs.ToldLemmas.{err_weaker, or_else}
 use Rattle.pulled_states.proofs.pulling.pull_over.Goals as goal

@@ -1,6 +1,6 @@
 use Rattle.std.proofs.Common.{inr}
-use Rattle.schema.specs.Views.{schema_view}
-use Rattle.stamped_store.specs.Store.{abstract_store}
+use Rattle.merged_states.specs.schema.Views.{schema_view}
+use Rattle.merged_states.specs.stamped_store.Store.{abstract_store}
 use Rattle.pulled_states.specs.Requests.{request_for}
 use Rattle.pulled_states.proofs.ToldLemmas.{err_always, begun_whole}
 use Rattle.pulled_states.proofs.pulling.pull_under.Goals as goal

@@ -1,4 +1,4 @@
-use Rattle.stamped_store.specs.Store.{abstract_store}
+use Rattle.merged_states.specs.stamped_store.Store.{abstract_store}
 use Rattle.pulled_states.proofs.pulling.take_reply.Goals as goal
 
 pub returns-clause-pulled : goal.returns-clause-pulled

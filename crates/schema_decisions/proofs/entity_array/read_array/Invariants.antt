@@ -1,8 +1,8 @@
 use Rattle.std.proofs.Common.{◌+◌, ◌≤◌, List, length}
-use Rattle.json_values.specs.Arrays.{to_come}
-use Rattle.json_values.proofs.Readings.{SoFar}
-use Rattle.entity_worlds.specs.declared.entity.Entity.{Entity}
-use Rattle.schema.specs.Views.{schema_view}
+use Rattle.policy_checks.specs.json_values.Arrays.{to_come}
+use Rattle.policy_checks.proofs.of_json_values.Readings.{SoFar}
+use Rattle.entity_store.specs.entity_worlds.declared.entity.Entity.{Entity}
+use Rattle.entity_store.specs.schema.Views.{schema_view}
 use Rattle.schema_decisions.specs.EntityArrays.{entity_at}
 use Rattle.schema_decisions.specs.inner.Stores.{Holds}
 use Rattle.schema_decisions.proofs.entity_array.read_array.Given as goal

@@ -1,4 +1,4 @@
-use Rattle.schema.specs.Views.{schema_view}
+use Rattle.accelerated_store.specs.schema.Views.{schema_view}
 use Rattle.site.proofs.JudgingLemmas.{not_passed}
 use Rattle.site.proofs.judging.is_impossible.Goals as goal
 

@@ -1,4 +1,4 @@
-use Rattle.schema.specs.Views.{schema_view}
+use Rattle.accelerated_store.specs.schema.Views.{schema_view}
 use Rattle.std.proofs.lemmas.Result.{IfOk-weaker}
 use Rattle.site.specs.Admitted.{bad_id}
 use Rattle.site.proofs.JudgingLemmas.{judged_by}

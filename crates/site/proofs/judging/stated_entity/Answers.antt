@@ -1,5 +1,5 @@
 use Rattle.serde_json.specs.View.{view}
-use Rattle.schema.specs.Views.{schema_view}
+use Rattle.accelerated_store.specs.schema.Views.{schema_view}
 use Rattle.std.proofs.lemmas.Result.{IfOk-weaker}
 use Rattle.site.proofs.JudgingLemmas.{stated_by}
 use Rattle.site.proofs.judging.stated_entity.Goals as goal

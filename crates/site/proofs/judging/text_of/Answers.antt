@@ -1,6 +1,6 @@
 use Rattle.std.proofs.Common.{◌≡◌, ap, ◌∙◌}
-use Rattle.schema.specs.Views.{schema_view}
-use Rattle.entities.specs.Canonical.{canonical_json}
+use Rattle.accelerated_store.specs.schema.Views.{schema_view}
+use Rattle.accelerated_store.specs.entities.Canonical.{canonical_json}
 use Rattle.json_words.specs.Json.{json_of}
 use Rattle.site.proofs.JudgingLemmas.{json_utf8, reads_again}
 use Rattle.site.proofs.judging.text_of.Goals as goal

@@ -1,5 +1,5 @@
 use Rattle.std.proofs.Common.{inl, option_map}
-use Rattle.schema.specs.Views.{schema_view}
+use Rattle.loaded_files.specs.schema.Views.{schema_view}
 use Rattle.site_commands.proofs.ServeLemmas.{begun_as, not_begun_as}
 use Rattle.site_commands.proofs.begin.begin.Goals as goal
 

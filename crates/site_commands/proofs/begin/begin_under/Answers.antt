@@ -1,8 +1,8 @@
 use Rattle.std.proofs.Common.{◌≡◌, ◌∙◌, ap, subst, sym, List, ℕ, Option, option_map, Bor, Some, IfOk, IfErr}
-use Rattle.decision_texts.specs.Refusals.{no_memory}
-use Rattle.schema.specs.Schemas.{StatedSchema}
-use Rattle.schema.specs.Views.{schema_view}
-use Rattle.http_service.specs.passed_on.site_runs.{store_in}
+use Rattle.http_service.specs.decision_texts.Refusals.{no_memory}
+use Rattle.loaded_files.specs.schema.Schemas.{StatedSchema}
+use Rattle.loaded_files.specs.schema.Views.{schema_view}
+use Rattle.loaded_files.specs.site.Seen.{store_in}
 use Rattle.site_commands.specs.Beginning.{BeginsWith, IsStateRefused}
 use Rattle.site_commands.specs.inner.Begun.{IsBegunUnder}
 use Rattle.site_commands.proofs.ServeLemmas.{begun_over}

@@ -1,4 +1,4 @@
-use Rattle.http_service.specs.passed_on.site_runs.{schema_of}
+use Rattle.loaded_files.specs.site.Seen.{schema_of}
 use Rattle.site_commands.proofs.ServeLemmas.{refused_as_told}
 use Rattle.site_commands.proofs.begin.with_state.Goals as goal
 

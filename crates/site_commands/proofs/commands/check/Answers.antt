@@ -1,6 +1,6 @@
 use Rattle.std.proofs.Common.{inr}
 use Rattle.std.specs.Process.{exit_status}
-use Rattle.schema_decisions.specs.passed_on.policy_checks.{AreChecksRefused}
+use Rattle.drill_scripts.specs.policy_checks.Checks.{AreChecksRefused}
 use Rattle.site_commands.proofs.EventLemmas.{runs_as}
 use Rattle.site_commands.proofs.RefusalLemmas.{refused_for}
 use Rattle.site_commands.proofs.commands.check.Goals as goal

@@ -1,5 +1,5 @@
 use Rattle.std.specs.Process.{exit_status}
-use Rattle.decision_texts.specs.Decisions.{IsDecided, IsDecisionRefused}
+use Rattle.http_service.specs.decision_texts.Decisions.{IsDecided, IsDecisionRefused}
 use Rattle.site_commands.proofs.EventLemmas.{runs_as}
 use Rattle.site_commands.proofs.RefusalLemmas.{line_refused}
 use Rattle.site_commands.proofs.commands.judge_bare.Goals as goal

@@ -1,5 +1,5 @@
 use Rattle.std.specs.Process.{exit_status}
-use Rattle.schema_decisions.specs.Decisions.{IsDecided, IsSchemaDecisionRefused}
+use Rattle.loaded_files.specs.schema_decisions.Decisions.{IsDecided, IsSchemaDecisionRefused}
 use Rattle.site_commands.proofs.EventLemmas.{runs_as}
 use Rattle.site_commands.proofs.RefusalLemmas.{line_refused}
 use Rattle.site_commands.proofs.commands.judge_under.Goals as goal

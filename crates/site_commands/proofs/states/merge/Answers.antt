@@ -1,6 +1,6 @@
 use Rattle.std.proofs.Common.{inl}
 use Rattle.std.specs.Process.{exit_status}
-use Rattle.pulled_states.specs.passed_on.merged_states.{IsMerged, AreRefused}
+use Rattle.pulled_states.specs.merged_states.Merges.{IsMerged, AreRefused}
 use Rattle.site_commands.proofs.EventLemmas.{runs_as}
 use Rattle.site_commands.proofs.RefusalLemmas.{line_refused}
 use Rattle.site_commands.proofs.states.merge.Goals as goal

@@ -1,8 +1,8 @@
 use Rattle.std.proofs.Common.{◌≡◌, ◌+◌, ◌++◌, ◌∷◌, [], sym, ap, ◌∙◌, subst, List, length, take, arith, length-append}
 use Rattle.std.proofs.Math.Seq.{take-length}
 use Rattle.std.proofs.lemmas.List.{take_more}
-use Rattle.schema.specs.SchemaEntries.{SchemaEntries}
-use Rattle.schema.specs.Views.{schema_view, IsStated}
+use Rattle.site.specs.schema.SchemaEntries.{SchemaEntries}
+use Rattle.site.specs.schema.Views.{schema_view, IsStated}
 use Rattle.site.specs.Seen.{schema_of, store_in}
 use Rattle.site_runs.specs.declared.input.Input.{Input}
 use Rattle.site_runs.specs.declared.reply.Reply.{Reply}

@@ -1,8 +1,8 @@
 use Rattle.std.proofs.Common.{ap, subst}
-use Rattle.stamped_store.specs.Store.{Store}
-use Rattle.schema.specs.Views.{schema_view}
-use Rattle.state_messages.specs.Messages.{state_text}
-use Rattle.site.specs.passed_on.stored_world.{IsAnswerOver}
+use Rattle.site.specs.stamped_store.Store.{Store}
+use Rattle.site.specs.schema.Views.{schema_view}
+use Rattle.site.specs.state_messages.Messages.{state_text}
+use Rattle.site.specs.stored_world.Said.{IsAnswerOver}
 use Rattle.site.specs.Admitted.{IsPolicyUnder, IsEntityUnder}
 use Rattle.site_runs.proofs.RunLemmas.{texts_of, same_stores}
 use Rattle.site_runs.proofs.laws.equal_updates_leave_equal_stores.Goals as goal

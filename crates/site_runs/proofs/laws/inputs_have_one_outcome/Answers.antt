@@ -1,4 +1,4 @@
-use Rattle.schema.specs.Views.{schema_view}
+use Rattle.site.specs.schema.Views.{schema_view}
 use Rattle.site_runs.proofs.RunLemmas.{texts_of, texts_are_one}
 use Rattle.site_runs.proofs.OneAnswered.{MessagesAreOne}
 use Rattle.site_runs.proofs.OneOutcome.{LawsOfOne, one_step}

@@ -1,7 +1,7 @@
 use Rattle.std.proofs.Common.{subst}
 use Rattle.std.specs.Str.{IsUtf8}
 use Rattle.site_runs.proofs.RunLemmas.{texts_of}
-use Rattle.schema.specs.Views.{schema_view}
+use Rattle.site_runs.specs.schema.Views.{schema_view}
 use Rattle.site_worlds.proofs.Growing.{StoreLaws}
 use Rattle.site_worlds.proofs.StepFacts.{CommandLaws}
 use Rattle.site_worlds.proofs.Happening.{SendingLaws}

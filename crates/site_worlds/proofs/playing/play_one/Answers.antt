@@ -1,6 +1,6 @@
 use Rattle.std.proofs.Common.{arith, subst, Option}
 use Rattle.site_runs.specs.declared.reply.Reply.{Reply}
-use Rattle.site.specs.Seen.{schema_of, store_in}
+use Rattle.site_runs.specs.site.Seen.{schema_of, store_in}
 use Rattle.site_worlds.specs.inner.Playing.{AnswersDeed, input_among}
 use Rattle.site_worlds.proofs.Played.{plays_at_zero, plays_beyond, plays_unmade, plays_replied}
 use Rattle.site_worlds.proofs.playing.play_one.Goals as goal

@@ -1,6 +1,6 @@
 use Rattle.std.proofs.Common.{sym, subst, List, ◌+◌}
-use Rattle.schema.specs.Views.{schema_view}
-use Rattle.site.specs.Seen.{Seen}
+use Rattle.site_runs.specs.schema.Views.{schema_view}
+use Rattle.site_runs.specs.site.Seen.{Seen}
 use Rattle.site_worlds.specs.Sites.{first_sites, start}
 use Rattle.site_worlds.specs.Played.{AreSitesOf}
 use Rattle.site_worlds.proofs.Played.{more_sites}

@@ -1,4 +1,4 @@
-use Rattle.schema.specs.Views.{schema_view}
+use Rattle.site_runs.specs.schema.Views.{schema_view}
 use Rattle.site_worlds.specs.Sites.{first_sites, start}
 use Rattle.site_worlds.specs.Played.{AreSitesOf}
 use Rattle.site_worlds.proofs.world.new_sites.Given as goal

@@ -1,5 +1,5 @@
 use Rattle.std.proofs.Common.{sym, subst}
-use Rattle.stamped_store.specs.Deltas.{Summary}
+use Rattle.sync_messages.specs.stamped_store.Deltas.{Summary}
 use Rattle.state_messages.specs.inner.Walking.{IsFrom}
 use Rattle.state_messages.proofs.Walking.{from_start, from_next, stamp_here, stamp_behind, stamp_past, no_length}
 use Rattle.state_messages.proofs.writing.from_name.Goals as goal

@@ -1,5 +1,5 @@
 use Rattle.std.proofs.lemmas.Result.{on_ok_weaker}
-use Rattle.stamped_store.specs.EntryOrder.{plain_entry}
+use Rattle.sync_messages.specs.stamped_store.EntryOrder.{plain_entry}
 use Rattle.state_messages.proofs.Entries.{no_news, one_news}
 use Rattle.state_messages.proofs.writing.push_news.Goals as goal
 

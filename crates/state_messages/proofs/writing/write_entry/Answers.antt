@@ -1,4 +1,4 @@
-use Rattle.stamped_store.specs.EntryOrder.{plain_entry}
+use Rattle.sync_messages.specs.stamped_store.EntryOrder.{plain_entry}
 use Rattle.sync_messages.proofs.Appending.{wrote, ends}
 use Rattle.state_messages.proofs.Entries.{entry_written}
 use Rattle.state_messages.proofs.writing.write_entry.Goals as goal

@@ -1,6 +1,6 @@
 use Rattle.std.proofs.Common.{◌∙◌}
-use Rattle.stamped_store.specs.Deltas.{delta}
-use Rattle.stamped_store.specs.Store.{abstract_store, updates}
+use Rattle.sync_messages.specs.stamped_store.Deltas.{delta}
+use Rattle.sync_messages.specs.stamped_store.Store.{abstract_store, updates}
 use Rattle.sync_messages.proofs.Appending.{text_written, json_written}
 use Rattle.state_messages.proofs.Written.{depth_message}
 use Rattle.state_messages.proofs.writing.write_message.Goals as goal

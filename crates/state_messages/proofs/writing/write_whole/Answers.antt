@@ -1,5 +1,5 @@
-use Rattle.stamped_store.specs.Deltas.{delta}
-use Rattle.stamped_store.specs.Store.{abstract_store, updates}
+use Rattle.sync_messages.specs.stamped_store.Deltas.{delta}
+use Rattle.sync_messages.specs.stamped_store.Store.{abstract_store, updates}
 use Rattle.sync_messages.proofs.Appending.{wrote, ends}
 use Rattle.state_messages.proofs.Entries.{message_written}
 use Rattle.state_messages.proofs.writing.write_whole.Goals as goal

@@ -4,8 +4,8 @@ use Rattle.std.specs.Map.Iter.{deref_pair}
 use Rattle.std.specs.Borrow.{Bor}
 use Rattle.std.specs.declared.alloc.Global.{Global}
 use Rattle.std.specs.declared.string.String.{String}
-use Rattle.policy_grammar.specs.declared.policy.Policy.{Policy}
-use Rattle.stamped_entries.specs.declared.entry.Entry.{Entry}
+use Rattle.scope_index.specs.policy_grammar.declared.policy.Policy.{Policy}
+use Rattle.stamped_store.specs.stamped_entries.declared.entry.Entry.{Entry}
 use Rattle.std.specs.Str.{bytes_eq}
 use Rattle.scope_index.specs.Keys.{kept_at}
 use Rattle.store_index.specs.Indexed.{policy_in, AreIndexed, PolicyEntries}

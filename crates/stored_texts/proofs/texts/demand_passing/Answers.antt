@@ -1,4 +1,4 @@
-use Rattle.schema.specs.Views.{schema_view}
+use Rattle.canonical_texts.specs.schema.Views.{schema_view}
 use Rattle.stored_texts.proofs.FaultLemmas.{unpassed_is_refused}
 use Rattle.stored_texts.proofs.texts.demand_passing.Goals as goal
 

@@ -1,6 +1,6 @@
 use Rattle.std.proofs.Common.{◌≡◌, ◌++◌, map}
 use Rattle.std.specs.Map.Iter.{deref_pair}
-use Rattle.authoriser.specs.Views.{named}
+use Rattle.entity_store.specs.authoriser.Views.{named}
 use Rattle.stored_world.specs.TextsRead.{policies_read}
 use Rattle.stored_world.proofs.policies.read_policies.Given as goal
 

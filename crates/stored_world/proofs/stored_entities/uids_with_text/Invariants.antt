@@ -1,6 +1,6 @@
 use Rattle.std.proofs.Common.{◌≡◌, ◌++◌, map}
 use Rattle.std.specs.Map.Iter.{deref_pair}
-use Rattle.ancestor_closure.specs.Hierarchy.{names}
+use Rattle.entity_store.specs.ancestor_closure.Hierarchy.{names}
 use Rattle.stored_world.specs.inner.Listing.{uids_with_text}
 use Rattle.stored_world.proofs.stored_entities.uids_with_text.Given as goal
 

@@ -5,7 +5,7 @@ use Rattle.json_words.specs.Each.{each}
 use Rattle.json_words.proofs.EachLemmas.{each_next}
 use Rattle.json_words.proofs.EachSame.{same_fails, same_ends}
 use Rattle.values.specs.declared.name.Name.{Name}
-use Rattle.stamped_entries.specs.declared.entry.Stamp.{Stamp}
+use Rattle.stamped_store.specs.stamped_entries.declared.entry.Stamp.{Stamp}
 use Rattle.stamped_store.specs.Deltas.{Summary}
 use Rattle.sync_messages.specs.declared.fault.MessageFault.TheVariants.{NoMemory}
 use Rattle.sync_messages.specs.Summaries.{judged}

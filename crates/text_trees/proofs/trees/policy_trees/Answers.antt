@@ -1,8 +1,8 @@
 use Rattle.std.proofs.Common.{◌≡◌, ◌⊎◌, ap, sym, subst, ◌∙◌}
-use Rattle.token_readers.specs.declared.fault.SyntaxFault.TheVariants as syntax
-use Rattle.policy_syntax.specs.passed_on.expression_syntax.{nesting_limit}
-use Rattle.token_readers.specs.Lang.{at_any}
-use Rattle.token_readers.specs.Reads.{IsRefusedWithin}
+use Rattle.desugaring.specs.token_readers.declared.fault.SyntaxFault.TheVariants as syntax
+use Rattle.policy_syntax.specs.expression_syntax.Expressions.{nesting_limit}
+use Rattle.desugaring.specs.token_readers.Lang.{at_any}
+use Rattle.desugaring.specs.token_readers.Reads.{IsRefusedWithin}
 use Rattle.policy_syntax.specs.Grammar as grammar
 use Rattle.text_trees.specs.Texts.{most_file_bytes}
 use Rattle.plain.specs.Refused.{OrNoMemory}

@@ -1,6 +1,6 @@
 use Rattle.std.proofs.Common.{◌≡◌, ◌⊎◌, ap, sym, subst, ◌∙◌}
-use Rattle.token_readers.specs.declared.fault.SyntaxFault.TheVariants as syntax
-use Rattle.token_readers.specs.Reads.{IsRefusedWithin}
+use Rattle.desugaring.specs.token_readers.declared.fault.SyntaxFault.TheVariants as syntax
+use Rattle.desugaring.specs.token_readers.Reads.{IsRefusedWithin}
 use Rattle.policy_syntax.specs.Grammar as grammar
 use Rattle.text_trees.specs.Texts.{most_policy_bytes}
 use Rattle.plain.specs.Refused.{OrNoMemory}

@@ -1,5 +1,5 @@
 use Rattle.std.proofs.Common.{[], sym, subst}
-use Rattle.typing.specs.Learned as learned
+use Rattle.static_types.specs.typing.Learned as learned
 use Rattle.known_pairs.specs.Pairs.{pairs}
 use Rattle.type_checker.proofs.known.known_of.Goals as goal
 

@@ -1,5 +1,5 @@
 use Rattle.std.proofs.Common.{take}
-use Rattle.typing.specs.Learned.{InBoth}
+use Rattle.static_types.specs.typing.Learned.{InBoth}
 use Rattle.known_pairs.specs.Pairs.{pairs}
 use Rattle.type_checker.proofs.known.known_of.Given as goal
 

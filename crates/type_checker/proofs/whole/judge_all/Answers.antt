@@ -1,12 +1,13 @@
 use Rattle.std.proofs.Common.{◌+◌, [], None, Some, option_map, drop, sym, subst, ◌∙◌}
 use Rattle.std.proofs.lemmas.Bool.{false≢true}
-use Rattle.typing.specs.Rows.{MayBeTrue}
-use Rattle.typing.specs.Typing.{Types}
+use Rattle.static_types.specs.typing.Rows.{MayBeTrue}
+use Rattle.static_types.specs.typing.Typing.{Types}
 use Rattle.static_types.specs.Views.{boolean_view, typing_environment}
 use Rattle.type_checker.specs.Joined.{joined}
 use Rattle.type_checker.specs.inner.Joining.{and_so_far, Leads}
 use Rattle.type_checker.proofs.Carrying.{typed_so, false_so}
-use Rattle.type_checker.proofs.JoiningLemmas.{leads_itself, leads_on, leads_to_false, at_part, at_last, last_typed, last_faulty}
+use Rattle.type_checker.proofs.JoiningLemmas.{leads_itself, leads_on, leads_to_false, at_part, at_last, last_typed}
+use Rattle.type_checker.proofs.JoiningLemmas.{last_faulty}
 use Rattle.type_checker.proofs.whole.judge_all.Goals as goal
 
 pub loop-part-init : goal.loop-part-init

@@ -1,6 +1,6 @@
 use Rattle.std.proofs.Common.{◌∙◌, ◌++◌, ap, subst, OnOk}
 use Rattle.std.specs.Prelude.{codes}
-use Rattle.extensions.specs.DecimalText.{decimal_text}
+use Rattle.values.specs.extensions.DecimalText.{decimal_text}
 use Rattle.uid_json.specs.Tokens.{AppendsValue}
 use Rattle.typed_values.specs.Canonical.{call_json}
 use Rattle.typed_values.proofs.writing.write_decimal.Goals as goal

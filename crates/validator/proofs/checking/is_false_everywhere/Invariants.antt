@@ -1,6 +1,6 @@
 use Rattle.std.proofs.Common.{Bool, true, Result, drop}
-use Rattle.schema.specs.Views.{schema_view}
-use Rattle.policy_grammar.specs.Whole.{expression_of}
+use Rattle.static_types.specs.schema.Views.{schema_view}
+use Rattle.static_types.specs.policy_grammar.Whole.{expression_of}
 use Rattle.validator.specs.declared.fault.CheckFault.{CheckFault}
 use Rattle.validator.specs.inner.Checking.{typed_in, AreJudged}
 use Rattle.validator.proofs.checking.is_false_everywhere.Given as goal

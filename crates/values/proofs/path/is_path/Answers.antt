@@ -1,7 +1,8 @@
 use Rattle.std.proofs.Common.{◌≡◌, [], length, true, sym, ◌∙◌, ap, refl, arith}
 use Rattle.std.proofs.lemmas.Bool.Decides.{nat_tests}
-use Rattle.plain.specs.Words.{IsIdent}
-use Rattle.values.proofs.Scanning.{is_cut, first_not_ident, only_ident, no_colons, behind_colons, none_of_length, colons_from_test, no_colons_from_test}
+use Rattle.extensions.specs.plain.Words.{IsIdent}
+use Rattle.values.proofs.Scanning.{is_cut, first_not_ident, only_ident, no_colons, behind_colons, none_of_length}
+use Rattle.values.proofs.Scanning.{colons_from_test, no_colons_from_test}
 use Rattle.values.proofs.path.is_path.Goals as goal
 
 pub is_ident-requires : goal.is_ident-requires

@@ -1,5 +1,5 @@
 use Rattle.std.specs.Prelude.{◌↔◌, length}
-use Rattle.plain.specs.Words.{IsPath}
+use Rattle.extensions.specs.plain.Words.{IsPath}
 use Rattle.values.proofs.path.is_path.Given as goal
 
 abbrev pub invariant-loop-tail : goal.invariant-loop-tail

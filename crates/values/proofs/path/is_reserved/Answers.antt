@@ -2,8 +2,8 @@ use Rattle.std.proofs.Common.{◌≡◌, sym, ◌∙◌}
 use Rattle.std.specs.Prelude.{nat_eq}
 use Rattle.std.specs.List.{list_any}
 use Rattle.std.specs.Cmp.Lexicographic.{pointwise}
-use Rattle.plain.specs.Words.{reserved_words}
-use Rattle.plain.proofs.Members.{texts_any}
+use Rattle.extensions.specs.plain.Words.{reserved_words}
+use Rattle.extensions.proofs.of_plain.Members.{texts_any}
 use Rattle.values.proofs.path.is_reserved.Goals as goal
 
 pub returns : goal.returns

@@ -1,6 +1,6 @@
 use Rattle.std.proofs.Common.{subst, refl}
 use Rattle.std.proofs.lemmas.Result.{IfOk-weaker}
-use Rattle.ancestor_closure.specs.Hierarchy.{Parents, IsAllAbove, IsAscending, names}
+use Rattle.kept_ancestors.specs.ancestor_closure.Hierarchy.{Parents, IsAllAbove, IsAscending, names}
 use Rattle.kept_ancestors.specs.Kept.{AreKept}
 use Rattle.accelerated_store.proofs.Tops.{nothing_above, none_ascend}
 use Rattle.accelerated_store.proofs.kept_world.KeptWorldAncestry.ancestors.Goals as goal

@@ -1,6 +1,6 @@
 use Rattle.std.proofs.Common.{subst}
 use Rattle.std.proofs.lemmas.Result.{IfOk-weaker}
-use Rattle.ancestor_closure.specs.Hierarchy.{Parents, AreOnCycles, names}
+use Rattle.kept_ancestors.specs.ancestor_closure.Hierarchy.{Parents, AreOnCycles, names}
 use Rattle.kept_ancestors.specs.Kept.{AreKept}
 use Rattle.accelerated_store.proofs.kept_world.KeptWorldAncestry.cyclic.Goals as goal
 

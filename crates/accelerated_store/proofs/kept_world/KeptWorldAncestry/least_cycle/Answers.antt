@@ -1,7 +1,7 @@
 use Rattle.std.proofs.Common.{◌∙◌, ap, sym, subst, MatchOption}
 use Rattle.std.specs.Prelude.{IfOk, IsOk}
-use Rattle.ancestor_closure.specs.Hierarchy.{Parents, names}
-use Rattle.ancestor_closure.specs.LeastCycle.{HasNoCycle, IsLeastCycle}
+use Rattle.kept_ancestors.specs.ancestor_closure.Hierarchy.{Parents, names}
+use Rattle.kept_ancestors.specs.ancestor_closure.LeastCycle.{HasNoCycle, IsLeastCycle}
 use Rattle.kept_ancestors.specs.Kept.{AreKept}
 use Rattle.accelerated_store.proofs.kept_world.KeptWorldAncestry.least_cycle.Goals as goal
 

@@ -1,8 +1,8 @@
 use Rattle.std.proofs.Common.{IfOk, subst, sym}
 use Rattle.std.specs.Option.{IfSome}
-use Rattle.schema.specs.SchemaEntries.{SchemaEntries}
-use Rattle.schema.specs.Views.{schema_view}
-use Rattle.authoriser.specs.Answers.{IsAnswer}
+use Rattle.stored_world.specs.schema.SchemaEntries.{SchemaEntries}
+use Rattle.stored_world.specs.schema.Views.{schema_view}
+use Rattle.stored_world.specs.authoriser.Answers.{IsAnswer}
 use Rattle.stored_world.specs.Said.{world_under}
 use Rattle.stored_world.specs.TextsRead.{entity_at, policies_read}
 use Rattle.accelerated_store.specs.Kept.{AreAncestorsOf}

@@ -1,8 +1,8 @@
 use Rattle.std.proofs.Common.{OnOk, subst, string_bytes}
 use Rattle.std.specs.String.{string_cmp}
-use Rattle.stamped_store.specs.EntryOrder.{greater}
-use Rattle.stamped_store.specs.Store.{abstract_store, policy_name, KeepsOtherNames}
-use Rattle.stamped_store.specs.Stored.{taken}
+use Rattle.store_index.specs.stamped_store.EntryOrder.{greater}
+use Rattle.store_index.specs.stamped_store.Store.{abstract_store, policy_name, KeepsOtherNames}
+use Rattle.store_index.specs.stamped_store.Stored.{taken}
 use Rattle.accelerated_store.specs.Seen.{SeenStore}
 use Rattle.accelerated_store.proofs.Standing.{beside_policy, as_lent, as_held}
 use Rattle.accelerated_store.proofs.store.AcceleratedStore.record_policy.Goals as goal

@@ -1,8 +1,8 @@
 use Rattle.std.proofs.Common.{OnOk, subst}
 use Rattle.values.specs.Names.{uid_cmp}
-use Rattle.stamped_store.specs.EntryOrder.{greater}
-use Rattle.stamped_store.specs.Store.{abstract_store, entity_name, KeepsOtherNames}
-use Rattle.stamped_store.specs.Stored.{taken}
+use Rattle.store_index.specs.stamped_store.EntryOrder.{greater}
+use Rattle.store_index.specs.stamped_store.Store.{abstract_store, entity_name, KeepsOtherNames}
+use Rattle.store_index.specs.stamped_store.Stored.{taken}
 use Rattle.accelerated_store.specs.Seen.{SeenStore}
 use Rattle.accelerated_store.proofs.Standing.{beside_entity, ancestors_as_lent}
 use Rattle.accelerated_store.proofs.store.AcceleratedStore.take_entity.Goals as goal

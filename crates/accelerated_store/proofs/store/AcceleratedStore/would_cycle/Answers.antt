@@ -1,6 +1,6 @@
 use Rattle.std.proofs.Common.{subst, ◌≡◌}
-use Rattle.schema.specs.Views.{schema_view}
-use Rattle.stamped_store.specs.Store.{updates, abstract_store, abstract_updates}
+use Rattle.stored_world.specs.schema.Views.{schema_view}
+use Rattle.store_index.specs.stamped_store.Store.{updates, abstract_store, abstract_updates}
 use Rattle.stored_world.proofs.AnsweringLemmas.{cycle_said, no_cycle_said}
 use Rattle.accelerated_store.specs.Seen.{SeenStore}
 use Rattle.accelerated_store.proofs.store.AcceleratedStore.would_cycle.Goals as goal

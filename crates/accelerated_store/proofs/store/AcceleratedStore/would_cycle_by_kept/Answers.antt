@@ -1,8 +1,8 @@
 use Rattle.std.proofs.Common.{IfOk, IsTrue, ◌↔◌, subst, sym}
 use Rattle.std.specs.Option.{IfSome}
-use Rattle.ancestor_closure.specs.Hierarchy.{IsOnCycle}
-use Rattle.schema.specs.SchemaEntries.{SchemaEntries}
-use Rattle.schema.specs.Views.{schema_view}
+use Rattle.kept_ancestors.specs.ancestor_closure.Hierarchy.{IsOnCycle}
+use Rattle.stored_world.specs.schema.SchemaEntries.{SchemaEntries}
+use Rattle.stored_world.specs.schema.Views.{schema_view}
 use Rattle.stored_world.specs.Said.{parents_with}
 use Rattle.stored_world.specs.TextsRead.{entity_at}
 use Rattle.accelerated_store.specs.Kept.{AreAncestorsOf}

@@ -1,9 +1,9 @@
 use Rattle.std.proofs.Common.{subst, sym, List}
 use Rattle.std.specs.Prelude.{Contains, IsSome, ◌↔◌}
 use Rattle.values.specs.declared.entity_uid.EntityUid.{EntityUid}
-use Rattle.schema.specs.SchemaEntries.{SchemaEntries}
-use Rattle.schema.specs.Views.{schema_view}
-use Rattle.entity_worlds.specs.Entities.{AreActions}
+use Rattle.entities.specs.schema.SchemaEntries.{SchemaEntries}
+use Rattle.entities.specs.schema.Views.{schema_view}
+use Rattle.entities.specs.entity_worlds.Entities.{AreActions}
 use Rattle.entity_store.specs.Entities.{actions_under}
 use Rattle.entity_store.proofs.actions.SchemaActionsActionSource.actions.Goals as goal
 

@@ -1,7 +1,7 @@
 use Rattle.std.proofs.Common.{subst}
-use Rattle.schema.specs.SchemaEntries.{SchemaEntries}
-use Rattle.schema.specs.Views.{schema_view}
-use Rattle.entity_worlds.specs.Apart.{AreApart}
+use Rattle.entities.specs.schema.SchemaEntries.{SchemaEntries}
+use Rattle.entities.specs.schema.Views.{schema_view}
+use Rattle.entities.specs.entity_worlds.Apart.{AreApart}
 use Rattle.entity_store.specs.Entities.{actions_under}
 use Rattle.entity_store.proofs.StatedLemmas.{are_apart}
 use Rattle.entity_store.proofs.actions.SchemaActionsActionSource.are_apart.Goals as goal

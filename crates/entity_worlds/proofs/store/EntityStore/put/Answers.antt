@@ -1,7 +1,7 @@
 use Rattle.std.proofs.Common.{◌∙◌, ap, Some, arith, rules}
 use Rattle.std.proofs.lemmas.Grind.{common_steps}
 use Rattle.std.specs.Prelude.{if◌then◌else◌}
-use Rattle.ancestor_closure.specs.Decided.{is_same}
+use Rattle.evaluator.specs.ancestor_closure.Decided.{is_same}
 use Rattle.entity_worlds.specs.Keeping.{Entries, kept_in, data_of}
 use Rattle.entity_worlds.proofs.store.EntityStore.put.Goals as goal
 

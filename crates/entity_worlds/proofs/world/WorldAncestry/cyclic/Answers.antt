@@ -1,7 +1,7 @@
 use Rattle.std.proofs.Common.{subst}
 use Rattle.std.specs.Prelude.{IfOk}
 use Rattle.std.proofs.lemmas.Result.{IfOk-weaker}
-use Rattle.ancestor_closure.specs.Hierarchy.{AreOnCycles, names}
+use Rattle.evaluator.specs.ancestor_closure.Hierarchy.{AreOnCycles, names}
 use Rattle.entity_worlds.specs.inner.EntityEdges.{entity_edges}
 use Rattle.entity_worlds.proofs.ApartLemmas.{all_edges, cycles_are_whole}
 use Rattle.entity_worlds.proofs.world.WorldAncestry.cyclic.Goals as goal

@@ -1,8 +1,8 @@
 use Rattle.std.proofs.Common.{subst}
 use Rattle.std.specs.Prelude.{IfOk, MatchOption}
 use Rattle.std.proofs.lemmas.Result.{IfOk-weaker}
-use Rattle.ancestor_closure.specs.Hierarchy.{names}
-use Rattle.ancestor_closure.specs.LeastCycle.{HasNoCycle, IsLeastCycle}
+use Rattle.evaluator.specs.ancestor_closure.Hierarchy.{names}
+use Rattle.evaluator.specs.ancestor_closure.LeastCycle.{HasNoCycle, IsLeastCycle}
 use Rattle.entity_worlds.specs.inner.EntityEdges.{entity_edges}
 use Rattle.entity_worlds.proofs.ApartLemmas.{all_edges, least_or_none}
 use Rattle.entity_worlds.proofs.world.WorldAncestry.least_cycle.Goals as goal

@@ -3,7 +3,7 @@ use Rattle.std.proofs.lemmas.Grind.{common_steps}
 use Rattle.expression_syntax.specs.Expressions.{is_positive}
 use Rattle.expression_syntax.specs.ExpressionReading as spec
 use Rattle.expression_syntax.specs.inner.Prefixes.{kind_of, under}
-use Rattle.token_readers.proofs.Gathered.{deeper, instead}
+use Rattle.expression_trees.proofs.of_token_readers.Gathered.{deeper, instead}
 use Rattle.expression_syntax.proofs.primary.Reader.+signed.Goals as goal
 
 pub returns-then-most-eq0 : goal.returns-then-most-eq0

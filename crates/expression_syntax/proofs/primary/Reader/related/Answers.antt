@@ -1,6 +1,6 @@
 use Rattle.expression_syntax.specs.Expressions.{is_positive}
 use Rattle.expression_syntax.specs.ExpressionReading as spec
-use Rattle.token_readers.proofs.Gathered.{instead}
+use Rattle.expression_trees.proofs.of_token_readers.Gathered.{instead}
 use Rattle.expression_syntax.proofs.Tails.{related_joins}
 use Rattle.expression_syntax.proofs.primary.Reader.related.Goals as goal
 

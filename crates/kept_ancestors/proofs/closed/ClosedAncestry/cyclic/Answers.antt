@@ -1,8 +1,8 @@
 use Rattle.std.proofs.Common.{◌∙◌, ap, sym, subst}
 use Rattle.std.proofs.lemmas.Result.{IfOk-weaker}
-use Rattle.ancestor_closure.specs.Hierarchy.{Parents, AreOnCycles, names}
-use Rattle.ancestor_closure.specs.LeastCycle.{HasNoCycle}
-use Rattle.ancestor_closure.specs.Search.{parents_of}
+use Rattle.ancestor_lists.specs.ancestor_closure.Hierarchy.{Parents, AreOnCycles, names}
+use Rattle.ancestor_lists.specs.ancestor_closure.LeastCycle.{HasNoCycle}
+use Rattle.ancestor_lists.specs.ancestor_closure.Search.{parents_of}
 use Rattle.kept_ancestors.specs.Kept.{AreKept}
 use Rattle.kept_ancestors.specs.ClosedMeaning.{closed_parents}
 use Rattle.kept_ancestors.proofs.Pairs.{closed_is}

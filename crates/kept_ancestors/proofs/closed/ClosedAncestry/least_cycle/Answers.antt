@@ -1,7 +1,7 @@
 use Rattle.std.proofs.Common.{◌∙◌, ap, sym, subst, MatchOption}
 use Rattle.std.specs.Prelude.{IfOk, IsOk}
-use Rattle.ancestor_closure.specs.Hierarchy.{Parents, names}
-use Rattle.ancestor_closure.specs.LeastCycle.{HasNoCycle, IsLeastCycle}
+use Rattle.ancestor_lists.specs.ancestor_closure.Hierarchy.{Parents, names}
+use Rattle.ancestor_lists.specs.ancestor_closure.LeastCycle.{HasNoCycle, IsLeastCycle}
 use Rattle.kept_ancestors.specs.ClosedMeaning.{closed_parents}
 use Rattle.kept_ancestors.proofs.Pairs.{closed_is}
 use Rattle.kept_ancestors.proofs.closed.ClosedAncestry.least_cycle.Goals as goal

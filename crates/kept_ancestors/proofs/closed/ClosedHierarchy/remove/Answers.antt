@@ -1,5 +1,5 @@
 use Rattle.std.proofs.Common.{◌∙◌, [], ap, sym}
-use Rattle.ancestor_closure.specs.Hierarchy.{with_parents}
+use Rattle.ancestor_lists.specs.ancestor_closure.Hierarchy.{with_parents}
 use Rattle.kept_ancestors.specs.ClosedMeaning.{closed_parents}
 use Rattle.std.proofs.lemmas.Result.{on_ok_weaker, on_err_weaker}
 use Rattle.kept_ancestors.proofs.Pairs.{closed_is}

@@ -1,7 +1,7 @@
 use Rattle.std.proofs.Common.{◌∙◌, ap, sym, subst, IsTrue}
 use Rattle.std.specs.Prelude.{◌↔◌}
-use Rattle.ancestor_closure.specs.Hierarchy.{Parents, Above, with_parents}
-use Rattle.ancestor_closure.specs.Search.{parents_of}
+use Rattle.ancestor_lists.specs.ancestor_closure.Hierarchy.{Parents, Above, with_parents}
+use Rattle.ancestor_lists.specs.ancestor_closure.Search.{parents_of}
 use Rattle.kept_ancestors.specs.ClosedMeaning.{closed_parents}
 use Rattle.kept_ancestors.proofs.Pairs.{closed_is}
 use Rattle.kept_ancestors.proofs.closed.ClosedHierarchy.would_cycle.Goals as goal

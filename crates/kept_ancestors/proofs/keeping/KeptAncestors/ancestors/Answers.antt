@@ -1,6 +1,6 @@
 use Rattle.std.proofs.Common.{◌≡◌, ◌∙◌, sym, subst}
 use Rattle.std.proofs.lemmas.Result.{IfOk-weaker}
-use Rattle.ancestor_closure.specs.Hierarchy.{Parents, IsAllAbove, IsAscending, names}
+use Rattle.ancestor_lists.specs.ancestor_closure.Hierarchy.{Parents, IsAllAbove, IsAscending, names}
 use Rattle.kept_ancestors.specs.Kept.{AreKept}
 use Rattle.kept_ancestors.proofs.keeping.KeptAncestors.ancestors.Goals as goal
 

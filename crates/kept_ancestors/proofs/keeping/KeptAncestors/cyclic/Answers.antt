@@ -1,6 +1,6 @@
 use Rattle.std.proofs.Common.{◌≡◌, sym, subst}
 use Rattle.std.proofs.lemmas.Result.{IfOk-weaker}
-use Rattle.ancestor_closure.specs.Hierarchy.{Parents, AreOnCycles, IsAscending, names}
+use Rattle.ancestor_lists.specs.ancestor_closure.Hierarchy.{Parents, AreOnCycles, IsAscending, names}
 use Rattle.kept_ancestors.specs.Kept.{AreKept}
 use Rattle.kept_ancestors.proofs.Whole.{no_member, none_ascends}
 use Rattle.kept_ancestors.proofs.keeping.KeptAncestors.cyclic.Goals as goal

@@ -1,6 +1,6 @@
 use Rattle.std.proofs.Common.{sym, subst, IsTrue}
 use Rattle.std.specs.Prelude.{Contains, ◌↔◌}
-use Rattle.ancestor_closure.specs.Hierarchy.{IsAscending}
+use Rattle.ancestor_lists.specs.ancestor_closure.Hierarchy.{IsAscending}
 use Rattle.kept_ancestors.proofs.keeping.KeptAncestors.has_ancestor.Goals as goal
 
 pub returns : goal.returns

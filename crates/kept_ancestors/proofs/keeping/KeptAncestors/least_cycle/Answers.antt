@@ -1,7 +1,7 @@
 use Rattle.std.proofs.Common.{◌∙◌, ap, sym, subst}
 use Rattle.std.specs.Prelude.{Contains}
-use Rattle.ancestor_closure.specs.Hierarchy.{AreOnCycles, IsAscending, names}
-use Rattle.ancestor_closure.specs.Deciding.{Contains-none}
+use Rattle.ancestor_lists.specs.ancestor_closure.Hierarchy.{AreOnCycles, IsAscending, names}
+use Rattle.ancestor_lists.specs.ancestor_closure.Deciding.{Contains-none}
 use Rattle.kept_ancestors.proofs.Whole.{no_member}
 use Rattle.kept_ancestors.proofs.keeping.KeptAncestors.least_cycle.Goals as goal
 

@@ -1,6 +1,6 @@
 use Rattle.std.proofs.Common.{◌∙◌, ap, subst}
 use Rattle.std.specs.Prelude.{Contains, ◌↔◌}
-use Rattle.ancestor_closure.specs.Hierarchy.{names}
+use Rattle.ancestor_lists.specs.ancestor_closure.Hierarchy.{names}
 use Rattle.ancestor_lists.specs.Lists.{ancestors_in, children_in}
 use Rattle.kept_ancestors.proofs.Whole.{all_kept}
 use Rattle.kept_ancestors.proofs.keeping.KeptAncestors.of_graph.Goals as goal

@@ -1,9 +1,9 @@
 use Rattle.std.proofs.Common.{Some, subst}
 use Rattle.serde_json.specs.View.{view}
 use Rattle.values.specs.declared.request.Request.{Request}
-use Rattle.schema.specs.SchemaEntries.{SchemaEntries}
-use Rattle.schema.specs.Views.{IsStated, schema_view}
-use Rattle.stored_world.specs.Said.{IsAnswerOver}
+use Rattle.accelerated_store.specs.schema.SchemaEntries.{SchemaEntries}
+use Rattle.accelerated_store.specs.schema.Views.{IsStated, schema_view}
+use Rattle.accelerated_store.specs.stored_world.Said.{IsAnswerOver}
 use Rattle.site.specs.Admitted.{IsPolicyUnder, IsEntityUnder, IsRequestOf}
 use Rattle.site.specs.Seen.{Seen, schema_of, store_in}
 use Rattle.site.proofs.site.Site.authorize.Goals as goal

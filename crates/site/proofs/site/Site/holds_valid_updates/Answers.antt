@@ -1,8 +1,8 @@
 use Rattle.std.proofs.Common.{subst, ◌≡◌}
-use Rattle.policy_grammar.specs.declared.policy.Policy.{Policy}
-use Rattle.entity_worlds.specs.declared.entity.Entity.{Entity}
-use Rattle.stamped_store.specs.Store.{StoreEntries, abstract_store, updates, abstract_updates}
-use Rattle.schema.specs.Views.{schema_view}
+use Rattle.accelerated_store.specs.policy_grammar.declared.policy.Policy.{Policy}
+use Rattle.accelerated_store.specs.entity_worlds.declared.entity.Entity.{Entity}
+use Rattle.accelerated_store.specs.stamped_store.Store.{StoreEntries, abstract_store, updates, abstract_updates}
+use Rattle.accelerated_store.specs.schema.Views.{schema_view}
 use Rattle.site.specs.Seen.{Seen, schema_of, store_in, MayBeHeld}
 use Rattle.site.proofs.Taking.{may_be_held}
 use Rattle.site.proofs.site.Site.holds_valid_updates.Goals as goal

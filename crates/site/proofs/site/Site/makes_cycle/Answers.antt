@@ -1,6 +1,6 @@
 use Rattle.std.proofs.Common.{◌≡◌, IfOk, true, false, subst}
 use Rattle.std.proofs.lemmas.Result.{IfOk-weaker}
-use Rattle.stored_world.specs.Said.{MakesCycle, MakesNoCycle}
+use Rattle.accelerated_store.specs.stored_world.Said.{MakesCycle, MakesNoCycle}
 use Rattle.site.specs.Admitted.{IsEntityUnder}
 use Rattle.site.specs.Seen.{Seen, schema_of, store_in}
 use Rattle.site.proofs.site.Site.makes_cycle.Goals as goal

@@ -1,9 +1,9 @@
 use Rattle.std.proofs.Common.{◌≡◌, IfOk, Some, subst}
 use Rattle.serde_json.specs.View.{view}
-use Rattle.schema.specs.SchemaEntries.{SchemaEntries}
-use Rattle.schema.specs.Views.{schema_view}
+use Rattle.accelerated_store.specs.schema.SchemaEntries.{SchemaEntries}
+use Rattle.accelerated_store.specs.schema.Views.{schema_view}
 use Rattle.values.specs.declared.entity_uid.EntityUid.{EntityUid}
-use Rattle.stamped_store.specs.Store.{entity_name, issued, KeepsOtherNames}
+use Rattle.accelerated_store.specs.stamped_store.Store.{entity_name, issued, KeepsOtherNames}
 use Rattle.std.specs.FinMap.{get}
 use Rattle.site.specs.Seen.{Seen, schema_of, store_in}
 use Rattle.site.specs.inner.Recording.{IsStatedBy}

@@ -1,8 +1,8 @@
 use Rattle.std.proofs.Common.{◌≡◌, List, ℕ, Some, Result, IfOk, subst, sym}
 use Rattle.std.specs.FinMap.{get}
-use Rattle.schema.specs.SchemaEntries.{SchemaEntries}
-use Rattle.schema.specs.Views.{schema_view}
-use Rattle.stamped_store.specs.Store.{policy_name, issued}
+use Rattle.accelerated_store.specs.schema.SchemaEntries.{SchemaEntries}
+use Rattle.accelerated_store.specs.schema.Views.{schema_view}
+use Rattle.accelerated_store.specs.stamped_store.Store.{policy_name, issued}
 use Rattle.site.specs.declared.fault.SiteFault.{SiteFault}
 use Rattle.site.specs.declared.outcome.Put.{Put}
 use Rattle.site.specs.Seen.{Seen, schema_of, store_in}

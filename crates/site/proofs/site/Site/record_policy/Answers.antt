@@ -1,16 +1,16 @@
 use Rattle.std.proofs.Common.{sym, ap, subst, string_bytes}
 use Rattle.std.specs.String.{string_cmp}
-use Rattle.schema.specs.SchemaEntries.{SchemaEntries}
-use Rattle.schema.specs.Views.{schema_view}
-use Rattle.policy_grammar.specs.declared.policy.Policy.{Policy}
-use Rattle.entity_worlds.specs.declared.entity.Entity.{Entity}
-use Rattle.stamped_entries.specs.declared.entry.Entry.{Entry}
-use Rattle.stamped_entries.specs.declared.entry.Stamp.{Stamp}
-use Rattle.stamped_store.specs.EntryOrder.{greater, plain_entry}
-use Rattle.stamped_store.specs.Reading.{IsBodyRead}
-use Rattle.stamped_store.specs.Store.{StoreEntries, kept, policy_name, abstract_store}
-use Rattle.stamped_store.specs.Stored.{taken}
-use Rattle.sync_messages.specs.Summaries.{IsStamped}
+use Rattle.accelerated_store.specs.schema.SchemaEntries.{SchemaEntries}
+use Rattle.accelerated_store.specs.schema.Views.{schema_view}
+use Rattle.accelerated_store.specs.policy_grammar.declared.policy.Policy.{Policy}
+use Rattle.accelerated_store.specs.entity_worlds.declared.entity.Entity.{Entity}
+use Rattle.accelerated_store.specs.stamped_entries.declared.entry.Entry.{Entry}
+use Rattle.accelerated_store.specs.stamped_entries.declared.entry.Stamp.{Stamp}
+use Rattle.accelerated_store.specs.stamped_store.EntryOrder.{greater, plain_entry}
+use Rattle.accelerated_store.specs.stamped_store.Reading.{IsBodyRead}
+use Rattle.accelerated_store.specs.stamped_store.Store.{StoreEntries, kept, policy_name, abstract_store}
+use Rattle.accelerated_store.specs.stamped_store.Stored.{taken}
+use Rattle.typed_readings.specs.sync_messages.Summaries.{IsStamped}
 use Rattle.site.specs.Admitted.{IsPolicyUnder}
 use Rattle.std.specs.Prelude.{Some}
 use Rattle.site.specs.inner.Recording.{IsNext}

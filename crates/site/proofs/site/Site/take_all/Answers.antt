@@ -1,13 +1,13 @@
 use Rattle.std.proofs.Common.{◌++◌, ◌∷◌, [], sym, ap, ◌∙◌, subst, refl, List, arith, length-append, append_assoc}
 use Rattle.std.proofs.lemmas.List.{map-append}
 use Rattle.std.specs.List.{AllByRecursion}
-use Rattle.policy_grammar.specs.declared.policy.Policy.{Policy}
-use Rattle.entity_worlds.specs.declared.entity.Entity.{Entity}
-use Rattle.schema.specs.SchemaEntries.{SchemaEntries}
-use Rattle.schema.specs.Views.{schema_view}
-use Rattle.stamped_store.specs.Store.{store_of, updates}
-use Rattle.state_messages.specs.declared.update.Update.{Update}
-use Rattle.state_messages.specs.Updates.{plain_update, plain_updates}
+use Rattle.accelerated_store.specs.policy_grammar.declared.policy.Policy.{Policy}
+use Rattle.accelerated_store.specs.entity_worlds.declared.entity.Entity.{Entity}
+use Rattle.accelerated_store.specs.schema.SchemaEntries.{SchemaEntries}
+use Rattle.accelerated_store.specs.schema.Views.{schema_view}
+use Rattle.accelerated_store.specs.stamped_store.Store.{store_of, updates}
+use Rattle.typed_readings.specs.state_messages.declared.update.Update.{Update}
+use Rattle.typed_readings.specs.state_messages.Updates.{plain_update, plain_updates}
 use Rattle.site.specs.Admitted.{IsValidUnder}
 use Rattle.site.specs.Seen.{schema_of, store_in}
 use Rattle.site.proofs.Taking.{stores_none, stores_more, stores_first}

@@ -1,7 +1,7 @@
 use Rattle.std.proofs.Common.{◌≡◌, ◌++◌, length}
 use Rattle.std.specs.List.{AllByRecursion}
-use Rattle.stamped_store.specs.Store.{store_of, updates}
-use Rattle.state_messages.specs.Updates.{plain_updates}
+use Rattle.accelerated_store.specs.stamped_store.Store.{store_of, updates}
+use Rattle.typed_readings.specs.state_messages.Updates.{plain_updates}
 use Rattle.site.specs.Admitted.{IsValidUnder}
 use Rattle.site.specs.Seen.{schema_of, store_in, IsSameSite}
 use Rattle.site.proofs.site.Site.take_all.Given as goal

@@ -1,11 +1,11 @@
 use Rattle.std.proofs.Common.{sym, ap, subst, string_bytes}
 use Rattle.std.specs.String.{string_cmp}
-use Rattle.schema.specs.SchemaEntries.{SchemaEntries}
-use Rattle.schema.specs.Views.{schema_view}
-use Rattle.stamped_store.specs.EntryOrder.{greater, plain_entry}
-use Rattle.stamped_store.specs.Reading.{IsEntryRead}
-use Rattle.stamped_store.specs.Store.{kept, policy_name}
-use Rattle.stamped_store.specs.Stored.{taken}
+use Rattle.accelerated_store.specs.schema.SchemaEntries.{SchemaEntries}
+use Rattle.accelerated_store.specs.schema.Views.{schema_view}
+use Rattle.accelerated_store.specs.stamped_store.EntryOrder.{greater, plain_entry}
+use Rattle.accelerated_store.specs.stamped_store.Reading.{IsEntryRead}
+use Rattle.accelerated_store.specs.stamped_store.Store.{kept, policy_name}
+use Rattle.accelerated_store.specs.stamped_store.Stored.{taken}
 use Rattle.site.specs.Admitted.{IsPolicyUnder}
 use Rattle.site.specs.Seen.{IsSite}
 use Rattle.site.proofs.Recording.{site_after}

@@ -1,2 +1,0 @@
-pub mod merged_states
-pub mod merged_states_Merges

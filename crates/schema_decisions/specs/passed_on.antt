@@ -1,2 +1,0 @@
-pub mod policy_checks
-pub mod policy_checks_Checks

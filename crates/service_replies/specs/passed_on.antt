@@ -1,3 +1,0 @@
-pub mod site
-pub mod site_SiteFault_variants
-pub mod stamped_store

@@ -1,2 +1,0 @@
-pub mod stored_texts
-pub mod stored_world

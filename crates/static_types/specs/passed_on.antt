@@ -1,2 +1,0 @@
-pub mod entities
-pub mod entities_EntityFault_variants

@@ -1,3 +1,0 @@
--- What crates above use of `entities`, passed on.
-pub use Rattle.entities.specs.declared.fault.EntityFault.TheVariants.{UnknownType, ActionEntity, TagsLeftOut}
-pub use Rattle.entities.specs.declared.fault.EntityFault.TheVariants.{SelfParent, BadParent, NotApplicable}

@@ -1,4 +1,0 @@
-pub mod static_types
-pub mod static_types_StaticType
-pub mod static_types_TypeFault
-pub mod static_types_TypeFault_variants
