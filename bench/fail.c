@@ -1,6 +1,7 @@
-/* Has one read or one write on a connection fail, of a program that this library is loaded before (LD_PRELOAD), and
-   lets no read or write of a connection move more than so many bytes. What is to fail, and what came of it, stands in
-   the file that the variable FAILING names, which whoever started the program changes while it runs. */
+/* Has one read or one write on a connection fail, of a program that this library is loaded before (LD_PRELOAD), or the
+   next connections before they stand, and lets no read or write of a connection move more than so many bytes. What is
+   to fail, and what came of it, stands in the file that the variable FAILING names, which whoever started the program
+   changes while it runs. */
 #define _GNU_SOURCE
 #include <errno.h>
 #include <fcntl.h>
@@ -14,6 +15,8 @@
 static volatile struct plan {
     /* what is asked: the numbers of the calls that fail, from 1 on, and the most bytes of a call; 0 is none */
     int64_t failing_read, failing_write, most_read, most_written;
+    /* how many calls of accept are still to fail */
+    int64_t failing_accepts;
     /* what came of it since a connection was accepted: calls; bytes that were given, by the last read too, and taken;
        whether a call failed, and how many came behind it */
     int64_t reads, writes, given, given_last, taken, failed, later;
@@ -55,6 +58,11 @@ ssize_t send(int to, const void *bytes, size_t size, int flags) {
 }
 
 int accept4(int listener, struct sockaddr *address, socklen_t *length, int flags) {
+    if (plan->failing_accepts) {
+        plan->failing_accepts--;
+        errno = EMFILE;
+        return -1;
+    }
     int link = syscall(SYS_accept4, listener, address, length, flags);
     plan->reads = plan->writes = plan->given = plan->given_last = plan->taken = plan->failed = plan->later = 0;
     return link;

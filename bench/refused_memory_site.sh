@@ -1,11 +1,12 @@
 #!/usr/bin/env bash
-# Hands inputs to a served site with each allocation refused in turn, one in each run: the last rows of rows/sites.txt,
-# whose wanted replies stand there. An input whose reply tells of refused memory has changed nothing, or has taken
-# exactly as many updates as it says; one whose connection ended without a reply has changed nothing. Each is then
-# handed in once more: that reply, and all behind it, are those of a run with ample memory. Where the program lacks
-# memory before it listens, it ends with an error. Behind the rows stands one more put: once it is answered, an answer
-# asks for memory as often as in a run with ample memory, so that what is kept beside the store stands again, where
-# memory was refused for it.
+# Hands inputs to a served site with each allocation refused in turn, one in each run: the last rows of
+# crates/site_rows/stdout, whose wanted replies stand there. An input whose reply tells of refused memory has changed
+# nothing, or has taken exactly as many updates as it says; one whose connection ended without a reply has changed
+# nothing. Each is then handed in once more: that reply, and all behind it, are those of a run with ample memory. Where
+# the program lacks memory before it listens, it ends with an error. Behind the rows stands one more put: once it is
+# answered, an answer asks for memory as often as in a run with ample memory, so that what is kept beside the store
+# stands again, where memory was refused for it. Where all allocations are tried, a reply has to be refused in some of
+# the runs, a message cut short in some, and what is kept dropped in some.
 #
 #   bench/refused_memory_site.sh [FIRST LAST]     (default: from the 1st allocation to the last one)
 #
@@ -17,7 +18,7 @@ whole
 folder=$(mktemp -d)
 trap 'rm -rf "$folder"' EXIT
 refusing "$folder"
-python - "$program" "$folder" "$top/rows/sites.txt" "${1:-1}" "${2:-1000000}" <<'P'
+python - "$program" "$folder" "$top/crates/site_rows/stdout" "${1:-1}" "${2:-1000000}" <<'P'
 import json
 import mmap
 import os
@@ -31,6 +32,9 @@ from runs import Link, Served
 PROGRAM, FOLDER, TABLE, FIRST, LAST = *sys.argv[1:4], *map(int, sys.argv[4:])
 HEADING = "\n# each allocation refused"
 KINDS = ("replies refused", "messages cut short", "connections ended", "ends with an error", "not noticed")
+DROPPED = "what is kept beside the store dropped"
+# what has to come about, each in some run, where all allocations are tried
+WANTED = ("replies refused", "messages cut short", DROPPED)
 # how often a run is begun again whose port another program has taken
 PORTS = 20
 # what is put behind the rows
@@ -129,8 +133,9 @@ def short_of(came, text, state):
     return "messages cut short", state_with(state, text.removeprefix("take "), int(cut[1]))
 
 
-def served(client, rows):
-    """What came of the refused allocation at a site that listens, and how often each answer asked for memory.
+def served(client, rows, number):
+    """What came of the refused allocation at a site that listens, and how often each answer asked for memory; none of
+    the answer that it was refused for, if it was.
 
     Fails where something was lost.
     """
@@ -140,7 +145,7 @@ def served(client, rows):
             state = row.expected
         before, came = ASKED.now(), client.told(row.text)
         if row.text.startswith("authorize "):
-            asked.append(ASKED.now() - before)
+            asked.append(None if before < number <= ASKED.now() else ASKED.now() - before)
         if came != row.expected:
             assert kind == "not noticed", f"{row.text[:200]} came to {came}, too"
             kind, left = short_of(came, row.text, state)
@@ -164,7 +169,7 @@ def kind_of(site, rows, number):
         return "ends with an error", None
     client = Client(site.port)
     try:
-        kind, asked = served(client, rows)
+        kind, asked = served(client, rows, number)
         return (kind, (asked, behind(client, rows))) if number <= ASKED.now() else (None, None)
     finally:
         client.close()
@@ -184,8 +189,9 @@ def tried(number, rows):
 
 
 def all_tried(rows, kinds):
-    """Has each allocation refused in turn. Gives in how many runs, none of whose replies tells of it, some answer was
-    found otherwise than with ample memory, so without what is kept beside the store."""
+    """Has each allocation refused in turn. Gives in how many runs, none of whose replies tells of it, some answer that
+    had ample memory was found otherwise than in a run with ample memory, so without what is kept beside the store; and
+    whether the last allocation was reached."""
     dropped, (_, ample) = 0, tried(0, rows)
     for number in range(FIRST, LAST + 1):
         try:
@@ -194,15 +200,18 @@ def all_tried(rows, kinds):
         except (AssertionError, ValueError, KeyError) as fault:
             sys.exit(f"allocation {number}: {fault}")
         if kind is None:
-            break
+            return dropped, True
         kinds[kind] += 1
-        dropped += kind == "not noticed" and left[0] != ample[0]
-    return dropped
+        dropped += kind == "not noticed" and any(it not in (None, of) for it, of in zip(left[0], ample[0]))
+    return dropped, False
 
 
 ASKED, kinds = Asked(), dict.fromkeys(KINDS, 0)
-dropped = all_tried(inputs(), kinds)
+dropped, reached_last = all_tried(inputs(), kinds)
 told = ", ".join(f"{it} {kind}" for kind, it in kinds.items())
 print(f"{sum(kinds.values())} allocations refused in turn, nothing lost: {told}")
 print(f"{dropped} of those not noticed had what is kept beside the store dropped, till a later change")
+missing = [kind for kind in WANTED if not {**kinds, DROPPED: dropped}[kind]]
+if missing and reached_last and FIRST == 1:
+    sys.exit(f"expected in some run, and came in none: {', '.join(missing)}")
 P

@@ -16,6 +16,7 @@
 - Lines of specs/ and src/ have at most 120 characters, but for those of LONG.
 - docs/codes.md has a row for each number that an arm of a `fn code` of the code gives, and for each that a body is refused with (`BodyFault::Refused`);
   of the statuses of HTTP for those that stand in the place of a code. That a row says what the number means is for a reader.
+- Of a program whose stdout has a case and its outcome in a line, stdin has these lines without the outcomes.
 Standard library alone.
 """
 import os
@@ -26,7 +27,7 @@ TOP = os.path.dirname(os.path.dirname(os.path.abspath(__file__)))
 sys.path.insert(0, f"{TOP}/tools")
 import made_docs  # noqa: E402
 
-BESIDE = re.compile(r"_tests$|^rows$")
+BESIDE = re.compile(r"_tests$|^rows$|^site_rows$")
 # statuses that are told of no refusal, or beside a code of the site
 BESIDE_CODES = {"200", "409", "422", "503"}
 INSIDE = re.compile(r"(?<![\w/.])((?:specs|proofs|src|must-fail|wrong-bodies)/[\w./-]*\w)(?![\w*])")
@@ -35,6 +36,8 @@ NAMED = re.compile(r"(?<![\w/.])((?:docs|bench|tools|examples|rows)/[\w./-]*\w|c
 # what the small program reads stands on names and entities, of the room that its own room is below
 ACROSS = {"decision_texts"}
 MOST_BYTES = 150_000
+# between a case and its outcome
+ARROW = "  ->  "
 
 # lines of specs/ and src/ that are longer: texts that are printed or read, attributes, which stand on one line, and an import
 LONG = {
@@ -178,6 +181,15 @@ def about_codes():
     yield from (f"docs/codes.md has no row for {it}" for it in sorted(coded - told - BESIDE_CODES, key=int))
 
 
+def about_cases():
+    for name in crates():
+        wanted, given = f"crates/{name}/stdout", f"crates/{name}/stdin"
+        if os.path.exists(f"{TOP}/{wanted}") and ARROW in text_of(wanted):
+            lines = [it if it.startswith("#") or ARROW not in it else it.rpartition(ARROW)[0] for it in text_of(wanted).split("\n")]
+            if lines != text_of(given).split("\n"):
+                yield f"{given} is not what sed '/^#/!s/^\\(.*\\)  ->  .*$/\\1/' makes of {wanted}"
+
+
 def about_reading():
     text, (files, types) = text_of("docs/reading.md"), made_docs.reached()
     count = f"{sum(map(len, files.values()))} files of specs/, {sum(sum(it.values()) for it in files.values())} lines of definitions"
@@ -195,7 +207,7 @@ def about_reading():
 
 def main():
     found = [*about_rooms(), *about_crates(), *about_paths(), *about_numbers(), *about_lines(), *about_long_lines(), *about_codes()]
-    found += [*made_docs.stale(), *about_reading()]
+    found += [*about_cases(), *made_docs.stale(), *about_reading()]
     print("\n".join(found) or "documents: as they should be")
     return 1 if found else 0
 

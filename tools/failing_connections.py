@@ -17,21 +17,30 @@ it gives the stated bytes is told by rows/streams.txt):
 Behind each kind of failures the site has as many open files as behind its first connection. So it is with streams that
 are cut off, refused or ended by a request, of which it is stated in how many reads of 7 bytes they are read. Of some
 failures it is stated what goes out, and of some streams how much is left unread. The reads and writes of `pull` fail in
-turn, too: it tells of each, and writes no state. A small library before the C library, bench/fail.c, has a call fail.
-Needs `cc`. The last line is `N passed, M failed`, of the kinds of failures and the stated ones.
+turn, too: it tells of each, and writes no state.
+
+Connections fail before they stand, too, so many in a row: that counts as no connection served, the first of a row is
+warned of and no other, and the next client is served. A site that may open no file more while a client waits neither
+spins nor ends, and serves that client once it may.
+
+A small library before the C library, bench/fail.c, has a call fail. Needs `cc`. The last line is `N passed, M failed`,
+of the kinds of failures and the stated ones.
 """
 import collections
 import mmap
 import os
+import resource
+import socket
 import struct
 import subprocess
 import sys
+import time
 
 sys.dont_write_bytecode = True
 
 import tried
 from row_commands import Peer
-from row_sites import Processes, Site, request, sent
+from row_sites import HOST, PATIENCE, Processes, Site, connected, listening, request, sent, to_end
 
 TOP = os.path.dirname(os.path.dirname(os.path.abspath(__file__)))
 PUT = request("PUT", "/v1/policies/p", b"permit(principal, action, resource);")
@@ -42,14 +51,17 @@ STREAMS = {
 }
 STATE = request("GET", "/v1/state")
 NO_POLICY = request("GET", "/v1/policies/a")
+NO_POLICY_REPLY = (
+    b"HTTP/1.1 404 Not Found\r\nContent-Type: application/json\r\nContent-Length: 48\r\n\r\n"
+    b'{"error":{"code":60,"place":null,"within":null}}'
+)
 # a connection each, at a site with nothing stored: the requests, which call fails at what sizes of calls, what goes out,
 # and how many bytes are unread
 STATED = {
     "the second read of 64 bytes fails, within a put": (
         (NO_POLICY, PUT),
         {"most_read": 64, "failing_read": 2},
-        b"HTTP/1.1 404 Not Found\r\nContent-Type: application/json\r\nContent-Length: 48\r\n\r\n"
-        b'{"error":{"code":60,"place":null,"within":null}}',
+        NO_POLICY_REPLY,
         54,
     ),
     "the second write of 100 bytes fails, before a put is read": (
@@ -109,14 +121,20 @@ UNREAD = (
 )
 LABEL = b"44136fa355b3678a1146ad16f7e8649e94fb4fc21fe77e8310c060f61caaff8a"
 NO_NEWS = b'{"entries":[],"kind":"delta","schema":"%s","version":2}' % LABEL
+# how many connections fail in a row before each one that a site serves
+UNACCEPTED = ((1,), (4,), (2, 0, 1))
+WARNING = "warning: accept failed, trying again: "
+# standard input, output and error, and where connections come to
+NO_FILE_MORE = ("sh", "-c", 'ulimit -S -n 4 && exec "$@"', "sh")
 # a stream that meets more calls than this is told as a fault
 MOST = 10_000
 
-# what bench/fail.c shares, of which the first four are asked, and the others tell what came of it
+# what bench/fail.c shares, of which the first five are asked, and the others tell what came of it
 Plan = collections.namedtuple(
     "Plan",
-    "failing_read failing_write most_read most_written reads writes given given_last taken failed later",
-    defaults=[0] * 11,
+    "failing_read failing_write most_read most_written failing_accepts"
+    " reads writes given given_last taken failed later",
+    defaults=[0] * 12,
 )
 PLAIN = Plan()
 
@@ -171,6 +189,9 @@ class Twins:
         self.program, self.folder, self.shared = program, folder, Shared(plan)
         self.told, self.out = PLAIN, b""
         self.failing, self.plain = Processes(LD_PRELOAD=library, FAILING=plan), Processes()
+        # for sites beside the two, so that none but them meets what is to fail there
+        self.others_shared = Shared(f"{folder}/others_plan")
+        self.others = Processes(LD_PRELOAD=library, FAILING=f"{folder}/others_plan")
         self.begin()
 
     def begin(self):
@@ -188,8 +209,8 @@ class Twins:
 
     def close(self):
         """Ends both."""
-        self.failing.close()
-        self.plain.close()
+        for processes in (self.failing, self.plain, self.others):
+            processes.close()
 
     def files_now(self):
         """How many files the first site has open, once a connection has ended."""
@@ -328,6 +349,57 @@ def pulled(twins, call):
     raise Fault("it calls without end")
 
 
+def unaccepted(twins, rows):
+    """Has so many connections fail in a row before each one that a site serves, which are all that it is to serve.
+    Raises `Fault`."""
+    twins.others_shared.ask(PLAIN._replace(failing_accepts=rows[0]))
+    process, port = listening(twins.others, twins.program, twins.schema, "1", "--connections", str(len(rows)))
+    came = []
+    try:
+        for more in (*rows[1:], 0):
+            with connected(port) as link, link.makefile("rb") as incoming:
+                link.sendall(NO_POLICY)
+                came.append(incoming.read(len(NO_POLICY_REPLY)))
+                # the site is at this connection, so those that fail are before the next one
+                twins.others_shared.ask(PLAIN._replace(failing_accepts=more))
+        process.wait(PATIENCE)
+    except (OSError, subprocess.TimeoutExpired) as fault:
+        came.append(fault)
+    end = twins.others.end(process)
+    warned = "\n".join(f"{WARNING}{HOST}:{port}" for row in rows if row)
+    if (came, end) != ([NO_POLICY_REPLY] * len(rows), (0, warned)):
+        raise Fault(f"{came} comes, and the site ends so: {end}")
+    return f"{len(rows)} served"
+
+
+def processor_time(process):
+    """The seconds of the processor that a process has taken."""
+    with open(f"/proc/{process.pid}/stat", encoding="utf-8") as file:
+        fields = file.read().rpartition(")")[2].split()
+    return (int(fields[11]) + int(fields[12])) / os.sysconf("SC_CLK_TCK")
+
+
+def without_files(twins):
+    """Begins a site that may open no file more, and lets a client wait; then it may again. Raises `Fault`."""
+    process, port = listening(twins.plain, twins.program, twins.schema, "1", before=NO_FILE_MORE)
+    try:
+        with connected(port) as link:
+            link.sendall(NO_POLICY)
+            began = processor_time(process)
+            time.sleep(2)
+            taken = processor_time(process) - began
+            most = resource.getrlimit(resource.RLIMIT_NOFILE)[1]
+            resource.prlimit(process.pid, resource.RLIMIT_NOFILE, (most, most))
+            link.shutdown(socket.SHUT_WR)
+            came = to_end(link)
+    except OSError as fault:
+        raise Fault(f"{type(fault).__name__}, and the site ends so: {twins.plain.end(process)}") from fault
+    _, told = twins.plain.end(process)
+    if taken > 0.2 or came != NO_POLICY_REPLY or told != f"{WARNING}{HOST}:{port}":
+        raise Fault(f"{taken} seconds of the processor, then {came!r}, and on standard error {told!r}")
+    return "served once it may open files"
+
+
 def all_kinds():
     """What is tried: its name, and what tries it."""
     for name, *kind in kinds():
@@ -342,6 +414,10 @@ def all_kinds():
         yield name, lambda twins, call=call: pulled(twins, call)
     for name, kind in STATED.items():
         yield name, lambda twins, kind=kind: stated(twins, *kind)
+    for kind in UNACCEPTED:
+        name = f"{', '.join(map(str, kind))} that fail before they stand, before each connection of {len(kind)}"
+        yield name, lambda twins, kind=kind: unaccepted(twins, kind)
+    yield "two seconds without a file to open, and a client that waits", without_files
 
 
 def rows(program, folder):

@@ -18,6 +18,8 @@ the allocations that are asked here, and counts all: so it is told whether an an
 - Index: policies that name others make no answer ask for more memory, nor do those that were taken away (against
   index_unused and index_offers_all).
 - Ancestors: no more does a longer way from an entity to the group that a policy names, but for the list of the groups.
+- Leaves: a new user in a group asks for no more memory beside 2,000 others than beside 50, but for what larger maps and
+  lists ask for (against closure_computed_anew); an answer asks for as much there.
 - New: a site that nothing was put into answers as it does behind a change, over so many actions in one another.
 - Upkeep: behind each change of a script an answer asks for as much as at a new site that took the whole state as one
   message; and so it does where what is kept was dropped before the change (against accelerators_stay_dropped).
@@ -26,18 +28,16 @@ Needs `cc`. The last line is `N passed, M failed`.
 """
 import json
 import mmap
-import os
 import random
 import struct
-import subprocess
 import sys
 
 sys.dont_write_bytecode = True
 
+import refusing
 import tried
 from row_sites import Processes, Site, label_of, policy_path
 
-TOP = os.path.dirname(os.path.dirname(os.path.abspath(__file__)))
 SHAPE = {
     "type": "Record",
     "attributes": {"name": {"type": "String"}, "age": {"type": "Long", "required": False}},
@@ -74,6 +74,9 @@ CHAIN_SCHEMA = {
         "actions": {**ACTIONS, f"w{GROUPS}": {}, "view": {"memberOf": [{"id": "w0"}], "appliesTo": USES}},
     }
 }
+# how many groups stand beside the one that a user is put into, in a small hierarchy and in a large one, and how many
+# users are in each; as many more are put then
+LEAF_GROUPS, LEAVES = (5, 200), 10
 STEPS = 1000
 # a seed, and how often two sites begin
 DRAWS = ((9, 40), (28, 40), (34, 40))
@@ -96,7 +99,7 @@ def compact(value):
 
 def drawn_requests():
     """The requests to draw from: methods, paths and bodies. The label in them is that of the schema above."""
-    with open(f"{TOP}/rows/drawn.json", encoding="utf-8") as file:
+    with open(f"{refusing.TOP}/rows/drawn.json", encoding="utf-8") as file:
         return [(method, path, *(it.encode() for it in body)) for method, path, *body in json.load(file)]
 
 
@@ -349,7 +352,8 @@ BASE = (
 
 
 def others():
-    """Ids and texts of policies for others than are asked of: an answer without the index lists them too, and asks for more."""
+    """Ids and texts of policies for others than are asked of: an answer without the index lists them too, and asks for
+    more."""
     return [(f"o{at}", f'permit(principal == User::"o{at}", action, resource);') for at in range(OTHERS)]
 
 
@@ -374,8 +378,8 @@ def index_is_used(sites):
 
 
 def drop(site, change, asked):
-    """Has a site drop its index, by a policy that is put while an allocation is refused, or its ancestors, by an entity:
-    one of the last is that for what is kept. Returns what an answer asks for then."""
+    """Has a site drop its index, by a policy that is put while an allocation is refused, or its ancestors, by an
+    entity: one of the last is that for what is kept. Returns what an answer asks for then."""
     site.given(change)
     kept, (_, count) = site.cost(asked), site.ask(change)
     for number in range(count, 0, -1):
@@ -398,6 +402,32 @@ def ancestors_are_used(sites):
     if dropped <= other + GROWTH:
         raise Fault(f"{dropped} allocations over {GROUPS} groups without what is kept")
     return f"{one} allocations over one group, {other} over {GROUPS}, and {dropped} without what is kept"
+
+
+def puts_at_leaf(site, groups):
+    """Puts so many groups into one, with users in each, and then further users into the first. Returns the most that
+    one of these asks for, and what an answer asks for then: it is found by the ancestors that are kept."""
+    site.given(put("t", 'permit(principal in Group::"top", action, resource);'), entity("Group", "top"))
+    for at in range(groups):
+        users = [entity("User", f"u{at}_{number}", f"l{at}") for number in range(LEAVES)]
+        site.given(entity("Group", f"l{at}", "top"), *users)
+    each = []
+    for at in range(LEAVES):
+        (status, body), count = site.ask(entity("User", f"new{at}", "l0"))
+        if status != 200:
+            raise Fault(f"a put at a leaf is answered {status} {body!r}")
+        each.append(count)
+    return max(each), site.cost(question("new0"))
+
+
+def leaves_are_cheap(sites):
+    """Whether a put at a leaf asks for as much memory in a large hierarchy as in a small one."""
+    few, many = (LEAVES * groups for groups in LEAF_GROUPS)
+    (small, answer), (large, other) = (puts_at_leaf(sites.begin(), groups) for groups in LEAF_GROUPS)
+    if large > small + GROWTH:
+        raise Fault(f"a put at a leaf: {large} allocations beside {many} users, and {small} beside {few}")
+    same(f"an answer beside {many} users", other, answer)
+    return f"at most {small} allocations beside {few} users, {large} beside {many}"
 
 
 def new_site_keeps(sites):
@@ -469,6 +499,7 @@ TRIES = (
     ("hierarchies", lambda sites: hierarchies_alike(sites, 1)),
     ("index", index_is_used),
     ("ancestors", ancestors_are_used),
+    ("leaves", leaves_are_cheap),
     ("new", new_site_keeps),
     ("upkeep", lambda sites: upkeep(sites, drops=False)),
     ("upkeep of what was dropped", lambda sites: upkeep(sites, drops=True)),
@@ -476,8 +507,7 @@ TRIES = (
 
 
 def rows(program, folder):
-    library = f"{folder}/refuse.so"
-    subprocess.run(["cc", "-O2", "-shared", "-fPIC", "-o", library, f"{TOP}/bench/refuse.c"], check=True)
+    refusing.library(folder)
     for schema, text in (("schema", SCHEMA), ("members", MEMBERS_SCHEMA), ("chain", CHAIN_SCHEMA)):
         with open(f"{folder}/{schema}", "wb") as file:
             file.write(json.dumps(text, separators=(",", ":")).encode())

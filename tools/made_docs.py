@@ -24,7 +24,7 @@ import reading_list  # noqa: E402
 
 TOP = reading_list.TOP
 WIDTH = 100
-TESTS = re.compile(r"_tests$|^rows$")
+TESTS = re.compile(r"_tests$|^rows$|^site_rows$")
 ITEM = re.compile(r"^pub (?:const )?(?P<kind>fn|struct|enum|trait|const|type) (?P<name>\w+)")
 METHOD = re.compile(r"^    (?P<pub>pub )?(?:const )?fn (?P<name>\w+)")
 IMPL = re.compile(r"^impl(?:<.*?>)? (?:(?P<trait>[\w:]+)(?:<.*>)? for )?(?P<type>\w+)")

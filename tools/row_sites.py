@@ -14,7 +14,7 @@ import threading
 import time
 import urllib.parse
 
-from row_texts import Kind, expanded
+from row_texts import Kind, expanded, rows_of
 
 HOST = "127.0.0.1"
 # in seconds: how long a site may take to listen, to answer or to end
@@ -96,12 +96,14 @@ def first_line(process):
     return line.decode(errors="replace").removesuffix("\n")
 
 
-def listening(processes, program, schema, name):
-    """Starts a site of this name under the schema of this file, and gives its process and its port."""
+def listening(processes, program, schema, name, *more, before=()):
+    """Starts a site of this name under the schema of this file, with these words more, behind those of what starts it
+    if that is another program, and gives its process and its port."""
     for _ in range(PORTS):
         port = free_port()
         address = f"{HOST}:{port}"
-        process = processes.start([program, "serve", "--schema", schema, "--site", name, "--listen", address])
+        words = [*before, program, "serve", "--schema", schema, "--site", name, "--listen", address, *more]
+        process = processes.start(words)
         if first_line(process) == f"listening {address}":
             return process, port
         status, told = processes.end(process)
@@ -630,9 +632,18 @@ class Sites(Served):
       between each two, they are sent together. An input is a word and what it is about: `put_policy ID TEXT`,
       `delete_policy ID`, `put_entity JSON`, `delete_entity TYPE ID`, `take MESSAGE`, `authorize JSON`, `get_policy ID`,
       `state`, `summary`, `delta SUMMARY`.
+
+    The same table is what the program `site_rows` prints. Its other rows, of contexts, worlds, streams, inputs that end
+    early and measures, are left out here.
     """
 
     BETWEEN = " ¶ "
+    OTHERS = ("context", "cuts", "prefixes", "reads", "serve", "standing", "tried", "world", "writes")
+
+    @staticmethod
+    def rows_of(table):
+        """The rows of sites in the text of a table."""
+        return [row for row in rows_of(table) if row.word not in Sites.OTHERS]
 
     def __init__(self, program, room):
         super().__init__(program, room)

@@ -3,11 +3,11 @@
 
     tools/rows.py PROGRAM [TABLE ..]        all tables of rows/, or those that are named
 
-A table rows/NAME.txt is plain text. An empty line, and one that begins with `#`, is a heading; every other line is
-`WORD TEXT  ->  EXPECTED`, parted at its last arrow. (The tables `merge` and `pull` have blocks of lines instead.) KINDS
-has the class that answers the rows of each table, and says what each word asks. Tables are tried side by side, as many
-as there are processors; the rows of one table in their order. The last line is `N passed, M failed`; the status is 1
-where a row came to something else than it should. Standard library alone.
+A table rows/NAME.txt (that of `sites` is crates/site_rows/stdout) is plain text. An empty line, and one that begins
+with `#`, is a heading; every other line is `WORD TEXT  ->  EXPECTED`, parted at its last arrow. (The tables `merge` and
+`pull` have blocks of lines instead.) KINDS has the class that answers the rows of each table, and says what each word
+asks. Tables are tried side by side, as many as there are processors; the rows of one table in their order. The last
+line is `N passed, M failed`; the status is 1 where a row came to something else than it should. Standard library alone.
 """
 import concurrent.futures
 import os
@@ -36,6 +36,8 @@ KINDS = {
     **row_sites.KINDS,
     **row_sound.KINDS,
 }
+# tables that stand elsewhere: they have what a program of the gate prints, too
+ELSEWHERE = {"sites": "crates/site_rows/stdout"}
 # how many characters of a text are shown
 SHOWN = 200
 # a row that takes so many seconds hangs, and those below it would, too
@@ -139,13 +141,13 @@ def try_all(tables, names):
 
 def path_of(name):
     """Where a table stands."""
-    return f"{TOP}/rows/{name}.txt"
+    return f"{TOP}/{ELSEWHERE.get(name, f'rows/{name}.txt')}"
 
 
 def table_names(words):
     """The tables that are named, or all of rows/ and all that there are kinds for. The largest come first."""
     names = {os.path.basename(word).removesuffix(".txt") for word in words}
-    stand = {name.removesuffix(".txt") for name in os.listdir(f"{TOP}/rows") if name.endswith(".txt")}
+    stand = {name.removesuffix(".txt") for name in os.listdir(f"{TOP}/rows") if name.endswith(".txt")} | set(ELSEWHERE)
     names = names or stand | set(KINDS)
     for name in sorted(names):
         if name not in KINDS or name not in stand:

@@ -18,12 +18,8 @@ use crate::pace::Pace;
 use kept_ancestors::KeptAncestors;
 use plain::NoMemory;
 use std::alloc::Global;
-use store_index::policy_grammar::Policy;
-use store_index::stamped_store::{Entry, PolicyStore};
-use store_index::stays;
-use stored_world::StoredEntities;
-use stored_world::entity_store::{Entity, world_under};
-use stored_world::schema::Schema;
+use store_index::{Entry, Policy, PolicyStore, stays};
+use stored_world::{Entity, Schema, StoredEntities, world_under};
 use values::EntityUid;
 
 /// Returns the ancestors of all entities of a store, made anew: one search for each entity and each action. Errors:

@@ -18,14 +18,10 @@ use crate::tries::Tries;
 use kept_ancestors::KeptAncestors;
 use plain::NoMemory;
 use std::alloc::Global;
-use store_index::policy_grammar::Policy;
-use store_index::scope_index::ScopeIndex;
-use store_index::stamped_store::PolicyStore;
-use stored_world::authoriser::{Answer, Known, decide_known};
-use stored_world::entity_store::{Entity, world_under};
-use stored_world::evaluator::Lookup;
-use stored_world::schema::Schema;
-use stored_world::{StoredEntities, policies_in};
+use store_index::{Policy, PolicyStore, ScopeIndex};
+use stored_world::{
+    Answer, Entity, Known, Lookup, Schema, StoredEntities, decide_known, policies_in, world_under,
+};
 use values::Request;
 
 /// What a store keeps is in the order of its names. Does nothing.

@@ -5,13 +5,11 @@ ghost use Rattle.kept_ancestors.specs.ancestor_closure.LeastCycle.{HasNoCycle, I
 ghost use Rattle.stored_world.specs.schema.Views.{schema_view};
 ghost use Rattle.accelerated_store.specs.inner.Following.{AreKeptOf};
 
-use kept_ancestors::KeptAncestors;
-use kept_ancestors::ancestor_closure::{Ancestry, Graph};
+use kept_ancestors::{Ancestry, Graph, KeptAncestors};
 use plain::NoMemory;
 use std::alloc::Global;
 use std::marker::Model;
-use stored_world::evaluator::Lookup;
-use stored_world::schema::Schema;
+use stored_world::{Lookup, Schema};
 use values::{EntityUid, Record};
 
 /// A world, and the ancestors that are kept of its edges: who is above whom is looked up, and nothing is searched

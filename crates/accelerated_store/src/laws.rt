@@ -1,8 +1,7 @@
 //! A law of the definitions; the function does nothing.
 ghost use Rattle.accelerated_store.specs.Candidates.{CandidatesSuffice};
 
-use stored_world::authoriser::{answers_are_lawful, scopes_do_not_err};
-use stored_world::evaluator::expressions_have_one_outcome;
+use stored_world::{answers_are_lawful, expressions_have_one_outcome, scopes_do_not_err};
 
 /// Deciding over some of the policies answers as deciding over all of them, where none is left out whose scope is true
 /// of the request. It does nothing; its contract is the law.

@@ -5,12 +5,10 @@ ghost use Rattle.stored_world.specs.TextsRead.{policies_read};
 ghost use Rattle.store_index.specs.Indexed.{AreIndexed};
 ghost use Rattle.accelerated_store.specs.Candidates.{AreCandidates, Ascend};
 
-use kept_ancestors::ancestor_closure::Ancestry;
+use kept_ancestors::Ancestry;
 use plain::NoMemory;
-use store_index::policy_grammar::Policy;
-use store_index::scope_index::ScopeIndex;
-use store_index::stamped_store::PolicyStore;
-use stored_world::entity_store::Entity;
+use store_index::{Policy, PolicyStore, ScopeIndex};
+use stored_world::Entity;
 use values::Request;
 
 /// Returns the policies that the index offers, ascending by id; none is looked up by its id. They are lent, not copied.

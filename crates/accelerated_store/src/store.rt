@@ -21,19 +21,12 @@ use crate::ancestors::{ancestors_of, take_entity, would_cycle_by};
 use crate::answering::{answer_by_kept, is_in_order};
 use crate::pace::Pace;
 use crate::tries::Tries;
-use kept_ancestors::ancestor_closure::ParentsOf;
-use kept_ancestors::{KeptAncestors, ancestor_closure};
+use kept_ancestors::{KeptAncestors, ParentsOf};
 use plain::{NoMemory, Shared};
 use std::alloc::Global;
 use std::marker::Model;
-use store_index::policy_grammar::Policy;
-use store_index::scope_index::ScopeIndex;
-use store_index::stamped_store::{Entry, PolicyStore, Readings};
-use store_index::{stand_index, take_policy};
-use stored_world::StoredEntities;
-use stored_world::authoriser::Answer;
-use stored_world::entity_store::{Entity, world_under};
-use stored_world::schema::Schema;
+use store_index::{Entry, Policy, PolicyStore, Readings, ScopeIndex, stand_index, take_policy};
+use stored_world::{Answer, Entity, Schema, StoredEntities, world_under};
 use values::{EntityUid, Request};
 
 /// A store under a schema. Contracts see these two.
@@ -105,7 +98,7 @@ fn is_on_cycle_in<G: ParentsOf>(alloc: Global, graph: &G, entity: &Entity) -> Re
     ensures { let changed = with_parents (G.parents graph.now) entity.now.uid entity.now.parents in
         IfOk result (λ yes. IsTrue yes ↔ IsOnCycle changed entity.now.uid) }
 {
-    ancestor_closure::would_cycle(alloc, graph, &entity.uid, entity.parents.as_slice())
+    kept_ancestors::would_cycle(alloc, graph, &entity.uid, entity.parents.as_slice())
 }
 
 /// Returns whether an entity is on a cycle once its edges are those that it states, the hierarchy searched in place.

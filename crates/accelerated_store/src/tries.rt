@@ -1,8 +1,7 @@
 //! Which policies are tried, and how many.
 
 use std::cell::Cell;
-use store_index::policy_grammar::{EntityScope, Policy};
-use store_index::stamped_store::Entry;
+use store_index::{EntityScope, Entry, Policy};
 
 /// How many policies an answer tried, and whether some policy that was handed in names a principal or a resource: as
 /// long as none does, an index offers them all, and listing what it offers would cost more than trying all of them.

@@ -306,8 +306,7 @@ fn has_none(
     uid: &EntityUid,
     parents: &[&EntityUid],
 ) -> bool
-    ensures parents { IsTrue result → names parents.now ≡ [] }
-    ensures ancestors { IsTrue result → ancestors_in relatives.now uid.now ≡ [] }
+    ensures { IsTrue result ↔ ((names parents.now ≡ []) × (ancestors_in relatives.now uid.now ≡ [])) }
 {
     if parents.is_empty() {
         return ancestors_at(relatives, uid).is_empty();
@@ -324,8 +323,8 @@ fn has_already(
 ) -> Result<bool, NoMemory>
     requires list { IsAscending (ancestors_in relatives.now uid.now) }
     requires parents { IsAscending (names parents.now) }
-    ensures { IfOk result (λ yes. IsTrue yes → (x : PlainUid) → Contains (names parents.now) x ↔
-        (Contains (ancestors_in relatives.now uid.now) x × Contains (children_in relatives.now x) uid.now)) }
+    ensures { IfOk result (λ yes. IsTrue yes ↔ ((x : PlainUid) → Contains (names parents.now) x ↔
+        (Contains (ancestors_in relatives.now uid.now) x × Contains (children_in relatives.now x) uid.now))) }
 {
     let name = shared(alloc, relatives, uid)?;
     let before = parents_before(alloc, relatives, &name)?;

@@ -9,7 +9,10 @@ mod lists;
 mod relatives;
 mod room;
 
-pub use ancestor_closure;
+pub use ancestor_closure::laws::paths_are_decided;
+pub use ancestor_closure::{
+    Ancestry, Changed, Graph, Hierarchy, ParentsOf, least_cycle_among, on_cycles, would_cycle,
+};
 pub use changing::{follow, make_room, parents_by};
 pub use children::add_to_all;
 pub use cycles::{are_none, members};

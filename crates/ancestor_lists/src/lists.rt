@@ -34,7 +34,7 @@ pub fn is_in(list: &[Shared<EntityUid>], uid: &EntityUid) -> bool
 /// Returns whether the entities are all in an ascending list.
 pub(crate) fn are_in(uids: &[&EntityUid], list: &[Shared<EntityUid>]) -> bool
     requires { IsAscending list.now }
-    ensures { IsTrue result → (x : PlainUid) → Contains (names uids.now) x → Contains list.now x }
+    ensures { IsTrue result ↔ ((x : PlainUid) → Contains (names uids.now) x → Contains list.now x) }
 {
     for uid in uids {
         if !is_in(list, uid) {
@@ -47,7 +47,7 @@ pub(crate) fn are_in(uids: &[&EntityUid], list: &[Shared<EntityUid>]) -> bool
 /// Returns whether all of a list are among these, which ascend.
 pub(crate) fn are_among(list: &[Shared<EntityUid>], uids: &[&EntityUid]) -> bool
     requires { IsAscending (names uids.now) }
-    ensures { IsTrue result → (x : PlainUid) → Contains list.now x → Contains (names uids.now) x }
+    ensures { IsTrue result ↔ ((x : PlainUid) → Contains list.now x → Contains (names uids.now) x) }
 {
     for uid in list {
         if !is_among(uids, uid.get()) {

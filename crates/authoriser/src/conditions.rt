@@ -12,7 +12,7 @@ use crate::scopes::is_scope_true;
 use evaluator::{EvalFault, Question, evaluate_asked_test};
 use expressions::Expr;
 use plain::NoMemory;
-use scope_index::policy_grammar::Policy;
+use scope_index::Policy;
 use std::alloc::Global;
 
 /// Returns the error that a fault of evaluating is, where it is not want of memory.

@@ -12,10 +12,9 @@ use crate::conditions::outcome_of;
 use crate::known::Known;
 use crate::remembering::Remembering;
 use crate::tally::Tally;
-use evaluator::Lookup;
-use evaluator::ancestor_closure::Ancestry;
+use evaluator::{Ancestry, Lookup};
 use plain::{Items, NoMemory};
-use scope_index::policy_grammar::Policy;
+use scope_index::Policy;
 use std::alloc::Global;
 use values::{EntityUid, Request};
 

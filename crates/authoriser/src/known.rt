@@ -3,8 +3,7 @@ ghost use Rattle.std.specs.Prelude.{◌≡◌, IfOk};
 ghost use Rattle.authoriser.specs.inner.Views.{HasRequestAncestors};
 
 use crate::request_entities::{RequestEntities, request_entities_of};
-use evaluator::ancestor_closure::{Ancestry, is_among};
-use evaluator::{Lookup, Question};
+use evaluator::{Ancestry, Lookup, Question, is_among};
 use expressions::Variable;
 use plain::NoMemory;
 use std::alloc::Global;

@@ -4,8 +4,7 @@ ghost use Rattle.authoriser.specs.Laws.{PermitsDecide, ErrorsAreReported};
 ghost use Rattle.authoriser.specs.Laws.{IdleChangesNothing, LeavingOutChangesNothing, OrderDoesNotMatter, ListsAscend};
 ghost use Rattle.authoriser.specs.Parts.{ScopesDoNotErr, TrueScopesLeaveToConditions, OtherScopesGiveFalse};
 
-use evaluator::ancestor_closure::laws::{cycles_have_one_least, paths_are_decided};
-use evaluator::expressions_have_one_outcome;
+use evaluator::{cycles_have_one_least, expressions_have_one_outcome, paths_are_decided};
 use values::sets_hold_their_members;
 
 // Answers differ in nothing but want of memory.

@@ -4,8 +4,7 @@ ghost use Rattle.authoriser.specs.inner.Views.{HasAllAbove};
 
 use crate::known::copied;
 use crate::others::{Other, Others};
-use evaluator::ancestor_closure::{Ancestry, is_among};
-use evaluator::{Lookup, Question};
+use evaluator::{Ancestry, Lookup, Question, is_among};
 use expressions::Variable;
 use plain::NoMemory;
 use std::alloc::Global;

@@ -5,8 +5,7 @@ ghost use Rattle.evaluator.specs.Operators.{World, world_of};
 ghost use Rattle.authoriser.specs.inner.Views.{IsWithin, HasItsAncestors, HasRequestAncestors, AllHaveTheirAncestors};
 ghost use Rattle.authoriser.specs.inner.Views.{HasItsAttributes, HasRequestAttributes, AllHaveTheirAttributes};
 
-use evaluator::Lookup;
-use evaluator::ancestor_closure::is_among;
+use evaluator::{Lookup, is_among};
 use plain::NoMemory;
 use std::alloc::Global;
 use values::{EntityUid, Record, Request};

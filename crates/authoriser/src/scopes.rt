@@ -6,7 +6,7 @@ ghost use Rattle.scope_index.specs.Scopes.{IsEntityScopeTrue, IsActionScopeTrue}
 ghost use Rattle.authoriser.specs.inner.Views.{IsWithin, AreAscending, IsTrueOf};
 
 use crate::request_entities::{KnownEntity, RequestEntities};
-use scope_index::policy_grammar::{ActionScope, EntityScope, Scope};
+use scope_index::{ActionScope, EntityScope, Scope};
 use values::EntityUid;
 
 // So few ancestors are compared one by one, ids first, which differ early; a search by halves compares types first.

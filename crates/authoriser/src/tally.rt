@@ -6,7 +6,7 @@ ghost use Rattle.authoriser.specs.inner.Views.{Counts, ids, faults};
 use crate::answer::{Answer, Decision, ErringPolicy};
 use crate::outcome::{Outcome, PolicyError};
 use plain::{Items, NoMemory, Text};
-use scope_index::policy_grammar::Effect;
+use scope_index::Effect;
 use std::alloc::Global;
 
 /// The ids of the satisfied permits and forbids, and the erring policies, each in the order in which they came.

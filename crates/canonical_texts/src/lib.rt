@@ -4,6 +4,7 @@
 
 mod laws;
 
-pub use entities;
-pub use entities::schema;
+pub use entities::{
+    Entity, EntityFault, Schema, bytes_have_one_outcome, canonical_text, read_entity,
+};
 pub use laws::{canonical_texts_are_read, json_texts_are_utf8};

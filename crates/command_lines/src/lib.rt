@@ -8,4 +8,4 @@ mod options;
 
 pub use fault::LineFault;
 pub use line::{Line, line_of};
-pub use stamped_store;
+pub use stamped_store::SiteName;

@@ -19,6 +19,7 @@ use Rattle.typed_readings.specs.expressions.declared.expr.Expr.{Expr}
 use Rattle.typed_readings.specs.expressions.declared.expr.Expr.TheVariants as form
 use Rattle.typed_readings.specs.policy_grammar.Whole.{truth, entity_literal, is_equal, expression_of}
 use Rattle.typed_readings.specs.evaluator.Outcomes.{holds}
+use Rattle.typed_readings.specs.evaluator.evaluation_steps.Attributes as stored
 use Rattle.typed_readings.specs.evaluator.Operators as operator
 use Rattle.typed_readings.specs.evaluator.Evaluation
 use Rattle.typed_readings.specs.evaluator.Evaluation.{EvaluatesTo}
@@ -195,7 +196,7 @@ aged_given : gives is_aged true
 aged_given =
     Evaluation.gives_binary binary.Less (form.Literal (literal.Long (pos 0))) (form.Field (form.Variable variable.Principal) (codes "age"))
     (Evaluation.gives_literal (literal.Long (pos 0)))
-    (Evaluation.gives_field (form.Variable variable.Principal) (codes "age") (Evaluation.gives_variable variable.Principal) (operator.attribute fields refl refl))
+    (Evaluation.gives_field (form.Variable variable.Principal) (codes "age") (Evaluation.gives_variable variable.Principal) (operator.of_entity (stored.attribute fields refl refl)))
     (operator.of_numbers (holds (omega (arith, ints))))
 
 policy_given : gives (expression_of policy) true

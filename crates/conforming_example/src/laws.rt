@@ -2,8 +2,7 @@
 ghost use Rattle.conforming_example.specs.Something.{SomethingIsStated, SomethingIsRead, SomethingConformsUnderASchema};
 ghost use Rattle.conforming_example.specs.Something.{SomethingPasses, SomethingIsRefused};
 
-use typed_readings::uid_json::names_read_back;
-use typed_readings::what_is_read_conforms;
+use typed_readings::{names_read_back, what_is_read_conforms};
 use values::paths_are_told;
 
 /// What is said of schemas that bytes state, and of what conforms to one, is said of something: these bytes state a

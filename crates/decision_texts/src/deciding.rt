@@ -15,7 +15,7 @@ use authoriser::{Answer, decide};
 use entity_worlds::{EntityStore, NoActions, World};
 use plain::{NoMemory, beside};
 use std::alloc::Global;
-use uid_json::policy_grammar::Policy;
+use uid_json::Policy;
 use values::Request;
 
 /// Returns the policies by reference, in the same order.

@@ -3,8 +3,7 @@ ghost use Rattle.decision_texts.specs.Outcomes.{OneLine, NotBoth, OneRefusal, Li
 ghost use Rattle.decision_texts.specs.Outcomes.{ListsOfLinesAscend};
 
 use authoriser::answers_are_lawful;
-use uid_json::names_read_back;
-use uid_json::policy_grammar::{file_names_differ, texts_have_one_reading};
+use uid_json::{file_names_differ, names_read_back, texts_have_one_reading};
 
 /// Proves that three texts come to exactly one thing, a line or a refusal, and that the ids in an answer's line ascend.
 /// It does nothing; its clauses are laws of the definitions.

@@ -11,12 +11,13 @@ mod refusal;
 mod request;
 mod store;
 
-pub use authoriser;
+pub use authoriser::Answer;
 pub use deciding::{decide_texts, in_order};
-pub use json_values;
+pub use json_values::{Member, Members, Scratch, members_of, read_json_by};
 pub use laws::texts_have_one_outcome;
 pub use lines::answer_line;
 pub use policies::policies_in;
 pub use refusal::{Refusal, error_line};
-pub use uid_json;
-pub use uid_json::policy_grammar;
+pub use uid_json::{
+    MOST_ID_BYTES, MOST_POLICY_BYTES, Policy, ReadFault, read_uid, texts_have_one_reading,
+};

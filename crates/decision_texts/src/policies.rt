@@ -7,7 +7,7 @@ ghost use Rattle.decision_texts.specs.Refusals.{no_memory};
 
 use crate::refusal::Refusal;
 use std::alloc::Global;
-use uid_json::policy_grammar::{MOST_FILE_BYTES, Policy, ReadFault, parse_policies};
+use uid_json::{MOST_FILE_BYTES, Policy, ReadFault, parse_policies};
 
 /// Returns a fault of the policies' text (10 to 19, or 1) as a refusal, at the same byte.
 fn refusal_by(fault: ReadFault) -> Refusal

@@ -7,11 +7,13 @@ use Rattle.desugaring.specs.declared.fault.DesugarFault.{DesugarFault}
 use Rattle.desugaring.specs.declared.fault.DesugarFault.TheVariants.{RepeatedKey}
 use Rattle.desugaring.specs.Refused.{earlier_of, least}
 use Rattle.desugaring.specs.Repeats.{NameAt, StandsAgain, places_of, repeats, repeat_faults, RepeatsStandAgain, RepeatsAreReported}
-use Rattle.desugaring.specs.inner.Searching.{IsLeast, ReportsLeast, lesser_of, repeat_fault}
+use Rattle.expression_trees.specs.Repeats.{IsLeast, ReportsLeast}
+use Rattle.expression_trees.specs.inner.Lesser.{lesser_of}
+use Rattle.desugaring.specs.inner.Searching.{repeat_fault}
 use Rattle.std.proofs.lemmas.List.Elements.{Contains-append_left, Contains-append_right, Contains-append_cases}
 use Rattle.plain.proofs.Members.{Contains-here, Contains-there, Contains-cases, Contains-none}
 use Rattle.desugaring.proofs.AgainFront.{Later, again-there, again-here, again-front, again-none}
-use Rattle.desugaring.proofs.Repeating.{tells-same, tells-both}
+use Rattle.expression_trees.proofs.Repeating.{tells-same, tells-both}
 
 -- ---- as a list
 

@@ -13,8 +13,7 @@ ghost use Rattle.desugaring.specs.inner.WellFormed.{TokenIn, KeyIn, PathIn};
 
 use crate::pairs::{all_three, both};
 use crate::words::{name, path_type, pattern, sign};
-use expression_trees::policy_tokens::Token;
-use expression_trees::{Comparison, KeyTree, PathTree, Sign};
+use expression_trees::{Comparison, KeyTree, PathTree, Sign, Token};
 use expressions::{Binary, Expr, Named, Unary};
 use plain::{Items, NoMemory, Text, beside};
 use std::alloc::Global;

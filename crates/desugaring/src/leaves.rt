@@ -13,8 +13,7 @@ ghost use Rattle.desugaring.specs.inner.WellFormed.{TokenIn, UidIn};
 
 use crate::numbers;
 use crate::words::{path_type, string};
-use expression_trees::UidTree;
-use expression_trees::policy_tokens::{Token, spelling};
+use expression_trees::{Token, UidTree, spelling};
 use expressions::{Expr, Literal, Variable};
 use plain::{NoMemory, Text};
 use std::alloc::Global;

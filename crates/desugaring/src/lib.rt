@@ -17,9 +17,12 @@ mod repeats;
 mod whole;
 mod words;
 
-pub use expression_trees::policy_tokens;
+pub use expression_trees::{
+    LexFault, NameAt, Token, TokenKind, decode_string, lexing_is_unique, spelling,
+    strings_have_one_meaning, tokens,
+};
 pub use fault::{DesugarFault, earlier_of};
 pub use laws::{least_fault_is_told, measures_add_up, repeats_stand_again, strings_are_read};
 pub use measure::Measure;
-pub use repeats::{NameAt, first_duplicate};
+pub use repeats::first_duplicate;
 pub use whole::{build_expr, measure_expr, type_name};

@@ -1,56 +1,23 @@
-//! Names that stand a second time, and where first.
+//! Names that stand a second time, as faults.
 ghost use Rattle.std.specs.Prelude.{◌≡◌, IfOk, map};
 ghost use Rattle.std.specs.List.{AllByRecursion};
 ghost use Rattle.desugaring.specs.inner.WellFormed.{WellFormedEntry};
 ghost use Rattle.desugaring.specs.Refused.{least};
-ghost use Rattle.desugaring.specs.Repeats.{NameAt, StandsAgain, repeat_faults, abstract_names};
+ghost use Rattle.desugaring.specs.Repeats.{repeat_faults, abstract_names};
 ghost use Rattle.desugaring.specs.Faults.{key_of};
-ghost use Rattle.desugaring.specs.inner.Searching.{ReportsLeast, lesser_of, repeat_fault, held};
+ghost use Rattle.desugaring.specs.inner.Searching.{repeat_fault, held};
 
 use crate::fault::DesugarFault;
 use crate::words::{name, place};
-use expression_trees::{Entry, ExprTree};
+use expression_trees::{Entry, ExprTree, NameAt, least_place};
 use plain::{NoMemory, Text};
 use std::alloc::Global;
-use std::collections::BTreeSet;
-
-/// A name, and the byte at which it stands.
-#[derive(Clone, Copy)]
-pub struct NameAt<'a> {
-    pub name: &'a str,
-    pub at: usize,
-}
 
 /// A key of a record, and the byte at which it stands.
 #[derive(Drop)]
 pub(crate) struct Key {
     name: Text,
     at: usize,
-}
-
-/// Returns the lesser place, where there is one.
-fn lesser(a: Option<usize>, b: Option<usize>) -> Option<usize>
-    ensures { result ≡ lesser_of a b }
-{
-    match (a, b) {
-        (Some(first), Some(second)) => Some(first.min(second)),
-        (None, other) => other,
-        (one, None) => one,
-    }
-}
-
-/// Returns the least place at which a name stands again.
-fn least_place(alloc: Global, marks: &[NameAt<'_>]) -> Result<Option<usize>, NoMemory>
-    ensures { IfOk result (ReportsLeast (StandsAgain (abstract_names marks.now))) }
-{
-    let mut seen = BTreeSet::new(alloc);
-    let mut least = None;
-    for mark in marks {
-        if !seen.insert(mark.name)? {
-            least = lesser(least, Some(mark.at));
-        }
-    }
-    Ok(least)
 }
 
 /// Returns a place at which a name stands again, as a fault.

@@ -10,8 +10,7 @@ ghost use Rattle.desugaring.specs.inner.WellFormed.{TokenIn, KeyIn, PathIn};
 ghost use Rattle.desugaring.specs.Strings.{value_of, pattern_of};
 ghost use Rattle.desugaring.specs.Meaning.{sign_of, path_name, name_of, place_of};
 
-use expression_trees::policy_tokens::{Token, decode_pattern, decode_string, spelling};
-use expression_trees::{KeyTree, PathTree, Sign};
+use expression_trees::{KeyTree, PathTree, Sign, Token, decode_pattern, decode_string, spelling};
 use expressions::{Binary, Pattern};
 use plain::{NoMemory, Text};
 use std::alloc::Global;

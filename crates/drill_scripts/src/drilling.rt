@@ -9,9 +9,7 @@ ghost use Rattle.drill_scripts.specs.inner.Under.{IsDrilledUnder};
 use crate::reporting::world_lines;
 use crate::whole::read_script;
 use plain::{NoMemory, Shared};
-use policy_checks::decision_texts::Refusal;
-use policy_checks::schema::Schema;
-use policy_checks::schema_in;
+use policy_checks::{Refusal, Schema, schema_in};
 use site_worlds::{Event, simulate};
 use std::alloc::Global;
 

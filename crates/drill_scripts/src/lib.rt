@@ -9,4 +9,4 @@ mod split;
 mod whole;
 
 pub use drilling::drill_text;
-pub use policy_checks::decision_texts::Refusal;
+pub use policy_checks::Refusal;

@@ -13,7 +13,7 @@ ghost use Rattle.drill_scripts.specs.inner.Reading.{IsReadAs, IsLineRead, AreByt
 use crate::made::Made;
 use json_words::{read_json, text_at, write_json};
 use plain::{Items, NoMemory, Text};
-use policy_checks::uid_json::read_uid;
+use policy_checks::read_uid;
 use serde_json::Value;
 use site_worlds::{Deed, Event};
 use std::alloc::Global;

@@ -12,13 +12,10 @@ ghost use Rattle.drill_scripts.specs.inner.Ended.{AreTold, IsToldOf, ended};
 
 use json_words::write_json;
 use plain::NoMemory;
-use policy_checks::authoriser::Answer;
-use policy_checks::decision_texts::answer_line;
+use policy_checks::{Answer, answer_line};
 use serde_json::{Value, json};
-use service_replies::stamped_store::Stamp;
-use service_replies::{LINE_ROOM, report_fault, report_put, report_stamp, report_taken};
-use site_worlds::site_runs::{Put, Taken};
-use site_worlds::{EventReply, Reply, Site, SiteFault, World};
+use service_replies::{LINE_ROOM, Stamp, report_fault, report_put, report_stamp, report_taken};
+use site_worlds::{EventReply, Put, Reply, Site, SiteFault, Taken, World};
 use std::alloc::Global;
 
 // ---- one line

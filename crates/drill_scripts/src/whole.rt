@@ -6,7 +6,7 @@ ghost use Rattle.drill_scripts.specs.Scripts.{AreEventsOf, IsScriptRefused};
 use crate::made::{Made, after_deed};
 use crate::one_line::said_of;
 use crate::split::first_line;
-use policy_checks::decision_texts::Refusal;
+use policy_checks::Refusal;
 use site_worlds::Event;
 use std::alloc::Global;
 

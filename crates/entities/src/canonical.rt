@@ -12,8 +12,7 @@ use entity_worlds::Entity;
 use json::Writer;
 use plain::NoMemory;
 use std::alloc::Global;
-use typed_values::uid_json::write_uid;
-use typed_values::write_record;
+use typed_values::{write_record, write_uid};
 use values::EntityUid;
 
 /// So much room is made at once for a text, in bytes: most entities take less, and their texts do not grow.

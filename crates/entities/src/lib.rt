@@ -17,11 +17,13 @@ mod uid_set;
 
 pub use canonical::canonical_text;
 pub use contexts::read_context;
-pub use entity_worlds;
-pub use entity_worlds::Entity;
+pub use entity_worlds::{ActionSource, Entity, EntityData, EntitySource, EntityStore, World};
 pub use fault::EntityFault;
 pub use laws::{action_types_are_told, entities_read_back, requests_have_one_outcome};
 pub use reading::read_entity;
 pub use requests::read_request;
-pub use schema;
-pub use typed_values::policy_grammar;
+pub use schema::{
+    Environment, Schema, SchemaFault, bytes_have_one_outcome, read_schema,
+    stated_schemas_are_well_formed,
+};
+pub use typed_values::{ActionScope, EntityScope, Policy, Scope};

@@ -20,7 +20,7 @@ use schema_types::CedarType;
 use serde_json::Value;
 use std::alloc::Global;
 use std::cmp::Ordering;
-use typed_values::uid_json::read_name;
+use typed_values::read_name;
 use values::{EntityUid, Record, Request};
 
 /// Who asks, what for, and of what.

@@ -11,7 +11,6 @@ use json_words::only_keys;
 use plain::Items;
 use serde_json::Value;
 use std::alloc::Global;
-use typed_values::uid_json;
 use values::EntityUid;
 
 /// The name of an entity and its parents, as its JSON states them.
@@ -25,7 +24,7 @@ pub struct StatedEntity {
 fn read_uid(alloc: Global, value: &Value) -> Result<EntityUid, EntityFault>
     ensures { ReadsAs EntityFault.NoMemory (λ u. u) result (stated_uid (view value.now)) }
 {
-    match uid_json::read_uid(alloc, value)? {
+    match typed_values::read_uid(alloc, value)? {
         Some(uid) => Ok(uid),
         None => Err(EntityFault::BadShape),
     }
@@ -35,7 +34,7 @@ fn read_uid(alloc: Global, value: &Value) -> Result<EntityUid, EntityFault>
 fn parent_uids(alloc: Global, values: &[Value]) -> Result<Items<EntityUid>, EntityFault>
     ensures { ReadsAs EntityFault.NoMemory (λ us. us) result (uids_of (items_view values.now)) }
 {
-    match uid_json::read_uids(alloc, values)? {
+    match typed_values::read_uids(alloc, values)? {
         Some(uids) => Ok(uids),
         None => Err(EntityFault::BadShape),
     }

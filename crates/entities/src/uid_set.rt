@@ -2,7 +2,7 @@
 ghost use Rattle.std.specs.Prelude.{◌≡◌, IfOk};
 ghost use Rattle.entity_worlds.specs.UidSets.{uid_set};
 
-use entity_worlds::ancestor_closure::laws::ascending_lists_are_one;
+use entity_worlds::ascending_lists_are_one;
 use plain::{Items, NoMemory};
 use values::{EntityUid, entity_uids_are_ordered};
 

@@ -85,9 +85,7 @@ module _ (stored : EntityUid → Option (List Field)) (P Q : Parents) (alike : L
   field : (name : List ℕ) (v : PlainValue) (r : EvaluationResult) → FieldGives W name v r → FieldGives V name v r
   field name _ _ (op.field f) = op.field f
   field name _ _ (op.no_field f) = op.no_field f
-  field name _ _ (op.attribute fs s f) = op.attribute fs s f
-  field name _ _ (op.no_attribute fs s f) = op.no_attribute fs s f
-  field name _ _ (op.not_stored s) = op.not_stored s
+  field name _ _ (op.of_entity g) = op.of_entity g
   field name _ _ (op.field_of_other n m) = op.field_of_other n m
 
   has : (name : List ℕ) (v : PlainValue) (r : EvaluationResult) → HasGives W name v r → HasGives V name v r

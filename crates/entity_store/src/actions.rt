@@ -2,8 +2,7 @@
 ghost use Rattle.std.specs.Prelude.{◌≡◌};
 ghost use Rattle.entity_store.specs.Entities.{actions_under, action_uids, actions_are_listed};
 
-use entities::entity_worlds::ActionSource;
-use entities::schema::{Schema, stated_schemas_are_well_formed};
+use entities::{ActionSource, Schema, stated_schemas_are_well_formed};
 use std::marker::Model;
 use values::EntityUid;
 

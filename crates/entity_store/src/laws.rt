@@ -2,8 +2,7 @@
 ghost use Rattle.entity_store.specs.Laws.{ReachDecides, MemberOfIsKept, MemberOfLeadsAlike, MemberOfGivesAlike};
 ghost use Rattle.entity_store.specs.Laws.{MemberOfAnswersAlike, MemberOfPutsAlike, NoEntityIsAnAction};
 
-use entities::action_types_are_told;
-use entities::schema::stated_schemas_are_well_formed;
+use entities::{action_types_are_told, stated_schemas_are_well_formed};
 
 /// Proves that what expressions give follows from the attributes of the entities and from who is above whom, whichever
 /// edges lead there; and what is answered too, where no entity is on a cycle. Where one is, the answer names a cycle,

@@ -2,15 +2,13 @@
 ghost use Rattle.std.specs.Prelude.{◌≡◌};
 
 use crate::actions::SchemaActions;
-use entities::entity_worlds;
-use entities::entity_worlds::EntitySource;
-use entities::schema::Schema;
+use entities::{EntitySource, Schema};
 use std::alloc::Global;
 
 /// The entities of a source, and the actions of a schema.
 ///
 /// Contracts see the source and the schema, and speak of the entities that these say: `entities_under`.
-pub type World<'a, S> = entity_worlds::World<'a, S, SchemaActions<'a>>;
+pub type World<'a, S> = entities::World<'a, S, SchemaActions<'a>>;
 
 /// Returns the entities of a source, and the actions of this schema. Takes no memory.
 pub fn world_under<'a, S: EntitySource>(
@@ -20,5 +18,5 @@ pub fn world_under<'a, S: EntitySource>(
 ) -> World<'a, S>
     ensures { result ≡ (source.now, schema.now) }
 {
-    entity_worlds::World::new(alloc, source, SchemaActions::of(schema))
+    entities::World::new(alloc, source, SchemaActions::of(schema))
 }

@@ -4,7 +4,7 @@ ghost use Rattle.entity_worlds.specs.inner.EntityEdges.{entity_edges, edges_are_
 
 use crate::actions::ActionSource;
 use crate::source::EntitySource;
-use evaluator::ancestor_closure::{Graph, ParentsOf};
+use evaluator::{Graph, ParentsOf};
 use plain::NoMemory;
 use std::alloc::Global;
 use values::EntityUid;

@@ -5,7 +5,7 @@ ghost use Rattle.evaluator.specs.ancestor_closure.Hierarchy.{IsAscending, names}
 ghost use Rattle.entity_worlds.specs.Entities.{uids_with};
 
 use crate::actions::ActionSource;
-use evaluator::ancestor_closure::laws::ascending_lists_are_one;
+use evaluator::ascending_lists_are_one;
 use plain::NoMemory;
 use values::{EntityUid, entity_uids_are_ordered};
 

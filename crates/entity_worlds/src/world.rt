@@ -8,9 +8,8 @@ use crate::actions::ActionSource;
 use crate::alone::Alone;
 use crate::source::EntitySource;
 use crate::uids::with_actions;
-use evaluator::Lookup;
-use evaluator::ancestor_closure::{
-    Ancestry, Graph, ParentsOf, ancestors_of, is_above, least_cycle, on_cycles,
+use evaluator::{
+    Ancestry, Graph, Lookup, ParentsOf, ancestors_of, is_above, least_cycle, on_cycles,
 };
 use plain::NoMemory;
 use std::alloc::Global;

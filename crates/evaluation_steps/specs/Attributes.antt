@@ -1,18 +1,16 @@
--- What an attribute is by the attributes that are stored of an entity, or which of both is missing.
+-- What an attribute gives, by the attributes that are stored of its entity: one case a rule of the language.
 -- Sources: Cedar reference guide 4.0, "Operators and functions"; cedar-spec, cedar-lean/Cedar/Spec/Evaluator.lean
 -- (`attrsOf`, `getAttr`).
-use Rattle.std.specs.Prelude.{ℕ, List, Option, Some, None, Result, Ok, Err}
+use Rattle.std.specs.Prelude.{◌≡◌, ℕ, List, Option, Some, None, Result, Ok, Err}
 use Rattle.values.specs.Fields.{Field, find_field}
 use Rattle.values.specs.Values.{PlainValue}
-use Rattle.evaluation_steps.specs.declared.attributes.Missing.{Missing}
-use Rattle.evaluation_steps.specs.declared.attributes.Missing.TheVariants.{Entity, Attribute}
 
--- what was found among the attributes, or that there is no such one
-abbrev pub found_among : Option PlainValue → Result PlainValue Missing
-found_among None = Err Attribute
-found_among (Some v) = Ok v
-
--- the value under a name, where the entity is stored and has it
-abbrev pub attribute_in : Option (List Field) → List ℕ → Result PlainValue Missing
-attribute_in None name = Err Entity
-attribute_in (Some fields) name = found_among (find_field name fields)
+-- An entity of which these attributes are stored gives r under the name: its value, or `missing` where there is none.
+-- One that is not stored gives `unstored`, whatever the name.
+pub data AttributeGives {E : Type 0} (unstored missing : E) (stored : Option (List Field)) (name : List ℕ)
+    : Result PlainValue E → Type 0 where
+  attribute : {v : PlainValue} (fs : List Field) → stored ≡ Some fs → find_field name fs ≡ Some v
+      → AttributeGives unstored missing stored name (Ok v)
+  no_attribute : (fs : List Field) → stored ≡ Some fs → find_field name fs ≡ None
+      → AttributeGives unstored missing stored name (Err missing)
+  not_stored : stored ≡ None → AttributeGives unstored missing stored name (Err unstored)

@@ -23,8 +23,9 @@ use Rattle.expressions.specs.declared.operator.Unary.{Unary}
 use Rattle.expressions.specs.declared.operator.Unary.TheVariants.{Not, Negate, Like, Is}
 use Rattle.expressions.specs.declared.operator.Binary.{Binary}
 use Rattle.expressions.specs.declared.operator.Binary.TheVariants as ops
-use Rattle.evaluation_steps.specs.Attributes.{found_among}
-use Rattle.evaluator.specs.declared.fault.EvalFault.TheVariants.{AttrDoesNotExist, TypeError}
+use Rattle.evaluation_steps.specs.Attributes.{AttributeGives}
+use Rattle.evaluation_steps.specs.Attributes as of_stored
+use Rattle.evaluator.specs.declared.fault.EvalFault.TheVariants.{EntityDoesNotExist, AttrDoesNotExist, TypeError}
 use Rattle.evaluator.specs.Outcomes.{EvaluationResult, boolean_in, long_in, text_in, entity_uid_in, members_in}
 use Rattle.evaluator.specs.Outcomes.{record_fields_in}
 use Rattle.ancestor_closure.specs.Hierarchy.{IsIn}
@@ -33,7 +34,7 @@ use Rattle.evaluator.specs.Operators.{World, UnaryGives, BinaryGives, FieldGives
 use Rattle.evaluator.specs.Operators.{TakesSets}
 use Rattle.evaluator.specs.inner.Computing.{DecidedWorld, decided_world, and_then, demanded, two_demanded, truth}
 use Rattle.evaluator.specs.inner.Computing.{bounded, apply_unary, is_in, in_members, in_value, numbers, sets}
-use Rattle.evaluator.specs.inner.Computing.{apply_binary, found_or, value_or_fault, attribute, field_of, has_attribute}
+use Rattle.evaluator.specs.inner.Computing.{apply_binary, found_or, attribute, field_of, has_attribute}
 use Rattle.evaluator.specs.inner.Computing.{has_field}
 use Rattle.evaluator.proofs.ByKind.{boolean_cases, long_cases, text_cases, entity_cases, members_cases}
 use Rattle.evaluator.proofs.Telling.{tells_test, test_is, int_lt_iff, int_le_iff, comes_bounded, bounded_is}
@@ -115,6 +116,25 @@ all_entities (v ∷ vs) = entity_cases (λ v. ((us : List EntityUid) × (v ∷ v
 fault_anyway : {A : Type 0} (o : Option A) → and_then {A = A} {B = Bool} (demanded o) (λ b. Err TypeError) ≡ Err TypeError
 fault_anyway None = refl
 fault_anyway (Some a) = refl
+
+-- ---- what is stored of an entity
+
+found_gives : (stored : Option (List Field)) (name : List ℕ) (fs : List Field) (o : Option PlainValue) → stored ≡ Some fs → find_field name fs ≡ o
+    → AttributeGives EntityDoesNotExist AttrDoesNotExist stored name (found_or AttrDoesNotExist o)
+found_gives stored name fs None s e = of_stored.no_attribute fs s e
+found_gives stored name fs (Some v) s e = of_stored.attribute fs s e
+
+attribute_from : (stored : Option (List Field)) (name : List ℕ) (o : Option (List Field)) → stored ≡ o → AttributeGives EntityDoesNotExist AttrDoesNotExist stored name (attribute o name)
+attribute_from stored name None s = of_stored.not_stored s
+attribute_from stored name (Some fs) s = found_gives stored name fs (find_field name fs) s refl
+
+attribute_gives : (stored : Option (List Field)) (name : List ℕ) → AttributeGives EntityDoesNotExist AttrDoesNotExist stored name (attribute stored name)
+attribute_gives stored name = attribute_from stored name stored refl
+
+pub attribute_is : (stored : Option (List Field)) (name : List ℕ) (r : EvaluationResult) → AttributeGives EntityDoesNotExist AttrDoesNotExist stored name r → attribute stored name ≡ r
+attribute_is stored name _ (of_stored.attribute fs s e) = ap (λ o. attribute o name) s ∙ ap (found_or AttrDoesNotExist) e
+attribute_is stored name _ (of_stored.no_attribute fs s e) = ap (λ o. attribute o name) s ∙ ap (found_or AttrDoesNotExist) e
+attribute_is stored name _ (of_stored.not_stored s) = ap (λ o. attribute o name) s
 
 module _ (W : World) (above : EntityUid → EntityUid → Bool) (D : Decides W.parents above) where
   abbrev pub E : DecidedWorld
@@ -238,17 +258,9 @@ module _ (W : World) (above : EntityUid → EntityUid → Bool) (D : Decides W.p
   found_exists name fs None e = rule.no_field e
   found_exists name fs (Some v) e = rule.field e
 
-  attribute_found : (name : List ℕ) (u : EntityUid) (fs : List Field) (o : Option PlainValue) → W.stored u ≡ Some fs → find_field name fs ≡ o → FieldGives W name (entity u) (value_or_fault (found_among o))
-  attribute_found name u fs None s e = rule.no_attribute fs s e
-  attribute_found name u fs (Some v) s e = rule.attribute fs s e
-
-  attribute_exists : (name : List ℕ) (u : EntityUid) (s : Option (List Field)) → W.stored u ≡ s → FieldGives W name (entity u) (attribute s name)
-  attribute_exists name u None e = rule.not_stored e
-  attribute_exists name u (Some fs) e = attribute_found name u fs (find_field name fs) e refl
-
   pub field_exists : (name : List ℕ) (v : PlainValue) → FieldGives W name v (field_of E name v)
   field_exists name (record_of fs) = found_exists name fs (find_field name (pairs_of fs)) refl
-  field_exists name (entity u) = attribute_exists name u (W.stored u) refl
+  field_exists name (entity u) = rule.of_entity (attribute_gives (W.stored u) name)
   field_exists name (boolean b) = rule.field_of_other refl refl
   field_exists name (long z) = rule.field_of_other refl refl
   field_exists name (text t) = rule.field_of_other refl refl
@@ -269,9 +281,7 @@ module _ (W : World) (above : EntityUid → EntityUid → Bool) (D : Decides W.p
   pub field_is : (name : List ℕ) (v : PlainValue) (r : EvaluationResult) → FieldGives W name v r → field_of E name v ≡ r
   field_is name _ _ (rule.field {fs} {v} e) = ap (found_or AttrDoesNotExist) e
   field_is name _ _ (rule.no_field {fs} e) = ap (found_or AttrDoesNotExist) e
-  field_is name _ _ (rule.attribute {u} {v} fs s e) = ap (λ o. attribute o name) s ∙ ap (λ o. value_or_fault (found_among o)) e
-  field_is name _ _ (rule.no_attribute {u} fs s e) = ap (λ o. attribute o name) s ∙ ap (λ o. value_or_fault (found_among o)) e
-  field_is name _ _ (rule.not_stored {u} s) = ap (λ o. attribute o name) s
+  field_is name _ _ (rule.of_entity {u} {r} g) = attribute_is (W.stored u) name r g
   field_is name _ _ (rule.field_of_other {v} e f) = field_other_is name v e f
 
   has_exists_of : (name : List ℕ) (u : EntityUid) (s : Option (List Field)) → W.stored u ≡ s → HasGives W name (entity u) (truth (has_attribute s name))

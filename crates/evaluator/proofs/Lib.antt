@@ -1,3 +1,4 @@
+pub mod AfterFirst
 pub mod Agreeing
 pub mod Applied
 pub mod AppliedCalls

@@ -6,21 +6,16 @@ use Rattle.values.specs.Fields.{Field, find_field}
 use Rattle.values.specs.Values.{PlainValue, pairs_of-fields_of}
 use Rattle.expressions.specs.declared.leaf.Variable.{Variable}
 use Rattle.expressions.specs.declared.leaf.Variable.TheVariants.{Principal, Action, Resource, Context}
-use Rattle.evaluation_steps.specs.Attributes.{found_among}
 use Rattle.evaluator.specs.declared.fault.EvalFault.TheVariants.{AttrDoesNotExist}
 use Rattle.evaluator.specs.Asked.{fields_under}
 use Rattle.evaluator.specs.Evaluation.{variable_value}
-use Rattle.evaluator.specs.inner.Computing.{DecidedWorld, found_or, value_or_fault, attribute, field_of, truth, has_attribute, has_field}
-
-found_is : (o : Option PlainValue) → found_or AttrDoesNotExist o ≡ value_or_fault (found_among o)
-found_is None = refl
-found_is (Some v) = refl
+use Rattle.evaluator.specs.inner.Computing.{DecidedWorld, found_or, attribute, field_of, truth, has_attribute, has_field}
 
 pub field_under : (E : DecidedWorld) (q : Request) (x : Variable) (name : List ℕ) → field_of E name (variable_value x q) ≡ attribute (fields_under E.stored q x) name
 field_under E q Principal name = refl
 field_under E q Action name = refl
 field_under E q Resource name = refl
-field_under E q Context name = ap (λ (fs : List Field). found_or AttrDoesNotExist (find_field name fs)) (pairs_of-fields_of q.context) ∙ found_is (find_field name q.context)
+field_under E q Context name = ap (λ (fs : List Field). found_or AttrDoesNotExist (find_field name fs)) (pairs_of-fields_of q.context)
 
 pub has_under : (E : DecidedWorld) (q : Request) (x : Variable) (name : List ℕ) → has_field E name (variable_value x q) ≡ truth (has_attribute (fields_under E.stored q x) name)
 has_under E q Principal name = refl

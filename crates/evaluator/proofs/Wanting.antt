@@ -8,6 +8,7 @@ use Rattle.expressions.specs.declared.operator.Binary.TheVariants.{Less, LessOrE
 use Rattle.expressions.specs.declared.operator.UnaryCall.{UnaryCall}
 use Rattle.expressions.specs.declared.operator.BinaryCall.{BinaryCall}
 use Rattle.expressions.specs.declared.expr.Expr.{Expr}
+use Rattle.evaluation_steps.specs.Attributes.{attribute, no_attribute, not_stored}
 use Rattle.evaluator.specs.declared.fault.EvalFault.{EvalFault}
 use Rattle.evaluator.specs.declared.fault.EvalFault.TheVariants.{EntityDoesNotExist, AttrDoesNotExist, TypeError, ArithBoundsError, ExtensionError, NoMemory}
 use Rattle.evaluator.specs.Outcomes.{EvaluationResult, IsTruthOf, holds, fails, IsChecked, fits, overflows}
@@ -76,9 +77,9 @@ module _ (W : World) where
   of_field : (name : List ℕ) (v : PlainValue) (r : EvaluationResult) → FieldGives W name v r → IsProper r
   of_field name _ _ (op.field e) = tt
   of_field name _ _ (op.no_field e) = tt
-  of_field name _ _ (op.attribute fs s e) = tt
-  of_field name _ _ (op.no_attribute fs s e) = tt
-  of_field name _ _ (op.not_stored s) = tt
+  of_field name _ _ (op.of_entity (attribute fs s e)) = tt
+  of_field name _ _ (op.of_entity (no_attribute fs s e)) = tt
+  of_field name _ _ (op.of_entity (not_stored s)) = tt
   of_field name _ _ (op.field_of_other e f) = tt
 
   of_has : (name : List ℕ) (v : PlainValue) (r : EvaluationResult) → HasGives W name v r → IsProper r

@@ -7,4 +7,5 @@ pub mod Outcomes
 pub mod inner
 -- crates below, passed on to those above
 pub use Rattle.ancestor_closure.specs as ancestor_closure
+pub use Rattle.evaluation_steps.specs as evaluation_steps
 pub use Rattle.expressions.specs as expressions

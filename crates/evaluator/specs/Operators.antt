@@ -25,6 +25,7 @@ use Rattle.expressions.specs.declared.operator.UnaryCall.TheVariants.{IsMulticas
 use Rattle.expressions.specs.declared.operator.BinaryCall.{BinaryCall}
 use Rattle.expressions.specs.declared.operator.BinaryCall.TheVariants.{LessThan, LessThanOrEqual, GreaterThan}
 use Rattle.expressions.specs.declared.operator.BinaryCall.TheVariants.{GreaterThanOrEqual, IsInRange}
+use Rattle.evaluation_steps.specs.Attributes.{AttributeGives}
 use Rattle.evaluator.specs.declared.fault.EvalFault.TheVariants.{EntityDoesNotExist, AttrDoesNotExist, TypeError}
 use Rattle.evaluator.specs.declared.fault.EvalFault.TheVariants.{ExtensionError}
 use Rattle.evaluator.specs.Outcomes.{EvaluationResult, IsTruthOf, IsChecked, boolean_in, long_in, text_in}
@@ -111,11 +112,8 @@ pub data FieldGives (W : World) (name : List ℕ) : PlainValue → EvaluationRes
       → FieldGives W name (record_of fs) (Ok v)
   no_field : {fs : PlainFields} → find_field name (pairs_of fs) ≡ None
       → FieldGives W name (record_of fs) (Err AttrDoesNotExist)
-  attribute : {u : EntityUid} {v : PlainValue} (fs : List Field) → W.stored u ≡ Some fs → find_field name fs ≡ Some v
-      → FieldGives W name (entity u) (Ok v)
-  no_attribute : {u : EntityUid} (fs : List Field) → W.stored u ≡ Some fs → find_field name fs ≡ None
-      → FieldGives W name (entity u) (Err AttrDoesNotExist)
-  not_stored : {u : EntityUid} → W.stored u ≡ None → FieldGives W name (entity u) (Err EntityDoesNotExist)
+  of_entity : {u : EntityUid} {r : EvaluationResult}
+      → AttributeGives EntityDoesNotExist AttrDoesNotExist (W.stored u) name r → FieldGives W name (entity u) r
   field_of_other : {v : PlainValue} → record_fields_in v ≡ None → entity_uid_in v ≡ None
       → FieldGives W name v (Err TypeError)
 

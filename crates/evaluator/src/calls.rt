@@ -11,10 +11,7 @@ use crate::borrowed_or_owned::BorrowedOrOwned;
 use crate::fault::EvalFault;
 use crate::operands::{decimals_of, network_of, text_of};
 use expressions::{BinaryCall, UnaryCall};
-use values::Value;
-use values::extensions::decimal::one_decimal_a_text;
-use values::extensions::ip_net::one_network_a_text;
-use values::extensions::{Decimal, IpNet};
+use values::{Decimal, IpNet, Value, one_decimal_a_text, one_network_a_text};
 
 /// Returns the decimal of a text.
 fn read_decimal(text: &str) -> Result<Value, EvalFault>

@@ -8,7 +8,7 @@ use crate::fault::EvalFault;
 use crate::question::Question;
 use crate::steps::truth_of;
 use crate::testing::test_of;
-use evaluation_steps::decides_and;
+use evaluation_steps::decided_by_first;
 use expressions::Expr;
 use plain::Shared;
 use std::alloc::Global;
@@ -65,11 +65,10 @@ pub(crate) fn both_test<'a, L: Question>(
     ensures { let gives = meaning (L.asked store.now) (decided_world (L.stored store.now) (L.above store.now)) in
         Answers result (as_test (both (gives left.now) (gives right.now))) }
 {
-    let first = test_of(alloc, left.get(), store)?;
-    if decides_and(first) {
-        Ok(first)
-    } else {
-        test_of(alloc, right.get(), store)
+    let first = test_of(alloc, left.get(), store);
+    match decided_by_first(first) {
+        Some(outcome) => outcome,
+        None => test_of(alloc, right.get(), store),
     }
 }
 

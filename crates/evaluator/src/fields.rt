@@ -1,7 +1,7 @@
 //! The fields of records and the attributes of entities.
 ghost use Rattle.std.specs.Prelude.{◌≡◌, MatchResult, Ok, Err, option_map};
 ghost use Rattle.values.specs.BorrowedView.{of_borrowed};
-ghost use Rattle.evaluator.specs.inner.Computing.{decided_world, Answers, found_or, fault_of, attribute, field_of};
+ghost use Rattle.evaluator.specs.inner.Computing.{decided_world, Answers, found_or, attribute, field_of};
 ghost use Rattle.evaluator.specs.inner.Computing.{and_then, has_attribute, has_field, truth, TellsNumber};
 ghost use Rattle.evaluator.specs.Evaluation.{variable_value};
 
@@ -10,7 +10,7 @@ use crate::fault::EvalFault;
 use crate::lookup::Lookup;
 use crate::numbers::number_or_none;
 use crate::question::Question;
-use evaluation_steps::{Missing, attribute_in};
+use evaluation_steps::attribute_in;
 use expressions::Variable;
 use std::alloc::Global;
 use values::{BorrowedKind, EntityUid, Kind, Record, Value};
@@ -35,24 +35,15 @@ fn copy_found<'a>(alloc: Global, found: Option<&Value>) -> Result<BorrowedOrOwne
     }
 }
 
-/// Returns the error that it is where an entity is not stored, or has no such attribute.
-fn fault_by(missing: Missing) -> EvalFault
-    ensures { result ≡ fault_of missing }
-{
-    match missing {
-        Missing::Entity => EvalFault::EntityDoesNotExist,
-        Missing::Attribute => EvalFault::AttrDoesNotExist,
-    }
-}
-
 /// Returns the value of one among the fields, where it stands; without fields it is an entity that is not stored.
 fn attribute_at<'a>(fields: Option<&'a Record>, name: &str) -> Result<&'a Value, EvalFault>
     ensures { let due = attribute (option_map (λ r. r.now) fields.entry) name.now in
         MatchResult result (λ v. due ≡ Ok v.now) (λ e. due ≡ Err e) }
 {
-    match attribute_in(fields, name) {
+    let unstored = EvalFault::EntityDoesNotExist;
+    match attribute_in(fields, name, unstored, EvalFault::AttrDoesNotExist) {
         Ok(value) => Ok(value),
-        Err(missing) => Err(fault_by(missing)),
+        Err(fault) => Err(fault),
     }
 }
 

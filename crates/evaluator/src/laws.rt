@@ -3,9 +3,7 @@ ghost use Rattle.evaluator.specs.Laws.{HaveOneOutcome, HaveOneOutcomeInFiniteHie
 ghost use Rattle.evaluator.specs.inner.Meanings.{MeaningsAreGiven};
 
 use ancestor_closure::laws::paths_are_decided;
-use values::extensions::decimal::one_decimal_a_text;
-use values::extensions::ip_net::one_network_a_text;
-use values::sets_hold_their_members;
+use values::{one_decimal_a_text, one_network_a_text, sets_hold_their_members};
 
 /// What an expression computes is what it gives, and it gives nothing else, wherever a test decides who is above whom.
 pub(crate) fn meanings_are_given()

@@ -17,7 +17,12 @@ mod question;
 mod steps;
 mod testing;
 
-pub use ancestor_closure;
+pub use ancestor_closure::laws::{
+    ascending_lists_are_one, cycles_have_one_least, paths_are_decided,
+};
+pub use ancestor_closure::{
+    Ancestry, Graph, ParentsOf, ancestors_of, is_above, is_among, least_cycle, on_cycles,
+};
 pub use borrowed_or_owned::BorrowedOrOwned;
 pub use evaluating::{evaluate, evaluate_asked, evaluate_asked_test, evaluate_test};
 pub use fault::EvalFault;

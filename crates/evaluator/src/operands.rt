@@ -7,8 +7,7 @@ ghost use Rattle.evaluator.specs.inner.Computing.{demanded, two_demanded};
 use crate::borrowed_or_owned::BorrowedOrOwned;
 use crate::fault::EvalFault;
 use plain::Text;
-use values::extensions::{Decimal, IpNet};
-use values::{BorrowedKind, EntityUid, Set};
+use values::{BorrowedKind, Decimal, EntityUid, IpNet, Set};
 
 /// Returns the value as a boolean.
 pub(crate) fn boolean_of(given: &BorrowedOrOwned<'_>) -> Result<bool, EvalFault>

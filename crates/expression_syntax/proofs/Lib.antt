@@ -8,6 +8,7 @@ pub mod ExpressionRules
 pub mod PrimaryFirm
 pub mod ExpressionFirm
 pub mod ExpressionExact
+pub mod RelationsDerived
 pub mod Tails
 pub mod Unfollowed
 pub mod TreeWellFormed

@@ -22,6 +22,7 @@ use Rattle.expression_trees.specs.declared.tree.Variable.{Variable}
 use Rattle.expression_trees.specs.declared.tree.Variable.TheVariants as variable
 use Rattle.expression_trees.specs.token_readers.Kinds.{Kinds}
 pub use Rattle.expression_trees.specs.Patterns.{patterns}
+use Rattle.expression_trees.specs.Relations.{relation as one_tail}
 use Rattle.expression_trees.specs.token_readers.Lang.{Lang, of, one, empty, ◌>>=◌, ◌>>◌, ◌giving◌, ◌or◌, optional, many}
 use Rattle.expression_trees.specs.token_readers.Lang.{never}
 use Rattle.expression_trees.specs.token_readers.Lang.{at_any, gate}
@@ -264,12 +265,14 @@ module _ (may : Bool) (inner : Lang ExprTree) where
     y ← optional inside
     empty (is_in x type_name y)
 
+  -- a Sum with what may stand behind it
+  abbrev pub tailed : ExprTree → Lang ExprTree
+  tailed x = compared x or has x or like x or type_test x or empty x
+
   -- Relation = Sum [ ("<" | "<=" | ">" | ">=" | "==" | "!=" | "in") Sum
   --     | "has" (Ident | String) | "like" Pattern | "is" Path [ "in" Sum ] ]
   abbrev pub relation : Lang ExprTree
-  relation = do
-    x ← sum
-    compared x or has x or like x or type_test x or empty x
+  relation = one_tail sum tailed
 
   -- And = Relation { "&&" Relation }
   abbrev pub conjunction : Lang ExprTree

@@ -10,9 +10,7 @@ ghost use Rattle.expression_trees.specs.token_readers.Reads.{ReadsFrontWithin};
 ghost use Rattle.expression_trees.specs.token_readers.declared.fault.Halt.TheVariants as halt;
 
 use crate::primary::Reader;
-use expression_trees::ExprTree;
-use expression_trees::policy_tokens::TokenKind;
-use expression_trees::token_readers::{Cursor, Halt};
+use expression_trees::{Cursor, ExprTree, Halt, TokenKind};
 use plain::{Boxed, beside};
 use std::alloc::Global;
 

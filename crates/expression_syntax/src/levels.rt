@@ -7,8 +7,7 @@ ghost use Rattle.expression_trees.specs.declared.tree.ExprTree as trees;
 ghost use Rattle.expression_syntax.specs.Expressions.{joined};
 ghost use Rattle.expression_syntax.specs.inner.Chains.{chained, chained_on};
 
-use expression_trees::ExprTree;
-use expression_trees::token_readers::{Cursor, Halt, KindSet, read_many};
+use expression_trees::{Cursor, ExprTree, Halt, KindSet, read_many};
 use plain::{Boxed, Items, beside};
 use std::alloc::{AllocError, Global};
 

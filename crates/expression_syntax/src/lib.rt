@@ -15,12 +15,10 @@ mod symbols;
 mod token_sets;
 
 pub use expression::expr;
-pub use expression_trees::token_readers::{
-    Cursor, Halt, PathTree, SyntaxFault, UidTree, path, uid,
-};
 pub use expression_trees::{
-    Access, Comparison, Entry, ExprTree, KeyTree, Sign, Term, Variable, policy_tokens,
-    token_readers,
+    Access, Comparison, Cursor, Entry, ExprTree, Halt, KeyTree, KindSet, LexFault, NameSet,
+    PathTree, Sign, SyntaxFault, Term, Token, TokenKind, UidTree, Variable, lexing_is_unique, path,
+    read_many, read_more, read_to_end, tokens, uid,
 };
 pub use laws::expression_is_unique;
 pub use read::{NESTING_LIMIT, read_expression};

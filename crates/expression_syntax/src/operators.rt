@@ -2,6 +2,7 @@
 
 ghost use Rattle.std.specs.Prelude.{◌≡◌, IfOk};
 ghost use Rattle.expression_syntax.specs.ExpressionReading as spec;
+ghost use Rattle.expression_syntax.specs.Expressions as grammar;
 ghost use Rattle.expression_syntax.specs.Expressions.{is_positive, accessed};
 ghost use Rattle.expression_trees.specs.token_readers.ParsesTo.{ParsesTo};
 ghost use Rattle.expression_syntax.specs.inner.Nests.{Nests};
@@ -12,9 +13,10 @@ use crate::levels::{Level, chain};
 use crate::primary::{Reader, indexed};
 use crate::symbols::take_symbol;
 use crate::token_sets::TokenSet;
-use expression_trees::policy_tokens::{Token, TokenKind};
-use expression_trees::token_readers::{Cursor, Halt, NameSet};
-use expression_trees::{Access, ExprTree, KeyTree, Sign, Term};
+use expression_trees::{
+    Access, Cursor, ExprTree, Halt, KeyTree, NameSet, Related, Sign, Term, Token, TokenKind,
+    relation,
+};
 use plain::{Boxed, Items};
 use std::alloc::{AllocError, Global};
 
@@ -167,8 +169,7 @@ impl<F: Fn(Global, &mut Cursor<'_>, usize) -> Result<ExprTree, Halt>> Reader<F> 
         ensures { ParsesTo (spec.relation (is_positive self.now.levels) (spec.expr self.now.levels) tokens.old.rest.now)
             result tokens.new.rest.now }
     {
-        let x = self.sum(tokens)?;
-        self.related(tokens, x)
+        relation(tokens, &Relations(self))
     }
 
     /// Relation { "&&" Relation }
@@ -290,6 +291,30 @@ impl<F: Fn(Global, &mut Cursor<'_>, usize) -> Result<ExprTree, Halt>> Level for 
         ensures { result ≡ tree.Sum first more }
     {
         ExprTree::Sum(first, more)
+    }
+}
+
+/// Sums, and what may stand behind one.
+#[derive(Drop)]
+struct Relations<'r, F>(&'r Reader<F>);
+
+impl<F: Fn(Global, &mut Cursor<'_>, usize) -> Result<ExprTree, Halt>> Related for Relations<'_, F> {
+    ghost can_read = { λ s. Nests s.0.now.levels (F.pre s.0.now.expr) (F.post s.0.now.expr) };
+
+    ghost operands = { λ s. grammar.sum (is_positive s.0.now.levels) (grammar.expr s.0.now.levels) };
+
+    ghost tailed = { λ s. grammar.tailed (is_positive s.0.now.levels) (grammar.expr s.0.now.levels) };
+
+    ghost reads_operand = { λ s. spec.sum (is_positive s.0.now.levels) (spec.expr s.0.now.levels) };
+
+    ghost reads_tail = { λ s. spec.related (is_positive s.0.now.levels) (spec.expr s.0.now.levels) };
+
+    fn operand(&self, tokens: &mut Cursor<'_>) -> Result<ExprTree, Halt> {
+        self.0.sum(tokens)
+    }
+
+    fn with_tail(&self, tokens: &mut Cursor<'_>, x: ExprTree) -> Result<ExprTree, Halt> {
+        self.0.related(tokens, x)
     }
 }
 

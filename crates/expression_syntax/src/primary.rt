@@ -9,11 +9,10 @@ ghost use Rattle.expression_trees.specs.token_readers.declared.fault.Halt.TheVar
 
 use crate::symbols::{Symbol, take_symbol};
 use crate::token_sets::TokenSet;
-use expression_trees::policy_tokens::{Token, TokenKind};
-use expression_trees::token_readers::{
-    Cursor, Halt, Name, NameSet, PathTree, read_more, rest_of_name,
+use expression_trees::{
+    Access, Cursor, Entry, ExprTree, Halt, KeyTree, Name, NameSet, PathTree, Token, TokenKind,
+    Variable, read_more, rest_of_name,
 };
-use expression_trees::{Access, Entry, ExprTree, KeyTree, Variable};
 use plain::{Boxed, Items, beside};
 use std::alloc::Global;
 

@@ -6,9 +6,7 @@ ghost use Rattle.expression_trees.specs.token_readers.Reads.{ReadsWithin};
 ghost use Rattle.expression_trees.specs.WellFormed.{WellFormedExpr};
 
 use crate::expression::expr;
-use expression_trees::ExprTree;
-use expression_trees::policy_tokens::Token;
-use expression_trees::token_readers::{Cursor, SyntaxFault, read_to_end};
+use expression_trees::{Cursor, ExprTree, SyntaxFault, Token, read_to_end};
 use std::alloc::Global;
 
 /// The most levels that expressions nest: an expression's own, and one more for what stands in

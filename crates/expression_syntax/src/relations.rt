@@ -10,9 +10,9 @@ ghost use Rattle.expression_syntax.specs.inner.Tails as tails;
 use crate::primary::{Reader, key};
 use crate::symbols::take_symbol;
 use crate::token_sets::TokenSet;
-use expression_trees::policy_tokens::{Token, TokenKind};
-use expression_trees::token_readers::{Cursor, Halt, PathTree, path};
-use expression_trees::{Comparison, ExprTree, KeyTree};
+use expression_trees::{
+    Comparison, Cursor, ExprTree, Halt, KeyTree, PathTree, Token, TokenKind, path,
+};
 use plain::{Boxed, beside};
 use std::alloc::{AllocError, Global};
 

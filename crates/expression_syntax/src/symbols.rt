@@ -7,9 +7,7 @@ ghost use Rattle.expression_trees.specs.token_readers.declared.fault.Halt.TheVar
 ghost use Rattle.expression_syntax.specs.Expressions.{boolean_of, variable_of, sign_of, comparison_of};
 ghost use Rattle.expression_syntax.specs.ExpressionReading as spec;
 
-use expression_trees::policy_tokens::TokenKind;
-use expression_trees::token_readers::{Cursor, Halt};
-use expression_trees::{Comparison, Sign, Variable};
+use expression_trees::{Comparison, Cursor, Halt, Sign, TokenKind, Variable};
 
 /// What tokens of some kinds stand for, each by its kind alone.
 pub trait Symbol: Copy {

@@ -1,8 +1,7 @@
 //! The kinds of tokens that readers of expressions ask for.
 ghost use Rattle.expression_syntax.specs.inner.Included.{included as of_expressions};
 
-use expression_trees::policy_tokens::TokenKind;
-use expression_trees::token_readers::KindSet;
+use expression_trees::{KindSet, TokenKind};
 
 /// What readers of expressions ask for.
 #[derive(Clone, Copy)]

@@ -1,7 +1,6 @@
 //! Expressions as they are written.
 use plain::{Boxed, Items};
-use token_readers::policy_tokens::Token;
-use token_readers::{PathTree, UidTree};
+use token_readers::{PathTree, Token, UidTree};
 
 /// A word that stands for a part of the request, where it is no name.
 #[derive(Clone, Copy, PartialEq, Eq)]

@@ -11,5 +11,5 @@ mod pieces;
 
 pub use decimal::Decimal;
 pub use ip_net::{IpNet, Version};
-pub use plain;
-pub use plain::NoMemory;
+pub use plain::words::{letter, word_len};
+pub use plain::{NoMemory, Shared, Text};

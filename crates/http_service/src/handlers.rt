@@ -13,18 +13,13 @@ ghost use Rattle.http_service.specs.Asked.{asked, hands, put_asked, removal_aske
 ghost use Rattle.http_service.specs.inner.Dealing.{Deals};
 
 use plain::NoMemory;
-use service_replies::authoriser::Answer;
-use service_replies::http_texts::status::Status;
-use service_replies::json_values::{Scratch, read_json_by};
-use service_replies::policy_grammar::{MOST_ID_BYTES, MOST_POLICY_BYTES, ReadFault};
-use service_replies::uid_json::read_uid;
 use service_replies::{
-    Site, SiteFault, report_answer, report_fault, report_found, report_message, report_put,
+    Answer, MOST_ID_BYTES, MOST_POLICY_BYTES, ReadFault, Scratch, Site, SiteFault, Status,
+    read_json_by, read_uid, report_answer, report_fault, report_found, report_message, report_put,
     report_stamp, report_status, report_taken,
 };
 use service_routes::{PolicyId, Route, route_of};
-use site_runs::stamped_store::Stamp;
-use site_runs::{EntityFault, delta_bytes, state_bytes, summary_bytes, take_bytes};
+use site_runs::{EntityFault, Stamp, delta_bytes, state_bytes, summary_bytes, take_bytes};
 use std::alloc::Global;
 use values::EntityUid;
 

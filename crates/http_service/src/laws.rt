@@ -16,9 +16,9 @@ ghost use Rattle.http_service.specs.Serving.{IsServed};
 ghost use Rattle.http_service.specs.Streams.{AskFor, LeavesRun};
 
 use crate::site_service::Stated;
-use http_streams::counted_devices::devices::{Sink, Source};
 use http_streams::laws::{begins_answer, one_answer};
 use http_streams::serve::StreamFault;
+use http_streams::{Sink, Source};
 use site_runs::{inputs_have_one_outcome, runs_go_right, runs_leave_what_they_took};
 
 /// However a stream of requests ends, the site goes on by a run of the inputs that the requests ask for, in their

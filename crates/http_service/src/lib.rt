@@ -13,7 +13,7 @@ pub use laws::{
     cuts_make_no_difference, requests_have_one_reply, served_answers_go_right,
     served_streams_are_answered, streams_leave_runs,
 };
-pub use service_replies::decision_texts;
+pub use service_replies::{Answer, Refusal, answer_line, decide_texts, error_line};
 pub use serving::serve;
 pub use site_runs::{Site, SiteFault, Taken, take_bytes};
 pub use site_service::SiteService;

@@ -3,10 +3,9 @@ ghost use Rattle.std.specs.Prelude.{◌≡◌};
 ghost use Rattle.http_service.specs.Serving.{IsServed};
 
 use crate::site_service::SiteService;
-use http_streams::counted_devices::devices::{Sink, Source};
 use http_streams::serve::{StreamFault, serve as serve_stream};
-use service_replies::Site;
-use service_replies::json_values::Scratch;
+use http_streams::{Sink, Source};
+use service_replies::{Scratch, Site};
 use site_runs::runs_leave_what_they_took;
 use std::alloc::Global;
 

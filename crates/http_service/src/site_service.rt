@@ -1,9 +1,7 @@
 //! A site as a service of HTTP.
 use crate::handlers::answer;
 use http_streams::service::{Answers, Service};
-use service_replies::Site;
-use service_replies::http_texts::status::Status;
-use service_replies::json_values::Scratch;
+use service_replies::{Scratch, Site, Status};
 use std::alloc::Global;
 use std::marker::Model;
 

@@ -7,8 +7,7 @@ ghost use Rattle.counted_devices.specs.Devices.{HasFailed};
 
 use crate::{MAX_READ, REPLY_ROOM};
 use counted_devices::devices::Source;
-use http_framing::MAX_HEAD;
-use http_framing::http_texts::reply::HEAD_ROOM;
+use http_framing::{HEAD_ROOM, MAX_HEAD};
 use httparse::spans::{EMPTY_HEADER_SPAN, HeaderSpan};
 use std::alloc::{AllocError, Global};
 

@@ -10,9 +10,8 @@ ghost use Rattle.http_streams.specs.Reads.{EndsByOneRead};
 use crate::MAX_READ;
 use crate::buffers::{ReadFault, drop_front, read_more, room_for_heads, room_for_reads};
 use counted_devices::devices::{Sink, Source, write_all};
-use http_framing::MAX_HEAD;
-use http_framing::http_texts::request::{Ask, request_text};
 use http_framing::reply_cut::{ReplyCut, ReplyParts, cut_reply};
+use http_framing::{Ask, MAX_HEAD, request_text};
 use httparse::spans::HeaderSpan;
 use std::alloc::{AllocError, Global};
 

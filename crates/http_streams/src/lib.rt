@@ -10,8 +10,9 @@ pub mod laws;
 pub mod serve;
 pub mod service;
 
-pub use counted_devices;
-pub use http_framing::http_texts;
+pub use counted_devices::devices::{Counted, Sink, Source};
+pub use counted_devices::memory::{MemoryReader, MemoryWriter, Plan};
+pub use http_framing::Ask;
 
 /// The most bytes that one read takes.
 pub const MAX_READ: usize = 16_384;

@@ -17,10 +17,8 @@ use crate::buffers::{
 };
 use crate::service::Service;
 use counted_devices::devices::{DeviceFailed, Sink, Source, write_all};
-use http_framing::MAX_HEAD;
 use http_framing::cut::{Cut, Parts, cut_request};
-use http_framing::http_texts::reply::{HEAD_ROOM, REFUSAL_ROOM, put_head, put_refusal};
-use http_framing::http_texts::status::Status;
+use http_framing::{HEAD_ROOM, MAX_HEAD, REFUSAL_ROOM, Status, put_head, put_refusal};
 use httparse::spans::HeaderSpan;
 use std::alloc::{AllocError, Global};
 

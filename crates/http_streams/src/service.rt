@@ -4,7 +4,7 @@ ghost use Rattle.std.specs.Vec.{vec_capacity};
 ghost use Rattle.http_streams.specs.declared.TheConstants.{REPLY_ROOM};
 ghost use Rattle.http_framing.specs.http_texts.declared.status.Status.{Status};
 
-use http_framing::http_texts::status::Status;
+use http_framing::Status;
 
 /// States in which requests have answers: what laws of streams speak of, with no code.
 pub trait Answers {

@@ -7,9 +7,9 @@ ghost use Rattle.ancestor_lists.specs.Lists.{ancestors_in, children_in, SameList
 ghost use Rattle.ancestor_lists.specs.Lists.{IsThere, StayThere, AddsChild};
 ghost use Rattle.kept_ancestors.specs.inner.WholeGraph.{AreListsOf};
 
-use ancestor_lists::ancestor_closure::ParentsOf;
 use ancestor_lists::{
-    Relatives, Room, add_to_all, list_within, make_room, parents_by, shared, shared_all, write_list,
+    ParentsOf, Relatives, Room, add_to_all, list_within, make_room, parents_by, shared, shared_all,
+    write_list,
 };
 use plain::{NoMemory, Shared};
 use std::alloc::Global;

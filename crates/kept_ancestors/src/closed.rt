@@ -10,8 +10,7 @@ ghost use Rattle.kept_ancestors.specs.Kept.{AreKept};
 ghost use Rattle.kept_ancestors.specs.ClosedMeaning.{closed_parents, closed_above, closed_is_decided};
 
 use crate::keeping::KeptAncestors;
-use ancestor_lists::Room;
-use ancestor_lists::ancestor_closure::{Ancestry, Changed, Hierarchy, ParentsOf};
+use ancestor_lists::{Ancestry, Changed, Hierarchy, ParentsOf, Room};
 use plain::NoMemory;
 use std::alloc::Global;
 use std::collections::BTreeMap;

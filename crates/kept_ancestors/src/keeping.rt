@@ -9,8 +9,10 @@ ghost use Rattle.ancestor_lists.specs.Lists.{IsListOf, ancestors_in};
 ghost use Rattle.kept_ancestors.specs.Kept.{AreKept, AreKeptBut};
 
 use crate::anew::{relatives_among, set_of};
-use ancestor_lists::ancestor_closure::{Graph, ParentsOf, least_cycle_among, on_cycles};
-use ancestor_lists::{Relatives, Room, ancestors_at, are_none, follow, is_in, lent, members};
+use ancestor_lists::{
+    Graph, ParentsOf, Relatives, Room, ancestors_at, are_none, follow, is_in, least_cycle_among,
+    lent, members, on_cycles,
+};
 use plain::{NoMemory, Shared};
 use std::alloc::Global;
 use std::collections::{BTreeMap, BTreeSet};

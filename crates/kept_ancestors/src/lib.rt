@@ -5,6 +5,6 @@ mod anew;
 pub mod closed;
 pub mod keeping;
 
-pub use ancestor_lists::{Room, ancestor_closure};
+pub use ancestor_lists::{Ancestry, Graph, ParentsOf, Room, paths_are_decided, would_cycle};
 pub use closed::Closed;
 pub use keeping::KeptAncestors;

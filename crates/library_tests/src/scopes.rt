@@ -8,6 +8,7 @@ use policy_grammar::{ActionScope, Effect, EntityScope, Policy, Scope};
 use scope_index::ScopeIndex;
 use std::alloc::Global;
 use std::process::Abort;
+use std::str::SplitWhitespace;
 use values::{EntityUid, Record, Request};
 
 // An index under test, and who is above whom.
@@ -71,7 +72,7 @@ fn request(alloc: Global, principal: &str) -> Result<Request, NoMemory> {
 }
 
 // A policy of this scope, whose condition asks nothing.
-fn policy(alloc: Global, scope: Scope) -> Result<Policy, NoMemory> {
+fn policy_of(alloc: Global, scope: Scope) -> Result<Policy, NoMemory> {
     let asks_nothing = Expr::Literal(Literal::Boolean(true));
     let (scope, condition) = both(Shared::new(alloc, scope), Shared::new(alloc, asks_nothing))?;
     Ok(Policy {
@@ -81,6 +82,18 @@ fn policy(alloc: Global, scope: Scope) -> Result<Policy, NoMemory> {
     })
 }
 
+fn policy(alloc: Global, how: &str, id: &str) -> Result<Policy, NoMemory> {
+    policy_of(alloc, scope(alloc, how, id)?)
+}
+
+// A refused growth is asked for once more: so what is refused behind it is the index's own.
+fn policy_at_last(alloc: Global, how: &str, id: &str) -> Result<Policy, NoMemory> {
+    match policy(alloc, how, id) {
+        Ok(policy) => Ok(policy),
+        Err(_) => policy(alloc, how, id),
+    }
+}
+
 fn add(
     alloc: Global,
     index: &mut ScopeIndex,
@@ -88,7 +101,7 @@ fn add(
     how: &str,
     id: &str,
 ) -> Result<(), NoMemory> {
-    let policy = policy(alloc, scope(alloc, how, id)?)?;
+    let policy = policy_at_last(alloc, how, id)?;
     let done = index.add(name, &policy);
     ended(policy, done)
 }
@@ -119,75 +132,65 @@ fn change(alloc: Global, tried: &mut Tried, row: &str) -> Result<(), NoMemory> {
     }
 }
 
-// These have these ids, in this order.
-fn are(found: &[(&str, &Policy)], ids: &str) -> bool {
+// The next id, but for one.
+fn next_but<'a>(ids: &mut SplitWhitespace<'a>, but: &str) -> Option<&'a str> {
+    let next = ids.next();
+    if next == Some(but) {
+        return ids.next();
+    }
+    next
+}
+
+// These have these ids but for one, in this order.
+fn are(found: &[(&str, &Policy)], ids: &str, but: &str) -> bool {
     let mut ids = ids.split_whitespace();
     for offer in found {
-        if ids.next() != Some(offer.0) {
+        if next_but(&mut ids, but) != Some(offer.0) {
             return false;
         }
     }
-    ids.next().is_none()
+    next_but(&mut ids, but).is_none()
 }
 
-fn finds(tried: &Tried, request: &Request, ids: &str) -> Result<bool, NoMemory> {
+fn finds(tried: &Tried, request: &Request, ids: &str, but: &str) -> Result<bool, NoMemory> {
     let found = tried.index.candidates(request, &tried.hierarchy)?;
-    let truth = are(found.as_slice(), ids);
+    let truth = are(found.as_slice(), ids, but);
     Ok(ended(found, truth))
 }
 
-fn is_offered(alloc: Global, tried: &Tried, principal: &str, ids: &str) -> Result<bool, NoMemory> {
+// `PRINCIPAL: IDS`.
+fn is_offered(alloc: Global, tried: &Tried, row: &str, but: &str) -> Result<bool, NoMemory> {
+    let (principal, ids) = row.split_once(':').unwrap_or((row, ""));
     let request = request(alloc, principal)?;
-    let truth = finds(tried, &request, ids);
+    let truth = finds(tried, &request, ids, but);
     ended(request, truth)
 }
 
-// `PRINCIPAL: IDS`. A refused growth is asked for once more.
-fn is_row(alloc: Global, tried: &Tried, row: &str) -> Result<bool, NoMemory> {
-    let (principal, ids) = row.split_once(':').unwrap_or((row, ""));
-    match is_offered(alloc, tried, principal, ids) {
+// A refused growth is asked for once more.
+fn is_row(alloc: Global, tried: &Tried, row: &str, but: &str) -> Result<bool, NoMemory> {
+    match is_offered(alloc, tried, row, but) {
         Ok(truth) => Ok(truth),
-        Err(_) => is_offered(alloc, tried, principal, ids),
+        Err(_) => is_offered(alloc, tried, row, but),
     }
 }
 
-fn row_holds(rt: &impl Abort, alloc: Global, tried: &Tried, row: &str) -> Result<(), NoMemory> {
-    holds(rt, is_row(alloc, tried, row)?, row);
+fn row_holds(
+    rt: &impl Abort,
+    alloc: Global,
+    tried: &Tried,
+    row: &str,
+    but: &str,
+) -> Result<(), NoMemory> {
+    holds(rt, is_row(alloc, tried, row, but)?, row);
     Ok(())
 }
 
-// A change that was refused can be asked for again.
-fn change_again(
-    rt: &impl Abort,
-    alloc: Global,
-    tried: &mut Tried,
-    refused: &str,
-    left: &str,
-) -> Result<(), NoMemory> {
-    row_holds(rt, alloc, tried, left)?;
-    change(alloc, tried, refused)
-}
-
-fn change_at_last(
-    rt: &impl Abort,
-    alloc: Global,
-    tried: &mut Tried,
-    asked: &str,
-    left: &str,
-) -> Result<(), NoMemory> {
-    match change(alloc, tried, asked) {
-        Ok(()) => Ok(()),
-        Err(_) => change_again(rt, alloc, tried, asked, left),
-    }
-}
-
-// With a colon what is offered, and else a change; `CHANGE or ROW`: where the change is refused, this row holds.
+// With a colon what is offered, and else a change.
 fn row(rt: &impl Abort, alloc: Global, tried: &mut Tried, row: &str) -> Result<(), NoMemory> {
-    match row.split_once(" or ") {
-        Some((asked, left)) => change_at_last(rt, alloc, tried, asked, left),
-        None if row.contains(':') => row_holds(rt, alloc, tried, row),
-        None => change(alloc, tried, row),
+    if row.contains(':') {
+        return row_holds(rt, alloc, tried, row, "");
     }
+    change(alloc, tried, row)
 }
 
 fn rows_hold(
@@ -198,6 +201,82 @@ fn rows_hold(
 ) -> Result<(), NoMemory> {
     for one in rows.split('/') {
         row(rt, alloc, tried, one)?;
+    }
+    Ok(())
+}
+
+fn all_hold(
+    rt: &impl Abort,
+    alloc: Global,
+    tried: &Tried,
+    rows: &str,
+    but: &str,
+) -> Result<(), NoMemory> {
+    for one in rows.split("; ") {
+        row_holds(rt, alloc, tried, one, but)?;
+    }
+    Ok(())
+}
+
+// The policy that is kept no more where a change is refused: the one that was to be added.
+fn lost_by(change: &str) -> &str {
+    if change.contains(" below ") {
+        return "";
+    }
+    match change.split_once(' ') {
+        Some((name, _)) => name,
+        None => "",
+    }
+}
+
+// A change that was refused can be asked for again.
+fn change_again(
+    rt: &impl Abort,
+    alloc: Global,
+    tried: &mut Tried,
+    refused: &str,
+    before: &str,
+) -> Result<(), NoMemory> {
+    all_hold(rt, alloc, tried, before, lost_by(refused))?;
+    change(alloc, tried, refused)
+}
+
+fn change_at_last(
+    rt: &impl Abort,
+    alloc: Global,
+    tried: &mut Tried,
+    asked: &str,
+    before: &str,
+) -> Result<(), NoMemory> {
+    match change(alloc, tried, asked) {
+        Ok(()) => Ok(()),
+        Err(_) => change_again(rt, alloc, tried, asked, before),
+    }
+}
+
+// `CHANGE; ROW; ROW ..`: what is offered once the change is done. Returns these rows.
+fn step<'a>(
+    rt: &impl Abort,
+    alloc: Global,
+    tried: &mut Tried,
+    step: &'a str,
+    before: &str,
+) -> Result<&'a str, NoMemory> {
+    let (change, after) = step.split_once("; ").unwrap_or((step, ""));
+    change_at_last(rt, alloc, tried, change, before)?;
+    all_hold(rt, alloc, tried, after, "")?;
+    Ok(after)
+}
+
+fn steps_hold(
+    rt: &impl Abort,
+    alloc: Global,
+    tried: &mut Tried,
+    steps: &str,
+) -> Result<(), NoMemory> {
+    let mut before = "u:; v:";
+    for one in steps.split('/') {
+        before = step(rt, alloc, tried, one, before)?;
     }
     Ok(())
 }
@@ -225,18 +304,40 @@ const ROWS: &str = "\
     f == b/a: d e h i/b: f h i/\
     g below a/a: d e h i";
 
-// What is offered where a change is refused: nothing of the policy that was to be added, and the others as before.
+// Steps, each from where the one before it ends. Where a change is refused, what was offered before is offered still,
+// but for the policy that was to be added; a second try succeeds. A policy that is new, and one that moves; what a
+// hierarchy brings; policies that are taken away; then more policies than a node of a map holds.
 const SURVIVED: &str = "\
-    c any or a:/a: c/\
-    a == a or a: c/a: a c/b: c/\
-    e == a or a: a c/a: a c e/\
-    d in g or a: a c e/a: a c e/\
-    a below g or a: a c e/a: a c d e/\
-    a any or a: c d e/a: a c d e/b: a c/\
-    e in g or a: a c d/a: a c d e/\
-    f on x or b: a c/b: a c f/\
-    f == b or b: a c/b: a c f/a: a c d e/\
-    a gone/a: c d e/b: c f";
+    c any; u: c; v: c/\
+    a == u; u: a c; v: c/\
+    b == v; u: a c; v: b c/\
+    e == u; u: a c e; v: b c/\
+    d in g; u: a c e; v: b c/\
+    u below g; u: a c d e; v: b c/\
+    a any; u: a c d e; v: a b c/\
+    e in g; u: a c d e; v: a b c/\
+    f on x; u: a c d e f; v: a b c f/\
+    f == v; u: a c d e; v: a b c f/\
+    i within y; u: a c d e; v: a b c f/\
+    x below y; u: a c d e i; v: a b c f i/\
+    a gone; u: c d e i; v: b c f i/\
+    i gone; u: c d e; v: b c f/\
+    0 == u; u: 0 c d e; v: b c f/\
+    1 == u; u: 0 1 c d e/\
+    2 == u; u: 0 1 2 c d e/\
+    3 == u; u: 0 1 2 3 c d e/\
+    4 == u; u: 0 1 2 3 4 c d e/\
+    5 == u; u: 0 1 2 3 4 5 c d e/\
+    6 == u; u: 0 1 2 3 4 5 6 c d e/\
+    7 == u; u: 0 1 2 3 4 5 6 7 c d e/\
+    8 == u; u: 0 1 2 3 4 5 6 7 8 c d e/\
+    9 == u; u: 0 1 2 3 4 5 6 7 8 9 c d e; v: b c f/\
+    A == u; u: 0 1 2 3 4 5 6 7 8 9 A c d e; v: b c f/\
+    B == u; u: 0 1 2 3 4 5 6 7 8 9 A B c d e/\
+    C == u; u: 0 1 2 3 4 5 6 7 8 9 A B C c d e/\
+    D == u; u: 0 1 2 3 4 5 6 7 8 9 A B C D c d e/\
+    E == u; u: 0 1 2 3 4 5 6 7 8 9 A B C D E c d e; v: b c f/\
+    F == u; u: 0 1 2 3 4 5 6 7 8 9 A B C D E F c d e; v: b c f";
 
 #[test]
 fn policies_are_offered(rt: HostRuntime) -> Result<(), NoMemory> {
@@ -245,5 +346,6 @@ fn policies_are_offered(rt: HostRuntime) -> Result<(), NoMemory> {
 
 #[test]
 fn index_survives_a_refused_allocation(rt: HostRuntime) -> Result<(), NoMemory> {
-    table(&rt, rt.alloc(), SURVIVED)
+    let mut tried = begun(rt.alloc());
+    steps_hold(&rt, rt.alloc(), &mut tried, SURVIVED)
 }

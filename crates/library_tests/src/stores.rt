@@ -16,6 +16,34 @@ const FORBID: &str = "forbid (principal, action, resource);";
 // A count, a site's name and a text.
 type Row<'a> = (u64, &'a str, &'a str);
 
+// What an entry stands at.
+trait Named {
+    fn id(&self) -> &str;
+
+    // A name with `@` before it is an entity's, any other a policy's.
+    fn is_called(&self, name: &str) -> bool;
+}
+
+impl Named for String {
+    fn id(&self) -> &str {
+        self.as_str()
+    }
+
+    fn is_called(&self, name: &str) -> bool {
+        name == self.as_str()
+    }
+}
+
+impl Named for EntityUid {
+    fn id(&self) -> &str {
+        self.id.as_str()
+    }
+
+    fn is_called(&self, name: &str) -> bool {
+        name.strip_prefix('@') == Some(self.id.as_str())
+    }
+}
+
 // The text that an entry holds, read as its length; an empty text is a tombstone's.
 fn body(alloc: Global, text: &str) -> Result<Option<ReadText<usize>>, NoMemory> {
     if text.is_empty() {
@@ -106,51 +134,147 @@ fn filled(alloc: Global, row: Row<'_>, names: &str) -> Result<Store, NoMemory> {
     finished(store, done)
 }
 
-// How many entries have a stamp of count 9.
-fn joined<K>(entries: Iter<'_, K, Entry<usize>>) -> usize {
-    let mut count: usize = 0;
-    for (_, entry) in entries {
-        count = count.saturating_add(usize::from(entry.stamp.count == 9));
+// As `filled`; a refused growth is asked for once more.
+fn filled_at_last(alloc: Global, row: Row<'_>, names: &str) -> Result<Store, NoMemory> {
+    match filled(alloc, row, names) {
+        Ok(store) => Ok(store),
+        Err(_) => filled(alloc, row, names),
+    }
+}
+
+// Two lists of names: what stands in a store, and what is merged into it, policies before entities. Each name of the
+// first has count 1 and `PERMIT`, each of the second count 9 and `FORBID`.
+#[derive(Clone, Copy)]
+struct Merge<'a> {
+    own: &'a str,
+    other: &'a str,
+}
+
+// Whether a key is one of the first so many of these names.
+fn is_among<K: Named>(names: &str, count: usize, key: &K) -> bool {
+    let mut left = count;
+    for name in names.split(' ') {
+        if left == 0 {
+            return false;
+        }
+        if key.is_called(name) {
+            return true;
+        }
+        left -= 1;
+    }
+    false
+}
+
+// Whether a key has what it has once the first so many names of the other store are joined, and no others.
+fn is_joined<K: Named>(merge: Merge<'_>, taken: usize, key: &K, entry: &Entry<usize>) -> bool {
+    if is_among(merge.other, taken, key) {
+        return entry.stamp == stamp((9, "2", "")) && text_of(entry) == FORBID;
+    }
+    is_among(merge.own, usize::MAX, key)
+        && entry.stamp == stamp((1, "1", ""))
+        && text_of(entry) == PERMIT
+}
+
+fn are_joined<K: Named>(
+    merge: Merge<'_>,
+    taken: usize,
+    entries: Iter<'_, K, Entry<usize>>,
+) -> bool {
+    for (key, entry) in entries {
+        if !is_joined(merge, taken, key, entry) {
+            return false;
+        }
+    }
+    true
+}
+
+fn has_name(names: &str, name: &str) -> bool {
+    for one in names.split(' ') {
+        if one == name {
+            return true;
+        }
+    }
+    false
+}
+
+// How many names are in the first list, or among the first so many of the second.
+fn count_joined(merge: Merge<'_>, taken: usize) -> usize {
+    let mut count = merge.own.split(' ').count();
+    for name in merge.other.split(' ').take(taken) {
+        count = count.saturating_add(usize::from(!has_name(merge.own, name)));
     }
     count
 }
 
-// Of a store whose entries have count 1, where one of three policies and two entities with count 9 was merged: exactly
-// the entries of the first names are joined.
-fn is_joined_up_to(store: &Store, taken: usize) -> bool {
-    let policies = joined(store.policies());
-    policies == taken.min(3)
-        && joined(store.entities()) == taken.saturating_sub(policies)
+// Exactly the first so many names of the other store are joined.
+fn is_joined_up_to(store: &Store, merge: Merge<'_>, taken: usize) -> bool {
+    let count = store
+        .policies()
+        .len()
+        .saturating_add(store.entities().len());
+    count == count_joined(merge, taken)
+        && are_joined(merge, taken, store.policies())
+        && are_joined(merge, taken, store.entities())
         && store.greatest_count() == if taken == 0 { 1 } else { 9 }
 }
 
-fn merge_five(rt: &impl Abort, alloc: Global, store: &mut Store) -> Result<(), NoMemory> {
-    let other = filled(alloc, (9, "2", FORBID), "d e f @x @y")?;
-    let taken = match store.merge(other) {
-        Ok(()) => 5,
-        Err(short) => short.taken,
-    };
+fn merge_again(alloc: Global, store: &mut Store, other: &str) -> Result<(), NoMemory> {
+    done(store.merge(filled_at_last(alloc, (9, "2", FORBID), other)?))
+}
+
+// Where memory is refused in a merge, the entries of the first names are joined, and no others; then it is done.
+fn merge_at_last(
+    rt: &impl Abort,
+    alloc: Global,
+    store: &mut Store,
+    merge: Merge<'_>,
+) -> Result<(), NoMemory> {
+    let other = filled_at_last(alloc, (9, "2", FORBID), merge.other)?;
+    match store.merge(other) {
+        Ok(()) => Ok(()),
+        Err(short) => {
+            let is_cut = short.taken < merge.other.split(' ').count();
+            holds(
+                rt,
+                is_cut && is_joined_up_to(store, merge, short.taken),
+                "the first names alone are joined",
+            );
+            merge_again(alloc, store, merge.other)
+        }
+    }
+}
+
+// Merges at a store that lives on.
+fn merge_into(
+    rt: &impl Abort,
+    alloc: Global,
+    store: &mut Store,
+    merge: Merge<'_>,
+) -> Result<(), NoMemory> {
+    merge_at_last(rt, alloc, store, merge)?;
     holds(
         rt,
-        is_joined_up_to(store, taken),
-        "the first names are joined",
+        is_joined_up_to(store, merge, usize::MAX),
+        "all names are joined",
     );
     Ok(())
 }
 
-// Where memory is refused in a merge, exactly the entries of the first names are joined. A refusal before that ends the
-// test.
-fn merged(rt: &impl Abort, alloc: Global, names: &str) -> Result<(), NoMemory> {
-    let mut store = filled(alloc, (1, "1", PERMIT), names)?;
-    let came = merge_five(rt, alloc, &mut store);
+fn merged(rt: &impl Abort, alloc: Global, own: &str, other: &str) -> Result<(), NoMemory> {
+    let mut store = filled_at_last(alloc, (1, "1", PERMIT), own)?;
+    let came = merge_into(rt, alloc, &mut store, Merge { own, other });
     ended(store, came)
 }
 
+// Five names each. A map asks for memory with its first name and its sixteenth, so that a merge may be refused behind
+// three names, behind none, or nowhere; in the last case behind one.
 #[test]
-fn a_refused_merge_joins_the_first_names(rt: HostRuntime) {
+fn a_refused_merge_joins_the_first_names(rt: HostRuntime) -> Result<(), NoMemory> {
     let alloc = rt.alloc();
-    let _ = merged(&rt, alloc, "a b c d e @v");
-    let _ = merged(&rt, alloc, "a @v @w @x @y @z");
+    merged(&rt, alloc, "a b c d e", "d e f @x @y")?;
+    merged(&rt, alloc, "@v @w @x @y @z", "d e f @x @y")?;
+    merged(&rt, alloc, "a b c @x @z", "d e f @x @y")?;
+    merged(&rt, alloc, "a b c g h i j k l m n o p q", "d e f @x @y")
 }
 
 fn is_looked_up(store: &Store, uid: &EntityUid) -> bool {
@@ -158,23 +282,6 @@ fn is_looked_up(store: &Store, uid: &EntityUid) -> bool {
         && store.issue(site("7")) == stamp((5, "7", ""))
         && store.get_policy("c").is_none()
         && is_text_of(store.get_entity(uid), PERMIT)
-}
-
-// What an entry stands at.
-trait Named {
-    fn id(&self) -> &str;
-}
-
-impl Named for String {
-    fn id(&self) -> &str {
-        self.as_str()
-    }
-}
-
-impl Named for EntityUid {
-    fn id(&self) -> &str {
-        self.id.as_str()
-    }
 }
 
 // The entries stand at these ids, in this order.

@@ -10,9 +10,7 @@ ghost use Rattle.loaded_files.specs.Puts.{entity_put, Accepts, AcceptsAll, Refus
 ghost use Rattle.loaded_files.specs.Loads.{LoadsEntities, RefusesEntities};
 
 use crate::refusal::put_refusal;
-use schema_decisions::decision_texts::Refusal;
-use schema_decisions::json_values::{Member, Members, Scratch, members_of};
-use schema_decisions::judge_entities;
+use schema_decisions::{Member, Members, Refusal, Scratch, judge_entities, members_of};
 use serde_json::Value;
 use site::Site;
 use std::alloc::Global;

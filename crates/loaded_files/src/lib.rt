@@ -7,7 +7,5 @@ mod policies;
 mod refusal;
 
 pub use loading::loaded_state;
-pub use schema_decisions;
-pub use schema_decisions::decision_texts::Refusal;
-pub use schema_decisions::schema;
+pub use schema_decisions::{Refusal, Schema, check_texts, decide_under, schema_in};
 pub use site::Site;

@@ -8,7 +8,7 @@ ghost use Rattle.loaded_files.specs.Loads.{LoadsPolicies, RefusesPolicies, Loads
 
 use crate::entity_file::load_entities;
 use crate::policies::load_policies;
-use schema_decisions::decision_texts::Refusal;
+use schema_decisions::Refusal;
 use site::Site;
 use std::alloc::Global;
 

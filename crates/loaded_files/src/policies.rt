@@ -10,10 +10,8 @@ ghost use Rattle.loaded_files.specs.inner.Steps.{HasTokens};
 
 use crate::refusal::put_refusal;
 use plain::NoMemory;
-use policy_files::policy_tokens::lexing_is_unique;
-use policy_files::{LexFault, files_are_cut_by_policies, policy_texts};
-use schema_decisions::decision_texts::{Refusal, policies_in};
-use schema_decisions::policy_grammar::Policy;
+use policy_files::{LexFault, files_are_cut_by_policies, lexing_is_unique, policy_texts};
+use schema_decisions::{Policy, Refusal, policies_in};
 use site::Site;
 use std::alloc::Global;
 

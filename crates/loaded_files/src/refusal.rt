@@ -3,7 +3,7 @@ ghost use Rattle.std.specs.Prelude.{◌≡◌};
 ghost use Rattle.loaded_files.specs.Puts.{put_refusal};
 
 use plain::NoMemory;
-use schema_decisions::decision_texts::Refusal;
+use schema_decisions::Refusal;
 use site::SiteFault;
 
 /// Returns a fault of a put, told at the place of what was put in its file, counted from 0. Want of memory has no

@@ -6,7 +6,7 @@ use Rattle.policy_checks.specs.entity_worlds.declared.entity.Entity.{Entity}
 use Rattle.stored_texts.specs.schema.SchemaEntries.{SchemaEntries}
 use Rattle.stored_texts.specs.schema.Schemas.{StatedSchema}
 use Rattle.stored_texts.specs.schema.Views.{schema_view}
-use Rattle.stored_texts.specs.stamped_store.Store.{Store, Update, updates, store_of}
+use Rattle.stored_texts.specs.stamped_store.Store.{Store, Update, updates, store_of, IsStoreJoin, joined_stores}
 use Rattle.stored_texts.specs.sync_messages.declared.fault.MessageFault.{MessageFault}
 use Rattle.stored_texts.specs.sync_messages.declared.fault.MessageFault.TheVariants as fault
 use Rattle.stored_texts.specs.sync_messages.Summaries.{IsStamped}
@@ -90,25 +90,59 @@ read_back k label bytes m named law back h =
     let read = law label bytes (updates m) (back h.in_range) h.in_range h.valid in
     record { read = read.0; message = message_of k k label bytes read.0 refl named read.1; same = read.2 }
 
--- ---- two messages, one after the other
-pub merged_under : ((us vs : List Update) → store_of (updates (store_of us) ++ vs) ≡ store_of (us ++ vs)) → (s : StatedSchema)
-    (e x t : Store) (f g text : List ℕ) (i j : ℕ) → e ≡ store_of [] → Joins s e f x i → (IsSendable s e → IsSendable s x)
-    → Joins s x g t j → (IsSendable s x → IsSendable s t) → text ≡ state_text s.label t
-    → (IsSendable s t → IsReadBack s t text) → IsMergedUnder s f g text
-merged_under grouped s e x t f g text i j none first first_sends second second_sends is back =
-    let us = plain_updates first.came in
-    let vs = plain_updates second.came in
-    let held : x ≡ store_of us = first.store_is ∙ ap (λ l. store_of (l ++ us)) (ap updates none ∙ none_of_empty) in
-    record {
-      store = t;
-      both = record {
-        first = first.came;
-        second = second.came;
-        first_read = first.message;
-        second_read = second.message;
-        store_is = second.store_is ∙ ap (λ m. store_of (updates m ++ vs)) held ∙ grouped us vs;
-      };
-      text_is = is;
-      reads_back =
-          back (second_sends (first_sends (subst (λ (m : Store). IsSendable s m) (sym none) (none_sendable s))));
-    }
+-- ---- two messages, each in a store of its own, and the join of these
+
+-- the store of the updates that a message adds to an empty store
+alone : (s : StatedSchema) (e x : Store) (bytes : List ℕ) (k : ℕ) → e ≡ store_of [] → (j : Joins s e bytes x k)
+    → x ≡ store_of (plain_updates j.came)
+alone s e x bytes k none j =
+    j.store_is ∙ ap (λ l. store_of (l ++ plain_updates j.came)) (ap updates none ∙ none_of_empty)
+
+module _
+    (own : (s : Store) → store_of (updates s) ≡ s)
+    (union : (us vs : List Update) → IsStoreJoin (store_of us) (store_of vs) (store_of (us ++ vs)))
+    (only : (s t j : Store) → IsStoreJoin s t j → j ≡ joined_stores s t) where
+  -- a join is the store of both lists of updates
+  both_of : (us vs : List Update) (x y t : Store) → x ≡ store_of us → y ≡ store_of vs → IsStoreJoin x y t
+      → t ≡ store_of (us ++ vs)
+  both_of us vs x y t first second join =
+      let other : IsStoreJoin x y (store_of (us ++ vs)) =
+      subst (λ (a : Store). IsStoreJoin a y (store_of (us ++ vs))) (sym first)
+      (subst (λ (b : Store). IsStoreJoin (store_of us) b (store_of (us ++ vs))) (sym second) (union us vs)) in
+      only x y t join ∙ sym (only x y (store_of (us ++ vs)) other)
+
+  both_sendable : (s : StatedSchema) (x y t : Store) → IsStoreJoin x y t → IsSendable s x → IsSendable s y → IsSendable s t
+  both_sendable s x y t join h k =
+      let is = both_of (updates x) (updates y) x y t (sym (own x)) (sym (own y)) join in
+      record {
+        in_range =
+            subst (λ (m : Store). AreInRange (updates m)) (sym is)
+            (store_all (λ u. IsStamped (stamped u)) (updates x ++ updates y)
+            (append_all (λ u. IsStamped (stamped u)) (updates x) (updates y) h.in_range k.in_range));
+        valid =
+            subst (λ (m : Store). AreValid (λ id. ReadsPolicy s) (ReadsEntity s) (updates m)) (sym is)
+            (store_all (IsValid (λ id. ReadsPolicy s) (ReadsEntity s)) (updates x ++ updates y)
+            (append_all (IsValid (λ id. ReadsPolicy s) (ReadsEntity s)) (updates x) (updates y) h.valid k.valid));
+      }
+
+  pub merged_under : (s : StatedSchema) (e d x y t : Store) (f g text : List ℕ) (i j : ℕ) → e ≡ store_of [] → d ≡ store_of []
+      → Joins s e f x i → (IsSendable s e → IsSendable s x) → Joins s d g y j → (IsSendable s d → IsSendable s y)
+      → IsStoreJoin x y t → text ≡ state_text s.label t → (IsSendable s t → IsReadBack s t text) → IsMergedUnder s f g text
+  merged_under s e d x y t f g text i j none nothing first first_sends second second_sends join is back =
+      let us = plain_updates first.came in
+      let vs = plain_updates second.came in
+      record {
+        store = t;
+        both = record {
+          first = first.came;
+          second = second.came;
+          first_read = first.message;
+          second_read = second.message;
+          store_is = both_of us vs x y t (alone s e x f i none first) (alone s d y g j nothing second) join;
+        };
+        text_is = is;
+        reads_back =
+            back (both_sendable s x y t join
+            (first_sends (subst (λ (m : Store). IsSendable s m) (sym none) (none_sendable s)))
+            (second_sends (subst (λ (m : Store). IsSendable s m) (sym nothing) (none_sendable s))));
+      }

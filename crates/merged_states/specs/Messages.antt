@@ -17,7 +17,7 @@ use Rattle.policy_checks.specs.decision_texts.declared.refusal.Refusal.{Refusal}
 -- ---- messages
 
 -- The bytes are a state or a delta of this schema, with these updates in this order, each of them valid: they may be
--- joined into a store. (`IsMessageOf` of site_runs says the same, by what a site admits.)
+-- joined into a store. (`IsMessageOf` of `site_runs` says the same, by what a site admits.)
 abbrev pub IsMergeableMessage : StatedSchema → List ℕ → List (SentUpdate Policy Entity) → Type 0
 IsMergeableMessage s bytes us = IsMessage (λ id. ReadsPolicy s) (ReadsEntity s) s.label bytes us
 

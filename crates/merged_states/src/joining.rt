@@ -9,16 +9,12 @@ ghost use Rattle.merged_states.specs.Messages.{IsMergeableMessage, IsMessageRefu
 ghost use Rattle.merged_states.specs.Messages.{message_refusal};
 
 use plain::NoMemory;
-use policy_checks::decision_texts::Refusal;
-use policy_checks::policy_grammar::Policy;
+use policy_checks::{Policy, Refusal};
 use std::alloc::Global;
-use stored_texts::SchemaTexts;
-use stored_texts::entities::Entity;
-use stored_texts::schema::Schema;
-use stored_texts::stamped_store::PolicyStore;
-use stored_texts::stamped_store::laws::updates_have_one_store;
-use stored_texts::state_messages::{Update, read_message, valid_messages_are_read, write_state};
-use stored_texts::sync_messages::MessageFault;
+use stored_texts::{
+    Entity, MessageFault, PolicyStore, Schema, SchemaTexts, Update, read_message,
+    updates_have_one_store, valid_messages_are_read, write_state,
+};
 
 /// Returns a fault of a message (50 to 56, or 1), with its place and the number of the refusal inside.
 pub fn message_refusal(fault: MessageFault) -> Refusal

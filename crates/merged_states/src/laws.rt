@@ -7,12 +7,11 @@ ghost use Rattle.stored_texts.specs.schema.Views.{schema_view};
 ghost use Rattle.merged_states.specs.Outcomes.{HaveOneOutcome, OrderDoesNotMatter, RepeatsDoNotMatter};
 ghost use Rattle.merged_states.specs.Outcomes.{GroupsDoNotMatter};
 
-use policy_checks::policy_grammar::Policy;
-use stored_texts::entities::Entity;
-use stored_texts::schema::bytes_have_one_outcome;
-use stored_texts::stamped_store::laws::updates_have_one_store;
-use stored_texts::state_messages::messages_have_one_outcome;
-use stored_texts::{SchemaTexts, stored_texts_have_one_reading};
+use policy_checks::Policy;
+use stored_texts::{
+    Entity, SchemaTexts, bytes_have_one_outcome, messages_have_one_outcome,
+    stored_texts_have_one_reading, updates_have_one_store,
+};
 
 /// Proves that two messages come to the same state whichever way round they are merged, again with either of them, and,
 /// with a third, in whatever groups.

@@ -1,17 +1,35 @@
 //! Two messages, merged.
-ghost use Rattle.std.specs.Prelude.{◌≡◌, IfOk, IfErr};
+ghost use Rattle.std.specs.Prelude.{◌≡◌, IfOk, IfErr, Err};
 ghost use Rattle.stored_texts.specs.schema.Views.{schema_view};
+ghost use Rattle.stored_texts.specs.stamped_store.Store.{abstract_store};
 ghost use Rattle.policy_checks.specs.decision_texts.Refusals.{no_memory};
 ghost use Rattle.merged_states.specs.Merges.{IsMerged, IsMergedBack, AreRefused, AreRefusedUnder};
-ghost use Rattle.merged_states.specs.inner.Merging.{IsMergedUnder};
+ghost use Rattle.merged_states.specs.inner.Merging.{IsJoinWith, IsMergedUnder};
 
 use crate::joining::{Joined, join_message, state_of};
-use policy_checks::decision_texts::Refusal;
-use policy_checks::schema_in;
+use plain::NoMemory;
+use policy_checks::{Policy, Refusal, schema_in};
+use stamped_store::laws::stores_are_joined;
 use std::alloc::Global;
-use stored_texts::schema::Schema;
-use stored_texts::stamped_store::PolicyStore;
-use stored_texts::stamped_store::laws::updates_have_one_store;
+use stored_texts::{Entity, PolicyStore, Schema, updates_have_one_store};
+
+/// Returns the join of a store and of what a message was joined into, or why that message was refused.
+fn joined_with(
+    store: PolicyStore<Policy, Entity>,
+    other: Result<Joined, Refusal>,
+) -> Result<PolicyStore<Policy, Entity>, Refusal>
+    ensures joined { IfOk result (λ t. IsJoinWith (abstract_store store) other (abstract_store t)) }
+    ensures refused { IfErr result (λ r. (r ≡ no_memory → ⊥) → other ≡ Err r) }
+{
+    let mut both = store;
+    match other {
+        Ok(joined) => match both.merge(joined.store) {
+            Ok(()) => Ok(both),
+            Err(_) => Err(Refusal::from(NoMemory)),
+        },
+        Err(refusal) => Err(refusal),
+    }
+}
 
 /// Returns the state of the store of the updates of two messages of a schema, or the refusal of the first that is none.
 fn merge_under(alloc: Global, schema: &Schema, f: &[u8], g: &[u8]) -> Result<Vec<u8>, Refusal>
@@ -20,9 +38,11 @@ fn merge_under(alloc: Global, schema: &Schema, f: &[u8], g: &[u8]) -> Result<Vec
         (λ r. (r ≡ no_memory → ⊥) → AreRefusedUnder (schema_view schema.now) f.now g.now r) }
 {
     updates_have_one_store();
+    stores_are_joined();
     let Joined { store, taken: _ } = join_message(alloc, schema, PolicyStore::new(alloc), f)?;
-    let both = join_message(alloc, schema, store, g)?;
-    Ok(state_of(alloc, schema, &both.store)?)
+    let second = join_message(alloc, schema, PolicyStore::new(alloc), g);
+    let both = joined_with(store, second)?;
+    Ok(state_of(alloc, schema, &both)?)
 }
 
 /// Returns the state of the store of the updates of two messages, each a state or a delta, under the schema that bytes

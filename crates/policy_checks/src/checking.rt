@@ -10,12 +10,10 @@ ghost use Rattle.policy_checks.specs.inner.Named.{named_in, outcome_of};
 
 use crate::lines::{add_line, verdict_line};
 use crate::reading::schema_in;
-use decision_texts::policy_grammar::Policy;
-use decision_texts::{Refusal, policies_in};
+use decision_texts::{Policy, Refusal, policies_in};
 use plain::NoMemory;
 use std::alloc::Global;
-use validator::schema::Schema;
-use validator::{CheckFault, Verdict, check};
+use validator::{CheckFault, Schema, Verdict, check};
 
 /// Returns what a policy comes to.
 fn verdict_of(

@@ -1,9 +1,8 @@
 //! Laws of the definitions; the functions do nothing.
 ghost use Rattle.policy_checks.specs.Outcomes.{TextsHaveOneOutcome};
 
-use decision_texts::policy_grammar::texts_have_one_reading;
-use validator::policies_have_one_outcome;
-use validator::schema::bytes_have_one_outcome;
+use decision_texts::texts_have_one_reading;
+use validator::{bytes_have_one_outcome, policies_have_one_outcome};
 
 /// The texts of a schema and of policies come to exactly one thing: to lines, which tell of a refused policy or do not,
 /// or to one refusal.

@@ -8,7 +8,7 @@ ghost use Rattle.policy_checks.specs.Checks.{IsSchemaRefused};
 use crate::refusal::schema_refusal;
 use decision_texts::Refusal;
 use std::alloc::Global;
-use validator::schema::{Schema, read_schema};
+use validator::{Schema, read_schema};
 
 /// Returns the schema that bytes state, or the refusal (20 to 25), which has no place.
 pub fn schema_in(alloc: Global, bytes: &[u8]) -> Result<Schema, Refusal>

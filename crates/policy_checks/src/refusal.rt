@@ -4,8 +4,7 @@ ghost use Rattle.std.specs.Prelude.{◌≡◌};
 ghost use Rattle.policy_checks.specs.Refusals.{schema_refusal, check_refusal};
 
 use decision_texts::Refusal;
-use validator::CheckFault;
-use validator::schema::SchemaFault;
+use validator::{CheckFault, SchemaFault};
 
 /// Returns a fault of the schema (20 to 25, or 1), which has no place.
 pub fn schema_refusal(fault: SchemaFault) -> Refusal

@@ -5,7 +5,7 @@ ghost use Rattle.policy_syntax.specs.policy_tokens.Lexing.{IsLexed, IsSpelledIn,
 ghost use Rattle.policy_files.specs.Cuts.{is_end, policy_texts, AreTextsOf};
 
 use plain::NoMemory;
-use policy_syntax::policy_tokens::{LexFault, Token, TokenKind, tokens};
+use policy_syntax::{LexFault, Token, TokenKind, tokens};
 use std::alloc::Global;
 
 /// Returns whether a token of this kind ends a policy.

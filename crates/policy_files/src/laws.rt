@@ -2,7 +2,7 @@
 ghost use Rattle.policy_files.specs.Cuts.{PartsJoin, EachIsSpaced, EachStandsAlone, AreAsManyAsPolicies};
 ghost use Rattle.policy_files.specs.Cuts.{EachDerivesPolicy};
 
-use policy_syntax::policy_tokens::lexing_is_unique;
+use policy_syntax::lexing_is_unique;
 
 /// Proves that the texts of a file's policies, joined again with the white space between them and with what stands
 /// behind the last, are the file's text; and that each has tokens of its own, of which the last alone ends a policy,

@@ -6,6 +6,4 @@ mod laws;
 
 pub use cuts::policy_texts;
 pub use laws::{files_are_cut_by_policies, texts_stand_alone};
-pub use policy_syntax;
-pub use policy_syntax::policy_tokens;
-pub use policy_syntax::policy_tokens::LexFault;
+pub use policy_syntax::{LexFault, lexing_is_unique, reading_is_unique};

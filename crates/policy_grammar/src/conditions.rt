@@ -12,8 +12,7 @@ ghost use Rattle.policy_grammar.specs.inner.Parts.{AreSound, judged_by};
 use expressions::{Expr, Literal, Unary};
 use plain::{NoMemory, beside};
 use std::alloc::Global;
-use text_trees::desugaring::{Measure, build_expr, measure_expr, measures_add_up};
-use text_trees::policy_syntax::{Condition, ConditionWord};
+use text_trees::{Condition, ConditionWord, Measure, build_expr, measure_expr, measures_add_up};
 
 /// Returns what is told of an expression behind this word.
 fn judge_asked(word: ConditionWord, measure: Measure) -> Measure

@@ -16,9 +16,9 @@ use crate::known_names::{
 use crate::policy::{ActionScope, Effect, EntityScope, Policy, Scope};
 use plain::{Items, NoMemory, Shared, beside};
 use std::alloc::Global;
-use text_trees::desugaring::strings_are_read;
-use text_trees::policy_syntax::{ActionTree, PartTree, PolicyTree, UidTree};
-use text_trees::policy_tokens::{TokenKind, decode_string};
+use text_trees::{
+    ActionTree, PartTree, PolicyTree, TokenKind, UidTree, decode_string, strings_are_read,
+};
 use values::EntityUid;
 
 /// Returns the uid that a tree of one stands for, or `NoMemory`; it shares the texts that the known one has too.

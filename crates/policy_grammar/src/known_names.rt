@@ -7,9 +7,7 @@ ghost use Rattle.text_trees.specs.desugaring.Meaning.{path_name};
 use crate::policy::{ActionScope, EntityScope, Scope};
 use plain::{NoMemory, Text};
 use std::alloc::Global;
-use text_trees::desugaring::type_name;
-use text_trees::policy_syntax::PathTree;
-use text_trees::policy_tokens::spelling;
+use text_trees::{PathTree, spelling, type_name};
 use values::{EntityUid, SharedText, TypeName};
 
 /// Returns whether a path is one word, and that this name. Of a longer path, which may have blanks between its words,

@@ -18,6 +18,5 @@ pub use expressions::{Expr, Pattern};
 pub use laws::{file_names_differ, texts_have_one_reading, told_fault_is_least};
 pub use limits::{MOST_ID_BYTES, heads_are_small};
 pub use policy::{ActionScope, Effect, EntityScope, Policy, Scope};
-pub use text_trees::policy_tokens::{LexFault, Token, tokens};
-pub use text_trees::{MOST_FILE_BYTES, MOST_POLICY_BYTES, ReadFault};
+pub use text_trees::{LexFault, MOST_FILE_BYTES, MOST_POLICY_BYTES, ReadFault, Token, tokens};
 pub use texts::{parse_policies, parse_policy, parse_uid};

@@ -5,7 +5,7 @@ ghost use Rattle.policy_grammar.specs.Limits.{IsSmallOver, IsId, ShapesAreSizes,
 
 use expressions::{FORMS_MAX, HEIGHT_MAX};
 use plain::Text;
-use text_trees::policy_syntax::{ActionTree, PartTree, PolicyTree};
+use text_trees::{ActionTree, PartTree, PolicyTree};
 
 /// The greatest height of the conditions' core expression: three `&&` stand above it, and no head is too high.
 const MOST_CONDITION_HEIGHT: u32 = HEIGHT_MAX - 3;

@@ -14,8 +14,7 @@ use itoa::Buffer;
 use plain::{NoMemory, Text};
 use std::alloc::Global;
 use std::collections::VecDeque;
-use text_trees::policy_syntax::{Annotation, PolicyTree};
-use text_trees::policy_tokens::{decode_string, spelling};
+use text_trees::{Annotation, PolicyTree, decode_string, spelling};
 
 /// The bytes of the longest name by a place: `policy` and twenty digits.
 const MOST_PLACED_BYTES: usize = 26;

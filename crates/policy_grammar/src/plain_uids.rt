@@ -6,8 +6,7 @@ ghost use Rattle.policy_grammar.specs.inner.Parts.{IsWrittenPlainly};
 
 use plain::NoMemory;
 use std::alloc::Global;
-use text_trees::MOST_POLICY_BYTES;
-use text_trees::desugaring::strings_are_read;
+use text_trees::{MOST_POLICY_BYTES, strings_are_read};
 use values::{EntityUid, SharedText, TypeName};
 
 /// Returns what stands before `::"`, and what stands between the quotes: where the second quote ends the text, and no

@@ -12,8 +12,7 @@ ghost use Rattle.policy_grammar.specs.inner.Parts.{has_id, looks_placed, meets_p
 use crate::names::has_id;
 use plain::{NoMemory, Text};
 use std::alloc::Global;
-use text_trees::desugaring::{DesugarFault, NameAt, first_duplicate, repeats_stand_again};
-use text_trees::policy_syntax::PolicyTree;
+use text_trees::{DesugarFault, NameAt, PolicyTree, first_duplicate, repeats_stand_again};
 
 /// Where the first token of a policy stands.
 fn start(tree: &PolicyTree) -> usize

@@ -21,9 +21,9 @@ use crate::repeats::repeated_name;
 use crate::verdict::{judge_policies, judge_policy};
 use plain::{NoMemory, Text};
 use std::alloc::Global;
-use text_trees::desugaring::{earlier_of, least_fault_is_told};
-use text_trees::policy_syntax::PolicyTree;
-use text_trees::{ReadFault, policy_tree, policy_trees, uid_tree};
+use text_trees::{
+    PolicyTree, ReadFault, earlier_of, least_fault_is_told, policy_tree, policy_trees, uid_tree,
+};
 use values::EntityUid;
 
 /// Returns the uid that a text is, by its tokens and their tree.

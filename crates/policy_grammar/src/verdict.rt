@@ -11,9 +11,7 @@ use crate::conditions::judge_conditions;
 use crate::limits::is_small;
 use plain::NoMemory;
 use std::alloc::Global;
-use text_trees::desugaring::{DesugarFault, earlier_of, least_fault_is_told};
-use text_trees::policy_syntax::PolicyTree;
-use text_trees::repeated_annotation;
+use text_trees::{DesugarFault, PolicyTree, earlier_of, least_fault_is_told, repeated_annotation};
 
 /// What is told of one policy, or of several.
 #[derive(Clone, Copy)]

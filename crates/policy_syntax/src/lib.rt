@@ -12,7 +12,9 @@ mod scope;
 mod symbols;
 mod tree;
 
-pub use expression_syntax::{ExprTree, PathTree, SyntaxFault, UidTree, policy_tokens};
+pub use expression_syntax::{
+    ExprTree, LexFault, PathTree, SyntaxFault, Token, TokenKind, UidTree, lexing_is_unique, tokens,
+};
 pub use laws::{reading_is_unique, trees_stand_in_tokens};
 pub use read::{read_policies, read_policy, read_uid};
 pub use tree::{ActionTree, Annotation, Condition, ConditionWord, PartTree, PolicyTree};

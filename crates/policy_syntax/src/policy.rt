@@ -9,9 +9,9 @@ ghost use Rattle.policy_syntax.specs.inner.Parsing as spec;
 use crate::policy_sets::PolicySet;
 use crate::scope::scope;
 use crate::tree::{Annotation, Condition, ConditionWord, PolicyTree, ScopeTree};
-use expression_syntax::policy_tokens::{Token, TokenKind};
-use expression_syntax::token_readers::{Cursor, Halt, read_many};
-use expression_syntax::{NESTING_LIMIT, expr, take_symbol};
+use expression_syntax::{
+    Cursor, Halt, NESTING_LIMIT, Token, TokenKind, expr, read_many, take_symbol,
+};
 use plain::{Items, beside};
 use std::alloc::Global;
 

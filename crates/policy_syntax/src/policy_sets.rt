@@ -1,8 +1,7 @@
 //! The kinds of tokens that readers of policies ask for.
 ghost use Rattle.policy_syntax.specs.inner.Included.{included as of_policies};
 
-use expression_syntax::policy_tokens::TokenKind;
-use expression_syntax::token_readers::KindSet;
+use expression_syntax::{KindSet, TokenKind};
 
 /// What readers of policies ask for.
 #[derive(Clone, Copy)]

@@ -10,8 +10,7 @@ ghost use Rattle.policy_syntax.specs.WellFormed.{WellFormedPolicy, WellFormedUid
 
 use crate::policy::{policies, policy};
 use crate::tree::PolicyTree;
-use expression_syntax::policy_tokens::Token;
-use expression_syntax::token_readers::{Cursor, SyntaxFault, UidTree, read_to_end, uid};
+use expression_syntax::{Cursor, SyntaxFault, Token, UidTree, read_to_end, uid};
 use std::alloc::Global;
 
 /// Returns the policy that the tokens are, or the first token with which no policy goes on.

@@ -4,8 +4,7 @@ ghost use Rattle.expression_syntax.specs.token_readers.ParsesTo.{ParsesTo};
 ghost use Rattle.policy_syntax.specs.inner.Parsing as spec;
 
 use crate::tree::{ActionTree, PartTree, ScopeTree};
-use expression_syntax::policy_tokens::TokenKind;
-use expression_syntax::token_readers::{Cursor, Halt, NameSet, UidTree, path, read_more, uid};
+use expression_syntax::{Cursor, Halt, NameSet, TokenKind, UidTree, path, read_more, uid};
 use plain::{Items, beside};
 use std::alloc::Global;
 

@@ -3,8 +3,7 @@
 ghost use Rattle.policy_syntax.specs.Grammar.{condition_word_of};
 
 use crate::tree::ConditionWord;
-use expression_syntax::Symbol;
-use expression_syntax::policy_tokens::TokenKind;
+use expression_syntax::{Symbol, TokenKind};
 
 impl Symbol for ConditionWord {
     ghost meaning = { condition_word_of };

@@ -1,7 +1,5 @@
 //! Policies as they are written.
-use expression_syntax::ExprTree;
-use expression_syntax::policy_tokens::Token;
-use expression_syntax::token_readers::{PathTree, UidTree};
+use expression_syntax::{ExprTree, PathTree, Token, UidTree};
 use plain::Items;
 
 /// An annotation: `@key("value")`.

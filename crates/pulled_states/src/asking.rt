@@ -8,10 +8,9 @@ ghost use Rattle.pulled_states.specs.Exchanges.{IsAnswered, IsUnanswered, IsRequ
 ghost use Rattle.pulled_states.specs.inner.Faults.{pull_fault};
 
 use crate::fault::{NetworkFault, PullFault};
-use http_streams::counted_devices::devices::{Sink, Source};
 use http_streams::fetch::{FetchFault, fetch};
-use http_streams::http_texts::request::Ask;
-use merged_states::decision_texts::Refusal;
+use http_streams::{Ask, Sink, Source};
+use merged_states::Refusal;
 use plain::NoMemory;
 use std::alloc::Global;
 

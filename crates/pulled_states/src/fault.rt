@@ -3,7 +3,7 @@ ghost use Rattle.std.specs.Prelude.{◌≡◌};
 ghost use Rattle.merged_states.specs.decision_texts.Refusals.{no_memory};
 ghost use Rattle.pulled_states.specs.declared.fault.PullFault.TheVariants as pull;
 
-use merged_states::decision_texts::Refusal;
+use merged_states::Refusal;
 use plain::NoMemory;
 
 /// Why there is no reply of status 200.

@@ -9,7 +9,7 @@ mod fault;
 mod pulling;
 
 pub use fault::{NetworkFault, PullFault};
-pub use http_streams;
-pub use http_streams::counted_devices;
+pub use http_streams::serve::StreamFault;
+pub use http_streams::{Counted, MemoryWriter, Plan, Sink, Source};
 pub use merged_states::merge_texts;
 pub use pulling::{Pulled, pull_over};

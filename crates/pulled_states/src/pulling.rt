@@ -13,13 +13,11 @@ ghost use Rattle.pulled_states.specs.Pulls.{IsPulled, IsRefusedFirst, IsStateRef
 
 use crate::asking::ask;
 use crate::fault::PullFault;
-use http_streams::counted_devices::devices::{Sink, Source};
-use merged_states::decision_texts::Refusal;
-use merged_states::policy_grammar::Policy;
-use merged_states::schema::Schema;
-use merged_states::stamped_store::PolicyStore;
-use merged_states::sync_messages::write_summary;
-use merged_states::{Entity, Joined, join_message, schema_in, state_of};
+use http_streams::{Sink, Source};
+use merged_states::{
+    Entity, Joined, Policy, PolicyStore, Refusal, Schema, join_message, schema_in, state_of,
+    write_summary,
+};
 use plain::NoMemory;
 use std::alloc::Global;
 

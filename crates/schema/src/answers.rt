@@ -2,8 +2,7 @@
 
 use crate::laws::stated_schemas_are_well_formed;
 use plain::{Items, Text};
-use schema_parts::number_spans::Span;
-use schema_parts::{EntityDecl, Environment, is_action_above, may_have_parent, parents_at};
+use schema_parts::{EntityDecl, Environment, Span, is_action_above, may_have_parent, parents_at};
 use std::collections::BTreeMap;
 use std::marker::Model;
 use values::{EntityUid, TypeName};

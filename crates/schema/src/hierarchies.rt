@@ -10,7 +10,7 @@ ghost use Rattle.schema.specs.inner.Making.{AddsMember, AreMembers};
 use crate::maps::put;
 use plain::{Items, NoMemory};
 use schema_names::{FoundAction, FoundEntityType};
-use schema_parts::ancestor_closure::{Hierarchy, ParentsOf, Searched};
+use schema_parts::{Hierarchy, ParentsOf, Searched};
 use std::alloc::Global;
 use std::collections::BTreeMap;
 use values::{EntityUid, SharedText, TypeName};

@@ -18,12 +18,11 @@ ghost use Rattle.schema.specs.inner.Numbering.{AreAbove};
 
 use crate::maps::put;
 use plain::{Items, NoMemory};
-use schema_parts::ancestor_closure::{Ancestry, ParentsOf, Searched};
-use schema_parts::number_spans::{Span, joined};
+use schema_parts::{Ancestry, ParentsOf, Searched, Span, joined};
 use std::alloc::Global;
 use std::collections::BTreeMap;
 use values::EntityUid;
-use written_types::place_orders::ends_first;
+use written_types::ends_first;
 
 /// Entities that have numbers: the number of each is its place in the list.
 #[derive(Drop)]

@@ -14,13 +14,9 @@ ghost use Rattle.schema_decisions.specs.inner.Stores.{world_held, IsLineIn, IsLi
 use crate::entity_array::read_entities;
 use crate::policies::passing_policies;
 use crate::question::request_in;
-use entity_store::authoriser::{Answer, decide};
-use entity_store::policy_grammar::Policy;
-use entity_store::schema::Schema;
-use entity_store::{EntityStore, world_under};
+use entity_store::{Answer, EntityStore, Policy, Schema, decide, world_under};
 use plain::NoMemory;
-use policy_checks::decision_texts::{Refusal, answer_line, in_order};
-use policy_checks::schema_in;
+use policy_checks::{Refusal, answer_line, in_order, schema_in};
 use std::alloc::Global;
 use values::Request;
 

@@ -12,11 +12,8 @@ ghost use Rattle.schema_decisions.specs.EntityArrays.{placed, entity_at, entitie
 ghost use Rattle.schema_decisions.specs.inner.Stores.{Holds, KeepsNext, ReadsStore};
 
 use crate::refusal::entity_refusal;
-use entity_store::EntityStore;
-use entity_store::entities::{Entity, EntityFault, read_entity};
-use entity_store::schema::Schema;
-use policy_checks::decision_texts::Refusal;
-use policy_checks::json_values::{Member, Members, Scratch, members_of};
+use entity_store::{Entity, EntityFault, EntityStore, Schema, read_entity};
+use policy_checks::{Member, Members, Refusal, Scratch, members_of};
 use serde_json::Value;
 use std::alloc::Global;
 

@@ -10,6 +10,8 @@ mod refusal;
 
 pub use deciding::decide_under;
 pub use entity_array::judge_entities;
-pub use entity_store::{policy_grammar, schema};
+pub use entity_store::{Policy, Schema};
 pub use laws::texts_have_one_outcome;
-pub use policy_checks::{check_texts, decision_texts, json_values, schema_in};
+pub use policy_checks::{
+    Member, Members, Refusal, Scratch, check_texts, members_of, policies_in, schema_in,
+};

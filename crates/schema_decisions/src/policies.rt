@@ -6,11 +6,8 @@ ghost use Rattle.plain.specs.Refused.{OrNoMemory};
 ghost use Rattle.policy_checks.specs.decision_texts.Refusals.{no_memory};
 ghost use Rattle.schema_decisions.specs.Policies.{ArePassing, IsUnpassed, FirstUnpassed, ArePassingRefused};
 
-use entity_store::policy_grammar::Policy;
-use entity_store::schema::Schema;
-use policy_checks::check_refusal;
-use policy_checks::decision_texts::{Refusal, policies_in};
-use policy_checks::validator::check;
+use entity_store::{Policy, Schema};
+use policy_checks::{Refusal, check, check_refusal, policies_in};
 use std::alloc::Global;
 
 /// Checks that the policy at a place passes.

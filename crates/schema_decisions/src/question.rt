@@ -7,10 +7,9 @@ ghost use Rattle.policy_checks.specs.decision_texts.Refusals.{no_memory};
 ghost use Rattle.schema_decisions.specs.Requests.{IsRequestText, IsRequestFault, IsRequestRefused};
 
 use crate::refusal::entity_refusal;
-use entity_store::entities::{EntityFault, read_request};
-use entity_store::schema::Schema;
+use entity_store::{EntityFault, Schema, read_request};
 use json_words::read_json;
-use policy_checks::decision_texts::Refusal;
+use policy_checks::Refusal;
 use std::alloc::Global;
 use values::Request;
 

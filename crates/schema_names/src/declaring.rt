@@ -12,8 +12,9 @@ ghost use Rattle.schema_names.specs.inner.Adding.{any_name, any_uid};
 
 use crate::qualifying::uid_of;
 use plain::NoMemory;
-use schema_file::named_types::{Names, full_name};
-use schema_file::{StatedAction, StatedCommon, StatedEntityType, StatedNamespace};
+use schema_file::{
+    Names, StatedAction, StatedCommon, StatedEntityType, StatedNamespace, full_name,
+};
 use std::alloc::Global;
 use std::collections::BTreeSet;
 use values::{EntityUid, TypeName};

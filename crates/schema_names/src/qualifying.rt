@@ -17,11 +17,9 @@ ghost use Rattle.schema_types.specs.declared.fault.SchemaFault.TheVariants as Sc
 
 use crate::held::followed_by;
 use plain::{Items, NoMemory, Text, beside};
-use schema_file::named_types::{
-    Names, action_type, declared_action, find, find_action_of_type, full_name, resolve,
-};
 use schema_file::{
-    StatedAction, StatedCommon, StatedEntityType, StatedNamespace, StatedParent, StatedUse,
+    Names, StatedAction, StatedCommon, StatedEntityType, StatedNamespace, StatedParent, StatedUse,
+    action_type, declared_action, find, find_action_of_type, full_name, resolve,
 };
 use schema_types::{FoundCommon, QualifiedType, RawType, SchemaFault};
 use std::alloc::Global;

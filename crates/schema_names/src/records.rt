@@ -17,8 +17,9 @@ ghost use Rattle.schema_names.specs.inner.Spreading.{are_records_of, are_records
 use crate::declaring::full_text;
 use crate::order::{ListedCommon, list_all, order_of};
 use plain::NoMemory;
-use schema_file::named_types::{Names, find, is_other};
-use schema_file::{StatedAction, StatedCommon, StatedEntityType, StatedNamespace, StatedUse};
+use schema_file::{
+    Names, StatedAction, StatedCommon, StatedEntityType, StatedNamespace, StatedUse, find, is_other,
+};
 use schema_types::{RawType, SchemaFault};
 use std::alloc::Global;
 use std::collections::BTreeSet;

@@ -8,10 +8,11 @@ mod label;
 mod lookups;
 mod parts;
 
-pub use ancestor_closure;
+pub use ancestor_closure::laws::{ascending_lists_are_one, paths_are_decided};
+pub use ancestor_closure::{Ancestry, Hierarchy, ParentsOf, Searched};
 pub use cycles::demand_no_cycle;
 pub use environments::{listed, make_place};
 pub use label::label_of;
 pub use lookups::{is_action_above, may_have_parent, parents_at};
-pub use number_spans;
+pub use number_spans::{Span, joined};
 pub use parts::{EntityDecl, Environment, Place};

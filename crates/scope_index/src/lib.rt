@@ -11,4 +11,7 @@ mod found_by;
 mod index;
 
 pub use index::ScopeIndex;
-pub use policy_grammar;
+pub use policy_grammar::{
+    ActionScope, Effect, EntityScope, Policy, ReadFault, Scope, file_names_differ, parse_policy,
+    texts_have_one_reading,
+};

@@ -9,15 +9,17 @@ mod long;
 mod reporting;
 mod status;
 
-pub use decision_texts;
-pub use decision_texts::{authoriser, json_values, policy_grammar, uid_json};
-pub use http_texts;
+pub use decision_texts::{
+    Answer, MOST_ID_BYTES, MOST_POLICY_BYTES, ReadFault, Refusal, Scratch, answer_line,
+    decide_texts, error_line, read_json_by, read_uid,
+};
+pub use http_texts::status::Status;
 pub use laws::{errors_have_one_line, stamps_have_plain_lines};
 pub use reporting::{
     report_answer, report_fault, report_found, report_message, report_put, report_stamp,
     report_status, report_taken,
 };
-pub use site::{Site, SiteFault, stamped_store};
+pub use site::{Site, SiteFault, Stamp};
 
 /// No reply to a change, and no refusal, has a longer body than so many bytes.
 pub const LINE_ROOM: usize = 128;

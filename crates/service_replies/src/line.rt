@@ -7,7 +7,7 @@ ghost use Rattle.service_replies.specs.inner.Pieces.{boolean_word, number_or_nul
 
 use crate::LINE_ROOM;
 use itoa::Buffer;
-use site::stamped_store::{SiteName, Stamp};
+use site::{SiteName, Stamp};
 
 /// Appends a piece.
 fn append(text: &mut Vec<u8>, piece: &[u8])

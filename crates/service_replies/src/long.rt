@@ -5,12 +5,11 @@ ghost use Rattle.serde_json.specs.View.{view};
 ghost use Rattle.decision_texts.specs.Lines.{answer_line};
 ghost use Rattle.service_replies.specs.Lines.{found_json, found_line};
 
-use decision_texts::answer_line;
-use decision_texts::authoriser::Answer;
+use decision_texts::{Answer, answer_line};
 use json_words::write_json;
 use plain::NoMemory;
 use serde_json::{Value, json};
-use site::stamped_store::Stamp;
+use site::Stamp;
 use std::alloc::Global;
 
 /// Appends bytes.

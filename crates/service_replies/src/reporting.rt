@@ -11,11 +11,10 @@ use crate::LINE_ROOM;
 use crate::line::{append_fault, append_put, append_stamp, append_taken};
 use crate::long::{append_answer, append_bytes, append_found};
 use crate::status::refusal_status;
-use decision_texts::authoriser::Answer;
+use decision_texts::Answer;
 use http_texts::status::Status;
 use plain::{Items, NoMemory};
-use site::stamped_store::Stamp;
-use site::{Put, SiteFault, Taken};
+use site::{Put, SiteFault, Stamp, Taken};
 use std::alloc::Global;
 
 /// Tells a refusal of the site, by its number, its place and the number within. Takes no memory.

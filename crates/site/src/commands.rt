@@ -25,10 +25,9 @@ use crate::outcome::Put;
 use crate::ranges::ranges_stay;
 use crate::site::Site;
 use crate::under_schema::{readings_stay, would_cycle};
-use accelerated_store::entities::Entity;
-use accelerated_store::policy_grammar::Policy;
-use accelerated_store::stamped_store::laws::stamps_are_issued;
-use accelerated_store::stamped_store::{COUNT_MAX, Entry, PolicyStore, ReadText, SiteName, Stamp};
+use accelerated_store::{
+    COUNT_MAX, Entity, Entry, Policy, PolicyStore, ReadText, SiteName, Stamp, stamps_are_issued,
+};
 use plain::NoMemory;
 use serde_json::Value;
 use values::EntityUid;

@@ -3,12 +3,10 @@ ghost use Rattle.std.specs.Prelude.{◌≡◌};
 ghost use Rattle.site.specs.Faults.{of_reading, of_checking, of_message, code_of, place_of, within_of};
 ghost use Rattle.site.specs.declared.fault.SiteFault.TheVariants.{NoMemory};
 
-use accelerated_store::entities::EntityFault;
-use accelerated_store::policy_grammar::ReadFault;
+use accelerated_store::{EntityFault, ReadFault};
 use plain::NoMemory;
 use std::alloc::AllocFailed;
-use typed_readings::stored_texts::CheckFault;
-use typed_readings::sync_messages::MessageFault;
+use typed_readings::{CheckFault, MessageFault};
 
 /// Why a site refuses. What is refused changes nothing.
 #[derive(Clone, Copy)]

@@ -15,17 +15,14 @@ ghost use Rattle.site.specs.Admitted.{IsEntityUnder, IsNotAdmitted, IsRequestOf}
 ghost use Rattle.site.specs.inner.Recording.{IsStated, IsStatedBy, StatesNone, AsksNone, IsJudged};
 
 use crate::fault::SiteFault;
-use accelerated_store::entities::{
-    Entity, EntityFault, canonical_text, entities_read_back, read_entity, read_request,
+use accelerated_store::{
+    Entity, EntityFault, Policy, ReadFault, ReadText, Schema, canonical_text, entities_read_back,
+    parse_policy, read_entity, read_request, stated_schemas_are_well_formed,
 };
-use accelerated_store::policy_grammar::{Policy, ReadFault, parse_policy};
-use accelerated_store::schema::{Schema, stated_schemas_are_well_formed};
-use accelerated_store::stamped_store::ReadText;
 use plain::{NoMemory, Text};
 use serde_json::Value;
 use std::alloc::Global;
-use typed_readings::stored_texts::check;
-use typed_readings::uid_json::names_read_back;
+use typed_readings::{check, names_read_back};
 use values::{EntityUid, Request};
 
 // ---- policies

@@ -13,19 +13,19 @@ mod site;
 mod under_schema;
 mod updates;
 
-pub use accelerated_store::schema::{Schema, read_schema};
-pub use accelerated_store::stamped_store::is_site_name;
-pub use accelerated_store::stored_world::{
-    requests_have_one_answer, stored_actions_answer_alike, stores_have_one_reading,
-};
 pub use accelerated_store::{
-    ancestor_closure, authoriser, entities, policy_grammar, schema, stamped_store,
+    Answer, Entity, EntityFault, Policy, Schema, SiteName, Stamp, contents_are_told,
+    deltas_are_joined, is_site_name, paths_are_decided, read_schema, requests_have_one_answer,
+    requests_have_one_outcome, site_names_are_told, stamps_are_issued,
+    stated_schemas_are_well_formed, stored_actions_answer_alike, stores_have_one_reading,
+    texts_have_one_reading, updates_have_one_store,
 };
 pub use fault::SiteFault;
 pub use outcome::{Put, Taken};
 pub use site::Site;
-pub use typed_readings;
-pub use typed_readings::stored_texts::{SchemaTexts, stored_texts_have_one_reading};
 pub use typed_readings::{
-    canonical_texts, state_messages, stored_texts, sync_messages, uid_json, validator,
+    MessageFault, SchemaTexts, Summary, Update, canonical_texts_are_read, json_texts_are_utf8,
+    messages_have_one_outcome, messages_read_back, names_read_back, policies_have_one_outcome,
+    read_message, read_summary, stored_answers_go_right, stored_texts_have_one_reading,
+    summaries_read_back, valid_messages_are_read,
 };

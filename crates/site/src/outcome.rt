@@ -1,6 +1,6 @@
 //! What becomes of commands and messages.
 
-use accelerated_store::stamped_store::Stamp;
+use accelerated_store::Stamp;
 
 /// A policy that was put.
 #[derive(Clone, Copy)]

@@ -9,10 +9,7 @@ ghost use Rattle.accelerated_store.specs.stamped_store.Store.{Store, Update, upd
 ghost use Rattle.typed_readings.specs.sync_messages.Summaries.{AreStamped, IsName, IsStamped};
 ghost use Rattle.typed_readings.specs.state_messages.Updates.{AreInRange, stamped};
 
-use accelerated_store::stamped_store::COUNT_MAX;
-use accelerated_store::stamped_store::laws::{
-    deltas_are_joined, stamps_are_issued, updates_have_one_store,
-};
+use accelerated_store::{COUNT_MAX, deltas_are_joined, stamps_are_issued, updates_have_one_store};
 
 /// Proves that names and stamps stay in their ranges: those of the empty store, and of a store that an update is joined
 /// into whose own are in range; so are those of what is sent of such a store. Its greatest count is at most 10^18, a

@@ -16,17 +16,12 @@ use crate::fault::SiteFault;
 use crate::judging::stated_request;
 use crate::ranges::ranges_stay;
 use crate::under_schema::{answer_under, readings_stay};
-use accelerated_store::AcceleratedStore;
-use accelerated_store::authoriser::Answer;
-use accelerated_store::schema::Schema;
-use accelerated_store::stamped_store::{COUNT_MAX, SiteName, Stamp};
+use accelerated_store::{AcceleratedStore, Answer, COUNT_MAX, Schema, SiteName, Stamp};
 use plain::{NoMemory, Shared};
 use serde_json::Value;
 use std::alloc::Global;
 use std::marker::Model;
-use typed_readings::state_messages::{write_delta, write_state};
-use typed_readings::stored_answers_go_right;
-use typed_readings::sync_messages::{Summary, write_summary};
+use typed_readings::{Summary, stored_answers_go_right, write_delta, write_state, write_summary};
 
 /// A site: a schema, a name, and a store of stamped texts, each kept with what it was read as under the schema.
 ///

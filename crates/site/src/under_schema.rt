@@ -17,13 +17,9 @@ ghost use Rattle.accelerated_store.specs.stored_world.Said.{IsAnswerOver, MakesC
 ghost use Rattle.site.specs.Admitted.{IsPolicyUnder, IsEntityUnder};
 ghost use Rattle.site.specs.Seen.{IsHeld};
 
-use accelerated_store::AcceleratedStore;
-use accelerated_store::authoriser::Answer;
-use accelerated_store::entities::Entity;
-use accelerated_store::policy_grammar::Policy;
-use accelerated_store::stamped_store::laws::readings_are_kept;
+use accelerated_store::{AcceleratedStore, Answer, Entity, Policy, readings_are_kept};
 use plain::NoMemory;
-use typed_readings::stored_texts::SchemaTexts;
+use typed_readings::SchemaTexts;
 use values::Request;
 
 /// Proves that each text of a store is read as what stands beside it stays so, whatever is taken that was so read. Does

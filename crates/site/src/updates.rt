@@ -14,11 +14,8 @@ use crate::outcome::Taken;
 use crate::ranges::ranges_stay;
 use crate::site::Site;
 use crate::under_schema::readings_stay;
-use accelerated_store::entities::Entity;
-use accelerated_store::policy_grammar::Policy;
-use accelerated_store::stamped_store::Entry;
-use accelerated_store::stamped_store::laws::updates_have_one_store;
-use typed_readings::state_messages::Update;
+use accelerated_store::{Entity, Entry, Policy, updates_have_one_store};
+use typed_readings::Update;
 use values::EntityUid;
 
 /// Returns whether an entry was stored.

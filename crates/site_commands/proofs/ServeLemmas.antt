@@ -1,6 +1,7 @@
 -- Connections that are served one after another, and what a site begins with.
-use Rattle.std.proofs.Common.{◌≡◌, ◌∙◌, inl, inr, ℕ, zero, suc, ◌+◌, List, [], ◌∷◌, ◌++◌, length, Option, None, Some}
-use Rattle.std.proofs.Common.{Result, Ok, Err}
+use Rattle.std.proofs.Common.{◌≡◌, ◌∙◌, inl, inr, ℕ, zero, suc, ◌+◌, ◌*◌, ◌<◌, min, Bool, List, [], ◌∷◌, ◌++◌, length}
+use Rattle.std.proofs.Common.{Option, None, Some}
+use Rattle.std.proofs.Common.{Result, Ok, Err, IsErr}
 use Rattle.std.proofs.Common.{IfOk, IfErr, refl, sym, ap, subst, arith, append_assoc, append-nil}
 use Rattle.pulled_states.specs.counted_devices.declared.devices.Source.{Ghosts as Source}
 use Rattle.pulled_states.specs.counted_devices.declared.devices.Sink.{Ghosts as Sink}
@@ -21,79 +22,199 @@ use Rattle.loaded_files.specs.site.declared.fault.SiteFault.TheVariants.{Message
 use Rattle.loaded_files.specs.site.declared.fault.SiteFault.TheVariants.{Request}
 use Rattle.http_service.specs.site_runs.Runs.{IsMessageOf, IsNoMessageOf}
 use Rattle.site_commands.specs.declared.device.Link.{Link}
-use Rattle.site_commands.specs.Events.{Event, accepted, closed, served, Does, Runs}
+use Rattle.site_commands.specs.declared.device.NetworkFailed.{NetworkFailed}
+use Rattle.site_commands.specs.declared.device.Stream.TheVariants.{Faults}
+use Rattle.site_commands.specs.Events.{Event, accepted, closed, paused, served, wrote, Does, Runs}
+use Rattle.site_commands.specs.Reports.{ended}
 use Rattle.site_commands.specs.Beginning.{BeginsWith, IsBegun, IsNotBegun, IsStateRefused, site_refusal}
-use Rattle.site_commands.specs.Serving.{IsServedOver, IsNextServed, AreServed}
+use Rattle.site_commands.specs.Serving.{failing_line, pause_after, IsFailure, AreFailures, IsGivenUp, IsServedOver}
+use Rattle.site_commands.specs.Serving.{IsNextServed, AreServed, AreAllServed}
 use Rattle.site_commands.specs.inner.Begun.{IsBegunUnder, TakesState}
+use Rattle.site_commands.specs.inner.Served.{IsFailureNoted, IsTried, IsAwaited, IsServingEnded, AreServedOrFewer}
 
 -- ---- connections
 
 module _ {R W : Type 0} (reader : Source R) (writer : Sink W) where
-  served_on : (n : ℕ) (old mid new : Seen) (events more : List (Event (Link R W))) → AreServed reader writer n old events mid
-      → IsNextServed reader writer mid more new → AreServed reader writer (suc n) old (events ++ more) new
-  served_on zero old mid new events more so next = (
+  served_on : (address : List ℕ) (n : ℕ) (old mid new : Seen) (events more : List (Event (Link R W)))
+      → AreServed reader writer address n old events mid → IsNextServed reader writer address mid more new
+      → AreServed reader writer address (suc n) old (events ++ more) new
+  served_on address zero old mid new events more so next = (
     more,
     [],
     new,
-    subst (λ (s : Seen). IsNextServed reader writer s more new) so.1 next,
+    subst (λ (s : Seen). IsNextServed reader writer address s more new) so.1 next,
     (refl, refl),
     ap (λ (es : List (Event (Link R W))). es ++ more) so.0 ∙ sym (append-nil more),
   )
-  served_on (suc n) old mid new events more so next = (
+  served_on address (suc n) old mid new events more so next = (
     so.0,
     so.1 ++ more,
     so.2,
     so.3,
-    served_on n so.2 mid new so.1 more so.4 next,
+    served_on address n so.2 mid new so.1 more so.4 next,
     ap (λ (es : List (Event (Link R W))). es ++ more) so.5 ∙ append_assoc so.0 so.1 more,
   )
 
 suc_is : (n : ℕ) → suc n ≡ n + 1
 suc_is n = omega arith
 
+module _ {L : Type 0} where
+  noted : (address : List ℕ) (before : ℕ) (rest : List (Event L)) → IsFailureNoted address before rest
+      → IsFailure address before (accepted None ∷ rest)
+  noted address zero rest so = (so.0, ap (λ (es : List (Event L)). accepted None ∷ es) so.1)
+  noted address (suc before) rest so = ap (λ (es : List (Event L)). accepted None ∷ es) so
+
+pub longer_pause : (before pause next : ℕ) → pause ≡ pause_after before → next ≡ min (2 * pause) 1000 → next ≡ pause_after (before + 1)
+longer_pause before pause next pause_is next_is =
+    next_is ∙ ap (λ (p : ℕ). min (2 * p) 1000) pause_is ∙ ap pause_after (suc_is before)
+
 module _ {L H : Type 0} (does : H → Event L → H → Type 0) where
   does_append : (xs ys : List (Event L)) (old mid new : H) → Does does xs old mid → Does does ys mid new → Does does (xs ++ ys) old new
   does_append [] ys old mid new first second = subst (λ (h : H). Does does ys h new) first second
   does_append (x ∷ xs) ys old mid new first second = (first.0, first.1, does_append xs ys first.0 mid new first.2 second)
 
-module _ {R W H : Type 0} (does : H → Event (Link R W) → H → Type 0) (reader : Source R) (writer : Sink W) where
-  -- so many connections were served, from one site to another
-  abbrev pub IsServedSoFar : H → H → Seen → Seen → ℕ → Type 0
-  IsServedSoFar old new before after n = Runs does old new (λ events. AreServed reader writer n before events after)
-
-  -- a connection came, was served and let go
-  pub next_served : (old mid last new : H) (before after : Seen) (link left : Link R W) (end : Result (Unit {0}) StreamFault)
-      → does old (accepted (Some link)) mid → IsServedOver reader writer before link end left after → does mid (closed left) last
-      → does last (served end) new → Runs does old new (λ events. IsNextServed reader writer before events after)
-  next_served old mid last new before after link left end came answered gone noted = (
-    accepted (Some link) ∷ closed left ∷ served end ∷ [],
-    (mid, came, (last, gone, (new, noted, refl))),
-    inl (link, left, end, refl, answered),
+  -- the first failure is warned of
+  pub first_noted : (address : List ℕ) (before : ℕ) (old mid new : H) (done : Bool) (millis : ℕ) → before ≡ 0 → millis ≡ pause_after before
+      → does old (wrote Faults (ended (failing_line address)) done) mid → does mid (paused millis) new
+      → Runs does old new (λ events. IsFailureNoted address before events)
+  first_noted address zero old mid new done millis is millis_is warned waited = (
+    wrote Faults (ended (failing_line address)) done ∷ paused millis ∷ [],
+    (mid, warned, (new, waited, refl)),
+    (done, ap (λ (m : ℕ). wrote Faults (ended (failing_line address)) done ∷ paused m ∷ []) millis_is),
   )
+  first_noted address (suc before) old mid new done millis is millis_is warned waited = absurd cc
 
-  -- one failed before it stood
-  pub next_lost : (old new : H) (site : Seen) → does old (accepted None) new
-      → Runs does old new (λ events. IsNextServed reader writer site events site)
-  next_lost old new site failed = (accepted None ∷ [], (new, failed, refl), inr (refl, refl))
+  -- the others are not
+  pub other_noted : (address : List ℕ) (before : ℕ) (old new : H) (millis : ℕ) → 0 < before → millis ≡ pause_after before
+      → does old (paused millis) new → Runs does old new (λ events. IsFailureNoted address before events)
+  other_noted address zero old new millis less millis_is waited = absurd (omega arith)
+  other_noted address (suc before) old new millis less millis_is waited =
+      (paused millis ∷ [], (new, waited, refl), ap (λ (m : ℕ). paused m ∷ []) millis_is)
 
-  -- none yet
-  pub none_served : (old : H) (site : Seen) → IsServedSoFar old old site site 0
-  none_served old site = ([], refl, (refl, refl))
+  -- none could be accepted, which was noted
+  pub failure_tried : (address : List ℕ) (before : ℕ) (old mid new : H) (failed : NetworkFailed) → does old (accepted None) mid
+      → Runs does mid new (λ events. IsFailureNoted address before events)
+      → Runs does old new (λ events. IsTried address before (Err failed) events)
+  failure_tried address before old mid new failed came so =
+      (accepted None ∷ so.0, (mid, came, so.1), noted address before so.0 so.2)
+
+  -- no failure yet
+  pub none_failed : (address : List ℕ) (old : H) → Runs does old old (λ events. AreFailures address 0 events)
+  none_failed address old = ([], refl, refl)
 
   -- one more
-  pub one_served : (old mid new : H) (before between after : Seen) (n : ℕ) → IsServedSoFar old mid before between n
-      → Runs does mid new (λ events. IsNextServed reader writer between events after) → IsServedSoFar old new before after (n + 1)
-  one_served old mid new before between after n so next = (
+  pub one_failed : (address : List ℕ) (n : ℕ) (old mid new : H) → Runs does old mid (λ events. AreFailures address n events)
+      → Runs does mid new (λ events. IsFailure address n events) → Runs does old new (λ events. AreFailures address (n + 1) events)
+  one_failed address n old mid new so next = (
+    so.0 ++ next.0,
+    does_append so.0 next.0 old mid new so.1 next.1,
+    subst (λ (k : ℕ). AreFailures address k (so.0 ++ next.0)) (suc_is n) (so.0, next.0, so.2, next.2, refl),
+  )
+
+  -- behind them a connection came
+  pub link_awaited : (address : List ℕ) (n : ℕ) (old mid new : H) (link : L) → Runs does old mid (λ events. AreFailures address n events)
+      → Runs does mid new (λ events. events ≡ accepted (Some link) ∷ []) → Runs does old new (λ events. IsAwaited address (Ok link) events)
+  link_awaited address n old mid new link so next = (
+    so.0 ++ next.0,
+    does_append so.0 next.0 old mid new so.1 next.1,
+    (n, so.0, so.2, ap (λ (es : List (Event L)). so.0 ++ es) next.2),
+  )
+
+  -- it was given up
+  pub given_up : (address : List ℕ) (n : ℕ) (old new : H) (failed : NetworkFailed) → n ≡ 18446744073709551615
+      → Runs does old new (λ events. AreFailures address n events) → Runs does old new (λ events. IsAwaited address (Err failed) events)
+  given_up address n old new failed is so = (so.0, so.1, (n, is, so.2))
+
+module _ {R W H : Type 0} (does : H → Event (Link R W) → H → Type 0) (reader : Source R) (writer : Sink W) where
+  -- so many connections were served, from one site to another
+  abbrev pub IsServedSoFar : List ℕ → H → H → Seen → Seen → ℕ → Type 0
+  IsServedSoFar address old new before after n = Runs does old new (λ events. AreServed reader writer address n before events after)
+
+  -- a connection came, was served and let go
+  pub next_served : (address : List ℕ) (old mid last new : H) (before after : Seen) (link left : Link R W)
+      (end : Result (Unit {0}) StreamFault) → Runs does old mid (λ events. IsAwaited address (Ok link) events)
+      → IsServedOver reader writer before link end left after → does mid (closed left) last → does last (served end) new
+      → Runs does old new (λ events. IsNextServed reader writer address before events after)
+  next_served address old mid last new before after link left end came answered gone noted = (
+    came.0 ++ closed left ∷ served end ∷ [],
+    does_append does came.0 (closed left ∷ served end ∷ []) old mid new came.1 (last, gone, (new, noted, refl)),
+    (
+      came.2.0,
+      came.2.1,
+      link,
+      left,
+      end,
+      came.2.2,
+      ap (λ (es : List (Event (Link R W))). es ++ closed left ∷ served end ∷ []) came.2.3
+          ∙ append_assoc came.2.1 (accepted (Some link) ∷ []) (closed left ∷ served end ∷ []),
+      answered,
+    ),
+  )
+
+  -- none yet
+  pub none_served : (address : List ℕ) (old : H) (site : Seen) → IsServedSoFar address old old site site 0
+  none_served address old site = ([], refl, (refl, refl))
+
+  -- one more
+  pub one_served : (address : List ℕ) (old mid new : H) (before between after : Seen) (n : ℕ)
+      → IsServedSoFar address old mid before between n
+      → Runs does mid new (λ events. IsNextServed reader writer address between events after)
+      → IsServedSoFar address old new before after (n + 1)
+  one_served address old mid new before between after n so next = (
     so.0 ++ next.0,
     does_append does so.0 next.0 old mid new so.1 next.1,
-    subst (λ (k : ℕ). AreServed reader writer k before (so.0 ++ next.0) after) (suc_is n)
-        (served_on reader writer n before between after so.0 next.0 so.2 next.2),
+    subst (λ (k : ℕ). AreServed reader writer address k before (so.0 ++ next.0) after) (suc_is n)
+        (served_on reader writer address n before between after so.0 next.0 so.2 next.2),
   )
 
   -- all of them
-  pub all_served : (old new : H) (before after : Seen) (n most : ℕ) → n ≡ most → IsServedSoFar old new before after n
-      → IsServedSoFar old new before after most
-  all_served old new before after n most is so = subst (λ (k : ℕ). IsServedSoFar old new before after k) is so
+  pub all_served : (address : List ℕ) (old new : H) (before after : Seen) (n most : ℕ) → n ≡ most
+      → IsServedSoFar address old new before after n → IsServedSoFar address old new before after most
+  all_served address old new before after n most is so =
+      subst (λ (k : ℕ). IsServedSoFar address old new before after k) is so
+
+  -- fewer, and then it was given up
+  pub fewer_served : (address : List ℕ) (old mid new : H) (before between after : Seen) (n most : ℕ) (r : Result (Unit {0}) NetworkFailed)
+      → IsErr r → n < most → IsServedSoFar address old mid before between n
+      → Runs does mid new (λ events. IsGivenUp address events × (after ≡ between))
+      → Runs does old new (λ events. AreServedOrFewer reader writer address most before r events after)
+  fewer_served address old mid new before between after n most (Ok done) is less so next = absurd cc
+  fewer_served address old mid new before between after n most (Err failed) is less so next = (
+    so.0 ++ next.0,
+    does_append does so.0 next.0 old mid new so.1 next.1,
+    (
+      n,
+      so.0,
+      next.0,
+      less,
+      subst (λ (s : Seen). AreServed reader writer address n before so.0 s) (sym next.2.1) so.2,
+      next.2.0,
+      refl,
+    ),
+  )
+
+  -- either is all of a run that serves
+  pub serving_ended : (address : List ℕ) (old mid new : H) (before after : Seen) (most end : ℕ) (r : Result (Unit {0}) NetworkFailed)
+      → Runs does old mid (λ events. AreServedOrFewer reader writer address most before r events after)
+      → Runs does mid new (λ events. IsServingEnded address r events end)
+      → Runs does old new (λ events. AreAllServed reader writer address most before events end)
+  serving_ended address old mid new before after most end (Ok done) so told = (
+    so.0 ++ told.0,
+    does_append does so.0 told.0 old mid new so.1 told.1,
+    inl (
+      (
+        after,
+        subst (λ (es : List (Event (Link R W))). AreServed reader writer address most before es after)
+            (sym (ap (λ (es : List (Event (Link R W))). so.0 ++ es) told.2.0 ∙ append-nil so.0)) so.2,
+      ),
+      told.2.1,
+    ),
+  )
+  serving_ended address old mid new before after most end (Err failed) so told = (
+    so.0 ++ told.0,
+    does_append does so.0 told.0 old mid new so.1 told.1,
+    inr (after, so.0, told.0, so.2, told.2, refl),
+  )
 
 -- ---- what a site begins with
 

@@ -1,5 +1,5 @@
 -- What a run does on the machine that it runs on: files that it reads and writes, what it writes on the two standard
--- streams, and connections, each as it stood when it came. A rule of this product.
+-- streams, connections, each as it stood when it came, and pauses. A rule of this product.
 use Rattle.std.specs.Prelude.{◌≡◌, ℕ, Bool, true, false, List, [], ◌∷◌, Option, Result}
 use Rattle.std.specs.Io.KnownBytes.{Appends}
 use Rattle.command_lines.specs.declared.fault.LineFault.{LineFault}
@@ -28,6 +28,8 @@ pub data Event (L : Type 0) : Type 0 where
   closed : L → Event L
   -- the serving of the connection that was let go last had ended so
   served : Result (Unit {0}) StreamFault → Event L
+  -- nothing was done for so many milliseconds
+  paused : ℕ → Event L
 
 module _ {L H : Type 0} (does : H → Event L → H → Type 0) where
   -- these events, in this order, lead from the old state of the machine to the new one
@@ -51,6 +53,7 @@ Changes held told out err (listened address done) new_out new_err = (new_out ≡
 Changes held told out err (accepted came) new_out new_err = (new_out ≡ out) × (new_err ≡ err)
 Changes held told out err (closed link) new_out new_err = (new_out ≡ out) × (new_err ≡ err)
 Changes held told out err (served how) new_out new_err = (new_out ≡ out) × (new_err ≡ err)
+Changes held told out err (paused millis) new_out new_err = (new_out ≡ out) × (new_err ≡ err)
 Changes held told out err (wrote Answers bytes true) new_out new_err =
     Appends (held out) (held new_out) bytes × (new_err ≡ err)
 Changes held told out err (wrote Answers bytes false) new_out new_err = new_err ≡ err

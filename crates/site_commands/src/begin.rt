@@ -6,11 +6,9 @@ ghost use Rattle.loaded_files.specs.site.Seen.{schema_of};
 ghost use Rattle.site_commands.specs.Beginning.{IsBegun, IsNotBegun, IsStateRefused, site_refusal};
 ghost use Rattle.site_commands.specs.inner.Begun.{IsBegunUnder, TakesState};
 
-use command_lines::stamped_store::SiteName;
-use http_service::decision_texts::Refusal;
-use http_service::{Site, SiteFault, Taken, take_bytes};
-use loaded_files::schema::Schema;
-use loaded_files::schema_decisions::schema_in;
+use command_lines::SiteName;
+use http_service::{Refusal, Site, SiteFault, Taken, take_bytes};
+use loaded_files::{Schema, schema_in};
 use plain::{NoMemory, Shared};
 use std::alloc::Global;
 

@@ -8,8 +8,8 @@ ghost use Rattle.site_commands.specs.inner.Ways.{IsRunOver};
 use crate::host::Host;
 use crate::reading::read_file;
 use crate::report::{report_answer, report_lines, report_refusal};
-use http_service::decision_texts::decide_texts;
-use loaded_files::schema_decisions::{check_texts, decide_under};
+use http_service::decide_texts;
+use loaded_files::{check_texts, decide_under};
 use std::alloc::Global;
 use std::process::ExitCode;
 

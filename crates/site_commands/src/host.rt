@@ -1,16 +1,15 @@
-//! What a run needs of the machine that it runs on: files, two streams and connections.
+//! What a run needs of the machine that it runs on: files, two streams, connections, and pauses.
 ghost use Rattle.std.specs.Prelude.{◌++◌, Ok, Err, Some, None, MatchResult, is_ok};
 ghost use Rattle.site_commands.specs.declared.device.Link.{Link};
-ghost use Rattle.site_commands.specs.Events.{Event, accepted, closed, connected, listened, printed, read, served};
-ghost use Rattle.site_commands.specs.Events.{stored, wrote};
+ghost use Rattle.site_commands.specs.Events.{Event, accepted, closed, connected, listened, paused, printed, read};
+ghost use Rattle.site_commands.specs.Events.{served, stored, wrote};
 ghost use Rattle.site_commands.specs.Reports.{ended};
 
 use crate::device::{FileFault, Link, NetworkFailed, Stream, StreamFailed};
 use command_lines::LineFault;
-use pulled_states::counted_devices::devices::{Sink, Source};
-use pulled_states::http_streams::serve::StreamFault;
+use pulled_states::{Sink, Source, StreamFault};
 
-/// A machine with files, two streams and connections.
+/// A machine with files, two streams, connections and a clock.
 pub trait Host {
     /// What comes over a connection.
     type Reader: Source + Drop;
@@ -65,4 +64,8 @@ pub trait Host {
     /// Takes note of how the serving of a connection ended.
     fn note_served(&mut self, end: Result<(), StreamFault>)
         ensures { does self.old (served end) self.new };
+
+    /// Does nothing for so many milliseconds.
+    fn pause(&mut self, millis: u64)
+        ensures { does self.old (paused millis) self.new };
 }

@@ -14,7 +14,7 @@ mod serving;
 mod states;
 mod system;
 
-pub use command_lines;
+pub use command_lines::LineFault;
 pub use device::{FileFault, Link, NetworkFailed, Stream, StreamFailed};
 pub use host::Host;
 pub use program::run;

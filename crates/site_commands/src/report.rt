@@ -11,7 +11,7 @@ ghost use Rattle.site_commands.specs.Reports.{status_after};
 use crate::device::{FileFault, Stream, StreamFailed};
 use crate::host::Host;
 use command_lines::LineFault;
-use http_service::decision_texts::{Refusal, error_line};
+use http_service::{Refusal, error_line};
 use std::alloc::Global;
 use std::process::ExitCode;
 

@@ -1,26 +1,38 @@
 //! A site that is served, one connection after another.
-ghost use Rattle.std.specs.Prelude.{◌≡◌, ◌++◌, option_map, codes};
+ghost use Rattle.std.specs.Prelude.{◌≡◌, ◌*◌, ◌++◌, min, option_map, codes};
 ghost use Rattle.std.specs.Process.{exit_status};
 ghost use Rattle.site_commands.specs.Events.{Runs};
 ghost use Rattle.site_commands.specs.Courses.{Announces, Listens};
-ghost use Rattle.site_commands.specs.Serving.{AreServed, AreAllServed, IsNextServed, IsServedOver, IsServedFrom};
-ghost use Rattle.site_commands.specs.Serving.{IsServedAt, IsServeRun, most_of};
-ghost use Rattle.site_commands.specs.inner.Served.{IsServeNamed, IsServeUnder};
+ghost use Rattle.site_commands.specs.Serving.{AreAllServed, IsServedOver, IsServedFrom, IsServedAt, IsServeRun};
+ghost use Rattle.site_commands.specs.Serving.{most_of, pause_after};
+ghost use Rattle.site_commands.specs.inner.Served.{AreServedOrFewer, IsAwaited, IsFailureNoted, IsNextOrNone};
+ghost use Rattle.site_commands.specs.inner.Served.{IsServeNamed, IsServeUnder, IsServingEnded, IsTried};
 
 use crate::begin::begin;
 use crate::device::{Link, NetworkFailed, Stream};
 use crate::host::Host;
 use crate::reading::read_file;
 use crate::report::{ANSWERED, report_failure, report_refusal, status_of};
-use command_lines::stamped_store::SiteName;
+use command_lines::SiteName;
 use http_service::{Site, serve};
-use pulled_states::counted_devices::devices::{Sink, Source};
-use pulled_states::http_streams::serve::StreamFault;
+use pulled_states::{Sink, Source, StreamFault};
 use std::alloc::Global;
 use std::process::ExitCode;
 
 /// What stands before the name of a site that begins with stamps of its name.
 const OWN_STAMPS: &str = "warning: the state has stamps of this name, which is to be used once: ";
+
+/// What stands before the address where connections begin to fail before they stand.
+const FAILING: &str = "warning: accept failed, trying again: ";
+
+/// The pause behind the first failure of a row, in milliseconds.
+const SHORTEST_PAUSE: u64 = 1;
+
+/// The longest pause, in milliseconds.
+const LONGEST_PAUSE: u64 = 1000;
+
+/// How often in a row a connection can fail before it stands. No run comes to that.
+const MOST_FAILURES: u64 = u64::MAX;
 
 /// Answers what comes over a connection, as `serve` says, and returns how that ended.
 fn serve_link<R: Source, W: Sink>(
@@ -33,18 +45,85 @@ fn serve_link<R: Source, W: Sink>(
     serve(alloc, site, &mut link.reader, &mut link.writer)
 }
 
-/// Waits for a connection, answers what comes over it, and lets it go. A fault of a connection ends that one alone.
-fn serve_next<H: Host>(alloc: Global, host: &mut H, listener: &H::Listener, site: &mut Site)
-    ensures { Runs H.does host.old host.new
-        (λ events. IsNextServed H.Reader.Source H.Writer.Sink site.old events site.new) }
+/// Returns the pause behind the next failure: twice as long, up to the longest.
+fn longer(pause: u64) -> u64
+    ensures { result ≡ min (2 * pause) 1000 }
+{
+    LONGEST_PAUSE.min(pause.saturating_mul(2))
+}
+
+/// Warns of a failure, where none stands right before it, and pauses.
+fn note_failure<H: Host>(host: &mut H, address: &str, before: u64, pause: u64)
+    requires { pause ≡ pause_after before }
+    ensures { Runs H.does host.old host.new (λ events. IsFailureNoted address.now before events) }
+{
+    if before > 0 {
+        host.pause(pause);
+        return;
+    }
+    let _ = host.write_line(Stream::Faults, FAILING, address.as_bytes());
+    host.pause(pause);
+}
+
+/// Waits for a connection. Where it fails before it stands, with so many failures right before, that is noted.
+fn try_accept<H: Host>(
+    host: &mut H,
+    listener: &H::Listener,
+    address: &str,
+    before: u64,
+    pause: u64,
+) -> Result<Link<H::Reader, H::Writer>, NetworkFailed>
+    requires { pause ≡ pause_after before }
+    ensures { Runs H.does host.old host.new (λ events. IsTried address.now before result events) }
 {
     match host.accept(listener) {
+        Ok(link) => Ok(link),
+        Err(NetworkFailed) => {
+            note_failure(host, address, before, pause);
+            Err(NetworkFailed)
+        }
+    }
+}
+
+/// Waits until a connection comes, whatever fails before.
+fn next_link<H: Host>(
+    host: &mut H,
+    listener: &H::Listener,
+    address: &str,
+) -> Result<Link<H::Reader, H::Writer>, NetworkFailed>
+    ensures { Runs H.does host.old host.new (λ events. IsAwaited address.now result events) }
+{
+    let mut failures = 0;
+    let mut pause = SHORTEST_PAUSE;
+    while failures < MOST_FAILURES {
+        if let Ok(link) = try_accept(host, listener, address, failures, pause) {
+            return Ok(link);
+        }
+        failures += 1;
+        pause = longer(pause);
+    }
+    Err(NetworkFailed)
+}
+
+/// Waits for a connection, answers what comes over it, and lets it go. A fault of a connection ends that one alone.
+fn serve_next<H: Host>(
+    alloc: Global,
+    host: &mut H,
+    listener: &H::Listener,
+    address: &str,
+    site: &mut Site,
+) -> Result<(), NetworkFailed>
+    ensures { Runs H.does host.old host.new (λ events.
+        IsNextOrNone H.Reader.Source H.Writer.Sink address.now site.old result events site.new) }
+{
+    match next_link(host, listener, address) {
         Ok(mut link) => {
             let end = serve_link(alloc, site, &mut link);
             host.close(link);
             host.note_served(end);
+            Ok(())
         }
-        Err(NetworkFailed) => {}
+        Err(NetworkFailed) => Err(NetworkFailed),
     }
 }
 
@@ -53,17 +132,19 @@ fn serve_all<H: Host>(
     alloc: Global,
     host: &mut H,
     listener: &H::Listener,
+    address: &str,
     site: &mut Site,
     most: u64,
-)
-    ensures { Runs H.does host.old host.new
-        (λ events. AreServed H.Reader.Source H.Writer.Sink most site.old events site.new) }
+) -> Result<(), NetworkFailed>
+    ensures { Runs H.does host.old host.new (λ events.
+        AreServedOrFewer H.Reader.Source H.Writer.Sink address.now most site.old result events site.new) }
 {
     let mut served = 0;
     while served < most {
-        serve_next(alloc, host, listener, site);
+        serve_next(alloc, host, listener, address, site)?;
         served += 1;
     }
+    Ok(())
 }
 
 /// Returns how many connections are served: all, where no number is given.
@@ -76,19 +157,31 @@ fn most_of(connections: Option<u32>) -> u64
     }
 }
 
+/// Ends a run that served, and tells it where no connection could be accepted any more.
+fn end_served<H: Host>(host: &mut H, address: &str, served: Result<(), NetworkFailed>) -> ExitCode
+    ensures { Runs H.does host.old host.new
+        (λ events. IsServingEnded address.now served events (exit_status result)) }
+{
+    match served {
+        Ok(()) => status_of(Ok(()), ANSWERED),
+        Err(NetworkFailed) => report_failure(host, address),
+    }
+}
+
 /// Serves so many connections, and ends.
 fn serve_to_end<H: Host>(
     alloc: Global,
     host: &mut H,
     listener: &H::Listener,
     mut site: Site,
+    address: &str,
     most: u64,
 ) -> ExitCode
-    ensures { Runs H.does host.old host.new
-        (λ events. AreAllServed H.Reader.Source H.Writer.Sink most site events (exit_status result)) }
+    ensures { Runs H.does host.old host.new (λ events.
+        AreAllServed H.Reader.Source H.Writer.Sink address.now most site events (exit_status result)) }
 {
-    serve_all(alloc, host, listener, &mut site, most);
-    status_of(Ok(()), ANSWERED)
+    let served = serve_all(alloc, host, listener, address, &mut site, most);
+    end_served(host, address, served)
 }
 
 /// Says where the site listens, and then serves.
@@ -101,11 +194,11 @@ fn serve_listening<H: Host>(
     most: u64,
 ) -> ExitCode
     ensures { Runs H.does host.old host.new (λ events. Announces (codes "listening " ++ address.now)
-        (AreAllServed H.Reader.Source H.Writer.Sink most site) events (exit_status result)) }
+        (AreAllServed H.Reader.Source H.Writer.Sink address.now most site) events (exit_status result)) }
 {
     let place = address.as_bytes();
     match host.write_line(Stream::Answers, "listening ", place) {
-        Ok(()) => serve_to_end(alloc, host, listener, site, most),
+        Ok(()) => serve_to_end(alloc, host, listener, site, address, most),
         Err(failed) => status_of(Err(failed), ANSWERED),
     }
 }
@@ -113,8 +206,8 @@ fn serve_listening<H: Host>(
 /// Listens at an address, and then serves.
 fn serve_at<H: Host>(alloc: Global, host: &mut H, site: Site, address: &str, most: u64) -> ExitCode
     ensures { Runs H.does host.old host.new (λ events. Listens address.now
-        (Announces (codes "listening " ++ address.now) (AreAllServed H.Reader.Source H.Writer.Sink most site)) events
-        (exit_status result)) }
+        (Announces (codes "listening " ++ address.now)
+        (AreAllServed H.Reader.Source H.Writer.Sink address.now most site)) events (exit_status result)) }
 {
     match host.listen(address) {
         Ok(listener) => serve_listening(alloc, host, &listener, site, address, most),

@@ -14,8 +14,7 @@ use crate::host::Host;
 use crate::reading::{read_file, read_if_there};
 use crate::report::{report_answer, report_failure, report_file, report_memory, report_refusal};
 use plain::NoMemory;
-use pulled_states::counted_devices::devices::{Sink, Source};
-use pulled_states::{PullFault, Pulled, merge_texts, pull_over};
+use pulled_states::{PullFault, Pulled, Sink, Source, merge_texts, pull_over};
 use std::alloc::Global;
 use std::process::ExitCode;
 

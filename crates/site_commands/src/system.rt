@@ -7,14 +7,14 @@ ghost use Rattle.site_commands.specs.Reports.{ended};
 use crate::device::{FileFault, Link, NetworkFailed, Stream, StreamFailed};
 use crate::host::Host;
 use command_lines::LineFault;
-use pulled_states::counted_devices::devices::Counted;
-use pulled_states::http_streams::serve::StreamFault;
+use pulled_states::{Counted, StreamFault};
 use std::fs::{File, Files, OpenFile};
 use std::io::{ErrorKind, Write};
 use std::net::{Net, OpenListener, OpenStream, TcpListener, TcpStream};
-use std::{fs, io};
+use std::time::{Clock, Duration};
+use std::{fs, io, thread};
 
-/// The files and the network of the system, and two writers.
+/// The files, the network and the clock of the system, and two writers.
 #[derive(Drop)]
 pub struct SystemHost<'a, R, O, E> {
     pub files: &'a R,
@@ -82,7 +82,7 @@ fn link<S: io::Read + Write + OpenStream + Drop>(
     })
 }
 
-impl<R: Files + Net + AllocGlobal, O: Write, E: Write> Host for SystemHost<'_, R, O, E> {
+impl<R: Files + Net + Clock + AllocGlobal, O: Write, E: Write> Host for SystemHost<'_, R, O, E> {
     type Reader = Counted<R::Stream>;
 
     type Writer = Counted<R::Stream>;
@@ -157,4 +157,8 @@ impl<R: Files + Net + AllocGlobal, O: Write, E: Write> Host for SystemHost<'_, R
     }
 
     fn note_served(&mut self, _end: Result<(), StreamFault>) {}
+
+    fn pause(&mut self, millis: u64) {
+        thread::sleep(self.files, Duration::from_millis(millis))
+    }
 }

@@ -20,15 +20,10 @@ use crate::laws::runs_go_right;
 use crate::reply::{Found, Reply};
 use json_words::read_json;
 use plain::{Items, NoMemory, Text};
-use site::authoriser::Answer;
-use site::entities::{Entity, EntityFault};
-use site::policy_grammar::Policy;
-use site::schema::Schema;
-use site::stamped_store::Stamp;
-use site::stamped_store::laws::updates_have_one_store;
-use site::state_messages::{Update, read_message};
-use site::sync_messages::{MessageFault, Summary, read_summary};
-use site::{SchemaTexts, Site, SiteFault, Taken};
+use site::{
+    Answer, Entity, EntityFault, MessageFault, Policy, Schema, SchemaTexts, Site, SiteFault, Stamp,
+    Summary, Taken, Update, read_message, read_summary, updates_have_one_store,
+};
 use std::alloc::Global;
 
 /// Puts the entity that bytes state, as its canonical text: JSON in UTF-8. Nothing is copied that is not kept.

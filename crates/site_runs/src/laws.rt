@@ -13,15 +13,11 @@ ghost use Rattle.site_runs.specs.Outcomes.{InputsHaveAnOutcome, InputsHaveOneOut
 ghost use Rattle.site_runs.specs.Right.{RunsGoRight};
 ghost use Rattle.site_runs.specs.Runs.{HoldsAfter};
 
-use site::ancestor_closure::laws::paths_are_decided;
-use site::entities::{Entity, requests_have_one_outcome};
-use site::policy_grammar::{Policy, texts_have_one_reading};
-use site::stamped_store::laws::{contents_are_told, stamps_are_issued, updates_have_one_store};
-use site::state_messages::messages_have_one_outcome;
-use site::typed_readings::stored_answers_go_right;
-use site::validator::policies_have_one_outcome;
 use site::{
-    SchemaTexts, requests_have_one_answer, stored_texts_have_one_reading, stores_have_one_reading,
+    Entity, Policy, SchemaTexts, contents_are_told, messages_have_one_outcome, paths_are_decided,
+    policies_have_one_outcome, requests_have_one_answer, requests_have_one_outcome,
+    stamps_are_issued, stored_answers_go_right, stored_texts_have_one_reading,
+    stores_have_one_reading, texts_have_one_reading, updates_have_one_store,
 };
 
 /// Sites of one schema that had and took equal sets of updates hold equal stores, whatever their names, and in

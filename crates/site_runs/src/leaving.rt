@@ -6,7 +6,7 @@ ghost use Rattle.site_runs.specs.declared.input.Input.{Input};
 ghost use Rattle.site_runs.specs.declared.reply.Reply.{Reply};
 ghost use Rattle.site_runs.specs.Runs.{Run, took};
 
-use site::stamped_store::laws::updates_have_one_store;
+use site::updates_have_one_store;
 
 /// A run leaves the store of the updates that were there and of those that it took, whoever drove it.
 pub fn runs_leave_what_they_took()

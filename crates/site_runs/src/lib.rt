@@ -18,9 +18,9 @@ pub use input::Input;
 pub use laws::{equal_updates_leave_equal_stores, inputs_have_one_outcome, runs_go_right};
 pub use leaving::runs_leave_what_they_took;
 pub use reply::{Found, Reply};
-pub use site;
-pub use site::entities::EntityFault;
 pub use site::{
-    Put, Site, SiteFault, Taken, canonical_texts, entities, policy_grammar, schema, stamped_store,
-    state_messages, stored_texts, sync_messages, uid_json,
+    Entity, EntityFault, Policy, Put, Schema, SchemaTexts, Site, SiteFault, SiteName, Stamp, Taken,
+    canonical_texts_are_read, deltas_are_joined, json_texts_are_utf8, messages_read_back,
+    names_read_back, site_names_are_told, stamps_are_issued, stated_schemas_are_well_formed,
+    summaries_read_back, updates_have_one_store, valid_messages_are_read,
 };

@@ -1,9 +1,7 @@
 //! What a site answers.
 
 use plain::{Items, Text};
-use site::authoriser::Answer;
-use site::stamped_store::Stamp;
-use site::{Put, SiteFault, Taken};
+use site::{Answer, Put, SiteFault, Stamp, Taken};
 
 /// A policy that was found.
 #[derive(Drop)]

@@ -5,19 +5,11 @@ ghost use Rattle.site_worlds.specs.Sites.{AreSites, first_sites};
 ghost use Rattle.site_worlds.specs.Promises.{WorldsKeepPromises};
 ghost use Rattle.site_worlds.specs.Worlds.{AnswersFixWorlds};
 
-use site_runs::canonical_texts::json_texts_are_utf8;
-use site_runs::entities::Entity;
-use site_runs::policy_grammar::Policy;
-use site_runs::schema::{Schema, stated_schemas_are_well_formed};
-use site_runs::site::SchemaTexts;
-use site_runs::stamped_store::laws::{
-    deltas_are_joined, site_names_are_told, stamps_are_issued, updates_have_one_store,
-};
-use site_runs::state_messages::{messages_read_back, valid_messages_are_read};
-use site_runs::sync_messages::summaries_read_back;
-use site_runs::uid_json::names_read_back;
 use site_runs::{
-    canonical_texts, inputs_have_one_outcome, runs_leave_what_they_took, stored_texts,
+    Entity, Policy, Schema, SchemaTexts, deltas_are_joined, inputs_have_one_outcome,
+    json_texts_are_utf8, messages_read_back, names_read_back, runs_leave_what_they_took,
+    site_names_are_told, stamps_are_issued, stated_schemas_are_well_formed, summaries_read_back,
+    updates_have_one_store, valid_messages_are_read,
 };
 
 /// In every world of sites with distinct names under the schema, whatever was delivered, in whatever order and however
@@ -36,7 +28,7 @@ pub fn worlds_keep_promises(schema: &Schema)
     json_texts_are_utf8();
     names_read_back();
     canonical_texts::canonical_texts_are_read();
-    stored_texts::canonical_texts_are_read();
+    site_runs::canonical_texts_are_read();
     summaries_read_back();
     messages_read_back();
     valid_messages_are_read::<Policy, Entity, SchemaTexts<'static>>();

@@ -9,6 +9,7 @@ mod world;
 
 pub use event::{Deed, Event, EventReply};
 pub use laws::{answers_fix_worlds, first_sites_are_distinct, worlds_keep_promises};
-pub use site_runs;
-pub use site_runs::{Reply, Site, SiteFault};
+pub use site_runs::{
+    Found, Input, Put, Reply, Schema, Site, SiteFault, SiteName, Stamp, Taken, run,
+};
 pub use world::{World, simulate};

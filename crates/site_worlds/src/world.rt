@@ -12,9 +12,7 @@ use crate::event::{Event, EventReply};
 use crate::laws::{first_sites_are_distinct, worlds_keep_promises};
 use crate::playing::play;
 use plain::{Items, NoMemory, Shared};
-use site_runs::Site;
-use site_runs::schema::Schema;
-use site_runs::stamped_store::SiteName;
+use site_runs::{Schema, Site, SiteName};
 use std::alloc::Global;
 
 /// Sites that exchanged messages: the sites themselves, what was made, and what the events were answered.

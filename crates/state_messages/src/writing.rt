@@ -23,8 +23,7 @@ use plain::NoMemory;
 use std::alloc::Global;
 use std::cmp::Ordering;
 use std::collections::btree_map::Iter;
-use sync_messages::stamped_store::{Entry, PolicyStore, ReadText, Stamp};
-use sync_messages::{Lent, Summary, write_number, write_text};
+use sync_messages::{Entry, Lent, PolicyStore, ReadText, Stamp, Summary, write_number, write_text};
 use values::Name;
 
 /// Returns the member `body`: a text, or null.

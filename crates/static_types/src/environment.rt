@@ -13,7 +13,7 @@ ghost use Rattle.static_types.specs.inner.Parts.{found_view, found_held};
 
 use crate::parts::Part;
 use crate::static_type::{Leaf, StaticType};
-use entities::schema::{Environment, Schema, stated_schemas_are_well_formed};
+use entities::{Environment, Schema, stated_schemas_are_well_formed};
 use expressions::Variable;
 use plain::Text;
 use schema_types::CedarType;

@@ -1,7 +1,7 @@
 //! Laws of the definitions; the functions do nothing.
 ghost use Rattle.static_types.specs.Laws.{TypesAreBelowTransitively, StatedTypesAreOrdered};
 
-use entities::schema::stated_schemas_are_well_formed;
+use entities::stated_schemas_are_well_formed;
 
 /// What a schema that bytes state says of entities is as the laws of typing want it: above is transitive, and the keys
 /// of each record type ascend.

@@ -14,8 +14,7 @@ ghost use Rattle.store_index.specs.Staying.{Stays};
 
 use crate::staying::stays;
 use plain::NoMemory;
-use scope_index::ScopeIndex;
-use scope_index::policy_grammar::Policy;
+use scope_index::{Policy, ScopeIndex};
 use stamped_store::{Entry, PolicyStore};
 use std::alloc::Global;
 

@@ -8,7 +8,14 @@ mod index;
 mod staying;
 
 pub use index::{stand_index, take_policy};
-pub use scope_index;
-pub use scope_index::policy_grammar;
-pub use stamped_store;
+pub use scope_index::{
+    EntityScope, Policy, ReadFault, ScopeIndex, parse_policy, texts_have_one_reading,
+};
+pub use stamped_store::laws::{
+    contents_are_told, deltas_are_joined, readings_are_kept, site_names_are_told,
+    stamps_are_issued, updates_have_one_store,
+};
+pub use stamped_store::{
+    COUNT_MAX, Entry, PolicyStore, ReadText, Readings, SiteName, Stamp, is_site_name,
+};
 pub use staying::stays;

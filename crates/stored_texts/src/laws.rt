@@ -2,7 +2,6 @@
 ghost use Rattle.stored_texts.specs.Laws.{PoliciesHaveOneReading, EntitiesHaveOneReading};
 ghost use Rattle.stored_texts.specs.Laws.{PoliciesHaveNoOtherName, CanonicalTextsAreRead};
 
-use state_messages::policy_grammar;
 use validator::policies_have_one_outcome;
 
 /// Proves that under a schema each text is that of one policy that passes, or refused for one fault, and never both;
@@ -12,7 +11,7 @@ pub fn stored_texts_have_one_reading()
     ensures entities { EntitiesHaveOneReading }
     ensures named { PoliciesHaveNoOtherName }
 {
-    policy_grammar::texts_have_one_reading();
+    state_messages::texts_have_one_reading();
     policies_have_one_outcome();
 }
 

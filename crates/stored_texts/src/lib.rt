@@ -5,11 +5,15 @@
 mod laws;
 mod texts;
 
-pub use canonical_texts;
-pub use canonical_texts::{entities, schema};
+pub use canonical_texts::{Entity, Schema, bytes_have_one_outcome, json_texts_are_utf8};
 pub use laws::{canonical_texts_are_read, stored_texts_have_one_reading};
-pub use state_messages;
-pub use state_messages::{stamped_store, sync_messages, uid_json};
+pub use state_messages::{
+    MessageFault, PolicyStore, Summary, Update, messages_have_one_outcome, messages_read_back,
+    names_read_back, read_message, read_summary, summaries_read_back, updates_have_one_store,
+    valid_messages_are_read, write_delta, write_state, write_summary,
+};
 pub use texts::SchemaTexts;
-pub use validator;
-pub use validator::{CheckFault, check, static_types, typing};
+pub use validator::{
+    CheckFault, action_types_are_told, check, entities_read_back, parents_tell_ancestors,
+    passing_policies_go_right, policies_have_one_outcome,
+};

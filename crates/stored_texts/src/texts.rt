@@ -17,13 +17,11 @@ ghost use Rattle.plain.specs.Refused.{OrNoMemory};
 ghost use Rattle.stored_texts.specs.Texts.{ReadsPolicy, RefusesPolicy, RefusesEntity};
 ghost use Rattle.stored_texts.specs.Texts.{entity_of_text, refused_by};
 
-use canonical_texts::entities::{Entity, EntityFault, canonical_text, read_entity};
-use canonical_texts::schema::Schema;
+use canonical_texts::{Entity, EntityFault, Schema, canonical_text, read_entity};
 use serde_json::Value;
-use state_messages::json_values::{Scratch, read_json_by};
-use state_messages::policy_grammar::{Policy, ReadFault, parse_policy};
-use state_messages::stamped_store::Readings;
-use state_messages::{Bodies, BodyFault};
+use state_messages::{
+    Bodies, BodyFault, Policy, ReadFault, Readings, Scratch, parse_policy, read_json_by,
+};
 use std::alloc::Global;
 use validator::{CheckFault, check};
 use values::EntityUid;

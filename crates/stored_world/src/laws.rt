@@ -13,9 +13,7 @@ ghost use Rattle.stored_world.specs.Said.{ArePolicies, AreEntities, HaveOneReadi
 ghost use Rattle.stored_world.specs.ByMemberOf.{StoredActionsAnswerAlike, StoredActionsCycleAlike};
 ghost use Rattle.stored_world.specs.ByMemberOf.{StoredActionsAllowAlike};
 
-use entity_store::authoriser::answers_are_lawful;
-use entity_store::policy_grammar::Policy;
-use entity_store::{Entity, actions_may_be_closed};
+use entity_store::{Entity, Policy, actions_may_be_closed, answers_are_lawful};
 use stamped_store::Readings;
 use stamped_store::laws::contents_are_told;
 

@@ -8,9 +8,13 @@ mod laws;
 mod policies;
 mod stored_entities;
 
-pub use entity_store;
-pub use entity_store::{ancestor_closure, authoriser, entities, evaluator, schema};
+pub use entity_store::{
+    Answer, Entity, EntityFault, Known, Lookup, Schema, actions_may_be_closed, answers_are_lawful,
+    canonical_text, decide_known, entities_read_back, expressions_have_one_outcome,
+    paths_are_decided, read_entity, read_request, read_schema, requests_have_one_outcome,
+    scopes_do_not_err, stated_schemas_are_well_formed, world_under,
+};
 pub use laws::{requests_have_one_answer, stored_actions_answer_alike, stores_have_one_reading};
 pub use policies::policies_in;
-pub use stamped_store;
+pub use stamped_store::laws::contents_are_told;
 pub use stored_entities::StoredEntities;

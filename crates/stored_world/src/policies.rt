@@ -5,8 +5,7 @@ ghost use Rattle.entity_store.specs.authoriser.Laws.{AreIdsAscending};
 ghost use Rattle.stamped_store.specs.Store.{updates, abstract_store, abstract_updates};
 ghost use Rattle.stored_world.specs.TextsRead.{policies_read};
 
-use entity_store::Entity;
-use entity_store::policy_grammar::Policy;
+use entity_store::{Entity, Policy};
 use plain::NoMemory;
 use stamped_store::PolicyStore;
 use std::alloc::Global;

@@ -10,8 +10,7 @@ ghost use Rattle.stored_world.specs.TextsRead.{entity_at, uids_read};
 ghost use Rattle.stored_world.specs.Said.{data_in};
 ghost use Rattle.stored_world.specs.Listed.{entities_listed};
 
-use entity_store::policy_grammar::Policy;
-use entity_store::{Entity, EntitySource};
+use entity_store::{Entity, EntitySource, Policy};
 use plain::NoMemory;
 use stamped_store::PolicyStore;
 use std::alloc::Global;

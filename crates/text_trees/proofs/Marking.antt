@@ -3,7 +3,7 @@ use Rattle.std.proofs.Common.{◌≡◌, ℕ, ◌+◌, ◌<◌, List, [], ◌∷
 use Rattle.std.proofs.lemmas.List.{take_more, map-append}
 use Rattle.desugaring.specs.policy_tokens.Lexing.{spelling_of}
 use Rattle.policy_syntax.specs.declared.tree.Annotation.{Annotation}
-use Rattle.desugaring.specs.declared.repeats.NameAt as code
+use Rattle.desugaring.specs.expression_trees.declared.repeats.NameAt as code
 use Rattle.desugaring.specs.Repeats.{NameAt, abstract_names}
 use Rattle.text_trees.specs.Annotations.{key_at}
 

@@ -6,8 +6,7 @@ ghost use Rattle.desugaring.specs.Repeats.{repeat_faults, abstract_names};
 ghost use Rattle.desugaring.specs.BuiltFrom.{IsBuiltFrom};
 ghost use Rattle.text_trees.specs.Annotations.{annotation_keys};
 
-use desugaring::policy_tokens::spelling;
-use desugaring::{DesugarFault, NameAt, first_duplicate};
+use desugaring::{DesugarFault, NameAt, first_duplicate, spelling};
 use plain::NoMemory;
 use policy_syntax::PolicyTree;
 use std::alloc::Global;

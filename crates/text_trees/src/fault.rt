@@ -3,8 +3,7 @@ ghost use Rattle.std.specs.Prelude.{◌≡◌};
 ghost use Rattle.text_trees.specs.declared.fault.ReadFault.TheVariants.{NoMemory};
 ghost use Rattle.text_trees.specs.Faults.{code_of, place_of, of_lexing, of_desugaring};
 
-use desugaring::DesugarFault;
-use desugaring::policy_tokens::LexFault;
+use desugaring::{DesugarFault, LexFault};
 use std::alloc::{AllocError, AllocFailed};
 
 /// Why a text is not read. Each place is a byte's, counted from 0.

@@ -12,7 +12,7 @@ ghost use Rattle.text_trees.specs.Texts.{most_policy_bytes, most_file_bytes, Der
 ghost use Rattle.text_trees.specs.inner.Parts.{LexedIn, IsUnlexed, refusal_of};
 
 use crate::fault::ReadFault;
-use desugaring::policy_tokens::{Token, tokens};
+use desugaring::{Token, tokens};
 use policy_syntax::{PolicyTree, SyntaxFault, UidTree, read_policies, read_policy, read_uid};
 use std::alloc::Global;
 

@@ -18,7 +18,10 @@ pub use cursor::Cursor;
 pub use fault::{Halt, SyntaxFault};
 pub use kind_sets::{KindSet, NameSet};
 pub use names::{path, rest_of_name, uid};
-pub use policy_tokens;
+pub use policy_tokens::{
+    LexFault, Token, TokenKind, decode_pattern, decode_string, lexing_is_unique, spelling,
+    strings_have_one_meaning, tokens,
+};
 pub use refused::read_to_end;
 pub use repeated::{read_many, read_more};
 pub use tree::{Name, PathTree, UidTree};

@@ -11,7 +11,7 @@ ghost use Rattle.type_checker.specs.inner.Judged.{CallTyped};
 use expressions::{Expr, Literal, UnaryCall};
 use plain::Text;
 use static_types::{Leaf, StaticType, TypeFault, address_test_type};
-use values::extensions::{Decimal, IpNet};
+use values::{Decimal, IpNet};
 
 /// Returns the text that an expression is a literal of.
 fn as_text(expr: &Expr) -> Option<&Text>

@@ -4,13 +4,12 @@ ghost use Rattle.typed_readings.specs.Laws.{EntitiesAreOfTheirTypes, RequestsAre
 ghost use Rattle.typed_readings.specs.Worlds.{WhatIsReadConforms, WhatIsStoredGoesRight};
 ghost use Rattle.typed_readings.specs.Answers.{StoredPoliciesGoRight, StoredAnswersGoRight};
 
-use stored_texts::static_types::{action_types_are_told, entities_read_back};
-use stored_texts::typing::parents_tell_ancestors;
-use stored_texts::validator::passing_policies_go_right;
-use stored_world::ancestor_closure::laws::paths_are_decided;
-use stored_world::entity_store::actions_may_be_closed;
-use stored_world::schema::stated_schemas_are_well_formed;
-use stored_world::stamped_store::laws::contents_are_told;
+use stored_texts::{
+    action_types_are_told, entities_read_back, parents_tell_ancestors, passing_policies_go_right,
+};
+use stored_world::{
+    actions_may_be_closed, contents_are_told, paths_are_decided, stated_schemas_are_well_formed,
+};
 use values::sets_hold_their_members;
 
 /// Proves that whatever JSON is read as by a declared type is of that type, as the rules of typing have it: a value,

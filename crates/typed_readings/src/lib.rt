@@ -10,5 +10,9 @@ pub use laws::{
     stored_answers_go_right, what_is_read_conforms, what_is_read_is_of_its_type,
     what_is_stored_goes_right,
 };
-pub use stored_texts;
-pub use stored_texts::{canonical_texts, state_messages, sync_messages, uid_json, validator};
+pub use stored_texts::{
+    CheckFault, MessageFault, SchemaTexts, Summary, Update, canonical_texts_are_read, check,
+    json_texts_are_utf8, messages_have_one_outcome, messages_read_back, names_read_back,
+    policies_have_one_outcome, read_message, read_summary, stored_texts_have_one_reading,
+    summaries_read_back, valid_messages_are_read, write_delta, write_state, write_summary,
+};

@@ -15,6 +15,8 @@ pub use laws::{
     values_have_no_float, written_is_read_again,
 };
 pub use reading::read_record;
-pub use uid_json;
-pub use uid_json::policy_grammar;
+pub use uid_json::{
+    ActionScope, EntityScope, Policy, Scope, names_read_back, read_name, read_uid, read_uids,
+    texts_have_one_reading, write_uid,
+};
 pub use writing::write_record;

@@ -22,8 +22,7 @@ use schema_types::CedarType;
 use serde_json::{Map, Value as Json};
 use std::alloc::Global;
 use uid_json::read_uid;
-use values::extensions::{Decimal, IpNet};
-use values::{Record, TypeName, Value};
+use values::{Decimal, IpNet, Record, TypeName, Value};
 
 type Field = (Text, CedarType, bool);
 

@@ -11,8 +11,7 @@ use json::Writer;
 use plain::NoMemory;
 use std::alloc::Global;
 use uid_json::write_entity;
-use values::extensions::{Decimal, IpNet};
-use values::{Kind, Record, Value};
+use values::{Decimal, IpNet, Kind, Record, Value};
 
 fn write_integer(out: &mut Writer, integer: i64) -> Result<(), NoMemory>
     ensures { OnOk result (AppendsValue out.old out.new (value_json (long integer))) }

@@ -21,6 +21,7 @@ use Rattle.evaluator.specs.declared.fault.EvalFault.TheVariants as fault
 use Rattle.evaluator.specs.Outcomes
 use Rattle.evaluator.specs.Outcomes.{EvaluationResult, IsTruthOf, IsChecked}
 use Rattle.evaluator.specs.ancestor_closure.Hierarchy.{IsIn}
+use Rattle.evaluator.specs.evaluation_steps.Attributes
 use Rattle.evaluator.specs.Operators
 use Rattle.evaluator.specs.Operators.{World, UnaryGives, BinaryGives, FieldGives, HasGives, UnaryCallGives}
 use Rattle.evaluator.specs.Operators.{BinaryCallGives, TakesAddress, TakesDecimals}
@@ -275,11 +276,11 @@ module _ (env : Environment) (W : World) (q : Request) (C : Conforms env W q) wh
   field_fits b k (Membership.of_record {fs} {ts} h) n (Operators.no_field e) =
       access_none b _ (subst (λ o. FieldOf o (field_declared_at k ts)) e (h k)) (λ i. none_some _ e (record_there (n i)))
   field_fits b k (Membership.of_record h) n (Operators.field_of_other e f) = none_there e
-  field_fits b k (Membership.of_entity {u} {n = m} e) n (Operators.attribute fs s f) =
+  field_fits b k (Membership.of_entity {u} {n = m} e) n (Operators.of_entity (Attributes.attribute fs s f)) =
       access_some b (subst (λ o. FieldOf o (field_declared_at k (env.attributes m))) f (attributes_of u m fs e s k))
-  field_fits b k (Membership.of_entity {u} {n = m} e) n (Operators.no_attribute fs s f) =
+  field_fits b k (Membership.of_entity {u} {n = m} e) n (Operators.of_entity (Attributes.no_attribute fs s f)) =
       access_none b _ (subst (λ o. FieldOf o (field_declared_at k (env.attributes m))) f (attributes_of u m fs e s k)) (λ i. none_some _ f (stored_there fs s (n i)))
-  field_fits b k (Membership.of_entity {n = m} e) n (Operators.not_stored s) = missing_fits (Rows.access_type b (field_declared_at k (env.attributes m)))
+  field_fits b k (Membership.of_entity {n = m} e) n (Operators.of_entity (Attributes.not_stored s)) = missing_fits (Rows.access_type b (field_declared_at k (env.attributes m)))
   field_fits b k (Membership.of_entity e) n (Operators.field_of_other f g) = none_there g
   field_fits b k h n g = tt
 

@@ -12,9 +12,7 @@ use crate::scope::parts_of;
 use crate::walking::{walk, walk_each};
 use expressions::Expr;
 use plain::NoMemory;
-use static_types::policy_grammar::Policy;
-use static_types::schema::{Environment, Schema};
-use static_types::typing::expressions_have_one_judgement;
+use static_types::{Environment, Policy, Schema, expressions_have_one_judgement};
 use std::alloc::Global;
 use type_checker::{StaticType, TypeFault, TypingEnvironment, judge_all};
 

@@ -7,7 +7,7 @@ ghost use Rattle.validator.specs.inner.Walking.{type_at, is_type_of_action, is_d
 ghost use Rattle.validator.specs.inner.Walking.{action_told, other_told, entity_told};
 
 use crate::fault::CheckFault;
-use static_types::schema::{Schema, stated_schemas_are_well_formed};
+use static_types::{Schema, stated_schemas_are_well_formed};
 use type_checker::is_action_type;
 use values::{EntityUid, TypeName};
 

@@ -14,5 +14,7 @@ mod walking;
 pub use checking::{Verdict, check};
 pub use fault::CheckFault;
 pub use laws::{passing_policies_go_right, policies_have_one_outcome};
-pub use static_types;
-pub use static_types::{schema, typing};
+pub use static_types::{
+    Schema, SchemaFault, action_types_are_told, bytes_have_one_outcome, entities_read_back,
+    parents_tell_ancestors, read_schema,
+};

@@ -5,7 +5,7 @@ ghost use Rattle.validator.specs.inner.Checking.{scope_parts};
 
 use expressions::{Binary, Expr, Literal, Unary, Variable};
 use plain::{Items, NoMemory};
-use static_types::policy_grammar::{ActionScope, EntityScope, Scope};
+use static_types::{ActionScope, EntityScope, Scope};
 use std::alloc::Global;
 use values::{EntityUid, TypeName};
 

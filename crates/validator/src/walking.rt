@@ -8,7 +8,7 @@ use crate::fault::CheckFault;
 use crate::known::{check_entity, check_tested_type};
 use expressions::{Expr, Literal, Named, Unary};
 use plain::Shared;
-use static_types::schema::Schema;
+use static_types::Schema;
 
 fn check_literal(schema: &Schema, literal: &Literal) -> Result<(), CheckFault>
     ensures { result ≡ literal_told (schema_view schema.now) literal.now }

@@ -3,7 +3,7 @@ ghost use Rattle.std.specs.Prelude.{◌≡◌, ◌↔◌, IsTrue, IfOk};
 
 use crate::shared_text::SharedText;
 use crate::type_name::TypeName;
-use extensions::plain::NoMemory;
+use extensions::NoMemory;
 
 /// The name of an entity: its type's name and its id. Contracts see a record of two lists of bytes.
 ///

@@ -16,7 +16,9 @@ mod value;
 mod value_ref;
 
 pub use entity_uid::EntityUid;
-pub use extensions;
+pub use extensions::decimal::one_decimal_a_text;
+pub use extensions::ip_net::one_network_a_text;
+pub use extensions::{Decimal, IpNet};
 pub use laws::{
     paths_are_told, records_are_maps, sets_hold_their_members, values_stay_well_formed,
 };

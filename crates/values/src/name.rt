@@ -2,7 +2,7 @@
 ghost use Rattle.std.specs.Prelude.{◌≡◌, IfOk};
 
 use crate::entity_uid::EntityUid;
-use extensions::plain::{NoMemory, Text};
+use extensions::{NoMemory, Text};
 
 /// What a site stores something under: a policy's id or an entity's uid.
 ///

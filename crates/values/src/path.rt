@@ -2,7 +2,7 @@
 ghost use Rattle.std.specs.Prelude.{◌↔◌, IsTrue};
 ghost use Rattle.extensions.specs.plain.Words.{is_word_byte, AllAre, IsReserved, IsIdent, IsPath};
 
-use extensions::plain::words::{letter, word_len};
+use extensions::{letter, word_len};
 
 /// The words that are no identifier.
 const RESERVED: [&[u8]; 10] = [

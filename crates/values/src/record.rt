@@ -10,7 +10,7 @@ ghost use Rattle.values.specs.ValueView.{of_entries};
 ghost use Rattle.values.specs.WellFormed.{IsWellFormed};
 
 use crate::value::{Value, compare};
-use extensions::plain::{NoMemory, Text};
+use extensions::{NoMemory, Text};
 use std::alloc::Global;
 use std::cmp::Ordering;
 use std::collections::BTreeMap;

@@ -3,7 +3,7 @@ ghost use Rattle.std.specs.Prelude.{◌≡◌, IfOk};
 
 use crate::entity_uid::EntityUid;
 use crate::record::Record;
-use extensions::plain::NoMemory;
+use extensions::NoMemory;
 use std::alloc::Global;
 
 /// What is asked: may this principal do this action on this resource, in this context?

@@ -11,7 +11,7 @@ ghost use Rattle.values.specs.ValueOrder.{value_cmp, set_cmp, set_cmp-IsTotalOrd
 ghost use Rattle.values.specs.WellFormed.{IsWellFormed, AreMembersWellFormed};
 
 use crate::value::{Value, compare};
-use extensions::plain::NoMemory;
+use extensions::NoMemory;
 use std::alloc::Global;
 use std::cmp::Ordering;
 use std::marker::Model;

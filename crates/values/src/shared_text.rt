@@ -5,7 +5,7 @@ ghost use Rattle.std.specs.Cmp.{partial_equiv_from_equiv, partial_order_from_agr
 ghost use Rattle.std.specs.Cmp.Lexicographic.{slice_cmp};
 ghost use Rattle.std.proofs.lemmas.Cmp.{eq_by_cmp_equiv, nat_list_cmp_total};
 
-use extensions::plain::{NoMemory, Shared, Text};
+use extensions::{NoMemory, Shared, Text};
 use std::alloc::Global;
 use std::cmp::Ordering;
 use std::marker::Model;

@@ -10,7 +10,7 @@ ghost use Rattle.values.specs.Paths.{path_of};
 
 use crate::path::is_path;
 use crate::shared_text::SharedText;
-use extensions::plain::{NoMemory, Text};
+use extensions::{NoMemory, Text};
 use std::alloc::Global;
 use std::cmp::Ordering;
 use std::marker::Model;

@@ -9,6 +9,6 @@ mod whole;
 mod write;
 
 pub use commons::{demand_sizes, write_commons};
-pub use place_orders;
+pub use place_orders::ends_first;
 pub use table::{Known, Size, Table};
 pub use whole::write_whole;

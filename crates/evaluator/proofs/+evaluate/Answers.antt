@@ -1,6 +1,8 @@
 use Rattle.std.proofs.Common.{sym, subst}
 use Rattle.expressions.specs.declared.operator.Binary.{Binary}
+use Rattle.expressions.specs.declared.expr.Expr.{Expr}
 use Rattle.evaluator.specs.inner.Computing.{decided_world, Answers, meaning, and_then, as_test, apply_binary}
+use Rattle.evaluator.proofs.AfterFirst.{decided, undecided}
 use Rattle.evaluator.proofs.+evaluate.Goals as goal
 
 pub testing::binary_test-returns-in-Less : goal.testing::binary_test-returns-in-Less
@@ -18,3 +20,16 @@ testing::binary_test-returns-in-LessOrEqual g t c =
     let b = meaning (g.L.Question.asked c.args.store.now) E c.args.right.now in
     subst (λ (op : Binary). Answers c.is_less_or_equal.result (as_test (and_then a (λ v. and_then b (apply_binary E op v))))) (sym c.in-LessOrEqual.is)
     (c.is_less_or_equal.ensures E a b c.two_numbers-in-LessOrEqual.ensures)
+
+pub choosing::both_test-returns-in-Some : goal.choosing::both_test-returns-in-Some
+choosing::both_test-returns-in-Some g t c =
+    let gives = meaning (g.L.Question.asked c.args.store.now) (decided_world (g.L.Lookup.stored c.args.store.now) (g.L.Ancestry.above c.args.store.now)) in
+    let first = subst (λ (x : Expr). Answers c.test_of-first.result (as_test (gives x))) c.get.ensures c.test_of-first.ensures in
+    decided _ _ _ _ first (c.in-Some.ensures _)
+
+pub choosing::both_test-returns-in-None : goal.choosing::both_test-returns-in-None
+choosing::both_test-returns-in-None g t c =
+    let gives = meaning (g.L.Question.asked c.args.store.now) (decided_world (g.L.Lookup.stored c.args.store.now) (g.L.Ancestry.above c.args.store.now)) in
+    let first = subst (λ (x : Expr). Answers c.test_of-first.result (as_test (gives x))) c.get.ensures c.test_of-first.ensures in
+    let second = subst (λ (x : Expr). Answers c.test_of.result (as_test (gives x))) c.get-in-None.ensures c.test_of.ensures in
+    undecided _ _ _ _ first c.in-None.ensures second

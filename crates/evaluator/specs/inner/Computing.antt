@@ -36,9 +36,6 @@ use Rattle.expressions.specs.declared.expr.Named.{Named}
 use Rattle.expressions.specs.declared.expr.Expr.{Expr}
 use Rattle.expressions.specs.declared.expr.Expr.TheOpen.{Expr-F}
 use Rattle.expressions.specs.declared.expr.Expr.TheFolds.{fold-Expr}
-use Rattle.evaluation_steps.specs.declared.attributes.Missing.{Missing}
-use Rattle.evaluation_steps.specs.declared.attributes.Missing.TheVariants.{Entity, Attribute}
-use Rattle.evaluation_steps.specs.Attributes.{attribute_in}
 use Rattle.evaluator.specs.declared.fault.EvalFault.{EvalFault}
 use Rattle.evaluator.specs.declared.numbers.Numbers.{Numbers}
 use Rattle.evaluator.specs.declared.fault.EvalFault.TheVariants.{EntityDoesNotExist, AttrDoesNotExist, TypeError}
@@ -130,17 +127,9 @@ abbrev pub found_or : EvalFault → Option PlainValue → EvaluationResult
 found_or e None = Err e
 found_or e (Some v) = Ok v
 
--- the error that it is where an entity is not stored, or its attribute missing
-abbrev pub fault_of : Missing → EvalFault
-fault_of Entity = EntityDoesNotExist
-fault_of Attribute = AttrDoesNotExist
-
-abbrev pub value_or_fault : Result PlainValue Missing → EvaluationResult
-value_or_fault (Ok v) = Ok v
-value_or_fault (Err missing) = Err (fault_of missing)
-
 abbrev pub attribute : Option (List Field) → List ℕ → EvaluationResult
-attribute stored name = value_or_fault (attribute_in stored name)
+attribute None name = Err EntityDoesNotExist
+attribute (Some fs) name = found_or AttrDoesNotExist (find_field name fs)
 
 abbrev pub field_of : DecidedWorld → List ℕ → PlainValue → EvaluationResult
 field_of E name (record_of fs) = found_or AttrDoesNotExist (find_field name (pairs_of fs))

@@ -1,10 +1,18 @@
 -- Two messages merged under a schema that is read already.
-use Rattle.std.specs.Prelude.{◌≡◌, ℕ, List}
+use Rattle.std.specs.Prelude.{◌≡◌, ℕ, List, Result, Ok}
+use Rattle.policy_checks.specs.decision_texts.declared.refusal.Refusal.{Refusal}
 use Rattle.stored_texts.specs.schema.Schemas.{StatedSchema}
-use Rattle.stored_texts.specs.stamped_store.Store.{Store}
+use Rattle.stored_texts.specs.stamped_store.Store.{Store, IsStoreJoin, abstract_store}
 use Rattle.stored_texts.specs.state_messages.Messages.{state_text}
 use Rattle.merged_states.specs.Messages.{IsReadBack}
 use Rattle.merged_states.specs.Merges.{IsStoreOfBoth}
+use Rattle.merged_states.specs.declared.joining.Joined.{Joined}
+
+-- the other message was joined into a store, and this is the join of the first store and that one
+pub record IsJoinWith (store : Store) (other : Result Joined Refusal) (both : Store) : Type 0 where
+  pub joined : Joined
+  pub other_is : other ≡ Ok joined
+  pub join : IsStoreJoin store (abstract_store joined.store) both
 
 pub record IsMergedUnder (s : StatedSchema) (f g text : List ℕ) : Type 0 where
   pub store : Store

@@ -9,9 +9,9 @@ use Rattle.ancestor_lists.proofs.changing.follow.Goals as goal
 pub returns-then-has_none-clause-ok : goal.returns-then-has_none-clause-ok
 returns-then-has_none-clause-ok g c =
     let m = c.args.relatives.now in
-    let empty : names c.in_ok-parents.parents.items ≡ _ = subst (λ l. names l ≡ _) c.deref.ensures.value (c.has_none.ensures.parents c.if-has_none.true) in
+    let empty : names c.in_ok-parents.parents.items ≡ _ = subst (λ l. names l ≡ _) c.deref.ensures.value ((c.has_none.ensures.0 c.if-has_none.true).0) in
     none_kept (g.G.ParentsOf.parents c.args.graph.now) c.args.uid.now (ancestors_in m) (children_in m) c.args.cyclic.now.keys c.requires
-    (λ x h. Contains-none x (subst (λ l. Contains l x) empty ((c.in_ok-parents.ensures.all x).1 h))) (c.has_none.ensures.ancestors c.if-has_none.true)
+    (λ x h. Contains-none x (subst (λ l. Contains l x) empty ((c.in_ok-parents.ensures.all x).1 h))) ((c.has_none.ensures.0 c.if-has_none.true).1)
 
 pub has_already-requires-clause-list : goal.has_already-requires-clause-list
 has_already-requires-clause-list g c = (c.requires.kept.above c.args.uid.now).1
@@ -24,7 +24,7 @@ returns-then-branch-clause-ok g c =
     let m = c.args.relatives.now in
     let u = c.args.uid.now in
     already_kept (g.G.ParentsOf.parents c.args.graph.now) u (ancestors_in m) (children_in m) c.args.cyclic.now.keys c.requires (λ x.
-    let now = subst (λ l. Contains (names l) x ↔ (Contains (ancestors_in m u) x × Contains (children_in m x) u)) c.deref-2.ensures.value (c.in_ok-has_already.ensures c.if-branch.true x) in
+    let now = subst (λ l. Contains (names l) x ↔ (Contains (ancestors_in m u) x × Contains (children_in m x) u)) c.deref-2.ensures.value (c.in_ok-has_already.ensures.0 c.if-branch.true x) in
     (λ h. now.0 ((c.in_ok-parents.ensures.all x).1 h), λ h. (c.in_ok-parents.ensures.all x).0 (now.1 h)))
 
 pub returns-clause-ok : goal.returns-clause-ok

@@ -1,4 +1,4 @@
-use Rattle.std.proofs.Common.{◌∙◌, [], ◌∷◌, ◌++◌, take, sym, ap, subst, inl, inr}
+use Rattle.std.proofs.Common.{◌∙◌, [], ◌∷◌, ◌++◌, refl, take, sym, ap, subst, inl, inr}
 use Rattle.std.specs.Prelude.{Contains}
 use Rattle.std.proofs.lemmas.List.{take_more, take_all}
 use Rattle.std.proofs.lemmas.List.Elements.{Contains-push_cases}
@@ -20,4 +20,7 @@ loop-uid-preserved c =
     ]
 
 pub returns : goal.returns
-returns c = λ _ x h. c.loop-uid.invariant x (subst (λ l. Contains l x) (sym (take_all _ c.args.list.now c.loop-uid-test.false)) h)
+returns c = (
+  λ _ x h. c.loop-uid.invariant x (subst (λ l. Contains l x) (sym (take_all _ c.args.list.now c.loop-uid-test.false)) h),
+  λ _. refl,
+)

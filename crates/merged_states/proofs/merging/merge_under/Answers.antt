@@ -1,12 +1,25 @@
+use Rattle.std.specs.Prelude.{IfOk, Result}
+use Rattle.std.proofs.Common.{subst}
+use Rattle.policy_checks.specs.decision_texts.declared.refusal.Refusal.{Refusal}
 use Rattle.stored_texts.specs.schema.Views.{schema_view}
 use Rattle.stored_texts.specs.stamped_store.Store.{abstract_store}
+use Rattle.merged_states.specs.declared.joining.Joined.{Joined}
+use Rattle.merged_states.specs.Messages.{Joins, IsSendable}
 use Rattle.merged_states.proofs.MessageLemmas.{merged_under}
 use Rattle.merged_states.proofs.merging.merge_under.Goals as goal
 
 pub returns-clause-merged : goal.returns-clause-merged
 returns-clause-merged c =
-    merged_under c.updates_have_one_store.ensures.grouped (schema_view c.args.schema.now) (abstract_store c.new.result)
-    (abstract_store c.in_ok-store.field-0.store) (abstract_store c.in_ok-both.both.store)
-    c.args.f.now c.args.g.now c.in_ok-state_of.field-0.items c.in_ok-store.field-0.taken c.in_ok-both.both.taken c.new.ensures.empty
-    c.in_ok-store.ensures.joined c.in_ok-store.ensures.sendable c.in_ok-both.ensures.joined
-    c.in_ok-both.ensures.sendable c.in_ok-state_of.ensures.text c.in_ok-state_of.ensures.reads_back
+    let k = schema_view c.args.schema.now in
+    let h = c.in_ok-both.ensures.joined in
+    let e = abstract_store c.new.result in
+    let d = abstract_store c.new-2.result in
+    let joins = subst (λ (r : Result Joined Refusal). IfOk r (λ j. Joins k d c.args.g.now (abstract_store j.store) j.taken))
+    h.other_is c.join_message-second.ensures.joined in
+    let sends = subst (λ (r : Result Joined Refusal). IfOk r (λ j. IsSendable k d → IsSendable k (abstract_store j.store)))
+    h.other_is c.join_message-second.ensures.sendable in
+    merged_under c.updates_have_one_store.ensures.own c.updates_have_one_store.ensures.union
+    c.stores_are_joined.ensures.only k e d (abstract_store c.in_ok-store.field-0.store) (abstract_store h.joined.store)
+    (abstract_store c.in_ok-both.both) c.args.f.now c.args.g.now c.in_ok-state_of.field-0.items c.in_ok-store.field-0.taken
+    h.joined.taken c.new.ensures.empty c.new-2.ensures.empty c.in_ok-store.ensures.joined c.in_ok-store.ensures.sendable
+    joins sends h.join c.in_ok-state_of.ensures.text c.in_ok-state_of.ensures.reads_back

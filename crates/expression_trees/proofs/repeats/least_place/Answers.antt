@@ -1,11 +1,9 @@
 use Rattle.std.proofs.Common.{◌++◌, ◌∷◌, [], sym, subst, take, get_or, ◌∙◌, refl}
 use Rattle.std.proofs.lemmas.List.{take_all}
-use Rattle.desugaring.specs.Repeats.{abstract_names}
-use Rattle.desugaring.specs.Repeats.{NameAt, StandsAgain}
-use Rattle.desugaring.specs.inner.Searching.{ReportsLeast}
-use Rattle.desugaring.proofs.Repeating.{Seen, seen-none, seen-new, seen-again, shown-more, was_new, was_old}
-use Rattle.desugaring.proofs.repeats.least_place.Goals as goal
-use Rattle.desugaring.proofs.repeats.least_place.Goals.{then-not-branch, else-not-branch}
+use Rattle.expression_trees.specs.Repeats.{NameAt, StandsAgain, ReportsLeast, abstract_names}
+use Rattle.expression_trees.proofs.Repeating.{Seen, seen-none, seen-new, seen-again, shown-more, was_new, was_old}
+use Rattle.expression_trees.proofs.repeats.least_place.Goals as goal
+use Rattle.expression_trees.proofs.repeats.least_place.Goals.{then-not-branch, else-not-branch}
 
 pub loop-mark-init : goal.loop-mark-init
 loop-mark-init c = seen-none c.new-seen.result c.new-seen.ensures.empty

@@ -1,7 +1,7 @@
 use Rattle.std.proofs.Common.{take}
-use Rattle.desugaring.specs.Repeats.{abstract_names}
-use Rattle.desugaring.proofs.Repeating.{Seen}
-use Rattle.desugaring.proofs.repeats.least_place.Given as goal
+use Rattle.expression_trees.specs.Repeats.{abstract_names}
+use Rattle.expression_trees.proofs.Repeating.{Seen}
+use Rattle.expression_trees.proofs.repeats.least_place.Given as goal
 
 -- the names up to here, and the least place at which one of them stood again
 abbrev pub invariant-loop-mark : goal.invariant-loop-mark

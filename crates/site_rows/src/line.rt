@@ -1,0 +1,72 @@
+//! Lines and bytes, built from pieces.
+use itoa::Buffer;
+use plain::NoMemory;
+use std::alloc::Global;
+
+/// The outcome of a case of another form.
+pub(crate) const BAD_ROW: &[u8] = b"bad row";
+
+/// The outcome of a case for which an allocation fails.
+pub(crate) const NO_MEMORY: &[u8] = b"no memory";
+
+/// Separates the parts of a case, and those of its outcome.
+pub(crate) const BETWEEN: &str = " ¶ ";
+
+/// Bytes, built from pieces. Only [`Line::ended`] reports a failed allocation, so that no caller checks each piece.
+#[derive(Drop)]
+pub(crate) struct Line {
+    bytes: Vec<u8>,
+    has_parts: bool,
+    is_whole: bool,
+}
+
+/// Returns a value if it is whole.
+fn whole<T: Drop>(value: T, is_whole: bool) -> Result<T, NoMemory> {
+    if is_whole { Ok(value) } else { Err(NoMemory) }
+}
+
+impl Line {
+    /// Creates an empty line.
+    pub(crate) fn new(alloc: Global) -> Line {
+        Line {
+            bytes: Vec::new(alloc),
+            has_parts: false,
+            is_whole: true,
+        }
+    }
+
+    /// Returns the number of bytes.
+    pub(crate) fn len(&self) -> usize {
+        self.bytes.len()
+    }
+
+    /// Appends bytes.
+    pub(crate) fn push(&mut self, piece: &[u8]) {
+        let is_pushed = self.bytes.extend_from_slice(piece).is_ok();
+        self.is_whole = self.is_whole & is_pushed;
+    }
+
+    /// Appends the digits of a number.
+    pub(crate) fn push_number(&mut self, number: u64) {
+        let mut digits = Buffer::new();
+        self.push(digits.format(number).as_bytes());
+    }
+
+    /// Notes a failed allocation.
+    pub(crate) fn fail(&mut self) {
+        self.is_whole = false;
+    }
+
+    /// Begins a part of the outcome: appends what separates it from the part before it.
+    pub(crate) fn begin_part(&mut self) {
+        if self.has_parts {
+            self.push(BETWEEN.as_bytes());
+        }
+        self.has_parts = true;
+    }
+
+    /// Returns the bytes if no allocation failed.
+    pub(crate) fn ended(self) -> Result<Vec<u8>, NoMemory> {
+        whole(self.bytes, self.is_whole)
+    }
+}

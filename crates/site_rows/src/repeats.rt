@@ -1,0 +1,46 @@
+//! Outcomes in a row, of which many are equal.
+use crate::line::Line;
+use std::alloc::Global;
+
+/// The last outcome, and how many equal ones came in a row.
+#[derive(Drop)]
+pub(crate) struct Repeats {
+    count: u64,
+    outcome: Vec<u8>,
+}
+
+impl Repeats {
+    /// Creates the start, without an outcome.
+    pub(crate) fn new(alloc: Global) -> Repeats {
+        Repeats {
+            count: 0,
+            outcome: Vec::new(alloc),
+        }
+    }
+
+    /// Begins with another outcome, and appends those before it.
+    fn begin(&mut self, outcome: Vec<u8>, line: &mut Line) {
+        self.push_to(line);
+        self.count = 1;
+        self.outcome = outcome;
+    }
+
+    /// Adds an outcome, and appends those before it if they are others.
+    pub(crate) fn add(&mut self, outcome: Line, line: &mut Line) {
+        match outcome.ended() {
+            Ok(bytes) if self.outcome == bytes => self.count = self.count.saturating_add(1),
+            Ok(bytes) => self.begin(bytes, line),
+            Err(_) => line.fail(),
+        }
+    }
+
+    /// Appends the number of the last outcomes, and one of them.
+    pub(crate) fn push_to(&self, line: &mut Line) {
+        if self.count > 0 {
+            line.begin_part();
+            line.push_number(self.count);
+            line.push(" × ".as_bytes());
+            line.push(&self.outcome);
+        }
+    }
+}

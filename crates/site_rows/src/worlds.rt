@@ -1,0 +1,191 @@
+//! Cases of sites that exchange messages.
+use crate::inputs::input_of;
+use crate::line::{BAD_ROW, BETWEEN, Line, NO_MEMORY};
+use crate::replies::{push_fault, push_reply, push_state};
+use crate::written::{first_word, number_of};
+use entities::Schema;
+use plain::{NoMemory, Shared};
+use site_worlds::{Deed, Event, EventReply, Input, SiteFault, World, simulate};
+use std::alloc::Global;
+
+/// Drops the parts of an input that is not an event.
+fn no_operation<T: Drop>(_parts: T) -> Option<Deed> {
+    None
+}
+
+/// Returns the operation of an event, if an input is one.
+fn operation_by(input: Input) -> Option<Deed> {
+    match input {
+        Input::PutPolicy(id, text) => Some(Deed::PutPolicy(id, text)),
+        Input::DeletePolicy(id) => Some(Deed::DeletePolicy(id)),
+        Input::PutEntity(bytes) => Some(Deed::PutEntity(bytes)),
+        Input::DeleteEntity(uid) => Some(Deed::DeleteEntity(uid)),
+        Input::Authorize(bytes) => Some(Deed::Authorize(bytes)),
+        Input::Summary => Some(Deed::Summary),
+        Input::Take(bytes) => no_operation(bytes),
+        Input::Delta(bytes) => no_operation(bytes),
+        Input::GetPolicy(id) => no_operation(id),
+        Input::State => None,
+    }
+}
+
+/// Returns the operation that a string describes, if it is an input too.
+fn input_operation(alloc: Global, text: &str) -> Result<Option<Deed>, NoMemory> {
+    match input_of(alloc, text)? {
+        Some(input) => Ok(operation_by(input)),
+        None => Ok(None),
+    }
+}
+
+/// Returns the offer of a delta against the summary of a number.
+fn delta_offered(text: &str) -> Option<Deed> {
+    match number_of(text) {
+        Some(number) => Some(Deed::OfferDelta(number)),
+        None => None,
+    }
+}
+
+/// Returns the delivery of the message of a number.
+fn delivered(text: &str) -> Option<Deed> {
+    match number_of(text) {
+        Some(number) => Some(Deed::Deliver(number)),
+        None => None,
+    }
+}
+
+/// Returns the operation of an event that a string describes, if it describes one.
+fn operation_of(alloc: Global, text: &str) -> Result<Option<Deed>, NoMemory> {
+    let (word, about) = first_word(text);
+    match word {
+        "offer" => Ok(Some(Deed::Offer)),
+        "offer_delta" => Ok(delta_offered(about)),
+        "deliver" => Ok(delivered(about)),
+        _ => input_operation(alloc, text),
+    }
+}
+
+/// Returns the event that a string describes, if it describes one.
+fn event_of(alloc: Global, text: &str) -> Result<Option<Event>, NoMemory> {
+    let (site, operation) = first_word(text);
+    let Some(site) = number_of(site) else {
+        return Ok(None);
+    };
+    match operation_of(alloc, operation)? {
+        Some(deed) => Ok(Some(Event { site, deed })),
+        None => Ok(None),
+    }
+}
+
+/// Appends the event that a string describes. Returns whether it describes one.
+fn push_event(alloc: Global, events: &mut Vec<Event>, text: &str) -> Result<bool, NoMemory> {
+    match event_of(alloc, text)? {
+        Some(event) => {
+            events.push(event)?;
+            Ok(true)
+        }
+        None => Ok(false),
+    }
+}
+
+/// Returns the events that a string describes, if it describes events alone.
+fn events_of(alloc: Global, text: &str) -> Result<Option<Vec<Event>>, NoMemory> {
+    let mut events = Vec::new(alloc);
+    if text.is_empty() {
+        return Ok(Some(events));
+    }
+    for one in text.split(BETWEEN) {
+        if !push_event(alloc, &mut events, one)? {
+            return Ok(None);
+        }
+    }
+    Ok(Some(events))
+}
+
+/// Appends the number of a message or of a summary that was made.
+fn push_made(line: &mut Line, word: &str, made: Result<usize, SiteFault>) {
+    line.push(word.as_bytes());
+    line.push(b" ");
+    match made {
+        Ok(number) => line.push_number(number as u64),
+        Err(fault) => push_fault(line, fault),
+    }
+}
+
+/// Appends the reply to an event.
+fn push_event_reply(alloc: Global, line: &mut Line, reply: &EventReply) {
+    line.begin_part();
+    match reply {
+        EventReply::Unknown => line.push(b"unknown"),
+        EventReply::Replied(reply) => push_reply(alloc, line, reply),
+        EventReply::Message(made) => push_made(line, "message", *made),
+        EventReply::Summary(made) => push_made(line, "summary", *made),
+    }
+}
+
+/// Appends the replies to the events, and the state of each site.
+fn push_outcome(alloc: Global, line: &mut Line, world: &World) {
+    for reply in &world.replies {
+        push_event_reply(alloc, line, reply);
+    }
+    for site in &world.sites {
+        line.begin_part();
+        push_state(line, site);
+    }
+}
+
+/// Returns the number of sites that a string asks for, or 0 if it is not a number of 16 bits.
+fn count_of(text: &str) -> u16 {
+    text.parse().unwrap_or(0)
+}
+
+/// Plays events at so many sites. Returns None if a world cannot have so many.
+fn played(
+    alloc: Global,
+    schema: &Shared<Schema>,
+    count: u16,
+    events: &[Event],
+) -> Option<Result<World, NoMemory>> {
+    if 1 <= count && count <= 64 {
+        Some(simulate(alloc, schema, count, events))
+    } else {
+        None
+    }
+}
+
+/// Plays events at so many sites, and appends the outcome.
+fn push_played(
+    alloc: Global,
+    schema: &Shared<Schema>,
+    count: u16,
+    events: &[Event],
+    line: &mut Line,
+) {
+    match played(alloc, schema, count, events) {
+        Some(Ok(world)) => push_outcome(alloc, line, &world),
+        Some(Err(_)) => line.push(NO_MEMORY),
+        None => line.push(BAD_ROW),
+    }
+}
+
+/// Plays the events that a string describes at so many sites, and appends the outcome.
+fn push_script(alloc: Global, schema: &Shared<Schema>, count: u16, text: &str, line: &mut Line) {
+    match events_of(alloc, text) {
+        Ok(Some(events)) => push_played(alloc, schema, count, &events, line),
+        Ok(None) => line.push(BAD_ROW),
+        Err(_) => line.push(NO_MEMORY),
+    }
+}
+
+/// Appends the outcome of a case.
+pub(crate) fn push_world(
+    alloc: Global,
+    schema: Option<&Shared<Schema>>,
+    text: &str,
+    line: &mut Line,
+) {
+    let (count, script) = first_word(text);
+    match schema {
+        Some(schema) => push_script(alloc, schema, count_of(count), script, line),
+        None => line.push(BAD_ROW),
+    }
+}
