@@ -5,8 +5,8 @@
 # nothing. Each is then handed in once more: that reply, and all behind it, are those of a run with ample memory. Where
 # the program lacks memory before it listens, it ends with an error. Behind the rows stands one more put: once it is
 # answered, an answer asks for memory as often as in a run with ample memory, so that what is kept beside the store
-# stands again, where memory was refused for it. Where all allocations are tried, a reply has to be refused in some of
-# the runs, a message cut short in some, and what is kept dropped in some.
+# stands again, where memory was refused for it. If all allocations are tried, some run must have a refused reply, some
+# a message that is cut short, and some must drop what is kept beside the store; otherwise the script fails.
 #
 #   bench/refused_memory_site.sh [FIRST LAST]     (default: from the 1st allocation to the last one)
 #
@@ -33,7 +33,7 @@ PROGRAM, FOLDER, TABLE, FIRST, LAST = *sys.argv[1:4], *map(int, sys.argv[4:])
 HEADING = "\n# each allocation refused"
 KINDS = ("replies refused", "messages cut short", "connections ended", "ends with an error", "not noticed")
 DROPPED = "what is kept beside the store dropped"
-# what has to come about, each in some run, where all allocations are tried
+# each of these must occur in some run if all allocations are tried
 WANTED = ("replies refused", "messages cut short", DROPPED)
 # how often a run is begun again whose port another program has taken
 PORTS = 20
@@ -134,8 +134,8 @@ def short_of(came, text, state):
 
 
 def served(client, rows, number):
-    """What came of the refused allocation at a site that listens, and how often each answer asked for memory; none of
-    the answer that it was refused for, if it was.
+    """What came of the refused allocation at a site that listens, and how often each answer asked for memory, None for
+    an answer in which it was refused.
 
     Fails where something was lost.
     """
@@ -189,9 +189,9 @@ def tried(number, rows):
 
 
 def all_tried(rows, kinds):
-    """Has each allocation refused in turn. Gives in how many runs, none of whose replies tells of it, some answer that
-    had ample memory was found otherwise than in a run with ample memory, so without what is kept beside the store; and
-    whether the last allocation was reached."""
+    """Has each allocation refused in turn. Returns in how many runs, whose replies do not report it, an answer without
+    a refused allocation took another number of allocations than with ample memory, so that what is kept beside the
+    store was dropped; and whether the last allocation was reached."""
     dropped, (_, ample) = 0, tried(0, rows)
     for number in range(FIRST, LAST + 1):
         try:
@@ -213,5 +213,5 @@ print(f"{sum(kinds.values())} allocations refused in turn, nothing lost: {told}"
 print(f"{dropped} of those not noticed had what is kept beside the store dropped, till a later change")
 missing = [kind for kind in WANTED if not {**kinds, DROPPED: dropped}[kind]]
 if missing and reached_last and FIRST == 1:
-    sys.exit(f"expected in some run, and came in none: {', '.join(missing)}")
+    sys.exit(f"expected in at least one run, got in none: {', '.join(missing)}")
 P

@@ -18,8 +18,8 @@ the allocations that are asked here, and counts all: so it is told whether an an
 - Index: policies that name others make no answer ask for more memory, nor do those that were taken away (against
   index_unused and index_offers_all).
 - Ancestors: no more does a longer way from an entity to the group that a policy names, but for the list of the groups.
-- Leaves: a new user in a group asks for no more memory beside 2,000 others than beside 50, but for what larger maps and
-  lists ask for (against closure_computed_anew); an answer asks for as much there.
+- Leaves: to put a new user into a group takes no more allocations with 500 other users than with 50, except those of
+  larger maps and lists (against closure_computed_anew), and an answer takes equally many.
 - New: a site that nothing was put into answers as it does behind a change, over so many actions in one another.
 - Upkeep: behind each change of a script an answer asks for as much as at a new site that took the whole state as one
   message; and so it does where what is kept was dropped before the change (against accelerators_stay_dropped).
@@ -74,9 +74,8 @@ CHAIN_SCHEMA = {
         "actions": {**ACTIONS, f"w{GROUPS}": {}, "view": {"memberOf": [{"id": "w0"}], "appliesTo": USES}},
     }
 }
-# how many groups stand beside the one that a user is put into, in a small hierarchy and in a large one, and how many
-# users are in each; as many more are put then
-LEAF_GROUPS, LEAVES = (5, 200), 10
+# the number of groups in a small and in a large hierarchy, and that of users in each group, and of those put last
+LEAF_GROUPS, LEAVES = (5, 50), 10
 STEPS = 1000
 # a seed, and how often two sites begin
 DRAWS = ((9, 40), (28, 40), (34, 40))
@@ -405,8 +404,8 @@ def ancestors_are_used(sites):
 
 
 def puts_at_leaf(site, groups):
-    """Puts so many groups into one, with users in each, and then further users into the first. Returns the most that
-    one of these asks for, and what an answer asks for then: it is found by the ancestors that are kept."""
+    """Puts this many groups into one, users into each, and then further users into the first. Returns the most
+    allocations that one of these took, and those of an answer, which uses the ancestor cache."""
     site.given(put("t", 'permit(principal in Group::"top", action, resource);'), entity("Group", "top"))
     for at in range(groups):
         users = [entity("User", f"u{at}_{number}", f"l{at}") for number in range(LEAVES)]
@@ -415,19 +414,19 @@ def puts_at_leaf(site, groups):
     for at in range(LEAVES):
         (status, body), count = site.ask(entity("User", f"new{at}", "l0"))
         if status != 200:
-            raise Fault(f"a put at a leaf is answered {status} {body!r}")
+            raise Fault(f"a put at a leaf: expected status 200, got {status} {body!r}")
         each.append(count)
     return max(each), site.cost(question("new0"))
 
 
 def leaves_are_cheap(sites):
-    """Whether a put at a leaf asks for as much memory in a large hierarchy as in a small one."""
+    """Whether a put at a leaf takes no more allocations in a large hierarchy than in a small one."""
     few, many = (LEAVES * groups for groups in LEAF_GROUPS)
     (small, answer), (large, other) = (puts_at_leaf(sites.begin(), groups) for groups in LEAF_GROUPS)
     if large > small + GROWTH:
-        raise Fault(f"a put at a leaf: {large} allocations beside {many} users, and {small} beside {few}")
-    same(f"an answer beside {many} users", other, answer)
-    return f"at most {small} allocations beside {few} users, {large} beside {many}"
+        raise Fault(f"a put with {many} users: expected at most {small + GROWTH} allocations, got {large}")
+    same(f"an answer with {many} users", other, answer)
+    return f"at most {small} allocations with {few} users, {large} with {many}"
 
 
 def new_site_keeps(sites):

@@ -73,7 +73,7 @@ def goes_on(ample, came):
 
 
 def fault(runs, name, words):
-    """How many allocations of a command were refused, and what is wrong with a run; None if nothing is."""
+    """Returns in how many runs of a command an allocation failed, and what is wrong with a run; None if nothing is."""
     ample, _ = runs.run(words, 0)
 
     def is_right(came):

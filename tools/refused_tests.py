@@ -1,11 +1,12 @@
 #!/usr/bin/env python3
-"""Runs tests of a built test program with each allocation refused in turn, one in each run.
+"""Runs tests of a built test program. In each run another allocation fails: the first, the second, and so on.
 
-    tools/refused_tests.py PROGRAM        (that of the gate: crates/library_tests/out/library_tests_tests)
+    tools/refused_tests.py PROGRAM        (the gate leaves crates/library_tests/out/library_tests_tests)
 
-These are the tests with `refused` in their names. Such a test asks once more where memory is refused: it fails unless
-all is left as the call's contract says, and unless the second call does all. So each run passes, up to the first that
-meets no refusal. Those of SUBJECTS have to be there. Needs `cc`. The last line is `N passed, M failed`, of tests.
+These are the tests with `refused` in their names. If an allocation fails, such a test demands the state that the
+contract of the call states, and then that the same call succeeds. So each run passes. The last run is the first in
+which no allocation fails. The tests of SUBJECTS must exist. Needs `cc`. The last line is `N passed, M failed`, of
+tests.
 """
 import re
 import sys
@@ -16,15 +17,15 @@ import refusing
 import tried
 
 SUBJECTS = {
-    "stores::a_refused_merge_joins_the_first_names": "two stores of five names each are joined",
-    "hierarchies::kept_survives_a_refused_allocation": "what is kept of a hierarchy follows puts and deletions",
-    "scopes::index_survives_a_refused_allocation": "the index follows policies that come, move and go",
+    "stores::a_refused_merge_joins_the_first_names": "merge of two stores of five names each",
+    "hierarchies::kept_survives_a_refused_allocation": "puts and deletions in a hierarchy with cached ancestors",
+    "scopes::index_survives_a_refused_allocation": "policies added to the index, moved and removed",
 }
 PASSED = b"test result: ok\n"
 
 
 def tests(runs):
-    """The names of the tests that ask once more where memory is refused."""
+    """Returns the names of the tests that call again after a failed allocation."""
     (status, listed, complaint), _ = runs.run(["--list"], 0)
     found = re.findall(r"(?m)^(\S+): test$", listed.decode())
     if status or not found:
@@ -33,12 +34,12 @@ def tests(runs):
 
 
 def fault(runs, test):
-    """How many allocations of a test were refused, and what is wrong with a run; None if nothing is."""
+    """Returns in how many runs of a test an allocation failed, and what is wrong with a run; None if nothing is."""
     ample, _ = runs.run([test], 0)
     if ample[0] or not ample[1].endswith(PASSED):
-        return 0, f"with ample memory it came to {ample}"
+        return 0, f"expected a pass with ample memory, got {ample}"
     count, wrong = runs.fault([test], ample, lambda came: came == ample)
-    return count, wrong or (None if count else "expected one at least")
+    return count, wrong or (None if count else "expected at least one")
 
 
 def rows(program, folder):

@@ -1,35 +1,35 @@
-"""What the scripts share that refuse a program's allocations: the library that does so, and runs with one refused.
+"""What the scripts share that have allocations of a program fail: the library that does so, and runs of the program.
 
-A program's memory comes from malloc and realloc of the C library: a small library before that one, bench/refuse.c,
+A program allocates by malloc and realloc of the C library. A small library that is loaded before it, bench/refuse.c,
 refuses a call. Needs `cc`.
 """
 import os
 import subprocess
 
 TOP = os.path.dirname(os.path.dirname(os.path.abspath(__file__)))
-# what bench/refuse.c writes once it has refused a call
+# what bench/refuse.c writes after it refused a call
 TOLD = b"refused\n"
-# a run that asks for more memory than so often is told as a fault
+# a run that allocates more often is reported as a fault
 MOST = 100_000
-# in seconds: how long a run may take
+# the time limit of a run, in seconds
 PATIENCE = 60
 
 
 def library(folder):
-    """Compiles the library that refuses calls into a folder, and returns its path."""
+    """Compiles the library that refuses calls into a folder. Returns its path."""
     made = f"{folder}/refuse.so"
     subprocess.run(["cc", "-O2", "-shared", "-fPIC", "-o", made, f"{TOP}/bench/refuse.c"], check=True)
     return made
 
 
 class Runs:
-    """Runs of a program in a folder, with the library that refuses calls."""
+    """Runs of a program in a folder with the library that refuses calls."""
 
     def __init__(self, program, folder):
         self.program, self.folder, self.library = program, folder, library(folder)
 
     def run(self, words, number):
-        """Status and streams of a run with this allocation refused (0: none), and whether one was."""
+        """Returns status and streams of a run in which this allocation fails (0: none), and whether one failed."""
         environment = {**os.environ, "LD_PRELOAD": self.library, "REFUSED": str(number)}
         how = {"cwd": self.folder, "stdin": subprocess.DEVNULL, "capture_output": True, "timeout": PATIENCE}
         ran = subprocess.run([self.program, *words], env=environment, check=False, **how)
@@ -37,20 +37,20 @@ class Runs:
         return (ran.returncode, ran.stdout, ran.stderr.replace(TOLD, b"", 1) if told else ran.stderr), told
 
     def fault(self, words, ample, is_right):
-        """How many allocations were refused, and what is wrong with a run; None if nothing is.
+        """Returns in how many runs an allocation failed, and what is wrong with a run; None if nothing is.
 
-        `ample` is what a run with ample memory comes to; `is_right` says whether one with a refused call may come to
-        something. It goes on until a run meets no refusal.
+        `ample` is the outcome with ample memory. `is_right` returns whether an outcome is right if an allocation fails.
+        The last run is the first in which none fails.
         """
         for number in range(1, MOST):
             came, was_refused = self.run(words, number)
             if not was_refused:
-                return number - 1, None if came == ample else f"another end without a refused call: {came}"
+                return number - 1, None if came == ample else f"expected {ample} without a refused call, got {came}"
             if not is_right(came):
                 return number, f"allocation {number}: {came}"
-        return MOST, "it asks for memory without end"
+        return MOST, f"expected at most {MOST} allocations"
 
 
 def told(count, fault):
-    """What is told of a subject: how many of its allocations were refused, and what was wrong."""
+    """Returns what is printed of a subject: how many of its allocations were refused, and what was wrong."""
     return f"{count} allocations refused in turn{': ' + fault if fault else ''}"
